@@ -1,0 +1,8 @@
+//! What the spellings say of one another.
+ghost use Rattle.bpf_codec.specs.Slots.{NoneBeginsAnother};
+
+/// No spelling begins another, and so no two instructions share one.
+#[tactic(auto, using(crate::proofs::Laws::none_begins_another))]
+pub fn none_begins_another()
+    ensures { NoneBeginsAnother }
+{}

@@ -1,0 +1,14 @@
+//! Reads and writes the instructions of RFC 9669 as bytes.
+#![tactic(auto)]
+
+mod fault;
+mod forms;
+mod law;
+mod reading;
+mod slot;
+mod writing;
+
+pub use fault::Fault;
+pub use law::none_begins_another;
+pub use reading::decode_at;
+pub use writing::{encode, slots_of};

@@ -1,0 +1,141 @@
+//! The instructions. A value of `Instr` is a row of the table with its operands, and nothing else is.
+ghost use Rattle.std.specs.Prelude.{◌≡◌, ◌<◌};
+ghost use Rattle.isa_table.specs.Registers.{register_number};
+
+/// A register, R0 to R10.
+#[derive(Clone, Copy, Drop, Debug, PartialEq, Eq)]
+pub enum Reg {
+    R0,
+    R1,
+    R2,
+    R3,
+    R4,
+    R5,
+    R6,
+    R7,
+    R8,
+    R9,
+    R10,
+}
+
+impl Reg {
+    /// The register's number, as a register field holds it.
+    pub fn number(self) -> u8
+        ensures value { result ≡ register_number self }
+        ensures bound { result < 11 }
+    {
+        self as u8
+    }
+}
+
+/// An arithmetic operation with a destination and a second operand, in both widths.
+#[derive(Clone, Copy, Drop, Debug, PartialEq, Eq)]
+pub enum Binary {
+    Add,
+    Sub,
+    Mul,
+    Div,
+    SDiv,
+    Or,
+    And,
+    Lsh,
+    Rsh,
+    Mod,
+    SMod,
+    Xor,
+    Mov,
+    Arsh,
+}
+
+/// Any arithmetic operation. `Neg` reads the destination alone; a move with sign extension reads the second operand alone.
+#[derive(Clone, Copy, Drop, Debug, PartialEq, Eq)]
+pub enum AluOp {
+    Two(Binary),
+    Neg,
+    MovSx8,
+    MovSx16,
+    MovSx32,
+}
+
+/// The second operand: a number in the instruction, or a register.
+#[derive(Clone, Copy, Drop, Debug, PartialEq, Eq)]
+pub enum Operand {
+    Imm(i32),
+    Register(Reg),
+}
+
+/// When a conditional jump is taken. Those that begin with `S` compare signed numbers.
+#[derive(Clone, Copy, Drop, Debug, PartialEq, Eq)]
+pub enum Cond {
+    Eq,
+    Gt,
+    Ge,
+    Set,
+    Ne,
+    SGt,
+    SGe,
+    Lt,
+    Le,
+    SLt,
+    SLe,
+}
+
+/// A byte swap's kind: to little endian (opcode d4), to big endian (dc), or in any case (d7).
+#[derive(Clone, Copy, Drop, Debug, PartialEq, Eq)]
+pub enum Order {
+    Little,
+    Big,
+    Swapped,
+}
+
+/// How many bits a byte swap works on.
+#[derive(Clone, Copy, Drop, Debug, PartialEq, Eq)]
+pub enum SwapWidth {
+    W16,
+    W32,
+    W64,
+}
+
+/// An instruction of the table. `wide` says that it works on 64 bits, and not on the low 32. Offsets count slots.
+#[derive(Clone, Copy, Drop, Debug, PartialEq, Eq)]
+pub enum Instr {
+    /// An operation on the destination and a second operand.
+    Alu {
+        wide: bool,
+        op: Binary,
+        dst: Reg,
+        src: Operand,
+    },
+    /// The destination with its sign changed.
+    Neg { wide: bool, dst: Reg },
+    /// A move of the low 8 bits, sign-extended.
+    MovSx8 { wide: bool, dst: Reg, src: Reg },
+    /// A move of the low 16 bits, sign-extended.
+    MovSx16 { wide: bool, dst: Reg, src: Reg },
+    /// A move of the low 32 bits, sign-extended to 64.
+    MovSx32 { dst: Reg, src: Reg },
+    /// A byte swap of the low bits of the destination.
+    End {
+        kind: Order,
+        width: SwapWidth,
+        dst: Reg,
+    },
+    /// A jump by `offset` slots from the next slot, where the condition holds.
+    Jump {
+        wide: bool,
+        cond: Cond,
+        dst: Reg,
+        src: Operand,
+        offset: i16,
+    },
+    /// A jump by `offset` slots, spelt in the offset field.
+    Ja { offset: i16 },
+    /// A jump by `offset` slots, spelt in the imm field.
+    JaLong { offset: i32 },
+    /// A call of the function `offset` slots from the next slot.
+    CallLocal { offset: i32 },
+    /// The end of a function, or of the program.
+    Exit,
+    /// A load of a 64-bit number that stands in the instruction's two slots.
+    LoadWide { dst: Reg, value: u64 },
+}
