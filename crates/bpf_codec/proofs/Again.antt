@@ -27,8 +27,8 @@ use Rattle.bpf_codec.specs.declared.forms.Form.{Form}
 use Rattle.bpf_codec.specs.declared.forms.Form.TheVariants as form
 use Rattle.bpf_codec.specs.declared.forms.TheConstants.{FORMS, REGISTERS}
 use Rattle.isa_table.specs.Registers.{register_number}
-use Rattle.bpf_codec.specs.Slots.{alu_code, alu_offset, cond_code, alu_class, jump_class, end_code, swap_bits, slot, first, slot_bytes, second, spelling, slots, Fits, FitsOperand, Begins}
-use Rattle.bpf_codec.specs.Decoding.{◌>>=◌, or_fault, fields, form_of, register, signed_of, op_of, swap_width, alu_imm, moved, is_mov, alu_reg, neg, end, jump_imm, jump_reg, ja, ja_long, call, exit, load_wide, reserved_are_zero, row, decoded, with_slots}
+use Rattle.bpf_codec.specs.Slots.{alu_code, alu_offset, cond_code, alu_class, jump_class, end_code, swap_bits, slot, first, fields, slot_bytes, second, spelling, slots, Fits, FitsOperand, Begins}
+use Rattle.bpf_codec.specs.Decoding.{◌>>=◌, or_fault, form_of, register, signed_of, op_of, swap_width, alu_imm, moved, is_mov, alu_reg, neg, end, jump_imm, jump_reg, ja, ja_long, call, exit, load_wide, reserved_are_zero, row, decoded, with_slots}
 use Rattle.std.specs.Prelude.{nat_lt}
 use Rattle.std.proofs.Common.{append_assoc}
 use Rattle.bpf_codec.proofs.Steps.{bind_ok, guard_ok, and_true, slot_same, each_place, at_place, low_of_signed_16, low_of_signed_32}

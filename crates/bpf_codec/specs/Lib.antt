@@ -1,2 +1,4 @@
 pub mod Slots
+pub mod Opcodes
+pub mod Faults
 pub mod Decoding

@@ -1,6 +1,6 @@
 //! The fields of a slot.
 ghost use Rattle.std.specs.Prelude.{◌≡◌, ◌≤◌, length};
-ghost use Rattle.bpf_codec.specs.Decoding.{fields};
+ghost use Rattle.bpf_codec.specs.Slots.{fields};
 
 use byteorder::{ByteOrder, LittleEndian};
 
