@@ -1,0 +1,3 @@
+pub mod Instructions
+pub mod ValidCode
+pub mod Entries
