@@ -1,35 +1,27 @@
-use Rattle.std.proofs.Common.{◌≡◌, ◌≢◌, ℕ, zero, suc, ◌+◌, ◌-◌, ◌*◌, ◌/◌, ◌%◌, ◌<◌, ◌≤◌, ◌^◌, Bool, true, false, cond, not, List, [], ◌∷◌, ◌++◌, length, get_or, drop, take, Result, Ok, Err, Option, Some, None, ◌&&◌, ◌||◌, refl, ap, subst, sym, ◌∙◌, arith, rules, ◌==◌, ℤ, pos, negsuc, inl, inr, ◌⊎◌}
-use Rattle.std.specs.Prelude.{slice_index, slice_get}
+use Rattle.std.proofs.Common.{◌≡◌, ℕ, zero, suc, ◌+◌, ◌*◌, ◌/◌, ◌%◌, ◌<◌, ◌≤◌, ◌^◌, Bool, true, false, cond, List, ◌∷◌, ◌++◌, length, get_or, drop, Ok, Err, ◌&&◌, ◌||◌, refl, ap, subst, sym, ◌∙◌, arith, ◌==◌, inl, inr}
+use Rattle.std.specs.Prelude.{slice_index}
 use Rattle.std.proofs.lemmas.Grind.{common_steps}
-use Rattle.std.specs.Int.{w16, w32, cast_signed, cast_unsigned}
+use Rattle.std.specs.Int.{w16, w32, cast_signed}
 use Rattle.std.specs.Int.RustNames.{FitsSigned}
-use Rattle.std.proofs.lemmas.Int.{ints, to_z-of_z}
-use Rattle.std.proofs.lemmas.Bool.Decides.{nat_tests}
-use Rattle.isa_table.specs.Words.{wrapped, low_bytes}
+use Rattle.isa_table.specs.Words.{low_bytes}
 use Rattle.isa_table.specs.declared.instr.Instr.{Instr}
 use Rattle.isa_table.specs.declared.instr.Instr.TheVariants.{Alu, Neg, MovSx8, MovSx16, MovSx32, End, Jump, Ja, JaLong, CallLocal, Exit, LoadWide}
 use Rattle.isa_table.specs.declared.instr.Binary.{Binary}
-use Rattle.isa_table.specs.declared.instr.Binary.TheVariants.{Add, Sub, Mul, Div, SDiv, Or, And, Lsh, Rsh, Mod, SMod, Xor, Mov, Arsh}
+use Rattle.isa_table.specs.declared.instr.Binary.TheVariants.{Div, Mod, Mov}
 use Rattle.isa_table.specs.declared.instr.Cond.{Cond}
-use Rattle.isa_table.specs.declared.instr.Cond.TheVariants.{Eq, Gt, Ge, Set, Ne, SGt, SGe, Lt, Le, SLt, SLe}
 use Rattle.isa_table.specs.declared.instr.Order.{Order}
-use Rattle.isa_table.specs.declared.instr.Order.TheVariants.{Little, Big, Swapped}
 use Rattle.isa_table.specs.declared.instr.SwapWidth.{SwapWidth}
-use Rattle.isa_table.specs.declared.instr.SwapWidth.TheVariants.{W16, W32, W64}
 use Rattle.isa_table.specs.declared.instr.Reg.{Reg}
-use Rattle.isa_table.specs.declared.instr.Reg.TheVariants.{R0, R1, R2, R3, R4, R5, R6, R7, R8, R9, R10}
-use Rattle.isa_table.specs.declared.instr.Operand.{Operand}
 use Rattle.isa_table.specs.declared.instr.Operand.TheVariants.{Imm, Register}
 use Rattle.bpf_codec.specs.declared.slot.Slot.{Slot}
-use Rattle.bpf_codec.specs.declared.fault.Fault.{Fault}
 use Rattle.bpf_codec.specs.declared.fault.Fault.TheVariants as fault
 use Rattle.bpf_codec.specs.declared.forms.Form.{Form}
 use Rattle.bpf_codec.specs.declared.forms.Form.TheVariants as form
-use Rattle.bpf_codec.specs.declared.forms.TheConstants.{FORMS, REGISTERS}
+use Rattle.bpf_codec.specs.declared.forms.TheConstants.{FORMS}
 use Rattle.isa_table.specs.Registers.{register_number}
-use Rattle.bpf_codec.specs.Slots.{alu_code, alu_offset, cond_code, alu_class, jump_class, end_code, swap_bits, slot, first, fields, slot_bytes, second, spelling, slots, Fits, FitsOperand, Begins}
-use Rattle.bpf_codec.specs.Decoding.{◌>>=◌, or_fault, form_of, register, signed_of, op_of, swap_width, alu_imm, moved, is_mov, alu_reg, neg, end, jump_imm, jump_reg, ja, ja_long, call, exit, load_wide, reserved_are_zero, row, decoded, with_slots}
-use Rattle.bpf_codec.proofs.Steps.{bind_ok, guard_ok, and_true, chosen, slot_same, each_place, at_place, low_of_signed_16, low_of_signed_32}
+use Rattle.bpf_codec.specs.Slots.{alu_code, alu_offset, cond_code, alu_class, jump_class, end_code, swap_bits, first, fields, slot_bytes, second, Fits, Begins}
+use Rattle.bpf_codec.specs.Decoding.{form_of, register, op_of, swap_width, alu_imm, moved, is_mov, alu_reg, neg, end, jump_imm, jump_reg, ja, ja_long, call, exit, load_wide, reserved_are_zero, row, decoded}
+use Rattle.bpf_codec.proofs.Steps.{bind_ok, guard_ok, and_true, chosen, slot_same, at_place, low_of_signed_16, low_of_signed_32}
 use Rattle.std.proofs.Math.Facts.{sfits_to_z}
 use Rattle.std.specs.Prelude.{nat_lt}
 use Rattle.std.proofs.lemmas.Bool.{eqb-true}
@@ -128,7 +120,7 @@ jump_reg_found wide c f more i range is h =
     let e : (f.imm ≡ 0) × (Jump wide c b.0 (Register s.0) (cast_signed w16 f.offset) ≡ i) = grind (arith, common_steps, s.2) in
     subst (IsFound f more) e.1 (record { first_is = slot_same f _ _ _ _ _ (sym is) (register_found f.dst b.0 b.1) (register_found f.src s.0 s.1) (low_of_signed_16 f.offset range.offset) (sym e.0); fits = (tt, fits_16 f.offset range.offset); second_is = refl })
 
-fits_form : ℕ → Form → Bool
+unfoldable pub fits_form : ℕ → Form → Bool
 fits_form n form.Nothing = true
 fits_form n form.Packet = true
 fits_form n (form.AluImm wide op) = (n == alu_code op + alu_class wide) && (alu_offset op == 0)
@@ -143,7 +135,7 @@ fits_form n form.Call = n == 0x85
 fits_form n form.Exit = n == 0x95
 fits_form n form.LoadWide = n == 0x18
 
-form_fits : (n : ℕ) → n < 256 → fits_form n (form_of n) ≡ true
+pub form_fits : (n : ℕ) → n < 256 → fits_form n (form_of n) ≡ true
 unfolding form_of fits_form
 form_fits n h =
     let e : 0 + n ≡ n = omega arith in

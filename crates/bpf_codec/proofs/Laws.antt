@@ -1,38 +1,19 @@
-use Rattle.std.proofs.Common.{◌≡◌, ◌≢◌, ℕ, zero, suc, ◌+◌, ◌-◌, ◌*◌, ◌/◌, ◌%◌, ◌<◌, ◌≤◌, ◌^◌, Bool, true, false, cond, not, List, [], ◌∷◌, ◌++◌, length, get_or, drop, take, Result, Ok, Err, Option, Some, None, ◌&&◌, ◌||◌, refl, ap, subst, sym, ◌∙◌, arith, rules, ◌==◌, ℤ, pos, negsuc, inl, inr, ◌⊎◌}
-use Rattle.std.specs.Prelude.{slice_index, slice_get}
-use Rattle.std.proofs.lemmas.Grind.{common_steps}
-use Rattle.std.specs.Int.{w16, w32, cast_signed, cast_unsigned}
+use Rattle.std.proofs.Common.{◌≡◌, ℕ, ◌+◌, ◌*◌, ◌/◌, ◌<◌, true, List, [], ◌∷◌, ◌++◌, length, drop, Result, Ok, Err, refl, ap, subst, sym, ◌∙◌, arith, ℤ, pos, negsuc}
+use Rattle.std.specs.Int.{w16, w32, cast_unsigned}
 use Rattle.std.specs.Int.RustNames.{FitsSigned}
-use Rattle.std.proofs.lemmas.Int.{ints, to_z-of_z}
+use Rattle.std.proofs.lemmas.Int.{ints}
 use Rattle.std.proofs.lemmas.Bool.Decides.{nat_tests}
 use Rattle.isa_table.specs.Words.{wrapped, low_bytes}
 use Rattle.isa_table.specs.declared.instr.Instr.{Instr}
-use Rattle.isa_table.specs.declared.instr.Instr.TheVariants.{Alu, Neg, MovSx8, MovSx16, MovSx32, End, Jump, Ja, JaLong, CallLocal, Exit, LoadWide}
-use Rattle.isa_table.specs.declared.instr.Binary.{Binary}
-use Rattle.isa_table.specs.declared.instr.Binary.TheVariants.{Add, Sub, Mul, Div, SDiv, Or, And, Lsh, Rsh, Mod, SMod, Xor, Mov, Arsh}
-use Rattle.isa_table.specs.declared.instr.Cond.{Cond}
-use Rattle.isa_table.specs.declared.instr.Cond.TheVariants.{Eq, Gt, Ge, Set, Ne, SGt, SGe, Lt, Le, SLt, SLe}
-use Rattle.isa_table.specs.declared.instr.Order.{Order}
-use Rattle.isa_table.specs.declared.instr.Order.TheVariants.{Little, Big, Swapped}
-use Rattle.isa_table.specs.declared.instr.SwapWidth.{SwapWidth}
-use Rattle.isa_table.specs.declared.instr.SwapWidth.TheVariants.{W16, W32, W64}
-use Rattle.isa_table.specs.declared.instr.Reg.{Reg}
-use Rattle.isa_table.specs.declared.instr.Reg.TheVariants.{R0, R1, R2, R3, R4, R5, R6, R7, R8, R9, R10}
-use Rattle.isa_table.specs.declared.instr.Operand.{Operand}
-use Rattle.isa_table.specs.declared.instr.Operand.TheVariants.{Imm, Register}
+use Rattle.isa_table.specs.declared.instr.Instr.TheVariants.{LoadWide}
 use Rattle.bpf_codec.specs.declared.slot.Slot.{Slot}
 use Rattle.bpf_codec.specs.declared.fault.Fault.{Fault}
 use Rattle.bpf_codec.specs.declared.fault.Fault.TheVariants as fault
-use Rattle.bpf_codec.specs.declared.forms.Form.{Form}
-use Rattle.bpf_codec.specs.declared.forms.Form.TheVariants as form
-use Rattle.bpf_codec.specs.declared.forms.TheConstants.{FORMS, REGISTERS}
-use Rattle.isa_table.specs.Registers.{register_number}
-use Rattle.bpf_codec.specs.Slots.{alu_code, alu_offset, cond_code, alu_class, jump_class, end_code, swap_bits, slot, first, fields, slot_bytes, second, spelling, slots, Fits, FitsOperand, Begins}
-use Rattle.bpf_codec.specs.Decoding.{◌>>=◌, or_fault, form_of, register, signed_of, op_of, swap_width, alu_imm, moved, is_mov, alu_reg, neg, end, jump_imm, jump_reg, ja, ja_long, call, exit, load_wide, reserved_are_zero, row, decoded, with_slots}
+use Rattle.bpf_codec.specs.Slots.{first, slot_bytes, second, spelling, slots, Fits, Begins}
+use Rattle.bpf_codec.specs.Decoding.{decoded, with_slots}
 use Rattle.std.specs.Prelude.{IfOk, nat_lt}
 use Rattle.std.proofs.Common.{append_assoc, append-nil}
 use Rattle.bpf_codec.specs.Slots.{next_word, zeros_after, padded, NoneBeginsAnother}
-use Rattle.std.proofs.lemmas.Bool.{le-ltb}
 use Rattle.std.proofs.lemmas.List.{length-drop, get_or-drop}
 use Rattle.bpf_codec.proofs.Found.{IsBytes, decoded_found}
 use Rattle.bpf_codec.proofs.Again.{decoded_again}

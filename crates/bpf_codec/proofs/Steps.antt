@@ -1,7 +1,6 @@
 -- Steps of a decoder that may fail, taken apart.
-use Rattle.std.proofs.Common.{◌≡◌, ℕ, zero, suc, ◌+◌, ◌-◌, ◌*◌, ◌<◌, ◌≤◌, ◌^◌, Bool, true, false, cond, List, [], ◌∷◌, ◌++◌, length, get_or, drop, take, Result, Ok, Err, Option, Some, None, ◌&&◌, refl, ap, sym, ◌∙◌, arith, rules, ◌==◌, inl, inr, ◌⊎◌}
-use Rattle.std.specs.Int.{w16, w32, cast_signed, cast_unsigned}
-use Rattle.std.specs.Int.RustNames.{FitsSigned}
+use Rattle.std.proofs.Common.{◌≡◌, ℕ, zero, suc, ◌+◌, ◌<◌, ◌^◌, Bool, true, false, cond, List, [], ◌∷◌, length, get_or, Result, Ok, Err, ◌&&◌, refl, arith, inl, inr, ◌⊎◌}
+use Rattle.std.specs.Int.{w16, w32, cast_signed}
 use Rattle.std.proofs.lemmas.Int.{ints}
 use Rattle.isa_table.specs.Words.{wrapped}
 use Rattle.bpf_codec.specs.Decoding.{◌>>=◌}

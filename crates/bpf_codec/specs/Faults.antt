@@ -1,10 +1,9 @@
 -- Why the bytes at a slot spell no instruction (RFC 9669, sections 3 to 5), by the bytes alone.
-use Rattle.std.specs.Prelude.{◌≡◌, ℕ, ◌<◌, ◌==◌, nat_lt, nat_le, ◌&&◌, ◌||◌, not, Bool, true, false, List, [], ◌∷◌, length, slice_index, IsTrue, IsFalse}
-use Rattle.bpf_codec.specs.declared.slot.Slot.{Slot}
+use Rattle.std.specs.Prelude.{ℕ, ◌<◌, ◌==◌, nat_lt, nat_le, ◌&&◌, ◌||◌, not, Bool, false, List, [], ◌∷◌, length, slice_index, IsTrue, IsFalse}
 use Rattle.bpf_codec.specs.declared.fault.Fault.{Fault}
 use Rattle.bpf_codec.specs.declared.fault.Fault.TheVariants as fault
 use Rattle.bpf_codec.specs.Slots.{fields}
-use Rattle.bpf_codec.specs.Opcodes.{is_among, is_row, is_packet, Field, AnyRegister, AnyNumber, OneOf, destination_field, source_field, offset_field, imm_field}
+use Rattle.bpf_codec.specs.Opcodes.{is_among, is_row, is_packet, Field, AnyRegister, OneOf, destination_field, source_field, offset_field, imm_field}
 
 -- Faults are in the order of these numbers.
 abbrev pub fault_number : Fault → ℕ

@@ -1,5 +1,5 @@
 -- What an opcode says of the other fields of its slot (RFC 9669, sections 3 to 5).
-use Rattle.std.specs.Prelude.{ℕ, ◌/◌, ◌%◌, ◌==◌, ◌&&◌, ◌||◌, not, Bool, true, false, if◌then◌else◌, List, [], ◌∷◌}
+use Rattle.std.specs.Prelude.{ℕ, ◌/◌, ◌%◌, ◌==◌, ◌&&◌, ◌||◌, not, Bool, false, if◌then◌else◌, List, [], ◌∷◌}
 
 -- whether the number is in the list
 abbrev pub is_among : ℕ → List ℕ → Bool

@@ -1,7 +1,8 @@
 //! Reads instructions.
-ghost use Rattle.std.specs.Prelude.{◌≡◌, ◌*◌, drop, IfOk};
+ghost use Rattle.std.specs.Prelude.{◌≡◌, ◌*◌, drop, IfOk, IfErr};
 ghost use Rattle.isa_table.specs.declared.instr.Instr.{Instr};
 ghost use Rattle.bpf_codec.specs.Slots.{Fits, Begins, slots};
+ghost use Rattle.bpf_codec.specs.Faults.{IsLeastFault};
 ghost use Rattle.bpf_codec.specs.Decoding.{op_of, swap_width, alu_imm, moved, alu_reg, neg, end, jump_imm, jump_reg, ja, ja_long, call, exit, load_wide, row, decoded, with_slots};
 
 use crate::fault::Fault;
@@ -283,8 +284,8 @@ pub fn decode_at(code: &[u8], slot: usize) -> Result<(Instr, usize), Fault>
     ensures found { IfOk result (λ x. Fits x.0 × Begins (drop (8 * slot) code.now) x.0 × (x.1 ≡ slots x.0)) }
     // What stands there is read.
     ensures only { (i : Instr) → Fits i → Begins (drop (8 * slot) code.now) i → result ≡ Ok (i, slots i) }
-    // Which fault it is.
-    ensures exact { result ≡ with_slots (decoded (drop (8 * slot) code.now)) }
+    // The fault is the least that the bytes there have.
+    ensures fault { IfErr result (λ f. IsLeastFault f (drop (8 * slot) code.now)) }
 {
     read_at(code, slot)
 }
