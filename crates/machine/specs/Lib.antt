@@ -1,0 +1,4 @@
+pub mod MachineState
+pub mod TableStep
+pub mod Invariant
+pub mod Plain
