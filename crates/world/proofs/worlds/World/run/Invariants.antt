@@ -1,0 +1,11 @@
+use Rattle.std.proofs.Common.{◌≡◌, List, ◌++◌, map, ◌+◌, ◌≤◌, vec_len, vec_capacity}
+use Rattle.world.specs.Run.{Runs}
+use Rattle.world.specs.Answers.{Answers, command_of}
+use Rattle.world.specs.declared.events.Reply.{Reply}
+use Rattle.world.proofs.worlds.World.run.Given as goal
+
+abbrev pub invariant-loop-event : goal.invariant-loop-event
+invariant-loop-event l = record {
+  run : (told : List Reply) × (l.replies.items ≡ l.fn.replies.items ++ told) × Runs Answers l.fn.self (map command_of l.yielded) told l.self;
+  room : vec_len l.replies + goal.iterator-loop-event.remaining l.event-iterator ≤ vec_capacity l.replies;
+}
