@@ -2,7 +2,11 @@
 #![tactic(auto)]
 
 mod events;
+mod laws;
 mod worlds;
 
 pub use events::{Event, Reply, Shown};
+pub use laws::{
+    others_stay, refusals_change_nothing, runs_what_was_shipped, showing_changes_nothing,
+};
 pub use worlds::World;

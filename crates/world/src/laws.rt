@@ -1,0 +1,22 @@
+//! What the definitions say, apart from any call.
+ghost use Rattle.world.specs.Laws.{RefusalsChangeNothing, ShowingChangesNothing, OthersStay, RunsWhatWasShipped};
+
+/// A refusal changes nothing.
+pub fn refusals_change_nothing()
+    ensures { RefusalsChangeNothing }
+{}
+
+/// Showing a machine changes nothing.
+pub fn showing_changes_nothing()
+    ensures { ShowingChangesNothing }
+{}
+
+/// A step of one machine leaves every other machine as it was.
+pub fn others_stay()
+    ensures { OthersStay }
+{}
+
+/// Whatever was done, the programs are those that were shipped.
+pub fn runs_what_was_shipped()
+    ensures { RunsWhatWasShipped }
+{}
