@@ -1,2 +1,4 @@
 pub mod Values
 pub mod Goes
+pub mod Frames
+pub mod Outcomes

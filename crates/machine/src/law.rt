@@ -1,0 +1,37 @@
+//! What the table step promises, whatever the program.
+ghost use Rattle.machine.specs.Laws.{StepsOneWay, StoppedStays, FuelCounts, StopsInPlace, StartsWhole, AlwaysSteps, StaysWhole};
+
+/// A machine has one next state, and one answer.
+pub fn steps_one_way()
+    ensures { StepsOneWay }
+{}
+
+/// A machine that is stopped stays as it is, and answers its stop.
+pub fn stopped_stays()
+    ensures { StoppedStays }
+{}
+
+/// Fuel falls by one with each instruction that ran, EXIT included, and with nothing else.
+pub fn fuel_counts()
+    ensures { FuelCounts }
+{}
+
+/// A stop other than exit changes the stop alone.
+pub fn stops_in_place()
+    ensures { StopsInPlace }
+{}
+
+/// At the start of valid code an instruction begins, and no call is open.
+pub fn starts_whole()
+    ensures { StartsWhole }
+{}
+
+/// Where an instruction begins at a machine's slot, it can step.
+pub fn always_steps()
+    ensures { AlwaysSteps }
+{}
+
+/// After a step an instruction begins at the slot, and at each slot to which a call goes back; at most eight are open.
+pub fn stays_whole()
+    ensures { StaysWhole }
+{}
