@@ -1,3 +1,4 @@
 pub mod Instructions
 pub mod ValidCode
 pub mod Entries
+pub mod Refusals

@@ -1,6 +1,11 @@
 //! Takes code in, and finds it valid or says what is wrong with it and where.
 #![tactic(auto)]
 
+mod checks;
+mod law;
+mod loading;
 mod program;
 
+pub use law::{refused_for_one_reason, valid_code_is_taken};
+pub use loading::{LoadError, Why, load};
 pub use program::Program;

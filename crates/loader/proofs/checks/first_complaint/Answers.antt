@@ -1,0 +1,32 @@
+use Rattle.std.proofs.Common.{◌∙◌, sym, ◌+◌, arith, subst, ℕ}
+use Rattle.loader.proofs.Stands.{slots_positive, slots_at_most_two}
+use Rattle.loader.proofs.Walked.{IsWalked, next_left, walk_on, wrong_here, all_walked, entry_within}
+use Rattle.loader.proofs.checks.first_complaint.Goals as goal
+
+pub complaint-requires : goal.complaint-requires
+complaint-requires c = record {
+  short = c.requires;
+  room = omega (arith, entry_within c.args.entries.now c.instrs.slot c.in-Some.instr (sym c.in-Some.is ∙ c.entry_at.ensures));
+}
+
+pub returns-in-Some-complaint : goal.returns-in-Some-complaint
+returns-in-Some-complaint c = λ code e.
+    let w = c.instrs.invariant code e in
+    let n = next_left c.args.entries.now c.instrs.slot c.in-Some.instr w.left w.entries (sym c.in-Some.is ∙ c.entry_at.ensures) in
+    wrong_here _ _ _ code _ w n (rw c.in-Some-complaint.is at (c.complaint.ensures code n.behind e n.last))
+
+pub overflow_add-slot : goal.overflow_add-slot
+overflow_add-slot c = omega (arith, c.slots_of-slot.ensures, slots_at_most_two c.in-Some.instr, entry_within c.args.entries.now c.instrs.slot c.in-Some.instr (sym c.in-Some.is ∙ c.entry_at.ensures))
+
+pub instrs-smaller : goal.instrs-smaller
+instrs-smaller c = omega (arith, c.slots_of-slot.ensures, slots_positive c.in-Some.instr, entry_within c.args.entries.now c.instrs.slot c.in-Some.instr (sym c.in-Some.is ∙ c.entry_at.ensures))
+
+pub instrs-preserved : goal.instrs-preserved
+instrs-preserved c = λ code e.
+    let w = c.instrs.invariant code e in
+    let n = next_left c.args.entries.now c.instrs.slot c.in-Some.instr w.left w.entries (sym c.in-Some.is ∙ c.entry_at.ensures) in
+    let sound = rw c.in_default-complaint.is at (c.complaint.ensures code n.behind e n.last) in
+    subst (λ (k : ℕ). IsWalked c.args.entries.now (c.instrs.slot + k) code) (sym c.slots_of-slot.ensures) (walk_on _ _ _ code w n sound)
+
+pub returns : goal.returns
+returns c = λ code e. all_walked _ _ code (c.instrs.invariant code e) (sym c.in_default.is ∙ c.entry_at.ensures)

@@ -1,0 +1,119 @@
+//! What is asked of decoded code.
+ghost use Rattle.std.specs.Prelude.{◌≡◌, ◌<◌, ◌≤◌, ◌+◌, ◌↔◌, ℕ, pos, List, [], length, MatchOption, IfSome, IfNone};
+ghost use Rattle.isa_table.specs.declared.instr.Instr.{Instr};
+ghost use Rattle.bpf_codec.specs.Slots.{slots};
+ghost use Rattle.loader.specs.Instructions.{target, writes_r10, ends_code, is_r10};
+ghost use Rattle.loader.specs.ValidCode.{LeadsInside, IsSound, AllSound};
+ghost use Rattle.loader.specs.Entries.{all_entries};
+ghost use Rattle.loader.specs.Refusals.{IsLeastComplaint, IsFirstWrong};
+
+use crate::loading::{LoadError, Why};
+use crate::program::entry_at;
+use bpf_codec::slots_of;
+use isa_table::{Instr, Reg};
+
+/// The slot to which the instruction at the slot jumps or calls.
+fn target_of(slot: usize, instr: Instr) -> Option<i64>
+    requires { slot < 4096 }
+    ensures { result ≡ target slot instr }
+{
+    let next = slot as i64 + 1;
+    match instr {
+        Instr::Jump { offset, .. } => Some(next + offset as i64),
+        Instr::Ja { offset } => Some(next + offset as i64),
+        Instr::JaLong { offset } => Some(next + offset as i64),
+        Instr::CallLocal { offset } => Some(next + offset as i64),
+        _ => None,
+    }
+}
+
+fn is_frame_pointer(register: Reg) -> bool
+    ensures { result ≡ is_r10 register }
+{
+    matches!(register, Reg::R10)
+}
+
+fn writes_frame_pointer(instr: Instr) -> bool
+    ensures { result ≡ writes_r10 instr }
+{
+    match instr {
+        Instr::Alu { dst, .. } => is_frame_pointer(dst),
+        Instr::Neg { dst, .. } => is_frame_pointer(dst),
+        Instr::MovSx8 { dst, .. } => is_frame_pointer(dst),
+        Instr::MovSx16 { dst, .. } => is_frame_pointer(dst),
+        Instr::MovSx32 { dst, .. } => is_frame_pointer(dst),
+        Instr::End { dst, .. } => is_frame_pointer(dst),
+        Instr::LoadWide { dst, .. } => is_frame_pointer(dst),
+        _ => false,
+    }
+}
+
+fn never_goes_on(instr: Instr) -> bool
+    ensures { result ≡ ends_code instr }
+{
+    matches!(instr, Instr::Exit | Instr::Ja { .. } | Instr::JaLong { .. })
+}
+
+/// The slot of this number, where there are so many.
+fn slot_of(number: i64, count: usize) -> Option<usize>
+    requires { count ≤ 4096 }
+    ensures some { IfSome result (λ m. (number ≡ pos m) × (m < count)) }
+    ensures none { IfNone result ((m : ℕ) → number ≡ pos m → m < count → ⊥) }
+{
+    if 0 <= number && number < count as i64 {
+        Some(number as usize)
+    } else {
+        None
+    }
+}
+
+/// What is wrong with where the instruction leads.
+fn stray(entries: &[Option<Instr>], slot: usize, instr: Instr) -> Option<Why>
+    requires short { length entries.now ≤ 4096 }
+    requires room { slot < 4096 }
+    ensures { (code behind : List Instr) → entries.now ≡ all_entries code → MatchOption result (LeadsInside code slot instr) (λ why. IsLeastComplaint code slot instr behind why) }
+{
+    let Some(to) = target_of(slot, instr) else {
+        return None;
+    };
+    let Some(to) = slot_of(to, entries.len()) else {
+        return Some(Why::JumpOut);
+    };
+    match entry_at(entries, to) {
+        Some(_) => None,
+        None => Some(Why::JumpInside),
+    }
+}
+
+/// The least that is wrong with the instruction.
+fn complaint(entries: &[Option<Instr>], slot: usize, instr: Instr) -> Option<Why>
+    requires short { length entries.now ≤ 4096 }
+    requires room { slot < 4096 }
+    ensures { (code behind : List Instr) → entries.now ≡ all_entries code → (behind ≡ []) ↔ (slot + slots instr ≡ length entries.now) → MatchOption result (IsSound code slot instr behind) (λ why. IsLeastComplaint code slot instr behind why) }
+{
+    if let Some(why) = stray(entries, slot, instr) {
+        return Some(why);
+    }
+    if writes_frame_pointer(instr) {
+        return Some(Why::WritesR10);
+    }
+    if slot + slots_of(&instr) == entries.len() && !never_goes_on(instr) {
+        return Some(Why::FallsOff);
+    }
+    None
+}
+
+/// The first instruction with which something is wrong, and the least that is wrong with it.
+pub(crate) fn first_complaint(entries: &[Option<Instr>]) -> Option<LoadError>
+    requires { length entries.now ≤ 4096 }
+    ensures { (code : List Instr) → entries.now ≡ all_entries code → MatchOption result (AllSound code code 0) (λ e. IsFirstWrong code code 0 e.slot e.why) }
+{
+    let mut slot = 0;
+    'instrs: while let Some(instr) = entry_at(entries, slot) {
+        if let Some(why) = complaint(entries, slot, instr) {
+            return Some(LoadError { slot, why });
+        }
+        slot += slots_of(&instr);
+    }
+    None
+}
