@@ -6,6 +6,8 @@ mod forms;
 mod law;
 mod reading;
 mod slot;
+#[cfg(test)]
+mod tests;
 mod writing;
 
 pub use fault::Fault;

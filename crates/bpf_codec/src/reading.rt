@@ -225,7 +225,7 @@ fn read_load_wide(f: Slot, more: &[u8]) -> Result<Instr, Fault>
     if more[0] != 0 || more[1] != 0 || more[2] != 0 || more[3] != 0 {
         return Err(Fault::Field);
     }
-    if f.src != 0 {
+    if f.src > 0 {
         return Err(Fault::Platform);
     }
     let next = slot_at(more);
