@@ -1,0 +1,92 @@
+-- How a drive ends.
+use Rattle.std.proofs.Common.{◌≡◌, ℕ, ◌<◌, List, [], ◌∷◌, ◌++◌, length, refl, sym, ap, ◌∙◌, append_assoc, append-nil, Option, Some, None, subst, arith, take, IfSome, inl, inr, codes}
+use Rattle.std.proofs.KnownBytes.{Appends-trans}
+use Rattle.std.specs.Io.KnownBytes.{Appends, Consumes, IsAtEnd}
+use Rattle.world.specs.Answers.{WorldState}
+use Rattle.console.specs.Lines.{ended, cut_of}
+use Rattle.console.specs.Held.{Held, clip}
+use Rattle.console.specs.Conversations.{Goes, Halts, Ends, StopsReading, StopsWriting}
+use Rattle.console.proofs.Exchanges.{halts_more}
+
+-- what holds of what was seen, whatever follows it, holds of the whole input
+pub more_seen : (a b : Option (List ℕ)) (seen : List ℕ) (P : List ℕ → Type 0) → Consumes a b seen → ((rest : List ℕ) → P (seen ++ rest)) → IfSome a P
+more_seen None b seen P c p = tt
+more_seen (Some x) None seen P c p = absurd c
+more_seen (Some x) (Some y) seen P c p = subst P (sym c) (p y)
+
+-- what holds of what was seen at the end holds of the whole input
+pub all_seen : (a b : Option (List ℕ)) (seen : List ℕ) (P : List ℕ → Type 0) → Consumes a b seen → IsAtEnd b → P seen → IfSome a P
+all_seen None b seen P c e p = tt
+all_seen (Some x) None seen P c e p = absurd c
+all_seen (Some x) (Some y) seen P c e p = subst P (sym (c ∙ ap (λ l. seen ++ l) e ∙ append-nil seen)) p
+
+-- a read that gives nothing
+pub none_seen : (a b : Option (List ℕ)) (seen bytes : List ℕ) (n : ℕ) → n ≡ 0 → Consumes a b (seen ++ take n bytes) → Consumes a b seen
+none_seen a b seen bytes n e c = subst (λ l. Consumes a b l) (ap (λ k. seen ++ take k bytes) e ∙ append-nil seen) c
+
+clip_empty : (line : List ℕ) → (0 < length (clip line) → ⊥) → cut_of line ≡ []
+clip_empty [] h = refl
+clip_empty (b ∷ line) h = absurd (h (omega arith))
+
+clip_some : (line : List ℕ) → 0 < length (clip line) → (0 < length line) × (cut_of line ≡ ended (codes "cut"))
+clip_some [] h = absurd (omega arith)
+clip_some (b ∷ line) h = (omega arith, refl)
+
+module _ (s t : WorldState) (h seen : List ℕ) (a b u v : Option (List ℕ)) where
+  pub ends_whole : (k : Held) → Consumes a b seen → IsAtEnd b → Goes s (h ++ seen) u v t k → (0 < length k.line → ⊥) → IfSome a (λ input. Ends s (h ++ input) u v t)
+  ends_whole k c e x n = all_seen a b seen (λ input. Ends s (h ++ input) u v t) c e (
+    x.output,
+    x.appended,
+    (
+      x.output,
+      x.rest,
+      x.so_far,
+      x.is_open,
+      sym (ap (λ l. x.output ++ l) (clip_empty x.rest (subst (λ (y : Held). 0 < length y.line → ⊥) x.holds n)) ∙ append-nil x.output),
+    ),
+  )
+
+  pub ends_cut : (w : Option (List ℕ)) (k : Held) → Consumes a b seen → IsAtEnd b → Goes s (h ++ seen) u v t k → 0 < length k.line → Appends v w (ended (codes "cut")) → IfSome a (λ input. Ends s (h ++ input) u w t)
+  ends_cut w k c e x n p =
+      let r = clip_some x.rest (subst (λ (y : Held). 0 < length y.line) x.holds n) in
+      all_seen a b seen (λ input. Ends s (h ++ input) u w t) c e (
+        x.output ++ ended (codes "cut"),
+        Appends-trans u v w x.output (ended (codes "cut")) x.appended p,
+        (
+          x.output,
+          x.rest,
+          x.so_far,
+          x.is_open,
+          ap (λ l. x.output ++ l) (sym r.1),
+        ),
+      )
+
+  pub breaks_cut : (w : Option (List ℕ)) (k : Held) (part missing : List ℕ) → Consumes a b seen → IsAtEnd b → Goes s (h ++ seen) u v t k → 0 < length k.line
+      → ended (codes "cut") ≡ part ++ missing → 0 < length missing → Appends v w part → IfSome a (λ input. StopsWriting s (h ++ input) u w t)
+  breaks_cut w k part missing c e x n d m p =
+      let r = clip_some x.rest (subst (λ (y : Held). 0 < length y.line) x.holds n) in
+      all_seen a b seen (λ input. StopsWriting s (h ++ input) u w t) c e (
+        x.output ++ part,
+        Appends-trans u v w x.output part x.appended p,
+        inr record {
+          told = x.output;
+          rest = x.rest;
+          mid = t;
+          due = ended (codes "cut");
+          part = part;
+          missing = missing;
+          so_far = x.so_far;
+          next = (x.is_open, r.0, sym r.1, refl);
+          broken = d;
+          misses = m;
+          wrote = refl;
+        },
+      )
+
+  pub stops_reading : (k : Held) → Consumes a b seen → Goes s (h ++ seen) u v t k → IfSome a (λ input. StopsReading s (h ++ input) u v t k)
+  stops_reading k c x = more_seen a b seen (λ input. StopsReading s (h ++ input) u v t k) c
+      (λ more. record { heard = h ++ seen; more = more; parts = sym (append_assoc h seen more); goes = x })
+
+  pub stops_writing : Consumes a b seen → Halts s (h ++ seen) u v t → IfSome a (λ input. StopsWriting s (h ++ input) u v t)
+  stops_writing c x = more_seen a b seen (λ input. StopsWriting s (h ++ input) u v t) c
+      (λ more. let y = subst (λ l. Halts s l u v t) (append_assoc h seen more) (halts_more s t (h ++ seen) more u v x) in (y.0, y.1, inl y.2))

@@ -1,0 +1,5 @@
+pub mod Spelled
+pub mod Said
+pub mod Kept
+pub mod Exchanges
+pub mod Drives

@@ -1,0 +1,4 @@
+pub mod Operands
+pub mod Lines
+pub mod Held
+pub mod Conversations

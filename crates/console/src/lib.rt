@@ -1,0 +1,17 @@
+//! Lines of commands in, lines of replies out.
+#![tactic(auto)]
+
+mod commands;
+mod console;
+mod conversation;
+mod fault;
+mod kind;
+mod laws;
+mod replies;
+mod words;
+
+pub use console::Console;
+pub use conversation::drive;
+pub use fault::{DriveFault, LineFault};
+pub use laws::one_command;
+pub use replies::{REPLY_LIMIT, ReplyLine, print_reply};
