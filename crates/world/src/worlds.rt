@@ -6,7 +6,7 @@ ghost use Rattle.world.specs.Answers.{Answers, WorldState, world_start, command_
 ghost use Rattle.world.specs.Answers.Command.{Ship, Step, Regs};
 
 use crate::events::{Event, Reply, Shown};
-use loader::{LoadError, Why, load};
+use loader::{Why, load};
 use machine::{Machine, Stepped};
 use std::alloc::{AllocError, Global};
 use std::marker::Model;
@@ -79,17 +79,11 @@ impl World {
         let machine = self.machines.len() + 1;
         match load(self.alloc, code) {
             Ok(program) => {
-                let _ = self
-                    .machines
-                    .push(Machine::new(program, machine, fuel, arguments));
+                let shipped = Machine::new(program, machine, fuel, arguments);
+                let _ = self.machines.push(shipped);
                 Reply::Shipped { machine }
             }
-            Err(
-                LoadError {
-                    why: Why::Memory,
-                    ..
-                },
-            ) => Reply::NoMemory,
+            Err(error) if error.why == Why::Memory => Reply::NoMemory,
             Err(error) => Reply::Refused(error),
         }
     }
