@@ -1,5 +1,5 @@
 -- Runs, joined.
-use Rattle.std.proofs.Common.{◌≡◌, List, [], ◌∷◌, ◌++◌, subst}
+use Rattle.std.proofs.Common.{List, [], ◌∷◌, ◌++◌, subst}
 use Rattle.world.specs.Run.{Runs}
 
 pub Runs-append : {S A B : Type 0} (step : S → A → B → S → Type 0) (a b c : S) (xs : List A) (us : List B) (ys : List A) (vs : List B)

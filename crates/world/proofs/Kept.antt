@@ -1,11 +1,11 @@
 -- What commands leave as it was.
-use Rattle.std.proofs.Common.{◌≡◌, ◌≢◌, ℕ, zero, suc, ◌+◌, ◌-◌, Bool, true, false, List, [], ◌∷◌, ◌++◌, map, length, Option, Some, None, refl, sym, ap, subst, ◌∙◌, arith, append_assoc, append-nil}
-use Rattle.std.specs.Prelude.{slice_get, slice_set, nat_le}
+use Rattle.std.proofs.Common.{◌≡◌, ◌≢◌, ℕ, zero, suc, ◌-◌, List, [], ◌∷◌, ◌++◌, map, Option, Some, None, refl, sym, ap, subst, ◌∙◌, arith, append_assoc, append-nil}
+use Rattle.std.specs.Prelude.{slice_get, slice_set}
 use Rattle.std.proofs.lemmas.List.{map-append}
 use Rattle.isa_table.specs.declared.instr.Instr.{Instr}
 use Rattle.isa_table.specs.declared.instr.Instr.TheVariants.{CallLocal, Exit}
 use Rattle.machine.specs.MachineState.{MachineState, start}
-use Rattle.machine.specs.TableStep.{TableStep, StepsFrom, StepsOnFuel, DoesRow, done_unless, stop_before, told, exits, asks, answer_to}
+use Rattle.machine.specs.TableStep.{StepsFrom, StepsOnFuel, done_unless, stop_before, told, exits, asks, answer_to}
 use Rattle.machine.specs.declared.state.Frame.{Frame}
 use Rattle.machine.specs.declared.state.Stop.{Stop}
 use Rattle.machine.specs.declared.state.Stepped.{Stepped}
@@ -14,7 +14,7 @@ use Rattle.world.specs.declared.events.Reply.TheVariants.{Shipped, NoMemory, Ful
 use Rattle.world.specs.Run.{Runs}
 use Rattle.world.specs.Answers.{Command, WorldState, world_start, machine_at, with_machine, StepsMachine, Answers}
 use Rattle.world.specs.Answers.Command.{Ship, Step, Regs}
-use Rattle.world.specs.Laws.{is_refusal, RefusalsChangeNothing, ShowingChangesNothing, OthersStay, shipped_codes, code_of, RunsWhatWasShipped}
+use Rattle.world.specs.Laws.{RefusalsChangeNothing, ShowingChangesNothing, OthersStay, shipped_codes, code_of, RunsWhatWasShipped}
 
 pub refusals_change_nothing : RefusalsChangeNothing
 refusals_change_nothing old new (Ship f a c) NoMemory h t = h

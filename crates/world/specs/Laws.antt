@@ -1,8 +1,8 @@
 -- What the definitions say, in the agent's own words.
-use Rattle.std.specs.Prelude.{◌≡◌, ◌≢◌, ℕ, Bool, true, false, List, [], ◌∷◌, map, length, ◌≤◌}
+use Rattle.std.specs.Prelude.{◌≡◌, ◌≢◌, ℕ, Bool, true, false, List, [], ◌∷◌, map}
 use Rattle.machine.specs.MachineState.{MachineState}
 use Rattle.world.specs.declared.events.Reply.{Reply}
-use Rattle.world.specs.declared.events.Reply.TheVariants.{Shipped, NoMemory, Full, Refused, Ran, Stopped, Registers, Missing}
+use Rattle.world.specs.declared.events.Reply.TheVariants.{Shipped, NoMemory, Full, Refused, Missing}
 use Rattle.world.specs.Run.{Runs}
 use Rattle.world.specs.Answers.{WorldState, world_start, machine_at, Answers}
 use Rattle.world.specs.Answers.Command.{Ship, Step, Regs}
@@ -41,3 +41,17 @@ code_of m = m.code
 abbrev pub RunsWhatWasShipped : Type 0
 RunsWhatWasShipped = (commands : List Command) (replies : List Reply) (new : WorldState) → Runs Answers world_start commands replies new
     → map code_of new.machines ≡ shipped_codes commands replies
+
+-- But for `nomem`, a command has one reply, and leads to one state.
+abbrev pub AnswersOneWay : Type 0
+AnswersOneWay = (old new other : WorldState) (command : Command) (a b : Reply) → Answers old command a new → Answers old command b other
+    → a ≢ NoMemory → b ≢ NoMemory → (a ≡ b) × (new ≡ other)
+
+abbrev pub NoneIsNoMemory : List Reply → Type 0
+NoneIsNoMemory [] = Unit {0}
+NoneIsNoMemory (reply ∷ replies) = (reply ≢ NoMemory) × NoneIsNoMemory replies
+
+-- But for `nomem`, commands have one run: their replies are determined, and so is the state to which they lead.
+abbrev pub RunsOneWay : Type 0
+RunsOneWay = (old new other : WorldState) (commands : List Command) (as' bs : List Reply) → Runs Answers old commands as' new → Runs Answers old commands bs other
+    → NoneIsNoMemory as' → NoneIsNoMemory bs → (as' ≡ bs) × (new ≡ other)

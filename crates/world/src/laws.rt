@@ -1,5 +1,5 @@
 //! What the definitions say, apart from any call.
-ghost use Rattle.world.specs.Laws.{RefusalsChangeNothing, ShowingChangesNothing, OthersStay, RunsWhatWasShipped};
+ghost use Rattle.world.specs.Laws.{RefusalsChangeNothing, ShowingChangesNothing, OthersStay, RunsWhatWasShipped, AnswersOneWay, RunsOneWay};
 
 /// A refusal changes nothing.
 pub fn refusals_change_nothing()
@@ -19,4 +19,14 @@ pub fn others_stay()
 /// Whatever was done, the programs are those that were shipped.
 pub fn runs_what_was_shipped()
     ensures { RunsWhatWasShipped }
+{}
+
+/// But for want of memory, a command has one reply and one effect.
+pub fn answers_one_way()
+    ensures { AnswersOneWay }
+{}
+
+/// But for want of memory, commands have one run.
+pub fn runs_one_way()
+    ensures { RunsOneWay }
 {}

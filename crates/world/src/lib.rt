@@ -7,6 +7,7 @@ mod worlds;
 
 pub use events::{Event, Reply, Shown};
 pub use laws::{
-    others_stay, refusals_change_nothing, runs_what_was_shipped, showing_changes_nothing,
+    answers_one_way, others_stay, refusals_change_nothing, runs_one_way, runs_what_was_shipped,
+    showing_changes_nothing,
 };
 pub use worlds::World;
