@@ -1,5 +1,5 @@
 -- Exchanges, joined.
-use Rattle.std.proofs.Common.{◌≡◌, ◌≢◌, ℕ, ◌+◌, ◌<◌, List, [], ◌∷◌, ◌++◌, length, take, refl, sym, ap, ◌∙◌, append_assoc, append-nil, Option, Result, IsTrue, IsFalse, true, false, inl, inr, subst, arith, flat_map}
+use Rattle.std.proofs.Common.{◌≡◌, ◌≢◌, ℕ, ◌+◌, ◌<◌, List, [], ◌∷◌, ◌++◌, length, take, refl, sym, ap, ◌∙◌, append_assoc, append-nil, Option, Result, Bool, IsTrue, IsFalse, true, false, inl, inr, subst, arith, flat_map}
 use Rattle.std.proofs.lemmas.List.{take_all}
 use Rattle.std.proofs.lemmas.List.Concat.{flat_map-append}
 use Rattle.std.proofs.lemmas.List.Elements.{All-append, All-nil, All-cons}
@@ -12,7 +12,7 @@ use Rattle.world.specs.Answers.{WorldState, Command, Answers}
 use Rattle.world.specs.Answers.Command.{Ship, Step, Regs}
 use Rattle.world.proofs.Joined.{Runs-append}
 use Rattle.console.specs.Lines.{IsLine, ended, Reads, Spells, MayLackMemory}
-use Rattle.console.specs.Held.{Held, clip, nothing_held, held_bytes, Feeds}
+use Rattle.console.specs.Held.{Held, clip, nothing_held, open_line, bytes_so_far, Feeds}
 use Rattle.console.specs.Conversations.{IsTurn, line_of, text_of, commands_of, replies_of, heard_of, told_of, Answered, Exchange, Goes, Halts}
 use Rattle.console.specs.declared.fault.LineFault.{LineFault}
 use Rattle.console.proofs.Kept.{reads_clip, clip-append}
@@ -112,11 +112,11 @@ halts_more a b i j u v y =
 
 -- ---- what a console holds
 
-pub held_waits : (h : Held) → IsTrue h.waits → held_bytes h ≡ ended h.line
-held_waits h e = rw e refl
+pub so_far_waits : (line : List ℕ) (waits : Bool) → IsTrue waits → bytes_so_far line waits ≡ ended line
+so_far_waits line waits e = rw e refl
 
-pub held_open : (h : Held) → IsFalse h.waits → held_bytes h ≡ h.line
-held_open h e = rw e refl
+pub so_far_open : (line : List ℕ) (waits : Bool) → IsFalse waits → bytes_so_far line waits ≡ line
+so_far_open line waits e = rw e refl
 
 pub held_is : (h : Held) (line : List ℕ) → h.line ≡ line → IsFalse h.waits → h ≡ record { line = line; waits = false }
 held_is h line e f = rw (← e, ← f) refl
@@ -165,47 +165,40 @@ halts_line s t line bytes input part missing u v e a b m w = (
   },
 )
 
--- what a console holds that took bytes up to a line end
-pub record Whole (rest taken kept : List ℕ) : Type 0 where
-  pub line : List ℕ
-  pub is_line : IsLine line
-  pub bytes : rest ++ taken ≡ ended line
-  pub clipped : kept ≡ clip line
+-- the line that a console holds which took bytes
+record Fed (rest taken : List ℕ) (held : Held) : Type 0 where
+  line : List ℕ
+  is_line : IsLine line
+  bytes : rest ++ taken ≡ bytes_so_far line held.waits
+  clipped : held.line ≡ clip line
 
 take_through_end : (piece more : List ℕ) (n : ℕ) → n ≡ length piece + 1 → take n (piece ++ 10 ∷ more) ≡ piece ++ 10 ∷ []
 take_through_end piece more n e = rw e (take-append-add piece (10 ∷ more) 1)
 
-pub line_taken : (old rest bytes : List ℕ) (n : ℕ) (h : Held) → IsLine rest → old ≡ clip rest → Feeds old bytes n h → IsTrue h.waits → Whole rest (take n bytes) h.line
-line_taken old rest bytes n h l e (inl f) w = absurd (let q : true ≡ false = sym w ∙ ap (λ (x : Held). x.waits) f.2 in cc)
-line_taken old rest bytes n h l e (inr f) w = record {
+fed : (old rest bytes : List ℕ) (n : ℕ) (h : Held) → IsLine rest → old ≡ clip rest → Feeds old bytes n h → Fed rest (take n bytes) h
+fed old rest bytes n h l e (inl f) = record {
+  line = rest ++ bytes;
+  is_line = All-append (λ b. b ≢ 10) rest bytes l f.0;
+  bytes = rw (f.1, take_all (length bytes) bytes (omega arith)) (sym (so_far_open (rest ++ bytes) h.waits (ap (λ (x : Held). x.waits) f.2)));
+  clipped = ap (λ (x : Held). x.line) f.2 ∙ ap (λ x. clip (x ++ bytes)) e ∙ clip-append 70001 rest bytes;
+}
+fed old rest bytes n h l e (inr f) = record {
   line = rest ++ f.0;
   is_line = All-append (λ b. b ≢ 10) rest f.0 l f.3;
-  bytes = rw f.2 (rw (take_through_end f.0 f.1 n f.4) (sym (append_assoc rest f.0 (10 ∷ []))));
+  bytes = rw f.2 (rw (take_through_end f.0 f.1 n f.4) (sym (append_assoc rest f.0 (10 ∷ [])))) ∙ sym (so_far_waits (rest ++ f.0) h.waits (ap (λ (x : Held). x.waits) f.5));
   clipped = ap (λ (x : Held). x.line) f.5 ∙ ap (λ x. clip (x ++ f.0)) e ∙ clip-append 70001 rest f.0;
 }
 
--- the line goes on
-pub goes_on : (a b : WorldState) (i bytes : List ℕ) (u v : Option (List ℕ)) (h k : Held) (n : ℕ) → Goes a i u v b h → Feeds h.line bytes n k → IsFalse k.waits → Goes a (i ++ take n bytes) u v b k
-goes_on a b i bytes u v h k n x (inr f) w = absurd (let q : true ≡ false = sym (ap (λ (x : Held). x.waits) f.5) ∙ w in cc)
-goes_on a b i bytes u v h k n x (inl f) w =
-    goes_join a b b i (take n bytes) u v v h k x
-    (goes_none b (x.rest ++ take n bytes) v k
-    (rw (f.1, take_all (length bytes) bytes (omega arith)) (All-append (λ b. b ≢ 10) x.rest bytes x.is_open f.0))
-    (rw (f.1, take_all (length bytes) bytes (omega arith)) (ap (λ (x : Held). x.line) f.2 ∙ ap (λ (y : Held). clip (y.line ++ bytes)) x.holds ∙ clip-append 70001 x.rest bytes))
-    w)
+-- bytes are taken, and the line that then waits, if one does, is answered
+module _ (a b c : WorldState) (i bytes : List ℕ) (u v w : Option (List ℕ)) (h k : Held) (n : ℕ) where
+  pub goes_fed : (new : Held) → Goes a i u v b h → Feeds h.line bytes n k
+      → ((line : List ℕ) → IsLine line → k.line ≡ clip line → Goes b (bytes_so_far line k.waits) v w c new) → Goes a (i ++ take n bytes) u w c new
+  goes_fed new x f answer =
+      let l = fed h.line x.rest bytes n k x.is_open (ap (λ (y : Held). y.line) x.holds) f in
+      goes_join a b c i (take n bytes) u v w h new x (subst (λ j. Goes b j v w c new) (sym l.bytes) (answer l.line l.is_line l.clipped))
 
-module _ (a b c : WorldState) (i bytes reply : List ℕ) (u v w : Option (List ℕ)) (h k : Held) (n : ℕ) (command : Result Event LineFault) where
-  pub goes_answered : (new : Held) → Goes a i u v b h → Feeds h.line bytes n k → IsTrue k.waits → Reads (Spells k.line) command
-      → ((line : List ℕ) → IsLine line → Reads (Spells line) command → Answered b line reply c) → Appends v w reply → new ≡ nothing_held → Goes a (i ++ take n bytes) u w c new
-  goes_answered new x f t r s p e =
-      let l = line_taken h.line x.rest bytes n k x.is_open (ap (λ (y : Held). y.line) x.holds) f t in
-      goes_join a b c i (take n bytes) u v w h new x
-      (goes_line b c l.line reply (x.rest ++ take n bytes) v w new l.bytes (s l.line l.is_line (reads_clip l.line command (subst (λ y. Reads (Spells y) command) l.clipped r))) p e)
-
-  pub halts_answered : (part missing : List ℕ) → Goes a i u v b h → Feeds h.line bytes n k → IsTrue k.waits → Reads (Spells k.line) command
-      → ((line : List ℕ) → IsLine line → Reads (Spells line) command → Answered b line reply c) → reply ≡ part ++ missing → 0 < length missing → Appends v w part
+  pub halts_fed : Goes a i u v b h → Feeds h.line bytes n k → ((line : List ℕ) → IsLine line → k.line ≡ clip line → Halts b (bytes_so_far line k.waits) v w c)
       → Halts a (i ++ take n bytes) u w c
-  halts_answered part missing x f t r s d m p =
-      let l = line_taken h.line x.rest bytes n k x.is_open (ap (λ (y : Held). y.line) x.holds) f t in
-      halts_join a b c i (take n bytes) u v w h x
-      (halts_line b c l.line reply (x.rest ++ take n bytes) part missing v w l.bytes (s l.line l.is_line (reads_clip l.line command (subst (λ y. Reads (Spells y) command) l.clipped r))) d m p)
+  halts_fed x f answer =
+      let l = fed h.line x.rest bytes n k x.is_open (ap (λ (y : Held). y.line) x.holds) f in
+      halts_join a b c i (take n bytes) u v w h x (subst (λ j. Halts b j v w c) (sym l.bytes) (answer l.line l.is_line l.clipped))

@@ -22,9 +22,14 @@ open_line line = record { line = clip line; waits = false }
 abbrev pub whole_line : List ℕ → Held
 whole_line line = record { line = clip line; waits = true }
 
+-- what was heard of a line: all of it with its end, where that has come
+abbrev pub bytes_so_far : List ℕ → Bool → List ℕ
+bytes_so_far line true = ended line
+bytes_so_far line false = line
+
 -- the bytes that stand for what is held
 abbrev pub held_bytes : Held → List ℕ
-held_bytes held = elim held.waits [ true ↦ ended held.line | false ↦ held.line ]
+held_bytes held = bytes_so_far held.line held.waits
 
 -- a console whose line was as old has taken n of these bytes: all of them, or those up to and with the first LF
 abbrev pub Feeds : List ℕ → List ℕ → ℕ → Held → Type 0

@@ -3,7 +3,7 @@ ghost use Rattle.std.specs.Prelude.{◌≡◌, ◌++◌, ◌<◌, ℕ, List, len
 ghost use Rattle.std.specs.Result.{IsErrOf};
 ghost use Rattle.std.specs.Io.KnownBytes.{Appends};
 ghost use Rattle.console.specs.Lines.{IsLine, ended, Reads, Spells};
-ghost use Rattle.console.specs.Held.{clip, held_bytes, nothing_held};
+ghost use Rattle.console.specs.Held.{bytes_so_far, clip, held_bytes, nothing_held};
 ghost use Rattle.console.specs.Conversations.{Answered, Goes, Halts, Ends, StopsReading, StopsWriting};
 
 use crate::console::Console;
@@ -45,8 +45,29 @@ fn perform(world: &mut World, command: Result<Event, LineFault>) -> ReplyLine
     }
 }
 
+/// Answers the line that waits, if one does.
+fn answer_waiting<W: Write>(
+    writer: &mut W,
+    console: &mut Console,
+    world: &mut World,
+) -> Result<(), DriveFault>
+    ensures ok { OnOk result ((line : List ℕ) → IsLine line → console.old.line ≡ clip line →
+        Goes world.old (bytes_so_far line console.old.waits) (W.contents writer.old) (W.contents writer.new) world.new console.new) }
+    ensures err { OnErr result ((line : List ℕ) → IsLine line → console.old.line ≡ clip line →
+        Halts world.old (bytes_so_far line console.old.waits) (W.contents writer.old) (W.contents writer.new) world.new) }
+    ensures open { OnOk result (IsFalse console.new.waits) }
+    ensures dropped { OnErr result (console.new ≡ nothing_held) }
+    ensures fault { IfErr result (λ f. f ≡ DriveFault.Write) }
+    ensures line { IsLine console.old.line × (clip console.old.line ≡ console.old.line) }
+{
+    if let Some(command) = console.next_command() {
+        put_all(writer, &perform(world, command))?;
+    }
+    Ok(())
+}
+
 /// Answers what is said in this piece of the input.
-fn take_piece<W: Write>(
+fn answer_piece<W: Write>(
     piece: &[u8],
     writer: &mut W,
     console: &mut Console,
@@ -64,26 +85,7 @@ fn take_piece<W: Write>(
     while !rest.is_empty() {
         let taken = console.feed(rest);
         rest = &rest[taken..];
-        if let Some(command) = console.next_command() {
-            put_all(writer, &perform(world, command))?;
-        }
-    }
-    Ok(())
-}
-
-/// Answers a line that waits before any input.
-fn take_waiting<W: Write>(
-    writer: &mut W,
-    console: &mut Console,
-    world: &mut World,
-) -> Result<(), DriveFault>
-    ensures ok { OnOk result (Goes world.old (held_bytes console.old) (W.contents writer.old) (W.contents writer.new) world.new console.new) }
-    ensures err { OnErr result (Halts world.old (held_bytes console.old) (W.contents writer.old) (W.contents writer.new) world.new) }
-    ensures dropped { OnErr result (console.new ≡ nothing_held) }
-    ensures fault { IfErr result (λ f. f ≡ DriveFault.Write) }
-{
-    if let Some(command) = console.next_command() {
-        put_all(writer, &perform(world, command))?;
+        answer_waiting(writer, console, world)?;
     }
     Ok(())
 }
@@ -110,7 +112,7 @@ pub fn drive<R: Read, W: Write>(
     ensures emptied { OnOk result (console.new ≡ nothing_held) }
     ensures dropped { IsErrOf result DriveFault.Write → console.new ≡ nothing_held }
 {
-    take_waiting(writer, console, world)?;
+    answer_waiting(writer, console, world)?;
     let mut piece = [0u8; 4096];
     for _ in 0..u64::MAX {
         match reader.read(&mut piece) {
@@ -122,7 +124,7 @@ pub fn drive<R: Read, W: Write>(
                 }
                 return Ok(());
             }
-            Ok(n) => take_piece(&piece[..n], writer, console, world)?,
+            Ok(n) => answer_piece(&piece[..n], writer, console, world)?,
             Err(_) => return Err(DriveFault::Read),
         }
     }

@@ -5,13 +5,13 @@ use Rattle.console.proofs.Exchanges.{goes_join, halts_join}
 use Rattle.console.proofs.Drives.{none_seen, ends_whole, ends_cut, breaks_cut, stops_reading, stops_writing}
 use Rattle.console.proofs.conversation.drive.Goals as goal
 
-pub returns-in_err-take_waiting-clause-write : goal.returns-in_err-take_waiting-clause-write
-returns-in_err-take_waiting-clause-write g c = λ _.
+pub returns-in_err-answer_waiting-clause-write : goal.returns-in_err-answer_waiting-clause-write
+returns-in_err-answer_waiting-clause-write g c = λ _.
     let a = g.R.Read.remaining c.args.reader.now in
-    stops_writing _ _ (held_bytes c.args.console.now) [] a a _ _ (Consumes-nil a) (rw append-nil c.in_err-take_waiting.ensures.err)
+    stops_writing _ _ (held_bytes c.args.console.now) [] a a _ _ (Consumes-nil a) (rw append-nil (let l = c.in_err-answer_waiting.ensures.line in c.in_err-answer_waiting.ensures.err c.args.console.now.line l.0 (sym l.1)))
 
 pub loop-init : goal.loop-init
-loop-init g c = ([], Consumes-nil _, rw append-nil c.in_ok-take_waiting.ensures.ok)
+loop-init g c = ([], Consumes-nil _, rw append-nil (let l = c.in_ok-answer_waiting.ensures.line in c.in_ok-answer_waiting.ensures.ok c.args.console.now.line l.0 (sym l.1)))
 
 pub loop-preserved : goal.loop-preserved
 loop-preserved g c =
@@ -20,16 +20,16 @@ loop-preserved g c =
       i.0 ++ p,
       Consumes-trans _ _ _ i.0 p i.1 c.in-Ok.ensures.bytes.0,
       rw (← append_assoc (held_bytes c.args.console.now) i.0 p)
-          (goes_join _ _ _ _ p _ _ _ _ _ i.2 (c.in_ok-take_piece-in-Ok.ensures.ok i.2.rest i.2.is_open (ap (λ (h : Held). h.line) i.2.holds))),
+          (goes_join _ _ _ _ p _ _ _ _ _ i.2 (c.in_ok-answer_piece-in-Ok.ensures.ok i.2.rest i.2.is_open (ap (λ (h : Held). h.line) i.2.holds))),
     )
 
-pub returns-in_err-take_piece-in-Ok-clause-write : goal.returns-in_err-take_piece-in-Ok-clause-write
-returns-in_err-take_piece-in-Ok-clause-write g c = λ _.
+pub returns-in_err-answer_piece-in-Ok-clause-write : goal.returns-in_err-answer_piece-in-Ok-clause-write
+returns-in_err-answer_piece-in-Ok-clause-write g c = λ _.
     let i = c.loop.invariant in
     let p = take c.in-Ok.n c.read.new.buf in
     stops_writing _ _ (held_bytes c.args.console.now) (i.0 ++ p) _ _ _ _ (Consumes-trans _ _ _ i.0 p i.1 c.in-Ok.ensures.bytes.0)
     (rw (← append_assoc (held_bytes c.args.console.now) i.0 p)
-    (halts_join _ _ _ _ p _ _ _ _ i.2 (c.in_err-take_piece-in-Ok.ensures.err i.2.rest i.2.is_open (ap (λ (h : Held). h.line) i.2.holds))))
+    (halts_join _ _ _ _ p _ _ _ _ i.2 (c.in_err-answer_piece-in-Ok.ensures.err i.2.rest i.2.is_open (ap (λ (h : Held). h.line) i.2.holds))))
 
 pub returns-in-Err-clause-read : goal.returns-in-Err-clause-read
 returns-in-Err-clause-read g c = λ _.

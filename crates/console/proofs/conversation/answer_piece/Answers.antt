@@ -4,8 +4,8 @@ use Rattle.std.proofs.lemmas.Result.{err_from_is_err_and}
 use Rattle.std.specs.Io.KnownBytes.{Appends}
 use Rattle.console.specs.Held.{Held}
 use Rattle.console.specs.Conversations.{Halts}
-use Rattle.console.proofs.Exchanges.{goes_none, goes_on, goes_answered, halts_answered, halts_more}
-use Rattle.console.proofs.conversation.take_piece.Goals as goal
+use Rattle.console.proofs.Exchanges.{goes_none, goes_fed, halts_fed, halts_more}
+use Rattle.console.proofs.conversation.answer_piece.Goals as goal
 
 -- the part that is taken goes over
 moved : (seen rest piece : List ℕ) (n : ℕ) → piece ≡ seen ++ rest → piece ≡ (seen ++ take n rest) ++ take (length rest - n) (drop n rest)
@@ -27,43 +27,24 @@ loop-rest-preserved g c =
     let i = c.loop-rest.invariant in
     let n = c.feed-taken.result in
     let rest = c.loop-rest.rest.now in
-    let q = c.in_default.ensures.none in
+    let a = c.in_ok-answer_waiting.ensures in
     record {
-      open_line = rw q.1 q.0;
-      goes = (
-        i.goes.0 ++ take n rest,
-        moved i.goes.0 rest _ n i.goes.1,
-        λ line l e. rw (q.1, ← append_assoc line i.goes.0 (take n rest))
-            (goes_on _ _ _ rest _ _ _ _ n (i.goes.2 line l e) (c.feed-taken.ensures.feeds i.open_line) q.0),
-      );
-    }
-
-pub loop-rest-preserved-in-Continue-1 : goal.loop-rest-preserved-in-Continue-1
-loop-rest-preserved-in-Continue-1 g c =
-    let i = c.loop-rest.invariant in
-    let n = c.feed-taken.result in
-    let rest = c.loop-rest.rest.now in
-    let q = c.in-Some.ensures.some in
-    let p = subst (λ x. Appends (g.W.Write.contents c.loop-rest.writer) (g.W.Write.contents c.put_all.new.writer) x) c.deref.ensures.0 c.in_ok-put_all.ensures.ok in
-    record {
-      open_line = ap (λ (h : Held). h.waits) q.2;
+      open_line = a.open;
       goes = (
         i.goes.0 ++ take n rest,
         moved i.goes.0 rest _ n i.goes.1,
         λ line l e. rw (← append_assoc line i.goes.0 (take n rest))
-            (goes_answered _ _ _ _ rest _ _ _ _ _ _ n _ _ (i.goes.2 line l e) (c.feed-taken.ensures.feeds i.open_line) q.0 q.1 c.perform.ensures p q.2),
+            (goes_fed _ _ _ _ rest _ _ _ _ _ n _ (i.goes.2 line l e) (c.feed-taken.ensures.feeds i.open_line) a.ok),
       );
     }
 
-pub returns-in_err-put_all-clause-err : goal.returns-in_err-put_all-clause-err
-returns-in_err-put_all-clause-err g c =
+pub returns-in_err-answer_waiting-clause-err : goal.returns-in_err-answer_waiting-clause-err
+returns-in_err-answer_waiting-clause-err g c =
     let x = err_from_is_err_and c.from_residual.result c.from_residual.ensures.1 in
     let i = c.loop-rest.invariant in
     let n = c.feed-taken.result in
     let rest = c.loop-rest.rest.now in
-    let q = c.in-Some.ensures.some in
-    let r = c.in_err-put_all.ensures.err in
-    rw x.1 (λ line l e. subst (λ y. Halts c.args.world.now y (g.W.Write.contents c.args.writer.now) (g.W.Write.contents c.put_all.new.writer) c.perform.new.world)
+    rw x.1 (λ line l e. subst (λ y. Halts c.args.world.now y (g.W.Write.contents c.args.writer.now) (g.W.Write.contents c.answer_waiting.new.writer) c.answer_waiting.new.world)
     (whole line i.goes.0 rest _ n i.goes.1)
     (halts_more _ _ _ (drop n rest) _ _
-    (halts_answered _ _ _ _ rest _ _ _ _ _ _ n _ r.0 r.1 (i.goes.2 line l e) (c.feed-taken.ensures.feeds i.open_line) q.0 q.1 c.perform.ensures (sym c.deref.ensures.0 ∙ r.2) r.3 r.4)))
+    (halts_fed _ _ _ _ rest _ _ _ _ _ n (i.goes.2 line l e) (c.feed-taken.ensures.feeds i.open_line) c.in_err-answer_waiting.ensures.err)))

@@ -2,7 +2,7 @@ use Rattle.std.proofs.Common.{◌≡◌, ℕ, List, ◌++◌, length, IsFalse}
 use Rattle.console.specs.Lines.{IsLine}
 use Rattle.console.specs.Held.{clip}
 use Rattle.console.specs.Conversations.{Goes}
-use Rattle.console.proofs.conversation.take_piece.Given as goal
+use Rattle.console.proofs.conversation.answer_piece.Given as goal
 
 abbrev pub invariant-loop-rest : goal.invariant-loop-rest
 invariant-loop-rest g l = record {
