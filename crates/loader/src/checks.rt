@@ -19,10 +19,10 @@ fn target_of(slot: usize, instr: Instr) -> Option<i64>
 {
     let next = slot as i64 + 1;
     match instr {
-        Instr::Jump { offset, .. } => Some(next + offset as i64),
-        Instr::Ja { offset } => Some(next + offset as i64),
-        Instr::JaLong { offset } => Some(next + offset as i64),
-        Instr::CallLocal { offset } => Some(next + offset as i64),
+        Instr::Jump { offset, .. } => Some(next + i64::from(offset)),
+        Instr::Ja { offset } => Some(next + i64::from(offset)),
+        Instr::JaLong { offset } => Some(next + i64::from(offset)),
+        Instr::CallLocal { offset } => Some(next + i64::from(offset)),
         _ => None,
     }
 }
@@ -37,13 +37,13 @@ fn writes_frame_pointer(instr: Instr) -> bool
     ensures { result ≡ writes_r10 instr }
 {
     match instr {
-        Instr::Alu { dst, .. } => is_frame_pointer(dst),
-        Instr::Neg { dst, .. } => is_frame_pointer(dst),
-        Instr::MovSx8 { dst, .. } => is_frame_pointer(dst),
-        Instr::MovSx16 { dst, .. } => is_frame_pointer(dst),
-        Instr::MovSx32 { dst, .. } => is_frame_pointer(dst),
-        Instr::End { dst, .. } => is_frame_pointer(dst),
-        Instr::LoadWide { dst, .. } => is_frame_pointer(dst),
+        Instr::Alu { dst, .. }
+        | Instr::Neg { dst, .. }
+        | Instr::MovSx8 { dst, .. }
+        | Instr::MovSx16 { dst, .. }
+        | Instr::MovSx32 { dst, .. }
+        | Instr::End { dst, .. }
+        | Instr::LoadWide { dst, .. } => is_frame_pointer(dst),
         _ => false,
     }
 }
@@ -68,7 +68,7 @@ fn slot_of(number: i64, count: usize) -> Option<usize>
 }
 
 /// What is wrong with where the instruction leads.
-fn stray(entries: &[Option<Instr>], slot: usize, instr: Instr) -> Option<Why>
+fn jump_complaint(entries: &[Option<Instr>], slot: usize, instr: Instr) -> Option<Why>
     requires short { length entries.now ≤ 4096 }
     requires room { slot < 4096 }
     ensures { (code behind : List Instr) → entries.now ≡ all_entries code → MatchOption result (LeadsInside code slot instr) (λ why. IsLeastComplaint code slot instr behind why) }
@@ -91,7 +91,7 @@ fn complaint(entries: &[Option<Instr>], slot: usize, instr: Instr) -> Option<Why
     requires room { slot < 4096 }
     ensures { (code behind : List Instr) → entries.now ≡ all_entries code → (behind ≡ []) ↔ (slot + slots instr ≡ length entries.now) → MatchOption result (IsSound code slot instr behind) (λ why. IsLeastComplaint code slot instr behind why) }
 {
-    if let Some(why) = stray(entries, slot, instr) {
+    if let Some(why) = jump_complaint(entries, slot, instr) {
         return Some(why);
     }
     if writes_frame_pointer(instr) {
@@ -111,7 +111,7 @@ pub(crate) fn first_complaint(entries: &[Option<Instr>]) -> Option<LoadError>
     let mut slot = 0;
     'instrs: while let Some(instr) = entry_at(entries, slot) {
         if let Some(why) = complaint(entries, slot, instr) {
-            return Some(LoadError { slot, why });
+            return Some(why.at(slot));
         }
         slot += slots_of(&instr);
     }

@@ -5,7 +5,9 @@ mod checks;
 mod law;
 mod loading;
 mod program;
+#[cfg(test)]
+mod tests;
 
 pub use law::{refused_for_one_reason, valid_code_is_taken};
-pub use loading::{LoadError, Why, load};
+pub use loading::{CODE_LIMIT, LoadError, Why, load};
 pub use program::Program;

@@ -1,4 +1,6 @@
 use Rattle.std.proofs.Common.{◌∙◌, sym, ◌+◌, arith, subst, ℕ}
+use Rattle.loader.specs.declared.loading.LoadError.{LoadError}
+use Rattle.loader.specs.Refusals.{IsFirstWrong}
 use Rattle.loader.proofs.Stands.{slots_positive, slots_at_most_two}
 use Rattle.loader.proofs.Walked.{IsWalked, next_left, walk_on, wrong_here, all_walked, entry_within}
 use Rattle.loader.proofs.checks.first_complaint.Goals as goal
@@ -13,7 +15,8 @@ pub returns-in-Some-complaint : goal.returns-in-Some-complaint
 returns-in-Some-complaint c = λ code e.
     let w = c.instrs.invariant code e in
     let n = next_left c.args.entries.now c.instrs.slot c.in-Some.instr w.left w.entries (sym c.in-Some.is ∙ c.entry_at.ensures) in
-    wrong_here _ _ _ code _ w n (rw c.in-Some-complaint.is at (c.complaint.ensures code n.behind e n.last))
+    let here = wrong_here _ _ _ code _ w n (rw c.in-Some-complaint.is at (c.complaint.ensures code n.behind e n.last)) in
+    subst (λ (r : LoadError). IsFirstWrong code code 0 r.slot r.why) (sym c.at.ensures) here
 
 pub overflow_add-slot : goal.overflow_add-slot
 overflow_add-slot c = omega (arith, c.slots_of-slot.ensures, slots_at_most_two c.in-Some.instr, entry_within c.args.entries.now c.instrs.slot c.in-Some.instr (sym c.in-Some.is ∙ c.entry_at.ensures))

@@ -2,7 +2,7 @@ use Rattle.std.proofs.Common.{◌∙◌, ap, sym, Some, ◌≡◌, arith, to_z, 
 use Rattle.std.specs.Int.{w64}
 use Rattle.std.proofs.lemmas.Int.{to_z-of_z}
 use Rattle.loader.proofs.Walked.{leads_out, leads_amid, no_slot, leads_in, in_code, entry_starts, entry_missing}
-use Rattle.loader.proofs.checks.stray.Goals as goal
+use Rattle.loader.proofs.checks.jump_complaint.Goals as goal
 
 pub returns-in_default-slot_of : goal.returns-in_default-slot_of
 returns-in_default-slot_of c = λ code behind e.

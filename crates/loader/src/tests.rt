@@ -1,0 +1,189 @@
+//! Code by hand. A slot is written as its bytes, first to last.
+use crate::{CODE_LIMIT, LoadError, Why, load};
+use bpf_codec::Fault;
+use isa_table::{Binary, Instr, Operand, Reg};
+use std::alloc::{AllocError, Global};
+use std::test::Fail;
+
+const EXIT: u64 = 0x9500_0000_0000_0000;
+
+const MOV_R0_7: u64 = 0xb700_0000_0700_0000;
+
+const WIDE_R0: u64 = 0x1800_0000_0000_0000;
+
+fn bytes_of(alloc: Global, slots: &[u64]) -> Result<Vec<u8>, AllocError> {
+    let mut bytes = Vec::new(alloc);
+    for slot in slots {
+        bytes.extend_from_slice(&slot.to_be_bytes())?;
+    }
+    Ok(bytes)
+}
+
+fn refusal(alloc: Global, slots: &[u64]) -> Result<Option<LoadError>, AllocError> {
+    let bytes = bytes_of(alloc, slots)?;
+    Ok(load(alloc, bytes.as_slice()).err())
+}
+
+#[test]
+fn refuses(rt: HostRuntime) -> Result<(), Fail> {
+    let cases: [(&[u64], usize, Why); 22] = [
+        (
+            &[0x0500_0100_0000_0000, WIDE_R0, 0, EXIT],
+            0,
+            Why::JumpInside,
+        ),
+        (&[WIDE_R0], 0, Why::Decoder(Fault::HalfWide)),
+        (&[0x0500_0100_0000_0000, EXIT], 0, Why::JumpOut),
+        (&[MOV_R0_7], 0, Why::FallsOff),
+        (&[0x9500_0000_0100_0000], 0, Why::Decoder(Fault::Field)),
+        (&[0x2000_0000_0000_0000], 0, Why::Decoder(Fault::Packet)),
+        (
+            &[0x1810_0000_0000_0000, 0, EXIT],
+            0,
+            Why::Decoder(Fault::Platform),
+        ),
+        (
+            &[0xb70b_0000_0000_0000, EXIT],
+            0,
+            Why::Decoder(Fault::Register),
+        ),
+        (&[0x8d00_0000_0000_0000], 0, Why::Decoder(Fault::Opcode)),
+        (&[0xb70a_0000_0000_0000, EXIT], 0, Why::WritesR10),
+        // A slot that spells no instruction comes before all else.
+        (
+            &[0xb70a_0000_0000_0000, 0x8d00_0000_0000_0000],
+            1,
+            Why::Decoder(Fault::Opcode),
+        ),
+        // Then the least slot, and there the least number.
+        (
+            &[0xb70a_0000_0000_0000, 0x0500_0100_0000_0000],
+            0,
+            Why::WritesR10,
+        ),
+        (&[EXIT, 0x1500_0100_0000_0000], 1, Why::JumpOut),
+        (&[WIDE_R0, 0, 0x1500_feff_0000_0000], 2, Why::JumpInside),
+        (&[EXIT, 0xb70a_0000_0000_0000], 1, Why::WritesR10),
+        // A wide instruction at the end is named by its first slot.
+        (&[MOV_R0_7, WIDE_R0, 0], 1, Why::FallsOff),
+        (&[0x180a_0000_0000_0000, 0, EXIT], 0, Why::WritesR10),
+        (&[0xdc0a_0000_1000_0000, EXIT], 0, Why::WritesR10),
+        (&[0x0500_feff_0000_0000, EXIT], 0, Why::JumpOut),
+        (&[0x0600_0000_ffff_ff7f, EXIT], 0, Why::JumpOut),
+        (&[0x8510_0000_0100_0000, EXIT], 0, Why::JumpOut),
+        (&[EXIT, 0x8510_0000_feff_ffff], 1, Why::FallsOff),
+    ];
+    for (slots, slot, why) in cases {
+        assert_eq!(rt; refusal(rt.alloc(), slots)?, Some(LoadError { slot, why }));
+    }
+    Ok(())
+}
+
+#[test]
+fn refuses_a_part_of_a_slot(rt: HostRuntime) {
+    let error = load(rt.alloc(), &[0x95, 0]).err();
+    assert_eq!(rt;
+        error,
+        Some(LoadError {
+            slot: 0,
+            why: Why::Decoder(Fault::Short)
+        })
+    );
+    let error = load(rt.alloc(), &[0x95, 0, 0, 0, 0, 0, 0, 0, 0x95]).err();
+    assert_eq!(rt;
+        error,
+        Some(LoadError {
+            slot: 1,
+            why: Why::Decoder(Fault::Short)
+        })
+    );
+    let error = load(rt.alloc(), &[]).err();
+    assert_eq!(rt;
+        error,
+        Some(LoadError {
+            slot: 0,
+            why: Why::Empty
+        })
+    );
+}
+
+#[test]
+fn takes_valid_code(rt: HostRuntime) -> Result<(), Fail> {
+    // A loop, a jump to the last slot, and calls of the first and the last slot.
+    let cases: [&[u64]; 4] = [
+        &[0x0500_ffff_0000_0000],
+        &[0x1500_0100_0000_0000, MOV_R0_7, EXIT],
+        &[0x8510_0000_ffff_ffff, EXIT],
+        &[0x8510_0000_0100_0000, EXIT, EXIT],
+    ];
+    for slots in cases {
+        let bytes = bytes_of(rt.alloc(), slots)?;
+        let program = load(rt.alloc(), bytes.as_slice())?;
+        assert_eq!(rt; program.slots(), slots.len());
+    }
+    Ok(())
+}
+
+#[test]
+fn answers_instructions_by_slot(rt: HostRuntime) -> Result<(), Fail> {
+    let bytes = bytes_of(
+        rt.alloc(),
+        &[WIDE_R0, 0x0000_0000_0000_0080, MOV_R0_7, EXIT],
+    )?;
+    let program = load(rt.alloc(), bytes.as_slice())?;
+    let wide = Instr::LoadWide {
+        dst: Reg::R0,
+        value: 1 << 63,
+    };
+    let mov = Instr::Alu {
+        wide: true,
+        op: Binary::Mov,
+        dst: Reg::R0,
+        src: Operand::Imm(7),
+    };
+    assert_eq!(rt; program.slots(), 4);
+    assert_eq!(rt; program.at(0), Some(wide));
+    assert_eq!(rt; program.at(1), None);
+    assert_eq!(rt; program.at(2), Some(mov));
+    assert_eq!(rt; program.at(3), Some(Instr::Exit));
+    assert_eq!(rt; program.at(4), None);
+    Ok(())
+}
+
+#[test]
+fn takes_no_more_than_4096_slots(rt: HostRuntime) -> Result<(), Fail> {
+    let mut bytes = Vec::new(rt.alloc());
+    for _ in 0..4096 {
+        bytes.extend_from_slice(&EXIT.to_be_bytes())?;
+    }
+    assert_eq!(rt; bytes.len(), CODE_LIMIT);
+    assert_eq!(rt; load(rt.alloc(), bytes.as_slice())?.slots(), 4096);
+    let too_long = Some(LoadError {
+        slot: 0,
+        why: Why::TooLong,
+    });
+    bytes.push(0)?;
+    assert_eq!(rt; load(rt.alloc(), bytes.as_slice()).err(), too_long);
+    bytes.extend_from_slice(&[0, 0, 0, 0, 0, 0, 0])?;
+    assert_eq!(rt; load(rt.alloc(), bytes.as_slice()).err(), too_long);
+    Ok(())
+}
+
+#[test]
+fn shows_the_slot_and_the_reason(rt: HostRuntime) -> Result<(), Fail> {
+    let cases = [
+        (3, Why::Decoder(Fault::Register), "slot 3: Register"),
+        (0, Why::Empty, "slot 0: Empty"),
+        (0, Why::TooLong, "slot 0: TooLong"),
+        (1, Why::JumpOut, "slot 1: JumpOut"),
+        (2, Why::JumpInside, "slot 2: JumpInside"),
+        (4, Why::WritesR10, "slot 4: WritesR10"),
+        (4095, Why::FallsOff, "slot 4095: FallsOff"),
+        (0, Why::Memory, "slot 0: Memory"),
+    ];
+    for (slot, why, want) in cases {
+        let text = format!(in rt.alloc(); "{}", LoadError { slot, why })?;
+        assert_eq!(rt; text.as_str(), want);
+    }
+    Ok(())
+}
