@@ -1,5 +1,5 @@
 pub mod MachineState
 pub mod TableStep
 pub mod Invariant
-pub mod Plain
+pub mod Jumps
 pub mod Laws
