@@ -1,3 +1,4 @@
 pub mod Words
 pub mod Registers
 pub mod Table
+pub mod Rows

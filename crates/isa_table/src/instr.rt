@@ -107,13 +107,27 @@ pub enum Instr {
         src: Operand,
     },
     /// The destination with its sign changed.
-    Neg { wide: bool, dst: Reg },
+    Neg {
+        wide: bool,
+        dst: Reg,
+    },
     /// A move of the low 8 bits, sign-extended.
-    MovSx8 { wide: bool, dst: Reg, src: Reg },
+    MovSx8 {
+        wide: bool,
+        dst: Reg,
+        src: Reg,
+    },
     /// A move of the low 16 bits, sign-extended.
-    MovSx16 { wide: bool, dst: Reg, src: Reg },
+    MovSx16 {
+        wide: bool,
+        dst: Reg,
+        src: Reg,
+    },
     /// A move of the low 32 bits, sign-extended to 64.
-    MovSx32 { dst: Reg, src: Reg },
+    MovSx32 {
+        dst: Reg,
+        src: Reg,
+    },
     /// A byte swap of the low bits of the destination.
     End {
         kind: Order,
@@ -129,13 +143,22 @@ pub enum Instr {
         offset: i16,
     },
     /// A jump by `offset` slots, spelt in the offset field.
-    Ja { offset: i16 },
+    Ja {
+        offset: i16,
+    },
     /// A jump by `offset` slots, spelt in the imm field.
-    JaLong { offset: i32 },
+    JaLong {
+        offset: i32,
+    },
     /// A call of the function `offset` slots from the next slot.
-    CallLocal { offset: i32 },
+    CallLocal {
+        offset: i32,
+    },
     /// The end of a function, or of the program.
     Exit,
     /// A load of a 64-bit number that stands in the instruction's two slots.
-    LoadWide { dst: Reg, value: u64 },
+    LoadWide {
+        dst: Reg,
+        value: u64,
+    },
 }

@@ -1,8 +1,13 @@
 //! The instruction table of RFC 9669: which instructions there are, and what each operation computes.
 #![tactic(auto)]
 
+mod bits32;
+mod bits64;
 mod instr;
 mod operations;
+mod row_list;
 
+pub use bits64::alu64;
 pub use instr::{AluOp, Binary, Cond, Instr, Operand, Order, Reg, SwapWidth};
-pub use operations::{alu32, alu64, holds, swap};
+pub use operations::{alu32, holds, swap};
+pub use row_list::rows;
