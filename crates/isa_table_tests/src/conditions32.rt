@@ -1,0 +1,177 @@
+//! Conditions on 32 bits: destination, second operand, whether it holds. Written by `vectors.py`.
+
+pub const EQ: [(u64, u64, bool); 13] = [
+    (0, 0, true),
+    (0, 1, false),
+    (1, 0, false),
+    (0xffff_ffff_ffff_ffff, 0, false),
+    (0, 0xffff_ffff_ffff_ffff, false),
+    (0xffff_ffff_ffff_ffff, 0xffff_ffff_ffff_ffff, true),
+    (0x8000_0000_0000_0000, 0x7fff_ffff_ffff_ffff, false),
+    (0x7fff_ffff_ffff_ffff, 0x8000_0000_0000_0000, false),
+    (0x1_0000_0000, 0, true),
+    (0x8000_0000, 0x7fff_ffff, false),
+    (0x7fff_ffff, 0xffff_ffff_8000_0000, false),
+    (6, 9, false),
+    (6, 3, false),
+];
+
+pub const GT: [(u64, u64, bool); 13] = [
+    (0, 0, false),
+    (0, 1, false),
+    (1, 0, true),
+    (0xffff_ffff_ffff_ffff, 0, true),
+    (0, 0xffff_ffff_ffff_ffff, false),
+    (0xffff_ffff_ffff_ffff, 0xffff_ffff_ffff_ffff, false),
+    (0x8000_0000_0000_0000, 0x7fff_ffff_ffff_ffff, false),
+    (0x7fff_ffff_ffff_ffff, 0x8000_0000_0000_0000, true),
+    (0x1_0000_0000, 0, false),
+    (0x8000_0000, 0x7fff_ffff, true),
+    (0x7fff_ffff, 0xffff_ffff_8000_0000, false),
+    (6, 9, false),
+    (6, 3, true),
+];
+
+pub const GE: [(u64, u64, bool); 13] = [
+    (0, 0, true),
+    (0, 1, false),
+    (1, 0, true),
+    (0xffff_ffff_ffff_ffff, 0, true),
+    (0, 0xffff_ffff_ffff_ffff, false),
+    (0xffff_ffff_ffff_ffff, 0xffff_ffff_ffff_ffff, true),
+    (0x8000_0000_0000_0000, 0x7fff_ffff_ffff_ffff, false),
+    (0x7fff_ffff_ffff_ffff, 0x8000_0000_0000_0000, true),
+    (0x1_0000_0000, 0, true),
+    (0x8000_0000, 0x7fff_ffff, true),
+    (0x7fff_ffff, 0xffff_ffff_8000_0000, false),
+    (6, 9, false),
+    (6, 3, true),
+];
+
+pub const SET: [(u64, u64, bool); 13] = [
+    (0, 0, false),
+    (0, 1, false),
+    (1, 0, false),
+    (0xffff_ffff_ffff_ffff, 0, false),
+    (0, 0xffff_ffff_ffff_ffff, false),
+    (0xffff_ffff_ffff_ffff, 0xffff_ffff_ffff_ffff, true),
+    (0x8000_0000_0000_0000, 0x7fff_ffff_ffff_ffff, false),
+    (0x7fff_ffff_ffff_ffff, 0x8000_0000_0000_0000, false),
+    (0x1_0000_0000, 0, false),
+    (0x8000_0000, 0x7fff_ffff, false),
+    (0x7fff_ffff, 0xffff_ffff_8000_0000, false),
+    (6, 9, false),
+    (6, 3, true),
+];
+
+pub const NE: [(u64, u64, bool); 13] = [
+    (0, 0, false),
+    (0, 1, true),
+    (1, 0, true),
+    (0xffff_ffff_ffff_ffff, 0, true),
+    (0, 0xffff_ffff_ffff_ffff, true),
+    (0xffff_ffff_ffff_ffff, 0xffff_ffff_ffff_ffff, false),
+    (0x8000_0000_0000_0000, 0x7fff_ffff_ffff_ffff, true),
+    (0x7fff_ffff_ffff_ffff, 0x8000_0000_0000_0000, true),
+    (0x1_0000_0000, 0, false),
+    (0x8000_0000, 0x7fff_ffff, true),
+    (0x7fff_ffff, 0xffff_ffff_8000_0000, true),
+    (6, 9, true),
+    (6, 3, true),
+];
+
+pub const SGT: [(u64, u64, bool); 13] = [
+    (0, 0, false),
+    (0, 1, false),
+    (1, 0, true),
+    (0xffff_ffff_ffff_ffff, 0, false),
+    (0, 0xffff_ffff_ffff_ffff, true),
+    (0xffff_ffff_ffff_ffff, 0xffff_ffff_ffff_ffff, false),
+    (0x8000_0000_0000_0000, 0x7fff_ffff_ffff_ffff, true),
+    (0x7fff_ffff_ffff_ffff, 0x8000_0000_0000_0000, false),
+    (0x1_0000_0000, 0, false),
+    (0x8000_0000, 0x7fff_ffff, false),
+    (0x7fff_ffff, 0xffff_ffff_8000_0000, true),
+    (6, 9, false),
+    (6, 3, true),
+];
+
+pub const SGE: [(u64, u64, bool); 13] = [
+    (0, 0, true),
+    (0, 1, false),
+    (1, 0, true),
+    (0xffff_ffff_ffff_ffff, 0, false),
+    (0, 0xffff_ffff_ffff_ffff, true),
+    (0xffff_ffff_ffff_ffff, 0xffff_ffff_ffff_ffff, true),
+    (0x8000_0000_0000_0000, 0x7fff_ffff_ffff_ffff, true),
+    (0x7fff_ffff_ffff_ffff, 0x8000_0000_0000_0000, false),
+    (0x1_0000_0000, 0, true),
+    (0x8000_0000, 0x7fff_ffff, false),
+    (0x7fff_ffff, 0xffff_ffff_8000_0000, true),
+    (6, 9, false),
+    (6, 3, true),
+];
+
+pub const LT: [(u64, u64, bool); 13] = [
+    (0, 0, false),
+    (0, 1, true),
+    (1, 0, false),
+    (0xffff_ffff_ffff_ffff, 0, false),
+    (0, 0xffff_ffff_ffff_ffff, true),
+    (0xffff_ffff_ffff_ffff, 0xffff_ffff_ffff_ffff, false),
+    (0x8000_0000_0000_0000, 0x7fff_ffff_ffff_ffff, true),
+    (0x7fff_ffff_ffff_ffff, 0x8000_0000_0000_0000, false),
+    (0x1_0000_0000, 0, false),
+    (0x8000_0000, 0x7fff_ffff, false),
+    (0x7fff_ffff, 0xffff_ffff_8000_0000, true),
+    (6, 9, true),
+    (6, 3, false),
+];
+
+pub const LE: [(u64, u64, bool); 13] = [
+    (0, 0, true),
+    (0, 1, true),
+    (1, 0, false),
+    (0xffff_ffff_ffff_ffff, 0, false),
+    (0, 0xffff_ffff_ffff_ffff, true),
+    (0xffff_ffff_ffff_ffff, 0xffff_ffff_ffff_ffff, true),
+    (0x8000_0000_0000_0000, 0x7fff_ffff_ffff_ffff, true),
+    (0x7fff_ffff_ffff_ffff, 0x8000_0000_0000_0000, false),
+    (0x1_0000_0000, 0, true),
+    (0x8000_0000, 0x7fff_ffff, false),
+    (0x7fff_ffff, 0xffff_ffff_8000_0000, true),
+    (6, 9, true),
+    (6, 3, false),
+];
+
+pub const SLT: [(u64, u64, bool); 13] = [
+    (0, 0, false),
+    (0, 1, true),
+    (1, 0, false),
+    (0xffff_ffff_ffff_ffff, 0, true),
+    (0, 0xffff_ffff_ffff_ffff, false),
+    (0xffff_ffff_ffff_ffff, 0xffff_ffff_ffff_ffff, false),
+    (0x8000_0000_0000_0000, 0x7fff_ffff_ffff_ffff, false),
+    (0x7fff_ffff_ffff_ffff, 0x8000_0000_0000_0000, true),
+    (0x1_0000_0000, 0, false),
+    (0x8000_0000, 0x7fff_ffff, true),
+    (0x7fff_ffff, 0xffff_ffff_8000_0000, false),
+    (6, 9, true),
+    (6, 3, false),
+];
+
+pub const SLE: [(u64, u64, bool); 13] = [
+    (0, 0, true),
+    (0, 1, true),
+    (1, 0, false),
+    (0xffff_ffff_ffff_ffff, 0, true),
+    (0, 0xffff_ffff_ffff_ffff, false),
+    (0xffff_ffff_ffff_ffff, 0xffff_ffff_ffff_ffff, true),
+    (0x8000_0000_0000_0000, 0x7fff_ffff_ffff_ffff, false),
+    (0x7fff_ffff_ffff_ffff, 0x8000_0000_0000_0000, true),
+    (0x1_0000_0000, 0, true),
+    (0x8000_0000, 0x7fff_ffff, true),
+    (0x7fff_ffff, 0xffff_ffff_8000_0000, false),
+    (6, 9, true),
+    (6, 3, false),
+];
