@@ -1,0 +1,11 @@
+use Rattle.clap.proofs.OnLiterals.{clap_on_literals}
+use Rattle.agent.proofs.laws.other_words.Goals as goal
+
+pub returns : goal.returns
+unfolding clap_on_literals
+returns c = record {
+  none = λ e. cc;
+  other = λ e. cc;
+  second = λ e. cc;
+  option = λ e. cc;
+}

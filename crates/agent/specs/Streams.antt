@@ -1,0 +1,11 @@
+-- What the streams hold afterwards.
+use Rattle.std.specs.Prelude.{◌≡◌, ℕ, ◌<◌, List, ◌++◌, Option, length}
+use Rattle.std.specs.Io.KnownBytes.{Appends}
+
+-- a stream took these bytes, or the first of them and then failed
+abbrev pub AppendsSome : Option (List ℕ) → Option (List ℕ) → List ℕ → Type 0
+AppendsSome before after bytes = (part missing : List ℕ) × (bytes ≡ part ++ missing) × Appends before after part
+
+-- a stream took the first of these bytes, and not all of them
+abbrev pub AppendsPart : Option (List ℕ) → Option (List ℕ) → List ℕ → Type 0
+AppendsPart before after bytes = (part missing : List ℕ) × (bytes ≡ part ++ missing) × (0 < length missing) × Appends before after part

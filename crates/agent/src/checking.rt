@@ -1,0 +1,78 @@
+//! `check`: raw code in, whether it is valid out.
+ghost use Rattle.std.specs.Prelude.{◌≡◌, ◌⊎◌, take, IfOk, IfSome, IfErr};
+ghost use Rattle.agent.specs.Checks.{Checks, Finds, ok_line};
+
+use crate::failure::Failure;
+use crate::streams::put_all;
+use arrayvec::ArrayVec;
+use loader::{Why, load};
+use std::alloc::Global;
+use std::io::{ErrorKind, Read, Write};
+
+/// As much as is read: the longest code that can be valid, and one byte more, which shows that
+/// there is more.
+const READ_LIMIT: u64 = 32_769;
+
+/// A line about valid code.
+type OkLine = ArrayVec<u8, 32>;
+
+/// The code that the reader has, or as much of it as shows that it is too long.
+fn read_code<R: Read>(alloc: Global, reader: &mut R) -> Result<Vec<u8>, Failure>
+    ensures whole { IfOk result (λ code. IfSome (R.remaining reader.old) (λ input. code.items ≡ take READ_LIMIT input)) }
+    ensures err { IfErr result (λ f. (f ≡ Failure.Read) ⊎ (f ≡ Failure.NoMemory)) }
+{
+    let mut code = Vec::new(alloc);
+    match reader.take(READ_LIMIT).read_to_end(&mut code) {
+        Ok(_) => Ok(code),
+        Err(error) if error.kind() == ErrorKind::OutOfMemory => Err(Failure::NoMemory),
+        Err(_) => Err(Failure::Read),
+    }
+}
+
+/// How many slots the code has, where it is valid.
+fn count_slots(alloc: Global, code: &[u8]) -> Result<usize, Failure>
+    ensures { Finds code.now result }
+{
+    match load(alloc, code) {
+        Ok(program) => Ok(program.slots()),
+        Err(error) if error.why == Why::Memory => Err(Failure::NoMemory),
+        Err(error) => Err(Failure::Refused(error)),
+    }
+}
+
+/// What is found about the code that the reader has.
+fn find<R: Read>(alloc: Global, reader: &mut R) -> Result<usize, Failure>
+    ensures { IfSome (R.remaining reader.old) (λ input. Finds input result) }
+{
+    let code = read_code(alloc, reader)?;
+    count_slots(alloc, &code)
+}
+
+/// The line about valid code of so many slots.
+fn line_of(slots: usize) -> OkLine
+    ensures { result.items ≡ ok_line slots }
+{
+    let mut line = OkLine::new();
+    let mut number = itoa::Buffer::new();
+    let _ = line.try_extend_from_slice(b"ok ");
+    let _ = line.try_extend_from_slice(number.format(slots).as_bytes());
+    let _ = line.try_push(b'\n');
+    line
+}
+
+/// Reads raw code, and writes how many slots it has where it is valid. At most one byte is read
+/// past the longest valid code.
+pub fn check<R: Read, W: Write>(
+    alloc: Global,
+    reader: &mut R,
+    writer: &mut W,
+) -> Result<(), Failure>
+    ensures { IfSome (R.remaining reader.old) (λ input.
+        Checks input (W.contents writer.old) (W.contents writer.new) result) }
+{
+    let slots = find(alloc, reader)?;
+    match put_all(writer, &line_of(slots)) {
+        Ok(()) => Ok(()),
+        Err(_) => Err(Failure::Write),
+    }
+}

@@ -1,0 +1,107 @@
+//! What the program ends with.
+ghost use Rattle.std.specs.Prelude.{◌≡◌, ◌++◌, codes};
+ghost use Rattle.console.specs.Lines.{why_name};
+ghost use Rattle.agent.specs.Failures.{code_of, line_of, status_of};
+
+use arrayvec::ArrayVec;
+use bpf_codec::Fault;
+use loader::{LoadError, Why};
+
+/// How the program ended.
+#[derive(Clone, Copy, Debug, PartialEq, Eq)]
+pub enum Status {
+    /// All was done.
+    Done = 0,
+    /// The input was refused.
+    Refused = 1,
+    /// The words name nothing that the program does.
+    WrongWords = 2,
+    /// A stream failed, or there was no memory.
+    Failed = 3,
+}
+
+impl Status {
+    /// The exit status.
+    pub fn code(self) -> u8
+        ensures { result ≡ code_of self }
+    {
+        self as u8
+    }
+}
+
+/// Why the program gave up.
+#[derive(Clone, Copy, Drop, Debug, PartialEq, Eq)]
+pub enum Failure {
+    /// The code of the input isn't valid.
+    Refused(LoadError),
+    /// The input couldn't be read.
+    Read,
+    /// The output couldn't be written.
+    Write,
+    /// There was no memory.
+    NoMemory,
+}
+
+/// A line about a failure: at most a slot's number and the longest of the names.
+pub(crate) type FailureLine = ArrayVec<u8, 48>;
+
+impl Failure {
+    /// The status that the program ends with.
+    pub fn status(self) -> Status
+        ensures { result ≡ status_of self }
+    {
+        match self {
+            Failure::Refused(_) => Status::Refused,
+            Failure::Read | Failure::Write | Failure::NoMemory => Status::Failed,
+        }
+    }
+
+    /// The line that tells of it.
+    pub(crate) fn line(self) -> FailureLine
+        ensures { result.items ≡ line_of self }
+    {
+        let mut line = FailureLine::new();
+        match self {
+            Failure::Refused(error) => {
+                let mut number = itoa::Buffer::new();
+                let _ = line.try_extend_from_slice(b"slot ");
+                let _ = line.try_extend_from_slice(number.format(error.slot).as_bytes());
+                let _ = line.try_extend_from_slice(b": ");
+                let _ = line.try_extend_from_slice(name(error.why).as_bytes());
+            }
+            Failure::Read => {
+                let _ = line.try_extend_from_slice(b"read fault");
+            }
+            Failure::Write => {
+                let _ = line.try_extend_from_slice(b"write fault");
+            }
+            Failure::NoMemory => {
+                let _ = line.try_extend_from_slice(b"no memory");
+            }
+        }
+        let _ = line.try_push(b'\n');
+        line
+    }
+}
+
+/// The name of a reason.
+fn name(why: Why) -> &'static str
+    ensures { result.now ≡ why_name why }
+{
+    match why {
+        Why::Decoder(Fault::Opcode) => "Opcode",
+        Why::Decoder(Fault::Register) => "Register",
+        Why::Decoder(Fault::Field) => "Field",
+        Why::Decoder(Fault::HalfWide) => "HalfWide",
+        Why::Decoder(Fault::Packet) => "Packet",
+        Why::Decoder(Fault::Platform) => "Platform",
+        Why::Decoder(Fault::Short) => "Short",
+        Why::Empty => "Empty",
+        Why::TooLong => "TooLong",
+        Why::JumpOut => "JumpOut",
+        Why::JumpInside => "JumpInside",
+        Why::WritesR10 => "WritesR10",
+        Why::FallsOff => "FallsOff",
+        Why::Memory => "Memory",
+    }
+}

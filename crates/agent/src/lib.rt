@@ -1,0 +1,17 @@
+//! The program, as a function of its words and its three streams.
+#![tactic(auto)]
+
+mod checking;
+mod failure;
+mod front;
+mod laws;
+mod running;
+mod streams;
+mod words;
+
+pub use checking::check;
+pub use failure::{Failure, Status};
+pub use front::{refuse_words, tool};
+pub use laws::{other_words, plain_words};
+pub use running::run;
+pub use words::Task;

@@ -1,0 +1,52 @@
+//! The words of the command line.
+ghost use Rattle.std.specs.Prelude.{◌≡◌, [], map, option_map, IfOk, IfErr};
+ghost use Rattle.clap.specs.Words.{app_of, HasKind};
+ghost use Rattle.agent.specs.Words.{command_line, faults_of, task_named, task_of};
+
+use clap::{Command, Error};
+use std::alloc::{AllocError, Global};
+use std::convert::AsStr;
+
+/// What the program can be asked for.
+#[derive(Clone, Copy, Debug, PartialEq, Eq)]
+pub enum Task {
+    /// To do commands.
+    Run,
+    /// To check raw code.
+    Check,
+}
+
+/// The command line of the program.
+fn make_command<'a>(alloc: Global) -> Result<Command<'a>, AllocError>
+    ensures { IfOk result (λ c. app_of c ≡ command_line) }
+{
+    let run = Command::new(alloc, "run").about("Do the commands of standard input, one a line");
+    let check = Command::new(alloc, "check").about("Check the raw code of standard input");
+    Command::new(alloc, "bpfagent")
+        .bin_name("bpfagent")?
+        .about("Runs BPF programs")
+        .no_binary_name(true)
+        .subcommand_required(true)
+        .subcommand(run)?
+        .subcommand(check)
+}
+
+/// The task of this name.
+fn task_called(name: Option<&str>) -> Option<Task>
+    ensures { result ≡ task_named (option_map (λ s. s.now) name.entry) }
+{
+    match name? {
+        "run" => Some(Task::Run),
+        "check" => Some(Task::Check),
+        _ => None,
+    }
+}
+
+/// What the words ask for.
+pub(crate) fn read_words<'a, S: AsStr>(alloc: Global, words: &'a [S]) -> Result<Option<Task>, Error>
+    ensures ok { IfOk result (λ task. (faults_of (map S.text words.entry.now) ≡ []) × (task ≡ task_of (map S.text words.entry.now))) }
+    ensures err { IfErr result (HasKind (faults_of (map S.text words.entry.now))) }
+{
+    let matches = make_command(alloc)?.try_get_matches_from(words)?;
+    Ok(task_called(matches.subcommand_name()))
+}
