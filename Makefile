@@ -5,7 +5,7 @@ RT := $(shell command -v rt 2>/dev/null || echo /opt/rattle/bin/rt)
 PROGRAM := crates/bpfagent/out/bpfagent
 SOURCES := crates.txt $(shell find crates -path '*/out' -prune -o \( -name '*.rt' -o -name '*.antt' \) -print 2>/dev/null)
 
-.PHONY: run test
+.PHONY: run test bench refused-growth
 
 # The program is proved before it is built. With no change since, the next call runs it at once.
 run: $(PROGRAM)
@@ -19,3 +19,23 @@ $(PROGRAM): $(SOURCES)
 
 test:
 	@$(RT) ci
+
+# Outside the gate. These need a C compiler and Python.
+
+BENCH := out/bench
+C_RUNTIME := $(dir $(realpath $(RT)))../c/liblibc_c.a
+
+# Steps and lines beside plain C, as ratios in one run.
+bench: $(PROGRAM)
+	@mkdir -p $(BENCH)
+	@cd crates/bench_steps && $(RT) lib >/dev/null
+	@$(CC) -O2 -o $(BENCH)/steps bench/steps.c bench/plain.c crates/bench_steps/out/libbench_steps.a $(C_RUNTIME)
+	@$(CC) -O2 -o $(BENCH)/lines bench/lines.c bench/plain.c
+	@$(BENCH)/steps
+	@python3 bench/lines.py $(PROGRAM) $(BENCH)/lines
+
+# The program with each of its allocations refused in turn.
+refused-growth: $(PROGRAM)
+	@mkdir -p $(BENCH)
+	@$(CC) -O1 -shared -fPIC -o $(BENCH)/refuse.so tests/refuse.c -ldl
+	@python3 tests/refused_growth.py $(PROGRAM) $(BENCH)/refuse.so
