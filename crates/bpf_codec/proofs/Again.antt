@@ -148,7 +148,7 @@ row_again (LoadWide d v) more rest h e = rw (load_wide_form, e, register_again d
 
 -- ---- the fields of what was spelled
 
-record Narrow (f : Slot) : Type 0 where
+pub record Narrow (f : Slot) : Type 0 where
   dst : f.dst < 16
   offset : f.offset < 2 ^ 16
   imm : f.imm < 2 ^ 32
@@ -173,7 +173,7 @@ swap_small : (w : SwapWidth) → swap_bits w < 2 ^ 32
 swap_small W16 = omega arith
 swap_small _ = omega arith
 
-first_narrow : (i : Instr) → Narrow (first i)
+pub first_narrow : (i : Instr) → Narrow (first i)
 first_narrow (Alu wide op d (Imm z)) = record { dst = number_small d; offset = alu_offset_small op; imm = low_below_32 z }
 first_narrow (Alu wide op d (Register s)) = record { dst = number_small d; offset = alu_offset_small op; imm = omega arith }
 first_narrow (Neg wide d) = record { dst = number_small d; offset = omega arith; imm = omega arith }
@@ -198,12 +198,12 @@ bytes_again_2 n h = omega arith
 bytes_again_4 : (n : ℕ) → n < 2 ^ 32 → n % 256 + 256 * (n / 256 % 256 + 256 * (n / 65536 % 256 + 256 * (n / 16777216 % 256))) ≡ n
 bytes_again_4 n h = omega arith
 
-fields_again : (f : Slot) (rest : List ℕ) → Narrow f → fields (slot_bytes f ++ rest) ≡ f
+pub fields_again : (f : Slot) (rest : List ℕ) → Narrow f → fields (slot_bytes f ++ rest) ≡ f
 fields_again f rest h =
     let n = nibbles_again f.dst f.src h.dst in
     slot_same f _ _ _ _ _ refl n.0 n.1 (bytes_again_2 f.offset h.offset) (bytes_again_4 f.imm h.imm)
 
-slot_long : (f : Slot) (rest : List ℕ) → nat_lt (length (slot_bytes f ++ rest)) 8 ≡ false
+pub slot_long : (f : Slot) (rest : List ℕ) → nat_lt (length (slot_bytes f ++ rest)) 8 ≡ false
 slot_long f rest = grind (arith, nat_tests)
 
 pub decoded_again : (i : Instr) (xs : List ℕ) → Fits i → Begins xs i → decoded xs ≡ Ok i

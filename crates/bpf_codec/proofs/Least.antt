@@ -8,11 +8,9 @@ use Rattle.std.proofs.lemmas.List.{get_or-drop, length-drop}
 use Rattle.isa_table.specs.declared.instr.Instr.{Instr}
 use Rattle.isa_table.specs.declared.instr.Instr.TheVariants.{Alu}
 use Rattle.isa_table.specs.declared.instr.Binary.{Binary}
-use Rattle.isa_table.specs.declared.instr.Binary.TheVariants.{Add, Div, SDiv, Mod, SMod, Mov}
+use Rattle.isa_table.specs.declared.instr.Binary.TheVariants.{Div, SDiv, Mod, SMod, Mov}
 use Rattle.isa_table.specs.declared.instr.Cond.{Cond}
-use Rattle.isa_table.specs.declared.instr.Cond.TheVariants.{Eq}
 use Rattle.isa_table.specs.declared.instr.Order.{Order}
-use Rattle.isa_table.specs.declared.instr.Order.TheVariants.{Little}
 use Rattle.isa_table.specs.declared.instr.Reg.{Reg}
 use Rattle.isa_table.specs.declared.instr.Operand.TheVariants.{Register}
 use Rattle.bpf_codec.specs.declared.slot.Slot.{Slot}
@@ -21,10 +19,11 @@ use Rattle.bpf_codec.specs.declared.fault.Fault.TheVariants as fault
 use Rattle.bpf_codec.specs.declared.forms.Form.{Form}
 use Rattle.bpf_codec.specs.declared.forms.Form.TheVariants as form
 use Rattle.bpf_codec.specs.declared.forms.TheConstants.{FORMS}
-use Rattle.bpf_codec.specs.Slots.{alu_code, alu_offset, cond_code, alu_class, jump_class, end_code, fields}
+use Rattle.bpf_codec.specs.Slots.{alu_code, alu_offset, alu_class, fields}
 use Rattle.bpf_codec.specs.Decoding.{◌>>=◌, form_of, register, op_of, swap_width, alu_imm, moved, is_mov, alu_reg, neg, end, jump_imm, jump_reg, ja, ja_long, call, exit, load_wide, reserved_are_zero, row, decoded, with_slots}
-use Rattle.bpf_codec.specs.Opcodes.{is_among, is_arithmetic, is_division, is_negation, is_swap, is_condition, is_row, is_packet, Field, AnyRegister, AnyNumber, OneOf, unused, destination_field, source_field, offset_field, imm_field}
-use Rattle.bpf_codec.specs.Faults.{fault_number, is_no_register, is_unlisted, is_whole, is_wide, has_reserved_bits, has_fault, IsLeastFault}
+use Rattle.bpf_codec.specs.Opcodes.{is_among, is_arithmetic, is_negation, is_swap, is_condition, is_row, is_packet, Field, AnyRegister, AnyNumber, OneOf, unused}
+use Rattle.bpf_codec.specs.Faults.{fault_number, is_unlisted, is_whole, is_wide, has_reserved_bits, has_fault, IsLeastFault}
+use Rattle.bpf_codec.proofs.Layouts.{no_register, unlisted, IsLayout, offsets_of, reg_offsets, alu_imm_layout, alu_reg_layout, neg_layout, end_layout, jump_imm_layout, jump_reg_layout, ja_layout, ja_long_layout, call_layout, exit_layout, wide_layout}
 use Rattle.bpf_codec.proofs.Steps.{at_place, and_true}
 use Rattle.bpf_codec.proofs.Found.{IsBytes, fits_form, form_fits}
 
@@ -158,14 +157,6 @@ register_stands (suc (suc (suc (suc (suc (suc (suc (suc (suc zero))))))))) r h =
 register_stands (suc (suc (suc (suc (suc (suc (suc (suc (suc (suc zero)))))))))) r h = refl
 register_stands (suc (suc (suc (suc (suc (suc (suc (suc (suc (suc (suc n))))))))))) r h = absurd (cc)
 
--- the offsets that choose among the operations of one opcode
-offsets_of : Binary → Field
-offsets_of Div = OneOf (0 ∷ 1 ∷ [])
-offsets_of SDiv = OneOf (0 ∷ 1 ∷ [])
-offsets_of Mod = OneOf (0 ∷ 1 ∷ [])
-offsets_of SMod = OneOf (0 ∷ 1 ∷ [])
-offsets_of _ = unused
-
 op_past : (op : Binary) (n : ℕ) → 2 ≤ n → is_unlisted (offsets_of op) n ≡ true
 unfolding offsets_of
 op_past Div n h = grind (arith, nat_tests)
@@ -204,84 +195,14 @@ width_fails n e h =
 
 -- ---- what a form makes of the fields
 
-no_register : Field → Field → Slot → Bool
-no_register d s f = is_no_register d f.dst || is_no_register s f.src
-
-unlisted : Field → Field → Field → Field → Bool → Slot → Bool
-unlisted d s o i reserved f = is_unlisted d f.dst || is_unlisted s f.src || is_unlisted o f.offset || is_unlisted i f.imm || reserved
-
 -- the fault is that of a register field, or without one that of another field
 IsRowFault : Fault → Bool → Bool → Type 0
 IsRowFault e r d = ((e ≡ fault.Register) × (r ≡ true)) ⊎ ((e ≡ fault.Field) × (r ≡ false) × (d ≡ true))
-
--- what the opcode says of the fields
-record IsLayout (n : ℕ) (d s o i : Field) (w : Bool) : Type 0 where
-  row : is_row n ≡ true
-  wide : (n == 0x18) ≡ w
-  dst : destination_field n ≡ d
-  src : source_field n ≡ s
-  offset : offset_field n ≡ o
-  imm : imm_field n ≡ i
 
 row_least : (xs : List ℕ) (e : Fault) (d s o i : Field) → is_whole xs ≡ true → IsLayout (fields xs).opcode d s o i false → IsRowFault e (no_register d s (fields xs)) (unlisted d s o i false (fields xs)) → IsLeastFault e xs
 unfolding IsLeastFault has_fault IsRowFault is_wide no_register unlisted
 row_least xs e d s o i w l (inl h) = subst (λ (g : Fault). IsLeastFault g xs) (sym h.0) (rw (w, l.row, l.dst, l.src) h.1, below_2 xs (rw (w, l.row) refl))
 row_least xs e d s o i w l (inr h) = subst (λ (g : Fault). IsLeastFault g xs) (sym h.0) (rw (w, l.row, l.dst, l.src, l.offset, l.imm, l.wide) h.2, below_3 xs (rw (w, l.row) refl) (rw (w, l.row, l.dst, l.src) h.1))
-
-alu_imm_layout : (wide : Bool) (op : Binary) → IsLayout (alu_code op + alu_class wide) AnyRegister unused (offsets_of op) AnyNumber false
-unfolding is_row is_arithmetic is_division is_negation is_swap is_condition destination_field source_field offset_field imm_field offsets_of
-alu_imm_layout true Add = record { row = refl; wide = refl; dst = refl; src = refl; offset = refl; imm = refl }
-alu_imm_layout false Add = record { row = refl; wide = refl; dst = refl; src = refl; offset = refl; imm = refl }
-alu_imm_layout _ _ = record { row = refl; wide = refl; dst = refl; src = refl; offset = refl; imm = refl }
-
-reg_offsets : Bool → Binary → Field
-reg_offsets true Mov = OneOf (0 ∷ 8 ∷ 16 ∷ 32 ∷ [])
-reg_offsets false Mov = OneOf (0 ∷ 8 ∷ 16 ∷ [])
-reg_offsets wide op = offsets_of op
-
-alu_reg_layout : (wide : Bool) (op : Binary) → IsLayout (alu_code op + 8 + alu_class wide) AnyRegister AnyRegister (reg_offsets wide op) unused false
-unfolding is_row is_arithmetic is_division is_negation is_swap is_condition destination_field source_field offset_field imm_field offsets_of reg_offsets
-alu_reg_layout true Add = record { row = refl; wide = refl; dst = refl; src = refl; offset = refl; imm = refl }
-alu_reg_layout false Add = record { row = refl; wide = refl; dst = refl; src = refl; offset = refl; imm = refl }
-alu_reg_layout _ _ = record { row = refl; wide = refl; dst = refl; src = refl; offset = refl; imm = refl }
-
-neg_layout : (wide : Bool) → IsLayout (0x80 + alu_class wide) AnyRegister unused unused unused false
-unfolding is_row is_arithmetic is_division is_negation is_swap is_condition destination_field source_field offset_field imm_field
-neg_layout true = record { row = refl; wide = refl; dst = refl; src = refl; offset = refl; imm = refl }
-neg_layout false = record { row = refl; wide = refl; dst = refl; src = refl; offset = refl; imm = refl }
-
-end_layout : (kind : Order) → IsLayout (end_code kind) AnyRegister unused unused (OneOf (16 ∷ 32 ∷ 64 ∷ [])) false
-unfolding is_row is_arithmetic is_division is_negation is_swap is_condition destination_field source_field offset_field imm_field
-end_layout Little = record { row = refl; wide = refl; dst = refl; src = refl; offset = refl; imm = refl }
-end_layout _ = record { row = refl; wide = refl; dst = refl; src = refl; offset = refl; imm = refl }
-
-jump_imm_layout : (wide : Bool) (c : Cond) → IsLayout (cond_code c + jump_class wide) AnyRegister unused AnyNumber AnyNumber false
-unfolding is_row is_arithmetic is_division is_negation is_swap is_condition destination_field source_field offset_field imm_field
-jump_imm_layout true Eq = record { row = refl; wide = refl; dst = refl; src = refl; offset = refl; imm = refl }
-jump_imm_layout false Eq = record { row = refl; wide = refl; dst = refl; src = refl; offset = refl; imm = refl }
-jump_imm_layout _ _ = record { row = refl; wide = refl; dst = refl; src = refl; offset = refl; imm = refl }
-
-jump_reg_layout : (wide : Bool) (c : Cond) → IsLayout (cond_code c + 8 + jump_class wide) AnyRegister AnyRegister AnyNumber unused false
-unfolding is_row is_arithmetic is_division is_negation is_swap is_condition destination_field source_field offset_field imm_field
-jump_reg_layout true Eq = record { row = refl; wide = refl; dst = refl; src = refl; offset = refl; imm = refl }
-jump_reg_layout false Eq = record { row = refl; wide = refl; dst = refl; src = refl; offset = refl; imm = refl }
-jump_reg_layout _ _ = record { row = refl; wide = refl; dst = refl; src = refl; offset = refl; imm = refl }
-
-ja_layout : IsLayout 0x05 unused unused AnyNumber unused false
-unfolding is_row is_arithmetic is_division is_negation is_swap is_condition destination_field source_field offset_field imm_field
-ja_layout = record { row = refl; wide = refl; dst = refl; src = refl; offset = refl; imm = refl }
-
-ja_long_layout : IsLayout 0x06 unused unused unused AnyNumber false
-unfolding is_row is_arithmetic is_division is_negation is_swap is_condition destination_field source_field offset_field imm_field
-ja_long_layout = record { row = refl; wide = refl; dst = refl; src = refl; offset = refl; imm = refl }
-
-call_layout : IsLayout 0x85 unused (OneOf (1 ∷ 2 ∷ [])) unused AnyNumber false
-unfolding is_row is_arithmetic is_division is_negation is_swap is_condition destination_field source_field offset_field imm_field
-call_layout = record { row = refl; wide = refl; dst = refl; src = refl; offset = refl; imm = refl }
-
-exit_layout : IsLayout 0x95 unused unused unused unused false
-unfolding is_row is_arithmetic is_division is_negation is_swap is_condition destination_field source_field offset_field imm_field
-exit_layout = record { row = refl; wide = refl; dst = refl; src = refl; offset = refl; imm = refl }
 
 -- ---- each form's fault
 
@@ -525,10 +446,6 @@ call_least xs e w is h =
       | inl a ↦ subst (λ (g : Fault). IsLeastFault g xs) (sym (a.0)) (rw (w, is, l.row, l.dst, l.src, l.offset, l.imm) (a.1), below_3 xs (rw (w, row) refl) (rw (w, is, l.row, l.dst, l.src) refl))
       | inr a ↦ subst (λ (g : Fault). IsLeastFault g xs) (sym (a.0)) (rw (w, is, a.2) refl, below_6 xs (record { opcode = rw (w, row) refl; register = rw (w, is, l.row, l.dst, l.src) refl; field = rw (w, is, l.row, l.dst, l.src, l.offset, l.imm) (a.1) }) (rw (w, is) refl) (rw (w, is) refl))
     ]
-
-wide_layout : IsLayout 0x18 AnyRegister (OneOf (0 ∷ 1 ∷ 2 ∷ 3 ∷ 4 ∷ 5 ∷ 6 ∷ [])) unused AnyNumber true
-unfolding is_row is_arithmetic is_division is_negation is_swap is_condition destination_field source_field offset_field imm_field
-wide_layout = record { row = refl; wide = refl; dst = refl; src = refl; offset = refl; imm = refl }
 
 wide_sources : (n : ℕ) → is_among n (0 ∷ 1 ∷ 2 ∷ 3 ∷ 4 ∷ 5 ∷ 6 ∷ []) ≡ nat_lt n 7
 wide_sources n = grind (arith, nat_tests)

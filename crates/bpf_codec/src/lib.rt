@@ -11,6 +11,6 @@ mod tests;
 mod writing;
 
 pub use fault::Fault;
-pub use law::none_begins_another;
+pub use law::{none_begins_another, spelled_has_no_fault};
 pub use reading::decode_at;
 pub use writing::{encode, slots_of};

@@ -278,7 +278,12 @@ fn read_at(code: &[u8], slot: usize) -> Result<(Instr, usize), Fault>
     Ok((instr, slots_of(&instr)))
 }
 
-/// The instruction that stands at the slot, and how many slots it takes.
+/// The instruction that stands at the slot, and how many slots it takes (RFC 9669, section 3). A slot has eight bytes.
+///
+/// # Errors
+///
+/// Where no instruction is spelt there, the least fault of the bytes from the slot on. Any slot may be asked for: past
+/// the end of the code the fault is `Short`.
 pub fn decode_at(code: &[u8], slot: usize) -> Result<(Instr, usize), Fault>
     // What is read stands there.
     ensures found { IfOk result (λ x. Fits x.0 × Begins (drop (8 * slot) code.now) x.0 × (x.1 ≡ slots x.0)) }

@@ -5,7 +5,7 @@ ghost use Rattle.bpf_codec.specs.Slots.{alu_code, alu_offset, cond_code, swap_bi
 use crate::slot::Slot;
 use isa_table::{Binary, Cond, Instr, Operand, Order, SwapWidth};
 
-/// How many slots the instruction takes.
+/// How many slots the instruction takes: two for a wide one (RFC 9669, section 3.2), else one.
 pub fn slots_of(instr: &Instr) -> usize
     ensures { result ≡ slots instr.now }
 {
@@ -196,7 +196,7 @@ fn next_imm(instr: Instr) -> u32
     }
 }
 
-/// The one spelling of the instruction, then zeros; and how many slots it takes.
+/// The one spelling of the instruction (RFC 9669, section 3), then zeros; and how many slots it takes.
 #[tactic(auto, using(crate::proofs::Laws::padded_is))]
 pub fn encode(instr: &Instr) -> ([u8; 16], usize)
     ensures spelled { result.0 ≡ padded instr.now }
