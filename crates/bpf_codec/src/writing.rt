@@ -1,9 +1,10 @@
 //! Writes instructions.
 ghost use Rattle.std.specs.Prelude.{◌≡◌, ◌<◌};
-ghost use Rattle.bpf_codec.specs.Slots.{alu_code, alu_offset, cond_code, swap_bits, first, padded, next_word, alu_class, jump_class, slots};
+ghost use Rattle.isa_table.specs.declared.instr.Instr.TheVariants.{Alu, Jump};
+ghost use Rattle.bpf_codec.specs.Slots.{end_code, alu_code, alu_offset, cond_code, swap_bits, first, padded, next_word, alu_class, jump_class, slots};
 
 use crate::slot::Slot;
-use isa_table::{Binary, Cond, Instr, Operand, Order, SwapWidth};
+use isa_table::{Binary, Cond, Instr, Operand, Order, Reg, SwapWidth};
 
 /// How many slots the instruction takes: two for a wide one (RFC 9669, section 3.2), else one.
 pub fn slots_of(instr: &Instr) -> usize
@@ -95,6 +96,49 @@ fn make_slot(opcode: u8, dst: u8, src: u8, offset: u16, imm: u32) -> Slot
     }
 }
 
+/// The first slot of an arithmetic operation with two operands.
+#[tactic(auto, using(crate::proofs::Laws::low_words))]
+fn alu_slot(wide: bool, op: Binary, dst: Reg, src: Operand) -> Slot
+    ensures value { result ≡ first (Alu wide op dst src) }
+    ensures dst { result.dst < 11 }
+    ensures src { result.src < 11 }
+{
+    let opcode = code_of(op) + alu_class_of(wide);
+    match src {
+        Operand::Imm(imm) => {
+            make_slot(opcode, dst.number(), 0, offset_of(op), imm.cast_unsigned())
+        }
+        Operand::Register(src) => {
+            make_slot(opcode + 8, dst.number(), src.number(), offset_of(op), 0)
+        }
+    }
+}
+
+/// The first slot of a conditional jump.
+#[tactic(auto, using(crate::proofs::Laws::low_words))]
+fn jump_slot(wide: bool, cond: Cond, dst: Reg, src: Operand, offset: i16) -> Slot
+    ensures value { result ≡ first (Jump wide cond dst src offset) }
+    ensures dst { result.dst < 11 }
+    ensures src { result.src < 11 }
+{
+    let opcode = cond_code_of(cond) + jump_class_of(wide);
+    let offset = offset.cast_unsigned();
+    match src {
+        Operand::Imm(imm) => make_slot(opcode, dst.number(), 0, offset, imm.cast_unsigned()),
+        Operand::Register(src) => make_slot(opcode + 8, dst.number(), src.number(), offset, 0),
+    }
+}
+
+fn end_code_of(kind: Order) -> u8
+    ensures { result ≡ end_code kind }
+{
+    match kind {
+        Order::Little => 0xd4,
+        Order::Big => 0xdc,
+        Order::Swapped => 0xd7,
+    }
+}
+
 /// The instruction's first slot.
 #[tactic(auto, using(crate::proofs::Laws::low_words))]
 fn first_of(instr: Instr) -> Slot
@@ -103,34 +147,7 @@ fn first_of(instr: Instr) -> Slot
     ensures src { result.src < 11 }
 {
     match instr {
-        Instr::Alu {
-            wide,
-            op,
-            dst,
-            src: Operand::Imm(imm),
-        } => {
-            make_slot(
-                code_of(op) + alu_class_of(wide),
-                dst.number(),
-                0,
-                offset_of(op),
-                imm.cast_unsigned(),
-            )
-        }
-        Instr::Alu {
-            wide,
-            op,
-            dst,
-            src: Operand::Register(src),
-        } => {
-            make_slot(
-                code_of(op) + 8 + alu_class_of(wide),
-                dst.number(),
-                src.number(),
-                offset_of(op),
-                0,
-            )
-        }
+        Instr::Alu { wide, op, dst, src } => alu_slot(wide, op, dst, src),
         Instr::Neg { wide, dst } => make_slot(0x80 + alu_class_of(wide), dst.number(), 0, 0, 0),
         Instr::MovSx8 { wide, dst, src } => {
             make_slot(0xb8 + alu_class_of(wide), dst.number(), src.number(), 8, 0)
@@ -140,43 +157,15 @@ fn first_of(instr: Instr) -> Slot
         }
         Instr::MovSx32 { dst, src } => make_slot(0xbf, dst.number(), src.number(), 32, 0),
         Instr::End { kind, width, dst } => {
-            let opcode = match kind {
-                Order::Little => 0xd4,
-                Order::Big => 0xdc,
-                Order::Swapped => 0xd7,
-            };
-            make_slot(opcode, dst.number(), 0, 0, bits_of(width))
+            make_slot(end_code_of(kind), dst.number(), 0, 0, bits_of(width))
         }
         Instr::Jump {
             wide,
             cond,
             dst,
-            src: Operand::Imm(imm),
+            src,
             offset,
-        } => {
-            make_slot(
-                cond_code_of(cond) + jump_class_of(wide),
-                dst.number(),
-                0,
-                offset.cast_unsigned(),
-                imm.cast_unsigned(),
-            )
-        }
-        Instr::Jump {
-            wide,
-            cond,
-            dst,
-            src: Operand::Register(src),
-            offset,
-        } => {
-            make_slot(
-                cond_code_of(cond) + 8 + jump_class_of(wide),
-                dst.number(),
-                src.number(),
-                offset.cast_unsigned(),
-                0,
-            )
-        }
+        } => jump_slot(wide, cond, dst, src, offset),
         Instr::Ja { offset } => make_slot(0x05, 0, 0, offset.cast_unsigned(), 0),
         Instr::JaLong { offset } => make_slot(0x06, 0, 0, 0, offset.cast_unsigned()),
         Instr::CallLocal { offset } => make_slot(0x85, 0, 1, 0, offset.cast_unsigned()),
