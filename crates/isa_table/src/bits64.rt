@@ -32,7 +32,7 @@ fn signed_remainder(d: u64, s: u64) -> u64
     }
 }
 
-/// The operation on 64 bits.
+/// The operation on 64 bits (RFC 9669, section 4.1, class ALU64). A shift takes its count modulo 64.
 pub fn alu64(op: AluOp, d: u64, s: u64) -> u64
     ensures { result ≡ alu_row 64 op d s }
 {

@@ -2,7 +2,7 @@
 ghost use Rattle.std.specs.Prelude.{◌≡◌, ◌<◌};
 ghost use Rattle.isa_table.specs.Registers.{register_number};
 
-/// A register, R0 to R10.
+/// A register, R0 to R10 (RFC 9669, section 3.1).
 #[derive(Clone, Copy, Drop, Debug, PartialEq, Eq)]
 pub enum Reg {
     R0,
@@ -28,7 +28,8 @@ impl Reg {
     }
 }
 
-/// An arithmetic operation with a destination and a second operand, in both widths.
+/// An arithmetic operation with a destination and a second operand, in both widths (RFC 9669, section 4.1). Those that
+/// begin with `S` are signed.
 #[derive(Clone, Copy, Drop, Debug, PartialEq, Eq)]
 pub enum Binary {
     Add,
@@ -47,7 +48,7 @@ pub enum Binary {
     Arsh,
 }
 
-/// Any arithmetic operation. `Neg` reads the destination alone; a move with sign extension reads the second operand alone.
+/// Any arithmetic operation (RFC 9669, section 4.1). `Neg` reads the destination alone; a move with sign extension reads the second operand alone.
 #[derive(Clone, Copy, Drop, Debug, PartialEq, Eq)]
 pub enum AluOp {
     Two(Binary),
@@ -64,7 +65,7 @@ pub enum Operand {
     Register(Reg),
 }
 
-/// When a conditional jump is taken. Those that begin with `S` compare signed numbers.
+/// When a conditional jump is taken (RFC 9669, section 4.3). Those that begin with `S` compare signed numbers.
 #[derive(Clone, Copy, Drop, Debug, PartialEq, Eq)]
 pub enum Cond {
     Eq,
@@ -80,7 +81,7 @@ pub enum Cond {
     SLe,
 }
 
-/// A byte swap's kind: to little endian (opcode d4), to big endian (dc), or in any case (d7).
+/// A byte swap's kind (RFC 9669, section 4.2): to little endian (opcode d4), to big endian (dc), or in any case (d7).
 #[derive(Clone, Copy, Drop, Debug, PartialEq, Eq)]
 pub enum Order {
     Little,
@@ -99,42 +100,42 @@ pub enum SwapWidth {
 /// An instruction of the table. `wide` says that it works on 64 bits, and not on the low 32. Offsets count slots.
 #[derive(Clone, Copy, Drop, Debug, PartialEq, Eq)]
 pub enum Instr {
-    /// An operation on the destination and a second operand.
+    /// An operation on the destination and a second operand (section 4.1).
     Alu {
         wide: bool,
         op: Binary,
         dst: Reg,
         src: Operand,
     },
-    /// The destination with its sign changed.
+    /// The destination with its sign changed (section 4.1).
     Neg {
         wide: bool,
         dst: Reg,
     },
-    /// A move of the low 8 bits, sign-extended.
+    /// A move of the low 8 bits, sign-extended (section 4.1).
     MovSx8 {
         wide: bool,
         dst: Reg,
         src: Reg,
     },
-    /// A move of the low 16 bits, sign-extended.
+    /// A move of the low 16 bits, sign-extended (section 4.1).
     MovSx16 {
         wide: bool,
         dst: Reg,
         src: Reg,
     },
-    /// A move of the low 32 bits, sign-extended to 64.
+    /// A move of the low 32 bits, sign-extended to 64 (section 4.1).
     MovSx32 {
         dst: Reg,
         src: Reg,
     },
-    /// A byte swap of the low bits of the destination.
+    /// A byte swap of the low bits of the destination (section 4.2).
     End {
         kind: Order,
         width: SwapWidth,
         dst: Reg,
     },
-    /// A jump by `offset` slots from the next slot, where the condition holds.
+    /// A jump by `offset` slots from the next slot, where the condition holds (section 4.3).
     Jump {
         wide: bool,
         cond: Cond,
@@ -142,21 +143,21 @@ pub enum Instr {
         src: Operand,
         offset: i16,
     },
-    /// A jump by `offset` slots, spelt in the offset field.
+    /// A jump by `offset` slots, spelt in the offset field (section 4.3).
     Ja {
         offset: i16,
     },
-    /// A jump by `offset` slots, spelt in the imm field.
+    /// A jump by `offset` slots, spelt in the imm field (section 4.3).
     JaLong {
         offset: i32,
     },
-    /// A call of the function `offset` slots from the next slot.
+    /// A call of the function `offset` slots from the next slot (section 4.3.2).
     CallLocal {
         offset: i32,
     },
-    /// The end of a function, or of the program.
+    /// The end of a function, or of the program (section 4.3).
     Exit,
-    /// A load of a 64-bit number that stands in the instruction's two slots.
+    /// A load of a 64-bit number that stands in the instruction's two slots (section 5.4).
     LoadWide {
         dst: Reg,
         value: u64,
