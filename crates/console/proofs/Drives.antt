@@ -32,6 +32,18 @@ clip_some : (line : List ℕ) → 0 < length (clip line) → (0 < length line) �
 clip_some [] h = absurd (omega arith)
 clip_some (b ∷ line) h = (omega arith, refl)
 
+pub stops_reading : (s t : WorldState) (h seen : List ℕ) (a b u v : Option (List ℕ)) (k : Held) → Consumes a b seen → Goes s (h ++ seen) u v t k
+    → IfSome a (λ input. StopsReading s (h ++ input) u v t k b)
+stops_reading s t h seen None b u v k c x = tt
+stops_reading s t h seen (Some input) None u v k c x = absurd c
+stops_reading s t h seen (Some input) (Some more) u v k c x = record {
+  heard = h ++ seen;
+  more = more;
+  parts = ap (λ l. h ++ l) c ∙ sym (append_assoc h seen more);
+  kept = refl;
+  goes = x;
+}
+
 module _ (s t : WorldState) (h seen : List ℕ) (a b u v : Option (List ℕ)) where
   pub ends_whole : (k : Held) → Consumes a b seen → IsAtEnd b → Goes s (h ++ seen) u v t k → (0 < length k.line → ⊥) → IfSome a (λ input. Ends s (h ++ input) u v t)
   ends_whole k c e x n = all_seen a b seen (λ input. Ends s (h ++ input) u v t) c e (
@@ -82,10 +94,6 @@ module _ (s t : WorldState) (h seen : List ℕ) (a b u v : Option (List ℕ)) wh
           wrote = refl;
         },
       )
-
-  pub stops_reading : (k : Held) → Consumes a b seen → Goes s (h ++ seen) u v t k → IfSome a (λ input. StopsReading s (h ++ input) u v t k)
-  stops_reading k c x = more_seen a b seen (λ input. StopsReading s (h ++ input) u v t k) c
-      (λ more. record { heard = h ++ seen; more = more; parts = sym (append_assoc h seen more); goes = x })
 
   pub stops_writing : Consumes a b seen → Halts s (h ++ seen) u v t → IfSome a (λ input. StopsWriting s (h ++ input) u v t)
   stops_writing c x = more_seen a b seen (λ input. StopsWriting s (h ++ input) u v t) c

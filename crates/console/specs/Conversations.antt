@@ -1,5 +1,5 @@
 -- A whole conversation: lines in, their replies out, and the run of commands between them.
-use Rattle.std.specs.Prelude.{◌≡◌, ℕ, ◌<◌, List, [], ◌∷◌, ◌++◌, length, All, flat_map, ◌⊎◌, Option}
+use Rattle.std.specs.Prelude.{◌≡◌, ℕ, ◌<◌, List, [], ◌∷◌, ◌++◌, length, All, flat_map, ◌⊎◌, Option, Some}
 use Rattle.std.specs.Io.KnownBytes.{Appends}
 use Rattle.world.specs.declared.events.Reply.{Reply}
 use Rattle.world.specs.Answers.{WorldState, Command, Answers}
@@ -101,11 +101,12 @@ Halts old input before after new = (output : List ℕ) × Appends before after o
 abbrev pub Ends : WorldState → List ℕ → Option (List ℕ) → Option (List ℕ) → WorldState → Type 0
 Ends old input before after new = (output : List ℕ) × Appends before after output × Converses old input output new
 
--- A read failed: all replies to what was heard are written, the console holds what was heard of the next line, and more of the input is not heard.
-pub record StopsReading (old : WorldState) (input : List ℕ) (before after : Option (List ℕ)) (new : WorldState) (held : Held) : Type 0 where
+-- A read failed: all replies to what was heard are written, the console holds what was heard of the next line, and the reader still has the rest of the input.
+pub record StopsReading (old : WorldState) (input : List ℕ) (before after : Option (List ℕ)) (new : WorldState) (held : Held) (unread : Option (List ℕ)) : Type 0 where
   pub heard : List ℕ
   pub more : List ℕ
   pub parts : input ≡ heard ++ more
+  pub kept : unread ≡ Some more
   pub goes : Goes old heard before after new held
 
 -- a write failed

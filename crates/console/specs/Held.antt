@@ -1,10 +1,10 @@
 -- What a console holds of the line that is coming.
 use Rattle.std.specs.Prelude.{◌≡◌, ℕ, ◌+◌, Bool, true, false, List, [], ◌∷◌, ◌++◌, length, take, ◌⊎◌}
-use Rattle.console.specs.Lines.{IsLine, ended}
+use Rattle.console.specs.Lines.{IsLine, ended, line_limit}
 
 -- what is kept of a line: all of it, or so much that it is seen to be too long
 abbrev pub clip : List ℕ → List ℕ
-clip line = take 70001 line
+clip line = take (line_limit + 1) line
 
 -- what is kept of the line that is coming, and whether its end has come
 pub record Held : Type 0 where

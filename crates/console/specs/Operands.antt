@@ -4,6 +4,7 @@ use Rattle.std.specs.List.{slice_split}
 use Rattle.std.specs.Str.Parse.{IsNumeral, digits_value}
 use Rattle.hex.specs.Hex.{decode_of}
 use denote.Ref.{Bor}
+use Rattle.world.specs.Answers.{machine_limit}
 use Rattle.console.specs.declared.words.Words.{Words}
 
 -- the words of a line, parted by one space each
@@ -18,7 +19,7 @@ IsNumber word n = (n < 2 ^ 64)
 
 -- the number of a machine that there may be
 abbrev pub IsMachine : ℕ → Type 0
-IsMachine n = (1 ≤ n) × (n ≤ 48)
+IsMachine n = (1 ≤ n) × (n ≤ machine_limit)
 
 -- two hex digits of either case for each byte, and at least one byte
 abbrev pub IsHex : List ℕ → List ℕ → Type 0

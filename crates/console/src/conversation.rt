@@ -106,7 +106,7 @@ pub fn drive<R: Read, W: Write>(
     ensures ok { OnOk result (IfSome (R.remaining reader.old) (λ input.
         Ends world.old (held_bytes console.old ++ input) (W.contents writer.old) (W.contents writer.new) world.new)) }
     ensures read { IsErrOf result DriveFault.Read → IfSome (R.remaining reader.old) (λ input.
-        StopsReading world.old (held_bytes console.old ++ input) (W.contents writer.old) (W.contents writer.new) world.new console.new) }
+        StopsReading world.old (held_bytes console.old ++ input) (W.contents writer.old) (W.contents writer.new) world.new console.new (R.remaining reader.new)) }
     ensures write { IsErrOf result DriveFault.Write → IfSome (R.remaining reader.old) (λ input.
         StopsWriting world.old (held_bytes console.old ++ input) (W.contents writer.old) (W.contents writer.new) world.new) }
     ensures emptied { OnOk result (console.new ≡ nothing_held) }
