@@ -2,3 +2,4 @@ pub mod Values
 pub mod Goes
 pub mod Frames
 pub mod Outcomes
+pub mod Pointers

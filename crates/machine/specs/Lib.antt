@@ -3,3 +3,4 @@ pub mod TableStep
 pub mod Invariant
 pub mod Jumps
 pub mod Laws
+pub mod Stack

@@ -1,5 +1,6 @@
 //! What the table step promises, whatever the program.
 ghost use Rattle.machine.specs.Laws.{StepsOneWay, StoppedStays, FuelCounts, StopsInPlace, StartsWhole, AlwaysSteps, StaysWhole};
+ghost use Rattle.machine.specs.Stack.{StartsAtTop, StaysApart};
 
 /// A machine has one next state, and one answer.
 pub fn steps_one_way()
@@ -34,4 +35,14 @@ pub fn always_steps()
 /// After a step an instruction begins at the slot, and at each slot to which a call goes back; at most eight are open.
 pub fn stays_whole()
     ensures { StaysWhole }
+{}
+
+/// At the start R10 is the frame pointer of a function that nothing called.
+pub fn starts_at_top()
+    ensures { StartsAtTop }
+{}
+
+/// After a step R10 is the frame pointer: each function that is called has its own 512 bytes of the stack.
+pub fn stays_apart()
+    ensures { StaysApart }
 {}

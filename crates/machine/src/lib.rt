@@ -7,8 +7,8 @@ mod registers;
 mod state;
 
 pub use law::{
-    always_steps, fuel_counts, starts_whole, stays_whole, steps_one_way, stopped_stays,
-    stops_in_place,
+    always_steps, fuel_counts, starts_at_top, starts_whole, stays_apart, stays_whole,
+    steps_one_way, stopped_stays, stops_in_place,
 };
 pub use machines::Machine;
 pub use state::{Frame, Stepped, Stop};
