@@ -5,7 +5,7 @@ RT := $(shell command -v rt 2>/dev/null || echo /opt/rattle/bin/rt)
 PROGRAM := crates/bpfagent/out/bpfagent
 SOURCES := crates.txt $(shell find crates -path '*/out' -prune -o \( -name '*.rt' -o -name '*.antt' \) -print 2>/dev/null)
 
-.PHONY: run test bench refused-growth
+.PHONY: run test vectors bench refused-growth
 
 # The program is proved before it is built. With no change since, the next call runs it at once.
 run: $(PROGRAM)
@@ -19,6 +19,13 @@ $(PROGRAM): $(SOURCES)
 
 test:
 	@$(RT) ci
+
+# Makes the test vectors again, by an interpreter of RFC 9669 of its own, and compares.
+VECTORS := crates/conversations/data/vectors.script
+
+vectors:
+	@python3 crates/conversations/make_vectors.py | cmp - $(VECTORS)
+	@echo "$(VECTORS) is what the script makes"
 
 # Outside the gate. These need a C compiler and Python.
 

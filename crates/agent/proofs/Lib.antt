@@ -1,3 +1,4 @@
 pub mod Reading
 pub mod Whole
 pub mod Starved
+pub mod Shown

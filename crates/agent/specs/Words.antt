@@ -1,16 +1,17 @@
 -- What the words of the command line ask for.
-use Rattle.std.specs.Prelude.{◌≡◌, ℕ, ◌⊎◌, true, if◌then◌else◌, List, [], Option, Some, None, Err, codes, option_map}
+use Rattle.std.specs.Prelude.{◌≡◌, ℕ, ◌⊎◌, true, if◌then◌else◌, List, [], Option, Some, None, Ok, Err, codes, option_map}
 use Rattle.std.specs.Str.{bytes_eq}
-use Rattle.std.specs.Io.KnownBytes.{Keeps}
+use Rattle.std.specs.Io.KnownBytes.{Appends, Keeps}
 use Rattle.clap.specs.Words.{App, Kinds, Shape, Text, IsAmong, fault_of, subcommand_of, with_subcommand}
 use Rattle.clap.specs.Simple.{new_shape}
 use Rattle.clap.specs.declared.error.kind.ErrorKind.{ErrorKind}
 use Rattle.clap.specs.declared.error.kind.ErrorKind.TheVariants as kind
 use Rattle.agent.specs.Failures.{code_of}
 use Rattle.agent.specs.Reports.{Reports}
+use Rattle.agent.specs.Streams.{AppendsPart, AppendsSome}
 use Rattle.agent.specs.declared.failure.Failure.TheVariants.{Write, NoMemory}
 use Rattle.agent.specs.declared.failure.Status.{Status}
-use Rattle.agent.specs.declared.failure.Status.TheVariants.{Done, WrongWords}
+use Rattle.agent.specs.declared.failure.Status.TheVariants.{WrongWords}
 use Rattle.agent.specs.declared.words.Task.{Task}
 use Rattle.agent.specs.declared.words.Task.TheVariants.{Run, Check}
 
@@ -38,12 +39,25 @@ task_named (Some name) = if bytes_eq name (codes "run") then Some Run else (if b
 abbrev pub task_of : List Text → Option Task
 task_of words = task_named (option_map (λ p. p.0) (subcommand_of command_line words))
 
--- What is done about words that give this kind of error: help goes to the output, and other words about them to the errors.
+-- there was no memory, and nothing goes to the output
+abbrev pub Starves : Option (List ℕ) → Option (List ℕ) → Option (List ℕ) → Option (List ℕ) → Status → Type 0
+Starves out_before out_after before after status = Keeps out_before out_after × Reports before after (Err NoMemory) status
+
+-- help goes to the output
+abbrev pub ShowsHelp : Option (List ℕ) → Option (List ℕ) → Option (List ℕ) → Option (List ℕ) → Status → Type 0
+ShowsHelp out_before out_after before after status = (text : List ℕ)
+    × ((Appends out_before out_after text × Reports before after (Ok tt) status) ⊎ (AppendsPart out_before out_after text × Reports before after (Err Write) status))
+
+-- what is wrong with the words goes to the errors, as much of it as that stream takes
+abbrev pub SaysWrong : Option (List ℕ) → Option (List ℕ) → Status → Type 0
+SaysWrong before after status = (text : List ℕ) × AppendsSome before after text × (status ≡ WrongWords)
+
+-- What is done about words that give this kind of error. For each text there may be no memory.
 abbrev pub Shows : ErrorKind → Option (List ℕ) → Option (List ℕ) → Option (List ℕ) → Option (List ℕ) → Status → Type 0
-Shows kind.OutOfMemory out_before out_after before after status = Keeps out_before out_after × Reports before after (Err NoMemory) status
-Shows kind.DisplayHelp out_before out_after before after status = (Keeps before after × (status ≡ Done)) ⊎ Reports before after (Err Write) status
-Shows kind.DisplayVersion out_before out_after before after status = (Keeps before after × (status ≡ Done)) ⊎ Reports before after (Err Write) status
-Shows _ out_before out_after before after status = Keeps out_before out_after × (status ≡ WrongWords)
+Shows kind.OutOfMemory out_before out_after before after status = Starves out_before out_after before after status
+Shows kind.DisplayHelp out_before out_after before after status = ShowsHelp out_before out_after before after status ⊎ Starves out_before out_after before after status
+Shows kind.DisplayVersion out_before out_after before after status = ShowsHelp out_before out_after before after status ⊎ Starves out_before out_after before after status
+Shows _ out_before out_after before after status = (Keeps out_before out_after × SaysWrong before after status) ⊎ Starves out_before out_after before after status
 
 -- words that may give these kinds of error are answered by one of them, or by want of memory
 abbrev pub Turns : Kinds → Option (List ℕ) → Option (List ℕ) → Option (List ℕ) → Option (List ℕ) → ℕ → Type 0
