@@ -7,10 +7,10 @@ use Rattle.console.specs.Conversations.{Ends, StopsReading, StopsWriting}
 use Rattle.agent.specs.declared.failure.Failure.{Failure}
 use Rattle.agent.specs.declared.failure.Failure.TheVariants.{Refused, Read, Write, NoMemory}
 
--- What a run over this input leaves in the output, which was as before: all replies from a world with no machine, or those up to where a stream failed.
-abbrev pub Runs : List ℕ → Option (List ℕ) → Option (List ℕ) → Result ⊤ Failure → Type 0
-Runs input before after (Ok done) = (end : WorldState) × Ends world_start input before after end
-Runs input before after (Err Read) = (end : WorldState) × (held : Held) × StopsReading world_start input before after end held
-Runs input before after (Err Write) = (end : WorldState) × StopsWriting world_start input before after end
-Runs input before after (Err NoMemory) = Keeps before after
-Runs input before after (Err (Refused error)) = ⊥
+-- What a run over this input leaves in the output, which was as before, and unread: all replies from a world with no machine, or those up to where a stream failed.
+abbrev pub Runs : List ℕ → Option (List ℕ) → Option (List ℕ) → Option (List ℕ) → Result ⊤ Failure → Type 0
+Runs input before after unread (Ok done) = (end : WorldState) × Ends world_start input before after end
+Runs input before after unread (Err Read) = (end : WorldState) × (held : Held) × StopsReading world_start input before after end held unread
+Runs input before after unread (Err Write) = (end : WorldState) × StopsWriting world_start input before after end
+Runs input before after unread (Err NoMemory) = Keeps before after
+Runs input before after unread (Err (Refused error)) = ⊥

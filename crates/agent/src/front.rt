@@ -69,7 +69,7 @@ pub fn tool<'a, S: AsStr, R: Read, W: Write, E: Write>(
     errors: &mut E,
 ) -> u8
     ensures run { faults_of (map S.text words.entry.now) ≡ [] → task_of (map S.text words.entry.now) ≡ Some Task.Run
-        → IfSome (R.remaining reader.old) (λ input. Ends (Runs input (W.contents writer.old) (W.contents writer.new))
+        → IfSome (R.remaining reader.old) (λ input. Ends (Runs input (W.contents writer.old) (W.contents writer.new) (R.remaining reader.new))
         (E.contents errors.old) (E.contents errors.new) result) }
     ensures check { faults_of (map S.text words.entry.now) ≡ [] → task_of (map S.text words.entry.now) ≡ Some Task.Check
         → IfSome (R.remaining reader.old) (λ input. Ends (Checks input (W.contents writer.old) (W.contents writer.new))

@@ -10,7 +10,7 @@ use world::World;
 
 /// Does the commands that the reader has, from a world with no machine, and writes their replies.
 pub fn run<R: Read, W: Write>(alloc: Global, reader: &mut R, writer: &mut W) -> Result<(), Failure>
-    ensures { IfSome (R.remaining reader.old) (λ input. Runs input (W.contents writer.old) (W.contents writer.new) result) }
+    ensures { IfSome (R.remaining reader.old) (λ input. Runs input (W.contents writer.old) (W.contents writer.new) (R.remaining reader.new) result) }
 {
     let Ok(mut world) = World::new(alloc) else {
         return Err(Failure::NoMemory);
