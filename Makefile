@@ -17,15 +17,19 @@ $(PROGRAM): $(SOURCES)
 	@cd crates/bpfagent && $(RT) run -- run < /dev/null >&2
 	@touch $(PROGRAM)
 
+# First that the examples of the protocol's document are those that the tests run.
 test:
+	@python3 tests/protocol.py
 	@$(RT) ci
 
-# Makes the test vectors again, by an interpreter of RFC 9669 of its own, and compares.
+# Makes the test vectors again, by an interpreter of RFC 9669 of its own, and compares; likewise the
+# examples of docs/PROTOCOL.md with the script that the tests run.
 VECTORS := crates/conversations/data/vectors.script
 
 vectors:
 	@python3 crates/conversations/make_vectors.py | cmp - $(VECTORS)
-	@echo "$(VECTORS) is what the script makes"
+	@python3 tests/protocol.py
+	@echo "the scripts are what they are made from"
 
 # Outside the gate. These need a C compiler and Python.
 
