@@ -1,5 +1,5 @@
 //! What the table step promises, whatever the program.
-ghost use Rattle.machine.specs.Laws.{StepsOneWay, StoppedStays, FuelCounts, StopsInPlace, StartsWhole, AlwaysSteps, StaysWhole};
+ghost use Rattle.machine.specs.Laws.{StepsOneWay, StoppedStays, FuelCounts, FuelBounds, StopsInPlace, StartsWhole, AlwaysSteps, StaysWhole};
 ghost use Rattle.machine.specs.Stack.{StartsAtTop, StaysApart};
 
 /// A machine has one next state, and one answer.
@@ -15,6 +15,11 @@ pub fn stopped_stays()
 /// Fuel falls by one with each instruction that ran, EXIT included, and with nothing else.
 pub fn fuel_counts()
     ensures { FuelCounts }
+{}
+
+/// No more instructions run than there is fuel, whatever the program.
+pub fn fuel_bounds()
+    ensures { FuelBounds }
 {}
 
 /// A stop other than exit changes the stop alone.

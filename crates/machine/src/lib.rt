@@ -7,7 +7,7 @@ mod registers;
 mod state;
 
 pub use law::{
-    always_steps, fuel_counts, starts_at_top, starts_whole, stays_apart, stays_whole,
+    always_steps, fuel_bounds, fuel_counts, starts_at_top, starts_whole, stays_apart, stays_whole,
     steps_one_way, stopped_stays, stops_in_place,
 };
 pub use machines::Machine;
