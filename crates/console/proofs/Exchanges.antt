@@ -1,21 +1,19 @@
 -- Exchanges, joined.
-use Rattle.std.proofs.Common.{◌≡◌, ◌≢◌, ℕ, ◌+◌, ◌<◌, List, [], ◌∷◌, ◌++◌, length, take, refl, sym, ap, ◌∙◌, append_assoc, append-nil, Option, Result, Bool, IsTrue, IsFalse, true, false, inl, inr, subst, arith, flat_map}
+use Rattle.std.proofs.Common.{◌≡◌, ◌≢◌, ℕ, ◌+◌, ◌<◌, List, [], ◌∷◌, ◌++◌, length, take, refl, sym, ap, ◌∙◌, append_assoc, append-nil, Option, Bool, IsTrue, IsFalse, false, inl, inr, subst, arith, flat_map}
 use Rattle.std.proofs.lemmas.List.{take_all}
 use Rattle.std.proofs.lemmas.List.Concat.{flat_map-append}
 use Rattle.std.proofs.lemmas.List.Elements.{All-append, All-nil, All-cons}
 use Rattle.std.proofs.Math.Seq.{take-append-add}
 use Rattle.std.proofs.KnownBytes.{Appends-nil, Appends-trans}
 use Rattle.std.specs.Io.KnownBytes.{Appends}
-use Rattle.world.specs.declared.events.Event.{Event}
 use Rattle.world.specs.declared.events.Reply.TheVariants as reply
 use Rattle.world.specs.Answers.{WorldState, Command, Answers}
 use Rattle.world.specs.Answers.Command.{Ship, Step, Regs}
 use Rattle.world.proofs.Joined.{Runs-append}
-use Rattle.console.specs.Lines.{IsLine, ended, Reads, Spells, MayLackMemory}
-use Rattle.console.specs.Held.{Held, clip, nothing_held, open_line, bytes_so_far, Feeds}
+use Rattle.console.specs.Lines.{IsLine, ended, MayLackMemory}
+use Rattle.console.specs.Held.{Held, clip, nothing_held, bytes_so_far, Feeds}
 use Rattle.console.specs.Conversations.{IsTurn, line_of, text_of, commands_of, replies_of, heard_of, told_of, Answered, Exchange, Goes, Halts}
-use Rattle.console.specs.declared.fault.LineFault.{LineFault}
-use Rattle.console.proofs.Kept.{reads_clip, clip-append}
+use Rattle.console.proofs.Kept.{clip-append}
 
 -- a command whose reading found no memory changes nothing
 pub lacks_memory : (s : WorldState) (command : Command) → MayLackMemory command → Answers s command reply.NoMemory s

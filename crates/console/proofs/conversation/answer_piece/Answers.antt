@@ -1,8 +1,6 @@
 use Rattle.std.proofs.Common.{ℕ, List, [], ◌++◌, ◌≡◌, take, drop, sym, ap, ◌∙◌, refl, subst, append_assoc, append-nil, take-append-drop, length, ◌-◌}
 use Rattle.std.proofs.lemmas.List.{take_rest}
 use Rattle.std.proofs.lemmas.Result.{err_from_is_err_and}
-use Rattle.std.specs.Io.KnownBytes.{Appends}
-use Rattle.console.specs.Held.{Held}
 use Rattle.console.specs.Conversations.{Halts}
 use Rattle.console.proofs.Exchanges.{goes_none, goes_fed, halts_fed, halts_more}
 use Rattle.console.proofs.conversation.answer_piece.Goals as goal
