@@ -20,11 +20,12 @@ pub enum Stepped {
     Stopped(Stop),
 }
 
-/// What a call keeps for its return.
+/// What a call keeps for its return (RFC 9669, section 4.3.2).
 #[derive(Clone, Copy, Drop, Debug, Default, PartialEq, Eq)]
 pub struct Frame {
     /// The slot after the call.
     pub slot: usize,
+    /// R6 to R9 are the caller's, whatever the called function does with them.
     pub r6: u64,
     pub r7: u64,
     pub r8: u64,
