@@ -3,8 +3,8 @@ ghost use Rattle.std.specs.Prelude.{◌≡◌, ◌⊎◌, take, IfOk, IfSome, If
 ghost use Rattle.agent.specs.Checks.{Checks, Finds, ok_line};
 
 use crate::failure::Failure;
-use crate::streams::put_all;
 use arrayvec::ArrayVec;
+use console::put_all;
 use loader::{Why, load};
 use std::alloc::Global;
 use std::io::{ErrorKind, Read, Write};

@@ -1,11 +1,10 @@
 //! What the program ends with.
 ghost use Rattle.std.specs.Prelude.{◌≡◌, ◌++◌, codes};
-ghost use Rattle.console.specs.Lines.{why_name};
 ghost use Rattle.agent.specs.Failures.{code_of, line_of, status_of};
 
 use arrayvec::ArrayVec;
-use bpf_codec::Fault;
-use loader::{LoadError, Why};
+use console::name_of_why;
+use loader::LoadError;
 
 /// How the program ended.
 #[derive(Clone, Copy, Debug, PartialEq, Eq)]
@@ -67,7 +66,7 @@ impl Failure {
                 let _ = line.try_extend_from_slice(b"slot ");
                 let _ = line.try_extend_from_slice(number.format(error.slot).as_bytes());
                 let _ = line.try_extend_from_slice(b": ");
-                let _ = line.try_extend_from_slice(name(error.why).as_bytes());
+                let _ = line.try_extend_from_slice(name_of_why(error.why));
             }
             Failure::Read => {
                 let _ = line.try_extend_from_slice(b"read fault");
@@ -81,27 +80,5 @@ impl Failure {
         }
         let _ = line.try_push(b'\n');
         line
-    }
-}
-
-/// The name of a reason.
-fn name(why: Why) -> &'static str
-    ensures { result.now ≡ why_name why }
-{
-    match why {
-        Why::Decoder(Fault::Opcode) => "Opcode",
-        Why::Decoder(Fault::Register) => "Register",
-        Why::Decoder(Fault::Field) => "Field",
-        Why::Decoder(Fault::HalfWide) => "HalfWide",
-        Why::Decoder(Fault::Packet) => "Packet",
-        Why::Decoder(Fault::Platform) => "Platform",
-        Why::Decoder(Fault::Short) => "Short",
-        Why::Empty => "Empty",
-        Why::TooLong => "TooLong",
-        Why::JumpOut => "JumpOut",
-        Why::JumpInside => "JumpInside",
-        Why::WritesR10 => "WritesR10",
-        Why::FallsOff => "FallsOff",
-        Why::Memory => "Memory",
     }
 }

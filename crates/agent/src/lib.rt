@@ -7,7 +7,6 @@ mod front;
 mod laws;
 mod reporting;
 mod running;
-mod streams;
 mod words;
 
 pub use checking::check;

@@ -7,7 +7,7 @@ ghost use Rattle.agent.specs.Streams.{AppendsSome};
 ghost use Rattle.agent.specs.Words.{not_text};
 
 use crate::failure::{Failure, Status};
-use crate::streams::put_all;
+use console::put_all;
 use std::io::{self, ErrorKind, Write};
 
 /// Tells of a failure, and gives the status. What the stream doesn't take of the line is lost.

@@ -1,5 +1,5 @@
 //! Bytes in, bytes out.
-ghost use Rattle.std.specs.Prelude.{◌≡◌, ◌++◌, ◌<◌, ℕ, List, length, IfSome, IfErr, OnOk, OnErr, IsFalse};
+ghost use Rattle.std.specs.Prelude.{◌≡◌, ◌++◌, ℕ, List, IfSome, IfErr, OnOk, OnErr, IsFalse};
 ghost use Rattle.std.specs.Result.{IsErrOf};
 ghost use Rattle.std.specs.Io.KnownBytes.{Appends};
 ghost use Rattle.console.specs.Lines.{IsLine, ended, Reads, Spells};
@@ -9,26 +9,9 @@ ghost use Rattle.console.specs.Conversations.{Answered, Goes, Halts, Ends, Stops
 use crate::console::Console;
 use crate::fault::{DriveFault, LineFault};
 use crate::replies::{ReplyLine, print_reply};
+use crate::writing::put_all;
 use std::io::{Read, Write};
 use world::{Event, Reply, World};
-
-/// Writes all these bytes. Where that fails, the writer has the first of them.
-fn put_all<W: Write>(writer: &mut W, bytes: &[u8]) -> Result<(), DriveFault>
-    ensures ok { OnOk result (Appends (W.contents writer.old) (W.contents writer.new) bytes.now) }
-    ensures err { OnErr result ((part missing : List ℕ) × (bytes.now ≡ part ++ missing) × (0 < length missing)
-        × Appends (W.contents writer.old) (W.contents writer.new) part) }
-    ensures fault { IfErr result (λ f. f ≡ DriveFault.Write) }
-{
-    let mut rest = bytes;
-    while !rest.is_empty() {
-        match writer.write(rest) {
-            Ok(0) => return Err(DriveFault::Write),
-            Ok(n) => rest = &rest[n..],
-            Err(_) => return Err(DriveFault::Write),
-        }
-    }
-    Ok(())
-}
 
 /// Does what a line says, and gives the line of the reply.
 fn perform(world: &mut World, command: Result<Event, LineFault>) -> ReplyLine

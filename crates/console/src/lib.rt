@@ -9,9 +9,11 @@ mod kind;
 mod laws;
 mod replies;
 mod words;
+mod writing;
 
 pub use console::Console;
 pub use conversation::drive;
 pub use fault::{DriveFault, LineFault};
 pub use laws::one_command;
-pub use replies::{REPLY_LIMIT, ReplyLine, print_reply};
+pub use replies::{REPLY_LIMIT, ReplyLine, name_of_why, print_reply};
+pub use writing::put_all;

@@ -91,8 +91,8 @@ fn name_of_fault(fault: Fault) -> &'static [u8]
     }
 }
 
-/// The name of why code is refused.
-fn name_of_why(why: Why) -> &'static [u8]
+/// The name of why code is refused, as `refused` and `check` tell it.
+pub fn name_of_why(why: Why) -> &'static [u8]
     ensures name { result.now ≡ why_name why }
     ensures short { length result.now ≤ 10 }
 {
