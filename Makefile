@@ -45,8 +45,9 @@ bench: $(PROGRAM)
 	@$(BENCH)/steps
 	@python3 bench/lines.py $(PROGRAM) $(BENCH)/lines
 
-# The program with each of its allocations refused in turn.
+# The program, and a run of commands, with each of their allocations refused in turn.
 refused-growth: $(PROGRAM)
 	@mkdir -p $(BENCH)
+	@cd crates/refused_run && $(RT) run >/dev/null 2>&1
 	@$(CC) -O1 -shared -fPIC -o $(BENCH)/refuse.so tests/refuse.c -ldl
-	@python3 tests/refused_growth.py $(PROGRAM) $(BENCH)/refuse.so
+	@python3 tests/refused_growth.py $(BENCH)/refuse.so $(PROGRAM) crates/refused_run/out/refused_run

@@ -1,11 +1,13 @@
 #!/usr/bin/env python3
-"""Runs the program with each of its allocations refused in turn.
+"""Runs two programs with each of their allocations refused in turn.
 
-refused_growth.py PROGRAM SHIM
+refused_growth.py SHIM PROGRAM RUN
 
 A refusal before the first line ends the program with `no memory` and status 3, and nothing is replied. Any later one is
 answered `nomem`, by `ship` alone, and the run goes on as if that command hadn't come: its other replies are those of the
 same lines without it.
+
+RUN is `refused_run`: a run of commands of which a growth is refused leaves no reply, and the world as it was.
 """
 import os
 import subprocess
@@ -50,8 +52,28 @@ def wanted(program, shim, told):
     return ["nomem" if k in refused else next(replies) for k in range(len(LINES))]
 
 
+DONE = "done, 3 replies, slot 1, fuel 8"
+REFUSED = "refused, 0 replies, slot 0, fuel 10"
+
+
+def refuse_runs(run_program, shim):
+    """How often a run was refused, over all allocations of its program."""
+    refused = 0
+    for at in range(1, 20):
+        env = dict(os.environ, LD_PRELOAD=shim, REFUSE_AT=str(at))
+        done = subprocess.run([run_program], capture_output=True, env=env, timeout=60)
+        said = done.stdout.decode().strip()
+        if said == REFUSED:
+            refused += 1
+        elif said not in (DONE, "no world", "no commands", "done, 3 replies, no machine"):
+            sys.exit(f"allocation {at} of a run refused: {said}")
+    if refused == 0:
+        sys.exit("no run was refused")
+    return refused
+
+
 def main():
-    program, shim = sys.argv[1], os.path.abspath(sys.argv[2])
+    shim, program, run_program = os.path.abspath(sys.argv[1]), sys.argv[2], sys.argv[3]
     with tempfile.NamedTemporaryFile() as file:
         status, whole, errors = run(program, shim, LINES, count=file.name)
         total = int(open(file.name).read())
@@ -70,6 +92,7 @@ def main():
         else:
             sys.exit(f"allocation {at} of {total} refused: status {status}, {told}, {errors!r}")
     print(f"{total} allocations refused in turn: {before} before the first line, {within} by nomem, {unseen} without an effect")
+    print(f"{refuse_runs(run_program, shim)} refusal of a run's growth: no reply, and the world as it was")
 
 
 main()

@@ -1,0 +1,62 @@
+//! A run of commands, and what the world is afterwards. It is run with each of its allocations refused in turn, outside the
+//! gate; here all are granted.
+#![tactic(auto)]
+
+use std::alloc::{AllocError, Global};
+use std::io;
+use world::{Event, Reply, World};
+
+/// R0 = 7, then EXIT.
+const SEVEN: [u8; 16] = [0xb7, 0, 0, 0, 7, 0, 0, 0, 0x95, 0, 0, 0, 0, 0, 0, 0];
+
+/// A world with one machine.
+fn with_machine(alloc: Global) -> Result<World, AllocError> {
+    let mut world = World::new(alloc)?;
+    let code = SEVEN.to_vec(alloc)?;
+    let _ = world.apply(Event::Ship {
+        fuel: 10,
+        arguments: [0; 5],
+        code,
+    });
+    Ok(world)
+}
+
+/// Three commands on that machine.
+fn commands(alloc: Global) -> Result<Vec<Event>, AllocError> {
+    let step = Event::Step { machine: 1 };
+    let again = Event::Step { machine: 1 };
+    Ok(vec![in alloc; step, again, Event::Regs { machine: 1 }]?)
+}
+
+/// Says how the run ended, and shows the machine.
+fn show(
+    rt: &impl Print,
+    ended: Result<(), AllocError>,
+    replies: &[Reply],
+    machine: Reply,
+) -> io::Result<()> {
+    let ended = if ended.is_ok() { "done" } else { "refused" };
+    let count = replies.len();
+    match machine {
+        Reply::Registers(shown) => {
+            let slot = shown.slot;
+            let fuel = shown.fuel;
+            println!(rt; "{ended}, {count} replies, slot {slot}, fuel {fuel}")
+        }
+        _ => println!(rt; "{ended}, {count} replies, no machine"),
+    }
+}
+
+fn main(rt: HostRuntime) -> io::Result<()> {
+    let alloc = rt.alloc();
+    let Ok(mut world) = with_machine(alloc) else {
+        return println!(rt; "no world");
+    };
+    let Ok(events) = commands(alloc) else {
+        return println!(rt; "no commands");
+    };
+    let mut replies = Vec::new(alloc);
+    let ended = world.run(events, &mut replies);
+    let machine = world.apply(Event::Regs { machine: 1 });
+    show(&rt, ended, &replies, machine)
+}
