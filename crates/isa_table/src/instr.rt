@@ -48,14 +48,22 @@ pub enum Binary {
     Arsh,
 }
 
-/// Any arithmetic operation (RFC 9669, section 4.1). `Neg` reads the destination alone; a move with sign extension reads the second operand alone.
+/// Any arithmetic operation that both widths have (RFC 9669, section 4.1). `Neg` reads the destination alone; a move with
+/// sign extension reads the second operand alone.
 #[derive(Clone, Copy, Drop, Debug, PartialEq, Eq)]
 pub enum AluOp {
     Two(Binary),
     Neg,
     MovSx8,
     MovSx16,
-    MovSx32,
+}
+
+/// How many bits an operation works on: all 64, or the low 32 (RFC 9669, sections 4.1 and 4.3: the classes ALU64 and ALU,
+/// JMP and JMP32).
+#[derive(Clone, Copy, Drop, Debug, PartialEq, Eq)]
+pub enum Width {
+    W32,
+    W64,
 }
 
 /// The second operand: a number in the instruction, or a register.
@@ -81,7 +89,7 @@ pub enum Cond {
     SLe,
 }
 
-/// A byte swap's kind (RFC 9669, section 4.2): to little endian (opcode d4), to big endian (dc), or in any case (d7).
+/// A byte swap's order (RFC 9669, section 4.2): to little endian (opcode d4), to big endian (dc), or in any case (d7).
 #[derive(Clone, Copy, Drop, Debug, PartialEq, Eq)]
 pub enum Order {
     Little,
@@ -97,30 +105,63 @@ pub enum SwapWidth {
     W64,
 }
 
-/// An instruction of the table. `wide` says that it works on 64 bits, and not on the low 32. Offsets count slots.
+/// How many bytes an access of memory reads or writes: 1, 2, 4 or 8 (RFC 9669, section 5: B, H, W, DW).
+#[derive(Clone, Copy, Drop, Debug, PartialEq, Eq)]
+pub enum Size {
+    Byte,
+    Half,
+    Word,
+    Double,
+}
+
+/// The sizes that a load extends with the sign (RFC 9669, section 5.2: B, H, W).
+#[derive(Clone, Copy, Drop, Debug, PartialEq, Eq)]
+pub enum SignedSize {
+    Byte,
+    Half,
+    Word,
+}
+
+/// An atomic operation (RFC 9669, section 5.3). Those that begin with `Fetch`, and `Exchange`, give the old value to the
+/// source register, `CompareExchange` gives it to R0.
+#[derive(Clone, Copy, Drop, Debug, PartialEq, Eq)]
+pub enum AtomicOp {
+    Add,
+    Or,
+    And,
+    Xor,
+    FetchAdd,
+    FetchOr,
+    FetchAnd,
+    FetchXor,
+    Exchange,
+    CompareExchange,
+}
+
+/// An instruction of the table. Offsets of jumps and calls count slots, those of memory count bytes.
 #[derive(Clone, Copy, Drop, Debug, PartialEq, Eq)]
 pub enum Instr {
     /// An operation on the destination and a second operand (section 4.1).
     Alu {
-        wide: bool,
+        width: Width,
         op: Binary,
         dst: Reg,
         src: Operand,
     },
     /// The destination with its sign changed (section 4.1).
     Neg {
-        wide: bool,
+        width: Width,
         dst: Reg,
     },
     /// A move of the low 8 bits, sign-extended (section 4.1).
     MovSx8 {
-        wide: bool,
+        width: Width,
         dst: Reg,
         src: Reg,
     },
     /// A move of the low 16 bits, sign-extended (section 4.1).
     MovSx16 {
-        wide: bool,
+        width: Width,
         dst: Reg,
         src: Reg,
     },
@@ -131,25 +172,29 @@ pub enum Instr {
     },
     /// A byte swap of the low bits of the destination (section 4.2).
     End {
-        kind: Order,
+        order: Order,
         width: SwapWidth,
         dst: Reg,
     },
     /// A jump by `offset` slots from the next slot, where the condition holds (section 4.3).
     Jump {
-        wide: bool,
+        width: Width,
         cond: Cond,
         dst: Reg,
         src: Operand,
         offset: i16,
     },
-    /// A jump by `offset` slots, spelt in the offset field (section 4.3).
+    /// A jump by `offset` slots, which stands in the offset field (section 4.3).
     Ja {
         offset: i16,
     },
-    /// A jump by `offset` slots, spelt in the imm field (section 4.3).
+    /// A jump by `offset` slots, which stands in the imm field (section 4.3).
     JaLong {
         offset: i32,
+    },
+    /// A call of the helper function of that number (section 4.3.1).
+    CallHelper {
+        id: i32,
     },
     /// A call of the function `offset` slots from the next slot (section 4.3.2).
     CallLocal {
@@ -157,8 +202,37 @@ pub enum Instr {
     },
     /// The end of a function, or of the program (section 4.3).
     Exit,
+    /// A load from memory at `src` plus `offset`, zero-extended (section 5.1).
+    Load {
+        size: Size,
+        dst: Reg,
+        src: Reg,
+        offset: i16,
+    },
+    /// A load from memory at `src` plus `offset`, sign-extended (section 5.2).
+    LoadSigned {
+        size: SignedSize,
+        dst: Reg,
+        src: Reg,
+        offset: i16,
+    },
+    /// A store of the operand's low bytes to memory at `dst` plus `offset` (section 5.1).
+    Store {
+        size: Size,
+        dst: Reg,
+        src: Operand,
+        offset: i16,
+    },
+    /// An atomic operation on memory at `dst` plus `offset` (section 5.3).
+    Atomic {
+        width: Width,
+        op: AtomicOp,
+        dst: Reg,
+        src: Reg,
+        offset: i16,
+    },
     /// A load of a 64-bit number that stands in the instruction's two slots (section 5.4).
-    LoadWide {
+    LoadImm64 {
         dst: Reg,
         value: u64,
     },

@@ -8,6 +8,8 @@ mod operations;
 mod row_list;
 
 pub use bits64::alu64;
-pub use instr::{AluOp, Binary, Cond, Instr, Operand, Order, Reg, SwapWidth};
+pub use instr::{
+    AluOp, AtomicOp, Binary, Cond, Instr, Operand, Order, Reg, SignedSize, Size, SwapWidth, Width,
+};
 pub use operations::{alu32, holds, swap};
 pub use row_list::rows;
