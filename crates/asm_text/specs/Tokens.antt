@@ -1,0 +1,151 @@
+-- The tokens of a line of assembly. Text is ASCII; tokens are names, numbers and `: , [ ] + -`, each the longest that fits.
+-- Blanks may stand between any two; `#` and `;` begin a comment to the line's end. All of it is this project's choice.
+use Rattle.std.specs.Prelude.{◌≡◌, ◌<◌, ℕ, zero, suc, ◌+◌, ◌-◌, ◌^◌, ◌==◌, ◌&&◌, ◌||◌, nat_lt, Bool, true, false, if◌then◌else◌, List, [], ◌∷◌, length, take, drop, get_or, Option, Some, None}
+use Rattle.std.specs.Char.{is_ascii_alphabetic, is_ascii_digit, is_ascii_hexdigit}
+use Rattle.std.specs.Str.Parse.{digits_value, IsNumeral}
+use Rattle.asm_text.specs.declared.cursor.Tokens.{Tokens}
+use Rattle.asm_text.specs.declared.token.Fault.{Fault}
+use Rattle.asm_text.specs.declared.token.Fault.TheVariants as fault
+use Rattle.asm_text.specs.declared.token.Class.{Class}
+use Rattle.asm_text.specs.declared.token.Class.TheVariants as class
+use Rattle.asm_text.specs.declared.token.Token.{Token}
+use Rattle.asm_text.specs.declared.token.Token.TheVariants as token
+
+-- A token. A name has its bytes, a number its value, or nothing where that is above 2^64 - 1. A stray byte begins no token.
+pub data Lexeme : Type 0 where
+  Name : List ℕ → Lexeme
+  Number : Option ℕ → Lexeme
+  Colon : Lexeme
+  Comma : Lexeme
+  Open : Lexeme
+  Close : Lexeme
+  Plus : Lexeme
+  Minus : Lexeme
+  Stray : Lexeme
+
+-- what is wrong with a token by itself
+abbrev pub fault_in : Lexeme → Option Fault
+fault_in Stray = Some fault.Char
+fault_in (Number None) = Some fault.Number
+fault_in _ = None
+
+-- ---- classes of bytes
+
+abbrev pub is_blank : ℕ → Bool
+is_blank b = b == 32 || b == 9
+
+abbrev pub is_letter : ℕ → Bool
+is_letter b = is_ascii_alphabetic b || b == 95
+
+abbrev pub is_name_byte : ℕ → Bool
+is_name_byte b = is_letter b || is_ascii_digit b
+
+abbrev pub begins_comment : ℕ → Bool
+begins_comment b = b == 35 || b == 59
+
+abbrev pub is_ascii : ℕ → Bool
+is_ascii b = nat_lt b 128
+
+abbrev pub in_class : Class → ℕ → Bool
+in_class class.Blank b = is_blank b
+in_class class.NameByte b = is_name_byte b
+in_class class.Digit b = is_ascii_digit b
+in_class class.HexDigit b = is_ascii_hexdigit b
+in_class class.Ascii b = is_ascii b
+
+-- how many bytes at the front are of the class: the longest run
+abbrev pub run : (ℕ → Bool) → List ℕ → ℕ
+run p [] = 0
+run p (b ∷ bs) = if p b then suc (run p bs) else 0
+
+-- ---- one token
+
+-- `x` and a hex digit
+abbrev pub begins_hex : List ℕ → Bool
+begins_hex [] = false
+begins_hex (x ∷ []) = false
+begins_hex (x ∷ d ∷ bs) = x == 120 && is_ascii_hexdigit d
+
+-- The length of the token at the front: a letter and all name bytes after it; `0x` and all hex digits after it, at
+-- least one; all digits; else one byte.
+unfoldable pub word_length : List ℕ → ℕ
+word_length [] = 0
+word_length (b ∷ bs) =
+    if is_letter b then suc (run is_name_byte bs) else
+    (if b == 48 && begins_hex bs then suc (suc (run is_ascii_hexdigit (drop 1 bs))) else
+    (if is_ascii_digit b then suc (run is_ascii_digit bs) else 1))
+
+abbrev pub bounded : ℕ → Option ℕ
+bounded n = if nat_lt n (2 ^ 64) then Some n else None
+
+-- the value of digits, or of `0x` and hex digits
+abbrev pub number_of : List ℕ → Option ℕ
+number_of word = if get_or word 1 0 == 120 then bounded (digits_value 16 (drop 2 word)) else bounded (digits_value 10 word)
+
+abbrev pub mark_of : ℕ → Lexeme
+mark_of b =
+    if b == 58 then Colon else
+    (if b == 44 then Comma else
+    (if b == 91 then Open else
+    (if b == 93 then Close else
+    (if b == 43 then Plus else
+    (if b == 45 then Minus else Stray)))))
+
+-- the token that the bytes of a token are
+unfoldable pub lexeme_of : List ℕ → Lexeme
+lexeme_of [] = Stray
+lexeme_of (b ∷ bs) =
+    if is_letter b then Name (b ∷ bs) else
+    (if is_ascii_digit b then Number (number_of (b ∷ bs)) else mark_of b)
+
+-- all bytes are ASCII
+abbrev pub is_clean : List ℕ → Bool
+is_clean bs = run is_ascii bs == length bs
+
+-- a comment is no token, but for a byte that isn't ASCII
+abbrev pub comment_of : List ℕ → List Lexeme
+comment_of bs = if is_clean bs then [] else Stray ∷ []
+
+-- ---- all tokens
+
+-- The tokens of these bytes, of which the first `inside` are of a token before them.
+abbrev pub tokens_past : ℕ → List ℕ → List Lexeme
+tokens_past inside [] = []
+tokens_past (suc inside) (b ∷ bs) = tokens_past inside bs
+tokens_past zero (b ∷ bs) =
+    if is_blank b then tokens_past 0 bs else
+    (if begins_comment b then comment_of bs else
+    lexeme_of (take (word_length (b ∷ bs)) (b ∷ bs)) ∷ tokens_past (word_length (b ∷ bs) - 1) bs)
+
+abbrev pub tokens : List ℕ → List Lexeme
+tokens line = tokens_past 0 line
+
+-- where the token that comes next at this place of a line begins
+abbrev pub next_start : ℕ → List ℕ → ℕ
+next_start at line = at + run is_blank (drop at line)
+
+-- ---- the code's values
+
+-- what a token of the code is
+abbrev pub seen : Token → Lexeme
+seen (token.Name w) = Name w.now
+seen (token.Number n) = Number n
+seen token.Colon = Colon
+seen token.Comma = Comma
+seen token.Open = Open
+seen token.Close = Close
+seen token.Plus = Plus
+seen token.Minus = Minus
+seen token.Stray = Stray
+
+-- the tokens that are still to be read
+abbrev pub left : Tokens → List Lexeme
+left t = tokens (drop t.at t.line.now)
+
+-- the bytes of a number
+abbrev pub IsNumber : List ℕ → Type 0
+IsNumber word = ((get_or word 1 0 == 120) ≡ true → IsNumeral 16 (drop 2 word)) × ((get_or word 1 0 == 120) ≡ false → IsNumeral 10 word)
+
+-- the bytes of a token
+abbrev pub IsWord : List ℕ → Type 0
+IsWord word = (0 < length word) × (is_ascii_digit (get_or word 0 0) ≡ true → IsNumber word)
