@@ -1,4 +1,5 @@
 pub mod Words
 pub mod Registers
 pub mod Table
+pub mod Destination
 pub mod Rows

@@ -2,9 +2,9 @@
 ghost use Rattle.std.specs.Prelude.{◌≡◌};
 ghost use Rattle.isa_table.specs.declared.instr.AluOp.TheVariants.{Two};
 ghost use Rattle.isa_table.specs.declared.instr.Binary.TheVariants.{SDiv, SMod};
-ghost use Rattle.isa_table.specs.Table.{alu_row, cond_row};
+ghost use Rattle.isa_table.specs.Table.{alu_row, atomic_row, cond_row};
 
-use crate::instr::{AluOp, Binary, Cond};
+use crate::instr::{AluOp, AtomicOp, Binary, Cond};
 
 /// Rounded toward zero; 0 where s is 0. The least number by -1 is the least number.
 fn signed_quotient(d: u64, s: u64) -> u64
@@ -53,7 +53,6 @@ pub fn alu64(op: AluOp, d: u64, s: u64) -> u64
         AluOp::Two(Binary::Mov) => s,
         AluOp::MovSx8 => (((s & 0xff) as u8).cast_signed() as i64).cast_unsigned(),
         AluOp::MovSx16 => (((s & 0xffff) as u16).cast_signed() as i64).cast_unsigned(),
-        AluOp::MovSx32 => (((s & 0xffff_ffff) as u32).cast_signed() as i64).cast_unsigned(),
         AluOp::Two(Binary::Arsh) => (d.cast_signed() >> (s % 64)).cast_unsigned(),
     }
 }
@@ -74,5 +73,19 @@ pub fn holds64(cond: Cond, d: u64, s: u64) -> bool
         Cond::Le => d <= s,
         Cond::SLt => d.cast_signed() < s.cast_signed(),
         Cond::SLe => d.cast_signed() <= s.cast_signed(),
+    }
+}
+
+/// What the operation writes to memory of 64 bits in place of `old`; `None` where a compare-exchange writes nothing.
+pub fn atomic_of_64(op: AtomicOp, old: u64, src: u64, r0: u64) -> Option<u64>
+    ensures { result ≡ atomic_row 64 op old src r0 }
+{
+    match op {
+        AtomicOp::Add | AtomicOp::FetchAdd => Some(old.wrapping_add(src)),
+        AtomicOp::Or | AtomicOp::FetchOr => Some(old | src),
+        AtomicOp::And | AtomicOp::FetchAnd => Some(old & src),
+        AtomicOp::Xor | AtomicOp::FetchXor => Some(old ^ src),
+        AtomicOp::Exchange => Some(src),
+        AtomicOp::CompareExchange => { if old == r0 { Some(src) } else { None } }
     }
 }

@@ -1,6 +1,8 @@
 //! The instructions. A value of `Instr` is a row of the table with its operands, and nothing else is.
 ghost use Rattle.std.specs.Prelude.{◌≡◌, ◌<◌};
+ghost use Rattle.isa_table.specs.Destination.{destination, old_value_to};
 ghost use Rattle.isa_table.specs.Registers.{register_number};
+ghost use Rattle.isa_table.specs.Table.{size_bytes, size_of_signed, size_of_width};
 
 /// A register, R0 to R10 (RFC 9669, section 3.1).
 #[derive(Clone, Copy, Drop, Debug, PartialEq, Eq)]
@@ -114,12 +116,51 @@ pub enum Size {
     Double,
 }
 
+impl Size {
+    /// The number of bytes.
+    pub fn bytes(self) -> usize
+        ensures { result ≡ size_bytes self }
+    {
+        match self {
+            Size::Byte => 1,
+            Size::Half => 2,
+            Size::Word => 4,
+            Size::Double => 8,
+        }
+    }
+}
+
+impl Width {
+    /// The size of a number of that many bits in memory (RFC 9669, section 5.3: W or DW).
+    pub fn size(self) -> Size
+        ensures { result ≡ size_of_width self }
+    {
+        match self {
+            Width::W32 => Size::Word,
+            Width::W64 => Size::Double,
+        }
+    }
+}
+
 /// The sizes that a load extends with the sign (RFC 9669, section 5.2: B, H, W).
 #[derive(Clone, Copy, Drop, Debug, PartialEq, Eq)]
 pub enum SignedSize {
     Byte,
     Half,
     Word,
+}
+
+impl SignedSize {
+    /// The same size.
+    pub fn size(self) -> Size
+        ensures { result ≡ size_of_signed self }
+    {
+        match self {
+            SignedSize::Byte => Size::Byte,
+            SignedSize::Half => Size::Half,
+            SignedSize::Word => Size::Word,
+        }
+    }
 }
 
 /// An atomic operation (RFC 9669, section 5.3). Those that begin with `Fetch`, and `Exchange`, give the old value to the
@@ -136,6 +177,24 @@ pub enum AtomicOp {
     FetchXor,
     Exchange,
     CompareExchange,
+}
+
+impl AtomicOp {
+    /// The register that the old value is loaded into, where `src` is the instruction's source register; none where the
+    /// old value isn't loaded.
+    pub fn old_value_to(self, src: Reg) -> Option<Reg>
+        ensures { result ≡ old_value_to self src }
+    {
+        match self {
+            AtomicOp::Add | AtomicOp::Or | AtomicOp::And | AtomicOp::Xor => None,
+            AtomicOp::FetchAdd
+            | AtomicOp::FetchOr
+            | AtomicOp::FetchAnd
+            | AtomicOp::FetchXor
+            | AtomicOp::Exchange => Some(src),
+            AtomicOp::CompareExchange => Some(Reg::R0),
+        }
+    }
 }
 
 /// An instruction of the table. Offsets of jumps and calls count slots, those of memory count bytes.
@@ -236,4 +295,32 @@ pub enum Instr {
         dst: Reg,
         value: u64,
     },
+}
+
+impl Instr {
+    /// The register that the instruction writes; none where it writes none. What a local call and an exit do to the
+    /// registers of the functions isn't counted.
+    pub fn destination(&self) -> Option<Reg>
+        ensures { result ≡ destination self.now }
+    {
+        match *self {
+            Instr::Alu { dst, .. }
+            | Instr::Neg { dst, .. }
+            | Instr::MovSx8 { dst, .. }
+            | Instr::MovSx16 { dst, .. }
+            | Instr::MovSx32 { dst, .. }
+            | Instr::End { dst, .. }
+            | Instr::Load { dst, .. }
+            | Instr::LoadSigned { dst, .. }
+            | Instr::LoadImm64 { dst, .. } => Some(dst),
+            Instr::Atomic { op, src, .. } => op.old_value_to(src),
+            Instr::CallHelper { .. } => Some(Reg::R0),
+            Instr::Jump { .. }
+            | Instr::Ja { .. }
+            | Instr::JaLong { .. }
+            | Instr::CallLocal { .. }
+            | Instr::Exit
+            | Instr::Store { .. } => None,
+        }
+    }
 }

@@ -1,11 +1,18 @@
 //! What the operations compute. Each function is total: no operand traps.
-ghost use Rattle.std.specs.Prelude.{◌≡◌};
+ghost use Rattle.std.specs.Prelude.{◌≡◌, ◌<◌, ◌^◌};
 ghost use Rattle.isa_table.specs.Words.{unsigned};
-ghost use Rattle.isa_table.specs.Table.{alu_row, cond_row, width_of, swap_row};
+ghost use Rattle.isa_table.specs.Table.{
+  alu_row,
+  atomic_row,
+  cond_row,
+  mov_sx32_row,
+  swap_row,
+  width_bits,
+};
 
-use crate::bits32::{alu_of_32, holds32};
-use crate::bits64::holds64;
-use crate::instr::{AluOp, Cond, Order, SwapWidth};
+use crate::bits32::{alu_of_32, atomic_of_32, holds32};
+use crate::bits64::{atomic_of_64, holds64};
+use crate::instr::{AluOp, AtomicOp, Cond, Order, SwapWidth, Width};
 
 /// The operation on the low 32 bits (RFC 9669, section 4.1, class ALU); the upper half of the answer is zero.
 pub fn alu32(op: AluOp, d: u64, s: u64) -> u64
@@ -14,11 +21,18 @@ pub fn alu32(op: AluOp, d: u64, s: u64) -> u64
     alu_of_32(op, (d & 0xffff_ffff) as u32, (s & 0xffff_ffff) as u32) as u64
 }
 
-/// The low bytes of d in the order that the kind names (RFC 9669, section 4.2), on a host that keeps the lowest first.
-pub fn swap(kind: Order, width: SwapWidth, d: u64) -> u64
-    ensures { result ≡ swap_row kind width d }
+/// The low 32 bits, sign-extended to 64 (RFC 9669, section 4.1).
+pub fn mov_sx32(s: u64) -> u64
+    ensures { result ≡ mov_sx32_row s }
 {
-    match (kind, width) {
+    (((s & 0xffff_ffff) as u32).cast_signed() as i64).cast_unsigned()
+}
+
+/// The low bytes of d in the order named (RFC 9669, section 4.2), on a host that keeps the lowest first.
+pub fn swap(order: Order, width: SwapWidth, d: u64) -> u64
+    ensures { result ≡ swap_row order width d }
+{
+    match (order, width) {
         (Order::Little, SwapWidth::W16) => d & 0xffff,
         (Order::Little, SwapWidth::W32) => d & 0xffff_ffff,
         (Order::Little, SwapWidth::W64) => d,
@@ -28,13 +42,41 @@ pub fn swap(kind: Order, width: SwapWidth, d: u64) -> u64
     }
 }
 
-/// Whether the condition holds of all 64 bits, or of the low 32 (RFC 9669, section 4.3).
-pub fn holds(cond: Cond, wide: bool, d: u64, s: u64) -> bool
-    ensures { result ≡ cond_row (width_of wide) cond (unsigned (width_of wide) d) (unsigned (width_of wide) s) }
+/// Whether the condition holds of the low bits (RFC 9669, section 4.3).
+pub fn holds(cond: Cond, width: Width, d: u64, s: u64) -> bool
+    ensures { result
+        ≡ cond_row (width_bits width) cond (unsigned (width_bits width) d) (
+        unsigned (width_bits width) s
+        ) }
 {
-    if wide {
-        holds64(cond, d, s)
-    } else {
-        holds32(cond, (d & 0xffff_ffff) as u32, (s & 0xffff_ffff) as u32)
+    match width {
+        Width::W64 => holds64(cond, d, s),
+        Width::W32 => holds32(cond, (d & 0xffff_ffff) as u32, (s & 0xffff_ffff) as u32),
+    }
+}
+
+/// What the operation writes to memory in place of `old`, from the low bits of the source register and of R0 (RFC 9669,
+/// section 5.3). `None` is a compare-exchange that finds another number than R0's, and writes nothing.
+pub fn atomic(op: AtomicOp, width: Width, old: u64, src: u64, r0: u64) -> Option<u64>
+    requires { old < 2 ^ width_bits width }
+    ensures { result
+        ≡ atomic_row (width_bits width) op old (unsigned (width_bits width) src) (
+        unsigned (width_bits width) r0
+        ) }
+{
+    match width {
+        Width::W64 => atomic_of_64(op, old, src, r0),
+        Width::W32 => {
+            let new = atomic_of_32(
+                op,
+                old as u32,
+                (src & 0xffff_ffff) as u32,
+                (r0 & 0xffff_ffff) as u32,
+            );
+            match new {
+                Some(new) => Some(new as u64),
+                None => None,
+            }
+        }
     }
 }

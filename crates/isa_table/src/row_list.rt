@@ -1,120 +1,130 @@
-//! One instruction for each row of the table.
+//! One instruction for each row of the table, those of one opcode side by side.
 ghost use Rattle.std.specs.Prelude.{◌≡◌, ◌≢◌, All, AllPairs, Contains};
 ghost use Rattle.isa_table.specs.declared.instr.Instr.{Instr};
-ghost use Rattle.isa_table.specs.Rows.{row_of};
+ghost use Rattle.isa_table.specs.Rows.{all_rows, row_of};
 
-use crate::instr::{Binary, Cond, Instr, Operand, Order, Reg, SwapWidth};
+use crate::instr::{
+    AtomicOp, Binary, Cond, Instr, Operand, Order, Reg, SignedSize, Size, SwapWidth, Width,
+};
 
 const NUMBER: Operand = Operand::Imm(0);
 
 const REGISTER: Operand = Operand::Register(Reg::R1);
 
 macro_rules! alu {
-    ($wide:expr, $op:ident, $src:expr) => {
-        Instr::Alu { wide: $wide, op: Binary::$op, dst: Reg::R0, src: $src }
+    ($width:ident, $op:ident, $src:expr) => {
+        Instr::Alu { width: Width::$width, op: Binary::$op, dst: Reg::R0, src: $src }
+    };
+}
+
+macro_rules! mov_sx {
+    ($row:ident, $width:ident) => {
+        Instr::$row { width: Width::$width, dst: Reg::R0, src: Reg::R1 }
     };
 }
 
 macro_rules! end {
-    ($kind:ident, $width:ident) => {
-        Instr::End { kind: Order::$kind, width: SwapWidth::$width, dst: Reg::R0 }
+    ($order:ident, $width:ident) => {
+        Instr::End { order: Order::$order, width: SwapWidth::$width, dst: Reg::R0 }
     };
 }
 
 macro_rules! jump {
-    ($wide:expr, $cond:ident, $src:expr) => {
-        Instr::Jump { wide: $wide, cond: Cond::$cond, dst: Reg::R0, src: $src, offset: 0 }
+    ($width:ident, $cond:ident, $src:expr) => {
+        Instr::Jump { width: Width::$width, cond: Cond::$cond, dst: Reg::R0, src: $src, offset: 0 }
     };
 }
 
-const ROWS: [Instr; 121] = [
-    alu!(true, Add, NUMBER),
-    alu!(true, Add, REGISTER),
-    alu!(true, Sub, NUMBER),
-    alu!(true, Sub, REGISTER),
-    alu!(true, Mul, NUMBER),
-    alu!(true, Mul, REGISTER),
-    alu!(true, Div, NUMBER),
-    alu!(true, Div, REGISTER),
-    alu!(true, SDiv, NUMBER),
-    alu!(true, SDiv, REGISTER),
-    alu!(true, Or, NUMBER),
-    alu!(true, Or, REGISTER),
-    alu!(true, And, NUMBER),
-    alu!(true, And, REGISTER),
-    alu!(true, Lsh, NUMBER),
-    alu!(true, Lsh, REGISTER),
-    alu!(true, Rsh, NUMBER),
-    alu!(true, Rsh, REGISTER),
-    alu!(true, Mod, NUMBER),
-    alu!(true, Mod, REGISTER),
-    alu!(true, SMod, NUMBER),
-    alu!(true, SMod, REGISTER),
-    alu!(true, Xor, NUMBER),
-    alu!(true, Xor, REGISTER),
-    alu!(true, Mov, NUMBER),
-    alu!(true, Mov, REGISTER),
-    alu!(true, Arsh, NUMBER),
-    alu!(true, Arsh, REGISTER),
-    alu!(false, Add, NUMBER),
-    alu!(false, Add, REGISTER),
-    alu!(false, Sub, NUMBER),
-    alu!(false, Sub, REGISTER),
-    alu!(false, Mul, NUMBER),
-    alu!(false, Mul, REGISTER),
-    alu!(false, Div, NUMBER),
-    alu!(false, Div, REGISTER),
-    alu!(false, SDiv, NUMBER),
-    alu!(false, SDiv, REGISTER),
-    alu!(false, Or, NUMBER),
-    alu!(false, Or, REGISTER),
-    alu!(false, And, NUMBER),
-    alu!(false, And, REGISTER),
-    alu!(false, Lsh, NUMBER),
-    alu!(false, Lsh, REGISTER),
-    alu!(false, Rsh, NUMBER),
-    alu!(false, Rsh, REGISTER),
-    alu!(false, Mod, NUMBER),
-    alu!(false, Mod, REGISTER),
-    alu!(false, SMod, NUMBER),
-    alu!(false, SMod, REGISTER),
-    alu!(false, Xor, NUMBER),
-    alu!(false, Xor, REGISTER),
-    alu!(false, Mov, NUMBER),
-    alu!(false, Mov, REGISTER),
-    alu!(false, Arsh, NUMBER),
-    alu!(false, Arsh, REGISTER),
-    Instr::Neg {
-        wide: true,
-        dst: Reg::R0,
-    },
-    Instr::Neg {
-        wide: false,
-        dst: Reg::R0,
-    },
-    Instr::MovSx8 {
-        wide: true,
-        dst: Reg::R0,
-        src: Reg::R1,
-    },
-    Instr::MovSx8 {
-        wide: false,
-        dst: Reg::R0,
-        src: Reg::R1,
-    },
-    Instr::MovSx16 {
-        wide: true,
-        dst: Reg::R0,
-        src: Reg::R1,
-    },
-    Instr::MovSx16 {
-        wide: false,
-        dst: Reg::R0,
-        src: Reg::R1,
-    },
+macro_rules! load {
+    ($row:ident, $sizes:ident, $size:ident) => {
+        Instr::$row { size: $sizes::$size, dst: Reg::R0, src: Reg::R1, offset: 0 }
+    };
+}
+
+macro_rules! store {
+    ($size:ident, $src:expr) => {
+        Instr::Store { size: Size::$size, dst: Reg::R0, src: $src, offset: 0 }
+    };
+}
+
+macro_rules! atomic {
+    ($width:ident, $op:ident) => {
+        Instr::Atomic { width: Width::$width, op: AtomicOp::$op, dst: Reg::R0, src: Reg::R1, offset: 0 }
+    };
+}
+
+const ROWS: [Instr; 157] = [
+    alu!(W64, Add, NUMBER),
+    alu!(W64, Sub, NUMBER),
+    alu!(W64, Mul, NUMBER),
+    alu!(W64, Div, NUMBER),
+    alu!(W64, SDiv, NUMBER),
+    alu!(W64, Or, NUMBER),
+    alu!(W64, And, NUMBER),
+    alu!(W64, Lsh, NUMBER),
+    alu!(W64, Rsh, NUMBER),
+    alu!(W64, Mod, NUMBER),
+    alu!(W64, SMod, NUMBER),
+    alu!(W64, Xor, NUMBER),
+    alu!(W64, Arsh, NUMBER),
+    alu!(W64, Mov, NUMBER),
+    alu!(W64, Add, REGISTER),
+    alu!(W64, Sub, REGISTER),
+    alu!(W64, Mul, REGISTER),
+    alu!(W64, Div, REGISTER),
+    alu!(W64, SDiv, REGISTER),
+    alu!(W64, Or, REGISTER),
+    alu!(W64, And, REGISTER),
+    alu!(W64, Lsh, REGISTER),
+    alu!(W64, Rsh, REGISTER),
+    alu!(W64, Mod, REGISTER),
+    alu!(W64, SMod, REGISTER),
+    alu!(W64, Xor, REGISTER),
+    alu!(W64, Arsh, REGISTER),
+    alu!(W64, Mov, REGISTER),
+    mov_sx!(MovSx8, W64),
+    mov_sx!(MovSx16, W64),
     Instr::MovSx32 {
         dst: Reg::R0,
         src: Reg::R1,
+    },
+    Instr::Neg {
+        width: Width::W64,
+        dst: Reg::R0,
+    },
+    alu!(W32, Add, NUMBER),
+    alu!(W32, Sub, NUMBER),
+    alu!(W32, Mul, NUMBER),
+    alu!(W32, Div, NUMBER),
+    alu!(W32, SDiv, NUMBER),
+    alu!(W32, Or, NUMBER),
+    alu!(W32, And, NUMBER),
+    alu!(W32, Lsh, NUMBER),
+    alu!(W32, Rsh, NUMBER),
+    alu!(W32, Mod, NUMBER),
+    alu!(W32, SMod, NUMBER),
+    alu!(W32, Xor, NUMBER),
+    alu!(W32, Arsh, NUMBER),
+    alu!(W32, Mov, NUMBER),
+    alu!(W32, Add, REGISTER),
+    alu!(W32, Sub, REGISTER),
+    alu!(W32, Mul, REGISTER),
+    alu!(W32, Div, REGISTER),
+    alu!(W32, SDiv, REGISTER),
+    alu!(W32, Or, REGISTER),
+    alu!(W32, And, REGISTER),
+    alu!(W32, Lsh, REGISTER),
+    alu!(W32, Rsh, REGISTER),
+    alu!(W32, Mod, REGISTER),
+    alu!(W32, SMod, REGISTER),
+    alu!(W32, Xor, REGISTER),
+    alu!(W32, Arsh, REGISTER),
+    alu!(W32, Mov, REGISTER),
+    mov_sx!(MovSx8, W32),
+    mov_sx!(MovSx16, W32),
+    Instr::Neg {
+        width: Width::W32,
+        dst: Reg::R0,
     },
     end!(Little, W16),
     end!(Little, W32),
@@ -125,62 +135,100 @@ const ROWS: [Instr; 121] = [
     end!(Swapped, W16),
     end!(Swapped, W32),
     end!(Swapped, W64),
-    jump!(true, Eq, NUMBER),
-    jump!(true, Eq, REGISTER),
-    jump!(true, Gt, NUMBER),
-    jump!(true, Gt, REGISTER),
-    jump!(true, Ge, NUMBER),
-    jump!(true, Ge, REGISTER),
-    jump!(true, Set, NUMBER),
-    jump!(true, Set, REGISTER),
-    jump!(true, Ne, NUMBER),
-    jump!(true, Ne, REGISTER),
-    jump!(true, SGt, NUMBER),
-    jump!(true, SGt, REGISTER),
-    jump!(true, SGe, NUMBER),
-    jump!(true, SGe, REGISTER),
-    jump!(true, Lt, NUMBER),
-    jump!(true, Lt, REGISTER),
-    jump!(true, Le, NUMBER),
-    jump!(true, Le, REGISTER),
-    jump!(true, SLt, NUMBER),
-    jump!(true, SLt, REGISTER),
-    jump!(true, SLe, NUMBER),
-    jump!(true, SLe, REGISTER),
-    jump!(false, Eq, NUMBER),
-    jump!(false, Eq, REGISTER),
-    jump!(false, Gt, NUMBER),
-    jump!(false, Gt, REGISTER),
-    jump!(false, Ge, NUMBER),
-    jump!(false, Ge, REGISTER),
-    jump!(false, Set, NUMBER),
-    jump!(false, Set, REGISTER),
-    jump!(false, Ne, NUMBER),
-    jump!(false, Ne, REGISTER),
-    jump!(false, SGt, NUMBER),
-    jump!(false, SGt, REGISTER),
-    jump!(false, SGe, NUMBER),
-    jump!(false, SGe, REGISTER),
-    jump!(false, Lt, NUMBER),
-    jump!(false, Lt, REGISTER),
-    jump!(false, Le, NUMBER),
-    jump!(false, Le, REGISTER),
-    jump!(false, SLt, NUMBER),
-    jump!(false, SLt, REGISTER),
-    jump!(false, SLe, NUMBER),
-    jump!(false, SLe, REGISTER),
+    jump!(W64, Eq, NUMBER),
+    jump!(W64, Gt, NUMBER),
+    jump!(W64, Ge, NUMBER),
+    jump!(W64, Set, NUMBER),
+    jump!(W64, Ne, NUMBER),
+    jump!(W64, SGt, NUMBER),
+    jump!(W64, SGe, NUMBER),
+    jump!(W64, Lt, NUMBER),
+    jump!(W64, Le, NUMBER),
+    jump!(W64, SLt, NUMBER),
+    jump!(W64, SLe, NUMBER),
+    jump!(W64, Eq, REGISTER),
+    jump!(W64, Gt, REGISTER),
+    jump!(W64, Ge, REGISTER),
+    jump!(W64, Set, REGISTER),
+    jump!(W64, Ne, REGISTER),
+    jump!(W64, SGt, REGISTER),
+    jump!(W64, SGe, REGISTER),
+    jump!(W64, Lt, REGISTER),
+    jump!(W64, Le, REGISTER),
+    jump!(W64, SLt, REGISTER),
+    jump!(W64, SLe, REGISTER),
+    jump!(W32, Eq, NUMBER),
+    jump!(W32, Gt, NUMBER),
+    jump!(W32, Ge, NUMBER),
+    jump!(W32, Set, NUMBER),
+    jump!(W32, Ne, NUMBER),
+    jump!(W32, SGt, NUMBER),
+    jump!(W32, SGe, NUMBER),
+    jump!(W32, Lt, NUMBER),
+    jump!(W32, Le, NUMBER),
+    jump!(W32, SLt, NUMBER),
+    jump!(W32, SLe, NUMBER),
+    jump!(W32, Eq, REGISTER),
+    jump!(W32, Gt, REGISTER),
+    jump!(W32, Ge, REGISTER),
+    jump!(W32, Set, REGISTER),
+    jump!(W32, Ne, REGISTER),
+    jump!(W32, SGt, REGISTER),
+    jump!(W32, SGe, REGISTER),
+    jump!(W32, Lt, REGISTER),
+    jump!(W32, Le, REGISTER),
+    jump!(W32, SLt, REGISTER),
+    jump!(W32, SLe, REGISTER),
     Instr::Ja { offset: 0 },
     Instr::JaLong { offset: 0 },
+    Instr::CallHelper { id: 0 },
     Instr::CallLocal { offset: 0 },
     Instr::Exit,
-    Instr::LoadWide {
+    load!(Load, Size, Byte),
+    load!(Load, Size, Half),
+    load!(Load, Size, Word),
+    load!(Load, Size, Double),
+    load!(LoadSigned, SignedSize, Byte),
+    load!(LoadSigned, SignedSize, Half),
+    load!(LoadSigned, SignedSize, Word),
+    store!(Byte, NUMBER),
+    store!(Half, NUMBER),
+    store!(Word, NUMBER),
+    store!(Double, NUMBER),
+    store!(Byte, REGISTER),
+    store!(Half, REGISTER),
+    store!(Word, REGISTER),
+    store!(Double, REGISTER),
+    atomic!(W64, Add),
+    atomic!(W64, Or),
+    atomic!(W64, And),
+    atomic!(W64, Xor),
+    atomic!(W64, FetchAdd),
+    atomic!(W64, FetchOr),
+    atomic!(W64, FetchAnd),
+    atomic!(W64, FetchXor),
+    atomic!(W64, Exchange),
+    atomic!(W64, CompareExchange),
+    atomic!(W32, Add),
+    atomic!(W32, Or),
+    atomic!(W32, And),
+    atomic!(W32, Xor),
+    atomic!(W32, FetchAdd),
+    atomic!(W32, FetchOr),
+    atomic!(W32, FetchAnd),
+    atomic!(W32, FetchXor),
+    atomic!(W32, Exchange),
+    atomic!(W32, CompareExchange),
+    Instr::LoadImm64 {
         dst: Reg::R0,
         value: 0,
     },
 ];
 
-/// The rows of the table, each as one instruction: destination r0, source r1, and numbers 0.
+/// The rows of the table, each as one instruction: destination r0, source r1, and numbers 0. Rows of one opcode stand side
+/// by side.
 pub fn rows() -> &'static [Instr]
+    ensures listed { result.now ≡ all_rows }
     // No row is missing.
     ensures complete { (i : Instr) → Contains result.now (row_of i) }
     // Each element is a row.
