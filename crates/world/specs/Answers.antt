@@ -1,89 +1,126 @@
--- What the commands do: which reply each may have, and to which state it leads.
-use Rattle.std.specs.Prelude.{◌≡◌, ◌≢◌, ◌<◌, ◌≤◌, ℕ, zero, suc, ◌+◌, ◌-◌, List, [], ◌∷◌, ◌++◌, length, slice_get, slice_set, Option, Some, None}
+-- What the commands do: which reply each may have, and to which state it leads. Refusals change nothing, and are tested in the order written.
+use Rattle.std.specs.Prelude.{◌≡◌, ◌≢◌, ◌<◌, ◌≤◌, ℕ, ◌+◌, List, [], ◌∷◌, ◌++◌, length, take, drop, replicate, Option, Some, None}
 use Rattle.loader.specs.ValidCode.{ValidCode}
-use Rattle.loader.specs.Refusals.{Refuses}
+use Rattle.loader.specs.Refusals.{HasCodeSize, Refuses}
 use Rattle.loader.specs.declared.loading.Why.TheVariants as why
+use Rattle.object_store.specs.Access.{replaced}
+use Rattle.object_store.specs.Objects.{bytes_of, with_bytes, map_memory}
 use Rattle.machine.specs.MachineState.{MachineState, start}
 use Rattle.machine.specs.TableStep.{TableStep}
+use Rattle.machine.specs.declared.state.Written.{Written}
 use Rattle.machine.specs.declared.state.Stepped.{Stepped}
 use Rattle.machine.specs.declared.state.Stepped.TheVariants as stepped
-use Rattle.world.specs.declared.events.Event.{Event}
-use Rattle.world.specs.declared.events.Event.TheVariants as event
-use Rattle.world.specs.declared.events.Shown.{Shown}
+use Rattle.world.specs.declared.shown.Shown.{Shown}
 use Rattle.world.specs.declared.events.Reply.{Reply}
-use Rattle.world.specs.declared.events.Reply.TheVariants.{Shipped, NoMemory, Full, Refused, Ran, Stopped, Registers, Missing}
+use Rattle.world.specs.declared.events.Reply.TheVariants.{Made, Freed, Done, Bytes, Shipped, Ran, Waiting, Stopped, Registers, Emitted, NoMemory, Full, Outside, Refused, Missing}
+use Rattle.world.specs.Commands.{Command}
+use Rattle.world.specs.Commands.Command.{Make, Free, Put, Get, Ship, Step, Regs, Out, Stack}
+use Rattle.world.specs.WorldState.{WorldState, HasMachineRoom, machine_at, with_machine, next_object, HasObjectRoom}
 
-pub data Command : Type 0 where
-  -- fuel, five arguments, code
-  Ship : ℕ → List ℕ → List ℕ → Command
-  Step : ℕ → Command
-  Regs : ℕ → Command
+-- ---- ranges of bytes
 
--- the command that an event carries
-abbrev pub command_of : Event → Command
-command_of (event.Ship fuel arguments code) = Ship fuel arguments code.items
-command_of (event.Step m) = Step m
-command_of (event.Regs m) = Regs m
+-- so many bytes from an offset on are within these
+abbrev pub IsWithin : ℕ → ℕ → List ℕ → Type 0
+IsWithin offset size bytes = offset + size ≤ length bytes
 
--- the machines that were shipped, in order
-pub record WorldState : Type 0 where
-  pub machines : List MachineState
+abbrev pub range : ℕ → ℕ → List ℕ → List ℕ
+range offset size bytes = take size (drop offset bytes)
 
-abbrev pub world_start : WorldState
-world_start = record { machines = [] }
+-- ---- objects
 
--- at most so many machines are ever shipped
-abbrev pub machine_limit : ℕ
-machine_limit = 48
+-- an object of so many zero bytes, of the next number
+abbrev pub AnswersMake : WorldState → ℕ → Reply → WorldState → Type 0
+AnswersMake old size Full new = (HasObjectRoom old → ⊥) × (new ≡ old)
+AnswersMake old size NoMemory new = HasObjectRoom old × (new ≡ old)
+AnswersMake old size (Made n) new = HasObjectRoom old × (n ≡ next_object old) × (new ≡ record old { objects = old.objects ++ replicate size 0 ∷ [] })
+AnswersMake old size _ new = ⊥
 
-abbrev pub HasRoom : WorldState → Type 0
-HasRoom w = length w.machines < machine_limit
+-- a number without bytes is no object
+abbrev pub IsLive : WorldState → ℕ → Type 0
+IsLive w n = 0 < length (bytes_of w.objects n)
 
--- Machines are numbered from 1, in the order in which they were shipped.
-abbrev pub machine_at : WorldState → ℕ → Option MachineState
-machine_at w zero = None
-machine_at w (suc n) = slice_get w.machines n
+-- the object is no more, and no other will have its number
+abbrev pub AnswersFree : WorldState → ℕ → Reply → WorldState → Type 0
+AnswersFree old n Missing new = (IsLive old n → ⊥) × (new ≡ old)
+AnswersFree old n (Freed k) new = IsLive old n × (k ≡ n) × (new ≡ record old { objects = with_bytes old.objects n [] })
+AnswersFree old n _ new = ⊥
 
-abbrev pub with_machine : WorldState → ℕ → MachineState → WorldState
-with_machine w m state = record w { machines = slice_set w.machines (m - 1) state }
+-- The bytes are written over those from the offset on. They take memory before they are in a command, so `nomem` may come first.
+abbrev pub AnswersPut : WorldState → ℕ → ℕ → List ℕ → Reply → WorldState → Type 0
+AnswersPut old n offset bytes NoMemory new = new ≡ old
+AnswersPut old n offset bytes Outside new = (IsWithin offset (length bytes) (bytes_of old.objects n) → ⊥) × (new ≡ old)
+AnswersPut old n offset bytes Done new = IsWithin offset (length bytes) (bytes_of old.objects n)
+    × (new ≡ record old { objects = with_bytes old.objects n (replaced offset bytes (bytes_of old.objects n)) })
+AnswersPut old n offset bytes _ new = ⊥
 
--- Machine m makes one step of the table, with this answer and to this state. The other machines stay as they are.
+-- the bytes of the range
+abbrev pub AnswersGet : WorldState → ℕ → ℕ → ℕ → Reply → WorldState → Type 0
+AnswersGet old n offset size Outside new = (IsWithin offset size (bytes_of old.objects n) → ⊥) × (new ≡ old)
+AnswersGet old n offset size NoMemory new = IsWithin offset size (bytes_of old.objects n) × (new ≡ old)
+AnswersGet old n offset size (Bytes shown) new = IsWithin offset size (bytes_of old.objects n) × (shown ≡ range offset size (bytes_of old.objects n)) × (new ≡ old)
+AnswersGet old n offset size _ new = ⊥
+
+-- ---- machines
+
+-- a machine at the start of the code, of the next number; code that is empty or too long takes no memory
+abbrev pub AnswersShip : WorldState → ℕ → List ℕ → List ℕ → Reply → WorldState → Type 0
+AnswersShip old fuel arguments code Full new = (HasMachineRoom old → ⊥) × (new ≡ old)
+AnswersShip old fuel arguments code (Refused e) new = HasMachineRoom old × Refuses code e.slot e.why × (e.why ≢ why.Memory) × (new ≡ old)
+AnswersShip old fuel arguments code NoMemory new = HasMachineRoom old × HasCodeSize code × (new ≡ old)
+AnswersShip old fuel arguments code (Shipped m) new = HasMachineRoom old × ValidCode code × (m ≡ length old.machines + 1)
+    × (new ≡ record old { machines = old.machines ++ start m code fuel arguments ∷ [] })
+AnswersShip old fuel arguments code _ new = ⊥
+
+-- Machine m makes one step of the table over the objects, with this answer and to this state. The other machines stay as they are.
 pub record StepsMachine (old : WorldState) (m : ℕ) (answer : Stepped) (after : MachineState) (new : WorldState) : Type 0 where
   pub before : MachineState
   pub found : machine_at old m ≡ Some before
-  pub step : TableStep before answer after
-  pub changed : new ≡ with_machine old m after
+  pub step : TableStep map_memory before old.objects answer after new.objects
+  pub changed : new ≡ with_machine (record old { objects = new.objects }) m after
+
+-- one step of the table
+abbrev pub AnswersStep : WorldState → ℕ → Reply → WorldState → Type 0
+AnswersStep old m Missing new = (machine_at old m ≡ None) × (new ≡ old)
+AnswersStep old m (Ran k slot) new = (k ≡ m) × ((wrote : Option Written) × (after : MachineState) × StepsMachine old m (stepped.Ran wrote) after new × (slot ≡ after.slot))
+AnswersStep old m (Waiting k n) new = (k ≡ m) × ((after : MachineState) × StepsMachine old m (stepped.Waiting n) after new)
+AnswersStep old m (Stopped k stop) new = (k ≡ m) × ((after : MachineState) × StepsMachine old m (stepped.Stopped stop) after new)
+AnswersStep old m _ new = ⊥
 
 -- what is shown of a machine is its state
 abbrev pub shown_of : ℕ → MachineState → Shown
 shown_of m state = record { machine = m; slot = state.slot; fuel = state.fuel; stop = state.stop; registers = state.registers }
 
--- From old, the command may have this reply and lead to new. Refusals change nothing, and are tested in the order written.
+-- registers, slot, fuel and stop
+abbrev pub AnswersRegs : WorldState → ℕ → Reply → WorldState → Type 0
+AnswersRegs old m Missing new = (machine_at old m ≡ None) × (new ≡ old)
+AnswersRegs old m (Registers shown) new = ((state : MachineState) × (machine_at old m ≡ Some state) × (shown ≡ shown_of m state)) × (new ≡ old)
+AnswersRegs old m _ new = ⊥
+
+-- the values that the machine emitted, the oldest first
+abbrev pub AnswersOut : WorldState → ℕ → Reply → WorldState → Type 0
+AnswersOut old m Missing new = (machine_at old m ≡ None) × (new ≡ old)
+AnswersOut old m (Emitted k values) new = (k ≡ m) × ((state : MachineState) × (machine_at old m ≡ Some state) × (values ≡ state.emitted)) × (new ≡ old)
+AnswersOut old m _ new = ⊥
+
+-- the bytes of the range of the machine's stack
+abbrev pub AnswersStack : WorldState → ℕ → ℕ → ℕ → Reply → WorldState → Type 0
+AnswersStack old m offset size Missing new = (machine_at old m ≡ None) × (new ≡ old)
+AnswersStack old m offset size Outside new = ((state : MachineState) × (machine_at old m ≡ Some state) × (IsWithin offset size state.stack → ⊥)) × (new ≡ old)
+AnswersStack old m offset size NoMemory new = ((state : MachineState) × (machine_at old m ≡ Some state) × IsWithin offset size state.stack) × (new ≡ old)
+AnswersStack old m offset size (Bytes shown) new =
+    ((state : MachineState) × (machine_at old m ≡ Some state) × IsWithin offset size state.stack × (shown ≡ range offset size state.stack)) × (new ≡ old)
+AnswersStack old m offset size _ new = ⊥
+
+-- ---- commands
+
+-- From old, the command may have this reply and lead to new.
 abbrev pub Answers : WorldState → Command → Reply → WorldState → Type 0
--- `nomem` may come in place of any other answer to `ship`
-Answers old (Ship fuel arguments code) NoMemory new = new ≡ old
-Answers old (Ship fuel arguments code) Full new = (machine_limit ≤ length old.machines) × (new ≡ old)
-Answers old (Ship fuel arguments code) (Refused e) new = HasRoom old × Refuses code e.slot e.why × (e.why ≢ why.Memory) × (new ≡ old)
-Answers old (Ship fuel arguments code) (Shipped m) new = HasRoom old × ValidCode code × (m ≡ length old.machines + 1)
-    × (new ≡ record old { machines = old.machines ++ start m code fuel arguments ∷ [] })
-Answers old (Step m) Missing new = (machine_at old m ≡ None) × (new ≡ old)
-Answers old (Step m) (Ran k slot) new = (k ≡ m) × ((after : MachineState) × StepsMachine old m stepped.Ran after new × (slot ≡ after.slot))
-Answers old (Step m) (Stopped k stop) new = (k ≡ m) × ((after : MachineState) × StepsMachine old m (stepped.Stopped stop) after new)
-Answers old (Regs m) Missing new = (machine_at old m ≡ None) × (new ≡ old)
-Answers old (Regs m) (Registers shown) new = ((state : MachineState) × (machine_at old m ≡ Some state) × (shown ≡ shown_of m state)) × (new ≡ old)
--- no other reply is given
-Answers old (Ship fuel arguments code) (Ran k slot) new = ⊥
-Answers old (Ship fuel arguments code) (Stopped k stop) new = ⊥
-Answers old (Ship fuel arguments code) (Registers shown) new = ⊥
-Answers old (Ship fuel arguments code) Missing new = ⊥
-Answers old (Step m) (Shipped k) new = ⊥
-Answers old (Step m) NoMemory new = ⊥
-Answers old (Step m) Full new = ⊥
-Answers old (Step m) (Refused e) new = ⊥
-Answers old (Step m) (Registers shown) new = ⊥
-Answers old (Regs m) (Shipped k) new = ⊥
-Answers old (Regs m) NoMemory new = ⊥
-Answers old (Regs m) Full new = ⊥
-Answers old (Regs m) (Refused e) new = ⊥
-Answers old (Regs m) (Ran k slot) new = ⊥
-Answers old (Regs m) (Stopped k stop) new = ⊥
+Answers old (Make size) reply new = AnswersMake old size reply new
+Answers old (Free n) reply new = AnswersFree old n reply new
+Answers old (Put n offset bytes) reply new = AnswersPut old n offset bytes reply new
+Answers old (Get n offset size) reply new = AnswersGet old n offset size reply new
+Answers old (Ship fuel arguments code) reply new = AnswersShip old fuel arguments code reply new
+Answers old (Step m) reply new = AnswersStep old m reply new
+Answers old (Regs m) reply new = AnswersRegs old m reply new
+Answers old (Out m) reply new = AnswersOut old m reply new
+Answers old (Stack m offset size) reply new = AnswersStack old m offset size reply new

@@ -1,11 +1,29 @@
 //! Commands and replies.
 
+use crate::shown::{Bytes, Shown, Values};
 use loader::LoadError;
 use machine::Stop;
 
-/// A command. Machines are numbered from 1, in the order in which they were shipped.
+/// A command. Machines are numbered from 1, in the order in which they were shipped, and objects from 1, in the order in
+/// which they were made. No number is given twice.
 #[derive(Debug, Drop)]
 pub enum Event {
+    /// Makes an object of so many bytes, all of them zero.
+    Make { length: u32 },
+    /// Frees an object.
+    Free { object: u32 },
+    /// Writes these bytes into an object, from an offset on.
+    Put {
+        object: u32,
+        offset: u32,
+        bytes: Vec<u8>,
+    },
+    /// Shows so many bytes of an object, from an offset on.
+    Get {
+        object: u32,
+        offset: u32,
+        length: u32,
+    },
     /// Makes a machine of this code, with R1 to R5 and with fuel for so many instructions.
     Ship {
         fuel: u64,
@@ -13,47 +31,50 @@ pub enum Event {
         code: Vec<u8>,
     },
     /// One step of a machine.
-    Step {
-        machine: usize,
-    },
+    Step { machine: usize },
     /// Shows a machine's registers.
-    Regs {
+    Regs { machine: usize },
+    /// Shows what a machine has emitted.
+    Out { machine: usize },
+    /// Shows so many bytes of a machine's stack, from an offset on.
+    Stack {
         machine: usize,
+        offset: u32,
+        length: u32,
     },
 }
 
 /// What a command was answered.
-#[derive(Clone, Copy, Drop, Debug, PartialEq, Eq)]
+#[derive(Drop, Debug, PartialEq, Eq)]
 pub enum Reply {
+    /// There is an object of this number now.
+    Made { object: u32 },
+    /// The object is no more.
+    Freed { object: u32 },
+    /// It was done.
+    Done,
+    /// The bytes that were asked for.
+    Bytes(Bytes),
     /// The code is a machine now, of this number.
     Shipped { machine: usize },
-    /// There was no memory. Nothing is changed.
-    NoMemory,
-    /// There are as many machines as there can be.
-    Full,
-    /// The code is not valid.
-    Refused(LoadError),
     /// An instruction was done, and the machine goes on at the slot.
     Ran { machine: usize, slot: usize },
+    /// The machine's next instruction waits for an object that isn't here.
+    Waiting { machine: usize, object: u32 },
     /// The machine is stopped.
     Stopped { machine: usize, stop: Stop },
     /// What a machine is.
     Registers(Shown),
-    /// There is no such machine.
+    /// What a machine has emitted.
+    Emitted { machine: usize, values: Values },
+    /// Out of memory. Nothing is changed.
+    NoMemory,
+    /// There are as many machines, or as many objects, as there can be.
+    Full,
+    /// The bytes are not all within the object, or within the stack.
+    Outside,
+    /// The code is not valid.
+    Refused(LoadError),
+    /// There is no such machine, or no such object.
     Missing,
-}
-
-/// What is shown of a machine.
-#[derive(Clone, Copy, Drop, Debug, PartialEq, Eq)]
-pub struct Shown {
-    /// The machine's number.
-    pub machine: usize,
-    /// The slot where the next instruction begins.
-    pub slot: usize,
-    /// How many instructions may still be done.
-    pub fuel: u64,
-    /// Why the machine is stopped, if it is.
-    pub stop: Option<Stop>,
-    /// R0 to R10.
-    pub registers: [u64; 11],
 }

@@ -1,13 +1,10 @@
-//! The machines of one agent, and the commands on them.
+//! The machines and objects of one agent, and the commands on them.
 #![tactic(auto)]
 
 mod events;
-mod laws;
-mod worlds;
+mod shown;
+mod world;
 
-pub use events::{Event, Reply, Shown};
-pub use laws::{
-    answers_one_way, others_stay, refusals_change_nothing, runs_one_way, runs_what_was_shipped,
-    showing_changes_nothing,
-};
-pub use worlds::World;
+pub use events::{Event, Reply};
+pub use shown::{Bytes, Shown, Values};
+pub use world::World;

@@ -1,11 +1,12 @@
 use Rattle.std.proofs.Common.{◌≡◌, List, ◌++◌, map, ◌+◌, ◌≤◌, vec_len, vec_capacity}
 use Rattle.world.specs.Run.{Runs}
-use Rattle.world.specs.Answers.{Answers, command_of}
+use Rattle.world.specs.Commands.{command_of}
+use Rattle.world.specs.Answers.{Answers}
 use Rattle.world.specs.declared.events.Reply.{Reply}
-use Rattle.world.proofs.worlds.World.run.Given as goal
+use Rattle.world.proofs.world.World.run.Given as goal
 
 abbrev pub invariant-loop-event : goal.invariant-loop-event
 invariant-loop-event l = record {
-  run : (told : List Reply) × (l.replies.items ≡ l.fn.replies.items ++ told) × Runs Answers l.fn.self (map command_of l.yielded) told l.self;
+  run : (given : List Reply) × (l.replies.items ≡ l.fn.replies.items ++ given) × Runs Answers l.fn.self (map command_of l.yielded) given l.self;
   room : vec_len l.replies + goal.iterator-loop-event.remaining l.event-iterator ≤ vec_capacity l.replies;
 }

@@ -1,9 +1,10 @@
 use Rattle.std.proofs.Common.{List, [], ◌∷◌, ◌++◌, map, ap, ◌∙◌, refl, append_assoc, arith}
 use Rattle.std.proofs.lemmas.List.{map-append}
-use Rattle.world.specs.Answers.{Answers, command_of}
+use Rattle.world.specs.Commands.{command_of}
+use Rattle.world.specs.Answers.{Answers}
 use Rattle.world.specs.declared.events.Reply.{Reply}
 use Rattle.world.proofs.Joined.{Runs-append}
-use Rattle.world.proofs.worlds.World.run.Goals as goal
+use Rattle.world.proofs.world.World.run.Goals as goal
 
 pub loop-event-preserved : goal.loop-event-preserved
 loop-event-preserved c =

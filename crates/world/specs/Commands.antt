@@ -1,0 +1,34 @@
+-- Commands.
+use Rattle.std.specs.Prelude.{ℕ, List}
+use Rattle.world.specs.declared.events.Event.{Event}
+use Rattle.world.specs.declared.events.Event.TheVariants as event
+
+pub data Command : Type 0 where
+  -- length
+  Make : ℕ → Command
+  -- object
+  Free : ℕ → Command
+  -- object, offset, bytes
+  Put : ℕ → ℕ → List ℕ → Command
+  -- object, offset, length
+  Get : ℕ → ℕ → ℕ → Command
+  -- fuel, five arguments, code
+  Ship : ℕ → List ℕ → List ℕ → Command
+  -- machine
+  Step : ℕ → Command
+  Regs : ℕ → Command
+  Out : ℕ → Command
+  -- machine, offset, length
+  Stack : ℕ → ℕ → ℕ → Command
+
+-- the command that an event carries
+abbrev pub command_of : Event → Command
+command_of (event.Make size) = Make size
+command_of (event.Free n) = Free n
+command_of (event.Put n offset bytes) = Put n offset bytes.items
+command_of (event.Get n offset size) = Get n offset size
+command_of (event.Ship fuel arguments code) = Ship fuel arguments code.items
+command_of (event.Step m) = Step m
+command_of (event.Regs m) = Regs m
+command_of (event.Out m) = Out m
+command_of (event.Stack m offset size) = Stack m offset size
