@@ -1,5 +1,6 @@
 #!/usr/bin/env python3
-"""Writes the tables of expected values in src/, computed on Python's integers from RFC 9669, sections 4.1 to 4.3.
+"""Writes the tables of expected values in src/, computed on Python's integers from RFC 9669, sections 4.1 to
+4.3 and 5.3.
 
 Run it in this folder, and lay the files out with `rt fmt`.
 """
@@ -63,6 +64,16 @@ CONDITIONS = {
     "SLE": lambda bits, d, s: signed(bits, d) <= signed(bits, s),
 }
 
+# Section 5.3: what an atomic operation writes to memory, from the old value, the source register and R0.
+ATOMICS = {
+    "ADD": lambda old, src, r0: old + src,
+    "OR": lambda old, src, r0: old | src,
+    "AND": lambda old, src, r0: old & src,
+    "XOR": lambda old, src, r0: old ^ src,
+    "EXCHANGE": lambda old, src, r0: src,
+    "COMPARE_EXCHANGE": lambda old, src, r0: src if old == r0 else None,
+}
+
 PAIRS = [
     (0, 0),
     (ALL64, 0),
@@ -105,6 +116,21 @@ COMPARED = [
     (GREATEST32, -(2**31)),
     (6, 9),
     (6, 3),
+]
+# The old value, the source register and R0.
+TRIPLES = [
+    (0, 0, 0),
+    (0, -1, 1),
+    (ALL64, 1, ALL64),
+    (GREATEST32, 1, GREATEST32),
+    (LEAST32, LEAST32, LEAST64),
+    (5, 7, 0x1_0000_0005),
+    (5, 7, 5),
+    (0x1_0000_0005, 7, 5),
+    (LEAST64, LEAST64, LEAST64),
+    (0xF0F0, 0xFF00, 0),
+    (-13, 13, -13),
+    (0x1122_3344_5566_7788, 0x8877_6655_4433_2211, 0x1122_3344_5566_7788),
 ]
 SINGLE = [0, 1, -1, 127, 128, 0xFF80, 0x7FFF, 0x8000, GREATEST32, LEAST32, GREATEST64, LEAST64, 0x1122_3344_5566_7788]
 
@@ -150,6 +176,20 @@ def conditions(bits):
     return "\n".join(parts)
 
 
+def atomics(bits):
+    parts = [
+        f"//! Atomic operations on {bits} bits: old value, source register, R0, what is written. Written by `vectors.py`.\n"
+    ]
+    for name, operation in ATOMICS.items():
+        rows = []
+        for old, src, r0 in TRIPLES:
+            new = operation(old % 2**bits, src % 2**bits, r0 % 2**bits)
+            written = "None" if new is None else f"Some({number(new % 2**bits)})"
+            rows.append((number(old % 2**bits), number(src), number(r0), written))
+        parts.append(table(name, "(u64, u64, u64, Option<u64>)", rows))
+    return "\n".join(parts)
+
+
 def reverse(bits, x):
     return int.from_bytes((x % 2**bits).to_bytes(bits // 8, "little"), "big")
 
@@ -176,6 +216,8 @@ def main():
         ("arithmetic32", arithmetic(32)),
         ("conditions64", conditions(64)),
         ("conditions32", conditions(32)),
+        ("atomics64", atomics(64)),
+        ("atomics32", atomics(32)),
         ("single", single()),
     ]:
         with open(f"src/{name}.rt", "w") as file:

@@ -6,6 +6,10 @@ mod arithmetic32;
 #[cfg(test)]
 mod arithmetic64;
 #[cfg(test)]
+mod atomics32;
+#[cfg(test)]
+mod atomics64;
+#[cfg(test)]
 mod conditions32;
 #[cfg(test)]
 mod conditions64;

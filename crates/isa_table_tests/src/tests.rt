@@ -1,7 +1,8 @@
 //! Each row of the table on its operands.
-use crate::{arithmetic32, arithmetic64, conditions32, conditions64, single};
+use crate::{arithmetic32, arithmetic64, atomics32, atomics64, conditions32, conditions64, single};
 use isa_table::{
-    AluOp, Binary, Cond, Instr, Operand, Order, SwapWidth, alu32, alu64, holds, rows, swap,
+    AluOp, AtomicOp, Binary, Cond, Instr, Operand, Order, Reg, Size, SwapWidth, Width, alu32,
+    alu64, atomic, holds, mov_sx32, rows, swap,
 };
 use std::process::Abort;
 
@@ -11,6 +12,8 @@ type Tests = &'static [(u64, u64, bool)];
 
 type Values = &'static [(u64, u64)];
 
+type Triples = &'static [(u64, u64, u64, Option<u64>)];
+
 /// Whether the operand can stand in a row of this kind: an imm is 32 bits, sign-extended.
 fn can_stand(kind: Operand, s: u64) -> bool {
     match kind {
@@ -19,81 +22,109 @@ fn can_stand(kind: Operand, s: u64) -> bool {
     }
 }
 
-fn pairs_of(wide: bool, op: Binary) -> Pairs {
-    match (wide, op) {
-        (true, Binary::Add) => &arithmetic64::ADD,
-        (true, Binary::Sub) => &arithmetic64::SUB,
-        (true, Binary::Mul) => &arithmetic64::MUL,
-        (true, Binary::Div) => &arithmetic64::DIV,
-        (true, Binary::SDiv) => &arithmetic64::SDIV,
-        (true, Binary::Or) => &arithmetic64::OR,
-        (true, Binary::And) => &arithmetic64::AND,
-        (true, Binary::Lsh) => &arithmetic64::LSH,
-        (true, Binary::Rsh) => &arithmetic64::RSH,
-        (true, Binary::Mod) => &arithmetic64::MOD,
-        (true, Binary::SMod) => &arithmetic64::SMOD,
-        (true, Binary::Xor) => &arithmetic64::XOR,
-        (true, Binary::Mov) => &arithmetic64::MOV,
-        (true, Binary::Arsh) => &arithmetic64::ARSH,
-        (false, Binary::Add) => &arithmetic32::ADD,
-        (false, Binary::Sub) => &arithmetic32::SUB,
-        (false, Binary::Mul) => &arithmetic32::MUL,
-        (false, Binary::Div) => &arithmetic32::DIV,
-        (false, Binary::SDiv) => &arithmetic32::SDIV,
-        (false, Binary::Or) => &arithmetic32::OR,
-        (false, Binary::And) => &arithmetic32::AND,
-        (false, Binary::Lsh) => &arithmetic32::LSH,
-        (false, Binary::Rsh) => &arithmetic32::RSH,
-        (false, Binary::Mod) => &arithmetic32::MOD,
-        (false, Binary::SMod) => &arithmetic32::SMOD,
-        (false, Binary::Xor) => &arithmetic32::XOR,
-        (false, Binary::Mov) => &arithmetic32::MOV,
-        (false, Binary::Arsh) => &arithmetic32::ARSH,
+fn pairs_of(width: Width, op: Binary) -> Pairs {
+    match (width, op) {
+        (Width::W64, Binary::Add) => &arithmetic64::ADD,
+        (Width::W64, Binary::Sub) => &arithmetic64::SUB,
+        (Width::W64, Binary::Mul) => &arithmetic64::MUL,
+        (Width::W64, Binary::Div) => &arithmetic64::DIV,
+        (Width::W64, Binary::SDiv) => &arithmetic64::SDIV,
+        (Width::W64, Binary::Or) => &arithmetic64::OR,
+        (Width::W64, Binary::And) => &arithmetic64::AND,
+        (Width::W64, Binary::Lsh) => &arithmetic64::LSH,
+        (Width::W64, Binary::Rsh) => &arithmetic64::RSH,
+        (Width::W64, Binary::Mod) => &arithmetic64::MOD,
+        (Width::W64, Binary::SMod) => &arithmetic64::SMOD,
+        (Width::W64, Binary::Xor) => &arithmetic64::XOR,
+        (Width::W64, Binary::Mov) => &arithmetic64::MOV,
+        (Width::W64, Binary::Arsh) => &arithmetic64::ARSH,
+        (Width::W32, Binary::Add) => &arithmetic32::ADD,
+        (Width::W32, Binary::Sub) => &arithmetic32::SUB,
+        (Width::W32, Binary::Mul) => &arithmetic32::MUL,
+        (Width::W32, Binary::Div) => &arithmetic32::DIV,
+        (Width::W32, Binary::SDiv) => &arithmetic32::SDIV,
+        (Width::W32, Binary::Or) => &arithmetic32::OR,
+        (Width::W32, Binary::And) => &arithmetic32::AND,
+        (Width::W32, Binary::Lsh) => &arithmetic32::LSH,
+        (Width::W32, Binary::Rsh) => &arithmetic32::RSH,
+        (Width::W32, Binary::Mod) => &arithmetic32::MOD,
+        (Width::W32, Binary::SMod) => &arithmetic32::SMOD,
+        (Width::W32, Binary::Xor) => &arithmetic32::XOR,
+        (Width::W32, Binary::Mov) => &arithmetic32::MOV,
+        (Width::W32, Binary::Arsh) => &arithmetic32::ARSH,
     }
 }
 
-fn tests_of(wide: bool, cond: Cond) -> Tests {
-    match (wide, cond) {
-        (true, Cond::Eq) => &conditions64::EQ,
-        (true, Cond::Gt) => &conditions64::GT,
-        (true, Cond::Ge) => &conditions64::GE,
-        (true, Cond::Set) => &conditions64::SET,
-        (true, Cond::Ne) => &conditions64::NE,
-        (true, Cond::SGt) => &conditions64::SGT,
-        (true, Cond::SGe) => &conditions64::SGE,
-        (true, Cond::Lt) => &conditions64::LT,
-        (true, Cond::Le) => &conditions64::LE,
-        (true, Cond::SLt) => &conditions64::SLT,
-        (true, Cond::SLe) => &conditions64::SLE,
-        (false, Cond::Eq) => &conditions32::EQ,
-        (false, Cond::Gt) => &conditions32::GT,
-        (false, Cond::Ge) => &conditions32::GE,
-        (false, Cond::Set) => &conditions32::SET,
-        (false, Cond::Ne) => &conditions32::NE,
-        (false, Cond::SGt) => &conditions32::SGT,
-        (false, Cond::SGe) => &conditions32::SGE,
-        (false, Cond::Lt) => &conditions32::LT,
-        (false, Cond::Le) => &conditions32::LE,
-        (false, Cond::SLt) => &conditions32::SLT,
-        (false, Cond::SLe) => &conditions32::SLE,
+fn tests_of(width: Width, cond: Cond) -> Tests {
+    match (width, cond) {
+        (Width::W64, Cond::Eq) => &conditions64::EQ,
+        (Width::W64, Cond::Gt) => &conditions64::GT,
+        (Width::W64, Cond::Ge) => &conditions64::GE,
+        (Width::W64, Cond::Set) => &conditions64::SET,
+        (Width::W64, Cond::Ne) => &conditions64::NE,
+        (Width::W64, Cond::SGt) => &conditions64::SGT,
+        (Width::W64, Cond::SGe) => &conditions64::SGE,
+        (Width::W64, Cond::Lt) => &conditions64::LT,
+        (Width::W64, Cond::Le) => &conditions64::LE,
+        (Width::W64, Cond::SLt) => &conditions64::SLT,
+        (Width::W64, Cond::SLe) => &conditions64::SLE,
+        (Width::W32, Cond::Eq) => &conditions32::EQ,
+        (Width::W32, Cond::Gt) => &conditions32::GT,
+        (Width::W32, Cond::Ge) => &conditions32::GE,
+        (Width::W32, Cond::Set) => &conditions32::SET,
+        (Width::W32, Cond::Ne) => &conditions32::NE,
+        (Width::W32, Cond::SGt) => &conditions32::SGT,
+        (Width::W32, Cond::SGe) => &conditions32::SGE,
+        (Width::W32, Cond::Lt) => &conditions32::LT,
+        (Width::W32, Cond::Le) => &conditions32::LE,
+        (Width::W32, Cond::SLt) => &conditions32::SLT,
+        (Width::W32, Cond::SLe) => &conditions32::SLE,
     }
 }
 
-fn alu(op: AluOp, wide: bool, d: u64, s: u64) -> u64 {
-    if wide {
-        alu64(op, d, s)
-    } else {
-        alu32(op, d, s)
+fn triples_of(width: Width, op: AtomicOp) -> Triples {
+    match (width, op) {
+        (Width::W64, AtomicOp::Add | AtomicOp::FetchAdd) => &atomics64::ADD,
+        (Width::W64, AtomicOp::Or | AtomicOp::FetchOr) => &atomics64::OR,
+        (Width::W64, AtomicOp::And | AtomicOp::FetchAnd) => &atomics64::AND,
+        (Width::W64, AtomicOp::Xor | AtomicOp::FetchXor) => &atomics64::XOR,
+        (Width::W64, AtomicOp::Exchange) => &atomics64::EXCHANGE,
+        (Width::W64, AtomicOp::CompareExchange) => &atomics64::COMPARE_EXCHANGE,
+        (Width::W32, AtomicOp::Add | AtomicOp::FetchAdd) => &atomics32::ADD,
+        (Width::W32, AtomicOp::Or | AtomicOp::FetchOr) => &atomics32::OR,
+        (Width::W32, AtomicOp::And | AtomicOp::FetchAnd) => &atomics32::AND,
+        (Width::W32, AtomicOp::Xor | AtomicOp::FetchXor) => &atomics32::XOR,
+        (Width::W32, AtomicOp::Exchange) => &atomics32::EXCHANGE,
+        (Width::W32, AtomicOp::CompareExchange) => &atomics32::COMPARE_EXCHANGE,
     }
 }
 
-fn try_pairs(rt: &impl Abort, wide: bool, op: Binary, kind: Operand) -> usize {
+fn values_of(op: AluOp, width: Width) -> Values {
+    match (op, width) {
+        (AluOp::Neg, Width::W64) => &single::NEG64,
+        (AluOp::Neg, Width::W32) => &single::NEG32,
+        (AluOp::MovSx8, Width::W64) => &single::MOVSX8_64,
+        (AluOp::MovSx8, Width::W32) => &single::MOVSX8_32,
+        (AluOp::MovSx16, Width::W64) => &single::MOVSX16_64,
+        (AluOp::MovSx16, Width::W32) => &single::MOVSX16_32,
+        (AluOp::Two(_), _) => &[],
+    }
+}
+
+fn alu(op: AluOp, width: Width, d: u64, s: u64) -> u64 {
+    match width {
+        Width::W64 => alu64(op, d, s),
+        Width::W32 => alu32(op, d, s),
+    }
+}
+
+fn try_pairs(rt: &impl Abort, width: Width, op: Binary, kind: Operand) -> usize {
     let mut tried = 0;
-    for &(d, s, want) in pairs_of(wide, op) {
+    for &(d, s, want) in pairs_of(width, op) {
         if can_stand(kind, s) {
             tried += 1;
             assert_eq!(rt;
-                alu(AluOp::Two(op), wide, d, s),
+                alu(AluOp::Two(op), width, d, s),
                 want,
                 "{op:?} of {d} and {s}"
             );
@@ -102,34 +133,56 @@ fn try_pairs(rt: &impl Abort, wide: bool, op: Binary, kind: Operand) -> usize {
     tried
 }
 
-fn try_conditions(rt: &impl Abort, wide: bool, cond: Cond, kind: Operand) -> usize {
+fn try_conditions(rt: &impl Abort, width: Width, cond: Cond, kind: Operand) -> usize {
     let mut tried = 0;
-    for &(d, s, want) in tests_of(wide, cond) {
+    for &(d, s, want) in tests_of(width, cond) {
         if can_stand(kind, s) {
             tried += 1;
-            assert_eq!(rt; holds(cond, wide, d, s), want, "{cond:?} of {d} and {s}");
+            assert_eq!(rt; holds(cond, width, d, s), want, "{cond:?} of {d} and {s}");
         }
     }
     tried
 }
 
-fn try_negations(rt: &impl Abort, wide: bool) -> usize {
-    let values: Values = if wide { &single::NEG64 } else { &single::NEG32 };
-    for &(d, want) in values {
-        assert_eq!(rt; alu(AluOp::Neg, wide, d, 0), want, "of {d}");
+fn try_values(rt: &impl Abort, width: Width, op: AluOp) -> usize {
+    let values = values_of(op, width);
+    for &(x, want) in values {
+        let (d, s) = if op == AluOp::Neg { (x, 1) } else { (1, x) };
+        assert_eq!(rt; alu(op, width, d, s), want, "{op:?} of {x}");
     }
     values.len()
 }
 
-fn try_moves(rt: &impl Abort, wide: bool, op: AluOp, values: Values) -> usize {
+fn try_mov_sx32(rt: &impl Abort) -> usize {
+    let values: Values = &single::MOVSX32_64;
     for &(s, want) in values {
-        assert_eq!(rt; alu(op, wide, 1, s), want, "{op:?} of {s}");
+        assert_eq!(rt; mov_sx32(s), want, "of {s}");
     }
     values.len()
 }
 
-fn try_swaps(rt: &impl Abort, kind: Order, width: SwapWidth) -> usize {
-    let values: Values = match (kind, width) {
+fn try_atomic(rt: &impl Abort, width: Width, op: AtomicOp) -> usize {
+    let triples = triples_of(width, op);
+    for &(old, src, r0, want) in triples {
+        if width == Width::W64 {
+            assert_eq!(rt;
+                atomic(op, Width::W64, old, src, r0),
+                want,
+                "{op:?} of {old} and {src}, {r0}"
+            );
+        } else if old < 1 << 32 {
+            assert_eq!(rt;
+                atomic(op, Width::W32, old, src, r0),
+                want,
+                "{op:?} of {old} and {src}, {r0}"
+            );
+        }
+    }
+    triples.len()
+}
+
+fn try_swaps(rt: &impl Abort, order: Order, width: SwapWidth) -> usize {
+    let values: Values = match (order, width) {
         (Order::Little, SwapWidth::W16) => &single::LITTLE16,
         (Order::Little, SwapWidth::W32) => &single::LITTLE32,
         (Order::Little, SwapWidth::W64) => &single::LITTLE64,
@@ -138,55 +191,43 @@ fn try_swaps(rt: &impl Abort, kind: Order, width: SwapWidth) -> usize {
         (_, SwapWidth::W64) => &single::REVERSED64,
     };
     for &(d, want) in values {
-        assert_eq!(rt; swap(kind, width, d), want, "{kind:?} {width:?} of {d}");
+        assert_eq!(rt; swap(order, width, d), want, "{order:?} {width:?} of {d}");
     }
     values.len()
 }
 
-/// How many operands the row was tried on; none where the row computes nothing.
+/// How many operands the row was tried on; none where no function of `isa_table` computes it.
 fn try_row(rt: &impl Abort, row: Instr) -> Option<usize> {
     let tried = match row {
-        Instr::Alu { wide, op, src, .. } => try_pairs(rt, wide, op, src),
-        Instr::Neg { wide, .. } => try_negations(rt, wide),
-        Instr::MovSx8 { wide: true, .. } => try_moves(rt, true, AluOp::MovSx8, &single::MOVSX8_64),
-        Instr::MovSx8 { wide: false, .. } => try_moves(
-            rt,
-            false,
-            AluOp::MovSx8,
-            &single::MOVSX8_32,
-        ),
-        Instr::MovSx16 { wide: true, .. } => try_moves(
-            rt,
-            true,
-            AluOp::MovSx16,
-            &single::MOVSX16_64,
-        ),
-        Instr::MovSx16 { wide: false, .. } => try_moves(
-            rt,
-            false,
-            AluOp::MovSx16,
-            &single::MOVSX16_32,
-        ),
-        Instr::MovSx32 { .. } => try_moves(rt, true, AluOp::MovSx32, &single::MOVSX32_64),
-        Instr::End { kind, width, .. } => try_swaps(rt, kind, width),
+        Instr::Alu { width, op, src, .. } => try_pairs(rt, width, op, src),
+        Instr::Neg { width, .. } => try_values(rt, width, AluOp::Neg),
+        Instr::MovSx8 { width, .. } => try_values(rt, width, AluOp::MovSx8),
+        Instr::MovSx16 { width, .. } => try_values(rt, width, AluOp::MovSx16),
+        Instr::MovSx32 { .. } => try_mov_sx32(rt),
+        Instr::End { order, width, .. } => try_swaps(rt, order, width),
         Instr::Jump {
-            wide,
+            width,
             cond,
             src,
             ..
-        } => try_conditions(rt, wide, cond, src),
+        } => try_conditions(rt, width, cond, src),
+        Instr::Atomic { width, op, .. } => try_atomic(rt, width, op),
         Instr::Ja { .. }
         | Instr::JaLong { .. }
+        | Instr::CallHelper { .. }
         | Instr::CallLocal { .. }
         | Instr::Exit
-        | Instr::LoadWide { .. } => return None,
+        | Instr::Load { .. }
+        | Instr::LoadSigned { .. }
+        | Instr::Store { .. }
+        | Instr::LoadImm64 { .. } => return None,
     };
     Some(tried)
 }
 
 #[test]
 fn each_row_computes_its_values(rt: HostRuntime) {
-    assert_eq!(rt; rows().len(), 121);
+    assert_eq!(rt; rows().len(), 157);
     let mut computing = 0u32;
     for row in rows() {
         if let Some(tried) = try_row(&rt, *row) {
@@ -194,5 +235,78 @@ fn each_row_computes_its_values(rt: HostRuntime) {
             computing = computing.saturating_add(1);
         }
     }
-    assert_eq!(rt; computing, 116);
+    assert_eq!(rt; computing, 136);
+}
+
+#[test]
+fn registers_that_rows_write(rt: HostRuntime) {
+    let (dst, src) = (Reg::R2, Reg::R3);
+    let (size, width, offset) = (Size::Byte, Width::W32, 0);
+    let cases = [
+        (
+            Instr::Load {
+                size,
+                dst,
+                src,
+                offset,
+            },
+            Some(Reg::R2),
+        ),
+        (Instr::LoadImm64 { dst, value: 0 }, Some(Reg::R2)),
+        (
+            Instr::Store {
+                size,
+                dst,
+                src: Operand::Register(src),
+                offset,
+            },
+            None,
+        ),
+        (
+            Instr::Atomic {
+                width,
+                op: AtomicOp::Add,
+                dst,
+                src,
+                offset,
+            },
+            None,
+        ),
+        (
+            Instr::Atomic {
+                width,
+                op: AtomicOp::FetchAdd,
+                dst,
+                src,
+                offset,
+            },
+            Some(Reg::R3),
+        ),
+        (
+            Instr::Atomic {
+                width,
+                op: AtomicOp::Exchange,
+                dst,
+                src,
+                offset,
+            },
+            Some(Reg::R3),
+        ),
+        (
+            Instr::Atomic {
+                width,
+                op: AtomicOp::CompareExchange,
+                dst,
+                src,
+                offset,
+            },
+            Some(Reg::R0),
+        ),
+        (Instr::CallHelper { id: 1 }, Some(Reg::R0)),
+        (Instr::CallLocal { offset: 1 }, None),
+        (Instr::Exit, None),
+    ];
+    for (instr, want) in &cases {
+        assert_eq!(rt; instr.destination(), *want, "{instr:?}");
+    }
 }
