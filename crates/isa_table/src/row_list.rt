@@ -1,4 +1,4 @@
-//! One instruction for each row of the table, those of one opcode side by side.
+//! One instruction for each row of the table, in rising order of the opcode, which stands beside it.
 ghost use Rattle.std.specs.Prelude.{◌≡◌, ◌≢◌, All, AllPairs, Contains};
 ghost use Rattle.isa_table.specs.declared.instr.Instr.{Instr};
 ghost use Rattle.isa_table.specs.Rows.{all_rows, row_of};
@@ -54,181 +54,181 @@ macro_rules! atomic {
 }
 
 const ROWS: [Instr; 157] = [
-    alu!(W64, Add, NUMBER),
-    alu!(W64, Sub, NUMBER),
-    alu!(W64, Mul, NUMBER),
-    alu!(W64, Div, NUMBER),
-    alu!(W64, SDiv, NUMBER),
-    alu!(W64, Or, NUMBER),
-    alu!(W64, And, NUMBER),
-    alu!(W64, Lsh, NUMBER),
-    alu!(W64, Rsh, NUMBER),
-    alu!(W64, Mod, NUMBER),
-    alu!(W64, SMod, NUMBER),
-    alu!(W64, Xor, NUMBER),
-    alu!(W64, Arsh, NUMBER),
-    alu!(W64, Mov, NUMBER),
-    alu!(W64, Add, REGISTER),
-    alu!(W64, Sub, REGISTER),
-    alu!(W64, Mul, REGISTER),
-    alu!(W64, Div, REGISTER),
-    alu!(W64, SDiv, REGISTER),
-    alu!(W64, Or, REGISTER),
-    alu!(W64, And, REGISTER),
-    alu!(W64, Lsh, REGISTER),
-    alu!(W64, Rsh, REGISTER),
-    alu!(W64, Mod, REGISTER),
-    alu!(W64, SMod, REGISTER),
-    alu!(W64, Xor, REGISTER),
-    alu!(W64, Arsh, REGISTER),
-    alu!(W64, Mov, REGISTER),
-    mov_sx!(MovSx8, W64),
-    mov_sx!(MovSx16, W64),
-    Instr::MovSx32 {
-        dst: Reg::R0,
-        src: Reg::R1,
-    },
-    Instr::Neg {
-        width: Width::W64,
-        dst: Reg::R0,
-    },
-    alu!(W32, Add, NUMBER),
-    alu!(W32, Sub, NUMBER),
-    alu!(W32, Mul, NUMBER),
-    alu!(W32, Div, NUMBER),
-    alu!(W32, SDiv, NUMBER),
-    alu!(W32, Or, NUMBER),
-    alu!(W32, And, NUMBER),
-    alu!(W32, Lsh, NUMBER),
-    alu!(W32, Rsh, NUMBER),
-    alu!(W32, Mod, NUMBER),
-    alu!(W32, SMod, NUMBER),
-    alu!(W32, Xor, NUMBER),
-    alu!(W32, Arsh, NUMBER),
-    alu!(W32, Mov, NUMBER),
-    alu!(W32, Add, REGISTER),
-    alu!(W32, Sub, REGISTER),
-    alu!(W32, Mul, REGISTER),
-    alu!(W32, Div, REGISTER),
-    alu!(W32, SDiv, REGISTER),
-    alu!(W32, Or, REGISTER),
-    alu!(W32, And, REGISTER),
-    alu!(W32, Lsh, REGISTER),
-    alu!(W32, Rsh, REGISTER),
-    alu!(W32, Mod, REGISTER),
-    alu!(W32, SMod, REGISTER),
-    alu!(W32, Xor, REGISTER),
-    alu!(W32, Arsh, REGISTER),
-    alu!(W32, Mov, REGISTER),
-    mov_sx!(MovSx8, W32),
-    mov_sx!(MovSx16, W32),
-    Instr::Neg {
-        width: Width::W32,
-        dst: Reg::R0,
-    },
-    end!(Little, W16),
-    end!(Little, W32),
-    end!(Little, W64),
-    end!(Big, W16),
-    end!(Big, W32),
-    end!(Big, W64),
-    end!(Swapped, W16),
-    end!(Swapped, W32),
-    end!(Swapped, W64),
-    jump!(W64, Eq, NUMBER),
-    jump!(W64, Gt, NUMBER),
-    jump!(W64, Ge, NUMBER),
-    jump!(W64, Set, NUMBER),
-    jump!(W64, Ne, NUMBER),
-    jump!(W64, SGt, NUMBER),
-    jump!(W64, SGe, NUMBER),
-    jump!(W64, Lt, NUMBER),
-    jump!(W64, Le, NUMBER),
-    jump!(W64, SLt, NUMBER),
-    jump!(W64, SLe, NUMBER),
-    jump!(W64, Eq, REGISTER),
-    jump!(W64, Gt, REGISTER),
-    jump!(W64, Ge, REGISTER),
-    jump!(W64, Set, REGISTER),
-    jump!(W64, Ne, REGISTER),
-    jump!(W64, SGt, REGISTER),
-    jump!(W64, SGe, REGISTER),
-    jump!(W64, Lt, REGISTER),
-    jump!(W64, Le, REGISTER),
-    jump!(W64, SLt, REGISTER),
-    jump!(W64, SLe, REGISTER),
-    jump!(W32, Eq, NUMBER),
-    jump!(W32, Gt, NUMBER),
-    jump!(W32, Ge, NUMBER),
-    jump!(W32, Set, NUMBER),
-    jump!(W32, Ne, NUMBER),
-    jump!(W32, SGt, NUMBER),
-    jump!(W32, SGe, NUMBER),
-    jump!(W32, Lt, NUMBER),
-    jump!(W32, Le, NUMBER),
-    jump!(W32, SLt, NUMBER),
-    jump!(W32, SLe, NUMBER),
-    jump!(W32, Eq, REGISTER),
-    jump!(W32, Gt, REGISTER),
-    jump!(W32, Ge, REGISTER),
-    jump!(W32, Set, REGISTER),
-    jump!(W32, Ne, REGISTER),
-    jump!(W32, SGt, REGISTER),
-    jump!(W32, SGe, REGISTER),
-    jump!(W32, Lt, REGISTER),
-    jump!(W32, Le, REGISTER),
-    jump!(W32, SLt, REGISTER),
-    jump!(W32, SLe, REGISTER),
-    Instr::Ja { offset: 0 },
-    Instr::JaLong { offset: 0 },
-    Instr::CallHelper { id: 0 },
-    Instr::CallLocal { offset: 0 },
-    Instr::Exit,
-    load!(Load, Size, Byte),
-    load!(Load, Size, Half),
-    load!(Load, Size, Word),
-    load!(Load, Size, Double),
-    load!(LoadSigned, SignedSize, Byte),
-    load!(LoadSigned, SignedSize, Half),
-    load!(LoadSigned, SignedSize, Word),
-    store!(Byte, NUMBER),
-    store!(Half, NUMBER),
-    store!(Word, NUMBER),
-    store!(Double, NUMBER),
-    store!(Byte, REGISTER),
-    store!(Half, REGISTER),
-    store!(Word, REGISTER),
-    store!(Double, REGISTER),
-    atomic!(W64, Add),
-    atomic!(W64, Or),
-    atomic!(W64, And),
-    atomic!(W64, Xor),
-    atomic!(W64, FetchAdd),
-    atomic!(W64, FetchOr),
-    atomic!(W64, FetchAnd),
-    atomic!(W64, FetchXor),
-    atomic!(W64, Exchange),
-    atomic!(W64, CompareExchange),
-    atomic!(W32, Add),
-    atomic!(W32, Or),
-    atomic!(W32, And),
-    atomic!(W32, Xor),
-    atomic!(W32, FetchAdd),
-    atomic!(W32, FetchOr),
-    atomic!(W32, FetchAnd),
-    atomic!(W32, FetchXor),
-    atomic!(W32, Exchange),
-    atomic!(W32, CompareExchange),
+    alu!(W32, Add, NUMBER), // 04
+    Instr::Ja { offset: 0 }, // 05
+    Instr::JaLong { offset: 0 }, // 06
+    alu!(W64, Add, NUMBER), // 07
+    alu!(W32, Add, REGISTER), // 0c
+    alu!(W64, Add, REGISTER), // 0f
+    alu!(W32, Sub, NUMBER), // 14
+    jump!(W64, Eq, NUMBER), // 15
+    jump!(W32, Eq, NUMBER), // 16
+    alu!(W64, Sub, NUMBER), // 17
     Instr::LoadImm64 {
         dst: Reg::R0,
         value: 0,
-    },
+    }, // 18
+    alu!(W32, Sub, REGISTER), // 1c
+    jump!(W64, Eq, REGISTER), // 1d
+    jump!(W32, Eq, REGISTER), // 1e
+    alu!(W64, Sub, REGISTER), // 1f
+    alu!(W32, Mul, NUMBER), // 24
+    jump!(W64, Gt, NUMBER), // 25
+    jump!(W32, Gt, NUMBER), // 26
+    alu!(W64, Mul, NUMBER), // 27
+    alu!(W32, Mul, REGISTER), // 2c
+    jump!(W64, Gt, REGISTER), // 2d
+    jump!(W32, Gt, REGISTER), // 2e
+    alu!(W64, Mul, REGISTER), // 2f
+    alu!(W32, Div, NUMBER), // 34
+    alu!(W32, SDiv, NUMBER), // 34
+    jump!(W64, Ge, NUMBER), // 35
+    jump!(W32, Ge, NUMBER), // 36
+    alu!(W64, Div, NUMBER), // 37
+    alu!(W64, SDiv, NUMBER), // 37
+    alu!(W32, Div, REGISTER), // 3c
+    alu!(W32, SDiv, REGISTER), // 3c
+    jump!(W64, Ge, REGISTER), // 3d
+    jump!(W32, Ge, REGISTER), // 3e
+    alu!(W64, Div, REGISTER), // 3f
+    alu!(W64, SDiv, REGISTER), // 3f
+    alu!(W32, Or, NUMBER), // 44
+    jump!(W64, Set, NUMBER), // 45
+    jump!(W32, Set, NUMBER), // 46
+    alu!(W64, Or, NUMBER), // 47
+    alu!(W32, Or, REGISTER), // 4c
+    jump!(W64, Set, REGISTER), // 4d
+    jump!(W32, Set, REGISTER), // 4e
+    alu!(W64, Or, REGISTER), // 4f
+    alu!(W32, And, NUMBER), // 54
+    jump!(W64, Ne, NUMBER), // 55
+    jump!(W32, Ne, NUMBER), // 56
+    alu!(W64, And, NUMBER), // 57
+    alu!(W32, And, REGISTER), // 5c
+    jump!(W64, Ne, REGISTER), // 5d
+    jump!(W32, Ne, REGISTER), // 5e
+    alu!(W64, And, REGISTER), // 5f
+    load!(Load, Size, Word), // 61
+    store!(Word, NUMBER), // 62
+    store!(Word, REGISTER), // 63
+    alu!(W32, Lsh, NUMBER), // 64
+    jump!(W64, SGt, NUMBER), // 65
+    jump!(W32, SGt, NUMBER), // 66
+    alu!(W64, Lsh, NUMBER), // 67
+    load!(Load, Size, Half), // 69
+    store!(Half, NUMBER), // 6a
+    store!(Half, REGISTER), // 6b
+    alu!(W32, Lsh, REGISTER), // 6c
+    jump!(W64, SGt, REGISTER), // 6d
+    jump!(W32, SGt, REGISTER), // 6e
+    alu!(W64, Lsh, REGISTER), // 6f
+    load!(Load, Size, Byte), // 71
+    store!(Byte, NUMBER), // 72
+    store!(Byte, REGISTER), // 73
+    alu!(W32, Rsh, NUMBER), // 74
+    jump!(W64, SGe, NUMBER), // 75
+    jump!(W32, SGe, NUMBER), // 76
+    alu!(W64, Rsh, NUMBER), // 77
+    load!(Load, Size, Double), // 79
+    store!(Double, NUMBER), // 7a
+    store!(Double, REGISTER), // 7b
+    alu!(W32, Rsh, REGISTER), // 7c
+    jump!(W64, SGe, REGISTER), // 7d
+    jump!(W32, SGe, REGISTER), // 7e
+    alu!(W64, Rsh, REGISTER), // 7f
+    load!(LoadSigned, SignedSize, Word), // 81
+    Instr::Neg {
+        width: Width::W32,
+        dst: Reg::R0,
+    }, // 84
+    Instr::CallHelper { id: 0 }, // 85
+    Instr::CallLocal { offset: 0 }, // 85
+    Instr::Neg {
+        width: Width::W64,
+        dst: Reg::R0,
+    }, // 87
+    load!(LoadSigned, SignedSize, Half), // 89
+    load!(LoadSigned, SignedSize, Byte), // 91
+    alu!(W32, Mod, NUMBER), // 94
+    alu!(W32, SMod, NUMBER), // 94
+    Instr::Exit, // 95
+    alu!(W64, Mod, NUMBER), // 97
+    alu!(W64, SMod, NUMBER), // 97
+    alu!(W32, Mod, REGISTER), // 9c
+    alu!(W32, SMod, REGISTER), // 9c
+    alu!(W64, Mod, REGISTER), // 9f
+    alu!(W64, SMod, REGISTER), // 9f
+    alu!(W32, Xor, NUMBER), // a4
+    jump!(W64, Lt, NUMBER), // a5
+    jump!(W32, Lt, NUMBER), // a6
+    alu!(W64, Xor, NUMBER), // a7
+    alu!(W32, Xor, REGISTER), // ac
+    jump!(W64, Lt, REGISTER), // ad
+    jump!(W32, Lt, REGISTER), // ae
+    alu!(W64, Xor, REGISTER), // af
+    alu!(W32, Mov, NUMBER), // b4
+    jump!(W64, Le, NUMBER), // b5
+    jump!(W32, Le, NUMBER), // b6
+    alu!(W64, Mov, NUMBER), // b7
+    alu!(W32, Mov, REGISTER), // bc
+    mov_sx!(MovSx8, W32), // bc
+    mov_sx!(MovSx16, W32), // bc
+    jump!(W64, Le, REGISTER), // bd
+    jump!(W32, Le, REGISTER), // be
+    alu!(W64, Mov, REGISTER), // bf
+    mov_sx!(MovSx8, W64), // bf
+    mov_sx!(MovSx16, W64), // bf
+    Instr::MovSx32 {
+        dst: Reg::R0,
+        src: Reg::R1,
+    }, // bf
+    atomic!(W32, Add), // c3
+    atomic!(W32, FetchAdd), // c3
+    atomic!(W32, Or), // c3
+    atomic!(W32, FetchOr), // c3
+    atomic!(W32, And), // c3
+    atomic!(W32, FetchAnd), // c3
+    atomic!(W32, Xor), // c3
+    atomic!(W32, FetchXor), // c3
+    atomic!(W32, Exchange), // c3
+    atomic!(W32, CompareExchange), // c3
+    alu!(W32, Arsh, NUMBER), // c4
+    jump!(W64, SLt, NUMBER), // c5
+    jump!(W32, SLt, NUMBER), // c6
+    alu!(W64, Arsh, NUMBER), // c7
+    alu!(W32, Arsh, REGISTER), // cc
+    jump!(W64, SLt, REGISTER), // cd
+    jump!(W32, SLt, REGISTER), // ce
+    alu!(W64, Arsh, REGISTER), // cf
+    end!(Little, W16), // d4
+    end!(Little, W32), // d4
+    end!(Little, W64), // d4
+    jump!(W64, SLe, NUMBER), // d5
+    jump!(W32, SLe, NUMBER), // d6
+    end!(Swapped, W16), // d7
+    end!(Swapped, W32), // d7
+    end!(Swapped, W64), // d7
+    atomic!(W64, Add), // db
+    atomic!(W64, FetchAdd), // db
+    atomic!(W64, Or), // db
+    atomic!(W64, FetchOr), // db
+    atomic!(W64, And), // db
+    atomic!(W64, FetchAnd), // db
+    atomic!(W64, Xor), // db
+    atomic!(W64, FetchXor), // db
+    atomic!(W64, Exchange), // db
+    atomic!(W64, CompareExchange), // db
+    end!(Big, W16), // dc
+    end!(Big, W32), // dc
+    end!(Big, W64), // dc
+    jump!(W64, SLe, REGISTER), // dd
+    jump!(W32, SLe, REGISTER), // de
 ];
 
-/// The rows of the table, each as one instruction: destination r0, source r1, and numbers 0. Rows of one opcode stand side
-/// by side.
+/// The rows of the table, each as one instruction: destination r0, source r1, and numbers 0. Rows of one opcode stand
+/// side by side.
 pub fn rows() -> &'static [Instr]
-    ensures listed { result.now ≡ all_rows }
+    ensures now { result.now ≡ all_rows }
     // No row is missing.
     ensures complete { (i : Instr) → Contains result.now (row_of i) }
     // Each element is a row.
