@@ -1,4 +1,3 @@
 pub mod Slots
-pub mod Opcodes
 pub mod Faults
 pub mod Decoding

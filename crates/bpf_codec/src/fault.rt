@@ -1,20 +1,57 @@
 //! Why no instruction is read.
+ghost use Rattle.std.specs.Prelude.{◌≡◌, ◌≤◌, length};
+ghost use Rattle.bpf_codec.specs.Faults.{fault_number, fault_name};
 
-/// Why the bytes at a slot spell no instruction. The least number whose condition holds is answered.
-#[derive(Clone, Copy, Drop, Debug, PartialEq, Eq)]
+use thiserror::Error;
+
+/// Why the bytes at a slot encode no instruction. The least number whose condition holds is answered. The numbers and
+/// names are this project's choice; the text of an error is its name.
+#[derive(Clone, Copy, Drop, Debug, PartialEq, Eq, Error)]
 pub enum Fault {
-    /// The opcode is neither in the instruction table nor one of packet access.
+    /// The opcode is neither in the instruction table nor one of legacy packet access.
+    #[error("Opcode")]
     Opcode = 1,
     /// A field that the opcode reads as a register holds 11 to 15 (RFC 9669, section 3.1).
+    #[error("Register")]
     Register = 2,
     /// An unused field or a reserved bit is not zero, or a field holds none of the opcode's values.
+    #[error("Field")]
     Field = 3,
     /// The second slot of a wide instruction is not there whole (section 3.2).
+    #[error("HalfWide")]
     HalfWide = 4,
-    /// The opcode is one of packet access, which is obsolete (section 5.5).
+    /// The opcode is one of legacy packet access, which is deprecated (section 5.5).
+    #[error("Packet")]
     Packet = 5,
     /// The source field names a value or a function of the platform (sections 4.3 and 5.4).
+    #[error("Platform")]
     Platform = 6,
     /// Fewer than eight bytes are left.
+    #[error("Short")]
     Short = 7,
+}
+
+impl Fault {
+    /// The fault's number. Of the faults that bytes have, that of the least number is answered.
+    pub fn number(self) -> u8
+        ensures { result ≡ fault_number self }
+    {
+        self as u8
+    }
+
+    /// The fault's name, as replies and refusals write it.
+    pub fn name(self) -> &'static [u8]
+        ensures name { result.now ≡ fault_name self }
+        ensures short { length result.now ≤ 10 }
+    {
+        match self {
+            Fault::Opcode => b"Opcode",
+            Fault::Register => b"Register",
+            Fault::Field => b"Field",
+            Fault::HalfWide => b"HalfWide",
+            Fault::Packet => b"Packet",
+            Fault::Platform => b"Platform",
+            Fault::Short => b"Short",
+        }
+    }
 }

@@ -1,16 +1,17 @@
 //! Reads and writes the instructions of RFC 9669 as bytes.
 #![tactic(auto)]
 
+mod building;
+mod checks;
 mod fault;
-mod forms;
-mod law;
+mod laws;
+mod layout;
+mod places;
 mod reading;
 mod slot;
-#[cfg(test)]
-mod tests;
 mod writing;
 
 pub use fault::Fault;
-pub use law::{none_begins_another, spelled_has_no_fault};
+pub use laws::{no_fault_where_encoded, none_begins_another, none_shared};
 pub use reading::decode_at;
 pub use writing::{encode, slots_of};

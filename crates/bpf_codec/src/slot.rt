@@ -4,7 +4,7 @@ ghost use Rattle.bpf_codec.specs.Slots.{fields};
 
 use byteorder::{ByteOrder, LittleEndian};
 
-/// The fields of eight bytes.
+/// The fields of eight bytes (RFC 9669, section 3.1).
 #[derive(Clone, Copy, Drop, Debug)]
 pub struct Slot {
     pub opcode: u8,

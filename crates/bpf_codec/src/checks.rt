@@ -1,0 +1,101 @@
+//! Which row of the instruction table a slot is of.
+ghost use Rattle.std.specs.Prelude.{◌≡◌};
+ghost use Rattle.bpf_codec.specs.Faults.{is_register, may_hold, has_registers_of, is_of, is_of_platform};
+ghost use Rattle.bpf_codec.specs.Decoding.{row_for, have_registers, checked};
+
+use crate::fault::Fault;
+use crate::layout::{Field, Layout, layout_of};
+use crate::slot::Slot;
+use isa_table::Instr;
+
+/// Whether the number is a register's, where the field is read as one.
+fn is_register_in(field: Field, n: u8) -> bool
+    ensures { result ≡ is_register field n }
+{
+    match field {
+        Field::Register(_) => n < 11,
+        _ => true,
+    }
+}
+
+/// Whether a field of this kind may hold the number.
+fn may_hold_in(field: Field, n: u32) -> bool
+    ensures { result ≡ may_hold field n }
+{
+    match field {
+        Field::Register(_) => n < 11,
+        Field::Only(m) => n == m,
+        _ => true,
+    }
+}
+
+#[tactic(auto, unfolding(crate::specs::Faults::has_registers_of))]
+fn holds_registers(f: Slot, l: Layout) -> bool
+    ensures { result ≡ has_registers_of f l }
+{
+    f.opcode == l.opcode && is_register_in(l.dst, f.dst) && is_register_in(l.src, f.src)
+}
+
+#[tactic(auto, unfolding(crate::specs::Faults::is_of))]
+fn fits_layout(f: Slot, l: Layout) -> bool
+    ensures { result ≡ is_of f l }
+{
+    f.opcode == l.opcode
+        && may_hold_in(l.dst, f.dst as u32)
+        && may_hold_in(l.src, f.src as u32)
+        && may_hold_in(l.offset, f.offset as u32)
+        && may_hold_in(l.imm, f.imm)
+}
+
+/// The first of these rows that the slot is of.
+fn find_row(f: Slot, rows: &[Instr]) -> Option<Instr>
+    ensures { result ≡ row_for f rows.now }
+{
+    for row in rows {
+        if fits_layout(f, layout_of(*row)) {
+            return Some(*row);
+        }
+    }
+    None
+}
+
+/// Whether the slot holds registers where some of these rows have them.
+fn any_holds_registers(f: Slot, rows: &[Instr]) -> bool
+    ensures { result ≡ have_registers f rows.now }
+{
+    for row in rows {
+        if holds_registers(f, layout_of(*row)) {
+            return true;
+        }
+    }
+    false
+}
+
+/// Whether only a platform defines what the slot means (RFC 9669, sections 4.3.1 and 5.4).
+fn is_platform(f: Slot) -> bool
+    ensures { result ≡ is_of_platform f }
+{
+    match f.opcode {
+        0x18 => f.dst < 11 && f.src >= 1 && f.src <= 6 && f.offset == 0,
+        0x85 => f.dst == 0 && f.src == 2 && f.offset == 0,
+        _ => false,
+    }
+}
+
+/// The row that the slot is of, by the rows of its opcode; none where the slot is the platform's.
+#[tactic(auto, unfolding(crate::specs::Decoding::checked))]
+pub fn check(f: Slot, rows: &[Instr]) -> Result<Option<Instr>, Fault>
+    ensures { result ≡ checked f rows.now }
+{
+    if let Some(row) = find_row(f, rows) {
+        return Ok(Some(row));
+    }
+    if is_platform(f) {
+        return Ok(None);
+    }
+    if any_holds_registers(f, rows) {
+        Err(Fault::Field)
+    } else {
+        Err(Fault::Register)
+    }
+}
