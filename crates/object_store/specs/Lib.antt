@@ -1,3 +1,5 @@
 pub mod Access
 pub mod Memories
 pub mod Objects
+pub mod Bodies
+pub mod Calls

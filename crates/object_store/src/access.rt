@@ -7,9 +7,14 @@ use isa_table::{AtomicOp, Size, Width};
 #[derive(Clone, Copy, Drop, Debug, PartialEq, Eq)]
 pub enum Action {
     /// A load of so many bytes (RFC 9669, section 5.1).
-    Load { size: Size },
+    Load {
+        size: Size,
+    },
     /// A store of the value's low bytes (RFC 9669, section 5.1).
-    Store { size: Size, value: u64 },
+    Store {
+        size: Size,
+        value: u64,
+    },
     /// An atomic operation with the values of the source register and of R0 (RFC 9669, section 5.3). Its width is its
     /// size: 4 or 8 bytes.
     Atomic {

@@ -42,6 +42,14 @@ fn write_if(bytes: &mut [u8], offset: usize, size: Size, value: Option<u64>)
     }
 }
 
+/// Writes bytes over those from an offset on.
+pub fn overwrite(bytes: &mut [u8], offset: usize, new: &[u8])
+    requires { offset + length new.now ≤ length bytes.old }
+    ensures { bytes.new ≡ replaced offset new.now bytes.old }
+{
+    bytes[offset..offset + new.len()].copy_from_slice(new);
+}
+
 /// Does an access on the bytes.
 pub fn act(bytes: &mut [u8], op: &Op) -> u64
     requires { IsInside op.now (length bytes.old) }
@@ -55,12 +63,7 @@ pub fn act(bytes: &mut [u8], op: &Op) -> u64
             write(bytes, offset, size, value);
             0
         }
-        Action::Atomic {
-            width,
-            op,
-            src,
-            r0,
-        } => {
+        Action::Atomic { width, op, src, r0 } => {
             let size = width.size();
             let old = read(bytes, offset, size);
             write_if(bytes, offset, size, atomic(op, width, old, src, r0));

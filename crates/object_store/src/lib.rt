@@ -5,9 +5,14 @@
 #![tactic(auto)]
 
 mod access;
+mod bodies;
 mod bytes;
+mod errors;
 mod memory;
+mod object_store;
 
 pub use access::{Action, Op, Reach};
 pub use bytes::act;
+pub use errors::{GetError, MakeError, PutError};
 pub use memory::Memory;
+pub use object_store::{OBJECT_BYTES, OBJECT_LIMIT, ObjectStore};

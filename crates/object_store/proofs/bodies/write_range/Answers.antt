@@ -1,0 +1,19 @@
+use Rattle.std.proofs.Common.{ℕ, List, ◌∙◌, map, set, get_or, ap, arith, length}
+use Rattle.std.proofs.lemmas.List.{map-set, with_items_is}
+use Rattle.object_store.specs.Access.{replaced}
+use Rattle.object_store.specs.Bodies.{bytes_in}
+use Rattle.object_store.proofs.Standing.{bytes_at}
+use Rattle.object_store.proofs.Lengths.{length-replaced}
+use Rattle.object_store.proofs.bodies.write_range.Goals as goal
+
+pub overwrite-requires : goal.overwrite-requires
+overwrite-requires c =
+    let same = c.as_mut_slice.ensures.value ∙ bytes_at c.args.bodies.now c.args.number c.index-bodies-number.result c.requires.found in
+    rw same c.requires.inside.1
+
+pub returns : goal.returns
+returns c =
+    let same = c.as_mut_slice.ensures.value ∙ bytes_at c.args.bodies.now c.args.number c.index-bodies-number.result c.requires.found in
+    let new = c.overwrite.ensures ∙ ap (replaced c.args.offset c.args.bytes.now) same in
+    let whole = with_items_is (get_or c.args.bodies.now c.args.number c.index-bodies-number.result).bytes c.overwrite.new.bytes (grind (arith, c.overwrite.auto.bytes, c.as_mut_slice.ensures.len, c.as_mut_slice.ensures.value)) in
+    rw map-set (ap (set (map bytes_in c.args.bodies.now) c.args.number) (whole ∙ new))
