@@ -1,6 +1,6 @@
 //! Which helpers there are.
 ghost use Rattle.std.specs.Prelude.{◌≡◌};
-ghost use Rattle.helpers.specs.Helpers.{helper_of};
+ghost use Rattle.helpers.specs.Helpers.{helper_of, closes_scopes};
 
 /// A helper function. Each gives a number in R0 and changes no other register.
 #[derive(Clone, Copy, Drop, Debug, PartialEq, Eq)]
@@ -27,5 +27,12 @@ impl Helper {
             4 => Some(Helper::CloseScopes),
             _ => None,
         }
+    }
+
+    /// Whether all scopes of the machine close with it.
+    pub fn closes_scopes(self) -> bool
+        ensures { result ≡ closes_scopes self }
+    {
+        matches!(self, Helper::CloseScopes)
     }
 }

@@ -1,5 +1,1 @@
-pub mod Values
-pub mod Goes
-pub mod Frames
-pub mod Outcomes
-pub mod Pointers
+pub mod Words

@@ -1,6 +1,3 @@
 pub mod MachineState
+pub mod Rows
 pub mod TableStep
-pub mod Invariant
-pub mod Jumps
-pub mod Laws
-pub mod Stack

@@ -1,14 +1,11 @@
-//! The machine that runs a program: one row of the instruction table a step.
+//! The machine that runs a program over a memory: one row of the instruction table a step.
 #![tactic(auto)]
 
-mod law;
-mod machines;
+mod jumps;
+mod machine;
 mod registers;
 mod state;
+mod wants;
 
-pub use law::{
-    always_steps, fuel_bounds, fuel_counts, starts_at_top, starts_whole, stays_apart, stays_whole,
-    steps_one_way, stopped_stays, stops_in_place,
-};
-pub use machines::Machine;
-pub use state::{Frame, Stepped, Stop};
+pub use machine::Machine;
+pub use state::{Accessing, Done, Frame, Stepped, Stop, Work, Written};

@@ -1,26 +1,70 @@
 //! Parts of a machine that others see.
 
+use isa_table::Size;
+use object_store::Op;
+
 /// Why a machine goes on no more.
 #[derive(Clone, Copy, Drop, Debug, PartialEq, Eq)]
 pub enum Stop {
     /// The program ended, with this value in R0.
     Exit(u64),
+    /// An access that isn't within the bytes of an object, or of the machine's stack.
+    Outside,
+    /// An atomic operation at an offset that is no multiple of its size.
+    Misaligned,
     /// A ninth call, where eight have not returned.
     Depth,
     /// No fuel is left.
     Spent,
+    /// The stamps of an object have run out.
+    Worn,
+}
+
+/// The bytes that an instruction wrote: of the object of that number, from the offset on.
+#[derive(Clone, Copy, Drop, Debug, PartialEq, Eq)]
+pub struct Written {
+    pub number: u32,
+    pub offset: u32,
+    pub size: Size,
 }
 
 /// What a step did.
 #[derive(Clone, Copy, Drop, Debug, PartialEq, Eq)]
 pub enum Stepped {
-    /// The instruction was done.
-    Ran,
+    /// The instruction was done, and wrote these bytes, if any.
+    Ran(Option<Written>),
+    /// The object of that number can't be reached now. Nothing was done.
+    Waiting(u32),
     /// The machine is stopped.
     Stopped(Stop),
 }
 
-/// What a call keeps for its return (RFC 9669, section 4.3.2).
+/// An access, and the number of the object that it is to.
+#[derive(Clone, Copy, Drop, Debug, PartialEq, Eq)]
+pub struct Accessing {
+    pub number: u32,
+    pub op: Op,
+}
+
+/// What an instruction wants of memory.
+#[derive(Clone, Copy, Drop, Debug, PartialEq, Eq)]
+pub enum Work {
+    /// Nothing.
+    Computes,
+    /// One access. That to the machine's own stack is done without memory.
+    Accesses(Accessing),
+    /// How many bytes the object of that number has.
+    Measures(u64),
+}
+
+/// What a step did, and whether all scopes of the machine close with it.
+#[derive(Clone, Copy, Drop, Debug, PartialEq, Eq)]
+pub struct Done {
+    pub answer: Stepped,
+    pub closes: bool,
+}
+
+/// What a call keeps for its return. That R6 to R9 and R10 are kept is the BPF ABI's convention.
 #[derive(Clone, Copy, Drop, Debug, Default, PartialEq, Eq)]
 pub struct Frame {
     /// The slot after the call.

@@ -1,5 +1,0 @@
-use Rattle.machine.proofs.Outcomes.{stopped_stays}
-use Rattle.machine.proofs.law.stopped_stays.Goals as goal
-
-pub returns : goal.returns
-returns c = stopped_stays
