@@ -1,6 +1,7 @@
-pub mod Stands
-pub mod Kept
-pub mod Refused
-pub mod Entered
-pub mod Walked
-pub mod Loads
+pub mod Positions
+pub mod KeptEntries
+pub mod OneReason
+pub mod ReadEntries
+pub mod Complaints
+pub mod CheckedEntries
+pub mod ValidEntries

@@ -2,3 +2,4 @@ pub mod Instructions
 pub mod ValidCode
 pub mod Entries
 pub mod Refusals
+pub mod Laws

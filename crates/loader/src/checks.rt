@@ -2,7 +2,7 @@
 ghost use Rattle.std.specs.Prelude.{◌≡◌, ◌<◌, ◌≤◌, ◌+◌, ◌↔◌, ℕ, pos, List, [], length, MatchOption, IfSome, IfNone};
 ghost use Rattle.isa_table.specs.declared.instr.Instr.{Instr};
 ghost use Rattle.bpf_codec.specs.Slots.{slots};
-ghost use Rattle.loader.specs.Instructions.{target, writes_r10, ends_code, is_r10};
+ghost use Rattle.loader.specs.Instructions.{target, writes_r10, calls_unknown_helper, ends_code};
 ghost use Rattle.loader.specs.ValidCode.{LeadsInside, IsSound, AllSound};
 ghost use Rattle.loader.specs.Entries.{all_entries};
 ghost use Rattle.loader.specs.Refusals.{IsLeastComplaint, IsFirstWrong};
@@ -27,23 +27,19 @@ fn target_of(slot: usize, instr: Instr) -> Option<i64>
     }
 }
 
-fn is_frame_pointer(register: Reg) -> bool
-    ensures { result ≡ is_r10 register }
-{
-    matches!(register, Reg::R10)
-}
-
+/// Whether R10 is written, which holds the frame pointer by the convention of the BPF ABI.
 fn writes_frame_pointer(instr: Instr) -> bool
     ensures { result ≡ writes_r10 instr }
 {
+    matches!(instr.destination(), Some(Reg::R10))
+}
+
+/// Whether a helper function of another number than 1 to 4 is called (RFC 9669, section 4.3.1, leaves the numbers open).
+fn calls_missing_helper(instr: Instr) -> bool
+    ensures { result ≡ calls_unknown_helper instr }
+{
     match instr {
-        Instr::Alu { dst, .. }
-        | Instr::Neg { dst, .. }
-        | Instr::MovSx8 { dst, .. }
-        | Instr::MovSx16 { dst, .. }
-        | Instr::MovSx32 { dst, .. }
-        | Instr::End { dst, .. }
-        | Instr::LoadWide { dst, .. } => is_frame_pointer(dst),
+        Instr::CallHelper { id } => id < 1 || id > 4,
         _ => false,
     }
 }
@@ -71,7 +67,7 @@ fn slot_of(number: i64, count: usize) -> Option<usize>
 fn jump_complaint(entries: &[Option<Instr>], slot: usize, instr: Instr) -> Option<Why>
     requires short { length entries.now ≤ 4096 }
     requires room { slot < 4096 }
-    ensures { (code behind : List Instr) → entries.now ≡ all_entries code → MatchOption result (LeadsInside code slot instr) (λ why. IsLeastComplaint code slot instr behind why) }
+    ensures { (code after : List Instr) → entries.now ≡ all_entries code → MatchOption result (LeadsInside code slot instr) (λ why. IsLeastComplaint code slot instr after why) }
 {
     let Some(to) = target_of(slot, instr) else {
         return None;
@@ -89,13 +85,16 @@ fn jump_complaint(entries: &[Option<Instr>], slot: usize, instr: Instr) -> Optio
 fn complaint(entries: &[Option<Instr>], slot: usize, instr: Instr) -> Option<Why>
     requires short { length entries.now ≤ 4096 }
     requires room { slot < 4096 }
-    ensures { (code behind : List Instr) → entries.now ≡ all_entries code → (behind ≡ []) ↔ (slot + slots instr ≡ length entries.now) → MatchOption result (IsSound code slot instr behind) (λ why. IsLeastComplaint code slot instr behind why) }
+    ensures { (code after : List Instr) → entries.now ≡ all_entries code → (after ≡ []) ↔ (slot + slots instr ≡ length entries.now) → MatchOption result (IsSound code slot instr after) (λ why. IsLeastComplaint code slot instr after why) }
 {
     if let Some(why) = jump_complaint(entries, slot, instr) {
         return Some(why);
     }
     if writes_frame_pointer(instr) {
         return Some(Why::WritesR10);
+    }
+    if calls_missing_helper(instr) {
+        return Some(Why::Helper);
     }
     if slot + slots_of(&instr) == entries.len() && !never_goes_on(instr) {
         return Some(Why::FallsOff);

@@ -1,13 +1,13 @@
-//! Takes code in, and finds it valid or says what is wrong with it and where.
+//! Loads code: finds it valid, or says what is wrong with it and where.
 #![tactic(auto)]
 
 mod checks;
-mod law;
+mod laws;
 mod loading;
 mod program;
 #[cfg(test)]
 mod tests;
 
-pub use law::{refused_for_one_reason, valid_code_is_taken};
+pub use laws::{refused_for_one_reason, valid_code_is_taken};
 pub use loading::{CODE_LIMIT, LoadError, Why, load};
 pub use program::Program;

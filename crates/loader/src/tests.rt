@@ -131,7 +131,7 @@ fn answers_instructions_by_slot(rt: HostRuntime) -> Result<(), Fail> {
         &[WIDE_R0, 0x0000_0000_0000_0080, MOV_R0_7, EXIT],
     )?;
     let program = load(rt.alloc(), bytes.as_slice())?;
-    let wide = Instr::LoadWide {
+    let wide = Instr::LoadImm64 {
         dst: Reg::R0,
         value: 1 << 63,
     };

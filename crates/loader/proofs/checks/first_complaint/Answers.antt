@@ -1,8 +1,8 @@
 use Rattle.std.proofs.Common.{◌∙◌, sym, ◌+◌, arith, subst, ℕ}
 use Rattle.loader.specs.declared.loading.LoadError.{LoadError}
 use Rattle.loader.specs.Refusals.{IsFirstWrong}
-use Rattle.loader.proofs.Stands.{slots_positive, slots_at_most_two}
-use Rattle.loader.proofs.Walked.{IsWalked, next_left, walk_on, wrong_here, all_walked, entry_within}
+use Rattle.loader.proofs.Positions.{slots_positive, slots_at_most_two}
+use Rattle.loader.proofs.CheckedEntries.{IsWalked, next_left, walk_on, wrong_here, all_walked, entry_within}
 use Rattle.loader.proofs.checks.first_complaint.Goals as goal
 
 pub complaint-requires : goal.complaint-requires
@@ -15,7 +15,7 @@ pub returns-in-Some-complaint : goal.returns-in-Some-complaint
 returns-in-Some-complaint c = λ code e.
     let w = c.instrs.invariant code e in
     let n = next_left c.args.entries.now c.instrs.slot c.in-Some.instr w.left w.entries (sym c.in-Some.is ∙ c.entry_at.ensures) in
-    let here = wrong_here _ _ _ code _ w n (rw c.in-Some-complaint.is at (c.complaint.ensures code n.behind e n.last)) in
+    let here = wrong_here _ _ _ code _ w n (rw c.in-Some-complaint.is at (c.complaint.ensures code n.after e n.last)) in
     subst (λ (r : LoadError). IsFirstWrong code code 0 r.slot r.why) (sym c.at.ensures) here
 
 pub overflow_add-slot : goal.overflow_add-slot
@@ -28,7 +28,7 @@ pub instrs-preserved : goal.instrs-preserved
 instrs-preserved c = λ code e.
     let w = c.instrs.invariant code e in
     let n = next_left c.args.entries.now c.instrs.slot c.in-Some.instr w.left w.entries (sym c.in-Some.is ∙ c.entry_at.ensures) in
-    let sound = rw c.in_default-complaint.is at (c.complaint.ensures code n.behind e n.last) in
+    let sound = rw c.in_default-complaint.is at (c.complaint.ensures code n.after e n.last) in
     subst (λ (k : ℕ). IsWalked c.args.entries.now (c.instrs.slot + k) code) (sym c.slots_of-slot.ensures) (walk_on _ _ _ code w n sound)
 
 pub returns : goal.returns

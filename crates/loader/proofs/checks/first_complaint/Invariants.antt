@@ -1,7 +1,7 @@
 use Rattle.std.proofs.Common.{◌≡◌, ◌-◌, List, length}
 use Rattle.isa_table.specs.declared.instr.Instr.{Instr}
 use Rattle.loader.specs.Entries.{all_entries}
-use Rattle.loader.proofs.Walked.{IsWalked}
+use Rattle.loader.proofs.CheckedEntries.{IsWalked}
 use Rattle.loader.proofs.checks.first_complaint.Given as goal
 
 abbrev pub invariant-instrs : goal.invariant-instrs
