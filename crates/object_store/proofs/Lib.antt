@@ -1,3 +1,4 @@
 pub mod Replacing
 pub mod Standing
 pub mod Lengths
+pub mod Accesses

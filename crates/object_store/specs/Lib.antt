@@ -3,3 +3,4 @@ pub mod Memories
 pub mod Objects
 pub mod Bodies
 pub mod Calls
+pub mod Laws
