@@ -1,10 +1,9 @@
 -- What the commands do: which reply each may have, and to which state it leads. Refusals change nothing, and are tested in the order written.
-use Rattle.std.specs.Prelude.{◌≡◌, ◌≢◌, ◌<◌, ◌≤◌, ℕ, ◌+◌, List, [], ◌∷◌, ◌++◌, length, take, drop, replicate, Option, Some, None}
+use Rattle.std.specs.Prelude.{◌≡◌, ◌≢◌, ◌≤◌, ℕ, ◌+◌, List, [], ◌∷◌, ◌++◌, length, take, drop, replicate, Option, Some, None}
 use Rattle.loader.specs.ValidCode.{ValidCode}
 use Rattle.loader.specs.Refusals.{HasCodeSize, Refuses}
 use Rattle.loader.specs.declared.loading.Why.TheVariants as why
-use Rattle.object_store.specs.Access.{replaced}
-use Rattle.object_store.specs.Objects.{bytes_of, with_bytes, map_memory}
+use Rattle.object_store.specs.Objects.{IsLive, IsFull, HasRange, with_bytes, range_of, with_range, map_memory}
 use Rattle.machine.specs.MachineState.{MachineState, start}
 use Rattle.machine.specs.TableStep.{TableStep}
 use Rattle.machine.specs.declared.state.Written.{Written}
@@ -15,59 +14,45 @@ use Rattle.world.specs.declared.events.Reply.{Reply}
 use Rattle.world.specs.declared.events.Reply.TheVariants.{Made, Freed, Done, Bytes, Shipped, Ran, Waiting, Stopped, Registers, Emitted, NoMemory, Full, Outside, Refused, Missing}
 use Rattle.world.specs.Commands.{Command}
 use Rattle.world.specs.Commands.Command.{Make, Free, Put, Get, Ship, Step, Regs, Out, Stack}
-use Rattle.world.specs.WorldState.{WorldState, HasMachineRoom, machine_at, with_machine, next_object, HasObjectRoom}
-
--- ---- ranges of bytes
-
--- so many bytes from an offset on are within these
-abbrev pub IsWithin : ℕ → ℕ → List ℕ → Type 0
-IsWithin offset size bytes = offset + size ≤ length bytes
-
-abbrev pub range : ℕ → ℕ → List ℕ → List ℕ
-range offset size bytes = take size (drop offset bytes)
+use Rattle.world.specs.WorldState.{WorldState, AreAllShipped, machine_at, with_machine}
 
 -- ---- objects
 
--- an object of so many zero bytes, of the next number
+-- an object of so many zero bytes; numbers count up from 1, and none is used again
 abbrev pub AnswersMake : WorldState → ℕ → Reply → WorldState → Type 0
-AnswersMake old size Full new = (HasObjectRoom old → ⊥) × (new ≡ old)
-AnswersMake old size NoMemory new = HasObjectRoom old × (new ≡ old)
-AnswersMake old size (Made n) new = HasObjectRoom old × (n ≡ next_object old) × (new ≡ record old { objects = old.objects ++ replicate size 0 ∷ [] })
+AnswersMake old size Full new = IsFull old.objects × (new ≡ old)
+AnswersMake old size NoMemory new = (IsFull old.objects → ⊥) × (new ≡ old)
+AnswersMake old size (Made n) new = (IsFull old.objects → ⊥) × (n ≡ length old.objects) × (new ≡ record old { objects = old.objects ++ replicate size 0 ∷ [] })
 AnswersMake old size _ new = ⊥
 
--- a number without bytes is no object
-abbrev pub IsLive : WorldState → ℕ → Type 0
-IsLive w n = 0 < length (bytes_of w.objects n)
-
--- the object is no more, and no other will have its number
+-- no bytes are left of the object
 abbrev pub AnswersFree : WorldState → ℕ → Reply → WorldState → Type 0
-AnswersFree old n Missing new = (IsLive old n → ⊥) × (new ≡ old)
-AnswersFree old n (Freed k) new = IsLive old n × (k ≡ n) × (new ≡ record old { objects = with_bytes old.objects n [] })
+AnswersFree old n Missing new = (IsLive old.objects n → ⊥) × (new ≡ old)
+AnswersFree old n (Freed k) new = IsLive old.objects n × (k ≡ n) × (new ≡ record old { objects = with_bytes old.objects n [] })
 AnswersFree old n _ new = ⊥
 
--- The bytes are written over those from the offset on. They take memory before they are in a command, so `nomem` may come first.
+-- The bytes stand over those of the object from the offset on. They take memory before the command is whole, so `nomem` comes first.
 abbrev pub AnswersPut : WorldState → ℕ → ℕ → List ℕ → Reply → WorldState → Type 0
 AnswersPut old n offset bytes NoMemory new = new ≡ old
-AnswersPut old n offset bytes Outside new = (IsWithin offset (length bytes) (bytes_of old.objects n) → ⊥) × (new ≡ old)
-AnswersPut old n offset bytes Done new = IsWithin offset (length bytes) (bytes_of old.objects n)
-    × (new ≡ record old { objects = with_bytes old.objects n (replaced offset bytes (bytes_of old.objects n)) })
+AnswersPut old n offset bytes Outside new = (HasRange old.objects n offset (length bytes) → ⊥) × (new ≡ old)
+AnswersPut old n offset bytes Done new = HasRange old.objects n offset (length bytes) × (new ≡ record old { objects = with_range old.objects n offset bytes })
 AnswersPut old n offset bytes _ new = ⊥
 
--- the bytes of the range
+-- the object's bytes from the offset on
 abbrev pub AnswersGet : WorldState → ℕ → ℕ → ℕ → Reply → WorldState → Type 0
-AnswersGet old n offset size Outside new = (IsWithin offset size (bytes_of old.objects n) → ⊥) × (new ≡ old)
-AnswersGet old n offset size NoMemory new = IsWithin offset size (bytes_of old.objects n) × (new ≡ old)
-AnswersGet old n offset size (Bytes shown) new = IsWithin offset size (bytes_of old.objects n) × (shown ≡ range offset size (bytes_of old.objects n)) × (new ≡ old)
+AnswersGet old n offset size Outside new = (HasRange old.objects n offset size → ⊥) × (new ≡ old)
+AnswersGet old n offset size NoMemory new = HasRange old.objects n offset size × (new ≡ old)
+AnswersGet old n offset size (Bytes shown) new = HasRange old.objects n offset size × (shown ≡ range_of old.objects n offset size) × (new ≡ old)
 AnswersGet old n offset size _ new = ⊥
 
 -- ---- machines
 
 -- a machine at the start of the code, of the next number; code that is empty or too long takes no memory
 abbrev pub AnswersShip : WorldState → ℕ → List ℕ → List ℕ → Reply → WorldState → Type 0
-AnswersShip old fuel arguments code Full new = (HasMachineRoom old → ⊥) × (new ≡ old)
-AnswersShip old fuel arguments code (Refused e) new = HasMachineRoom old × Refuses code e.slot e.why × (e.why ≢ why.Memory) × (new ≡ old)
-AnswersShip old fuel arguments code NoMemory new = HasMachineRoom old × HasCodeSize code × (new ≡ old)
-AnswersShip old fuel arguments code (Shipped m) new = HasMachineRoom old × ValidCode code × (m ≡ length old.machines + 1)
+AnswersShip old fuel arguments code Full new = AreAllShipped old × (new ≡ old)
+AnswersShip old fuel arguments code (Refused e) new = (AreAllShipped old → ⊥) × Refuses code e.slot e.why × (e.why ≢ why.Memory) × (new ≡ old)
+AnswersShip old fuel arguments code NoMemory new = (AreAllShipped old → ⊥) × HasCodeSize code × (new ≡ old)
+AnswersShip old fuel arguments code (Shipped m) new = (AreAllShipped old → ⊥) × ValidCode code × (m ≡ length old.machines + 1)
     × (new ≡ record old { machines = old.machines ++ start m code fuel arguments ∷ [] })
 AnswersShip old fuel arguments code _ new = ⊥
 
@@ -102,14 +87,17 @@ AnswersOut old m Missing new = (machine_at old m ≡ None) × (new ≡ old)
 AnswersOut old m (Emitted k values) new = (k ≡ m) × ((state : MachineState) × (machine_at old m ≡ Some state) × (values ≡ state.emitted)) × (new ≡ old)
 AnswersOut old m _ new = ⊥
 
--- the bytes of the range of the machine's stack
+-- so many of these bytes from the offset on
+abbrev pub ShowsRange : List ℕ → ℕ → ℕ → Reply → Type 0
+ShowsRange bytes offset size Outside = offset + size ≤ length bytes → ⊥
+ShowsRange bytes offset size NoMemory = offset + size ≤ length bytes
+ShowsRange bytes offset size (Bytes shown) = (offset + size ≤ length bytes) × (shown ≡ take size (drop offset bytes))
+ShowsRange bytes offset size _ = ⊥
+
+-- the bytes of the machine's stack
 abbrev pub AnswersStack : WorldState → ℕ → ℕ → ℕ → Reply → WorldState → Type 0
 AnswersStack old m offset size Missing new = (machine_at old m ≡ None) × (new ≡ old)
-AnswersStack old m offset size Outside new = ((state : MachineState) × (machine_at old m ≡ Some state) × (IsWithin offset size state.stack → ⊥)) × (new ≡ old)
-AnswersStack old m offset size NoMemory new = ((state : MachineState) × (machine_at old m ≡ Some state) × IsWithin offset size state.stack) × (new ≡ old)
-AnswersStack old m offset size (Bytes shown) new =
-    ((state : MachineState) × (machine_at old m ≡ Some state) × IsWithin offset size state.stack × (shown ≡ range offset size state.stack)) × (new ≡ old)
-AnswersStack old m offset size _ new = ⊥
+AnswersStack old m offset size reply new = ((state : MachineState) × (machine_at old m ≡ Some state) × ShowsRange state.stack offset size reply) × (new ≡ old)
 
 -- ---- commands
 

@@ -5,6 +5,6 @@ mod events;
 mod shown;
 mod world;
 
-pub use events::{Event, Reply};
+pub use events::{Event, ObjectLength, Reply};
 pub use shown::{Bytes, Shown, Values};
 pub use world::World;

@@ -1,5 +1,5 @@
 //! What the commands do.
-ghost use Rattle.std.specs.Prelude.{◌≡◌, ◌≢◌, ◌≤◌, ◌<◌, ◌++◌, ◌+◌, ℕ, List, map, length, IfOk, IfSome, IfNone, OnOk, OnErr, Some, None};
+ghost use Rattle.std.specs.Prelude.{◌≡◌, ◌≢◌, ◌<◌, ◌^◌, ◌++◌, ◌+◌, ℕ, List, map, length, IfOk, IfSome, IfNone, OnOk, OnErr, Some, None};
 ghost use Rattle.object_store.specs.Objects.{map_memory};
 ghost use Rattle.machine.specs.MachineState.{MachineState};
 ghost use Rattle.machine.specs.TableStep.{TableStep};
@@ -7,14 +7,14 @@ ghost use Rattle.world.specs.declared.events.Reply.{Reply};
 ghost use Rattle.world.specs.Run.{Runs};
 ghost use Rattle.world.specs.Commands.{command_of};
 ghost use Rattle.world.specs.Commands.Command.{Put, Ship};
-ghost use Rattle.world.specs.WorldState.{WorldState, world_start};
-ghost use Rattle.world.specs.Answers.{Answers, AnswersMake, AnswersFree, AnswersPut, AnswersGet, AnswersShip, AnswersStep, AnswersRegs, AnswersOut, AnswersStack, range, IsWithin};
+ghost use Rattle.world.specs.WorldState.{WorldState, machine_at, world_start};
+ghost use Rattle.world.specs.Answers.{Answers, AnswersMake, AnswersFree, AnswersPut, AnswersGet, AnswersShip, AnswersStep, AnswersRegs, AnswersOut, AnswersStack, ShowsRange};
 
-use crate::events::{Event, Reply};
+use crate::events::{Event, ObjectLength, Reply};
 use crate::shown::{Bytes, Shown, Values};
 use loader::{CODE_LIMIT, LoadError, Why, load};
 use machine::{Machine, Stepped};
-use object_store::{Made, ObjectStore};
+use object_store::{GetError, MakeError, ObjectStore, PutError};
 use std::alloc::{AllocError, Global};
 use std::marker::Model;
 
@@ -47,11 +47,15 @@ fn step_over(machine: &mut Machine, objects: &mut ObjectStore) -> Stepped
     machine.step(objects)
 }
 
-/// A copy of these bytes.
-fn shown_bytes(alloc: Global, bytes: &[u8]) -> Reply
-    ensures { (result ≡ Reply.NoMemory) ⊎ (result ≡ Reply.Bytes bytes.now) }
+/// The bytes from the offset on.
+fn show_range(alloc: Global, bytes: &[u8], offset: usize, length: usize) -> Reply
+    requires { (offset < 2 ^ 32) × (length < 2 ^ 32) }
+    ensures { ShowsRange bytes.now offset length result }
 {
-    match bytes.to_vec(alloc) {
+    if offset + length > bytes.len() {
+        return Reply::Outside;
+    }
+    match Vec::from_slice(alloc, &bytes[offset..offset + length]) {
         Ok(bytes) => Reply::Bytes(Bytes::new(bytes)),
         Err(_) => Reply::NoMemory,
     }
@@ -119,25 +123,149 @@ impl World {
         Ok(())
     }
 
-    /// What a `ship` is answered whose code, of so many bytes, found no memory. It is `Full` or `Refused` where no memory
-    /// would have been asked for.
-    pub fn ship_unread(&self, length: usize) -> Reply
-        ensures { (fuel : ℕ) (arguments code : List ℕ) → length code ≡ length → Answers self.now (Ship fuel arguments code) result self.now }
+    /// What a `ship` is answered whose code, of so many bytes, found no memory. It is refused in another way where no memory
+    /// is needed for that.
+    pub fn ship_unread(&self, count: usize) -> Reply
+        ensures { (fuel : ℕ) (arguments code : List ℕ) → length code ≡ count → Answers self.now (Ship fuel arguments code) result self.now }
     {
         if self.machines.len() >= MACHINE_LIMIT {
-            Reply::Full
-        } else if length == 0 {
-            Reply::Refused(LoadError {
-                slot: 0,
-                why: Why::Empty,
-            })
-        } else if length > CODE_LIMIT {
-            Reply::Refused(LoadError {
-                slot: 0,
-                why: Why::TooLong,
-            })
-        } else {
-            Reply::NoMemory
+            return Reply::Full;
         }
+        let why = match count {
+            0 => Why::Empty,
+            1..=CODE_LIMIT => return Reply::NoMemory,
+            _ => Why::TooLong,
+        };
+        Reply::Refused(LoadError { slot: 0, why })
+    }
+
+    /// Makes an object.
+    fn make(&mut self, length: ObjectLength) -> Reply
+        ensures { AnswersMake self.old length result self.new }
+    {
+        match self.objects.make(length.get()) {
+            Ok(object) => Reply::Made { object },
+            Err(MakeError::Full) => Reply::Full,
+            Err(MakeError::Memory) => Reply::NoMemory,
+        }
+    }
+
+    /// Frees an object.
+    fn free(&mut self, object: u32) -> Reply
+        ensures { AnswersFree self.old object result self.new }
+    {
+        if !self.objects.free(object) {
+            return Reply::Missing;
+        }
+        Reply::Freed { object }
+    }
+
+    /// Writes bytes into an object.
+    fn put(&mut self, object: u32, offset: u32, bytes: &[u8]) -> Reply
+        ensures answers { AnswersPut self.old object offset bytes.now result self.new }
+        ensures memory { result ≢ Reply.NoMemory }
+    {
+        match self.objects.put(object, offset, bytes) {
+            Ok(()) => Reply::Done,
+            Err(PutError::Outside) => Reply::Outside,
+        }
+    }
+
+    /// Bytes of an object.
+    fn get(&self, object: u32, offset: u32, length: u32) -> Reply
+        ensures { AnswersGet self.now object offset length result self.now }
+    {
+        match self.objects.get(object, offset, length) {
+            Ok(bytes) => Reply::Bytes(Bytes::new(bytes)),
+            Err(GetError::Outside) => Reply::Outside,
+            Err(GetError::Memory) => Reply::NoMemory,
+        }
+    }
+
+    /// Makes a machine of the code.
+    fn ship(&mut self, fuel: u64, arguments: [u64; 5], code: &[u8]) -> Reply
+        ensures { AnswersShip self.old fuel arguments code.now result self.new }
+    {
+        if self.machines.len() >= MACHINE_LIMIT {
+            return Reply::Full;
+        }
+        let machine = self.machines.len() + 1;
+        match load(self.alloc, code) {
+            Ok(program) => {
+                let shipped = Machine::new(program, machine, fuel, arguments);
+                let _ = self.machines.push(shipped);
+                Reply::Shipped { machine }
+            }
+            Err(error) if error.why == Why::Memory => Reply::NoMemory,
+            Err(error) => Reply::Refused(error),
+        }
+    }
+
+    /// One step of a machine.
+    fn step(&mut self, machine: usize) -> Reply
+        ensures { AnswersStep self.old machine result self.new }
+    {
+        if machine == 0 || machine > self.machines.len() {
+            return Reply::Missing;
+        }
+        let stepping = &mut self.machines[machine - 1];
+        match step_over(stepping, &mut self.objects) {
+            Stepped::Ran(_) => Reply::Ran {
+                machine,
+                slot: stepping.slot(),
+            },
+            Stepped::Waiting(object) => Reply::Waiting { machine, object },
+            Stepped::Stopped(stop) => Reply::Stopped { machine, stop },
+        }
+    }
+
+    /// The machine of a number.
+    fn machine(&self, machine: usize) -> Option<&Machine>
+        ensures found { IfSome result (λ m. machine_at self.now machine ≡ Some m.now) }
+        ensures none { IfNone result (machine_at self.now machine ≡ None) }
+    {
+        if machine == 0 || machine > self.machines.len() {
+            return None;
+        }
+        Some(&self.machines[machine - 1])
+    }
+
+    /// What a machine is.
+    fn regs(&self, machine: usize) -> Reply
+        ensures { AnswersRegs self.now machine result self.now }
+    {
+        let Some(shown) = self.machine(machine) else {
+            return Reply::Missing;
+        };
+        Reply::Registers(Shown {
+            machine,
+            slot: shown.slot(),
+            fuel: shown.fuel(),
+            stop: shown.stop(),
+            registers: *shown.registers(),
+        })
+    }
+
+    /// What a machine has emitted.
+    fn out(&self, machine: usize) -> Reply
+        ensures { AnswersOut self.now machine result self.now }
+    {
+        let Some(shown) = self.machine(machine) else {
+            return Reply::Missing;
+        };
+        Reply::Emitted {
+            machine,
+            values: Values::new(shown.emitted()),
+        }
+    }
+
+    /// Bytes of a machine's stack.
+    fn stack(&self, machine: usize, offset: u32, length: u32) -> Reply
+        ensures { AnswersStack self.now machine offset length result self.now }
+    {
+        let Some(shown) = self.machine(machine) else {
+            return Reply::Missing;
+        };
+        show_range(self.alloc, shown.stack(), offset as usize, length as usize)
     }
 }
