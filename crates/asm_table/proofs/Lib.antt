@@ -1,0 +1,4 @@
+pub mod Built
+pub mod Lookups
+pub mod Rising
+pub mod Searched

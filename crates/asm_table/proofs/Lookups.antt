@@ -1,0 +1,187 @@
+-- Each mnemonic of one word is found by its name.
+use Rattle.std.proofs.Common.{◌≡◌, ℕ, Bool, true, false, cond, List, [], ◌∷◌, refl, sym, ap, ◌∙◌, Some}
+use Rattle.std.proofs.lemmas.Slice.Eq.{bytes_eq-Decides}
+use Rattle.std.specs.Str.{bytes_eq}
+use Rattle.isa_table.specs.declared.instr.AtomicOp.TheVariants as atomic
+use Rattle.isa_table.specs.declared.instr.Binary.TheVariants as binary
+use Rattle.isa_table.specs.declared.instr.Cond.TheVariants as condition
+use Rattle.isa_table.specs.declared.instr.Order.TheVariants as order
+use Rattle.isa_table.specs.declared.instr.Reg.{Reg}
+use Rattle.isa_table.specs.declared.instr.Reg.TheVariants.{R0, R1, R2, R3, R4, R5, R6, R7, R8, R9, R10}
+use Rattle.isa_table.specs.declared.instr.SignedSize.TheVariants as signed_size
+use Rattle.isa_table.specs.declared.instr.Size.TheVariants as size
+use Rattle.isa_table.specs.declared.instr.SwapWidth.TheVariants as swap
+use Rattle.isa_table.specs.declared.instr.Width.TheVariants as width
+use Rattle.asm_table.specs.declared.mnemonic.Mnemonic.{Mnemonic}
+use Rattle.asm_table.specs.declared.mnemonic.Mnemonic.TheVariants as mnemonic
+use Rattle.asm_table.specs.declared.named.TheConstants.{BY_NAME}
+use Rattle.asm_table.specs.Mnemonics.{name}
+use Rattle.asm_table.specs.Names.{named, named_in, is_local, register_name, register_named}
+
+pub named_name : (m : Mnemonic) → is_local m ≡ false → named (name m) ≡ Some m
+unfolding named
+named_name mnemonic.CallLocal h = absurd (cc h)
+named_name (mnemonic.Alu width.W64 binary.Add) h = refl
+named_name (mnemonic.Alu width.W32 binary.Add) h = refl
+named_name (mnemonic.Alu width.W64 binary.And) h = refl
+named_name (mnemonic.Alu width.W32 binary.And) h = refl
+named_name (mnemonic.Alu width.W64 binary.Arsh) h = refl
+named_name (mnemonic.Alu width.W32 binary.Arsh) h = refl
+named_name (mnemonic.Alu width.W64 binary.Div) h = refl
+named_name (mnemonic.Alu width.W32 binary.Div) h = refl
+named_name (mnemonic.Alu width.W64 binary.Lsh) h = refl
+named_name (mnemonic.Alu width.W32 binary.Lsh) h = refl
+named_name (mnemonic.Alu width.W64 binary.Mod) h = refl
+named_name (mnemonic.Alu width.W32 binary.Mod) h = refl
+named_name (mnemonic.Alu width.W64 binary.Mov) h = refl
+named_name (mnemonic.Alu width.W32 binary.Mov) h = refl
+named_name (mnemonic.Alu width.W64 binary.Mul) h = refl
+named_name (mnemonic.Alu width.W32 binary.Mul) h = refl
+named_name (mnemonic.Alu width.W64 binary.Or) h = refl
+named_name (mnemonic.Alu width.W32 binary.Or) h = refl
+named_name (mnemonic.Alu width.W64 binary.Rsh) h = refl
+named_name (mnemonic.Alu width.W32 binary.Rsh) h = refl
+named_name (mnemonic.Alu width.W64 binary.SDiv) h = refl
+named_name (mnemonic.Alu width.W32 binary.SDiv) h = refl
+named_name (mnemonic.Alu width.W64 binary.SMod) h = refl
+named_name (mnemonic.Alu width.W32 binary.SMod) h = refl
+named_name (mnemonic.Alu width.W64 binary.Sub) h = refl
+named_name (mnemonic.Alu width.W32 binary.Sub) h = refl
+named_name (mnemonic.Alu width.W64 binary.Xor) h = refl
+named_name (mnemonic.Alu width.W32 binary.Xor) h = refl
+named_name (mnemonic.Neg width.W64) h = refl
+named_name (mnemonic.Neg width.W32) h = refl
+named_name (mnemonic.MovSx8 width.W64) h = refl
+named_name (mnemonic.MovSx8 width.W32) h = refl
+named_name (mnemonic.MovSx16 width.W64) h = refl
+named_name (mnemonic.MovSx16 width.W32) h = refl
+named_name mnemonic.MovSx32 h = refl
+named_name (mnemonic.End order.Big swap.W16) h = refl
+named_name (mnemonic.End order.Big swap.W32) h = refl
+named_name (mnemonic.End order.Big swap.W64) h = refl
+named_name (mnemonic.End order.Swapped swap.W16) h = refl
+named_name (mnemonic.End order.Swapped swap.W32) h = refl
+named_name (mnemonic.End order.Swapped swap.W64) h = refl
+named_name (mnemonic.End order.Little swap.W16) h = refl
+named_name (mnemonic.End order.Little swap.W32) h = refl
+named_name (mnemonic.End order.Little swap.W64) h = refl
+named_name (mnemonic.Jump width.W64 condition.Eq) h = refl
+named_name (mnemonic.Jump width.W32 condition.Eq) h = refl
+named_name (mnemonic.Jump width.W64 condition.Ge) h = refl
+named_name (mnemonic.Jump width.W32 condition.Ge) h = refl
+named_name (mnemonic.Jump width.W64 condition.Gt) h = refl
+named_name (mnemonic.Jump width.W32 condition.Gt) h = refl
+named_name (mnemonic.Jump width.W64 condition.Le) h = refl
+named_name (mnemonic.Jump width.W32 condition.Le) h = refl
+named_name (mnemonic.Jump width.W64 condition.Lt) h = refl
+named_name (mnemonic.Jump width.W32 condition.Lt) h = refl
+named_name (mnemonic.Jump width.W64 condition.Ne) h = refl
+named_name (mnemonic.Jump width.W32 condition.Ne) h = refl
+named_name (mnemonic.Jump width.W64 condition.Set) h = refl
+named_name (mnemonic.Jump width.W32 condition.Set) h = refl
+named_name (mnemonic.Jump width.W64 condition.SGe) h = refl
+named_name (mnemonic.Jump width.W32 condition.SGe) h = refl
+named_name (mnemonic.Jump width.W64 condition.SGt) h = refl
+named_name (mnemonic.Jump width.W32 condition.SGt) h = refl
+named_name (mnemonic.Jump width.W64 condition.SLe) h = refl
+named_name (mnemonic.Jump width.W32 condition.SLe) h = refl
+named_name (mnemonic.Jump width.W64 condition.SLt) h = refl
+named_name (mnemonic.Jump width.W32 condition.SLt) h = refl
+named_name mnemonic.Ja h = refl
+named_name mnemonic.JaLong h = refl
+named_name mnemonic.CallHelper h = refl
+named_name mnemonic.Exit h = refl
+named_name (mnemonic.Load size.Byte) h = refl
+named_name (mnemonic.Load size.Double) h = refl
+named_name (mnemonic.Load size.Half) h = refl
+named_name (mnemonic.Load size.Word) h = refl
+named_name (mnemonic.LoadSigned signed_size.Byte) h = refl
+named_name (mnemonic.LoadSigned signed_size.Half) h = refl
+named_name (mnemonic.LoadSigned signed_size.Word) h = refl
+named_name (mnemonic.StoreImm size.Byte) h = refl
+named_name (mnemonic.StoreImm size.Double) h = refl
+named_name (mnemonic.StoreImm size.Half) h = refl
+named_name (mnemonic.StoreImm size.Word) h = refl
+named_name (mnemonic.StoreRegister size.Byte) h = refl
+named_name (mnemonic.StoreRegister size.Double) h = refl
+named_name (mnemonic.StoreRegister size.Half) h = refl
+named_name (mnemonic.StoreRegister size.Word) h = refl
+named_name (mnemonic.Atomic width.W64 atomic.Add) h = refl
+named_name (mnemonic.Atomic width.W32 atomic.Add) h = refl
+named_name (mnemonic.Atomic width.W64 atomic.And) h = refl
+named_name (mnemonic.Atomic width.W32 atomic.And) h = refl
+named_name (mnemonic.Atomic width.W64 atomic.CompareExchange) h = refl
+named_name (mnemonic.Atomic width.W32 atomic.CompareExchange) h = refl
+named_name (mnemonic.Atomic width.W64 atomic.FetchAdd) h = refl
+named_name (mnemonic.Atomic width.W32 atomic.FetchAdd) h = refl
+named_name (mnemonic.Atomic width.W64 atomic.FetchAnd) h = refl
+named_name (mnemonic.Atomic width.W32 atomic.FetchAnd) h = refl
+named_name (mnemonic.Atomic width.W64 atomic.FetchOr) h = refl
+named_name (mnemonic.Atomic width.W32 atomic.FetchOr) h = refl
+named_name (mnemonic.Atomic width.W64 atomic.FetchXor) h = refl
+named_name (mnemonic.Atomic width.W32 atomic.FetchXor) h = refl
+named_name (mnemonic.Atomic width.W64 atomic.Or) h = refl
+named_name (mnemonic.Atomic width.W32 atomic.Or) h = refl
+named_name (mnemonic.Atomic width.W64 atomic.Exchange) h = refl
+named_name (mnemonic.Atomic width.W32 atomic.Exchange) h = refl
+named_name (mnemonic.Atomic width.W64 atomic.Xor) h = refl
+named_name (mnemonic.Atomic width.W32 atomic.Xor) h = refl
+named_name mnemonic.LoadImm64 h = refl
+
+-- what is found has this name
+
+named_at : (ms : List Mnemonic) (w : List ℕ) (m k : Mnemonic) (b : Bool) → bytes_eq (name k) w ≡ b → (named_in ms w ≡ Some m → w ≡ name m) → cond b (Some k) (named_in ms w) ≡ Some m → w ≡ name m
+named_at ms w m k true e h f = let i : k ≡ m = cc f in sym ((bytes_eq-Decides (name k) w).0 e) ∙ ap name i
+named_at ms w m k false e h f = h f
+
+named_in_is : (ms : List Mnemonic) (w : List ℕ) (m : Mnemonic) → named_in ms w ≡ Some m → w ≡ name m
+named_in_is [] w m e = absurd (cc e)
+named_in_is (k ∷ ms) w m e = named_at ms w m k (bytes_eq (name k) w) refl (λ f. named_in_is ms w m f) e
+
+pub named_is : (w : List ℕ) (m : Mnemonic) → named w ≡ Some m → w ≡ name m
+unfolding named
+named_is w m e = named_in_is BY_NAME.now w m e
+
+-- a test that holds of all mnemonics in the table holds of what is found
+all_pass : (Mnemonic → Bool) → List Mnemonic → Bool
+all_pass p [] = true
+all_pass p (m ∷ ms) = cond (p m) (all_pass p ms) false
+
+passes_at : (p : Mnemonic → Bool) (ms : List Mnemonic) (w : List ℕ) (m k : Mnemonic) (b c : Bool) → p k ≡ c → cond c (all_pass p ms) false ≡ true → (all_pass p ms ≡ true → named_in ms w ≡ Some m → p m ≡ true) → cond b (Some k) (named_in ms w) ≡ Some m → p m ≡ true
+passes_at p ms w m k b false e a h f = absurd (cc a)
+passes_at p ms w m k true true e a h f = let i : k ≡ m = cc f in sym (ap p i) ∙ e
+passes_at p ms w m k false true e a h f = h a f
+
+passes : (p : Mnemonic → Bool) (ms : List Mnemonic) (w : List ℕ) (m : Mnemonic) → all_pass p ms ≡ true → named_in ms w ≡ Some m → p m ≡ true
+unfolding all_pass
+passes p [] w m a e = absurd (cc e)
+passes p (k ∷ ms) w m a e = passes_at p ms w m k (bytes_eq (name k) w) (p k) refl a (λ a e. passes p ms w m a e) e
+
+one_word : Mnemonic → Bool
+one_word m = cond (is_local m) false true
+
+all_one_word : all_pass one_word BY_NAME.now ≡ true
+unfolding all_pass one_word
+all_one_word = refl
+
+not_local : (b : Bool) → cond b false true ≡ true → b ≡ false
+not_local true e = absurd (cc e)
+not_local false e = refl
+
+-- `call local` isn't found by one word
+pub named_local : (w : List ℕ) (m : Mnemonic) → named w ≡ Some m → is_local m ≡ false
+unfolding named one_word
+named_local w m e = not_local (is_local m) (passes one_word BY_NAME.now w m all_one_word e)
+
+pub register_again : (r : Reg) → register_named (register_name r) ≡ Some r
+register_again R0 = refl
+register_again R1 = refl
+register_again R2 = refl
+register_again R3 = refl
+register_again R4 = refl
+register_again R5 = refl
+register_again R6 = refl
+register_again R7 = refl
+register_again R8 = refl
+register_again R9 = refl
+register_again R10 = refl
