@@ -1,0 +1,79 @@
+-- The word of an object, and what each call changes in it. The words are this project's choice, after AIFM's pointers.
+use Rattle.std.specs.Prelude.{ℕ, ◌+◌, ◌-◌, ◌*◌, ◌<◌, ◌^◌, nat_lt, nat_le, nat_eq, ◌&&◌, not, Bool, true, false, cond, Option, Some, None}
+use Rattle.pointer_word.specs.declared.word.Place.{Place}
+use Rattle.pointer_word.specs.declared.word.Place.TheVariants.{Local, Moving, Far}
+
+pub record WordRecord : Type 0 where
+  -- where the object is
+  pub place : Place
+  -- an actor has its turn
+  pub turn : Bool
+  -- it was used lately
+  pub hot : Bool
+  -- how many scopes are open on it
+  pub count : ℕ
+  -- of the last entry of its history
+  pub stamp : ℕ
+
+abbrev pub place_number : Place → ℕ
+place_number Local = 0
+place_number Moving = 1
+place_number Far = 2
+
+abbrev pub bit : Bool → ℕ
+bit true = 1
+bit false = 0
+
+-- the word as a number
+abbrev pub word_number : WordRecord → ℕ
+word_number w = place_number w.place + 4 * bit w.turn + 8 * bit w.hot + 256 * w.count + 65536 * w.stamp
+
+abbrev pub stamp_limit : ℕ
+stamp_limit = 2 ^ 48 - 1
+
+-- the counts are those that the word has room for
+abbrev pub HasFields : WordRecord → Type 0
+HasFields w = (w.count < 256) × (w.stamp < 2 ^ 48)
+
+abbrev pub new_word : WordRecord
+new_word = record { place = Local; turn = false; hot = false; count = 0; stamp = 0 }
+
+abbrev pub is_local : Place → Bool
+is_local Local = true
+is_local _ = false
+
+abbrev pub is_moving : Place → Bool
+is_moving Moving = true
+is_moving _ = false
+
+abbrev pub is_far : Place → Bool
+is_far Far = true
+is_far _ = false
+
+-- the changed word, where the call applies
+abbrev pub where_it_applies : Bool → WordRecord → Option WordRecord
+where_it_applies applies w = cond applies (Some w) None
+
+abbrev pub opened : WordRecord → Option WordRecord
+opened w = where_it_applies (nat_lt w.count 255) (record w { count = w.count + 1 })
+
+abbrev pub closed : WordRecord → Option WordRecord
+closed w = where_it_applies (nat_lt 0 w.count) (record w { count = w.count - 1 })
+
+abbrev pub taken : WordRecord → Option WordRecord
+taken w = where_it_applies (is_local w.place && not w.turn) (record w { turn = true })
+
+abbrev pub given : WordRecord → ℕ → Option WordRecord
+given w s = where_it_applies (w.turn && nat_le w.stamp s && nat_le s stamp_limit) (record w { turn = false; stamp = s })
+
+abbrev pub leaving : WordRecord → Option WordRecord
+leaving w = where_it_applies (is_local w.place && nat_eq w.count 0 && not w.turn) (record w { place = Moving })
+
+abbrev pub left : WordRecord → Option WordRecord
+left w = where_it_applies (is_moving w.place) (record w { place = Far })
+
+abbrev pub returning : WordRecord → Option WordRecord
+returning w = where_it_applies (is_far w.place) (record w { place = Moving })
+
+abbrev pub home : WordRecord → Option WordRecord
+home w = where_it_applies (is_moving w.place) (record w { place = Local })

@@ -1,0 +1,65 @@
+//! Worked words.
+
+use crate::word::Word;
+
+/// The numbers of a word through a scope, a turn, a move to the far store and back.
+fn travelled() -> Option<[u64; 8]> {
+    let opened = Word::of(0)?.opened()?;
+    let taken = opened.taken()?;
+    let given = taken.given(5)?;
+    let closed = given.closed()?;
+    let leaving = closed.leaving()?;
+    let left = leaving.left()?;
+    let returning = left.returning()?;
+    let home = returning.home()?;
+    Some([
+        opened.number(),
+        taken.number(),
+        given.number(),
+        closed.number(),
+        leaving.number(),
+        left.number(),
+        returning.number(),
+        home.number(),
+    ])
+}
+
+#[test]
+fn a_word_travels(rt: HostRuntime) {
+    assert_eq!(rt;
+        travelled(),
+        Some([
+            0x100, 0x104, 0x5_0100, 0x5_0000, 0x5_0001, 0x5_0002, 0x5_0001, 0x5_0000
+        ])
+    );
+}
+
+/// Whether an object with an open scope, or whose turn is taken, leaves.
+fn leaves_while_held() -> Option<bool> {
+    let scoped = Word::of(0x5_0100)?.leaving().is_some();
+    let taken = Word::of(0x5_0004)?.leaving().is_some();
+    Some(scoped || taken)
+}
+
+#[test]
+fn a_held_object_stays(rt: HostRuntime) {
+    assert_eq!(rt; leaves_while_held(), Some(false));
+}
+
+#[test]
+fn numbers_that_are_no_words(rt: HostRuntime) {
+    assert!(rt; Word::of(3).is_none());
+    assert!(rt; Word::of(0x10).is_none());
+    assert!(rt; Word::of(0x80).is_none());
+}
+
+/// Whether a stamp above the greatest, or below the old one, is taken.
+fn wrong_stamps() -> Option<bool> {
+    let word = Word::of(0x5_0004)?;
+    Some(word.given(0x1_0000_0000_0000).is_some() || word.given(4).is_some())
+}
+
+#[test]
+fn a_stamp_neither_falls_nor_wraps(rt: HostRuntime) {
+    assert_eq!(rt; wrong_stamps(), Some(false));
+}

@@ -1,0 +1,208 @@
+//! Words.
+ghost use Rattle.std.specs.Prelude.{◌≡◌, None, IfSome};
+ghost use Rattle.pointer_word.specs.Words.{WordRecord, HasFields, word_number, new_word, opened, closed, taken, given, leaving, left, returning, home};
+
+use std::marker::Model;
+
+/// Where an object is.
+#[derive(Clone, Copy, Drop, Debug, PartialEq, Eq)]
+pub enum Place {
+    /// It may be reached.
+    Local,
+    /// It is on its way to the far store, or back.
+    Moving,
+    /// The far store has it.
+    Far,
+}
+
+/// The greatest stamp.
+pub const STAMP_LIMIT: u64 = 0xffff_ffff_ffff;
+
+const PLACE: u64 = 0x3;
+
+const TURN: u64 = 0x4;
+
+const SCOPE: u64 = 0x100;
+
+/// An object's word, kept in 64 bits: bits 0 and 1 are its place, bit 2 says that an actor has its turn, bit 3 that it
+/// was used lately, bits 4 to 7 are zero, bits 8 to 15 count the scopes that are open on it, bits 16 to 63 are its stamp.
+/// The layout is this project's choice.
+#[derive(Drop)]
+pub struct Word {
+    bits: u64,
+}
+
+impl Model for Word {
+    ghost use Rattle.pointer_word.specs.Words.{WordRecord};
+    ghost use Rattle.pointer_word.specs.Bits.{fields_of, IsWord};
+
+    ghost Value = { WordRecord };
+
+    ghost view = { λ w. fields_of w.bits };
+
+    ghost invariant = { λ w. IsWord w.bits };
+}
+
+impl Word {
+    /// The word of an object that is here, and that no one holds.
+    pub fn new() -> Self
+        ensures { result ≡ new_word }
+    {
+        Word { bits: 0 }
+    }
+
+    /// The word of this number. There is none where the place would be 3, or one of bits 4 to 7 is set.
+    pub fn of(number: u64) -> Option<Self>
+        ensures some { IfSome result (λ w. word_number w ≡ number) }
+        ensures none { result ≡ None → (w : WordRecord) → HasFields w → word_number w ≡ number → ⊥ }
+    {
+        if number & PLACE == 3 || number >> 4 & 0xf != 0 {
+            None
+        } else {
+            Some(Word { bits: number })
+        }
+    }
+
+    /// The word's number.
+    pub fn number(&self) -> u64
+        ensures { result ≡ word_number self.now }
+    {
+        self.bits
+    }
+
+    /// Where the object is.
+    pub fn place(&self) -> Place
+        ensures { result ≡ self.now.place }
+    {
+        match self.bits & PLACE {
+            0 => Place::Local,
+            1 => Place::Moving,
+            _ => Place::Far,
+        }
+    }
+
+    /// How many scopes are open on the object.
+    pub fn scopes(&self) -> u8
+        ensures { result ≡ self.now.count }
+    {
+        (self.bits >> 8 & 0xff) as u8
+    }
+
+    /// The stamp of the last entry of the object's history; 0 where it has none.
+    pub fn stamp(&self) -> u64
+        ensures { result ≡ self.now.stamp }
+    {
+        self.bits >> 16
+    }
+
+    /// Whether an actor has the object's turn.
+    pub fn has_turn(&self) -> bool
+        ensures { result ≡ self.now.turn }
+    {
+        self.bits >> 2 & 1 == 1
+    }
+
+    /// One more scope, where there are fewer than 255.
+    pub fn opened(&self) -> Option<Self>
+        ensures { result ≡ opened self.now }
+    {
+        if self.scopes() < 255 {
+            Some(Word {
+                bits: self.bits + SCOPE,
+            })
+        } else {
+            None
+        }
+    }
+
+    /// One scope fewer, where there is one.
+    pub fn closed(&self) -> Option<Self>
+        ensures { result ≡ closed self.now }
+    {
+        if self.scopes() > 0 {
+            Some(Word {
+                bits: self.bits - SCOPE,
+            })
+        } else {
+            None
+        }
+    }
+
+    /// The turn is taken, where the object is here and nobody has it.
+    pub fn taken(&self) -> Option<Self>
+        ensures { result ≡ taken self.now }
+    {
+        if self.bits & PLACE == 0 && !self.has_turn() {
+            Some(Word {
+                bits: self.bits + TURN,
+            })
+        } else {
+            None
+        }
+    }
+
+    /// The turn is given back with a stamp, which is at least the old one and at most [`STAMP_LIMIT`].
+    pub fn given(&self, stamp: u64) -> Option<Self>
+        ensures { result ≡ given self.now stamp }
+    {
+        if self.has_turn() && stamp >= self.stamp() && stamp <= STAMP_LIMIT {
+            Some(Word {
+                bits: self.bits - TURN + (stamp - self.stamp() << 16),
+            })
+        } else {
+            None
+        }
+    }
+
+    /// The object leaves, where it is here and neither a scope is open on it nor its turn taken.
+    pub fn leaving(&self) -> Option<Self>
+        ensures { result ≡ leaving self.now }
+    {
+        if self.bits & PLACE == 0 && self.scopes() == 0 && !self.has_turn() {
+            Some(Word {
+                bits: self.bits + 1,
+            })
+        } else {
+            None
+        }
+    }
+
+    /// The object that was moving is far.
+    pub fn left(&self) -> Option<Self>
+        ensures { result ≡ left self.now }
+    {
+        if self.bits & PLACE == 1 {
+            Some(Word {
+                bits: self.bits + 1,
+            })
+        } else {
+            None
+        }
+    }
+
+    /// The object that was far is moving.
+    pub fn returning(&self) -> Option<Self>
+        ensures { result ≡ returning self.now }
+    {
+        if self.bits & PLACE == 2 {
+            Some(Word {
+                bits: self.bits - 1,
+            })
+        } else {
+            None
+        }
+    }
+
+    /// The object that was moving is here.
+    pub fn home(&self) -> Option<Self>
+        ensures { result ≡ home self.now }
+    {
+        if self.bits & PLACE == 1 {
+            Some(Word {
+                bits: self.bits - 1,
+            })
+        } else {
+            None
+        }
+    }
+}
