@@ -1,1 +1,4 @@
 pub mod Words
+pub mod NextSlots
+pub mod FrameOrder
+pub mod DoneRows
