@@ -1,18 +1,12 @@
 -- What is wrong with an instruction, and that nothing of a lesser number is.
-use Rattle.std.proofs.Common.{◌≡◌, ℕ, zero, suc, ◌+◌, ◌-◌, ◌<◌, ◌↔◌, true, false, List, [], ◌∷◌, ◌++◌, length, drop, Option, Some, None, refl, ap, subst, sym, ◌∙◌, arith, ℤ, pos, inl, inr}
-use Rattle.std.specs.Prelude.{slice_get}
-use Rattle.std.specs.Option.{option_flatten}
-use Rattle.std.proofs.lemmas.Option.{slice_get_within}
-use Rattle.std.proofs.lemmas.List.{length-drop, drop-drop}
+use Rattle.std.proofs.Common.{◌≡◌, ℕ, ◌+◌, ◌<◌, true, false, List, [], ◌∷◌, Option, Some, refl, subst, sym, arith, ℤ, pos, inl, inr}
 use Rattle.isa_table.specs.declared.instr.Instr.{Instr}
-use Rattle.isa_table.specs.declared.instr.Instr.TheVariants.{LoadImm64}
 use Rattle.bpf_codec.specs.Slots.{slots}
 use Rattle.loader.specs.declared.loading.Why.{Why}
 use Rattle.loader.specs.declared.loading.Why.TheVariants as why
 use Rattle.loader.specs.Instructions.{slot_count, StandsIn, StartsIn, target, writes_r10, calls_unknown_helper, ends_code}
-use Rattle.loader.specs.ValidCode.{LeadsInside, IsSound, AllSound}
-use Rattle.loader.specs.Entries.{entries_of, all_entries}
-use Rattle.loader.specs.Refusals.{why_number, IsSlot, Complains, IsLeastComplaint, IsFirstWrong}
+use Rattle.loader.specs.ValidCode.{LeadsInside, IsSound}
+use Rattle.loader.specs.Refusals.{why_number, IsSlot, Complains, IsLeastComplaint}
 use Rattle.loader.proofs.Positions.{slots_positive}
 
 same_target : (o : Option ℤ) (y z : ℤ) → o ≡ Some y → o ≡ Some z → y ≡ z

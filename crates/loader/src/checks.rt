@@ -1,9 +1,9 @@
 //! What is asked of decoded code.
-ghost use Rattle.std.specs.Prelude.{◌≡◌, ◌<◌, ◌≤◌, ◌+◌, ◌↔◌, ℕ, pos, List, [], length, MatchOption, IfSome, IfNone};
+ghost use Rattle.std.specs.Prelude.{◌≡◌, ◌<◌, ◌≤◌, ◌+◌, ◌*◌, ◌↔◌, ℕ, pos, List, [], length, MatchOption, IfSome, IfNone};
 ghost use Rattle.isa_table.specs.declared.instr.Instr.{Instr};
 ghost use Rattle.bpf_codec.specs.Slots.{slots};
 ghost use Rattle.loader.specs.Instructions.{target, writes_r10, calls_unknown_helper, ends_code};
-ghost use Rattle.loader.specs.ValidCode.{LeadsInside, IsSound, AllSound};
+ghost use Rattle.loader.specs.ValidCode.{code_limit, LeadsInside, IsSound, AllSound};
 ghost use Rattle.loader.specs.Entries.{all_entries};
 ghost use Rattle.loader.specs.Refusals.{IsLeastComplaint, IsFirstWrong};
 
@@ -14,7 +14,7 @@ use isa_table::{Instr, Reg};
 
 /// The slot to which the instruction at the slot jumps or calls.
 fn target_of(slot: usize, instr: Instr) -> Option<i64>
-    requires { slot < 4096 }
+    requires { 8 * slot < code_limit }
     ensures { result ≡ target slot instr }
 {
     let next = slot as i64 + 1;
@@ -52,7 +52,7 @@ fn never_goes_on(instr: Instr) -> bool
 
 /// The slot of this number, where there are so many.
 fn slot_of(number: i64, count: usize) -> Option<usize>
-    requires { count ≤ 4096 }
+    requires { 8 * count ≤ code_limit }
     ensures some { IfSome result (λ m. (number ≡ pos m) × (m < count)) }
     ensures none { IfNone result ((m : ℕ) → number ≡ pos m → m < count → ⊥) }
 {
@@ -65,8 +65,8 @@ fn slot_of(number: i64, count: usize) -> Option<usize>
 
 /// What is wrong with where the instruction leads.
 fn jump_complaint(entries: &[Option<Instr>], slot: usize, instr: Instr) -> Option<Why>
-    requires short { length entries.now ≤ 4096 }
-    requires room { slot < 4096 }
+    requires short { 8 * length entries.now ≤ code_limit }
+    requires room { 8 * slot < code_limit }
     ensures { (code after : List Instr) → entries.now ≡ all_entries code → MatchOption result (LeadsInside code slot instr) (λ why. IsLeastComplaint code slot instr after why) }
 {
     let Some(to) = target_of(slot, instr) else {
@@ -83,8 +83,8 @@ fn jump_complaint(entries: &[Option<Instr>], slot: usize, instr: Instr) -> Optio
 
 /// The least that is wrong with the instruction.
 fn complaint(entries: &[Option<Instr>], slot: usize, instr: Instr) -> Option<Why>
-    requires short { length entries.now ≤ 4096 }
-    requires room { slot < 4096 }
+    requires short { 8 * length entries.now ≤ code_limit }
+    requires room { 8 * slot < code_limit }
     ensures { (code after : List Instr) → entries.now ≡ all_entries code → (after ≡ []) ↔ (slot + slots instr ≡ length entries.now) → MatchOption result (IsSound code slot instr after) (λ why. IsLeastComplaint code slot instr after why) }
 {
     if let Some(why) = jump_complaint(entries, slot, instr) {
@@ -104,7 +104,7 @@ fn complaint(entries: &[Option<Instr>], slot: usize, instr: Instr) -> Option<Why
 
 /// The first instruction with which something is wrong, and the least that is wrong with it.
 pub(crate) fn first_complaint(entries: &[Option<Instr>]) -> Option<LoadError>
-    requires { length entries.now ≤ 4096 }
+    requires { 8 * length entries.now ≤ code_limit }
     ensures { (code : List Instr) → entries.now ≡ all_entries code → MatchOption result (AllSound code code 0) (λ e. IsFirstWrong code code 0 e.slot e.why) }
 {
     let mut slot = 0;

@@ -1,7 +1,7 @@
 //! Code by hand. A slot is written as its bytes, first to last.
 use crate::{CODE_LIMIT, LoadError, Why, load};
 use bpf_codec::Fault;
-use isa_table::{Binary, Instr, Operand, Reg};
+use isa_table::{Binary, Instr, Operand, Reg, Width};
 use std::alloc::{AllocError, Global};
 use std::test::Fail;
 
@@ -26,7 +26,7 @@ fn refusal(alloc: Global, slots: &[u64]) -> Result<Option<LoadError>, AllocError
 
 #[test]
 fn refuses(rt: HostRuntime) -> Result<(), Fail> {
-    let cases: [(&[u64], usize, Why); 22] = [
+    let cases: [(&[u64], usize, Why); 33] = [
         (
             &[0x0500_0100_0000_0000, WIDE_R0, 0, EXIT],
             0,
@@ -49,7 +49,7 @@ fn refuses(rt: HostRuntime) -> Result<(), Fail> {
         ),
         (&[0x8d00_0000_0000_0000], 0, Why::Decoder(Fault::Opcode)),
         (&[0xb70a_0000_0000_0000, EXIT], 0, Why::WritesR10),
-        // A slot that spells no instruction comes before all else.
+        // A slot that encodes no instruction comes before all else.
         (
             &[0xb70a_0000_0000_0000, 0x8d00_0000_0000_0000],
             1,
@@ -64,6 +64,19 @@ fn refuses(rt: HostRuntime) -> Result<(), Fail> {
         (&[EXIT, 0x1500_0100_0000_0000], 1, Why::JumpOut),
         (&[WIDE_R0, 0, 0x1500_feff_0000_0000], 2, Why::JumpInside),
         (&[EXIT, 0xb70a_0000_0000_0000], 1, Why::WritesR10),
+        // R10 is loaded, fetched into, or exchanged.
+        (&[0x791a_0000_0000_0000, EXIT], 0, Why::WritesR10),
+        (&[0x911a_0000_0000_0000, EXIT], 0, Why::WritesR10),
+        (&[0xdba1_0000_0100_0000, EXIT], 0, Why::WritesR10),
+        (&[0xc3a1_0000_a100_0000, EXIT], 0, Why::WritesR10),
+        (&[0xdba1_0000_e100_0000, EXIT], 0, Why::WritesR10),
+        // Helper functions have the numbers 1 to 4.
+        (&[0x8500_0000_0500_0000, EXIT], 0, Why::Helper),
+        (&[EXIT, 0x8500_0000_0000_0000, EXIT], 1, Why::Helper),
+        (&[0x8500_0000_ffff_ffff, EXIT], 0, Why::Helper),
+        (&[0x8500_0000_0101_0000, EXIT], 0, Why::Helper),
+        (&[EXIT, 0x8500_0000_0500_0000], 1, Why::Helper),
+        (&[EXIT, 0x8500_0000_0100_0000], 1, Why::FallsOff),
         // A wide instruction at the end is named by its first slot.
         (&[MOV_R0_7, WIDE_R0, 0], 1, Why::FallsOff),
         (&[0x180a_0000_0000_0000, 0, EXIT], 0, Why::WritesR10),
@@ -109,12 +122,24 @@ fn refuses_a_part_of_a_slot(rt: HostRuntime) {
 
 #[test]
 fn takes_valid_code(rt: HostRuntime) -> Result<(), Fail> {
-    // A loop, a jump to the last slot, and calls of the first and the last slot.
-    let cases: [&[u64]; 4] = [
+    // A loop, a jump to the last slot, and calls of the first and the last slot; the four helper functions; and what
+    // reads R10 or the memory there: a store, an addition, an atomic operation, and a compare-exchange, which writes R0.
+    let cases: [&[u64]; 9] = [
         &[0x0500_ffff_0000_0000],
         &[0x1500_0100_0000_0000, MOV_R0_7, EXIT],
         &[0x8510_0000_ffff_ffff, EXIT],
         &[0x8510_0000_0100_0000, EXIT, EXIT],
+        &[
+            0x8500_0000_0100_0000,
+            0x8500_0000_0200_0000,
+            0x8500_0000_0300_0000,
+            0x8500_0000_0400_0000,
+            EXIT,
+        ],
+        &[0x7b1a_f8ff_0000_0000, 0x7ba1_0000_0000_0000, EXIT],
+        &[0xdb1a_f8ff_0100_0000, EXIT],
+        &[0xdba1_0000_0000_0000, EXIT],
+        &[0xdba1_0000_f100_0000, EXIT],
     ];
     for slots in cases {
         let bytes = bytes_of(rt.alloc(), slots)?;
@@ -136,7 +161,7 @@ fn answers_instructions_by_slot(rt: HostRuntime) -> Result<(), Fail> {
         value: 1 << 63,
     };
     let mov = Instr::Alu {
-        wide: true,
+        width: Width::W64,
         op: Binary::Mov,
         dst: Reg::R0,
         src: Operand::Imm(7),
@@ -170,20 +195,35 @@ fn takes_no_more_than_4096_slots(rt: HostRuntime) -> Result<(), Fail> {
 }
 
 #[test]
-fn shows_the_slot_and_the_reason(rt: HostRuntime) -> Result<(), Fail> {
-    let cases = [
-        (3, Why::Decoder(Fault::Register), "slot 3: Register"),
-        (0, Why::Empty, "slot 0: Empty"),
-        (0, Why::TooLong, "slot 0: TooLong"),
-        (1, Why::JumpOut, "slot 1: JumpOut"),
-        (2, Why::JumpInside, "slot 2: JumpInside"),
-        (4, Why::WritesR10, "slot 4: WritesR10"),
-        (4095, Why::FallsOff, "slot 4095: FallsOff"),
-        (0, Why::Memory, "slot 0: Memory"),
+fn reasons_have_numbers_names_and_texts(rt: HostRuntime) -> Result<(), Fail> {
+    let cases: [(Why, u8, &str); 15] = [
+        (Why::Decoder(Fault::Opcode), 1, "Opcode"),
+        (Why::Decoder(Fault::Register), 2, "Register"),
+        (Why::Decoder(Fault::Field), 3, "Field"),
+        (Why::Decoder(Fault::HalfWide), 4, "HalfWide"),
+        (Why::Decoder(Fault::Packet), 5, "Packet"),
+        (Why::Decoder(Fault::Platform), 6, "Platform"),
+        (Why::Decoder(Fault::Short), 7, "Short"),
+        (Why::Empty, 8, "Empty"),
+        (Why::TooLong, 9, "TooLong"),
+        (Why::JumpOut, 10, "JumpOut"),
+        (Why::JumpInside, 11, "JumpInside"),
+        (Why::WritesR10, 12, "WritesR10"),
+        (Why::Helper, 13, "Helper"),
+        (Why::FallsOff, 14, "FallsOff"),
+        (Why::Memory, 15, "Memory"),
     ];
-    for (slot, why, want) in cases {
-        let text = format!(in rt.alloc(); "{}", LoadError { slot, why })?;
-        assert_eq!(rt; text.as_str(), want);
+    for (why, number, name) in cases {
+        assert_eq!(rt; why.number(), number);
+        assert_eq!(rt; why.name(), name.as_bytes());
+        let text = format!(in rt.alloc(); "{}", why)?;
+        assert_eq!(rt; text.as_str(), name);
     }
+    let error = LoadError {
+        slot: 4095,
+        why: Why::FallsOff,
+    };
+    let text = format!(in rt.alloc(); "{}", error)?;
+    assert_eq!(rt; text.as_str(), "slot 4095: FallsOff");
     Ok(())
 }
