@@ -1,5 +1,5 @@
 -- What the words promise.
-use Rattle.std.specs.Prelude.{◌≡◌, ℕ, ◌<◌, true, None}
+use Rattle.std.specs.Prelude.{◌≡◌, ◌<◌, true, None}
 use Rattle.pointer_word.specs.Words.{WordRecord, HasFields, word_number, leaving}
 
 -- A number is that of one word.
