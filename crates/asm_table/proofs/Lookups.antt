@@ -143,7 +143,7 @@ unfolding named
 named_is w m e = named_in_is BY_NAME.now w m e
 
 -- a test that holds of all mnemonics in the table holds of what is found
-all_pass : (Mnemonic → Bool) → List Mnemonic → Bool
+unfoldable pub all_pass : (Mnemonic → Bool) → List Mnemonic → Bool
 all_pass p [] = true
 all_pass p (m ∷ ms) = cond (p m) (all_pass p ms) false
 
@@ -156,6 +156,11 @@ passes : (p : Mnemonic → Bool) (ms : List Mnemonic) (w : List ℕ) (m : Mnemon
 unfolding all_pass
 passes p [] w m a e = absurd (cc e)
 passes p (k ∷ ms) w m a e = passes_at p ms w m k (bytes_eq (name k) w) (p k) refl a (λ a e. passes p ms w m a e) e
+
+-- and so of each mnemonic of one word
+pub passing : (p : Mnemonic → Bool) (m : Mnemonic) → all_pass p BY_NAME.now ≡ true → is_local m ≡ false → p m ≡ true
+unfolding named
+passing p m a h = passes p BY_NAME.now (name m) m a (named_name m h)
 
 one_word : Mnemonic → Bool
 one_word m = cond (is_local m) false true

@@ -1,0 +1,5 @@
+pub mod Gathers
+pub mod Meant
+pub mod Found
+pub mod Alike
+pub mod Rewritten

@@ -1,0 +1,6 @@
+pub mod Writing
+pub mod Sorts
+pub mod Reading
+pub mod Reasons
+pub mod Views
+pub mod Canonical

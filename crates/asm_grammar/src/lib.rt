@@ -1,0 +1,14 @@
+//! What a line of assembly says: its label, and its instruction under given labels.
+#![tactic(auto)]
+
+mod gather;
+mod line;
+mod reading;
+mod taking;
+mod why;
+mod written;
+
+pub use gather::{Gathered, Labels};
+pub use line::{outline, read_line};
+pub use why::Why;
+pub use written::{Sign, Written};

@@ -1,0 +1,152 @@
+//! What a line says.
+ghost use Rattle.std.specs.Prelude.{◌≡◌, ◌≤◌, ◌∷◌, List, [], option_map, MatchOption, Some, None};
+ghost use Rattle.asm_text.specs.Tokens.{left, tokens, seen as token_seen};
+ghost use Rattle.asm_grammar.specs.Reading.{said, finished, body, line_says, label_of, after_label, has_stray, body_slots, mnemonic_at, called};
+ghost use Rattle.asm_grammar.specs.Views.{seen, look_in, AllBelow, label_seen};
+
+use crate::gather::{Gathered, Labels, gather};
+use crate::why::Why;
+use asm_table::{Mnemonic, build};
+use asm_text::{Fault, Token, Tokens};
+use isa_table::Instr;
+
+/// The instruction, or the least reason against what was gathered.
+fn finish(m: Mnemonic, gathered: Option<Gathered>) -> Result<Option<Instr>, Why>
+    ensures { result ≡ said (finished m (option_map (λ g. seen g) gathered)) }
+{
+    match gathered {
+        None => Err(Why::Operand),
+        Some(g) => {
+            if g.out {
+                return Err(Why::Range);
+            }
+            match build(m, g.operands.as_slice()) {
+                Some(i) => {
+                    if g.unknown {
+                        Err(Why::Label)
+                    } else {
+                        Ok(Some(i))
+                    }
+                }
+                None => Err(Why::Operand),
+            }
+        }
+    }
+}
+
+/// After `call`: with the word `local` it is `call local`.
+fn read_called<'a>(tokens: &mut Tokens<'a>) -> Mnemonic
+    ensures { called (left tokens.old) ≡ (result, left tokens.new) }
+{
+    let mut ahead = *tokens;
+    if let Some(found) = ahead.next() {
+        if let Token::Name(word) = found.token {
+            if word == b"local".as_slice() {
+                *tokens = ahead;
+                return Mnemonic::CallLocal;
+            }
+        }
+    }
+    Mnemonic::CallHelper
+}
+
+/// The mnemonic of which this token is the first.
+fn read_mnemonic<'a>(first: Token<'a>, tokens: &mut Tokens<'a>) -> Option<Mnemonic>
+    ensures { MatchOption result (mnemonic_at (token_seen first.entry ∷ left tokens.old) ≡ None) (λ m. mnemonic_at (token_seen first.entry ∷ left tokens.old) ≡ Some (m, left tokens.new)) }
+{
+    match first {
+        Token::Name(word) => match Mnemonic::named(word) {
+            Some(Mnemonic::CallHelper) => Some(read_called(tokens)),
+            m => m,
+        },
+        _ => None,
+    }
+}
+
+/// What the tokens after a line's label say.
+fn read_body<'a>(
+    labels: &Labels<'a>,
+    n: usize,
+    tokens: &mut Tokens<'a>,
+) -> Result<Option<Instr>, Why>
+    requires slots { AllBelow labels.now }
+    requires n { n ≤ 4096 }
+    ensures { result ≡ body (look_in labels.now) n (left tokens.old) }
+{
+    match tokens.next() {
+        None => Ok(None),
+        Some(found) => match read_mnemonic(found.token, tokens) {
+            Some(m) => finish(m, gather(tokens, labels, n, m.sorts())),
+            None => Err(Why::Word),
+        },
+    }
+}
+
+/// A line's label, and the tokens after it.
+fn split<'a>(line: &'a [u8]) -> (Option<&'a [u8]>, Tokens<'a>)
+    ensures label { label_seen result.0 ≡ label_of (tokens line.now) }
+    ensures rest { left result.1 ≡ after_label (tokens line.now) }
+{
+    let mut rest = Tokens::new(line);
+    match rest.next() {
+        Some(first) => match first.token {
+            Token::Name(name) => match rest.next() {
+                Some(second) => match second.token {
+                    Token::Colon => (Some(name), rest),
+                    _ => (None, Tokens::new(line)),
+                },
+                None => (None, Tokens::new(line)),
+            },
+            _ => (None, Tokens::new(line)),
+        },
+        None => (None, Tokens::new(line)),
+    }
+}
+
+/// Whether a byte of the line begins no token.
+fn has_stray(line: &[u8]) -> bool
+    ensures { result ≡ has_stray (tokens line.now) }
+{
+    let mut rest = Tokens::new(line);
+    while let Some(found) = rest.next() {
+        if let Some(Fault::Char) = found.token.fault() {
+            return true;
+        }
+    }
+    false
+}
+
+/// How many slots the instruction after a line's label takes.
+fn slots<'a>(tokens: &mut Tokens<'a>) -> usize
+    ensures { result ≡ body_slots (left tokens.old) }
+{
+    match tokens.next() {
+        None => 0,
+        Some(found) => match read_mnemonic(found.token, tokens) {
+            Some(m) => m.slots(),
+            None => 0,
+        },
+    }
+}
+
+/// What a line says at slot n: its instruction, or nothing where it has none.
+pub fn read_line<'a>(labels: &Labels<'a>, n: usize, line: &'a [u8]) -> Result<Option<Instr>, Why>
+    requires slots { AllBelow labels.now }
+    requires n { n ≤ 4096 }
+    ensures { result ≡ line_says (look_in labels.now) n (tokens line.now) }
+{
+    if has_stray(line) {
+        return Err(Why::Word);
+    }
+    let (_, mut rest) = split(line);
+    read_body(labels, n, &mut rest)
+}
+
+/// A line's label, and how many slots its instruction takes.
+pub fn outline<'a>(line: &'a [u8]) -> (Option<&'a [u8]>, usize)
+    ensures label { label_seen result.0 ≡ label_of (tokens line.now) }
+    ensures slots { result.1 ≡ body_slots (after_label (tokens line.now)) }
+{
+    let (label, mut rest) = split(line);
+    (label, slots(&mut rest))
+}
