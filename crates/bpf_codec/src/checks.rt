@@ -1,7 +1,7 @@
 //! Which row of the instruction table a slot is of.
 ghost use Rattle.std.specs.Prelude.{◌≡◌};
-ghost use Rattle.bpf_codec.specs.Faults.{is_register, may_hold, has_registers_of, is_of, is_of_platform};
-ghost use Rattle.bpf_codec.specs.Decoding.{row_for, have_registers, checked};
+ghost use Rattle.bpf_codec.specs.Faults.{is_register, may_hold, has_registers_of, is_of};
+ghost use Rattle.bpf_codec.specs.Decoding.{row_for, have_registers, is_platform, checked};
 
 use crate::fault::Fault;
 use crate::layout::{Field, Layout, layout_of};
@@ -72,11 +72,12 @@ fn any_holds_registers(f: Slot, rows: &[Instr]) -> bool
 }
 
 /// Whether only a platform defines what the slot means (RFC 9669, sections 4.3.1 and 5.4).
-fn is_platform(f: Slot) -> bool
-    ensures { result ≡ is_of_platform f }
+#[tactic(auto, unfolding(crate::specs::Decoding::is_platform))]
+fn is_of_platform(f: Slot) -> bool
+    ensures { result ≡ is_platform f }
 {
     match f.opcode {
-        0x18 => f.dst < 11 && f.src >= 1 && f.src <= 6 && f.offset == 0,
+        0x18 => f.dst < 11 && 1 <= f.src && f.src <= 6 && f.offset == 0,
         0x85 => f.dst == 0 && f.src == 2 && f.offset == 0,
         _ => false,
     }
@@ -90,7 +91,7 @@ pub fn check(f: Slot, rows: &[Instr]) -> Result<Option<Instr>, Fault>
     if let Some(row) = find_row(f, rows) {
         return Ok(Some(row));
     }
-    if is_platform(f) {
+    if is_of_platform(f) {
         return Ok(None);
     }
     if any_holds_registers(f, rows) {

@@ -60,6 +60,8 @@ fn read(bytes: &[u8]) -> Result<Instr, Fault>
     }
 }
 
+/// As `decode_at`.
+#[tactic(auto, using(crate::proofs::Encodings::past_the_end))]
 fn read_at(code: &[u8], slot: usize) -> Result<(Instr, usize), Fault>
     ensures { result ≡ with_slots (decoded (drop (8 * slot) code.now)) }
 {
