@@ -1,5 +1,5 @@
 -- What accesses leave alone.
-use Rattle.std.proofs.Common.{◌≡◌, ◌≢◌, ℕ, ◌+◌, ◌-◌, ◌*◌, ◌/◌, ◌%◌, ◌^◌, ◌<◌, ◌≤◌, zero, suc, Bool, true, false, nat_lt, cond, IsTrue, List, [], ◌∷◌, ◌++◌, length, take, drop, get_or, set, Option, Some, None, refl, sym, ap, ◌∙◌, length-append, length-take, length-drop, arith}
+use Rattle.std.proofs.Common.{◌≡◌, ◌≢◌, ℕ, ◌+◌, ◌-◌, ◌*◌, ◌/◌, ◌%◌, ◌^◌, ◌<◌, ◌≤◌, zero, suc, true, false, nat_lt, IsTrue, List, [], ◌∷◌, ◌++◌, length, take, drop, get_or, set, Option, Some, None, refl, sym, ap, ◌∙◌, arith}
 use Rattle.std.specs.Prelude.{is_some, ◌==◌, if◌then◌else◌}
 use Rattle.std.specs.Int.{byte_at, bytes_low_first}
 use Rattle.std.proofs.lemmas.List.{get_or-set_other, get_or-take, get_or-drop, get_or_append_left, get_or-append_right, length-take-le, set-get_or}
@@ -13,14 +13,13 @@ use Rattle.isa_table.specs.declared.instr.Size.TheVariants.{Byte, Half, Word, Do
 use Rattle.isa_table.specs.declared.instr.Width.{Width}
 use Rattle.isa_table.specs.declared.instr.AtomicOp.TheVariants.{CompareExchange}
 use Rattle.isa_table.specs.Words.{unsigned, number_of, low_bytes}
-use Rattle.isa_table.specs.Table.{size_bytes, width_bits, atomic_row}
+use Rattle.isa_table.specs.Table.{size_bytes, width_bits}
 use Rattle.object_store.specs.declared.access.Op.{Op}
 use Rattle.object_store.specs.declared.access.Action.{Action}
 use Rattle.object_store.specs.declared.access.Action.TheVariants.{Load, Store, Atomic}
-use Rattle.object_store.specs.declared.access.Reach.{Reach}
 use Rattle.object_store.specs.declared.access.Reach.TheVariants.{Done, Away, Busy, Outside, Worn}
-use Rattle.object_store.specs.Access.{IsInside, Writes, writes, size_of, count_of, held, puts, answers, answer, replaced, written, after}
-use Rattle.object_store.specs.Objects.{bytes_of, with_bytes, map_reaches}
+use Rattle.object_store.specs.Access.{IsInside, writes, size_of, count_of, held, puts, answers, answer, replaced, written, after}
+use Rattle.object_store.specs.Objects.{bytes_of, with_bytes}
 use Rattle.object_store.specs.Laws as laws
 use Rattle.object_store.proofs.Lengths.{length-after, length-set_at}
 
@@ -65,13 +64,13 @@ written_elsewhere o n None bytes i h k = refl
 written_elsewhere o n (Some x) bytes i h k =
     let count = length-bytes_low_first 0 n x in
     elim (nat_lt i o) as (λ b. nat_lt i o ≡ b → get_or (replaced o (low_bytes n x) bytes) i 0 ≡ get_or bytes i 0) [
-      true ↦ λ e. replaced_before o (low_bytes n x) bytes i (omega arith) (grind (arith, nat_tests))
-    | false ↦ λ e.
-        let from : o ≤ i = grind (arith, nat_tests) in
-        elim (nat_lt i (o + n)) as (λ b. nat_lt i (o + n) ≡ b → get_or (replaced o (low_bytes n x) bytes) i 0 ≡ get_or bytes i 0) [
-          true ↦ λ f. absurd (k refl from (grind (arith, nat_tests)))
-        | false ↦ λ f. let to : o + n ≤ i = grind (arith, nat_tests) in replaced_after o (low_bytes n x) bytes i (omega arith) (omega arith)
-        ] refl
+      | true ↦ λ e. replaced_before o (low_bytes n x) bytes i (omega arith) (grind (arith, nat_tests))
+      | false ↦ λ e.
+          let from : o ≤ i = grind (arith, nat_tests) in
+          elim (nat_lt i (o + n)) as (λ b. nat_lt i (o + n) ≡ b → get_or (replaced o (low_bytes n x) bytes) i 0 ≡ get_or bytes i 0) [
+            | true ↦ λ f. absurd (k refl from (grind (arith, nat_tests)))
+            | false ↦ λ f. let to : o + n ≤ i = grind (arith, nat_tests) in replaced_after o (low_bytes n x) bytes i (omega arith) (omega arith)
+          ] refl
     ] refl
 
 -- ---- numbers in bytes
@@ -155,9 +154,9 @@ unwritten old new n op x h e =
 
 not_same : (old r x : ℕ) → old ≢ r → is_some (if old == r then Some x else None) ≡ false
 not_same old r x h = elim (old == r) as (λ b. (old == r) ≡ b → is_some (if b then Some x else None) ≡ false) [
-    true ↦ λ e. absurd (h (grind (arith, nat_tests)))
+  | true ↦ λ e. absurd (h (grind (arith, nat_tests)))
   | false ↦ λ e. refl
-  ] refl
+] refl
 
 exchange_failed : (width : Width) (src r0 old : ℕ) → old ≢ unsigned (width_bits width) r0 → writes (Atomic width CompareExchange src r0) old ≡ false
 exchange_failed width src r0 old h = not_same old (unsigned (width_bits width) r0) (unsigned (width_bits width) src) h
@@ -198,7 +197,6 @@ one_way old new other n op Outside Worn h k = absurd k
 one_way old new other n op Away s h k = absurd h
 one_way old new other n op Busy s h k = absurd h
 one_way old new other n op Worn s h k = absurd h
-
 
 pub commute : laws.AccessesCommute
 commute old mid new n m op other (Done x) (Done y) d h k =

@@ -1,5 +1,5 @@
 -- Accesses keep lengths.
-use Rattle.std.proofs.Common.{◌≡◌, ℕ, ◌+◌, ◌≤◌, zero, suc, List, [], ◌∷◌, ◌++◌, length, take, drop, get_or, set, Option, Some, None, refl, sym, ◌∙◌, length-append, length-take, length-drop, arith}
+use Rattle.std.proofs.Common.{◌≡◌, ℕ, ◌+◌, ◌≤◌, zero, suc, List, [], ◌∷◌, ◌++◌, length, take, drop, get_or, set, Option, Some, None, refl, length-append, length-take, length-drop, arith}
 use Rattle.byteorder.specs.Numbers.{length-bytes_low_first}
 use Rattle.isa_table.specs.Words.{low_bytes}
 use Rattle.object_store.specs.declared.access.Op.{Op}

@@ -1,6 +1,6 @@
 -- One access to the bytes of an object: when it is inside, what it answers, the bytes after it, and which it writes
 -- (RFC 9669, section 5).
-use Rattle.std.specs.Prelude.{◌≡◌, ℕ, ◌+◌, ◌≤◌, ◌<◌, nat_le, Bool, IsTrue, List, ◌++◌, length, take, drop, Option, Some, None, is_some}
+use Rattle.std.specs.Prelude.{ℕ, ◌+◌, ◌≤◌, ◌<◌, nat_le, Bool, IsTrue, List, ◌++◌, length, take, drop, Option, Some, None, is_some}
 use Rattle.isa_table.specs.declared.instr.Size.{Size}
 use Rattle.isa_table.specs.Words.{unsigned, number_of, low_bytes}
 use Rattle.isa_table.specs.Table.{size_bytes, size_of_width, width_bits, atomic_row}

@@ -1,5 +1,5 @@
 -- What the calls of a store do: the objects before, the answer, and the objects after. A refusal changes nothing.
-use Rattle.std.specs.Prelude.{◌≡◌, ℕ, ◌≤◌, Bool, true, false, List, [], ◌∷◌, ◌++◌, length, replicate, Result, Ok, Err, Vec}
+use Rattle.std.specs.Prelude.{◌≡◌, ℕ, Bool, true, false, List, [], ◌∷◌, ◌++◌, length, replicate, Result, Ok, Err, Vec}
 use Rattle.std.specs.declared.alloc.Global.{Global}
 use Rattle.object_store.specs.declared.errors.MakeError.{MakeError}
 use Rattle.object_store.specs.declared.errors.MakeError.TheVariants as make_error

@@ -1,5 +1,5 @@
 -- What follows of accesses and objects, in their users' words. The definitions above decide each; none speaks of the code.
-use Rattle.std.specs.Prelude.{◌≡◌, ◌≢◌, ℕ, ◌+◌, ◌*◌, ◌<◌, ◌≤◌, false, List, length, get_or}
+use Rattle.std.specs.Prelude.{◌≡◌, ◌≢◌, ℕ, ◌*◌, ◌<◌, false, List, length, get_or}
 use Rattle.isa_table.specs.declared.instr.Size.{Size}
 use Rattle.isa_table.specs.declared.instr.Width.{Width}
 use Rattle.isa_table.specs.declared.instr.AtomicOp.TheVariants.{CompareExchange}

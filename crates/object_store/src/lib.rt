@@ -17,7 +17,8 @@ pub use bytes::act;
 pub use errors::{GetError, MakeError, PutError};
 pub use laws::{
     accesses_commute, accesses_one_way, failed_exchanges_change_nothing, lengths_stay,
-    loads_what_was_stored, other_bytes_stay, other_objects_stay, unwritten_stays, writes_are_inside,
+    loads_what_was_stored, other_bytes_stay, other_objects_stay, unwritten_stays,
+    writes_are_inside,
 };
 pub use memory::Memory;
 pub use object_store::{OBJECT_BYTES, OBJECT_LIMIT, ObjectStore};

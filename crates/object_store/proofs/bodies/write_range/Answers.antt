@@ -1,9 +1,8 @@
-use Rattle.std.proofs.Common.{ℕ, List, ◌∙◌, map, set, get_or, ap, arith, length}
+use Rattle.std.proofs.Common.{◌∙◌, map, set, get_or, ap, arith}
 use Rattle.std.proofs.lemmas.List.{map-set, with_items_is}
 use Rattle.object_store.specs.Access.{replaced}
 use Rattle.object_store.specs.Bodies.{bytes_in}
 use Rattle.object_store.proofs.Standing.{bytes_at}
-use Rattle.object_store.proofs.Lengths.{length-replaced}
 use Rattle.object_store.proofs.bodies.write_range.Goals as goal
 
 pub overwrite-requires : goal.overwrite-requires

@@ -1,4 +1,4 @@
-use Rattle.std.proofs.Common.{map, length, arith, rules}
+use Rattle.std.proofs.Common.{map, arith, rules}
 use Rattle.std.proofs.lemmas.List.{with_items_is}
 use Rattle.object_store.specs.Bodies.{bytes_in}
 use Rattle.object_store.specs.Objects.{Reaches}
