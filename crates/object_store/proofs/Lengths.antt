@@ -1,10 +1,13 @@
 -- Accesses keep lengths.
-use Rattle.std.proofs.Common.{◌≡◌, ℕ, ◌+◌, ◌≤◌, zero, suc, List, [], ◌∷◌, ◌++◌, length, take, drop, get_or, set, Option, Some, None, refl, length-append, length-take, length-drop, arith}
+use Rattle.std.proofs.Common.{◌≡◌, ℕ, ◌+◌, ◌≤◌, zero, suc, List, [], ◌∷◌, ◌++◌, length, take, drop, get_or, set, Option, Some, None, refl, length-append, length-take, length-drop, arith, map, ◌∙◌}
+use Rattle.std.proofs.lemmas.List.{get_or_append_left, length-map, map-append}
 use Rattle.byteorder.specs.Numbers.{length-bytes_low_first}
 use Rattle.isa_table.specs.Words.{low_bytes}
 use Rattle.object_store.specs.declared.access.Op.{Op}
+use Rattle.object_store.specs.declared.bodies.Body.{Body}
+use Rattle.object_store.specs.Bodies.{bytes_in}
 use Rattle.object_store.specs.Access.{IsInside, count_of, held, puts, replaced, written, after}
-use Rattle.object_store.specs.Objects.{AreObjects, bytes_of, with_bytes, with_range}
+use Rattle.object_store.specs.Objects.{AreObjects, bytes_of, with_bytes, with_range, object_limit, object_bytes}
 
 pub length-replaced : (o : ℕ) (new bytes : List ℕ) → o + length new ≤ length bytes → length (replaced o new bytes) ≡ length bytes
 length-replaced o new bytes h =
@@ -55,3 +58,25 @@ objects_accessed objects n op o h = objects_stay objects n (after op (bytes_of o
 
 pub objects_written : (objects : List (List ℕ)) (n offset : ℕ) (bytes : List ℕ) → AreObjects objects → offset + length bytes ≤ length (bytes_of objects n) → AreObjects (with_range objects n offset bytes)
 objects_written objects n offset bytes o h = objects_stay objects n (replaced offset bytes (bytes_of objects n)) o (length-replaced offset bytes (bytes_of objects n) h)
+
+-- objects stay objects where one is made
+short_end : (objects : List (List ℕ)) (b : List ℕ) (k n : ℕ) → length (get_or objects k []) ≤ n → length b ≤ n → length (get_or (objects ++ b ∷ []) k []) ≤ n
+short_end [] b zero n h l = l
+short_end [] b (suc k) n h l = omega arith
+short_end (x ∷ xs) b zero n h l = h
+short_end (x ∷ xs) b (suc k) n h l = short_end xs b k n h l
+
+objects_made : (objects : List (List ℕ)) (b : List ℕ) → AreObjects objects → length objects ≤ object_limit → length b ≤ object_bytes → AreObjects (objects ++ b ∷ [])
+objects_made objects b o room l =
+    let count = length-append objects (b ∷ []) in
+    record {
+      none_at_zero = get_or_append_left objects (b ∷ []) [] 0 o.place_of_zero ∙ o.none_at_zero;
+      place_of_zero = omega (arith, o.place_of_zero);
+      limit = omega arith;
+      sizes = λ k. short_end objects b k object_bytes (o.sizes k) l;
+    }
+
+pub objects_pushed : (bodies new : List Body) (body : Body) → new ≡ bodies ++ body ∷ []
+    → AreObjects (map bytes_in bodies) → length bodies ≤ object_limit → length body.bytes.items ≤ object_bytes → AreObjects (map bytes_in new)
+objects_pushed bodies new body e o room l =
+    rw (e, map-append bytes_in bodies (body ∷ [])) (objects_made (map bytes_in bodies) body.bytes.items o (let c = length-map bodies bytes_in in omega arith) l)

@@ -76,7 +76,8 @@ pub fn copy_range(
 pub fn write_range(bodies: &mut [Body], number: usize, offset: usize, bytes: &[u8])
     requires found { number < length bodies.old }
     requires inside { HasRange (map bytes_in bodies.old) number offset (length bytes.now) }
-    ensures { map bytes_in bodies.new ≡ with_range (map bytes_in bodies.old) number offset bytes.now }
+    ensures bytes { map bytes_in bodies.new ≡ with_range (map bytes_in bodies.old) number offset bytes.now }
+    ensures len { length bodies.new ≡ length bodies.old }
 {
     overwrite(bodies[number].bytes.as_mut_slice(), offset, bytes);
 }

@@ -44,7 +44,7 @@ impl ObjectStore {
         ensures { IfOk result (λ s. s ≡ [] ∷ []) }
     {
         let mut bodies = Vec::with_capacity(alloc, OBJECT_LIMIT + 1)?;
-        let _ = bodies.push(Body {
+        bodies.push_reserved(Body {
             bytes: Vec::new(alloc),
         });
         Ok(ObjectStore { alloc, bodies })
@@ -61,7 +61,7 @@ impl ObjectStore {
         }
         match vec![in self.alloc; 0u8; length as usize] {
             Ok(bytes) => {
-                let _ = self.bodies.push(Body { bytes });
+                self.bodies.push_reserved(Body { bytes });
                 Ok(number as u32)
             }
             Err(_) => Err(MakeError::Memory),

@@ -10,8 +10,8 @@ overwrite-requires c =
     let same = c.as_mut_slice.ensures.value ∙ bytes_at c.args.bodies.now c.args.number c.index-bodies-number.result c.requires.found in
     rw same c.requires.inside.1
 
-pub returns : goal.returns
-returns c =
+pub returns-clause-bytes : goal.returns-clause-bytes
+returns-clause-bytes c =
     let same = c.as_mut_slice.ensures.value ∙ bytes_at c.args.bodies.now c.args.number c.index-bodies-number.result c.requires.found in
     let new = c.overwrite.ensures ∙ ap (replaced c.args.offset c.args.bytes.now) same in
     let whole = with_items_is (get_or c.args.bodies.now c.args.number c.index-bodies-number.result).bytes c.overwrite.new.bytes (grind (arith, c.overwrite.auto.bytes, c.as_mut_slice.ensures.len, c.as_mut_slice.ensures.value)) in
