@@ -1,0 +1,258 @@
+-- The canonical text is read again.
+use Rattle.std.proofs.Common.{◌≡◌, ◌≢◌, ℕ, ◌+◌, ◌-◌, ◌<◌, ◌≤◌, ◌^◌, ◌==◌, ◌&&◌, nat_lt, zero, suc, ℤ, pos, negsuc, Bool, true, false, cond, List, [], ◌∷◌, ◌++◌, map, length, get_or, All, refl, sym, ap, ◌∙◌, arith, Option, Some, None, Result, Ok, Err, decimal}
+use Rattle.std.proofs.lemmas.Bool.Decides.{nat_tests}
+use Rattle.std.proofs.lemmas.Fmt.{decimal_is_IsNumeral, digits_is_IsNumeral}
+use Rattle.std.proofs.lemmas.List.Elements.{All-cons, All-nil}
+use Rattle.std.specs.Char.{digit_value}
+use Rattle.std.specs.Fmt.{digits}
+use Rattle.std.specs.Str.Parse.{AllDigits}
+use Rattle.std.specs.Str.Lines.{lines, strip_carriage_return}
+use Rattle.asm_text.specs.Tokens.{Lexeme, tokens}
+use Rattle.asm_text.specs.Tokens.Lexeme.{Name}
+use Rattle.isa_table.specs.declared.instr.Instr.{Instr}
+use Rattle.isa_table.specs.declared.instr.Reg.{Reg}
+use Rattle.isa_table.specs.declared.instr.Reg.TheVariants.{R0, R1, R2, R3, R4, R5, R6, R7, R8, R9, R10}
+use Rattle.asm_table.specs.declared.mnemonic.Mnemonic.{Mnemonic}
+use Rattle.asm_table.specs.declared.mnemonic.Mnemonic.TheVariants as mnemonic
+use Rattle.asm_table.specs.declared.named.TheConstants.{BY_NAME}
+use Rattle.asm_table.specs.declared.operands.AsmOperand.{AsmOperand}
+use Rattle.asm_table.specs.declared.operands.AsmOperand.TheVariants as operand
+use Rattle.asm_table.specs.Mnemonics.{name, slots_of}
+use Rattle.asm_table.specs.Names.{is_local, register_name}
+use Rattle.asm_table.specs.Parts.{mnemonic_of, operands_of}
+use Rattle.asm_table.specs.Canonical.{offset_text, operand_text, more_text, operands_text, line_text, text_of, FitsOperand, AllFitOperands, FitsParts, AllFitParts, slot_count}
+use Rattle.asm_table.proofs.Lookups.{all_pass, passing}
+use Rattle.asm_grammar.specs.declared.written.Sign.TheVariants as sign
+use Rattle.asm_grammar.specs.declared.why.Why.{Why}
+use Rattle.asm_grammar.specs.declared.why.Why.TheVariants as why
+use Rattle.asm_grammar.specs.Writing.{Written, tokens_of, joined, more}
+use Rattle.asm_grammar.specs.Writing.Written.{Word, Bare, Signed, Memory, MemoryAt}
+use Rattle.asm_grammar.specs.Reading.{fault_of, Look, head, body, label_of, after_label, has_stray, line_says, body_slots}
+use Rattle.asm_grammar.specs.Canonical.{canonical}
+use Rattle.asm_grammar.proofs.Meant.{head_one, means_says, means_slots}
+use Rattle.asm_grammar.proofs.Rewritten.{line_tokens, line_means}
+use Rattle.assembler.specs.Passes.{with_label, slots_in, is_twice, or_else, wrong, unless_wrong, outlined, onto, with_said, assembled, meaning, under, nowhere}
+use Rattle.assembler.proofs.Parted.{lines_at}
+
+-- ---- canonical lines hold no control bytes
+
+printable : List ℕ → Bool
+printable [] = true
+printable (b ∷ bs) = nat_lt 31 b && printable bs
+
+both : (a b : Bool) → a ≡ true → b ≡ true → (a && b) ≡ true
+both a b e f = rw (e, f) refl
+
+parts : (a b : Bool) → (a && b) ≡ true → (a ≡ true) × (b ≡ true)
+parts true b e = (refl, e)
+parts false b e = absurd (cc e)
+
+printable_append : (xs ys : List ℕ) → printable xs ≡ true → printable ys ≡ true → printable (xs ++ ys) ≡ true
+unfolding printable
+printable_append [] ys h k = k
+printable_append (x ∷ xs) ys h k = let p = parts (nat_lt 31 x) (printable xs) h in both (nat_lt 31 x) (printable (xs ++ ys)) p.0 (printable_append xs ys p.1 k)
+
+digit_printable : (radix c : ℕ) → radix ≤ 16 → digit_value c < radix → nat_lt 31 c ≡ true
+digit_printable radix c h d = grind (arith, nat_tests)
+
+printable_digits : (radix : ℕ) (ds : List ℕ) → radix ≤ 16 → AllDigits radix ds → printable ds ≡ true
+unfolding printable
+printable_digits radix [] h d = refl
+printable_digits radix (c ∷ cs) h d = both (nat_lt 31 c) (printable cs) (digit_printable radix c h d.0) (printable_digits radix cs h d.1)
+
+printable_decimal : (n : ℕ) → n < 2 ^ 64 → printable (decimal n) ≡ true
+printable_decimal n h = printable_digits 10 (decimal n) (omega arith) (decimal_is_IsNumeral n h).0.1
+
+printable_register : (r : Reg) → printable (register_name r) ≡ true
+unfolding printable
+printable_register R0 = refl
+printable_register R1 = refl
+printable_register R2 = refl
+printable_register R3 = refl
+printable_register R4 = refl
+printable_register R5 = refl
+printable_register R6 = refl
+printable_register R7 = refl
+printable_register R8 = refl
+printable_register R9 = refl
+printable_register R10 = refl
+
+printable_offset : (z : ℤ) → FitsOperand (operand.Offset z) → printable (offset_text z) ≡ true
+unfolding printable
+printable_offset (pos zero) f = refl
+printable_offset (pos (suc n)) f = printable_decimal (suc n) (omega arith)
+printable_offset (negsuc n) f = printable_decimal (suc n) (omega arith)
+
+printable_operand : (o : AsmOperand) → FitsOperand o → printable (operand_text o) ≡ true
+unfolding printable
+printable_operand (operand.Register r) f = printable_register r
+printable_operand (operand.Imm (pos n)) f = printable_decimal n (omega arith)
+printable_operand (operand.Imm (negsuc n)) f = printable_decimal (suc n) (omega arith)
+printable_operand (operand.Memory r z) f = printable_append (register_name r) (offset_text z ++ 93 ∷ []) (printable_register r) (printable_append (offset_text z) (93 ∷ []) (printable_offset z f) refl)
+printable_operand (operand.Offset (pos n)) f = printable_decimal n (omega arith)
+printable_operand (operand.Offset (negsuc n)) f = printable_decimal (suc n) (omega arith)
+printable_operand (operand.LongOffset (pos n)) f = printable_decimal n (omega arith)
+printable_operand (operand.LongOffset (negsuc n)) f = printable_decimal (suc n) (omega arith)
+printable_operand (operand.Imm64 k) f = printable_digits 16 (digits 16 false k) (omega arith) (digits_is_IsNumeral 16 false (omega arith) (omega arith) k (omega arith)).0.1
+
+printable_more : (os : List AsmOperand) → AllFitOperands os → printable (more_text os) ≡ true
+unfolding printable
+printable_more [] f = refl
+printable_more (o ∷ os) f = printable_append (operand_text o) (more_text os) (printable_operand o f.0) (printable_more os f.1)
+
+printable_operands : (os : List AsmOperand) → AllFitOperands os → printable (operands_text os) ≡ true
+unfolding printable
+printable_operands [] f = refl
+printable_operands (o ∷ os) f = printable_append (operand_text o) (more_text os) (printable_operand o f.0) (printable_more os f.1)
+
+has_printable : Mnemonic → Bool
+has_printable m = printable (name m)
+
+all_printable : all_pass has_printable BY_NAME.now ≡ true
+unfolding all_pass has_printable printable
+all_printable = refl
+
+name_at : (m : Mnemonic) (b : Bool) → is_local m ≡ b → printable (name m) ≡ true
+unfolding has_printable printable
+name_at mnemonic.CallLocal b e = refl
+name_at m false e = passing has_printable m all_printable e
+name_at m true e = absurd (cc e)
+
+printable_name : (m : Mnemonic) → printable (name m) ≡ true
+printable_name m = name_at m (is_local m) refl
+
+printable_line : (i : Instr) → FitsParts i → printable (line_text i) ≡ true
+printable_line i f = printable_append (name (mnemonic_of i)) (operands_text (operands_of i)) (printable_name (mnemonic_of i)) (printable_operands (operands_of i) f)
+
+no_lf : (b : ℕ) → nat_lt 31 b ≡ true → b ≢ 10
+no_lf b h e = absurd (let k : 31 < b = grind (arith, nat_tests) in omega arith)
+
+whole : (bs : List ℕ) → printable bs ≡ true → All (λ b. b ≢ 10) bs
+unfolding printable
+whole [] h = All-nil (λ b. b ≢ 10)
+whole (b ∷ bs) h = let p = parts (nat_lt 31 b) (printable bs) h in All-cons (λ b. b ≢ 10) b bs (no_lf b p.0) (whole bs p.1)
+
+no_cr : (bs : List ℕ) (k : ℕ) → printable bs ≡ true → (get_or bs k 0 == 13) ≡ false
+unfolding printable
+no_cr [] k h = refl
+no_cr (b ∷ bs) zero h = let p = (parts (nat_lt 31 b) (printable bs) h).0 in grind (arith, nat_tests)
+no_cr (b ∷ bs) (suc k) h = no_cr bs k (parts (nat_lt 31 b) (printable bs) h).1
+
+unstripped : (bs : List ℕ) → printable bs ≡ true → strip_carriage_return bs ≡ bs
+unstripped bs h = rw (no_cr bs (length bs - 1) h) refl
+
+canonical_lines : (code : List Instr) → AllFitParts code → lines (text_of code) ≡ map line_text code
+canonical_lines [] f = refl
+canonical_lines (i ∷ is) f =
+    let p = printable_line i f.0 in
+    lines_at (text_of (i ∷ is)) (line_text i) (text_of is) refl (whole (line_text i) p) ∙ ap (λ l. l ∷ lines (text_of is)) (unstripped (line_text i) p) ∙ ap (λ l. line_text i ∷ l) (canonical_lines is f.1)
+
+-- ---- the tokens of a canonical line have no label and nothing stray
+
+no_label : (w : List ℕ) (ws : List Written) → (label_of (Name w ∷ joined ws) ≡ None) × (after_label (Name w ∷ joined ws) ≡ Name w ∷ joined ws)
+no_label w [] = (refl, refl)
+no_label w (Word x ∷ ws) = (refl, refl)
+no_label w (Bare n ∷ ws) = (refl, refl)
+no_label w (Signed sign.Plus n ∷ ws) = (refl, refl)
+no_label w (Signed sign.Minus n ∷ ws) = (refl, refl)
+no_label w (Memory x ∷ ws) = (refl, refl)
+no_label w (MemoryAt x s n ∷ ws) = (refl, refl)
+
+no_label_one : (h : List Lexeme) (w : List ℕ) (ws : List Written) → h ≡ Name w ∷ [] → (label_of (h ++ joined ws) ≡ None) × (after_label (h ++ joined ws) ≡ h ++ joined ws)
+no_label_one h w ws e = rw e (no_label w ws)
+
+no_label_at : (m : Mnemonic) (ws : List Written) (b : Bool) → is_local m ≡ b → (label_of (head m ++ joined ws) ≡ None) × (after_label (head m ++ joined ws) ≡ head m ++ joined ws)
+no_label_at mnemonic.CallLocal ws b e = (refl, refl)
+no_label_at m ws false e = no_label_one (head m) (name m) ws (head_one m e)
+no_label_at m ws true e = absurd (cc e)
+
+clean_operand : (w : Written) (ts : List Lexeme) → has_stray (tokens_of w ++ ts) ≡ has_stray ts
+clean_operand (Word x) ts = refl
+clean_operand (Bare n) ts = refl
+clean_operand (Signed sign.Plus n) ts = refl
+clean_operand (Signed sign.Minus n) ts = refl
+clean_operand (Memory x) ts = refl
+clean_operand (MemoryAt x sign.Plus n) ts = refl
+clean_operand (MemoryAt x sign.Minus n) ts = refl
+
+clean_more : (ws : List Written) → has_stray (more ws) ≡ false
+clean_more [] = refl
+clean_more (w ∷ ws) = clean_operand w (more ws) ∙ clean_more ws
+
+clean_joined : (ws : List Written) → has_stray (joined ws) ≡ false
+clean_joined [] = refl
+clean_joined (v ∷ ws) = clean_operand v (more ws) ∙ clean_more ws
+
+clean_one : (h : List Lexeme) (w : List ℕ) (ws : List Written) → h ≡ Name w ∷ [] → has_stray (h ++ joined ws) ≡ false
+clean_one h w ws e = rw e (clean_joined ws)
+
+clean_at : (m : Mnemonic) (ws : List Written) (b : Bool) → is_local m ≡ b → has_stray (head m ++ joined ws) ≡ false
+clean_at mnemonic.CallLocal ws b e = clean_joined ws
+clean_at m ws false e = clean_one (head m) (name m) ws (head_one m e)
+clean_at m ws true e = absurd (cc e)
+
+module _ (i : Instr) (f : FitsParts i) where
+  spelled : List Lexeme
+  spelled = head (mnemonic_of i) ++ joined (map canonical (operands_of i))
+
+  -- the label of the canonical line, what stands after it, and that nothing in it is stray
+  parts_of_line : (label_of spelled ≡ None) × (after_label spelled ≡ spelled) × (has_stray spelled ≡ false)
+  unfolding spelled
+  parts_of_line =
+      let n = no_label_at (mnemonic_of i) (map canonical (operands_of i)) (is_local (mnemonic_of i)) refl in
+      (n.0, n.1, clean_at (mnemonic_of i) (map canonical (operands_of i)) (is_local (mnemonic_of i)) refl)
+
+  line_is : tokens (line_text i) ≡ spelled
+  unfolding spelled
+  line_is = line_tokens i f
+
+  pub line_again : (look : Look) (n : ℕ) → line_says look n (tokens (line_text i)) ≡ Ok (Some i)
+  line_again look n =
+      let b : body look n spelled ≡ Ok (Some i) = ap (body look n) (sym line_is) ∙ means_says look n (tokens (line_text i)) i (line_means look n i f) in
+      ap (line_says look n) line_is ∙ ap (λ t. cond t (Err why.Word) (body look n (after_label spelled))) parts_of_line.2 ∙ ap (body look n) parts_of_line.1 ∙ b
+
+  pub label_none : label_of (tokens (line_text i)) ≡ None
+  label_none = ap label_of line_is ∙ parts_of_line.0
+
+  pub slots_again : slots_in (tokens (line_text i)) ≡ slots_of (mnemonic_of i)
+  slots_again = ap slots_in line_is ∙ ap body_slots (parts_of_line.1 ∙ sym line_is) ∙ means_slots nowhere 0 (tokens (line_text i)) i (line_means nowhere 0 i f)
+
+  short : (n s : ℕ) → s ≡ slots_of (mnemonic_of i) → n + slots_of (mnemonic_of i) ≤ 4096 → nat_lt 4096 (n + s) ≡ false
+  short n s e h = grind (arith, nat_tests)
+
+  pub nothing_wrong : (look : Look) (n : ℕ) → n + slots_of (mnemonic_of i) ≤ 4096 → wrong look n (tokens (line_text i)) ≡ None
+  nothing_wrong look n h =
+      ap (λ r. or_else (fault_of r) (cond (is_twice look (label_of (tokens (line_text i)))) (Some why.TwiceLabel) (cond (nat_lt 4096 (n + slots_in (tokens (line_text i)))) (Some why.TooLong) None))) (line_again look n)
+      ∙ ap (λ l. cond (is_twice look l) (Some why.TwiceLabel) (cond (nat_lt 4096 (n + slots_in (tokens (line_text i)))) (Some why.TooLong) None)) label_none
+      ∙ ap (λ b. cond b (Some why.TooLong) None) (short n (slots_in (tokens (line_text i))) slots_again h)
+
+-- ---- both passes
+
+outlined_again : (k : ℕ) (look : Look) (n : ℕ) (code : List Instr) → AllFitParts code → n + slot_count code ≤ 4096 → outlined k look n (map line_text code) ≡ Ok look
+outlined_again k look n [] f h = refl
+outlined_again k look n (i ∷ is) f h =
+    let rest = map line_text is in
+    let ts = tokens (line_text i) in
+    ap (λ o. unless_wrong o k (outlined (k + 1) (with_label look (label_of ts) n) (n + slots_in ts) rest)) (nothing_wrong i f.0 look n (omega arith))
+    ∙ ap (λ l. outlined (k + 1) (with_label look l n) (n + slots_in ts) rest) (label_none i f.0)
+    ∙ ap (λ s. outlined (k + 1) look (n + s) rest) (slots_again i f.0)
+    ∙ outlined_again (k + 1) look (n + slots_of (mnemonic_of i)) is f.1 (omega arith)
+
+assembled_again : (k : ℕ) (look : Look) (n : ℕ) (code : List Instr) → AllFitParts code → assembled k look n (map line_text code) ≡ Ok code
+assembled_again k look n [] f = refl
+assembled_again k look n (i ∷ is) f =
+    let rest = map line_text is in
+    let ts = tokens (line_text i) in
+    ap (λ r. with_said r k (assembled (k + 1) look (n + slots_in ts) rest)) (line_again i f.0 look n)
+    ∙ ap (onto (λ l. i ∷ l)) (assembled_again (k + 1) look (n + slots_in ts) is f.1)
+
+pub canonical_spells : (code : List Instr) → AllFitParts code → slot_count code ≤ 4096 → meaning (text_of code) ≡ Ok code
+canonical_spells code f h =
+    ap (λ l. under (outlined 1 nowhere 0 l) l) (canonical_lines code f)
+    ∙ ap (λ r. under r (map line_text code)) (outlined_again 1 nowhere 0 code f (omega arith))
+    ∙ assembled_again 1 nowhere 0 code f
+
+pub one_spelling : (i j : Instr) → FitsParts i → FitsParts j → line_text i ≡ line_text j → i ≡ j
+one_spelling i j f g e =
+    let k : ◌≡◌ {A = Result (Option Instr) Why} (Ok (Some i)) (Ok (Some j)) = sym (line_again i f nowhere 0) ∙ ap (λ l. line_says nowhere 0 (tokens l)) e ∙ line_again j g nowhere 0 in
+    cc k

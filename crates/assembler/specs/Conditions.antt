@@ -1,0 +1,63 @@
+-- What may be wrong with a line, each condition by itself, and the least of them.
+use Rattle.std.specs.Prelude.{◌≡◌, ◌+◌, ◌⊎◌, ◌&&◌, ◌||◌, ℕ, nat_lt, not, Bool, true, false, List, [], ◌∷◌, Option, Some, None, is_some, Err, if◌then◌else◌, ◌↔◌}
+use Rattle.std.specs.Str.Lines.{lines}
+use Rattle.asm_text.specs.Tokens.{Lexeme, tokens}
+use Rattle.asm_table.specs.declared.mnemonic.Mnemonic.{Mnemonic}
+use Rattle.asm_grammar.specs.declared.why.Why.{Why}
+use Rattle.asm_grammar.specs.declared.why.Why.TheVariants as why
+use Rattle.asm_table.specs.Mnemonics.{sorts}
+use Rattle.asm_grammar.specs.Reading.{Look, Gathered, gathered, nothing, mnemonic_at, label_of, after_label, has_stray}
+use Rattle.asm_table.specs.Parts.{built}
+use Rattle.assembler.specs.declared.error.AsmError.{AsmError}
+use Rattle.assembler.specs.Passes.{nowhere, with_label, slots_in, is_twice, outlined}
+
+-- no mnemonic is at the front of what stands after the label
+abbrev pub is_unnamed : List Lexeme → Bool
+is_unnamed [] = false
+is_unnamed (t ∷ ts) = not (is_some (mnemonic_at (t ∷ ts)))
+
+-- the operands have no form of the mnemonic
+abbrev pub has_no_form : Mnemonic → Option Gathered → Bool
+has_no_form m None = true
+has_no_form m (Some g) = not g.out && not (is_some (built m g.operands))
+
+-- a number is out of its range
+abbrev pub is_out : Option Gathered → Bool
+is_out None = false
+is_out (Some g) = g.out
+
+-- the test holds of what the mnemonic at the front and the operands after it are
+abbrev pub of_operands : (Mnemonic → Option Gathered → Bool) → Option (Mnemonic × List Lexeme) → Bool
+of_operands test None = false
+of_operands test (Some x) = test x.0 (gathered nowhere 0 true nothing (sorts x.0) x.1)
+
+abbrev pub of_body : (Mnemonic → Option Gathered → Bool) → List Lexeme → Bool
+of_body test ts = of_operands test (mnemonic_at ts)
+
+-- the reason holds against a line at slot n, before which these labels stand
+abbrev pub holds : Look → ℕ → List Lexeme → Why → Bool
+holds before n ts why.Word = has_stray ts || is_unnamed (after_label ts)
+holds before n ts why.Operand = of_body has_no_form (after_label ts)
+holds before n ts why.Range = of_body (λ m g. is_out g) (after_label ts)
+holds before n ts why.TwiceLabel = is_twice before (label_of ts)
+holds before n ts why.TooLong = nat_lt 4096 (n + slots_in ts)
+holds before n ts _ = false
+
+-- the reasons against a line by itself, in the order of their numbers
+abbrev pub reasons : List Why
+reasons = why.Word ∷ why.Operand ∷ why.Range ∷ why.TwiceLabel ∷ why.TooLong ∷ []
+
+abbrev pub first_that : (Why → Bool) → List Why → Option Why
+first_that test [] = None
+first_that test (w ∷ ws) = if test w then Some w else first_that test ws
+
+-- Line k is the first with something wrong, and this is the least of what is wrong there.
+abbrev pub IsFirstWrong : ℕ → Look → ℕ → List (List ℕ) → AsmError → Type 0
+IsFirstWrong k before n [] e = ⊥
+IsFirstWrong k before n (line ∷ lines) e =
+    ((e.line ≡ k) × (first_that (holds before n (tokens line)) reasons ≡ Some e.why)) ⊎
+    ((first_that (holds before n (tokens line)) reasons ≡ None) × IsFirstWrong (k + 1) (with_label before (label_of (tokens line)) n) (n + slots_in (tokens line)) lines e)
+
+-- The first pass refuses the first wrong line, for the least reason.
+abbrev pub LeastFirst : Type 0
+LeastFirst = (text : List ℕ) (e : AsmError) → (outlined 1 nowhere 0 (lines text) ≡ Err e) ↔ IsFirstWrong 1 nowhere 0 (lines text) e

@@ -1,0 +1,12 @@
+//! Assembly in, instructions out.
+#![tactic(auto)]
+
+mod error;
+mod laws;
+mod lines;
+mod passes;
+
+pub use asm_grammar::Why;
+pub use error::AsmError;
+pub use laws::{canonical_spells, label_last, least_first, ok_exactly, one_spelling};
+pub use passes::assemble;
