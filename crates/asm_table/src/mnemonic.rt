@@ -1,5 +1,5 @@
 //! The first words of instructions.
-ghost use Rattle.std.specs.Prelude.{◌≡◌};
+ghost use Rattle.std.specs.Prelude.{◌≡◌, ◌≤◌, length};
 ghost use Rattle.asm_table.specs.Mnemonics.{name, sorts, slots_of};
 
 use isa_table::{AtomicOp, Binary, Cond, Order, SignedSize, Size, SwapWidth, Width};
@@ -49,7 +49,8 @@ pub enum Sort {
 
 /// Of an operation with a destination and a second operand.
 fn alu_name(width: Width, op: Binary) -> &'static [u8]
-    ensures { result.now ≡ name (Mnemonic.Alu width op) }
+    ensures name { result.now ≡ name (Mnemonic.Alu width op) }
+    ensures short { length result.now ≤ 10 }
 {
     match (width, op) {
         (Width::W64, Binary::Add) => b"add",
@@ -85,7 +86,8 @@ fn alu_name(width: Width, op: Binary) -> &'static [u8]
 
 /// Of a byte swap.
 fn swap_name(order: Order, width: SwapWidth) -> &'static [u8]
-    ensures { result.now ≡ name (Mnemonic.End order width) }
+    ensures name { result.now ≡ name (Mnemonic.End order width) }
+    ensures short { length result.now ≤ 10 }
 {
     match (order, width) {
         (Order::Little, SwapWidth::W16) => b"le16",
@@ -102,7 +104,8 @@ fn swap_name(order: Order, width: SwapWidth) -> &'static [u8]
 
 /// Of a conditional jump.
 fn jump_name(width: Width, cond: Cond) -> &'static [u8]
-    ensures { result.now ≡ name (Mnemonic.Jump width cond) }
+    ensures name { result.now ≡ name (Mnemonic.Jump width cond) }
+    ensures short { length result.now ≤ 10 }
 {
     match (width, cond) {
         (Width::W64, Cond::Eq) => b"jeq",
@@ -132,7 +135,8 @@ fn jump_name(width: Width, cond: Cond) -> &'static [u8]
 
 /// Of a load.
 fn load_name(size: Size) -> &'static [u8]
-    ensures { result.now ≡ name (Mnemonic.Load size) }
+    ensures name { result.now ≡ name (Mnemonic.Load size) }
+    ensures short { length result.now ≤ 10 }
 {
     match size {
         Size::Byte => b"ldxb",
@@ -144,7 +148,8 @@ fn load_name(size: Size) -> &'static [u8]
 
 /// Of a load that extends the sign.
 fn load_signed_name(size: SignedSize) -> &'static [u8]
-    ensures { result.now ≡ name (Mnemonic.LoadSigned size) }
+    ensures name { result.now ≡ name (Mnemonic.LoadSigned size) }
+    ensures short { length result.now ≤ 10 }
 {
     match size {
         SignedSize::Byte => b"ldxsb",
@@ -155,7 +160,8 @@ fn load_signed_name(size: SignedSize) -> &'static [u8]
 
 /// Of a store of a number.
 fn store_imm_name(size: Size) -> &'static [u8]
-    ensures { result.now ≡ name (Mnemonic.StoreImm size) }
+    ensures name { result.now ≡ name (Mnemonic.StoreImm size) }
+    ensures short { length result.now ≤ 10 }
 {
     match size {
         Size::Byte => b"stb",
@@ -167,7 +173,8 @@ fn store_imm_name(size: Size) -> &'static [u8]
 
 /// Of a store of a register.
 fn store_register_name(size: Size) -> &'static [u8]
-    ensures { result.now ≡ name (Mnemonic.StoreRegister size) }
+    ensures name { result.now ≡ name (Mnemonic.StoreRegister size) }
+    ensures short { length result.now ≤ 10 }
 {
     match size {
         Size::Byte => b"stxb",
@@ -179,7 +186,8 @@ fn store_register_name(size: Size) -> &'static [u8]
 
 /// Of an atomic operation.
 fn atomic_name(width: Width, op: AtomicOp) -> &'static [u8]
-    ensures { result.now ≡ name (Mnemonic.Atomic width op) }
+    ensures name { result.now ≡ name (Mnemonic.Atomic width op) }
+    ensures short { length result.now ≤ 10 }
 {
     match (width, op) {
         (Width::W64, AtomicOp::Add) => b"aadd",
@@ -208,7 +216,8 @@ fn atomic_name(width: Width, op: AtomicOp) -> &'static [u8]
 impl Mnemonic {
     /// As it is written. `call local` may be written with more blanks between its words.
     pub fn name(self) -> &'static [u8]
-        ensures { result.now ≡ name self }
+        ensures name { result.now ≡ name self }
+        ensures short { length result.now ≤ 10 }
     {
         match self {
             Mnemonic::Alu(width, op) => alu_name(width, op),

@@ -1,5 +1,5 @@
 //! Registers by their names.
-ghost use Rattle.std.specs.Prelude.{◌≡◌};
+ghost use Rattle.std.specs.Prelude.{◌≡◌, ◌≤◌, length};
 ghost use Rattle.asm_table.specs.Names.{register_name, register_named};
 
 use isa_table::Reg;
@@ -20,7 +20,8 @@ const REGISTERS: [Reg; 11] = [
 
 /// `r0` to `r10`.
 pub fn register_name(r: Reg) -> &'static [u8]
-    ensures { result.now ≡ register_name r }
+    ensures name { result.now ≡ register_name r }
+    ensures short { length result.now ≤ 3 }
 {
     match r {
         Reg::R0 => b"r0",

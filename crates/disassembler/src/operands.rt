@@ -1,0 +1,111 @@
+//! The text of an operand.
+ghost use Rattle.std.specs.Prelude.{◌≡◌, ◌≤◌, ◌<◌, ◌+◌, ◌*◌, ◌++◌, length, decimal, pos, false, ◌∷◌, []};
+ghost use Rattle.std.specs.Fmt.{signed_decimal, digits};
+ghost use Rattle.arrayvec.specs.ArrayVec.{array_vec_len};
+ghost use Rattle.asm_table.specs.Canonical.{plus_text, offset_text, operand_text, more_text, operands_text};
+
+use crate::hex::hex_digits;
+use arrayvec::ArrayVec;
+use asm_table::{AsmOperand, register_name};
+
+/// A line while it is written.
+pub type Line = ArrayVec<u8, 256>;
+
+/// Adds a text.
+pub fn put(line: &mut Line, text: &[u8])
+    requires { array_vec_len line.old + length text.now ≤ 256 }
+    ensures text { line.new.items ≡ line.old.items ++ text.now }
+    ensures len { array_vec_len line.new ≡ array_vec_len line.old + length text.now }
+{
+    let _ = line.try_extend_from_slice(text);
+}
+
+fn put_signed(line: &mut Line, z: i32)
+    requires { array_vec_len line.old + 40 ≤ 256 }
+    ensures text { line.new.items ≡ line.old.items ++ signed_decimal z }
+    ensures len { array_vec_len line.new ≤ array_vec_len line.old + 40 }
+{
+    put(line, itoa::Buffer::new().format(z).as_bytes());
+}
+
+/// With a sign before it in any case.
+fn put_plus(line: &mut Line, z: i32)
+    requires { array_vec_len line.old + 41 ≤ 256 }
+    ensures text { line.new.items ≡ line.old.items ++ plus_text z }
+    ensures len { array_vec_len line.new ≤ array_vec_len line.old + 41 }
+{
+    if z >= 0 {
+        put(line, b"+");
+    }
+    put(line, itoa::Buffer::new().format(z).as_bytes());
+}
+
+/// Nothing for 0.
+fn put_offset(line: &mut Line, z: i16)
+    requires { array_vec_len line.old + 41 ≤ 256 }
+    ensures text { line.new.items ≡ line.old.items ++ offset_text z }
+    ensures len { array_vec_len line.new ≤ array_vec_len line.old + 41 }
+{
+    if z == 0 {
+        return;
+    }
+    put_plus(line, i32::from(z))
+}
+
+fn put_imm64(line: &mut Line, k: u64)
+    requires { array_vec_len line.old + 18 ≤ 256 }
+    ensures text { line.new.items ≡ line.old.items ++ 48 ∷ 120 ∷ digits 16 false k }
+    ensures len { array_vec_len line.new ≤ array_vec_len line.old + 18 }
+{
+    let mut buffer = [0u8; 16];
+    let at = hex_digits(k, &mut buffer);
+    put(line, b"0x");
+    put(line, &buffer[at..]);
+}
+
+fn put_operand(line: &mut Line, o: AsmOperand)
+    requires { array_vec_len line.old + 50 ≤ 256 }
+    ensures text { line.new.items ≡ line.old.items ++ operand_text o }
+    ensures len { array_vec_len line.new ≤ array_vec_len line.old + 50 }
+{
+    match o {
+        AsmOperand::Register(r) => put(line, register_name(r)),
+        AsmOperand::Imm(z) => put_signed(line, z),
+        AsmOperand::Memory(r, z) => {
+            put(line, b"[");
+            put(line, register_name(r));
+            put_offset(line, z);
+            put(line, b"]");
+        }
+        AsmOperand::Imm64(k) => put_imm64(line, k),
+        AsmOperand::Offset(z) => put_plus(line, i32::from(z)),
+        AsmOperand::LongOffset(z) => put_plus(line, z),
+    }
+}
+
+/// Adds the operands after the first.
+fn put_more(line: &mut Line, operands: &[AsmOperand])
+    requires { array_vec_len line.old + 52 * length operands.now ≤ 256 }
+    ensures text { line.new.items ≡ line.old.items ++ more_text operands.now }
+    ensures len { array_vec_len line.new ≤ array_vec_len line.old + 52 * length operands.now }
+{
+    for o in operands {
+        put(line, b", ");
+        put_operand(line, *o);
+    }
+}
+
+/// Adds a blank and all operands, or nothing where there is none.
+pub fn put_operands(line: &mut Line, operands: &[AsmOperand])
+    requires { array_vec_len line.old + 52 * length operands.now ≤ 256 }
+    ensures { line.new.items ≡ line.old.items ++ operands_text operands.now }
+{
+    match operands {
+        [] => {}
+        [first, rest @ ..] => {
+            put(line, b" ");
+            put_operand(line, *first);
+            put_more(line, rest);
+        }
+    }
+}
