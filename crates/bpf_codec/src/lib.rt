@@ -9,6 +9,8 @@ mod layout;
 mod places;
 mod reading;
 mod slot;
+#[cfg(test)]
+mod tests;
 mod writing;
 
 pub use fault::Fault;
