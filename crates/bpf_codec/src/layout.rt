@@ -1,8 +1,8 @@
 //! The layout of each instruction's first slot.
 ghost use Rattle.std.specs.Prelude.{◌≡◌, ◌<◌, ◌≤◌};
-ghost use Rattle.isa_table.specs.declared.instr.Instr.TheVariants.{Alu, Jump, Store};
+ghost use Rattle.isa_table.specs.declared.instr.Instr.TheVariants.{Alu, Jump, Store, Atomic};
 ghost use Rattle.bpf_codec.specs.declared.layout.Field.TheVariants.{Register};
-ghost use Rattle.bpf_codec.specs.Slots.{alu_code, alu_offset, cond_code, alu_class, jump_class, size_code, end_code, swap_bits, atomic_code, row, layout};
+ghost use Rattle.bpf_codec.specs.Slots.{alu_code, alu_offset, cond_code, alu_class, jump_class, size_code, end_code, swap_bits, atomic_code, unused, row, layout};
 
 use isa_table::{AtomicOp, Binary, Cond, Instr, Operand, Order, Reg, Size, SwapWidth, Width};
 
@@ -193,10 +193,32 @@ fn store_layout(size: Size, dst: Reg, src: Operand, offset: i16) -> Layout
     }
 }
 
-/// A layout of two registers.
-fn two_registers(opcode: u8, dst: Reg, src: Reg, offset: Field, imm: Field) -> Layout
-    ensures { result ≡ row opcode (Register dst) (Register src) offset imm }
+/// The layout of a row with a destination, and no source or offset.
+fn one_register(opcode: u8, dst: Reg, imm: Field) -> Layout
+    ensures { result ≡ row opcode (Register dst) unused unused imm }
 {
+    make_row(opcode, Field::Register(dst), UNUSED, UNUSED, imm)
+}
+
+/// The layout of a row with a destination and a source, and no number in the imm field.
+fn two_registers(opcode: u8, dst: Reg, src: Reg, offset: Field) -> Layout
+    ensures { result ≡ row opcode (Register dst) (Register src) offset unused }
+{
+    make_row(
+        opcode,
+        Field::Register(dst),
+        Field::Register(src),
+        offset,
+        UNUSED,
+    )
+}
+
+fn atomic_layout(width: Width, op: AtomicOp, dst: Reg, src: Reg, offset: i16) -> Layout
+    ensures { result ≡ layout (Atomic width op dst src offset) }
+{
+    let opcode = 0xc3 + size_code_of(width.size());
+    let offset = Field::Offset(offset);
+    let imm = Field::Only(atomic_code_of(op));
     make_row(
         opcode,
         Field::Register(dst),
@@ -218,33 +240,17 @@ pub fn layout_of(instr: Instr) -> Layout
             dst,
             src,
         } => alu_layout(width, op, dst, src),
-        Instr::Neg { width, dst } => make_row(
-            0x80 + alu_class_of(width),
-            Field::Register(dst),
-            UNUSED,
-            UNUSED,
-            UNUSED,
-        ),
+        Instr::Neg { width, dst } => one_register(0x80 + alu_class_of(width), dst, UNUSED),
         Instr::MovSx8 { width, dst, src } => {
-            two_registers(0xb8 + alu_class_of(width), dst, src, Field::Only(8), UNUSED)
+            two_registers(0xb8 + alu_class_of(width), dst, src, Field::Only(8))
         }
         Instr::MovSx16 { width, dst, src } => {
-            two_registers(
-                0xb8 + alu_class_of(width),
-                dst,
-                src,
-                Field::Only(16),
-                UNUSED,
-            )
+            two_registers(0xb8 + alu_class_of(width), dst, src, Field::Only(16))
         }
-        Instr::MovSx32 { dst, src } => two_registers(0xbf, dst, src, Field::Only(32), UNUSED),
-        Instr::End { order, width, dst } => make_row(
-            end_code_of(order),
-            Field::Register(dst),
-            UNUSED,
-            UNUSED,
-            Field::Only(swap_bits_of(width)),
-        ),
+        Instr::MovSx32 { dst, src } => two_registers(0xbf, dst, src, Field::Only(32)),
+        Instr::End { order, width, dst } => {
+            one_register(end_code_of(order), dst, Field::Only(swap_bits_of(width)))
+        }
         Instr::Jump {
             width,
             cond,
@@ -264,25 +270,20 @@ pub fn layout_of(instr: Instr) -> Layout
             dst,
             src,
             offset,
-        } => two_registers(
-            0x61 + size_code_of(size),
-            dst,
-            src,
-            Field::Offset(offset),
-            UNUSED,
-        ),
+        } => { two_registers(0x61 + size_code_of(size), dst, src, Field::Offset(offset)) }
         Instr::LoadSigned {
             size,
             dst,
             src,
             offset,
-        } => two_registers(
-            0x81 + size_code_of(size.size()),
-            dst,
-            src,
-            Field::Offset(offset),
-            UNUSED,
-        ),
+        } => {
+            two_registers(
+                0x81 + size_code_of(size.size()),
+                dst,
+                src,
+                Field::Offset(offset),
+            )
+        }
         Instr::Store {
             size,
             dst,
@@ -295,19 +296,7 @@ pub fn layout_of(instr: Instr) -> Layout
             dst,
             src,
             offset,
-        } => two_registers(
-            0xc3 + size_code_of(width.size()),
-            dst,
-            src,
-            Field::Offset(offset),
-            Field::Only(atomic_code_of(op)),
-        ),
-        Instr::LoadImm64 { dst, value } => make_row(
-            0x18,
-            Field::Register(dst),
-            UNUSED,
-            UNUSED,
-            Field::Wide(value),
-        ),
+        } => atomic_layout(width, op, dst, src, offset),
+        Instr::LoadImm64 { dst, value } => one_register(0x18, dst, Field::Wide(value)),
     }
 }
