@@ -6,107 +6,100 @@ use Rattle.std.proofs.lemmas.List.Elements.{All-append, All-nil, All-cons}
 use Rattle.std.proofs.Math.Seq.{take-append-add}
 use Rattle.std.proofs.KnownBytes.{Appends-nil, Appends-trans}
 use Rattle.std.specs.Io.KnownBytes.{Appends}
-use Rattle.world.specs.declared.events.Reply.TheVariants as reply
-use Rattle.world.specs.Answers.{WorldState, Command, Answers}
-use Rattle.world.specs.Answers.Command.{Ship, Step, Regs}
 use Rattle.world.proofs.Joined.{Runs-append}
-use Rattle.console.specs.Lines.{IsLine, ended, MayLackMemory}
+use Rattle.console.specs.Lines.{IsLine, ended}
 use Rattle.console.specs.Held.{Held, clip, nothing_held, bytes_so_far, Feeds}
-use Rattle.console.specs.Conversations.{IsTurn, line_of, text_of, commands_of, replies_of, heard_of, told_of, Answered, Exchange, Goes, Halts}
-use Rattle.console.proofs.Kept.{clip-append}
+use Rattle.console.specs.Conversations.{Protocol, Turn, IsTurn, turn_line, turn_text, turn_commands, turn_replies, heard_of, written_of, Answered, Exchange, AnswersSoFar, FailsInReply, FailsInCut, Breaks, DueReply}
+use Rattle.console.proofs.Clips.{clip-append}
 
--- a command whose reading found no memory changes nothing
-pub lacks_memory : (s : WorldState) (command : Command) → MayLackMemory command → Answers s command reply.NoMemory s
-lacks_memory s (Ship fuel arguments code) m = refl
-lacks_memory s (Step machine) m = absurd m
-lacks_memory s (Regs machine) m = absurd m
+module _ (p : Protocol) where
+  -- nothing is answered yet
+  pub exchange_none : (s : p.State) (line : List ℕ) → Exchange p s line [] s line
+  exchange_none s line = record { turns = []; each = All-nil (IsTurn p); heard = refl; written = refl; run = refl }
 
--- nothing is answered yet
-pub exchange_none : (s : WorldState) (line : List ℕ) → Exchange s line [] s line
-exchange_none s line = record { turns = []; each = All-nil IsTurn; heard = refl; told = refl; run = refl }
+  -- one line is answered
+  pub exchange_one : (s t : p.State) (line bytes more input : List ℕ) → input ≡ ended line ++ more → Answered p s line bytes t → Exchange p s input bytes t more
+  exchange_one s t line bytes more input e a = record {
+    turns = a.0 ∷ [];
+    each = All-cons (IsTurn p) a.0 [] a.2 (All-nil (IsTurn p));
+    heard = e ∙ ap (λ l. ended l ++ more) (sym a.1) ∙ ap (λ l. l ++ more) (sym (append-nil (ended (turn_line p a.0))));
+    written = a.4 ∙ sym (append-nil (ended (turn_text p a.0)));
+    run = a.3;
+  }
 
--- one line is answered
-pub exchange_one : (s t : WorldState) (line bytes more input : List ℕ) → input ≡ ended line ++ more → Answered s line bytes t → Exchange s input bytes t more
-exchange_one s t line bytes more input e a = record {
-  turns = a.0 ∷ [];
-  each = All-cons IsTurn a.0 [] a.2 (All-nil IsTurn);
-  heard = e ∙ ap (λ l. ended l ++ more) (sym a.1) ∙ ap (λ l. l ++ more) (sym (append-nil (ended (line_of a.0))));
-  told = a.4 ∙ sym (append-nil (ended (text_of a.0)));
-  run = a.3;
-}
+  pub exchange_join : (a b c : p.State) (i o r j q t : List ℕ) → Exchange p a i o b r → Exchange p b (r ++ j) q c t → Exchange p a (i ++ j) (o ++ q) c t
+  exchange_join a b c i o r j q t x y = record {
+    turns = x.turns ++ y.turns;
+    each = All-append (IsTurn p) x.turns y.turns x.each y.each;
+    heard = ap (λ l. l ++ j) x.heard ∙ append_assoc (heard_of p x.turns) r j ∙ ap (λ l. heard_of p x.turns ++ l) y.heard
+        ∙ sym (append_assoc (heard_of p x.turns) (heard_of p y.turns) t) ∙ ap (λ l. l ++ t) (sym (flat_map-append (λ turn. ended (turn_line p turn)) x.turns y.turns));
+    written = ap (λ l. l ++ q) x.written ∙ ap (λ l. written_of p x.turns ++ l) y.written ∙ sym (flat_map-append (λ turn. ended (turn_text p turn)) x.turns y.turns);
+    run = rw (flat_map-append (turn_commands p) x.turns y.turns, flat_map-append (turn_replies p) x.turns y.turns)
+        (Runs-append p.step a b c (flat_map (turn_commands p) x.turns) (flat_map (turn_replies p) x.turns) (flat_map (turn_commands p) y.turns) (flat_map (turn_replies p) y.turns) x.run y.run);
+  }
 
-pub exchange_join : (a b c : WorldState) (i o r j p q : List ℕ) → Exchange a i o b r → Exchange b (r ++ j) p c q → Exchange a (i ++ j) (o ++ p) c q
-exchange_join a b c i o r j p q x y = record {
-  turns = x.turns ++ y.turns;
-  each = All-append IsTurn x.turns y.turns x.each y.each;
-  heard = ap (λ l. l ++ j) x.heard ∙ append_assoc (heard_of x.turns) r j ∙ ap (λ l. heard_of x.turns ++ l) y.heard
-      ∙ sym (append_assoc (heard_of x.turns) (heard_of y.turns) q) ∙ ap (λ l. l ++ q) (sym (flat_map-append (λ turn. ended (line_of turn)) x.turns y.turns));
-  told = ap (λ l. l ++ p) x.told ∙ ap (λ l. told_of x.turns ++ l) y.told ∙ sym (flat_map-append (λ turn. ended (text_of turn)) x.turns y.turns);
-  run = rw (flat_map-append commands_of x.turns y.turns, flat_map-append replies_of x.turns y.turns)
-      (Runs-append Answers a b c (flat_map commands_of x.turns) (flat_map replies_of x.turns) (flat_map commands_of y.turns) (flat_map replies_of y.turns) x.run y.run);
-}
+  -- more input may follow
+  pub exchange_more : (a b : p.State) (i o r j : List ℕ) → Exchange p a i o b r → Exchange p a (i ++ j) o b (r ++ j)
+  exchange_more a b i o r j x = record {
+    turns = x.turns;
+    each = x.each;
+    heard = ap (λ l. l ++ j) x.heard ∙ append_assoc (heard_of p x.turns) r j;
+    written = x.written;
+    run = x.run;
+  }
 
--- more input may follow
-pub exchange_more : (a b : WorldState) (i o r j : List ℕ) → Exchange a i o b r → Exchange a (i ++ j) o b (r ++ j)
-exchange_more a b i o r j x = record {
-  turns = x.turns;
-  each = x.each;
-  heard = ap (λ l. l ++ j) x.heard ∙ append_assoc (heard_of x.turns) r j;
-  told = x.told;
-  run = x.run;
-}
+  pub answers_join : (a b c : p.State) (i j : List ℕ) (u v w : Option (List ℕ)) (h k : Held) (x : AnswersSoFar p a i u v b h) → AnswersSoFar p b (x.rest ++ j) v w c k → AnswersSoFar p a (i ++ j) u w c k
+  answers_join a b c i j u v w h k x y = record {
+    output = x.output ++ y.output;
+    rest = y.rest;
+    appended = Appends-trans u v w x.output y.output x.appended y.appended;
+    so_far = exchange_join a b c i x.output x.rest j y.output y.rest x.so_far y.so_far;
+    is_open = y.is_open;
+    holds = y.holds;
+  }
 
-pub goes_join : (a b c : WorldState) (i j : List ℕ) (u v w : Option (List ℕ)) (h k : Held) (x : Goes a i u v b h) → Goes b (x.rest ++ j) v w c k → Goes a (i ++ j) u w c k
-goes_join a b c i j u v w h k x y = record {
-  output = x.output ++ y.output;
-  rest = y.rest;
-  appended = Appends-trans u v w x.output y.output x.appended y.appended;
-  so_far = exchange_join a b c i x.output x.rest j y.output y.rest x.so_far y.so_far;
-  is_open = y.is_open;
-  holds = y.holds;
-}
+  pub fails_join : (ahead : List ℕ) (a b c : p.State) (i j : List ℕ) (u v w : Option (List ℕ)) (h : Held) (x : AnswersSoFar p a i u v b h) → FailsInReply p ahead b (x.rest ++ j) v w c
+      → FailsInReply p ahead a (i ++ j) u w c
+  fails_join ahead a b c i j u v w h x y =
+      let z = y.2 in (
+        x.output ++ y.0,
+        Appends-trans u v w x.output y.0 x.appended y.1,
+        record {
+          written = x.output ++ z.written;
+          rest = z.rest;
+          mid = z.mid;
+          due = z.due;
+          part = z.part;
+          missing = z.missing;
+          so_far = exchange_join a b z.mid i x.output x.rest j z.written z.rest x.so_far z.so_far;
+          next = z.next;
+          broken = z.broken;
+          misses = z.misses;
+          wrote = ap (λ l. x.output ++ l) z.wrote ∙ sym (append_assoc x.output z.written z.part);
+        },
+      )
 
-pub halts_join : (a b c : WorldState) (i j : List ℕ) (u v w : Option (List ℕ)) (h : Held) (x : Goes a i u v b h) → Halts b (x.rest ++ j) v w c → Halts a (i ++ j) u w c
-halts_join a b c i j u v w h x y =
-    let z = y.2 in (
-      x.output ++ y.0,
-      Appends-trans u v w x.output y.0 x.appended y.1,
-      record {
-        told = x.output ++ z.told;
-        rest = z.rest;
-        mid = z.mid;
-        due = z.due;
-        part = z.part;
-        missing = z.missing;
-        so_far = exchange_join a b z.mid i x.output x.rest j z.told z.rest x.so_far z.so_far;
-        next = z.next;
-        broken = z.broken;
-        misses = z.misses;
-        wrote = ap (λ l. x.output ++ l) z.wrote ∙ sym (append_assoc x.output z.told z.part);
-      },
-    )
-
--- more input may follow what was heard when a write failed
-pub halts_more : (a b : WorldState) (i j : List ℕ) (u v : Option (List ℕ)) → Halts a i u v b → Halts a (i ++ j) u v b
-halts_more a b i j u v y =
-    let z = y.2 in
-    let n = z.next in (
-      y.0,
-      y.1,
-      record {
-        told = z.told;
-        rest = z.rest ++ j;
-        mid = z.mid;
-        due = z.due;
-        part = z.part;
-        missing = z.missing;
-        so_far = exchange_more a z.mid i z.told z.rest j z.so_far;
-        next = (n.0, n.1 ++ j, ap (λ l. l ++ j) n.2 ∙ append_assoc (ended n.0) n.1 j, n.3);
-        broken = z.broken;
-        misses = z.misses;
-        wrote = z.wrote;
-      },
-    )
+  -- more was read when a write failed
+  pub fails_more : (ahead : List ℕ) (a b : p.State) (i j : List ℕ) (u v : Option (List ℕ)) → FailsInReply p ahead a i u v b → FailsInReply p (ahead ++ j) a (i ++ j) u v b
+  fails_more ahead a b i j u v y =
+      let z = y.2 in
+      let n = z.next in (
+        y.0,
+        y.1,
+        record {
+          written = z.written;
+          rest = z.rest ++ j;
+          mid = z.mid;
+          due = z.due;
+          part = z.part;
+          missing = z.missing;
+          so_far = exchange_more a z.mid i z.written z.rest j z.so_far;
+          next = (n.0, ap (λ l. l ++ j) n.1 ∙ append_assoc (ended n.0) ahead j, n.2);
+          broken = z.broken;
+          misses = z.misses;
+          wrote = z.wrote;
+        },
+      )
 
 -- ---- what a console holds
 
@@ -119,49 +112,50 @@ so_far_open line waits e = rw e refl
 pub held_is : (h : Held) (line : List ℕ) → h.line ≡ line → IsFalse h.waits → h ≡ record { line = line; waits = false }
 held_is h line e f = rw (← e, ← f) refl
 
--- nothing is answered of a line that is still coming
-pub goes_none : (s : WorldState) (line : List ℕ) (u : Option (List ℕ)) (h : Held) → IsLine line → h.line ≡ clip line → IsFalse h.waits → Goes s line u u s h
-goes_none s line u h l e f = record {
-  output = [];
-  rest = line;
-  appended = Appends-nil u;
-  so_far = exchange_none s line;
-  is_open = l;
-  holds = held_is h (clip line) e f;
-}
+module _ (p : Protocol) where
+  -- nothing is answered of a line that is still coming
+  pub answers_none : (s : p.State) (line : List ℕ) (u : Option (List ℕ)) (h : Held) → IsLine line → h.line ≡ clip line → IsFalse h.waits → AnswersSoFar p s line u u s h
+  answers_none s line u h l e f = record {
+    output = [];
+    rest = line;
+    appended = Appends-nil u;
+    so_far = exchange_none p s line;
+    is_open = l;
+    holds = held_is h (clip line) e f;
+  }
 
--- a line is answered
-pub goes_line : (s t : WorldState) (line bytes input : List ℕ) (u v : Option (List ℕ)) (h : Held) → input ≡ ended line → Answered s line bytes t
-    → Appends u v bytes → h ≡ nothing_held → Goes s input u v t h
-goes_line s t line bytes input u v h e a w n = record {
-  output = bytes;
-  rest = [];
-  appended = w;
-  so_far = exchange_one s t line bytes [] input (e ∙ sym (append-nil (ended line))) a;
-  is_open = All-nil (λ b. b ≢ 10);
-  holds = n;
-}
+  -- a line is answered
+  pub answers_line : (s t : p.State) (line bytes input : List ℕ) (u v : Option (List ℕ)) (h : Held) → input ≡ ended line → Answered p s line bytes t
+      → Appends u v bytes → h ≡ nothing_held → AnswersSoFar p s input u v t h
+  answers_line s t line bytes input u v h e a w n = record {
+    output = bytes;
+    rest = [];
+    appended = w;
+    so_far = exchange_one p s t line bytes [] input (e ∙ sym (append-nil (ended line))) a;
+    is_open = All-nil (λ b. b ≢ 10);
+    holds = n;
+  }
 
--- a line's answer breaks off
-pub halts_line : (s t : WorldState) (line bytes input part missing : List ℕ) (u v : Option (List ℕ)) → input ≡ ended line → Answered s line bytes t
-    → bytes ≡ part ++ missing → 0 < length missing → Appends u v part → Halts s input u v t
-halts_line s t line bytes input part missing u v e a b m w = (
-  part,
-  w,
-  record {
-    told = [];
-    rest = input;
-    mid = s;
-    due = bytes;
-    part = part;
-    missing = missing;
-    so_far = exchange_none s input;
-    next = (line, [], e ∙ sym (append-nil (ended line)), a);
-    broken = b;
-    misses = m;
-    wrote = refl;
-  },
-)
+  -- a line's answer breaks off
+  pub fails_line : (s t : p.State) (line bytes input part missing : List ℕ) (u v : Option (List ℕ)) → input ≡ ended line → Answered p s line bytes t
+      → bytes ≡ part ++ missing → 0 < length missing → Appends u v part → FailsInReply p [] s input u v t
+  fails_line s t line bytes input part missing u v e a b m w = (
+    part,
+    w,
+    record {
+      written = [];
+      rest = input;
+      mid = s;
+      due = bytes;
+      part = part;
+      missing = missing;
+      so_far = exchange_none p s input;
+      next = (line, e ∙ sym (append-nil (ended line)), a);
+      broken = b;
+      misses = m;
+      wrote = refl;
+    },
+  )
 
 -- the line that a console holds which took bytes
 record Fed (rest taken : List ℕ) (held : Held) : Type 0 where
@@ -188,15 +182,15 @@ fed old rest bytes n h l e (inr f) = record {
 }
 
 -- bytes are taken, and the line that then waits, if one does, is answered
-module _ (a b c : WorldState) (i bytes : List ℕ) (u v w : Option (List ℕ)) (h k : Held) (n : ℕ) where
-  pub goes_fed : (new : Held) → Goes a i u v b h → Feeds h.line bytes n k
-      → ((line : List ℕ) → IsLine line → k.line ≡ clip line → Goes b (bytes_so_far line k.waits) v w c new) → Goes a (i ++ take n bytes) u w c new
-  goes_fed new x f answer =
+module _ (p : Protocol) (a b c : p.State) (i bytes : List ℕ) (u v w : Option (List ℕ)) (h k : Held) (n : ℕ) where
+  pub answers_fed : (new : Held) → AnswersSoFar p a i u v b h → Feeds h.line bytes n k
+      → ((line : List ℕ) → IsLine line → k.line ≡ clip line → AnswersSoFar p b (bytes_so_far line k.waits) v w c new) → AnswersSoFar p a (i ++ take n bytes) u w c new
+  answers_fed new x f answer =
       let l = fed h.line x.rest bytes n k x.is_open (ap (λ (y : Held). y.line) x.holds) f in
-      goes_join a b c i (take n bytes) u v w h new x (subst (λ j. Goes b j v w c new) (sym l.bytes) (answer l.line l.is_line l.clipped))
+      answers_join p a b c i (take n bytes) u v w h new x (subst (λ j. AnswersSoFar p b j v w c new) (sym l.bytes) (answer l.line l.is_line l.clipped))
 
-  pub halts_fed : Goes a i u v b h → Feeds h.line bytes n k → ((line : List ℕ) → IsLine line → k.line ≡ clip line → Halts b (bytes_so_far line k.waits) v w c)
-      → Halts a (i ++ take n bytes) u w c
-  halts_fed x f answer =
+  pub fails_fed : AnswersSoFar p a i u v b h → Feeds h.line bytes n k → ((line : List ℕ) → IsLine line → k.line ≡ clip line → FailsInReply p [] b (bytes_so_far line k.waits) v w c)
+      → FailsInReply p [] a (i ++ take n bytes) u w c
+  fails_fed x f answer =
       let l = fed h.line x.rest bytes n k x.is_open (ap (λ (y : Held). y.line) x.holds) f in
-      halts_join a b c i (take n bytes) u v w h x (subst (λ j. Halts b j v w c) (sym l.bytes) (answer l.line l.is_line l.clipped))
+      fails_join p [] a b c i (take n bytes) u v w h x (subst (λ j. FailsInReply p [] b j v w c) (sym l.bytes) (answer l.line l.is_line l.clipped))

@@ -1,5 +1,5 @@
-pub mod Spelled
-pub mod Said
-pub mod Kept
+pub mod LineTokens
+pub mod CommandReading
+pub mod Clips
 pub mod Exchanges
-pub mod Drives
+pub mod Endings

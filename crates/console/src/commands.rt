@@ -1,11 +1,13 @@
-//! Words in, commands out.
-ghost use Rattle.std.specs.Prelude.{Some};
-ghost use Rattle.console.specs.Operands.{words_left};
-ghost use Rattle.console.specs.Lines.{Reads, Says, SaysAs, Spells};
+//! Tokens in, commands out.
+ghost use Rattle.std.specs.Prelude.{◌≡◌, ◌<◌, ℕ, List, length, take, IfOk, IfErr};
+ghost use Rattle.hex.specs.Hex.{decode_of};
+ghost use Rattle.world.specs.Answers.{command_of};
+ghost use Rattle.console.specs.Tokens.{tokens_left};
+ghost use Rattle.console.specs.Commands.{Reads, Says, SaysOfKind, Spells, command_with, number_limits};
 
 use crate::fault::LineFault;
-use crate::kind::Kind;
-use crate::words::Words;
+use crate::kind::{Kind, NUMBERS};
+use crate::tokens::Tokens;
 use std::alloc::Global;
 use world::Event;
 
@@ -19,60 +21,64 @@ pub fn read_line(alloc: Global, line: &[u8]) -> Result<Event, LineFault>
     if line.len() > LINE_LIMIT {
         return Err(LineFault::Bad);
     }
-    read_words(alloc, Words::new(line))
+    read_tokens(alloc, Tokens::new(line))
 }
 
-/// What the words of a line say.
-fn read_words<'a>(alloc: Global, mut words: Words<'a>) -> Result<Event, LineFault>
-    ensures { Reads (Says (words_left words.entry)) result }
+/// What the tokens of a line say.
+fn read_tokens<'a>(alloc: Global, mut tokens: Tokens<'a>) -> Result<Event, LineFault>
+    ensures { Reads (Says (tokens_left tokens.entry)) result }
 {
-    let name = words.word()?;
+    let name = tokens.token()?;
     match Kind::named(name) {
-        Some(Kind::Ship) => read_ship(alloc, words),
-        Some(Kind::Step) => read_step(words),
-        Some(Kind::Regs) => read_regs(words),
+        Some(kind) => read_parameters(alloc, kind, tokens),
         None => Err(LineFault::Bad),
     }
 }
 
-/// `ship FUEL A1 A2 A3 A4 A5 H`, after the name.
-fn read_ship<'a>(alloc: Global, mut words: Words<'a>) -> Result<Event, LineFault>
-    ensures { Reads (SaysAs (Some Kind.Ship) (words_left words.entry)) result }
+/// What the tokens after the name say.
+fn read_parameters<'a>(
+    alloc: Global,
+    kind: Kind,
+    mut tokens: Tokens<'a>,
+) -> Result<Event, LineFault>
+    ensures { Reads (SaysOfKind kind (tokens_left tokens.entry)) result }
 {
-    let fuel = words.number()?;
-    let arguments = [
-        words.number()?,
-        words.number()?,
-        words.number()?,
-        words.number()?,
-        words.number()?,
-    ];
-    let text = words.hex()?;
-    words.end()?;
+    let numbers = tokens.numbers(kind.numbers())?;
+    let text = tokens.hex(kind.bytes())?;
+    let bytes = decode(alloc, text)?;
+    Ok(event_with(kind, numbers, bytes))
+}
+
+/// The bytes of hex text. Where there is no text, no memory is needed.
+fn decode(alloc: Global, text: &[u8]) -> Result<Vec<u8>, LineFault>
+    requires { (bytes : List ℕ) × (decode_of text.now ≡ Ok bytes) }
+    ensures ok { IfOk result (λ bytes. decode_of text.now ≡ Ok bytes.items) }
+    ensures err { IfErr result (λ e. (e ≡ LineFault.NoMemory) × (0 < length text.now)) }
+{
+    if text.is_empty() {
+        return Ok(Vec::new(alloc));
+    }
     match hex::decode(alloc, text) {
-        Ok(code) => Ok(Event::Ship {
-            fuel,
-            arguments,
-            code,
-        }),
+        Ok(bytes) => Ok(bytes),
         Err(_) => Err(LineFault::NoMemory),
     }
 }
 
-/// `step m`, after the name.
-fn read_step<'a>(mut words: Words<'a>) -> Result<Event, LineFault>
-    ensures { Reads (SaysAs (Some Kind.Step) (words_left words.entry)) result }
+/// The command of this kind, with these numbers and bytes.
+fn event_with(kind: Kind, numbers: [u64; NUMBERS], bytes: Vec<u8>) -> Event
+    ensures { command_with kind (take (length (number_limits kind)) numbers) bytes.items ≡ Some (command_of result) }
 {
-    let machine = words.machine()?;
-    words.end()?;
-    Ok(Event::Step { machine })
-}
-
-/// `regs m`, after the name.
-fn read_regs<'a>(mut words: Words<'a>) -> Result<Event, LineFault>
-    ensures { Reads (SaysAs (Some Kind.Regs) (words_left words.entry)) result }
-{
-    let machine = words.machine()?;
-    words.end()?;
-    Ok(Event::Regs { machine })
+    match kind {
+        Kind::Ship => Event::Ship {
+            fuel: numbers[0],
+            arguments: [numbers[1], numbers[2], numbers[3], numbers[4], numbers[5]],
+            code: bytes,
+        },
+        Kind::Step => Event::Step {
+            machine: numbers[0] as usize,
+        },
+        Kind::Regs => Event::Regs {
+            machine: numbers[0] as usize,
+        },
+    }
 }

@@ -1,11 +1,12 @@
 //! Bytes in, commands out.
 ghost use Rattle.std.specs.Prelude.{◌≡◌, ◌++◌, ◌<◌, ◌≤◌, length, IfSome, IfNone, IfOk, IsTrue, IsFalse, ◌↔◌};
-ghost use Rattle.console.specs.Lines.{IsLine, Reads, Spells};
+ghost use Rattle.console.specs.Lines.{IsLine};
+ghost use Rattle.console.specs.Commands.{Reads, Spells};
 ghost use Rattle.console.specs.Held.{Held, nothing_held, Feeds, clip};
 
 use crate::commands::{LINE_LIMIT, read_line};
 use crate::fault::LineFault;
-use crate::words::find;
+use crate::tokens::find;
 use std::alloc::{AllocError, Global};
 use std::marker::Model;
 use world::Event;

@@ -1,4 +1,6 @@
 //! What can go wrong.
+ghost use Rattle.std.specs.Prelude.{◌≡◌};
+ghost use Rattle.console.specs.Faults.{line_fault_number, drive_fault_number};
 
 use thiserror::Error;
 
@@ -8,9 +10,18 @@ pub enum LineFault {
     /// It spells none.
     #[error("the line spells no command")]
     Bad = 1,
-    /// It spells one, and there is no memory for what it carries.
+    /// It spells one, and there is no memory for the bytes that it carries.
     #[error("no memory")]
     NoMemory = 2,
+}
+
+impl LineFault {
+    /// The fault's number.
+    pub fn number(self) -> u8
+        ensures { result ≡ line_fault_number self }
+    {
+        self as u8
+    }
 }
 
 /// Why a drive ended before its input did.
@@ -22,4 +33,13 @@ pub enum DriveFault {
     /// The writer failed, or took no byte.
     #[error("write fault")]
     Write = 2,
+}
+
+impl DriveFault {
+    /// The fault's number.
+    pub fn number(self) -> u8
+        ensures { result ≡ drive_fault_number self }
+    {
+        self as u8
+    }
 }

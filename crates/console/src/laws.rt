@@ -1,7 +1,7 @@
 //! What the definitions say, apart from any call.
 ghost use Rattle.std.specs.Prelude.{◌≡◌, ℕ, List};
 ghost use Rattle.world.specs.Answers.{Command};
-ghost use Rattle.console.specs.Lines.{Spells};
+ghost use Rattle.console.specs.Commands.{Spells};
 
 /// A line spells at most one command.
 pub fn one_command()

@@ -8,7 +8,7 @@ mod fault;
 mod kind;
 mod laws;
 mod replies;
-mod words;
+mod tokens;
 mod writing;
 
 pub use console::Console;
@@ -16,4 +16,4 @@ pub use conversation::drive;
 pub use fault::{DriveFault, LineFault};
 pub use laws::one_command;
 pub use replies::{REPLY_LIMIT, ReplyLine, name_of_why, print_reply};
-pub use writing::put_all;
+pub use writing::{WriteFault, put_all};

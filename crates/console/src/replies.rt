@@ -1,8 +1,10 @@
 //! Replies in, their lines out.
 ghost use Rattle.std.specs.Prelude.{◌≡◌, ◌≤◌, ◌+◌, ◌*◌, ◌++◌, codes, length, flat_map};
 ghost use Rattle.arrayvec.specs.ArrayVec.{array_vec_len};
-ghost use Rattle.console.specs.Lines.{ended, reply_text, number_text, value_text, stop_text, state_text, fault_name, why_name};
+ghost use Rattle.console.specs.Lines.{ended, bad_text, nomem_text};
+ghost use Rattle.console.specs.Replies.{reply_text, number_text, value_text, stop_text, state_text, fault_name, why_name};
 
+use crate::fault::LineFault;
 use arrayvec::ArrayVec;
 use bpf_codec::Fault;
 use loader::Why;
@@ -124,40 +126,51 @@ fn put_shown(line: &mut ReplyLine, shown: &Shown)
     }
 }
 
-/// The line of a reply.
-pub fn print_reply(reply: &Reply) -> ReplyLine
-    ensures { result.items ≡ ended (reply_text reply.now) }
+/// Makes this the line of a reply.
+pub fn print_reply(reply: &Reply, line: &mut ReplyLine)
+    ensures { line.new.items ≡ ended (reply_text reply.now) }
 {
-    let mut line = ReplyLine::new();
+    line.clear();
     match reply {
         Reply::Shipped { machine } => {
-            put(&mut line, b"shipped");
-            put_number(&mut line, *machine as u64);
+            put(line, b"shipped");
+            put_number(line, *machine as u64);
         }
-        Reply::NoMemory => put(&mut line, b"nomem"),
-        Reply::Full => put(&mut line, b"full"),
+        Reply::NoMemory => put(line, b"nomem"),
+        Reply::Full => put(line, b"full"),
         Reply::Refused(error) => {
-            put(&mut line, b"refused");
-            put_number(&mut line, error.slot as u64);
-            put(&mut line, b" ");
-            put(&mut line, name_of_why(error.why));
+            put(line, b"refused");
+            put_number(line, error.slot as u64);
+            put(line, b" ");
+            put(line, name_of_why(error.why));
         }
         Reply::Ran { machine, slot } => {
-            put(&mut line, b"ran");
-            put_number(&mut line, *machine as u64);
-            put_number(&mut line, *slot as u64);
+            put(line, b"ran");
+            put_number(line, *machine as u64);
+            put_number(line, *slot as u64);
         }
         Reply::Stopped { machine, stop } => {
-            put(&mut line, b"stopped");
-            put_number(&mut line, *machine as u64);
-            put_stop(&mut line, *stop);
+            put(line, b"stopped");
+            put_number(line, *machine as u64);
+            put_stop(line, *stop);
         }
         Reply::Registers(shown) => {
-            put(&mut line, b"regs");
-            put_shown(&mut line, shown);
+            put(line, b"regs");
+            put_shown(line, shown);
         }
-        Reply::Missing => put(&mut line, b"none"),
+        Reply::Missing => put(line, b"none"),
     }
-    put(&mut line, b"\n");
-    line
+    put(line, b"\n");
+}
+
+/// Makes this the line that answers a line of which no command came.
+pub fn print_fault(fault: LineFault, line: &mut ReplyLine)
+    ensures bad { fault ≡ LineFault.Bad → line.new.items ≡ ended bad_text }
+    ensures no_memory { fault ≡ LineFault.NoMemory → line.new.items ≡ ended nomem_text }
+{
+    line.clear();
+    match fault {
+        LineFault::Bad => put(line, b"bad\n"),
+        LineFault::NoMemory => put(line, b"nomem\n"),
+    }
 }

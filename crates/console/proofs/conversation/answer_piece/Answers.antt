@@ -1,8 +1,9 @@
-use Rattle.std.proofs.Common.{ℕ, List, [], ◌++◌, ◌≡◌, take, drop, sym, ap, ◌∙◌, refl, subst, append_assoc, append-nil, take-append-drop, length, ◌-◌}
+use Rattle.std.proofs.Common.{ℕ, List, [], ◌++◌, ◌≡◌, take, drop, sym, ap, ◌∙◌, refl, subst, append_assoc, append-nil, take-append-drop, length, ◌-◌, ◌<◌, arith, rules, length-append, length-drop}
 use Rattle.std.proofs.lemmas.List.{take_rest}
 use Rattle.std.proofs.lemmas.Result.{err_from_is_err_and}
-use Rattle.console.specs.Conversations.{Halts}
-use Rattle.console.proofs.Exchanges.{goes_none, goes_fed, halts_fed, halts_more}
+use Rattle.console.specs.Agent.{agent}
+use Rattle.console.specs.Conversations.{FailsInReply}
+use Rattle.console.proofs.Exchanges.{answers_none, answers_fed, fails_fed, fails_more}
 use Rattle.console.proofs.conversation.answer_piece.Goals as goal
 
 -- the part that is taken goes over
@@ -14,10 +15,18 @@ whole : (line seen rest piece : List ℕ) (n : ℕ) → piece ≡ seen ++ rest �
 whole line seen rest piece n e =
     append_assoc (line ++ seen) (take n rest) (drop n rest) ∙ ap (λ l. (line ++ seen) ++ l) (take-append-drop n rest) ∙ append_assoc line seen rest ∙ ap (λ l. line ++ l) (sym e)
 
+-- what is left after some of it is taken is shorter than the whole
+shorter : (seen rest piece : List ℕ) (n : ℕ) → piece ≡ seen ++ rest → 0 < n → 0 < length rest → length (drop n rest) < length piece
+shorter seen rest piece n e some more =
+    let a = ap length e in
+    let b = length-append seen rest in
+    let d = length-drop n rest in
+    omega (arith, a, b, d, some, more)
+
 pub loop-rest-init : goal.loop-rest-init
 loop-rest-init g c = record {
   open_line = c.requires;
-  goes = ([], refl, λ line l e. rw append-nil (goes_none _ line _ _ l e c.requires));
+  answers = ([], refl, λ line l e. rw append-nil (answers_none agent _ line _ _ l e c.requires));
 }
 
 pub loop-rest-preserved : goal.loop-rest-preserved
@@ -28,11 +37,11 @@ loop-rest-preserved g c =
     let a = c.in_ok-answer_waiting.ensures in
     record {
       open_line = a.open;
-      goes = (
-        i.goes.0 ++ take n rest,
-        moved i.goes.0 rest _ n i.goes.1,
-        λ line l e. rw (← append_assoc line i.goes.0 (take n rest))
-            (goes_fed _ _ _ _ rest _ _ _ _ _ n _ (i.goes.2 line l e) (c.feed-taken.ensures.feeds i.open_line) a.ok),
+      answers = (
+        i.answers.0 ++ take n rest,
+        moved i.answers.0 rest _ n i.answers.1,
+        λ line l e. rw (← append_assoc line i.answers.0 (take n rest))
+            (answers_fed agent _ _ _ _ rest _ _ _ _ _ n _ (i.answers.2 line l e) (c.feed-taken.ensures.feeds i.open_line) a.ok),
       );
     }
 
@@ -42,7 +51,12 @@ returns-in_err-answer_waiting-clause-err g c =
     let i = c.loop-rest.invariant in
     let n = c.feed-taken.result in
     let rest = c.loop-rest.rest.now in
-    rw x.1 (λ line l e. subst (λ y. Halts c.args.world.now y (g.W.Write.contents c.args.writer.now) (g.W.Write.contents c.answer_waiting.new.writer) c.answer_waiting.new.world)
-    (whole line i.goes.0 rest _ n i.goes.1)
-    (halts_more _ _ _ (drop n rest) _ _
-    (halts_fed _ _ _ _ rest _ _ _ _ _ n (i.goes.2 line l e) (c.feed-taken.ensures.feeds i.open_line) c.in_err-answer_waiting.ensures.err)))
+    let more : 0 < length rest = search (rules, arith) in
+    rw x.1 (λ line l e. (
+      drop n rest,
+      shorter i.answers.0 rest _ n i.answers.1 (c.feed-taken.ensures.progress i.open_line more) more,
+      subst (λ y. FailsInReply agent (drop n rest) c.args.world.now y (g.W.Write.contents c.args.writer.now) (g.W.Write.contents c.answer_waiting.new.writer) c.answer_waiting.new.world)
+      (whole line i.answers.0 rest _ n i.answers.1)
+      (fails_more agent [] _ _ _ (drop n rest) _ _
+      (fails_fed agent _ _ _ _ rest _ _ _ _ _ n (i.answers.2 line l e) (c.feed-taken.ensures.feeds i.open_line) c.in_err-answer_waiting.ensures.err)),
+    ))

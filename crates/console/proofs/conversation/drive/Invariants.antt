@@ -1,9 +1,10 @@
 use Rattle.std.proofs.Common.{ℕ, List, ◌++◌}
 use Rattle.std.specs.Io.KnownBytes.{Consumes}
 use Rattle.console.specs.Held.{held_bytes}
-use Rattle.console.specs.Conversations.{Goes}
+use Rattle.console.specs.Conversations.{AnswersSoFar}
+use Rattle.console.specs.Agent.{agent}
 use Rattle.console.proofs.conversation.drive.Given as goal
 
 abbrev pub invariant-loop : goal.invariant-loop
 invariant-loop g l = (seen : List ℕ) × Consumes (g.R.Read.remaining l.fn.reader) (g.R.Read.remaining l.reader) seen
-    × Goes l.fn.world (held_bytes l.fn.console ++ seen) (g.W.Write.contents l.fn.writer) (g.W.Write.contents l.writer) l.world l.console
+    × AnswersSoFar agent l.fn.world (held_bytes l.fn.console ++ seen) (g.W.Write.contents l.fn.writer) (g.W.Write.contents l.writer) l.world l.console

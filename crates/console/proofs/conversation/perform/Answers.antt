@@ -1,24 +1,25 @@
-use Rattle.std.proofs.Common.{refl, subst, ◌∙◌, Result, Err, ap, rules}
+use Rattle.std.proofs.Common.{ℕ, List, ◌≡◌, refl, subst, Result, Err}
 use Rattle.world.specs.declared.events.Event.{Event}
-use Rattle.world.specs.declared.events.Reply.TheVariants as reply
-use Rattle.world.specs.Answers.{command_of}
-use Rattle.console.specs.Lines.{Reads, Spells}
-use Rattle.console.specs.Conversations.Turn.{Done, Bad}
+use Rattle.world.specs.Answers.{WorldState, command_of}
+use Rattle.console.specs.Agent.{agent}
+use Rattle.console.specs.Lines.{IsLine, ended, bad_text, nomem_text}
+use Rattle.console.specs.Commands.{Reads, Spells}
+use Rattle.console.specs.Conversations.{Answered}
+use Rattle.console.specs.Conversations.Turn.{Done, Unread, Bad}
 use Rattle.console.specs.declared.fault.LineFault.{LineFault}
-use Rattle.console.proofs.Exchanges.{lacks_memory}
+use Rattle.console.specs.declared.fault.LineFault.TheVariants as fault
 use Rattle.console.proofs.conversation.perform.Goals as goal
+
+-- a line of which no command comes is answered by the fault's text, and changes nothing
+fault_answered : (s : WorldState) (line bytes : List ℕ) (f : LineFault) → IsLine line → Reads (Spells line) (Err f)
+    → (f ≡ fault.Bad → bytes ≡ ended bad_text) → (f ≡ fault.NoMemory → bytes ≡ ended nomem_text) → Answered agent s line bytes s
+fault_answered s line bytes fault.Bad l r bad no_memory = (Bad line, refl, (l, r), refl, bad refl)
+fault_answered s line bytes fault.NoMemory l r bad no_memory = (Unread line, refl, (l, r), refl, no_memory refl)
 
 pub returns-in-Ok : goal.returns-in-Ok
 returns-in-Ok c = λ line l r.
     let s = subst (λ (x : Result Event LineFault). Reads (Spells line) x) c.in-Ok.is r in
     (Done line (command_of c.in-Ok.event) c.apply.result, refl, (l, s), (c.apply.new.self, c.apply.ensures, refl), c.print_reply.ensures)
 
-pub returns-in-Err-NoMemory : goal.returns-in-Err-NoMemory
-returns-in-Err-NoMemory c = λ line l r.
-    let s = subst (λ (x : Result Event LineFault). Reads (Spells line) x) (c.in-Err-NoMemory.is ∙ ap (λ (f : LineFault). Err f) (rw c.in-Err-NoMemory.is at c.in-Err-NoMemory.field-0-is)) r in
-    (Done line s.0 reply.NoMemory, refl, (l, s.1), (_, lacks_memory _ s.0 s.2, refl), c.print_reply-in-Err-NoMemory.ensures)
-
-pub returns-in-Err-Bad : goal.returns-in-Err-Bad
-returns-in-Err-Bad c = λ line l r.
-    let s = subst (λ (x : Result Event LineFault). Reads (Spells line) x) (c.in-Err-Bad.is ∙ ap (λ (f : LineFault). Err f) (rw c.in-Err-Bad.is at c.in-Err-Bad.field-0-is)) r in
-    (Bad line, refl, (l, s), refl, search rules)
+pub returns-in-Err : goal.returns-in-Err
+returns-in-Err c = λ line l r. fault_answered _ line _ c.in-Err.fault l (subst (λ (x : Result Event LineFault). Reads (Spells line) x) c.in-Err.is r) c.print_fault.ensures.bad c.print_fault.ensures.no_memory

@@ -1,6 +1,6 @@
 use Rattle.std.proofs.Common.{◌≡◌, ◌+◌, ◌*◌, ◌++◌, take, flat_map}
 use Rattle.arrayvec.specs.ArrayVec.{array_vec_len}
-use Rattle.console.specs.Lines.{value_text}
+use Rattle.console.specs.Replies.{value_text}
 use Rattle.console.proofs.replies.put_shown.Given as goal
 
 abbrev pub invariant-loop-value : goal.invariant-loop-value

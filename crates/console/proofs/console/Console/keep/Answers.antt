@@ -1,5 +1,5 @@
 use Rattle.std.proofs.Common.{rules, arith, length, ◌≡◌, min, ◌-◌}
-use Rattle.console.proofs.Kept.{kept_is_clip}
+use Rattle.console.proofs.Clips.{kept_is_clip}
 use Rattle.console.proofs.console.Console.keep.Goals as goal
 
 pub returns-clause-line : goal.returns-clause-line

@@ -1,10 +1,10 @@
--- What a console keeps of a line says what the line says.
+-- The clip of a line spells what the line spells.
 use Rattle.std.proofs.Common.{◌≡◌, ℕ, ◌+◌, ◌-◌, ◌≤◌, min, zero, suc, List, [], ◌∷◌, ◌++◌, length, take, refl, sym, ap, ◌∙◌, arith, Result, Ok, Err, subst}
 use Rattle.std.proofs.lemmas.List.{length-take, take_all, take_min}
 use Rattle.std.proofs.Math.Seq.{take-append-add}
 use Rattle.world.specs.Answers.{Command, command_of}
 use Rattle.world.specs.declared.events.Event.{Event}
-use Rattle.console.specs.Lines.{Reads, Spells}
+use Rattle.console.specs.Commands.{Reads, Spells}
 use Rattle.console.specs.Held.{clip}
 use Rattle.console.specs.declared.fault.LineFault.{LineFault}
 use Rattle.console.specs.declared.fault.LineFault.TheVariants.{Bad, NoMemory}

@@ -1,0 +1,8 @@
+-- An agent with one conversation: its commands go to one world.
+use Rattle.world.specs.Answers.{WorldState, Answers}
+use Rattle.world.specs.declared.events.Reply.{Reply}
+use Rattle.console.specs.Replies.{reply_text}
+use Rattle.console.specs.Conversations.{Protocol}
+
+abbrev pub agent : Protocol
+agent = record { State = WorldState; Reply = Reply; step = Answers; text = reply_text }

@@ -1,0 +1,181 @@
+//! The tokens of a line, one after the other.
+ghost use Rattle.std.specs.Prelude.{◌≡◌, ◌∷◌, ◌≤◌, ◌<◌, ◌^◌, ◌≢◌, ◌+◌, ◌++◌, ℕ, List, [], length, take, drop, get_or, All, codes, OnOk, IfOk, IfErr, IfSome, IfNone, IsTrue, ◌↔◌, MatchOption, ◌==◌};
+ghost use Rattle.std.specs.Str.Parse.{IsNumeral, digits_value};
+ghost use Rattle.std.specs.List.{AllPass};
+ghost use Rattle.hex.specs.Hex.{decode_of, is_hex_digit};
+ghost use Rattle.console.specs.Tokens.{tokens_left, tokens_of, AreNumbers, AreBytes, IsNumber, IsNumberWithin, IsHex};
+
+use crate::fault::LineFault;
+use crate::kind::{Limits, NUMBERS};
+
+/// The tokens that are still to be read.
+#[derive(Drop)]
+pub struct Tokens<'a> {
+    rest: Option<&'a [u8]>,
+}
+
+impl<'a> Tokens<'a> {
+    /// All tokens of a line.
+    pub fn new(line: &'a [u8]) -> Tokens<'a>
+        ensures { tokens_left result ≡ tokens_of line.now }
+    {
+        Tokens { rest: Some(line) }
+    }
+
+    /// The next token.
+    fn next(&mut self) -> Option<&'a [u8]>
+        ensures { MatchOption result (tokens_left self.old ≡ []) (λ token. tokens_left self.old ≡ token.now ∷ tokens_left self.new) }
+    {
+        let rest = self.rest?;
+        match find(b' ', rest) {
+            Some(at) => {
+                self.rest = Some(&rest[at + 1..]);
+                Some(&rest[..at])
+            }
+            None => {
+                self.rest = None;
+                Some(rest)
+            }
+        }
+    }
+
+    /// The next token, which has to be there.
+    pub fn token(&mut self) -> Result<&'a [u8], LineFault>
+        ensures ok { IfOk result (λ token. tokens_left self.old ≡ token.now ∷ tokens_left self.new) }
+        ensures err { IfErr result (λ e. (e ≡ LineFault.Bad) × (tokens_left self.old ≡ [])) }
+    {
+        match self.next() {
+            Some(token) => Ok(token),
+            None => Err(LineFault::Bad),
+        }
+    }
+
+    /// The next token, which has to be a number within the limits.
+    fn number(&mut self, limits: Limits) -> Result<u64, LineFault>
+        ensures ok { IfOk result (λ n. (token : List ℕ) × (tokens_left self.old ≡ token ∷ tokens_left self.new) × IsNumberWithin limits token n) }
+        ensures err { IfErr result (λ e. (e ≡ LineFault.Bad)
+            × ((token : List ℕ) (left : List (List ℕ)) (n : ℕ) → tokens_left self.old ≡ token ∷ left → IsNumberWithin limits token n → ⊥)) }
+    {
+        let token = self.token()?;
+        match read_number(token) {
+            Some(n) if limits.least <= n && n <= limits.most => Ok(n),
+            _ => Err(LineFault::Bad),
+        }
+    }
+
+    /// The next tokens, which have to be numbers, one for each of the limits and within them. They come first, then zeros.
+    pub fn numbers(&mut self, limits: &[Limits]) -> Result<[u64; NUMBERS], LineFault>
+        requires { length limits.now ≤ NUMBERS }
+        ensures ok { IfOk result (λ numbers. AreNumbers limits.now (tokens_left self.old) (take (length limits.now) numbers) (tokens_left self.new)) }
+        ensures err { IfErr result (λ e. (e ≡ LineFault.Bad)
+            × ((numbers : List ℕ) (left : List (List ℕ)) → AreNumbers limits.now (tokens_left self.old) numbers left → ⊥)) }
+    {
+        let mut numbers = [0; NUMBERS];
+        for i in 0..limits.len() {
+            numbers[i] = self.number(limits[i])?;
+        }
+        Ok(numbers)
+    }
+
+    /// The tokens that are left: hex text of at most so many bytes, or none where there may be no bytes.
+    pub fn hex(&mut self, most: Option<usize>) -> Result<&'a [u8], LineFault>
+        ensures ok { IfOk result (λ text. (bytes : List ℕ) × AreBytes most (tokens_left self.old) bytes × (decode_of text.now ≡ Ok bytes)) }
+        ensures err { IfErr result (λ e. (e ≡ LineFault.Bad) × ((bytes : List ℕ) → AreBytes most (tokens_left self.old) bytes → ⊥)) }
+    {
+        let Some(most) = most else {
+            self.end()?;
+            return Ok(b"");
+        };
+        let text = self.token()?;
+        self.end()?;
+        if !is_hex(text) || text.len() / 2 > most {
+            return Err(LineFault::Bad);
+        }
+        Ok(text)
+    }
+
+    /// That no token is left.
+    fn end(&mut self) -> Result<(), LineFault>
+        ensures ok { OnOk result (tokens_left self.old ≡ []) }
+        ensures err { IfErr result (λ e. (e ≡ LineFault.Bad) × (tokens_left self.old ≢ [])) }
+    {
+        match self.next() {
+            None => Ok(()),
+            Some(_) => Err(LineFault::Bad),
+        }
+    }
+}
+
+/// The number that digits stand for.
+fn digits(radix: u32, text: &[u8]) -> Option<u64>
+    requires low { 2 ≤ radix }
+    requires high { radix ≤ 36 }
+    ensures some { IfSome result (λ n. IsNumeral radix text.now × (digits_value radix text.now ≡ n) × (n < 2 ^ 64)) }
+    ensures none { IfNone result (IsNumeral radix text.now → digits_value radix text.now < 2 ^ 64 → ⊥) }
+{
+    // `from_str_radix` would take a sign
+    if text.is_empty() || text[0] == b'+' {
+        return None;
+    }
+    match str::from_utf8(text) {
+        Ok(text) => match u64::from_str_radix(text, radix) {
+            Ok(n) => Some(n),
+            Err(_) => None,
+        },
+        Err(_) => None,
+    }
+}
+
+/// The number that a token is.
+fn read_number(token: &[u8]) -> Option<u64>
+    ensures some { IfSome result (λ n. IsNumber token.now n) }
+    ensures none { IfNone result ((n : ℕ) → IsNumber token.now n → ⊥) }
+{
+    if token.len() >= 2 && token[0] == b'0' {
+        if token[1] != b'x' || token.len() > 18 {
+            return None;
+        }
+        return digits(16, &token[2..]);
+    }
+    digits(10, token)
+}
+
+/// Whether a token is hex text of at least one byte.
+fn is_hex(token: &[u8]) -> bool
+    ensures { IsTrue result ↔ ((bytes : List ℕ) × IsHex token.now bytes) }
+{
+    if token.is_empty() {
+        return false;
+    }
+    if token.len() % 2 != 0 {
+        return false;
+    }
+    are_hex_digits(token)
+}
+
+/// Whether all bytes are hex digits of either case.
+fn are_hex_digits(token: &[u8]) -> bool
+    ensures { IsTrue result ↔ AllPass is_hex_digit token.now }
+{
+    for b in token {
+        if !is_digit(*b) {
+            return false;
+        }
+    }
+    true
+}
+
+fn is_digit(b: u8) -> bool
+    ensures { result ≡ is_hex_digit b }
+{
+    matches!(b, b'A'..=b'F') || matches!(b, b'a'..=b'f') || matches!(b, b'0'..=b'9')
+}
+
+/// Where the byte stands first.
+pub fn find(byte: u8, text: &[u8]) -> Option<usize>
+    ensures found { IfSome result (λ at. (at < length text.now) × (text.now ≡ take at text.now ++ byte ∷ drop (at + 1) text.now)
+        × All (λ b. b ≢ byte) (take at text.now)) }
+    ensures none { IfNone result (All (λ b. b ≢ byte) text.now) }
+{
+    text.iter().position(|b| *b == byte)
+}
