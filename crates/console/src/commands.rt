@@ -44,7 +44,7 @@ fn read_parameters<'a>(
     ensures { Reads (SaysOfKind kind (tokens_left tokens.entry)) result }
 {
     let numbers = tokens.numbers(kind.numbers())?;
-    let text = tokens.hex(kind.bytes())?;
+    let text = tokens.bytes(kind.bytes())?;
     let bytes = decode(alloc, text)?;
     Ok(event_with(kind, numbers, bytes))
 }

@@ -1,5 +1,5 @@
 //! The tokens of a line, one after the other.
-ghost use Rattle.std.specs.Prelude.{◌≡◌, ◌∷◌, ◌≤◌, ◌<◌, ◌^◌, ◌≢◌, ◌+◌, ◌++◌, ℕ, List, [], length, take, drop, get_or, All, codes, OnOk, IfOk, IfErr, IfSome, IfNone, IsTrue, ◌↔◌, MatchOption, ◌==◌};
+ghost use Rattle.std.specs.Prelude.{◌≡◌, ◌∷◌, ◌≤◌, ◌<◌, ◌^◌, ◌≢◌, ◌+◌, ◌++◌, ℕ, List, [], length, take, drop, get_or, All, codes, OnOk, IfOk, IfErr, IfSome, IfNone, Some, IsTrue, ◌↔◌, MatchOption, ◌==◌};
 ghost use Rattle.std.specs.Str.Parse.{IsNumeral, digits_value};
 ghost use Rattle.std.specs.List.{AllPass};
 ghost use Rattle.hex.specs.Hex.{decode_of, is_hex_digit};
@@ -57,16 +57,23 @@ impl<'a> Tokens<'a> {
             × ((token : List ℕ) (left : List (List ℕ)) (n : ℕ) → tokens_left self.old ≡ token ∷ left → IsNumberWithin limits token n → ⊥)) }
     {
         let token = self.token()?;
-        match read_number(token) {
-            Some(n) if limits.least <= n && n <= limits.most => Ok(n),
-            _ => Err(LineFault::Bad),
+        let Some(n) = read_number(token) else {
+            return Err(LineFault::Bad);
+        };
+        if n < limits.least {
+            return Err(LineFault::Bad);
         }
+        if n > limits.most {
+            return Err(LineFault::Bad);
+        }
+        Ok(n)
     }
 
     /// The next tokens, which have to be numbers, one for each of the limits and within them. They come first, then zeros.
     pub fn numbers(&mut self, limits: &[Limits]) -> Result<[u64; NUMBERS], LineFault>
         requires { length limits.now ≤ NUMBERS }
         ensures ok { IfOk result (λ numbers. AreNumbers limits.now (tokens_left self.old) (take (length limits.now) numbers) (tokens_left self.new)) }
+        ensures room { IfOk result (λ numbers. length numbers ≡ NUMBERS) }
         ensures err { IfErr result (λ e. (e ≡ LineFault.Bad)
             × ((numbers : List ℕ) (left : List (List ℕ)) → AreNumbers limits.now (tokens_left self.old) numbers left → ⊥)) }
     {
@@ -77,18 +84,31 @@ impl<'a> Tokens<'a> {
         Ok(numbers)
     }
 
-    /// The tokens that are left: hex text of at most so many bytes, or none where there may be no bytes.
-    pub fn hex(&mut self, most: Option<usize>) -> Result<&'a [u8], LineFault>
+    /// The hex text of the bytes that come last: at most so many, or none where there may be none.
+    pub fn bytes(&mut self, most: Option<usize>) -> Result<&'a [u8], LineFault>
         ensures ok { IfOk result (λ text. (bytes : List ℕ) × AreBytes most (tokens_left self.old) bytes × (decode_of text.now ≡ Ok bytes)) }
         ensures err { IfErr result (λ e. (e ≡ LineFault.Bad) × ((bytes : List ℕ) → AreBytes most (tokens_left self.old) bytes → ⊥)) }
     {
-        let Some(most) = most else {
-            self.end()?;
-            return Ok(b"");
-        };
+        match most {
+            Some(most) => self.hex(most),
+            None => {
+                self.end()?;
+                Ok(b"")
+            }
+        }
+    }
+
+    /// The last token, which has to be hex text of at most so many bytes.
+    fn hex(&mut self, most: usize) -> Result<&'a [u8], LineFault>
+        ensures ok { IfOk result (λ text. (bytes : List ℕ) × AreBytes (Some most) (tokens_left self.old) bytes × (decode_of text.now ≡ Ok bytes)) }
+        ensures err { IfErr result (λ e. (e ≡ LineFault.Bad) × ((bytes : List ℕ) → AreBytes (Some most) (tokens_left self.old) bytes → ⊥)) }
+    {
         let text = self.token()?;
         self.end()?;
-        if !is_hex(text) || text.len() / 2 > most {
+        if !is_hex(text) {
+            return Err(LineFault::Bad);
+        }
+        if text.len() / 2 > most {
             return Err(LineFault::Bad);
         }
         Ok(text)
