@@ -2,7 +2,7 @@
 use Rattle.std.proofs.Common.{◌≡◌, ℕ, ◌+◌, ◌-◌, ◌≤◌, min, zero, suc, List, [], ◌∷◌, ◌++◌, length, take, refl, sym, ap, ◌∙◌, arith, Result, Ok, Err, subst}
 use Rattle.std.proofs.lemmas.List.{length-take, take_all, take_min}
 use Rattle.std.proofs.Math.Seq.{take-append-add}
-use Rattle.world.specs.Answers.{Command, command_of}
+use Rattle.world.specs.Commands.{Command, command_of}
 use Rattle.world.specs.declared.events.Event.{Event}
 use Rattle.console.specs.Commands.{Reads, Spells}
 use Rattle.console.specs.Held.{clip}

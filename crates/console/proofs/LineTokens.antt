@@ -1,5 +1,5 @@
 -- Tokens, numbers and hex text.
-use Rattle.std.proofs.Common.{◌≡◌, ◌≢◌, ℕ, ◌%◌, ◌*◌, ◌∙◌, ap, inl, inr, codes, Option, Some, None, ◌<◌, ◌≤◌, List, [], ◌∷◌, ◌++◌, length, ◌==◌, All, arith, IsAscii, true, false, refl, lit<, get_or, zero, suc, subst, sym, Ok}
+use Rattle.std.proofs.Common.{◌≡◌, ◌≢◌, ℕ, ◌%◌, ◌*◌, ◌∙◌, ap, inl, inr, codes, Option, Some, None, ◌<◌, ◌≤◌, List, [], ◌∷◌, ◌++◌, length, ◌==◌, All, arith, IsAscii, true, false, refl, lit<, get_or, slice_index, zero, suc, subst, sym, Ok}
 use Rattle.std.specs.List.{AllPass}
 use Rattle.std.specs.Str.Parse.{AllDigits, digits_value}
 use Rattle.std.proofs.lemmas.List.{append_cancel_left}
@@ -10,7 +10,7 @@ use Rattle.std.proofs.lemmas.List.Splits.{slice_split_at, slice_split_none}
 use Rattle.hex.specs.Hex.{is_hex_digit, decode_of}
 use Rattle.hex.proofs.HexLemmas.{decode_of-digits, decode_of-ok, decode_of-same}
 use Rattle.console.specs.declared.kind.Limits.{Limits}
-use Rattle.console.specs.Tokens.{tokens_of, IsHex, IsNumber, IsNumberWithin, AreNumbers, AreBytes}
+use Rattle.console.specs.Tokens.{tokens_of, within, IsWithin, IsHex, IsNumber, IsNumberWithin, AreNumbers, AreBytes}
 
 small_digit : (radix c : ℕ) → radix ≤ 36 → digit_value c < radix → c < 128
 small_digit radix c h d = grind (arith, nat_tests)
@@ -67,10 +67,10 @@ no_number_token limits tokens left token e none other more n f w =
     none n (subst (λ t. IsNumberWithin limits t n) y w)
 
 -- a number outside the limits is the only one that the token is
-pub outside_limits : (limits : Limits) (token : List ℕ) (m : ℕ) → IsNumber token m → (limits.least ≤ m → m ≤ limits.most → ⊥) → (n : ℕ) → IsNumberWithin limits token n → ⊥
+pub outside_limits : (limits : Limits) (token : List ℕ) (m : ℕ) → IsNumber token m → (IsWithin limits m → ⊥) → (n : ℕ) → IsNumberWithin limits token n → ⊥
 outside_limits limits token m is_m none n w =
     let e = number_one token n m w.0 is_m in
-    none (subst (λ k. limits.least ≤ k) e w.1) (subst (λ k. k ≤ limits.most) e w.2)
+    none (subst (IsWithin limits) e w.1)
 
 -- one more number
 pub numbers_more : (ls : List Limits) (tokens : List (List ℕ)) (ns : List ℕ) (left : List (List ℕ)) (l : Limits) (token : List ℕ) (n : ℕ) (more : List (List ℕ))
@@ -92,6 +92,15 @@ numbers_none (k ∷ ls) rest l [] ns ms left other a none b = b
 numbers_none (k ∷ ls) rest l (t ∷ tokens) [] ms left other a none b = absurd a
 numbers_none (k ∷ ls) rest l (t ∷ tokens) (n ∷ ns) [] left other a none b = b
 numbers_none (k ∷ ls) rest l (t ∷ tokens) (n ∷ ns) (m ∷ ms) left other a none b = numbers_none ls rest l tokens ns ms left other a.1 none b.1
+
+-- each number is within its limits
+pub numbers_within : (ls : List Limits) (tokens : List (List ℕ)) (ns : List ℕ) (left : List (List ℕ)) → AreNumbers ls tokens ns left
+    → (i : ℕ) → i < length ls → IsWithin (get_or ls i (within 0 0)) (slice_index ns i)
+numbers_within [] tokens ns left a i h = absurd (omega (arith, h))
+numbers_within (l ∷ ls) [] ns left a i h = absurd a
+numbers_within (l ∷ ls) (t ∷ tokens) [] left a i h = absurd a
+numbers_within (l ∷ ls) (t ∷ tokens) (n ∷ ns) left a zero h = a.0.1
+numbers_within (l ∷ ls) (t ∷ tokens) (n ∷ ns) left a (suc i) h = numbers_within ls tokens ns left a.1 i (omega (arith, h))
 
 -- numbers are read in one way
 pub numbers_one : (ls : List Limits) (tokens : List (List ℕ)) (ns ms : List ℕ) (left other : List (List ℕ)) → AreNumbers ls tokens ns left → AreNumbers ls tokens ms other → (ns ≡ ms) × (left ≡ other)

@@ -1,5 +1,6 @@
 -- An agent with one conversation: its commands go to one world.
-use Rattle.world.specs.Answers.{WorldState, Answers}
+use Rattle.world.specs.WorldState.{WorldState}
+use Rattle.world.specs.Answers.{Answers}
 use Rattle.world.specs.declared.events.Reply.{Reply}
 use Rattle.console.specs.Replies.{reply_text}
 use Rattle.console.specs.Conversations.{Protocol}

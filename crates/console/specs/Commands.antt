@@ -1,56 +1,95 @@
 -- Which line spells which command.
-use Rattle.std.specs.Prelude.{◌≡◌, ℕ, ◌≤◌, ◌-◌, ◌^◌, List, [], ◌∷◌, length, codes, if◌then◌else◌, Option, Some, None, Result, Ok, Err}
+use Rattle.std.specs.Prelude.{◌≡◌, ℕ, ◌≤◌, ◌-◌, ◌^◌, List, [], ◌∷◌, length, slice_index, codes, if◌then◌else◌, Option, Some, None, Result, Ok, Err}
 use Rattle.std.specs.Str.{bytes_eq}
+use Rattle.object_store.specs.Objects.{object_limit, object_bytes}
 use Rattle.world.specs.declared.events.Event.{Event}
-use Rattle.world.specs.Answers.{Command, command_of, machine_limit}
-use Rattle.world.specs.Answers.Command.{Ship, Step, Regs}
+use Rattle.world.specs.Commands.{Command, command_of}
+use Rattle.world.specs.Commands.Command.{Make, Free, Put, Get, Ship, Step, Regs, Out, Stack}
+use Rattle.world.specs.WorldState.{machine_limit}
+use Rattle.machine.specs.MachineState.{stack_size}
 use Rattle.console.specs.Lines.{line_limit}
-use Rattle.console.specs.Tokens.{tokens_of, AreNumbers, AreBytes}
+use Rattle.console.specs.Tokens.{tokens_of, within, AreNumbers, AreBytes}
 use Rattle.console.specs.declared.fault.LineFault.{LineFault}
 use Rattle.console.specs.declared.fault.LineFault.TheVariants.{Bad, NoMemory}
 use Rattle.console.specs.declared.kind.Kind.{Kind}
 use Rattle.console.specs.declared.kind.Kind.TheVariants as kind
 use Rattle.console.specs.declared.kind.Limits.{Limits}
 
--- ---- the table of commands: name, numbers, bytes
+-- ---- the table of commands: name, numbers, bytes, command
 
 -- the kind of command that has this name
 abbrev pub kind_named : List ℕ → Option Kind
 kind_named name =
-    if bytes_eq name (codes "ship") then Some kind.Ship else
+    if bytes_eq name (codes "make") then Some kind.Make else
+    (if bytes_eq name (codes "free") then Some kind.Free else
+    (if bytes_eq name (codes "put") then Some kind.Put else
+    (if bytes_eq name (codes "get") then Some kind.Get else
+    (if bytes_eq name (codes "ship") then Some kind.Ship else
     (if bytes_eq name (codes "step") then Some kind.Step else
-    (if bytes_eq name (codes "regs") then Some kind.Regs else None))
-
-abbrev pub within : ℕ → ℕ → Limits
-within least most = record { least = least; most = most }
+    (if bytes_eq name (codes "regs") then Some kind.Regs else
+    (if bytes_eq name (codes "out") then Some kind.Out else
+    (if bytes_eq name (codes "stack") then Some kind.Stack else None))))))))
 
 -- any number of 64 bits
 abbrev pub any_number : Limits
 any_number = within 0 (2 ^ 64 - 1)
 
+-- the number of an object that there may be
+abbrev pub object_number : Limits
+object_number = within 1 object_limit
+
 -- the number of a machine that there may be
 abbrev pub machine_number : Limits
 machine_number = within 1 machine_limit
 
+-- where a range of an object's bytes, or of a stack's, may begin
+abbrev pub object_offset : Limits
+object_offset = within 0 (object_bytes - 1)
+
+abbrev pub stack_offset : Limits
+stack_offset = within 0 (stack_size - 1)
+
+-- the most bytes that a line or a reply carries but for code
+abbrev pub range_limit : ℕ
+range_limit = 4096
+
+-- how many bytes may be shown at once
+abbrev pub range_length : Limits
+range_length = within 1 range_limit
+
 -- the limits of the numbers after the name
 abbrev pub number_limits : Kind → List Limits
+-- how many bytes the object has
+number_limits kind.Make = within 1 object_bytes ∷ []
+number_limits kind.Free = object_number ∷ []
+number_limits kind.Put = object_number ∷ object_offset ∷ []
+number_limits kind.Get = object_number ∷ object_offset ∷ range_length ∷ []
 -- fuel, and what R1 to R5 begin with
 number_limits kind.Ship = any_number ∷ any_number ∷ any_number ∷ any_number ∷ any_number ∷ any_number ∷ []
 number_limits kind.Step = machine_number ∷ []
 number_limits kind.Regs = machine_number ∷ []
+number_limits kind.Out = machine_number ∷ []
+number_limits kind.Stack = machine_number ∷ stack_offset ∷ range_length ∷ []
 
 -- how many bytes may come after the numbers, in hex, where some have to
 abbrev pub most_bytes : Kind → Option ℕ
+most_bytes kind.Put = Some range_limit
 -- code, as much as the line holds
 most_bytes kind.Ship = Some line_limit
 most_bytes _ = None
 
 -- the command of this kind, with these numbers and bytes
-abbrev pub command_with : Kind → List ℕ → List ℕ → Option Command
-command_with kind.Ship (fuel ∷ a ∷ b ∷ c ∷ d ∷ e ∷ []) code = Some (Ship fuel (a ∷ b ∷ c ∷ d ∷ e ∷ []) code)
-command_with kind.Step (machine ∷ []) bytes = Some (Step machine)
-command_with kind.Regs (machine ∷ []) bytes = Some (Regs machine)
-command_with _ _ _ = None
+abbrev pub command_with : Kind → List ℕ → List ℕ → Command
+command_with kind.Make numbers bytes = Make (slice_index numbers 0)
+command_with kind.Free numbers bytes = Free (slice_index numbers 0)
+command_with kind.Put numbers bytes = Put (slice_index numbers 0) (slice_index numbers 1) bytes
+command_with kind.Get numbers bytes = Get (slice_index numbers 0) (slice_index numbers 1) (slice_index numbers 2)
+command_with kind.Ship numbers bytes = Ship (slice_index numbers 0)
+    (slice_index numbers 1 ∷ slice_index numbers 2 ∷ slice_index numbers 3 ∷ slice_index numbers 4 ∷ slice_index numbers 5 ∷ []) bytes
+command_with kind.Step numbers bytes = Step (slice_index numbers 0)
+command_with kind.Regs numbers bytes = Regs (slice_index numbers 0)
+command_with kind.Out numbers bytes = Out (slice_index numbers 0)
+command_with kind.Stack numbers bytes = Stack (slice_index numbers 0) (slice_index numbers 1) (slice_index numbers 2)
 
 -- ---- lines
 
@@ -61,7 +100,7 @@ pub record SaysOfKind (kind : Kind) (tokens : List (List ℕ)) (command : Comman
   pub left : List (List ℕ)
   pub numbers_first : AreNumbers (number_limits kind) tokens numbers left
   pub bytes_last : AreBytes (most_bytes kind) left bytes
-  pub is_command : command_with kind numbers bytes ≡ Some command
+  pub is_command : command ≡ command_with kind numbers bytes
 
 -- the tokens say the command
 abbrev pub Says : List (List ℕ) → Command → Type 0
@@ -78,6 +117,7 @@ SpellsNone line = (command : Command) → Spells line command → ⊥
 
 -- the commands that carry bytes: reading them may be out of memory
 abbrev pub CarriesBytes : Command → Type 0
+CarriesBytes (Put n offset bytes) = Unit {0}
 CarriesBytes (Ship fuel arguments code) = Unit {0}
 CarriesBytes _ = ⊥
 

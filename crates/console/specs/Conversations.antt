@@ -1,7 +1,7 @@
 -- A whole conversation: lines in, their replies out, and the run of commands between them. Who answers the commands is a parameter.
 use Rattle.std.specs.Prelude.{◌≡◌, ℕ, ◌<◌, List, [], ◌∷◌, ◌++◌, length, All, flat_map, ◌⊎◌, Option, Some}
 use Rattle.std.specs.Io.KnownBytes.{Appends}
-use Rattle.world.specs.Answers.{Command}
+use Rattle.world.specs.Commands.{Command}
 use Rattle.world.specs.Run.{Runs}
 use Rattle.console.specs.Lines.{IsLine, ended, bad_text, nomem_text, cut_of}
 use Rattle.console.specs.Commands.{Spells, SpellsNone, CarriesBytes}

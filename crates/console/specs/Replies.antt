@@ -1,36 +1,14 @@
 -- The text of each reply, without its line end.
-use Rattle.std.specs.Prelude.{ℕ, List, ◌++◌, codes, decimal, flat_map, Option, Some, None}
+use Rattle.std.specs.Prelude.{ℕ, ◌≤◌, List, ◌++◌, length, codes, decimal, flat_map, Option, Some, None}
 use Rattle.std.specs.Int.{w64, to_be_bytes}
 use Rattle.hex.specs.Hex.{encode_lower}
-use Rattle.bpf_codec.specs.declared.fault.Fault.{Fault}
-use Rattle.bpf_codec.specs.declared.fault.Fault.TheVariants as fault
-use Rattle.loader.specs.declared.loading.Why.{Why}
-use Rattle.loader.specs.declared.loading.Why.TheVariants as why
+use Rattle.loader.specs.Refusals.{why_name}
 use Rattle.machine.specs.declared.state.Stop.{Stop}
 use Rattle.machine.specs.declared.state.Stop.TheVariants as stop
 use Rattle.world.specs.declared.events.Reply.{Reply}
 use Rattle.world.specs.declared.events.Reply.TheVariants as reply
 use Rattle.console.specs.Lines.{nomem_text}
-
--- the name of why code is refused
-abbrev pub fault_name : Fault → List ℕ
-fault_name fault.Opcode = codes "Opcode"
-fault_name fault.Register = codes "Register"
-fault_name fault.Field = codes "Field"
-fault_name fault.HalfWide = codes "HalfWide"
-fault_name fault.Packet = codes "Packet"
-fault_name fault.Platform = codes "Platform"
-fault_name fault.Short = codes "Short"
-
-abbrev pub why_name : Why → List ℕ
-why_name (why.Decoder f) = fault_name f
-why_name why.Empty = codes "Empty"
-why_name why.TooLong = codes "TooLong"
-why_name why.JumpOut = codes "JumpOut"
-why_name why.JumpInside = codes "JumpInside"
-why_name why.WritesR10 = codes "WritesR10"
-why_name why.FallsOff = codes "FallsOff"
-why_name why.Memory = codes "Memory"
+use Rattle.console.specs.Commands.{range_limit}
 
 -- a space and a number in decimal
 abbrev pub number_text : ℕ → List ℕ
@@ -43,28 +21,42 @@ value_text v = codes " " ++ encode_lower (to_be_bytes w64 v)
 -- the name of a stop
 abbrev pub stop_name : Stop → List ℕ
 stop_name (stop.Exit v) = codes "exit"
+stop_name stop.Outside = codes "outside"
+stop_name stop.Misaligned = codes "misaligned"
 stop_name stop.Depth = codes "depth"
 stop_name stop.Spent = codes "spent"
+stop_name stop.Worn = codes "worn"
 
--- a stop and its value, if it has one
-abbrev pub stop_text : Stop → List ℕ
-stop_text (stop.Exit v) = codes " exit" ++ value_text v
-stop_text stop.Depth = codes " depth"
-stop_text stop.Spent = codes " spent"
+-- the value of a stop, if it has one
+abbrev pub stop_value_text : Stop → List ℕ
+stop_value_text (stop.Exit v) = value_text v
+stop_value_text _ = codes ""
 
 -- whether a machine runs, or why it stopped
-abbrev pub state_text : Option Stop → List ℕ
-state_text None = codes " run"
-state_text (Some s) = codes " " ++ stop_name s
+abbrev pub state_name : Option Stop → List ℕ
+state_name None = codes "run"
+state_name (Some s) = stop_name s
 
 -- the text of a reply, without its line end
 abbrev pub reply_text : Reply → List ℕ
-reply_text (reply.Shipped machine) = codes "shipped" ++ number_text machine
+reply_text (reply.Made n) = codes "made" ++ number_text n
+reply_text (reply.Freed n) = codes "freed" ++ number_text n
+reply_text reply.Done = codes "ok"
+reply_text (reply.Bytes bytes) = codes "bytes " ++ encode_lower bytes
+reply_text (reply.Shipped m) = codes "shipped" ++ number_text m
+reply_text (reply.Ran m slot) = codes "ran" ++ number_text m ++ number_text slot
+reply_text (reply.Waiting m n) = codes "waiting" ++ number_text m ++ number_text n
+reply_text (reply.Stopped m s) = codes "stopped" ++ number_text m ++ codes " " ++ stop_name s ++ stop_value_text s
+reply_text (reply.Registers shown) = codes "regs" ++ number_text shown.machine ++ number_text shown.slot ++ number_text shown.fuel
+    ++ codes " " ++ state_name shown.stop ++ flat_map value_text shown.registers
+reply_text (reply.Emitted m values) = codes "out" ++ number_text m ++ flat_map value_text values
 reply_text reply.NoMemory = nomem_text
 reply_text reply.Full = codes "full"
+reply_text reply.Outside = codes "outside"
 reply_text (reply.Refused e) = codes "refused" ++ number_text e.slot ++ codes " " ++ why_name e.why
-reply_text (reply.Ran machine slot) = codes "ran" ++ number_text machine ++ number_text slot
-reply_text (reply.Stopped machine s) = codes "stopped" ++ number_text machine ++ stop_text s
-reply_text (reply.Registers shown) = codes "regs" ++ number_text shown.machine ++ number_text shown.slot ++ number_text shown.fuel
-    ++ state_text shown.stop ++ flat_map value_text shown.registers
 reply_text reply.Missing = codes "none"
+
+-- a reply has at most so many bytes to show
+abbrev pub IsShort : Reply → Type 0
+IsShort (reply.Bytes bytes) = length bytes ≤ range_limit
+IsShort _ = Unit {0}

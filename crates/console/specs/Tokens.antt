@@ -17,9 +17,15 @@ IsNumber token n = (n < 2 ^ 64)
     × ((IsNumeral 10 token × (get_or token 0 0 ≡ 48 → length token ≡ 1) × (digits_value 10 token ≡ n))
     ⊎ ((digits : List ℕ) × (token ≡ codes "0x" ++ digits) × IsNumeral 16 digits × (length digits ≤ 16) × (digits_value 16 digits ≡ n)))
 
+abbrev pub within : ℕ → ℕ → Limits
+within least most = record { least = least; most = most }
+
+abbrev pub IsWithin : Limits → ℕ → Type 0
+IsWithin limits n = (limits.least ≤ n) × (n ≤ limits.most)
+
 -- a number within these limits
 abbrev pub IsNumberWithin : Limits → List ℕ → ℕ → Type 0
-IsNumberWithin limits token n = IsNumber token n × (limits.least ≤ n) × (n ≤ limits.most)
+IsNumberWithin limits token n = IsNumber token n × IsWithin limits n
 
 -- two hex digits of either case for each byte, and at least one byte
 abbrev pub IsHex : List ℕ → List ℕ → Type 0

@@ -1,15 +1,15 @@
 //! Tokens in, commands out.
-ghost use Rattle.std.specs.Prelude.{◌≡◌, ◌<◌, ℕ, List, length, take, IfOk, IfErr};
+ghost use Rattle.std.specs.Prelude.{◌≡◌, ◌<◌, ℕ, List, length, take, get_or, slice_index, IfOk, IfErr};
 ghost use Rattle.hex.specs.Hex.{decode_of};
-ghost use Rattle.world.specs.Answers.{command_of};
-ghost use Rattle.console.specs.Tokens.{tokens_left};
+ghost use Rattle.world.specs.Commands.{command_of};
+ghost use Rattle.console.specs.Tokens.{tokens_left, within, IsWithin};
 ghost use Rattle.console.specs.Commands.{Reads, Says, SaysOfKind, Spells, command_with, number_limits};
 
 use crate::fault::LineFault;
 use crate::kind::{Kind, NUMBERS};
 use crate::tokens::Tokens;
 use std::alloc::Global;
-use world::Event;
+use world::{Event, ObjectLength};
 
 /// The most bytes that a line may have, without its end.
 pub const LINE_LIMIT: usize = 70_000;
@@ -66,9 +66,26 @@ fn decode(alloc: Global, text: &[u8]) -> Result<Vec<u8>, LineFault>
 
 /// The command of this kind, with these numbers and bytes.
 fn event_with(kind: Kind, numbers: [u64; NUMBERS], bytes: Vec<u8>) -> Event
-    ensures { command_with kind (take (length (number_limits kind)) numbers) bytes.items ≡ Some (command_of result) }
+    requires { (i : ℕ) → i < length (number_limits kind) → IsWithin (get_or (number_limits kind) i (within 0 0)) (slice_index numbers i) }
+    ensures { command_of result ≡ command_with kind (take (length (number_limits kind)) numbers) bytes.items }
 {
     match kind {
+        Kind::Make => Event::Make {
+            length: ObjectLength::new(numbers[0]).unwrap(),
+        },
+        Kind::Free => Event::Free {
+            object: numbers[0] as u32,
+        },
+        Kind::Put => Event::Put {
+            object: numbers[0] as u32,
+            offset: numbers[1] as u32,
+            bytes,
+        },
+        Kind::Get => Event::Get {
+            object: numbers[0] as u32,
+            offset: numbers[1] as u32,
+            length: numbers[2] as u32,
+        },
         Kind::Ship => Event::Ship {
             fuel: numbers[0],
             arguments: [numbers[1], numbers[2], numbers[3], numbers[4], numbers[5]],
@@ -79,6 +96,14 @@ fn event_with(kind: Kind, numbers: [u64; NUMBERS], bytes: Vec<u8>) -> Event
         },
         Kind::Regs => Event::Regs {
             machine: numbers[0] as usize,
+        },
+        Kind::Out => Event::Out {
+            machine: numbers[0] as usize,
+        },
+        Kind::Stack => Event::Stack {
+            machine: numbers[0] as usize,
+            offset: numbers[1] as u32,
+            length: numbers[2] as u32,
         },
     }
 }

@@ -19,6 +19,7 @@ const PIECE: usize = 4096;
 
 /// Does what a line says, and makes the line of the reply.
 fn perform(world: &mut World, command: Result<Event, LineFault>, reply: &mut ReplyLine)
+    requires { (line : List ℕ) × Reads (Spells line) command }
     ensures { (line : List ℕ) → IsLine line → Reads (Spells line) command → Answered agent world.old line reply.new.items world.new }
 {
     match command {

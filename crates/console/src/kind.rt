@@ -3,13 +3,20 @@ ghost use Rattle.std.specs.Prelude.{◌≡◌, ◌≤◌, length};
 ghost use Rattle.console.specs.Commands.{kind_named, number_limits, most_bytes};
 
 use crate::commands::LINE_LIMIT;
+use object_store::{OBJECT_BYTES, OBJECT_LIMIT};
 
 /// The command that a line's first token names.
 #[derive(Clone, Copy, Debug, PartialEq, Eq)]
 pub enum Kind {
+    Make,
+    Free,
+    Put,
+    Get,
     Ship,
     Step,
     Regs,
+    Out,
+    Stack,
 }
 
 /// What a number may be.
@@ -22,24 +29,71 @@ pub struct Limits {
 /// The most numbers that a command has.
 pub const NUMBERS: usize = 6;
 
+/// The most bytes that a line or a reply carries, but for code.
+pub const RANGE_LIMIT: usize = 4096;
+
+/// Any number of 64 bits.
 const ANY: Limits = Limits {
     least: 0,
     most: u64::MAX,
 };
 
+/// How many bytes an object may have.
+const OBJECT_LENGTH: Limits = Limits {
+    least: 1,
+    most: OBJECT_BYTES as u64,
+};
+
+/// The number of an object that there may be.
+const OBJECT: Limits = Limits {
+    least: 1,
+    most: OBJECT_LIMIT as u64,
+};
+
+/// The number of a machine that there may be.
 const MACHINE: Limits = Limits { least: 1, most: 48 };
+
+/// Where a range of an object's bytes may begin.
+const OBJECT_OFFSET: Limits = Limits {
+    least: 0,
+    most: OBJECT_BYTES as u64 - 1,
+};
+
+/// Where a range of a stack's bytes may begin.
+const STACK_OFFSET: Limits = Limits {
+    least: 0,
+    most: 4095,
+};
+
+/// How many bytes may be shown at once.
+const RANGE_LENGTH: Limits = Limits {
+    least: 1,
+    most: 4096,
+};
 
 impl Kind {
     /// The kind of this name, if it names one.
     pub fn named(name: &[u8]) -> Option<Kind>
         ensures { result ≡ kind_named name.now }
     {
-        if name == b"ship".as_slice() {
+        if name == b"make".as_slice() {
+            Some(Kind::Make)
+        } else if name == b"free".as_slice() {
+            Some(Kind::Free)
+        } else if name == b"put".as_slice() {
+            Some(Kind::Put)
+        } else if name == b"get".as_slice() {
+            Some(Kind::Get)
+        } else if name == b"ship".as_slice() {
             Some(Kind::Ship)
         } else if name == b"step".as_slice() {
             Some(Kind::Step)
         } else if name == b"regs".as_slice() {
             Some(Kind::Regs)
+        } else if name == b"out".as_slice() {
+            Some(Kind::Out)
+        } else if name == b"stack".as_slice() {
+            Some(Kind::Stack)
         } else {
             None
         }
@@ -51,9 +105,15 @@ impl Kind {
         ensures few { length result.now ≤ NUMBERS }
     {
         match self {
+            Kind::Make => &[OBJECT_LENGTH],
+            Kind::Free => &[OBJECT],
+            Kind::Put => &[OBJECT, OBJECT_OFFSET],
+            Kind::Get => &[OBJECT, OBJECT_OFFSET, RANGE_LENGTH],
             Kind::Ship => &[ANY, ANY, ANY, ANY, ANY, ANY],
             Kind::Step => &[MACHINE],
             Kind::Regs => &[MACHINE],
+            Kind::Out => &[MACHINE],
+            Kind::Stack => &[MACHINE, STACK_OFFSET, RANGE_LENGTH],
         }
     }
 
@@ -62,8 +122,9 @@ impl Kind {
         ensures { result ≡ most_bytes self }
     {
         match self {
+            Kind::Put => Some(RANGE_LIMIT),
             Kind::Ship => Some(LINE_LIMIT),
-            Kind::Step | Kind::Regs => None,
+            _ => None,
         }
     }
 }

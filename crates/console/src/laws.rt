@@ -1,6 +1,6 @@
 //! What the definitions say, apart from any call.
 ghost use Rattle.std.specs.Prelude.{◌≡◌, ℕ, List};
-ghost use Rattle.world.specs.Answers.{Command};
+ghost use Rattle.world.specs.Commands.{Command};
 ghost use Rattle.console.specs.Commands.{Spells};
 
 /// A line spells at most one command.

@@ -15,5 +15,5 @@ pub use console::Console;
 pub use conversation::drive;
 pub use fault::{DriveFault, LineFault};
 pub use laws::one_command;
-pub use replies::{REPLY_LIMIT, ReplyLine, name_of_why, print_reply};
+pub use replies::{REPLY_LIMIT, ReplyLine, print_fault, print_reply};
 pub use writing::{WriteFault, put_all};

@@ -1,18 +1,17 @@
 //! Replies in, their lines out.
-ghost use Rattle.std.specs.Prelude.{◌≡◌, ◌≤◌, ◌+◌, ◌*◌, ◌++◌, codes, length, flat_map};
+ghost use Rattle.std.specs.Prelude.{◌≡◌, ◌≤◌, ◌+◌, ◌*◌, ◌++◌, ◌∷◌, [], codes, length, flat_map};
 ghost use Rattle.arrayvec.specs.ArrayVec.{array_vec_len};
 ghost use Rattle.console.specs.Lines.{ended, bad_text, nomem_text};
-ghost use Rattle.console.specs.Replies.{reply_text, number_text, value_text, stop_text, state_text, fault_name, why_name};
+ghost use Rattle.hex.specs.Hex.{encode_lower};
+ghost use Rattle.console.specs.Replies.{reply_text, number_text, value_text, stop_name, stop_value_text, state_name, IsShort};
 
 use crate::fault::LineFault;
 use arrayvec::ArrayVec;
-use bpf_codec::Fault;
-use loader::Why;
 use machine::Stop;
 use world::{Reply, Shown};
 
 /// The most bytes of a reply, with its line end.
-pub const REPLY_LIMIT: usize = 320;
+pub const REPLY_LIMIT: usize = 8_200;
 
 /// The line of a reply.
 pub type ReplyLine = ArrayVec<u8, REPLY_LIMIT>;
@@ -35,6 +34,16 @@ fn put_number(line: &mut ReplyLine, number: u64)
     put(line, itoa::Buffer::new().format(number).as_bytes());
 }
 
+/// Adds a name, a space and a number in decimal.
+fn put_named(line: &mut ReplyLine, name: &[u8], number: u64)
+    requires { array_vec_len line.old + length name.now + 21 ≤ REPLY_LIMIT }
+    ensures text { line.new.items ≡ line.old.items ++ name.now ++ number_text number }
+    ensures short { array_vec_len line.new ≤ array_vec_len line.old + length name.now + 21 }
+{
+    put(line, name);
+    put_number(line, number);
+}
+
 /// Adds a space and a register's value in hex.
 fn put_value(line: &mut ReplyLine, value: u64)
     requires { array_vec_len line.old + 17 ≤ REPLY_LIMIT }
@@ -47,116 +56,136 @@ fn put_value(line: &mut ReplyLine, value: u64)
     put(line, &digits);
 }
 
-/// Adds a stop, and its value if it has one.
-fn put_stop(line: &mut ReplyLine, stop: Stop)
-    requires { array_vec_len line.old + 22 ≤ REPLY_LIMIT }
-    ensures text { line.new.items ≡ line.old.items ++ stop_text stop }
-    ensures short { array_vec_len line.new ≤ array_vec_len line.old + 22 }
+/// Adds values in hex.
+fn put_values(line: &mut ReplyLine, values: &[u64])
+    requires { array_vec_len line.old + 17 * length values.now ≤ REPLY_LIMIT }
+    ensures text { line.new.items ≡ line.old.items ++ flat_map value_text values.now }
+    ensures short { array_vec_len line.new ≡ array_vec_len line.old + 17 * length values.now }
+{
+    for value in values {
+        put_value(line, *value);
+    }
+}
+
+/// Adds a byte in hex.
+fn put_byte(line: &mut ReplyLine, b: u8)
+    requires { array_vec_len line.old + 2 ≤ REPLY_LIMIT }
+    ensures text { line.new.items ≡ line.old.items ++ encode_lower (b ∷ []) }
+    ensures short { array_vec_len line.new ≡ array_vec_len line.old + 2 }
+{
+    let mut digits = [0u8; 2];
+    let _ = hex::encode_to_slice([b], &mut digits);
+    put(line, &digits);
+}
+
+/// Adds bytes in hex.
+fn put_bytes(line: &mut ReplyLine, bytes: &[u8])
+    requires { array_vec_len line.old + 2 * length bytes.now ≤ REPLY_LIMIT }
+    ensures text { line.new.items ≡ line.old.items ++ encode_lower bytes.now }
+    ensures short { array_vec_len line.new ≡ array_vec_len line.old + 2 * length bytes.now }
+{
+    for b in bytes {
+        put_byte(line, *b);
+    }
+}
+
+/// The name of a stop.
+fn name_of_stop(stop: Stop) -> &'static [u8]
+    ensures name { result.now ≡ stop_name stop }
+    ensures short { length result.now ≤ 10 }
 {
     match stop {
-        Stop::Exit(value) => {
-            put(line, b" exit");
-            put_value(line, value);
-        }
-        Stop::Depth => put(line, b" depth"),
-        Stop::Spent => put(line, b" spent"),
+        Stop::Exit(_) => b"exit",
+        Stop::Outside => b"outside",
+        Stop::Misaligned => b"misaligned",
+        Stop::Depth => b"depth",
+        Stop::Spent => b"spent",
+        Stop::Worn => b"worn",
+    }
+}
+
+/// Adds a stop, and its value if it has one.
+fn put_stop(line: &mut ReplyLine, stop: Stop)
+    requires { array_vec_len line.old + 28 ≤ REPLY_LIMIT }
+    ensures text { line.new.items ≡ line.old.items ++ codes " " ++ stop_name stop ++ stop_value_text stop }
+    ensures short { array_vec_len line.new ≤ array_vec_len line.old + 28 }
+{
+    put(line, b" ");
+    put(line, name_of_stop(stop));
+    if let Stop::Exit(value) = stop {
+        put_value(line, value);
     }
 }
 
 /// Adds whether a machine runs, or the name of its stop.
 fn put_state(line: &mut ReplyLine, stop: Option<Stop>)
-    requires { array_vec_len line.old + 6 ≤ REPLY_LIMIT }
-    ensures text { line.new.items ≡ line.old.items ++ state_text stop }
-    ensures short { array_vec_len line.new ≤ array_vec_len line.old + 6 }
+    requires { array_vec_len line.old + 11 ≤ REPLY_LIMIT }
+    ensures text { line.new.items ≡ line.old.items ++ codes " " ++ state_name stop }
+    ensures short { array_vec_len line.new ≤ array_vec_len line.old + 11 }
 {
+    put(line, b" ");
     match stop {
-        None => put(line, b" run"),
-        Some(Stop::Exit(_)) => put(line, b" exit"),
-        Some(Stop::Depth) => put(line, b" depth"),
-        Some(Stop::Spent) => put(line, b" spent"),
-    }
-}
-
-/// The name of a fault.
-fn name_of_fault(fault: Fault) -> &'static [u8]
-    ensures name { result.now ≡ fault_name fault }
-    ensures short { length result.now ≤ 10 }
-{
-    match fault {
-        Fault::Opcode => b"Opcode",
-        Fault::Register => b"Register",
-        Fault::Field => b"Field",
-        Fault::HalfWide => b"HalfWide",
-        Fault::Packet => b"Packet",
-        Fault::Platform => b"Platform",
-        Fault::Short => b"Short",
-    }
-}
-
-/// The name of why code is refused, as `refused` and `check` tell it.
-pub fn name_of_why(why: Why) -> &'static [u8]
-    ensures name { result.now ≡ why_name why }
-    ensures short { length result.now ≤ 10 }
-{
-    match why {
-        Why::Decoder(fault) => name_of_fault(fault),
-        Why::Empty => b"Empty",
-        Why::TooLong => b"TooLong",
-        Why::JumpOut => b"JumpOut",
-        Why::JumpInside => b"JumpInside",
-        Why::WritesR10 => b"WritesR10",
-        Why::FallsOff => b"FallsOff",
-        Why::Memory => b"Memory",
+        None => put(line, b"run"),
+        Some(stop) => put(line, name_of_stop(stop)),
     }
 }
 
 /// Adds a machine as it is.
 fn put_shown(line: &mut ReplyLine, shown: &Shown)
-    requires { array_vec_len line.old + 260 ≤ REPLY_LIMIT }
+    requires { array_vec_len line.old + 261 ≤ REPLY_LIMIT }
     ensures text { line.new.items ≡ line.old.items ++ number_text shown.now.machine ++ number_text shown.now.slot ++ number_text shown.now.fuel
-        ++ state_text shown.now.stop ++ flat_map value_text shown.now.registers }
-    ensures short { array_vec_len line.new ≤ array_vec_len line.old + 260 }
+        ++ codes " " ++ state_name shown.now.stop ++ flat_map value_text shown.now.registers }
+    ensures short { array_vec_len line.new ≤ array_vec_len line.old + 261 }
 {
     put_number(line, shown.machine as u64);
     put_number(line, shown.slot as u64);
     put_number(line, shown.fuel);
     put_state(line, shown.stop);
-    for value in &shown.registers {
-        put_value(line, *value);
-    }
+    put_values(line, &shown.registers);
 }
 
 /// Makes this the line of a reply.
 pub fn print_reply(reply: &Reply, line: &mut ReplyLine)
+    requires { IsShort reply.now }
     ensures { line.new.items ≡ ended (reply_text reply.now) }
 {
     line.clear();
     match reply {
-        Reply::Shipped { machine } => {
-            put(line, b"shipped");
-            put_number(line, *machine as u64);
+        Reply::Made { object } => put_named(line, b"made", *object as u64),
+        Reply::Freed { object } => put_named(line, b"freed", *object as u64),
+        Reply::Done => put(line, b"ok"),
+        Reply::Bytes(bytes) => {
+            put(line, b"bytes ");
+            put_bytes(line, bytes.as_slice());
         }
-        Reply::NoMemory => put(line, b"nomem"),
-        Reply::Full => put(line, b"full"),
-        Reply::Refused(error) => {
-            put(line, b"refused");
-            put_number(line, error.slot as u64);
-            put(line, b" ");
-            put(line, name_of_why(error.why));
-        }
+        Reply::Shipped { machine } => put_named(line, b"shipped", *machine as u64),
         Reply::Ran { machine, slot } => {
-            put(line, b"ran");
-            put_number(line, *machine as u64);
+            put_named(line, b"ran", *machine as u64);
             put_number(line, *slot as u64);
         }
+        Reply::Waiting { machine, object } => {
+            put_named(line, b"waiting", *machine as u64);
+            put_number(line, *object as u64);
+        }
         Reply::Stopped { machine, stop } => {
-            put(line, b"stopped");
-            put_number(line, *machine as u64);
+            put_named(line, b"stopped", *machine as u64);
             put_stop(line, *stop);
         }
         Reply::Registers(shown) => {
             put(line, b"regs");
             put_shown(line, shown);
+        }
+        Reply::Emitted { machine, values } => {
+            put_named(line, b"out", *machine as u64);
+            put_values(line, values.as_slice());
+        }
+        Reply::NoMemory => put(line, b"nomem"),
+        Reply::Full => put(line, b"full"),
+        Reply::Outside => put(line, b"outside"),
+        Reply::Refused(error) => {
+            put_named(line, b"refused", error.slot as u64);
+            put(line, b" ");
+            put(line, error.why.name());
         }
         Reply::Missing => put(line, b"none"),
     }

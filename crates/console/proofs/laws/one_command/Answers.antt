@@ -1,5 +1,5 @@
 use Rattle.std.proofs.Common.{◌≡◌, ℕ, List, [], ◌∷◌, sym, ◌∙◌, ap, subst, Option, Some}
-use Rattle.world.specs.Answers.{Command}
+use Rattle.world.specs.Commands.{Command}
 use Rattle.console.specs.Tokens.{tokens_of, AreBytes}
 use Rattle.console.specs.Commands.{most_bytes, command_with, Says, SaysOfKind}
 use Rattle.console.specs.declared.kind.Kind.{Kind}
@@ -10,8 +10,7 @@ of_kind : (kind : Kind) (tokens : List (List ℕ)) (a b : Command) → SaysOfKin
 of_kind kind tokens a b s t =
     let n = numbers_one _ _ _ _ _ _ s.numbers_first t.numbers_first in
     let m = bytes_one _ t.left _ _ (subst (λ l. AreBytes (most_bytes kind) l s.bytes) n.1 s.bytes_last) t.bytes_last in
-    let e : Some a ≡ Some b = sym s.is_command ∙ ap (λ x. command_with kind x s.bytes) n.0 ∙ ap (λ x. command_with kind t.numbers x) m ∙ t.is_command in
-    cc
+    s.is_command ∙ ap (λ x. command_with kind x s.bytes) n.0 ∙ ap (λ x. command_with kind t.numbers x) m ∙ sym t.is_command
 
 said : (tokens : List (List ℕ)) (a b : Command) → Says tokens a → Says tokens b → a ≡ b
 said [] a b s t = absurd s

@@ -2,8 +2,7 @@ use Rattle.std.proofs.Common.{◌∙◌, take, drop, suc, set, get_or, subst, ar
 use Rattle.std.proofs.Math.Seq.{split_at}
 use Rattle.std.proofs.lemmas.List.{take_more, take_more_set, length-set}
 use Rattle.std.proofs.lemmas.Result.{err_from_is_err_and}
-use Rattle.console.specs.Tokens.{tokens_left, AreNumbers}
-use Rattle.console.specs.Commands.{within}
+use Rattle.console.specs.Tokens.{tokens_left, within, AreNumbers}
 use Rattle.console.proofs.LineTokens.{numbers_more, numbers_none}
 use Rattle.console.proofs.tokens.Tokens.numbers.Goals as goal
 
