@@ -9,7 +9,7 @@ use Rattle.std.specs.Io.KnownBytes.{Appends}
 use Rattle.world.proofs.Joined.{Runs-append}
 use Rattle.console.specs.Lines.{IsLine, ended}
 use Rattle.console.specs.Held.{Held, clip, nothing_held, bytes_so_far, Feeds}
-use Rattle.console.specs.Conversations.{Protocol, Turn, IsTurn, turn_line, turn_text, turn_commands, turn_replies, heard_of, written_of, Answered, Exchange, AnswersSoFar, FailsInReply, FailsInCut, Breaks, DueReply}
+use Rattle.console.specs.Conversations.{Protocol, IsTurn, turn_line, turn_text, turn_commands, turn_replies, heard_of, written_of, Answered, Exchange, AnswersSoFar, FailsInReply}
 use Rattle.console.proofs.Clips.{clip-append}
 
 module _ (p : Protocol) where

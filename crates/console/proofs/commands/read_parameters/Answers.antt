@@ -1,4 +1,4 @@
-use Rattle.std.proofs.Common.{ℕ, List, subst, sym, ◌≡◌, take, length, refl, arith, get_or}
+use Rattle.std.proofs.Common.{subst, sym, take, length, refl, arith, get_or}
 use Rattle.std.proofs.lemmas.List.{get_or-take}
 use Rattle.std.proofs.lemmas.Result.{err_from_is_err_and}
 use Rattle.console.specs.Tokens.{tokens_left, within, IsWithin, AreNumbers, AreBytes}
@@ -33,8 +33,8 @@ returns-in_err-bytes c =
     let text = hex_length c.in_ok-text.text.now b.0 b.2 in
     let all = take (length (number_limits kind)) numbers in
     reads_no_memory (SaysOfKind kind tokens) _ _ _ x.1 x.2 e.0 (command_with kind all b.0)
-        record { numbers = all; bytes = b.0; left = left; numbers_first = first; bytes_last = last; is_command = refl }
-        (carries kind all b.0 left last (omega (arith, text, e.1)))
+    record { numbers = all; bytes = b.0; left = left; numbers_first = first; bytes_last = last; is_command = refl }
+    (carries kind all b.0 left last (omega (arith, text, e.1)))
 
 pub event_with-requires : goal.event_with-requires
 event_with-requires c =

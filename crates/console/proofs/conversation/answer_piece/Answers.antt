@@ -56,7 +56,7 @@ returns-in_err-answer_waiting-clause-err g c =
       drop n rest,
       shorter i.answers.0 rest _ n i.answers.1 (c.feed-taken.ensures.progress i.open_line more) more,
       subst (λ y. FailsInReply agent (drop n rest) c.args.world.now y (g.W.Write.contents c.args.writer.now) (g.W.Write.contents c.answer_waiting.new.writer) c.answer_waiting.new.world)
-      (whole line i.answers.0 rest _ n i.answers.1)
-      (fails_more agent [] _ _ _ (drop n rest) _ _
-      (fails_fed agent _ _ _ _ rest _ _ _ _ _ n (i.answers.2 line l e) (c.feed-taken.ensures.feeds i.open_line) c.in_err-answer_waiting.ensures.err)),
+          (whole line i.answers.0 rest _ n i.answers.1)
+          (fails_more agent [] _ _ _ (drop n rest) _ _
+          (fails_fed agent _ _ _ _ rest _ _ _ _ _ n (i.answers.2 line l e) (c.feed-taken.ensures.feeds i.open_line) c.in_err-answer_waiting.ensures.err)),
     ))

@@ -1,4 +1,4 @@
-use Rattle.std.proofs.Common.{◌≡◌, ℕ, List, [], ◌∷◌, sym, ◌∙◌, ap, subst, Option, Some}
+use Rattle.std.proofs.Common.{◌≡◌, ℕ, List, [], ◌∷◌, sym, ◌∙◌, ap, subst, Some}
 use Rattle.world.specs.Commands.{Command}
 use Rattle.console.specs.Tokens.{tokens_of, AreBytes}
 use Rattle.console.specs.Commands.{most_bytes, command_with, Says, SaysOfKind}

@@ -17,7 +17,7 @@ byte_more : (start old new bytes : List ℕ) (i : ℕ) → i < length bytes → 
     → new ≡ start ++ encode_lower (take (i + 1) bytes)
 byte_more start old new bytes i h e f =
     e ∙ ap (λ l. l ++ encode_lower (get_or bytes i 0 ∷ [])) f ∙ append_assoc start (encode_lower (take i bytes)) (encode_lower (get_or bytes i 0 ∷ []))
-        ∙ ap (λ l. start ++ l) (sym (encode_append (take i bytes) (get_or bytes i 0 ∷ [])) ∙ ap (λ l. encode_lower l) (sym (take_more bytes i 0 h)))
+    ∙ ap (λ l. start ++ l) (sym (encode_append (take i bytes) (get_or bytes i 0 ∷ [])) ∙ ap (λ l. encode_lower l) (sym (take_more bytes i 0 h)))
 
 pub loop-b-init : goal.loop-b-init
 loop-b-init c = record { text = rw encode_none (sym (append-nil _)); short = omega arith }

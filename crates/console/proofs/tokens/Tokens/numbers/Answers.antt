@@ -1,4 +1,4 @@
-use Rattle.std.proofs.Common.{◌∙◌, take, drop, suc, set, get_or, subst, arith, ◌≡◌, ◌<◌, length}
+use Rattle.std.proofs.Common.{◌∙◌, take, drop, suc, get_or, subst, arith}
 use Rattle.std.proofs.Math.Seq.{split_at}
 use Rattle.std.proofs.lemmas.List.{take_more, take_more_set, length-set}
 use Rattle.std.proofs.lemmas.Result.{err_from_is_err_and}
@@ -16,7 +16,7 @@ returns-in_err-numbers-clause-err c =
     rw x.1 (
       x.2 ∙ e.0,
       λ numbers left a. numbers_none (take i all) (drop (suc i) all) (get_or all i (within 0 0)) tokens (take i c.loop-i.numbers) numbers (tokens_left c.loop-i.self) left c.loop-i.invariant.so_far e.1
-      (subst (λ ls. AreNumbers ls tokens numbers left) (split_at all i (within 0 0) c.loop-i-test.true) a),
+          (subst (λ ls. AreNumbers ls tokens numbers left) (split_at all i (within 0 0) c.loop-i-test.true) a),
     )
 
 pub loop-i-preserved : goal.loop-i-preserved
