@@ -2,3 +2,10 @@ pub mod Words
 pub mod NextSlots
 pub mod FrameOrder
 pub mod DoneRows
+pub mod SameInstruction
+pub mod StepCases
+pub mod OneWay
+pub mod Stopping
+pub mod Fuel
+pub mod Wholeness
+pub mod Pointers
