@@ -2,10 +2,14 @@ pub mod Words
 pub mod NextSlots
 pub mod FrameOrder
 pub mod DoneRows
-pub mod SameInstruction
+pub mod ValidRows
 pub mod StepCases
 pub mod OneWay
 pub mod Stopping
 pub mod Fuel
 pub mod Wholeness
 pub mod Pointers
+pub mod Changes
+pub mod Others
+pub mod Carried
+pub mod Replaying

@@ -1,0 +1,5 @@
+use Rattle.machine.proofs.Replaying.{replays_one_way}
+use Rattle.machine.proofs.laws.replays_one_way.Goals as goal
+
+pub returns : goal.returns
+returns c = replays_one_way
