@@ -1,4 +1,5 @@
-pub mod Reading
-pub mod Whole
-pub mod Starved
-pub mod Shown
+pub mod ReadCode
+pub mod CheckedPrefix
+pub mod OutOfMemory
+pub mod ErrorShown
+pub mod Subcommands

@@ -1,6 +1,8 @@
 pub mod Failures
 pub mod Streams
-pub mod Checks
-pub mod Runs
-pub mod Words
+pub mod CheckLeaves
+pub mod RunLeaves
+pub mod CommandLine
 pub mod Reports
+pub mod ErrorShown
+pub mod Laws

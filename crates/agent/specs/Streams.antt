@@ -1,6 +1,6 @@
 -- What the streams hold afterwards.
-use Rattle.std.specs.Prelude.{◌≡◌, ℕ, ◌<◌, List, ◌++◌, Option, length}
-use Rattle.std.specs.Io.KnownBytes.{Appends}
+use Rattle.std.specs.Prelude.{◌≡◌, ℕ, ◌<◌, ◌≤◌, List, ◌++◌, Option, length}
+use Rattle.std.specs.Io.KnownBytes.{Appends, Consumes}
 
 -- a stream took these bytes, or the first of them and then failed
 abbrev pub AppendsSome : Option (List ℕ) → Option (List ℕ) → List ℕ → Type 0
@@ -9,3 +9,7 @@ AppendsSome before after bytes = (part missing : List ℕ) × (bytes ≡ part ++
 -- a stream took the first of these bytes, and not all of them
 abbrev pub AppendsPart : Option (List ℕ) → Option (List ℕ) → List ℕ → Type 0
 AppendsPart before after bytes = (part missing : List ℕ) × (bytes ≡ part ++ missing) × (0 < length missing) × Appends before after part
+
+-- at most so many bytes were read
+abbrev pub ConsumesAtMost : ℕ → Option (List ℕ) → Option (List ℕ) → Type 0
+ConsumesAtMost most before after = (bytes : List ℕ) × (length bytes ≤ most) × Consumes before after bytes

@@ -1,32 +1,44 @@
 //! `check`: raw code in, whether it is valid out.
 ghost use Rattle.std.specs.Prelude.{◌≡◌, ◌⊎◌, take, IfOk, IfSome, IfErr};
-ghost use Rattle.agent.specs.Checks.{Checks, Finds, ok_line};
+ghost use Rattle.agent.specs.CheckLeaves.{CheckLeaves, Finds, check_limit, ok_line};
+ghost use Rattle.agent.specs.Streams.{ConsumesAtMost};
 
 use crate::failure::Failure;
 use arrayvec::ArrayVec;
 use console::put_all;
-use loader::{Why, load};
+use loader::{CODE_LIMIT, Why, load};
 use std::alloc::Global;
-use std::io::{ErrorKind, Read, Write};
+use std::io::{Read, Write};
 
 /// As much as is read: the longest code that can be valid, and one byte more, which shows that
 /// there is more.
-const READ_LIMIT: u64 = 32_769;
+const CHECK_LIMIT: usize = CODE_LIMIT + 1;
 
 /// A line about valid code.
 type OkLine = ArrayVec<u8, 32>;
 
-/// The code that the reader has, or as much of it as shows that it is too long.
+/// The code that the reader has, or as much of it as shows that it is too long. Any error of the
+/// reader ends the reading, as it does in a conversation.
 fn read_code<R: Read>(alloc: Global, reader: &mut R) -> Result<Vec<u8>, Failure>
-    ensures whole { IfOk result (λ code. IfSome (R.remaining reader.old) (λ input. code.items ≡ take READ_LIMIT input)) }
+    ensures whole { IfOk result (λ code. IfSome (R.remaining reader.old) (λ input. code.items ≡ take check_limit input)) }
     ensures err { IfErr result (λ f. (f ≡ Failure.Read) ⊎ (f ≡ Failure.NoMemory)) }
+    ensures consumed { ConsumesAtMost check_limit (R.remaining reader.old) (R.remaining reader.new) }
 {
     let mut code = Vec::new(alloc);
-    match reader.take(READ_LIMIT).read_to_end(&mut code) {
-        Ok(_) => Ok(code),
-        Err(error) if error.kind() == ErrorKind::OutOfMemory => Err(Failure::NoMemory),
-        Err(_) => Err(Failure::Read),
+    let mut piece = [0u8; 4096];
+    while code.len() < CHECK_LIMIT {
+        let room = (CHECK_LIMIT - code.len()).min(piece.len());
+        match reader.read(&mut piece[..room]) {
+            Ok(0) => return Ok(code),
+            Ok(n) => {
+                if code.extend_from_slice(&piece[..n]).is_err() {
+                    return Err(Failure::NoMemory);
+                }
+            }
+            Err(_) => return Err(Failure::Read),
+        }
     }
+    Ok(code)
 }
 
 /// How many slots the code has, where it is valid.
@@ -42,14 +54,15 @@ fn count_slots(alloc: Global, code: &[u8]) -> Result<usize, Failure>
 
 /// What is found about the code that the reader has.
 fn find<R: Read>(alloc: Global, reader: &mut R) -> Result<usize, Failure>
-    ensures { IfSome (R.remaining reader.old) (λ input. Finds input result) }
+    ensures found { IfSome (R.remaining reader.old) (λ input. Finds input result) }
+    ensures consumed { ConsumesAtMost check_limit (R.remaining reader.old) (R.remaining reader.new) }
 {
     let code = read_code(alloc, reader)?;
     count_slots(alloc, &code)
 }
 
 /// The line about valid code of so many slots.
-fn line_of(slots: usize) -> OkLine
+fn ok_line_of(slots: usize) -> OkLine
     ensures { result.items ≡ ok_line slots }
 {
     let mut line = OkLine::new();
@@ -67,11 +80,12 @@ pub fn check<R: Read, W: Write>(
     reader: &mut R,
     writer: &mut W,
 ) -> Result<(), Failure>
-    ensures { IfSome (R.remaining reader.old) (λ input.
-        Checks input (W.contents writer.old) (W.contents writer.new) result) }
+    ensures left { IfSome (R.remaining reader.old) (λ input.
+        CheckLeaves input (W.contents writer.old) (W.contents writer.new) result) }
+    ensures consumed { ConsumesAtMost check_limit (R.remaining reader.old) (R.remaining reader.new) }
 {
     let slots = find(alloc, reader)?;
-    match put_all(writer, &line_of(slots)) {
+    match put_all(writer, &ok_line_of(slots)) {
         Ok(()) => Ok(()),
         Err(_) => Err(Failure::Write),
     }

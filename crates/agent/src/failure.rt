@@ -1,6 +1,6 @@
 //! What the program ends with.
 ghost use Rattle.std.specs.Prelude.{◌≡◌, ◌++◌, codes};
-ghost use Rattle.agent.specs.Failures.{code_of, line_of, status_of};
+ghost use Rattle.agent.specs.Failures.{status_number, failure_line, status_of};
 
 use arrayvec::ArrayVec;
 use console::name_of_why;
@@ -13,16 +13,16 @@ pub enum Status {
     Done = 0,
     /// The input was refused.
     Refused = 1,
-    /// The words name nothing that the program does.
-    WrongWords = 2,
+    /// The arguments name nothing that the program does.
+    InvalidArguments = 2,
     /// A stream failed, or there was no memory.
     Failed = 3,
 }
 
 impl Status {
     /// The exit status.
-    pub fn code(self) -> u8
-        ensures { result ≡ code_of self }
+    pub fn number(self) -> u8
+        ensures { result ≡ status_number self }
     {
         self as u8
     }
@@ -57,7 +57,7 @@ impl Failure {
 
     /// The line that tells of it.
     pub(crate) fn line(self) -> FailureLine
-        ensures { result.items ≡ line_of self }
+        ensures { result.items ≡ failure_line self }
     {
         let mut line = FailureLine::new();
         match self {

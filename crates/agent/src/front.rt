@@ -1,18 +1,19 @@
-//! The whole program over its words and streams.
+//! The whole program over its arguments and streams.
 ghost use Rattle.std.specs.Prelude.{◌≡◌, ◌≢◌, [], map, Some, IfSome};
 ghost use Rattle.std.specs.Io.KnownBytes.{Keeps};
 ghost use Rattle.clap.specs.Words.{kind_of};
-ghost use Rattle.agent.specs.Checks.{Checks};
-ghost use Rattle.agent.specs.Reports.{Ends};
-ghost use Rattle.agent.specs.Runs.{Runs};
-ghost use Rattle.agent.specs.Streams.{AppendsSome};
-ghost use Rattle.agent.specs.Words.{Shows, ShowsHelp, Turns, faults_of, task_of};
+ghost use Rattle.agent.specs.CheckLeaves.{CheckLeaves, check_limit};
+ghost use Rattle.agent.specs.CommandLine.{faults_of, task_of};
+ghost use Rattle.agent.specs.ErrorShown.{Shows, ShowsError, ShowsHelp, ShowsOneOf};
+ghost use Rattle.agent.specs.Reports.{ReportsOutcome};
+ghost use Rattle.agent.specs.RunLeaves.{RunLeaves};
+ghost use Rattle.agent.specs.Streams.{ConsumesAtMost};
 
+use crate::arguments::{Task, read_arguments};
 use crate::checking::check;
 use crate::failure::{Failure, Status};
-use crate::reporting::report;
+use crate::reporting::{report, say};
 use crate::running::run;
-use crate::words::{Task, read_words};
 use clap::Error;
 use clap::error::ErrorKind;
 use console::put_all;
@@ -20,26 +21,36 @@ use std::alloc::Global;
 use std::convert::AsStr;
 use std::io::{Read, Write};
 
+/// This text, or another where it is empty: `clap`'s contracts leave the texts of its errors open.
+fn some_text(text: &str) -> &[u8]
+    ensures some { result.now ≢ [] }
+    ensures own { text.now ≢ [] → result.now ≡ text.now }
+{
+    if text.is_empty() {
+        return b"error: invalid arguments\n";
+    }
+    text.as_bytes()
+}
+
 /// Shows help.
 fn show_help<W: Write, E: Write>(text: &str, writer: &mut W, errors: &mut E) -> Status
     ensures { ShowsHelp (W.contents writer.old) (W.contents writer.new) (E.contents errors.old) (E.contents errors.new) result }
 {
-    match put_all(writer, text.as_bytes()) {
+    match put_all(writer, some_text(text)) {
         Ok(()) => Status::Done,
         Err(_) => report(Err(Failure::Write), errors),
     }
 }
 
-/// Tells what is wrong with the words. What the stream doesn't take of it is lost.
-fn show_wrong<E: Write>(text: &str, errors: &mut E) -> Status
-    ensures told { AppendsSome (E.contents errors.old) (E.contents errors.new) text.now }
-    ensures status { result ≡ Status.WrongWords }
+/// Says what is wrong with the arguments. What the stream doesn't take of it is lost.
+fn show_error<E: Write>(text: &str, errors: &mut E) -> Status
+    ensures { ShowsError (E.contents errors.old) (E.contents errors.new) result }
 {
-    let _ = put_all(errors, text.as_bytes());
-    Status::WrongWords
+    say(some_text(text), errors);
+    Status::InvalidArguments
 }
 
-/// Shows what the words were answered with: help, or what is wrong with them.
+/// Shows what the arguments are answered with: help, or what is wrong with them.
 fn show<W: Write, E: Write>(alloc: Global, error: Error, writer: &mut W, errors: &mut E) -> Status
     ensures { Shows (kind_of error) (W.contents writer.old) (W.contents writer.new) (E.contents errors.old) (E.contents errors.new) result }
 {
@@ -50,39 +61,39 @@ fn show<W: Write, E: Write>(alloc: Global, error: Error, writer: &mut W, errors:
             Err(_) => report(Err(Failure::NoMemory), errors),
         },
         _ => match error.to_string(alloc) {
-            Ok(text) => show_wrong(text.as_str(), errors),
+            Ok(text) => show_error(text.as_str(), errors),
             Err(_) => report(Err(Failure::NoMemory), errors),
         },
     }
 }
 
-/// Does what the words ask for, which are the program's arguments without its own name, and gives
-/// the exit status.
+/// Does what the arguments ask for, which are the program's without its own name, and gives the
+/// exit status.
 ///
-/// `run` and `check` tell in the status how they ended, and on the errors why they gave up. Other
-/// words, and those that ask for help, leave the reader as it is.
+/// `run` and `check` tell in the status how they ended, and on `errors` why they gave up. Invalid
+/// arguments, and those that ask for help, read no input.
 pub fn tool<'a, S: AsStr, R: Read, W: Write, E: Write>(
     alloc: Global,
-    words: &'a [S],
+    arguments: &'a [S],
     reader: &mut R,
     writer: &mut W,
     errors: &mut E,
 ) -> u8
-    ensures run { faults_of (map S.text words.entry.now) ≡ [] → task_of (map S.text words.entry.now) ≡ Some Task.Run
-        → IfSome (R.remaining reader.old) (λ input. Ends (Runs input (W.contents writer.old) (W.contents writer.new) (R.remaining reader.new))
+    ensures run { faults_of (map S.text arguments.entry.now) ≡ [] → task_of (map S.text arguments.entry.now) ≡ Some Task.Run
+        → IfSome (R.remaining reader.old) (λ input. ReportsOutcome (RunLeaves input (W.contents writer.old) (W.contents writer.new) (R.remaining reader.new))
         (E.contents errors.old) (E.contents errors.new) result) }
-    ensures check { faults_of (map S.text words.entry.now) ≡ [] → task_of (map S.text words.entry.now) ≡ Some Task.Check
-        → IfSome (R.remaining reader.old) (λ input. Ends (Checks input (W.contents writer.old) (W.contents writer.new))
+    ensures check { faults_of (map S.text arguments.entry.now) ≡ [] → task_of (map S.text arguments.entry.now) ≡ Some Task.Check
+        → IfSome (R.remaining reader.old) (λ input. ReportsOutcome (CheckLeaves input (W.contents writer.old) (W.contents writer.new))
         (E.contents errors.old) (E.contents errors.new) result) }
-    ensures words { faults_of (map S.text words.entry.now) ≢ []
-        → Turns (faults_of (map S.text words.entry.now)) (W.contents writer.old) (W.contents writer.new)
+    ensures consumed { task_of (map S.text arguments.entry.now) ≡ Some Task.Check → ConsumesAtMost check_limit (R.remaining reader.old) (R.remaining reader.new) }
+    ensures invalid { faults_of (map S.text arguments.entry.now) ≢ []
+        → ShowsOneOf (faults_of (map S.text arguments.entry.now)) (W.contents writer.old) (W.contents writer.new)
         (E.contents errors.old) (E.contents errors.new) result }
-    ensures unread { faults_of (map S.text words.entry.now) ≢ [] → Keeps (R.remaining reader.old) (R.remaining reader.new) }
+    ensures unread { faults_of (map S.text arguments.entry.now) ≢ [] → Keeps (R.remaining reader.old) (R.remaining reader.new) }
 {
-    match read_words(alloc, words) {
-        Ok(Some(Task::Run)) => report(run(alloc, reader, writer), errors).code(),
-        Ok(Some(Task::Check)) => report(check(alloc, reader, writer), errors).code(),
-        Ok(None) => Status::WrongWords.code(),
-        Err(error) => show(alloc, error, writer, errors).code(),
+    match read_arguments(alloc, arguments) {
+        Ok(Task::Run) => report(run(alloc, reader, writer), errors).number(),
+        Ok(Task::Check) => report(check(alloc, reader, writer), errors).number(),
+        Err(error) => show(alloc, error, writer, errors).number(),
     }
 }

@@ -1,19 +1,29 @@
 //! What the command line takes, apart from any call.
 ghost use Rattle.std.specs.Prelude.{◌≡◌, ◌≢◌, [], ◌∷◌, Some, codes};
-ghost use Rattle.agent.specs.Words.{faults_of, task_of};
+ghost use Rattle.agent.specs.CommandLine.{faults_of, task_of};
+ghost use Rattle.agent.specs.Laws.{RightArgumentsNameATask};
 
-use crate::words::Task;
+use crate::arguments::Task;
+use clap::error::ErrorKind;
 
-/// `run` and `check` alone are right words, and ask for what they are called.
-pub fn plain_words()
+/// `run` and `check` alone are right arguments, and ask for what they are called; `--help` asks for
+/// help.
+pub fn right_arguments()
     ensures run { (faults_of (codes "run" ∷ []) ≡ []) × (task_of (codes "run" ∷ []) ≡ Some Task.Run) }
     ensures check { (faults_of (codes "check" ∷ []) ≡ []) × (task_of (codes "check" ∷ []) ≡ Some Task.Check) }
+    ensures help { faults_of (codes "--help" ∷ []) ≡ ErrorKind.DisplayHelp ∷ [] }
 {}
 
-/// No word at all, another word, a second one and an option are refused.
-pub fn other_words()
+/// No argument at all, another one, `help`, a second one and an option are invalid.
+pub fn invalid_arguments()
     ensures none { faults_of [] ≢ [] }
     ensures other { faults_of (codes "serve" ∷ []) ≢ [] }
+    ensures help { faults_of (codes "help" ∷ []) ≢ [] }
     ensures second { faults_of (codes "run" ∷ codes "check" ∷ []) ≢ [] }
     ensures option { faults_of (codes "run" ∷ codes "--budget" ∷ codes "8" ∷ []) ≢ [] }
+{}
+
+/// Whatever the arguments: where nothing is wrong with them, they name a task.
+pub fn right_arguments_name_a_task()
+    ensures { RightArgumentsNameATask }
 {}

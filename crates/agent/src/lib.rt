@@ -1,18 +1,18 @@
-//! The program, as a function of its words and its three streams.
+//! The program, as a function of its arguments and its three streams.
 #![tactic(auto)]
 
+mod arguments;
 mod checking;
 mod failure;
 mod front;
 mod laws;
 mod reporting;
 mod running;
-mod words;
 
+pub use arguments::Task;
 pub use checking::check;
 pub use failure::{Failure, Status};
 pub use front::tool;
-pub use laws::{other_words, plain_words};
-pub use reporting::refuse_words;
+pub use laws::{invalid_arguments, right_arguments, right_arguments_name_a_task};
+pub use reporting::refuse_arguments;
 pub use running::run;
-pub use words::Task;

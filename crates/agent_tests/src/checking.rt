@@ -1,7 +1,7 @@
 //! `check`.
 
 use crate::devices::{Broken, Narrow};
-use crate::told::tell;
+use crate::outcome::outcome_of;
 use agent::tool;
 use std::test::Fail;
 
@@ -16,10 +16,10 @@ const EXIT: [u8; 8] = [0x95, 0, 0, 0, 0, 0, 0, 0];
 
 #[test]
 fn a_wide_instruction_has_two_slots(rt: HostRuntime) {
-    let told = tell(rt.alloc(), &["check"], &WIDE);
-    assert_eq!(rt; told.status, 0);
-    assert_eq!(rt; told.output.as_slice(), b"ok 4\n".as_slice());
-    assert!(rt; told.errors.is_empty());
+    let outcome = outcome_of(rt.alloc(), &["check"], &WIDE);
+    assert_eq!(rt; outcome.status, 0);
+    assert_eq!(rt; outcome.output.as_slice(), b"ok 4\n".as_slice());
+    assert!(rt; outcome.errors.is_empty());
 }
 
 #[test]
@@ -31,10 +31,10 @@ fn a_refusal_goes_to_the_errors(rt: HostRuntime) {
         (&WIDE[8..], b"slot 0: Opcode\n"),
     ];
     for (code, line) in cases {
-        let told = tell(rt.alloc(), &["check"], code);
-        assert_eq!(rt; told.status, 1);
-        assert_eq!(rt; told.errors.as_slice(), line);
-        assert!(rt; told.output.is_empty());
+        let outcome = outcome_of(rt.alloc(), &["check"], code);
+        assert_eq!(rt; outcome.status, 1);
+        assert_eq!(rt; outcome.errors.as_slice(), line);
+        assert!(rt; outcome.output.is_empty());
     }
 }
 
@@ -45,12 +45,12 @@ fn the_longest_code_is_taken_and_one_byte_more_is_not(rt: HostRuntime) -> Result
     for _ in 0..4096 {
         code.extend_from_slice(&EXIT)?;
     }
-    let told = tell(alloc, &["check"], &code);
-    assert_eq!(rt; told.output.as_slice(), b"ok 4096\n".as_slice());
+    let outcome = outcome_of(alloc, &["check"], &code);
+    assert_eq!(rt; outcome.output.as_slice(), b"ok 4096\n".as_slice());
     code.push(0)?;
-    let told = tell(alloc, &["check"], &code);
-    assert_eq!(rt; told.status, 1);
-    assert_eq!(rt; told.errors.as_slice(), b"slot 0: TooLong\n".as_slice());
+    let outcome = outcome_of(alloc, &["check"], &code);
+    assert_eq!(rt; outcome.status, 1);
+    assert_eq!(rt; outcome.errors.as_slice(), b"slot 0: TooLong\n".as_slice());
     Ok(())
 }
 

@@ -1,15 +1,13 @@
-//! The program, called with words and streams as a user would.
+//! The program, called with arguments and streams as a user would.
 #![tactic(auto)]
 
+#[cfg(test)]
+mod arguments;
 #[cfg(test)]
 mod checking;
 #[cfg(test)]
 mod devices;
 #[cfg(test)]
-mod programs;
+mod outcome;
 #[cfg(test)]
-mod refusals;
-#[cfg(test)]
-mod told;
-#[cfg(test)]
-mod words;
+mod running;

@@ -1,27 +1,27 @@
 //! The program. All that it does is in the crate `agent`.
 #![tactic(auto)]
 
-use agent::{refuse_words, tool};
+use agent::{refuse_arguments, tool};
 use std::process::ExitCode;
 use std::rt::Env;
 use std::{env, io};
 
 /// The program's arguments, without its own name.
-fn words<R: Env + AllocGlobal>(rt: &R) -> io::Result<Vec<String>> {
+fn arguments<R: Env + AllocGlobal>(rt: &R) -> io::Result<Vec<String>> {
     Ok(env::args(rt)?.skip(1).collect(rt.alloc())?)
 }
 
 fn main(rt: HostRuntime) -> ExitCode {
     let mut errors = rt.stderr();
-    let code = match words(&rt) {
-        Ok(words) => tool(
+    let status = match arguments(&rt) {
+        Ok(arguments) => tool(
             rt.alloc(),
-            words.as_slice(),
+            arguments.as_slice(),
             &mut rt.stdin(),
             &mut rt.stdout(),
             &mut errors,
         ),
-        Err(error) => refuse_words(&error, &mut errors),
+        Err(error) => refuse_arguments(&error, &mut errors),
     };
-    ExitCode::from(code)
+    ExitCode::from(status)
 }

@@ -1,26 +1,20 @@
 //! Runs written conversations, and compares what the agent replies with what they say.
 #![tactic(auto)]
 
+mod reader;
 mod script;
 
 use anyhow::Result;
+use reader::Pieces;
 use script::{Conversation, conversations};
 use std::alloc::Global;
 use std::process::ExitCode;
 use std::{env, fs};
 
-/// What the agent answered in place of the replies that were wanted, if it did.
-fn difference(alloc: Global, conversation: &Conversation) -> Result<Option<String>> {
-    let mut input = conversation.commands.as_str().as_bytes();
-    let mut output = Vec::new(alloc);
-    let mut errors = Vec::new(alloc);
-    let status = agent::tool(alloc, &["run"], &mut input, &mut output, &mut errors);
-    if status != 0 || !errors.is_empty() {
-        return Ok(Some(format!(in alloc; "status {status}")?));
-    }
-    let told = std::str::from_utf8(&output)?;
-    let mut wanted = conversation.replies.as_str().lines();
-    for (at, reply) in told.lines().enumerate() {
+/// The first line of the output that isn't as wanted, in words.
+fn line_that_differs(alloc: Global, output: &str, wanted: &str) -> Result<Option<String>> {
+    let mut wanted = wanted.lines();
+    for (at, reply) in output.lines().enumerate() {
         let want = wanted.next().unwrap_or("nothing");
         if reply != want {
             return Ok(Some(format!(in alloc; "reply {at} is {reply}, and {want} was wanted")?));
@@ -32,38 +26,43 @@ fn difference(alloc: Global, conversation: &Conversation) -> Result<Option<Strin
     }
 }
 
-/// Says of a script how many of its replies came, or which one did not.
+/// What the agent answered in place of the wanted replies, if it did, where it reads so many bytes
+/// at a time.
+fn difference(alloc: Global, conversation: &Conversation, size: usize) -> Result<Option<String>> {
+    let mut reader = Pieces {
+        rest: conversation.commands.as_str().as_bytes(),
+        size,
+    };
+    let mut output = Vec::new(alloc);
+    let mut errors = Vec::new(alloc);
+    let status = agent::tool(alloc, &["run"], &mut reader, &mut output, &mut errors);
+    if status != 0 || !errors.is_empty() {
+        return Ok(Some(format!(in alloc; "status {status}")?));
+    }
+    let output = std::str::from_utf8(&output)?;
+    line_that_differs(alloc, output, conversation.replies.as_str())
+}
+
+/// Says of a script how many of its replies came, or which one did not. Each conversation is held
+/// twice: its commands come in one piece, and byte by byte.
 fn report(alloc: Global, text: &str) -> Result<String> {
     let mut count = 0usize;
     for conversation in conversations(alloc, text)? {
-        if let Some(text) = difference(alloc, &conversation)? {
-            return Ok(text);
+        for size in [usize::MAX, 1] {
+            if let Some(text) = difference(alloc, &conversation, size)? {
+                return Ok(text);
+            }
         }
         count = count.saturating_add(conversation.replies.as_str().lines().count());
     }
     Ok(format!(in alloc; "{count} replies as written")?)
 }
 
-/// What is said of raw code.
-fn verdict(alloc: Global, code: &[u8]) -> Result<String> {
-    let mut input = code;
-    let mut output = Vec::new(alloc);
-    let mut errors = Vec::new(alloc);
-    let status = agent::tool(alloc, &["check"], &mut input, &mut output, &mut errors);
-    output.extend_from_slice(&errors)?;
-    let told = std::str::from_utf8(&output)?.trim_end();
-    Ok(format!(in alloc; "{told}, status {status}")?)
-}
-
 fn main(rt: HostRuntime) -> Result<ExitCode> {
     let alloc = rt.alloc();
     for name in env::args(&rt)?.skip(1) {
         let bytes = fs::read(&rt, name.as_str())?;
-        let said = if name.as_str().ends_with(".code") {
-            verdict(alloc, &bytes)?
-        } else {
-            report(alloc, std::str::from_utf8(&bytes)?)?
-        };
+        let said = report(alloc, std::str::from_utf8(&bytes)?)?;
         println!(rt; "{name}: {said}")?;
     }
     Ok(ExitCode::SUCCESS)

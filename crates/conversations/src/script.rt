@@ -1,4 +1,4 @@
-//! Scripts: commands, a line each, and their replies behind `> `. A line `---` begins with a fresh
+//! Scripts: commands, a line each, and their replies after `> `. A line `---` begins with a fresh
 //! agent. A line that begins with `#` is a comment, and an empty one says nothing.
 
 use std::alloc::{AllocError, Global};

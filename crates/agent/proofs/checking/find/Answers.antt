@@ -1,6 +1,7 @@
 use Rattle.std.proofs.Common.{refl}
-use Rattle.agent.proofs.Whole.{found_in}
+use Rattle.agent.specs.CheckLeaves.{check_limit}
+use Rattle.agent.proofs.CheckedPrefix.{found_in}
 use Rattle.agent.proofs.checking.find.Goals as goal
 
-pub returns : goal.returns
-returns g c = found_in _ 32769 _ c.count_slots.result refl c.in_ok-code.ensures.whole (rw c.deref.ensures.value at c.count_slots.ensures)
+pub returns-clause-found : goal.returns-clause-found
+returns-clause-found g c = found_in _ check_limit _ c.count_slots.result refl c.in_ok-code.ensures.whole (rw c.deref.ensures.value at c.count_slots.ensures)

@@ -1,7 +1,15 @@
-use Rattle.std.proofs.Common.{ap}
-use Rattle.agent.proofs.Reading.{read_limited}
+use Rattle.std.proofs.Common.{arith, rules}
+use Rattle.agent.specs.CheckLeaves.{check_limit}
+use Rattle.agent.proofs.ReadCode.{consumes_piece, whole_at_end, whole_at_limit}
 use Rattle.agent.proofs.checking.read_code.Goals as goal
 
-pub returns-in-Ok-clause-whole : goal.returns-in-Ok-clause-whole
-returns-in-Ok-clause-whole g c =
-    read_limited _ _ _ _ _ _ c.take.ensures.limit (ap (λ r. g.R.Read.remaining r.now) c.take.ensures.inner) c.new-code.ensures.items c.in-Ok.ensures.bytes
+pub returns-in-Ok-eq0-clause-whole : goal.returns-in-Ok-eq0-clause-whole
+returns-in-Ok-eq0-clause-whole g c =
+    whole_at_end check_limit c.in-Ok-eq0.field-0 _ _ _ c.loop-piece.code.items c.read.new.buf c.in-Ok-eq0.field-0-test (search rules) c.loop-piece.invariant.0 c.loop-piece.invariant.1 c.in-Ok-eq0.ensures.bytes
+
+pub returns-then-is_err-clause-consumed : goal.returns-then-is_err-clause-consumed
+returns-then-is_err-clause-consumed g c =
+    consumes_piece check_limit c.in-Ok.n _ _ _ c.loop-piece.code.items c.read.new.buf (search rules) c.loop-piece.invariant.1 c.in-Ok.ensures.bytes.0
+
+pub returns-clause-whole : goal.returns-clause-whole
+returns-clause-whole g c = whole_at_limit check_limit _ _ c.loop-piece.code.items (omega (arith, c.loop-piece.invariant.0, c.loop-piece-test.false)) c.loop-piece.invariant.1

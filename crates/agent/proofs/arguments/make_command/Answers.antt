@@ -2,12 +2,15 @@ use Rattle.std.proofs.Common.{◌≡◌, ◌∙◌, ap, ap₂, true, rules, code
 use Rattle.std.proofs.lemmas.Result.{IfOk-weaker}
 use Rattle.clap.specs.Words.{App, app_of, new_app, with_subcommand}
 use Rattle.clap.specs.Simple.{app_of_fields}
-use Rattle.agent.specs.Words.{bare, subcommand}
-use Rattle.agent.specs.declared.words.Task.TheVariants.{Run}
-use Rattle.agent.proofs.words.make_command.Goals as goal
+use Rattle.agent.specs.CommandLine.{bare, subcommand}
+use Rattle.agent.specs.declared.arguments.Task.TheVariants.{Run}
+use Rattle.agent.proofs.arguments.make_command.Goals as goal
 
 abbrev with_no_name : App → App
 with_no_name a = record { top = record a.top { no_binary_name = true }; subs = a.subs }
+
+abbrev without_help : App → App
+without_help a = record { top = record a.top { disable_help_subcommand = true }; subs = a.subs }
 
 abbrev with_required : App → App
 with_required a = record { top = record a.top { subcommand_required = true }; subs = a.subs }
@@ -18,7 +21,8 @@ returns c =
     let check_is : app_of c.about-check.result ≡ new_app (codes "check") = ap app_of_fields c.about-check.ensures ∙ c.new-2.ensures.app in
     let about_is : app_of c.about.result ≡ new_app (codes "bpfagent") = ap app_of_fields c.about.ensures ∙ (ap app_of_fields c.in_ok-bin_name.ensures.0 ∙ c.new-3.ensures.app) in
     let named_is : app_of c.no_binary_name.result ≡ with_no_name (new_app (codes "bpfagent")) = ap app_of_fields c.no_binary_name.ensures ∙ ap with_no_name about_is in
-    let top_is : app_of c.subcommand_required.result ≡ bare = ap app_of_fields c.subcommand_required.ensures ∙ ap with_required named_is in
+    let helpless_is : app_of c.disable_help_subcommand.result ≡ without_help (with_no_name (new_app (codes "bpfagent"))) = ap app_of_fields c.disable_help_subcommand.ensures ∙ ap without_help named_is in
+    let top_is : app_of c.subcommand_required.result ≡ bare = ap app_of_fields c.subcommand_required.ensures ∙ ap with_required helpless_is in
     let with_run : app_of c.in_ok-subcommand.field-0 ≡ with_subcommand bare (subcommand Run) = c.in_ok-subcommand.ensures.shape (search rules)
     ∙ ap₂ with_subcommand top_is (ap (λ (a : App). a.top) run_is) in
     IfOk-weaker c.subcommand-2.result _ _ (λ r adds. adds.shape (search rules) ∙ ap₂ with_subcommand with_run (ap (λ (a : App). a.top) check_is)) c.subcommand-2.ensures

@@ -1,8 +1,8 @@
 use Rattle.std.proofs.Common.{◌≡◌, ◌∙◌, ap, refl, sym, true, map, Option, None, Some, option_map}
 use Rattle.clap.specs.Words.{App, fault_of, is_simple, is_simple_and_free, subcommand_of}
 use Rattle.clap.proofs.OnLiterals.{clap_on_literals}
-use Rattle.agent.specs.Words.{command_line, task_named}
-use Rattle.agent.proofs.words.read_words.Goals as goal
+use Rattle.agent.specs.CommandLine.{command_line, task_named}
+use Rattle.agent.proofs.arguments.read_arguments.Goals as goal
 
 firsts : {A B C : Type 0} (f : A → B) (g : A → C) (o : Option A) → option_map f o ≡ option_map (λ (p : B × C). p.0) (option_map (λ x. (f x, g x)) o)
 firsts f g None = refl
@@ -18,12 +18,12 @@ free = refl
 
 pub returns-clause-ok : goal.returns-clause-ok
 returns-clause-ok g c =
-    let words = map g.S.AsStr.text c.args.words.now in
+    let words = map g.S.AsStr.text c.args.arguments.now in
     let line_is = c.in_ok-make_command.ensures in
     let parsed = c.in_ok-matches.ensures in
     let right = parsed.kinds (ap is_simple_and_free line_is ∙ free) in
     let met = parsed.matches (ap is_simple line_is ∙ simple) in (
       ap (λ (a : App). fault_of a words) (sym line_is) ∙ right,
-      c.task_called.ensures ∙ ap task_named (c.subcommand_name.ensures ∙ firsts _ _ _ ∙ ap (option_map (λ p. p.0)) met.1
-          ∙ ap (λ (a : App). option_map (λ p. p.0) (subcommand_of a words)) line_is),
+      sym (c.task_called.ensures ∙ ap task_named (c.subcommand_name.ensures ∙ firsts _ _ _ ∙ ap (option_map (λ p. p.0)) met.1
+          ∙ ap (λ (a : App). option_map (λ p. p.0) (subcommand_of a words)) line_is)) ∙ c.in-Some.is,
     )

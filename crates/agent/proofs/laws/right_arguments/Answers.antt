@@ -1,10 +1,11 @@
 use Rattle.std.proofs.Common.{refl}
 use Rattle.clap.proofs.OnLiterals.{clap_on_literals}
-use Rattle.agent.proofs.laws.plain_words.Goals as goal
+use Rattle.agent.proofs.laws.right_arguments.Goals as goal
 
 pub returns : goal.returns
 unfolding clap_on_literals
 returns c = record {
   run = (refl, refl);
   check = (refl, refl);
+  help = refl;
 }

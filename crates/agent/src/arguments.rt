@@ -1,7 +1,7 @@
-//! The words of the command line.
-ghost use Rattle.std.specs.Prelude.{◌≡◌, [], map, option_map, IfOk, IfErr};
+//! The arguments of the command line.
+ghost use Rattle.std.specs.Prelude.{◌≡◌, [], Some, map, option_map, IfOk, IfErr};
 ghost use Rattle.clap.specs.Words.{app_of, HasKind};
-ghost use Rattle.agent.specs.Words.{command_line, faults_of, task_named, task_of};
+ghost use Rattle.agent.specs.CommandLine.{command_line, faults_of, task_named, task_of};
 
 use clap::{Command, Error};
 use std::alloc::{AllocError, Global};
@@ -26,6 +26,7 @@ fn make_command<'a>(alloc: Global) -> Result<Command<'a>, AllocError>
         .bin_name("bpfagent")?
         .about("Runs BPF programs")
         .no_binary_name(true)
+        .disable_help_subcommand(true)
         .subcommand_required(true)
         .subcommand(run)?
         .subcommand(check)
@@ -42,11 +43,14 @@ fn task_called(name: Option<&str>) -> Option<Task>
     }
 }
 
-/// What the words ask for.
-pub(crate) fn read_words<'a, S: AsStr>(alloc: Global, words: &'a [S]) -> Result<Option<Task>, Error>
-    ensures ok { IfOk result (λ task. (faults_of (map S.text words.entry.now) ≡ []) × (task ≡ task_of (map S.text words.entry.now))) }
-    ensures err { IfErr result (HasKind (faults_of (map S.text words.entry.now))) }
+/// What the arguments ask for.
+pub(crate) fn read_arguments<'a, S: AsStr>(alloc: Global, arguments: &'a [S]) -> Result<Task, Error>
+    ensures ok { IfOk result (λ task. (faults_of (map S.text arguments.entry.now) ≡ []) × (task_of (map S.text arguments.entry.now) ≡ Some task)) }
+    ensures err { IfErr result (HasKind (faults_of (map S.text arguments.entry.now))) }
 {
-    let matches = make_command(alloc)?.try_get_matches_from(words)?;
-    Ok(task_called(matches.subcommand_name()))
+    let matches = make_command(alloc)?.try_get_matches_from(arguments)?;
+    let Some(task) = task_called(matches.subcommand_name()) else {
+        unreachable!()
+    };
+    Ok(task)
 }

@@ -1,11 +1,12 @@
 use Rattle.clap.proofs.OnLiterals.{clap_on_literals}
-use Rattle.agent.proofs.laws.other_words.Goals as goal
+use Rattle.agent.proofs.laws.invalid_arguments.Goals as goal
 
 pub returns : goal.returns
 unfolding clap_on_literals
 returns c = record {
   none = λ e. cc;
   other = λ e. cc;
+  help = λ e. cc;
   second = λ e. cc;
   option = λ e. cc;
 }

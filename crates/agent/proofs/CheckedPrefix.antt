@@ -4,7 +4,7 @@ use Rattle.std.proofs.lemmas.List.{length-take, take_all}
 use Rattle.loader.specs.Refusals.{Refuses}
 use Rattle.loader.specs.declared.loading.Why.{Why}
 use Rattle.loader.specs.declared.loading.Why.TheVariants as why
-use Rattle.agent.specs.Checks.{Finds}
+use Rattle.agent.specs.CheckLeaves.{Finds}
 use Rattle.agent.specs.declared.failure.Failure.{Failure}
 use Rattle.agent.specs.declared.failure.Failure.TheVariants.{Refused, Read, Write, NoMemory}
 

@@ -1,0 +1,118 @@
+//! The arguments of the command line, and help.
+
+use crate::devices::Narrow;
+use crate::outcome::outcome_of;
+use agent::{refuse_arguments, tool};
+use std::io::{Error, ErrorKind};
+
+const HELP: &str = "Runs BPF programs
+
+Usage: bpfagent <COMMAND>
+
+Commands:
+  run    Do the commands of standard input, one a line
+  check  Check the raw code of standard input
+
+Options:
+  -h, --help  Print help
+";
+
+const CHECK_HELP: &str = "Check the raw code of standard input
+
+Usage: bpfagent check
+
+Options:
+  -h, --help  Print help
+";
+
+const NO_SUBCOMMAND: &str = "error: 'bpfagent' requires a subcommand but one was not provided
+  [subcommands: run, check]
+
+Usage: bpfagent <COMMAND>
+
+For more information, try '--help'.
+";
+
+const UNKNOWN: &str = "error: unrecognized subcommand 'serve'
+
+Usage: bpfagent <COMMAND>
+
+For more information, try '--help'.
+";
+
+const HELP_SUBCOMMAND: &str = "error: unrecognized subcommand 'help'
+
+Usage: bpfagent <COMMAND>
+
+For more information, try '--help'.
+";
+
+const OPTION: &str = "error: unexpected argument '--budget' found
+
+Usage: bpfagent run
+
+For more information, try '--help'.
+";
+
+#[test]
+fn invalid_arguments_are_named(rt: HostRuntime) {
+    let cases: [(&[&str], &str); 4] = [
+        (&[], NO_SUBCOMMAND),
+        (&["serve"], UNKNOWN),
+        (&["help"], HELP_SUBCOMMAND),
+        (&["run", "--budget", "8"], OPTION),
+    ];
+    for (arguments, text) in cases {
+        let outcome = outcome_of(rt.alloc(), arguments, b"step 1\n");
+        assert_eq!(rt; outcome.status, 2);
+        assert!(rt; outcome.output.is_empty());
+        assert_eq!(rt; std::str::from_utf8(&outcome.errors).unwrap_or(""), text);
+    }
+}
+
+#[test]
+fn help_goes_to_the_output(rt: HostRuntime) {
+    let cases: [(&[&str], &str); 3] = [
+        (&["--help"], HELP),
+        (&["-h"], HELP),
+        (&["check", "--help"], CHECK_HELP),
+    ];
+    for (arguments, text) in cases {
+        let outcome = outcome_of(rt.alloc(), arguments, b"step 1\n");
+        assert_eq!(rt; outcome.status, 0);
+        assert!(rt; outcome.errors.is_empty());
+        assert_eq!(rt; std::str::from_utf8(&outcome.output).unwrap_or(""), text);
+    }
+}
+
+#[test]
+fn help_that_is_not_taken_is_a_write_fault(rt: HostRuntime) {
+    let alloc = rt.alloc();
+    let mut input = b"".as_slice();
+    let mut closed = Narrow {
+        taken: Vec::new(alloc),
+        room: 0,
+    };
+    let mut errors = Vec::new(alloc);
+    let status = tool(alloc, &["--help"], &mut input, &mut closed, &mut errors);
+    assert_eq!(rt; status, 3);
+    assert_eq!(rt; errors.as_slice(), b"write fault\n".as_slice());
+}
+
+#[test]
+fn arguments_that_cannot_be_had_are_named(rt: HostRuntime) {
+    let alloc = rt.alloc();
+    let cases: [(ErrorKind, u8, &[u8]); 2] = [
+        (
+            ErrorKind::InvalidData,
+            2,
+            b"error: the arguments are not valid UTF-8\n",
+        ),
+        (ErrorKind::OutOfMemory, 3, b"no memory\n"),
+    ];
+    for (kind, status, text) in cases {
+        let mut errors = Vec::new(alloc);
+        assert_eq!(rt; refuse_arguments(&Error::from(kind), &mut errors), status);
+        assert_eq!(rt; errors.as_slice(), text);
+    }
+}

@@ -1,0 +1,55 @@
+//! `run`, where a stream fails or a line is cut. Whole conversations are in `conversations`.
+
+use crate::devices::{Broken, Narrow, Pieces};
+use crate::outcome::outcome_of;
+use agent::tool;
+use std::test::Fail;
+
+#[test]
+fn a_closed_output_ends_the_run(rt: HostRuntime) {
+    let alloc = rt.alloc();
+    let mut input = b"step 1\nstep 1\nstep 1\n".as_slice();
+    let mut closed = Narrow {
+        taken: Vec::new(alloc),
+        room: 7,
+    };
+    let mut errors = Vec::new(alloc);
+    let status = tool(alloc, &["run"], &mut input, &mut closed, &mut errors);
+    assert_eq!(rt; status, 3);
+    assert_eq!(rt; closed.taken.as_slice(), b"none\nno".as_slice());
+    assert_eq!(rt; errors.as_slice(), b"write fault\n".as_slice());
+}
+
+#[test]
+fn a_broken_input_ends_the_run(rt: HostRuntime) {
+    let alloc = rt.alloc();
+    let mut input = Broken {
+        rest: b"step 1\nstep".as_slice(),
+    };
+    let mut output = Vec::new(alloc);
+    let mut errors = Vec::new(alloc);
+    let status = tool(alloc, &["run"], &mut input, &mut output, &mut errors);
+    assert_eq!(rt; status, 3);
+    assert_eq!(rt; output.as_slice(), b"none\n".as_slice());
+    assert_eq!(rt; errors.as_slice(), b"read fault\n".as_slice());
+}
+
+#[test]
+fn an_empty_line_a_long_line_and_a_cut_line(rt: HostRuntime) -> Result<(), Fail> {
+    let alloc = rt.alloc();
+    let mut input = vec![in alloc; b'a'; 70_002]?;
+    input[0] = b'\n';
+    input.extend_from_slice(b"\nregs 1")?;
+    let whole = outcome_of(alloc, &["run"], &input);
+    assert_eq!(rt; whole.output.as_slice(), b"bad\nbad\ncut\n".as_slice());
+    let mut pieces = Pieces {
+        rest: &input,
+        size: 1,
+    };
+    let mut output = Vec::new(alloc);
+    let mut errors = Vec::new(alloc);
+    let status = tool(alloc, &["run"], &mut pieces, &mut output, &mut errors);
+    assert_eq!(rt; (whole.status, status), (0, 0));
+    assert_eq!(rt; output.as_slice(), whole.output.as_slice());
+    Ok(())
+}
