@@ -1,26 +1,39 @@
-# `make run` runs the program on its stored example, `make test` is the gate.
+# `make run` answers the stored example, `make program` proves and builds the program, `make test` is the gate.
 
 RT := $(shell command -v rt 2>/dev/null || echo /opt/rattle/bin/rt)
 
 PROGRAM := crates/bpfagent/out/bpfagent
-SOURCES := crates.txt $(shell find crates -path '*/out' -prune -o \( -name '*.rt' -o -name '*.antt' \) -print 2>/dev/null)
 
-.PHONY: run test vectors bench refused-growth
+# The crates that the program is made of, by crates.txt: those below a crate, and itself.
+below = $(1) $(foreach it,$(shell sed -n 's/^$(1):  *//p' crates.txt),$(if $(wildcard crates/$(it)),$(call below,$(it))))
+CRATES := $(sort $(call below,bpfagent))
+SOURCES := crates.txt $(shell find $(CRATES:%=crates/%) -path '*/out' -prune -o \( -name '*.rt' -o -name '*.antt' \) -print)
 
-# The program is proved before it is built. With no change since, the next call runs it at once.
-run: $(PROGRAM)
-	@xargs -a crates/bpfagent/args $(PROGRAM) < crates/bpfagent/stdin
+.PHONY: run program test vectors bench refused-growth
 
-# The arguments of the run in this rule only let it end: an empty input has no reply.
+# A proved program that is up to date runs at once. Else the sources are built without a proof.
+run:
+	@if $(MAKE) -q --no-print-directory $(PROGRAM) 2>/dev/null; then \
+	  xargs -a crates/bpfagent/args $(PROGRAM) < crates/bpfagent/stdin; \
+	else \
+	  echo "This build isn't proved, and takes half a minute; 'make program' makes the proved one." >&2; \
+	  cd crates/bpfagent && mkdir -p out && { xargs -a args $(RT) try -- < stdin 2> out/try.log || { cat out/try.log >&2; false; }; }; \
+	fi
+
+program: $(PROGRAM)
+
+# rt says how far it is. The argument only lets the run at the end be short: an empty input has no reply.
 $(PROGRAM): $(SOURCES)
-	@echo "Proving and building bpfagent. The first time this takes about fifteen minutes; later only what changed is proved again." >&2
+	@echo "Proving and building bpfagent and the $(words $(CRATES)) crates that it is made of. The first time takes some fifteen minutes; later only what changed is proved again." >&2
 	@cd crates/bpfagent && $(RT) run -- run < /dev/null >&2
 	@touch $(PROGRAM)
 
-# First that the examples of the protocol's document are those that the tests run.
+# First what takes seconds: that the documents and lists are those of the sources.
 test:
 	@python3 tests/protocol.py
-	@$(RT) ci
+	@python3 tests/definitions.py
+	@python3 tests/failures.py
+	@python3 tests/gate.py $(RT)
 
 # Makes the test vectors again, by an interpreter of RFC 9669 of its own, and compares; likewise the
 # examples of docs/PROTOCOL.md with the script that the tests run.

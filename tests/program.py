@@ -1,0 +1,152 @@
+#!/usr/bin/env python3
+"""Runs the program as a user would: program.py PROGRAM
+
+Each status and stream, what a closed or failing stream leaves, and the conversations of examples/ over pipes, line by
+line: each reply has to come before the next command is sent, so that a program that reads ahead is found out.
+"""
+import os
+import pathlib
+import resource
+import select
+import subprocess
+import sys
+
+ROOT = pathlib.Path(__file__).resolve().parent.parent
+EXIT = bytes.fromhex("9500000000000000")
+SECONDS = 20
+
+
+class Failed(Exception):
+    """What the program did otherwise than it should."""
+
+
+def want(is_so, text):
+    if not is_so:
+        raise Failed(text)
+
+
+def call(program, arguments, given=b"", **streams):
+    """Status, standard output and standard error."""
+    if "stdin" not in streams:
+        streams["input"] = given
+    streams.setdefault("stdout", subprocess.PIPE)
+    done = subprocess.run([program, *arguments], stderr=subprocess.PIPE, timeout=SECONDS, **streams)
+    return done.returncode, done.stdout, done.stderr
+
+
+def is_done(program, arguments, given, output):
+    found = call(program, arguments, given)
+    want(found == (0, output, b""), f"{arguments} on {given[:60]} ended with {found}")
+
+
+def show_statuses(program):
+    """0 for what was done, 1 for refused input, 2 for invalid arguments."""
+    stored = ROOT / "crates/bpfagent"
+    is_done(program, ["run"], (stored / "stdin").read_bytes(), (stored / "stdout").read_bytes())
+    is_done(program, ["run"], b"", b"")
+    is_done(program, ["run"], b"step 1\nstep 1", b"none\ncut\n")
+    is_done(program, ["run"], b"steps\n", b"bad\n")
+    is_done(program, ["check"], EXIT * 2, b"ok 2\n")
+    for code, line in ((b"", b"slot 0: Empty\n"), (EXIT + b"\x95", b"slot 1: Short\n"), (EXIT * 4097, b"slot 0: TooLong\n")):
+        found = call(program, ["check"], code)
+        want(found == (1, b"", line), f"check of {code[:16]} ended with {found}")
+    for arguments in (["--help"], ["-h"], ["run", "--help"], ["check", "--help"]):
+        status, output, errors = call(program, arguments)
+        want((status, errors) == (0, b"") and b"Usage: bpfagent" in output, f"{arguments} ended with {status}, {output}, {errors}")
+    for arguments in ([], ["help"], ["serve"], ["run", "check"], ["run", "--budget", "8"], ["check", "x"], [b"\xff"]):
+        status, output, errors = call(program, arguments, b"step 1\n")
+        want((status, output) == (2, b"") and errors.startswith(b"error: ") and errors.endswith(b"\n"), f"{arguments} ended with {status}, {output}, {errors}")
+
+
+def show_faults(program):
+    """3 for a stream that fails."""
+    folder = os.open("/", os.O_RDONLY)
+    for task in ("run", "check"):
+        found = call(program, [task], stdin=folder)
+        want(found == (3, b"", b"read fault\n"), f"{task} of a folder ended with {found}")
+    for arguments, given in ((["run"], b"step 1\n"), (["check"], EXIT), (["--help"], b"")):
+        with open("/dev/full", "wb") as full:
+            status, _, errors = call(program, arguments, given, stdout=full)
+        want((status, errors) == (3, b"write fault\n"), f"{arguments} on a full device ended with {status}, {errors}")
+
+
+def show_no_memory(program):
+    """3 for no memory: with more and more memory, first the C library can't start, then the program gives up, then it runs."""
+    gave_up = 0
+    for limit in range(32 * 1024, 4096 * 1024, 32 * 1024):
+        found = call(program, ["run"], b"step 1\n", preexec_fn=lambda: resource.setrlimit(resource.RLIMIT_DATA, (limit, limit)))
+        if found == (0, b"none\n", b""):
+            break
+        gave_up += found == (3, b"", b"no memory\n")
+        want(found[0] in (3, 127) and found[1] == b"", f"run with {limit} bytes of data ended with {found}")
+    want(gave_up > 0, "no limit of memory made the program give up")
+
+
+def conversations(text):
+    """The commands of a script with their replies, for each agent that it talks to."""
+    talks, command = [[]], None
+    for line in text.splitlines():
+        if line == "---":
+            talks.append([])
+        elif line.startswith("> "):
+            talks[-1].append((command, line[2:]))
+        elif line and not line.startswith("#"):
+            command = line
+    return [talk for talk in talks if talk]
+
+
+def reply_of(process):
+    """The next line of the program, which has to come by itself."""
+    line = b""
+    while not line.endswith(b"\n"):
+        ready, _, _ = select.select([process.stdout], [], [], SECONDS)
+        want(ready, "no reply came while the input was open")
+        byte = os.read(process.stdout.fileno(), 1)
+        want(byte, "the program ended early")
+        line += byte
+    return line[:-1].decode()
+
+
+def talk_to(program, talk):
+    process = subprocess.Popen([program, "run"], stdin=subprocess.PIPE, stdout=subprocess.PIPE, stderr=subprocess.PIPE)
+    try:
+        for command, reply in talk:
+            process.stdin.write(command.encode() + b"\n")
+            process.stdin.flush()
+            found = reply_of(process)
+            want(found == reply, f"{command[:80]} was answered {found}, and not {reply}")
+        output, errors = process.communicate(timeout=SECONDS)
+        want((process.returncode, output, errors) == (0, b"", b""), f"at the end: {process.returncode}, {output}, {errors}")
+    finally:
+        process.kill()
+
+
+def show_examples(program):
+    """The scripts of examples/, and that their code is valid and is what they ship."""
+    count = 0
+    for path in sorted((ROOT / "examples").glob("*.script")):
+        text = path.read_text()
+        for talk in conversations(text):
+            talk_to(program, talk)
+            count += len(talk)
+    for path in sorted((ROOT / "examples").glob("*.code")):
+        code = path.read_bytes()
+        is_done(program, ["check"], code, b"ok %d\n" % (len(code) // 8))
+        script = path.with_name(path.stem.split(".")[0] + ".script")
+        want(code.hex() in script.read_text(), f"{script.name} doesn't ship {path.name}")
+    return count
+
+
+def main():
+    program = os.path.abspath(sys.argv[1])
+    try:
+        show_statuses(program)
+        show_faults(program)
+        show_no_memory(program)
+        count = show_examples(program)
+    except (Failed, subprocess.TimeoutExpired) as wrong:
+        sys.exit(f"{sys.argv[1]}: {wrong}")
+    print(f"{sys.argv[1]}: statuses and streams are right, and {count} replies to examples/ came line by line")
+
+
+main()
