@@ -1,53 +1,25 @@
 #!/usr/bin/env python3
-"""Makes `data/vectors.script`: commands, and the replies that RFC 9669 asks for.
+"""Makes `data/vectors.script`: commands, and the replies that RFC 9669 and docs/PROTOCOL.md ask for.
 
-This is an interpreter of its own, written from the text of RFC 9669 and of docs/PROTOCOL.md alone.
-It shares nothing with the crates: it decodes the bytes of `ship` again, works on Python's unbounded
-integers, and spells the replies. `make vectors` runs it and compares its output with the file that
-the repository holds.
+The replies come from `interpreter.py` and `reference_agent.py`, which share nothing with the crates. `make vectors` runs
+this and compares its output with the file that the repository holds. With `--check FILE..` it compares the replies of
+other scripts.
 """
-
 import random
 import sys
 
-MASK32 = (1 << 32) - 1
-MASK64 = (1 << 64) - 1
+from interpreter import (
+    ADD, ARITHMETIC, ATOMIC, ATOMICS, CLASS_ALU, CLASS_ALU64, CLASS_JMP, CLASS_JMP32, CLASS_LDX, CLASS_ST, CLASS_STX,
+    CMPXCHG, CONDITIONS, DIV, FETCH, IMMEDIATE, LDDW, MASK32, MASK64, MEM, MEMSX, MOD, MOV, NEG, REGISTER, SIZE_BITS,
+    STACK, XCHG,
+)
+from reference_agent import Agent
+
 PROGRAMS_A_BLOCK = 40
 STEP_LIMIT = 60
 
-# Section 4.1: the codes of arithmetic. The code is the high four bits of the opcode.
-ADD, SUB, MUL, DIV, OR, AND, LSH, RSH, NEG, MOD, XOR, MOV, ARSH, END = range(14)
-ARITHMETIC = [ADD, SUB, MUL, DIV, OR, AND, LSH, RSH, MOD, XOR, MOV, ARSH]
 
-# Section 4.3: the codes of conditional jumps.
-JEQ, JGT, JGE, JSET, JNE, JSGT, JSGE = 1, 2, 3, 4, 5, 6, 7
-JLT, JLE, JSLT, JSLE = 10, 11, 12, 13
-CONDITIONS = [JEQ, JGT, JGE, JSET, JNE, JSGT, JSGE, JLT, JLE, JSLT, JSLE]
-JA, CALL, EXIT = 0, 8, 9
-
-CLASS_ALU, CLASS_JMP, CLASS_JMP32, CLASS_ALU64 = 4, 5, 6, 7
-IMMEDIATE, REGISTER = 0, 8
-LDDW = 0x18
-PACKET = {0x20, 0x28, 0x30, 0x40, 0x48, 0x50}
-
-
-# ---- numbers
-
-
-def signed(value, width):
-    value %= 1 << width
-    return value - (1 << width) if value >> (width - 1) else value
-
-
-def toward_zero(dividend, divisor):
-    quotient = abs(dividend) // abs(divisor)
-    return quotient if (dividend < 0) == (divisor < 0) else -quotient
-
-
-# ---- the bytes
-
-
-def word(opcode, dst=0, src=0, offset=0, imm=0):
+def slot(opcode, dst=0, src=0, offset=0, imm=0):
     """One slot (section 3)."""
     return (
         bytes([opcode, (src << 4) | dst])
@@ -60,300 +32,18 @@ def wide(dst, number, src=0, reserved=0):
     """A load of a 64-bit number (section 5.4)."""
     number %= 1 << 64
     return (
-        word(LDDW, dst, src, 0, number & MASK32)
+        slot(LDDW, dst, src, 0, number & MASK32)
         + reserved.to_bytes(4, "little")
         + (number >> 32).to_bytes(4, "little")
     )
 
 
-EXIT_SLOT = word(0x95)
+def access(klass, mode, size):
+    """The opcode of an access (section 5)."""
+    return klass | SIZE_BITS[size] << 3 | mode << 5
 
 
-class Fault(Exception):
-    def __init__(self, slot, name):
-        super().__init__(name)
-        self.slot = slot
-        self.name = name
-
-
-class Instruction:
-    """A slot's fields, with the next slot's number where the instruction is wide."""
-
-    def __init__(self, code, slot):
-        at = 8 * slot
-        left = len(code) - at
-        if left < 8:
-            raise Fault(slot, "Short")
-        self.slot = slot
-        self.opcode = code[at]
-        self.dst = code[at + 1] & 15
-        self.src = code[at + 1] >> 4
-        self.offset = int.from_bytes(code[at + 2 : at + 4], "little", signed=True)
-        self.imm = int.from_bytes(code[at + 4 : at + 8], "little", signed=True)
-        self.klass = self.opcode & 7
-        self.is_register = bool(self.opcode & 8)
-        self.code = self.opcode >> 4
-        self.slots = 2 if self.opcode == LDDW else 1
-        self.second = code[at + 8 : at + 16] if left >= 16 else None
-        name = self.first_fault()
-        if name:
-            raise Fault(slot, name)
-        if self.slots == 2:
-            low = self.imm % (1 << 32)
-            high = int.from_bytes(self.second[4:8], "little")
-            self.number = high << 32 | low
-
-    def exists(self):
-        """Whether the opcode has a row."""
-        if self.opcode == LDDW:
-            return True
-        if self.klass in (CLASS_ALU, CLASS_ALU64):
-            if self.code in (ADD, SUB, MUL, DIV, OR, AND, LSH, RSH, MOD, XOR, MOV, ARSH):
-                return True
-            if self.code == NEG:
-                return not self.is_register
-            if self.code == END:
-                return self.klass == CLASS_ALU or not self.is_register
-            return False
-        if self.klass in (CLASS_JMP, CLASS_JMP32):
-            if self.code in CONDITIONS:
-                return True
-            if self.is_register:
-                return False
-            return self.code == JA or (self.klass == CLASS_JMP and self.code in (CALL, EXIT))
-        return False
-
-    def is_alu(self):
-        return self.opcode != LDDW and self.klass in (CLASS_ALU, CLASS_ALU64)
-
-    def is_condition(self):
-        return self.klass in (CLASS_JMP, CLASS_JMP32) and self.code in CONDITIONS
-
-    def reads_dst(self):
-        return self.opcode == LDDW or self.is_alu() or self.is_condition()
-
-    def reads_src(self):
-        if self.is_alu():
-            return self.is_register and self.code not in (NEG, END)
-        return self.is_condition() and self.is_register
-
-    def is_platform(self):
-        if self.opcode == LDDW:
-            return 1 <= self.src <= 6
-        return self.opcode == 0x85 and self.src == 2
-
-    def has_bad_field(self):
-        if self.opcode == LDDW:
-            if self.offset != 0 or self.src > 6:
-                return True
-            return self.second is not None and any(self.second[:4])
-        if self.is_condition():
-            return self.imm != 0 if self.is_register else self.src != 0
-        if self.klass == CLASS_JMP and self.code == CALL:
-            return self.dst != 0 or self.offset != 0 or self.src not in (1, 2)
-        if self.klass == CLASS_JMP and self.code == EXIT:
-            return bool(self.dst or self.src or self.offset or self.imm)
-        if self.code == JA and not self.is_alu():
-            unused = self.imm if self.klass == CLASS_JMP else self.offset
-            return bool(self.dst or self.src or unused)
-        return self.has_bad_alu_field()
-
-    def has_bad_alu_field(self):
-        if self.code == NEG:
-            return bool(self.src or self.offset or self.imm)
-        if self.code == END:
-            return bool(self.src or self.offset) or self.imm not in (16, 32, 64)
-        if self.is_register and self.imm != 0:
-            return True
-        if not self.is_register and self.src != 0:
-            return True
-        if self.code in (DIV, MOD):
-            return self.offset not in (0, 1)
-        if self.code == MOV and self.is_register:
-            widths = (0, 8, 16, 32) if self.klass == CLASS_ALU64 else (0, 8, 16)
-            return self.offset not in widths
-        return self.offset != 0
-
-    def first_fault(self):
-        if self.opcode in PACKET:
-            return "Packet"
-        if not self.exists():
-            return "Opcode"
-        if (self.reads_dst() and self.dst > 10) or (self.reads_src() and self.src > 10):
-            return "Register"
-        if self.has_bad_field():
-            return "Field"
-        if self.opcode == LDDW and self.second is None:
-            return "HalfWide"
-        if self.is_platform():
-            return "Platform"
-        return None
-
-    def target(self):
-        """The slot to which a jump or a local call leads."""
-        if self.klass == CLASS_JMP32 and self.code == JA:
-            return self.slot + 1 + self.imm
-        if self.klass == CLASS_JMP and self.code == CALL:
-            return self.slot + 1 + self.imm
-        if self.is_condition() or (self.klass == CLASS_JMP and self.code == JA):
-            return self.slot + 1 + self.offset
-        return None
-
-    def ends_code(self):
-        if self.klass == CLASS_JMP and self.code in (JA, EXIT):
-            return True
-        return self.klass == CLASS_JMP32 and self.code == JA
-
-
-def load(code):
-    """The instructions by their slots, or the fault that refuses the code."""
-    if not code:
-        raise Fault(0, "Empty")
-    if len(code) > 32768:
-        raise Fault(0, "TooLong")
-    found = {}
-    slot = 0
-    while 8 * slot < len(code):
-        found[slot] = Instruction(code, slot)
-        slot += found[slot].slots
-    for at, instruction in found.items():
-        target = instruction.target()
-        if target is not None and not 0 <= target < slot:
-            raise Fault(at, "JumpOut")
-        if target is not None and target not in found:
-            raise Fault(at, "JumpInside")
-        if (instruction.is_alu() or instruction.opcode == LDDW) and instruction.dst == 10:
-            raise Fault(at, "WritesR10")
-        if at + instruction.slots == slot and not instruction.ends_code():
-            raise Fault(at, "FallsOff")
-    return found
-
-
-# ---- the rows
-
-
-def arithmetic(code, is_signed, width, d, s):
-    """The result of a row of section 4.1 at a width: both operands are numbers of that width."""
-    modulus = 1 << width
-    if code == DIV:
-        if s == 0:
-            return 0
-        return toward_zero(signed(d, width), signed(s, width)) % modulus if is_signed else d // s
-    if code == MOD:
-        if s == 0:
-            return d
-        if not is_signed:
-            return d % s
-        left, right = signed(d, width), signed(s, width)
-        return (left - right * toward_zero(left, right)) % modulus
-    count = s % width
-    return {
-        ADD: d + s,
-        SUB: d - s,
-        MUL: d * s,
-        OR: d | s,
-        AND: d & s,
-        XOR: d ^ s,
-        MOV: s,
-        LSH: d << count,
-        RSH: d >> count,
-        ARSH: signed(d, width) >> count,
-    }[code] % modulus
-
-
-def holds(code, width, d, s):
-    """Whether a condition of section 4.3 holds of two numbers of a width."""
-    left, right = signed(d, width), signed(s, width)
-    return {
-        JEQ: d == s,
-        JGT: d > s,
-        JGE: d >= s,
-        JSET: d & s != 0,
-        JNE: d != s,
-        JSGT: left > right,
-        JSGE: left >= right,
-        JLT: d < s,
-        JLE: d <= s,
-        JSLT: left < right,
-        JSLE: left <= right,
-    }[code]
-
-
-class Machine:
-    def __init__(self, number, program, fuel, arguments):
-        self.number = number
-        self.program = program
-        self.fuel = fuel
-        self.registers = [0, *arguments, 0, 0, 0, 0, 0xFFFFFFFF00001000]
-        self.slot = 0
-        self.frames = []
-        self.stop = None
-
-    def step(self):
-        if self.stop is None:
-            self.do_row()
-        if self.stop is None:
-            return f"ran {self.number} {self.slot}"
-        if self.stop == "exit":
-            return f"stopped {self.number} exit {self.registers[0]:016x}"
-        return f"stopped {self.number} {self.stop}"
-
-    def do_row(self):
-        if self.fuel == 0:
-            self.stop = "spent"
-            return
-        row = self.program[self.slot]
-        if row.opcode == LDDW:
-            self.registers[row.dst] = row.number
-            self.slot += 2
-        elif row.is_alu():
-            self.registers[row.dst] = self.alu(row)
-            self.slot += 1
-        elif row.is_condition():
-            width = 64 if row.klass == CLASS_JMP else 32
-            d, s = self.operands(row, width)
-            self.slot = row.target() if holds(row.code, width, d, s) else self.slot + 1
-        elif row.code == JA:
-            self.slot = row.target()
-        elif row.code == CALL:
-            if len(self.frames) == 8:
-                self.stop = "depth"
-                return
-            self.frames.append((self.slot + 1, self.registers[6:11]))
-            self.registers[10] -= 512
-            self.slot = row.target()
-        elif self.frames:
-            self.slot, kept = self.frames.pop()
-            self.registers[6:11] = kept
-        else:
-            self.stop = "exit"
-        self.fuel -= 1
-
-    def operands(self, row, width):
-        modulus = 1 << width
-        s = self.registers[row.src] if row.is_register else row.imm
-        return self.registers[row.dst] % modulus, s % modulus
-
-    def alu(self, row):
-        if row.code == END:
-            low = self.registers[row.dst] % (1 << row.imm)
-            if row.klass == CLASS_ALU and not row.is_register:
-                return low
-            return int.from_bytes(low.to_bytes(row.imm // 8, "little"), "big")
-        width = 64 if row.klass == CLASS_ALU64 else 32
-        d, s = self.operands(row, width)
-        if row.code == NEG:
-            return -d % (1 << width)
-        if row.code == MOV and row.offset != 0:
-            return signed(s, row.offset) % (1 << width)
-        return arithmetic(row.code, row.offset == 1, width, d, s)
-
-    def shown(self):
-        values = " ".join(f"{value:016x}" for value in self.registers)
-        return f"regs {self.number} {self.slot} {self.fuel} {self.stop or 'run'} {values}"
-
-
-# ---- the vectors
+EXIT_SLOT = slot(0x95)
 
 
 class Script:
@@ -361,40 +51,64 @@ class Script:
 
     def __init__(self):
         self.lines = []
-        self.machines = 0
+        self.agent = Agent()
         self.programs = 0
+        self.in_block = PROGRAMS_A_BLOCK
 
     def note(self, text):
         self.lines.append(f"# {text}")
 
-    def tell(self, command, reply):
+    def tell(self, command):
+        reply = self.agent.reply(command)
         self.lines += [command, f"> {reply}"]
+        return reply
 
-    def begin_block(self):
-        if self.programs % PROGRAMS_A_BLOCK == 0:
+    def begin_program(self):
+        if self.in_block >= PROGRAMS_A_BLOCK:
             self.lines.append("---")
-            self.machines = 0
+            self.agent = Agent()
+            self.in_block = 0
+
+    def object(self, body):
+        """A new object with these bytes, and its address."""
+        n = int(self.tell(f"make {len(body)}").split()[1])
+        if any(body):
+            self.tell(f"put {n} 0 {body.hex()}")
+        return n << 32
+
+    def ship(self, code, arguments=(), fuel=1000):
+        """The number of the machine, or none where the code is refused."""
         self.programs += 1
+        self.in_block += 1
+        arguments = [*arguments, 0, 0, 0, 0, 0][:5]
+        spelt = " ".join(f"0x{value:x}" if value > 9 else str(value) for value in arguments)
+        reply = self.tell(f"ship {fuel} {spelt} {code.hex()}").split()
+        return int(reply[1]) if reply[0] == "shipped" else None
+
+    def steps(self, machine, limit=STEP_LIMIT):
+        for _ in range(limit):
+            if self.tell(f"step {machine}").startswith("stopped"):
+                return
 
     def run(self, code, arguments=(), fuel=1000, shows=False):
-        self.begin_block()
-        arguments = [*arguments, 0, 0, 0, 0, 0][:5]
-        words = " ".join(f"0x{value:x}" if value > 9 else str(value) for value in arguments)
-        ship = f"ship {fuel} {words} {code.hex()}"
-        try:
-            program = load(code)
-        except Fault as fault:
-            self.tell(ship, f"refused {fault.slot} {fault.name}")
-            return
-        self.machines += 1
-        machine = Machine(self.machines, program, fuel, arguments)
-        self.tell(ship, f"shipped {machine.number}")
-        for _ in range(STEP_LIMIT):
-            self.tell(f"step {machine.number}", machine.step())
-            if machine.stop is not None:
-                break
-        if shows:
-            self.tell(f"regs {machine.number}", machine.shown())
+        """A program without objects."""
+        self.begin_program()
+        machine = self.ship(code, arguments, fuel)
+        if machine is not None:
+            self.steps(machine)
+            if shows:
+                self.tell(f"regs {machine}")
+
+    def run_on(self, body, code, arguments, shows=False):
+        """A program over one object, whose address the arguments are made of. Its bytes are compared at the end."""
+        self.begin_program()
+        address = self.object(body)
+        machine = self.ship(code, arguments(address))
+        if machine is not None:
+            self.steps(machine)
+            self.tell(f"get {address >> 32} 0 {len(body)}")
+            if shows:
+                self.tell(f"regs {machine}")
 
 
 WIDE_EDGES = [
@@ -422,12 +136,12 @@ def add_arithmetic(script):
         for code, offset in rows:
             script.note(f"opcode {opcode(klass, REGISTER, code):02x} with offset {offset}")
             for i, (d, s) in enumerate(WIDE_EDGES):
-                body = word(0xBF, 0, 1) + word(opcode(klass, REGISTER, code), 0, 2, offset)
+                body = slot(0xBF, 0, 1) + slot(opcode(klass, REGISTER, code), 0, 2, offset)
                 script.run(body + EXIT_SLOT, (d, s), shows=i % 5 == 0)
             script.note(f"opcode {opcode(klass, IMMEDIATE, code):02x} with offset {offset}")
             for i, imm in enumerate(IMM_EDGES):
                 d = WIDE_EDGES[-1 - i][0]
-                body = word(0xBF, 0, 1) + word(opcode(klass, IMMEDIATE, code), 0, 0, offset, imm)
+                body = slot(0xBF, 0, 1) + slot(opcode(klass, IMMEDIATE, code), 0, 0, offset, imm)
                 script.run(body + EXIT_SLOT, (d,), shows=i % 5 == 1)
 
 
@@ -435,19 +149,19 @@ def add_one_operand(script):
     script.note("negation, moves with sign, byte order, numbers of 64 bits")
     for klass in (CLASS_ALU64, CLASS_ALU):
         for d, _ in WIDE_EDGES:
-            body = word(0xBF, 3, 1) + word(opcode(klass, IMMEDIATE, NEG), 3) + word(0xBF, 0, 3)
+            body = slot(0xBF, 3, 1) + slot(opcode(klass, IMMEDIATE, NEG), 3) + slot(0xBF, 0, 3)
             script.run(body + EXIT_SLOT, (d,))
         for width in (8, 16, 32) if klass == CLASS_ALU64 else (8, 16):
             for d in (0x7F, 0x80, 0x7FFF, 0x8000, 0x7FFFFFFF, 0x80000000, MASK64, 0x123456789ABCDEF0):
-                body = word(opcode(klass, REGISTER, MOV), 0, 1, width)
+                body = slot(opcode(klass, REGISTER, MOV), 0, 1, width)
                 script.run(body + EXIT_SLOT, (d,))
     for op in (0xD4, 0xDC, 0xD7):
         for width in (16, 32, 64):
             for d in (0x1122334455667788, 0xFF, 1 << 63, 0xFEDCBA9876543210):
-                body = word(0xBF, 0, 1) + word(op, 0, 0, 0, width)
+                body = slot(0xBF, 0, 1) + slot(op, 0, 0, 0, width)
                 script.run(body + EXIT_SLOT, (d,), shows=d == 0xFF)
     for i, number in enumerate((0, 1, 1 << 31, MASK32, 1 << 32, 1 << 63, MASK64, 0x1122334455667788)):
-        script.run(wide(i, number) + word(0xBF, 0, i) + EXIT_SLOT, shows=True)
+        script.run(wide(i, number) + slot(0xBF, 0, i) + EXIT_SLOT, shows=True)
 
 
 def add_jumps(script):
@@ -455,53 +169,274 @@ def add_jumps(script):
         for code in CONDITIONS:
             script.note(f"opcode {opcode(klass, REGISTER, code):02x}")
             for d, s in WIDE_EDGES[:8]:
-                body = word(opcode(klass, REGISTER, code), 1, 2, 1)
-                script.run(body + EXIT_SLOT + word(0xB7, 0, 0, 0, 1) + EXIT_SLOT, (d, s))
+                body = slot(opcode(klass, REGISTER, code), 1, 2, 1)
+                script.run(body + EXIT_SLOT + slot(0xB7, 0, 0, 0, 1) + EXIT_SLOT, (d, s))
             script.note(f"opcode {opcode(klass, IMMEDIATE, code):02x}")
             for i, imm in enumerate(IMM_EDGES[:8]):
-                body = word(opcode(klass, IMMEDIATE, code), 1, 0, 1, imm)
+                body = slot(opcode(klass, IMMEDIATE, code), 1, 0, 1, imm)
                 d = WIDE_EDGES[i][1]
-                script.run(body + EXIT_SLOT + word(0xB7, 0, 0, 0, 1) + EXIT_SLOT, (d,))
+                script.run(body + EXIT_SLOT + slot(0xB7, 0, 0, 0, 1) + EXIT_SLOT, (d,))
 
 
 def add_control(script):
     script.note("jumps without condition, local calls, exit, fuel and depth")
-    one = word(0xB7, 0, 0, 0, 1)
-    script.run(word(0x05, offset=1) + one + EXIT_SLOT)
-    script.run(word(0x06, imm=1) + one + EXIT_SLOT)
-    script.run(word(0x05, offset=0) + one + EXIT_SLOT)
-    script.run(word(0x06, imm=0) + one + EXIT_SLOT)
-    script.run(word(0x05, offset=2) + one + EXIT_SLOT + word(0x05, offset=-3))
-    script.run(word(0x06, imm=2) + one + EXIT_SLOT + word(0x06, imm=-3))
-    script.run(word(0x05, offset=-1), fuel=7, shows=True)
-    script.run(word(0x06, imm=-1), fuel=3, shows=True)
+    one = slot(0xB7, 0, 0, 0, 1)
+    script.run(slot(0x05, offset=1) + one + EXIT_SLOT)
+    script.run(slot(0x06, imm=1) + one + EXIT_SLOT)
+    script.run(slot(0x05, offset=0) + one + EXIT_SLOT)
+    script.run(slot(0x06, imm=0) + one + EXIT_SLOT)
+    script.run(slot(0x05, offset=2) + one + EXIT_SLOT + slot(0x05, offset=-3))
+    script.run(slot(0x06, imm=2) + one + EXIT_SLOT + slot(0x06, imm=-3))
+    script.run(slot(0x05, offset=-1), fuel=7, shows=True)
+    script.run(slot(0x06, imm=-1), fuel=3, shows=True)
     for fuel in range(5):
         script.run(one + one + EXIT_SLOT, fuel=fuel, shows=True)
-    script.run(word(0x85, 0, 1, 0, -1) + EXIT_SLOT, fuel=100, shows=True)
+    script.run(slot(0x85, 0, 1, 0, -1) + EXIT_SLOT, fuel=100, shows=True)
     # A function that changes R6 to R9 gives them back, but not R0 and R5.
-    callee = b"".join(word(0xB7, register, 0, 0, register) for register in range(10)) + EXIT_SLOT
-    script.run(word(0x85, 0, 1, 0, 1) + EXIT_SLOT + callee, (1, 2, 3, 4, 5), shows=True)
+    callee = b"".join(slot(0xB7, register, 0, 0, register) for register in range(10)) + EXIT_SLOT
+    script.run(slot(0x85, 0, 1, 0, 1) + EXIT_SLOT + callee, (1, 2, 3, 4, 5), shows=True)
     # Nested functions, each of which calls the next one and adds what R10 is there.
     for depth in range(1, 10):
         body = b""
         for _ in range(depth):
-            body += word(0x85, 0, 1, 0, 2) + word(0x0F, 0, 10) + EXIT_SLOT
-        script.run(body + word(0xBF, 0, 10) + EXIT_SLOT, shows=True)
+            body += slot(0x85, 0, 1, 0, 2) + slot(0x0F, 0, 10) + EXIT_SLOT
+        script.run(body + slot(0xBF, 0, 10) + EXIT_SLOT, shows=True)
     # A loop with a test at its end.
     for count in (1, 2, 7):
-        body = word(0xB7, 0) + word(0x07, 0, 0, 0, 3) + word(0x17, 1, 0, 0, 1) + word(0x55, 1, 0, -3)
+        body = slot(0xB7, 0) + slot(0x07, 0, 0, 0, 3) + slot(0x17, 1, 0, 0, 1) + slot(0x55, 1, 0, -3)
         script.run(body + EXIT_SLOT, (count,), shows=True)
 
 
 def add_opcodes(script):
     script.note("each opcode with all other fields zero, and with the fields that it doesn't use")
     for op in range(256):
-        script.run(word(op) + bytes(8) + EXIT_SLOT)
+        script.run(slot(op) + bytes(8) + EXIT_SLOT)
     for op in range(256):
-        script.run(word(op, 1, 11) + EXIT_SLOT)
-        script.run(word(op, 11, 1) + EXIT_SLOT)
-        script.run(word(op, 1, 2, 1) + EXIT_SLOT)
-        script.run(word(op, 0, 0, 0, 16) + EXIT_SLOT)
+        script.run(slot(op, 1, 11) + EXIT_SLOT)
+        script.run(slot(op, 11, 1) + EXIT_SLOT)
+        script.run(slot(op, 1, 2, 1) + EXIT_SLOT)
+        script.run(slot(op, 0, 0, 0, 16) + EXIT_SLOT)
+
+
+PATTERN = bytes((0x7D * i + 0x80) & 0xFF for i in range(24))
+# A distance from the object's begin in the register, and one in the instruction.
+PLACES = [(0, 0), (3, 0), (0, 5), (16, -7), (23, 0), (0, 16), (0, 17), (0, 20), (0, 21), (22, 1), (24, 0), (0, -1), (MASK64, 1)]
+
+
+def add_loads(script):
+    rows = [(MEM, size) for size in (1, 2, 4, 8)] + [(MEMSX, size) for size in (1, 2, 4)]
+    for mode, size in rows:
+        op = access(CLASS_LDX, mode, size)
+        script.note(f"opcode {op:02x}")
+        for i, (begin, offset) in enumerate(PLACES):
+            code = slot(op, 0, 1, offset) + EXIT_SLOT
+            script.run_on(PATTERN, code, lambda at: [(at + begin) & MASK64], shows=i == 0)
+        for offset in (-8, -7, -size, 1 - size, -4096, -4097):
+            code = slot(0x7B, 10, 2, -8) + slot(op, 0, 10, offset) + EXIT_SLOT
+            script.run(code, (0, 0x8081828384858687), shows=offset == -8)
+
+
+def add_stores(script):
+    for klass in (CLASS_ST, CLASS_STX):
+        for size in (1, 2, 4, 8):
+            op = access(klass, MEM, size)
+            script.note(f"opcode {op:02x}")
+            for i, (begin, offset) in enumerate(PLACES):
+                source = (0, -2 - i) if klass == CLASS_ST else (2, 0)
+                code = slot(op, 1, source[0], offset, source[1]) + EXIT_SLOT
+                script.run_on(PATTERN, code, lambda at: [(at + begin) & MASK64, 0x8877665544332211 + i], shows=i == 0)
+            add_stack_stores(script, op, klass, size)
+
+
+def add_stack_stores(script, op, klass, size):
+    for offset in (-size, 1 - size, -4096, -4097):
+        script.begin_program()
+        source = (0, 0x7F01FE03) if klass == CLASS_ST else (2, 0)
+        machine = script.ship(slot(op, 10, source[0], offset, source[1]) + EXIT_SLOT, (0, 0xF1E2D3C4B5A69788))
+        script.steps(machine)
+        for begin in (0, 4080):
+            script.tell(f"stack {machine} {begin} 16")
+
+
+ATOMIC_PAIRS = [
+    (0, 0), (5, 7), (MASK64, 1), (0x80000000_80000000, 0x80000000_80000000), (0x1122334455667788, 0x0F0F0F0F_F0F0F0F0),
+    (0xFFFFFFFF_00000001, 0x1_FFFFFFFF),
+]
+
+
+def add_atomics(script):
+    for size in (4, 8):
+        op = access(CLASS_STX, ATOMIC, size)
+        for imm in ATOMICS:
+            script.note(f"opcode {op:02x} with imm {imm:02x}")
+            shown = b"" if imm == CMPXCHG else slot(0xBF, 0, 2)
+            code = wide(0, 5) + slot(op, 1, 2, 8, imm) + shown + EXIT_SLOT
+            for i, (old, source) in enumerate(ATOMIC_PAIRS):
+                body = bytes(8) + old.to_bytes(8, "little") + b"\xee" * 8
+                script.run_on(body, code, lambda at: [at, source], shows=i == 0 or imm == CMPXCHG)
+            for begin, offset in ((4, 0), (2, 0), (0, 1), (20, 4), (24, 0), (0, 24), (23, 0), (0, -8)):
+                code = slot(op, 1, 2, offset, imm) + EXIT_SLOT
+                script.run_on(PATTERN, code, lambda at: [(at + begin) & MASK64, 9], shows=begin == 4 and imm == FETCH)
+            add_stack_atomics(script, op, imm)
+
+
+def add_stack_atomics(script, op, imm):
+    for offset in (-8, -6, -4, 0):
+        script.begin_program()
+        code = slot(0x7A, 10, 0, -8, 77) + slot(0xB7, 0, 0, 0, 77) + slot(op, 10, 2, offset, imm) + EXIT_SLOT
+        machine = script.ship(code, (0, 0x100000006))
+        script.steps(machine)
+        script.tell(f"stack {machine} 4080 16")
+        script.tell(f"regs {machine}")
+
+
+def add_atomic_registers(script):
+    script.note("atomic operations whose registers are one, and all imm of both opcodes")
+    for size in (4, 8):
+        op = access(CLASS_STX, ATOMIC, size)
+        for imm in ATOMICS:
+            for dst, src in ((1, 1), (1, 0), (0, 0), (0, 1), (1, 10)):
+                code = slot(0xBF, 0, 1) + slot(op, dst, src, 0, imm) + EXIT_SLOT
+                script.run_on(PATTERN, code, lambda at: [at], shows=True)
+        for imm in range(256):
+            script.run(slot(op, 1, 2, 0, imm) + EXIT_SLOT)
+        for imm in (-1, 0x100, 0x1E1, -0x0F):
+            script.run(slot(op, 1, 2, 0, imm) + EXIT_SLOT)
+
+
+def add_addresses(script):
+    script.note("addresses that are no object's, and that pass from one object to another")
+    for size in (1, 2, 4, 8):
+        load, store, add = access(CLASS_LDX, MEM, size), access(CLASS_ST, MEM, size), access(CLASS_STX, ATOMIC, max(size, 4))
+        for row in (slot(load, 0, 1), slot(store, 1, 0, 0, 1), slot(add, 1, 2, 0, FETCH)):
+            for address in (0, 7, 8, 0x3FF00000000, 0x40000000000, 0x40100000000, (STACK - 1) << 32, MASK64, 1 << 63):
+                script.run(row + EXIT_SLOT, (address,))
+            for address in (STACK << 32, (STACK << 32) + 4092, (STACK << 32) + 4095, (STACK << 32) + 4096):
+                script.run(row + EXIT_SLOT, (address,))
+    for first, offset in ((0xFFFFFFFF, 1), (0xFFFFFFF8, 8), (0xFFFFFFFC, 2), (0xFFFF8000, 0x7FFF)):
+        script.begin_program()
+        one, two = script.object(PATTERN), script.object(PATTERN[::-1])
+        machine = script.ship(slot(0x61, 0, 1, offset) + slot(0x72, 1, 0, offset, 3) + EXIT_SLOT, [one + first])
+        script.steps(machine)
+        for address in (one, two):
+            script.tell(f"get {address >> 32} 0 24")
+    script.begin_program()
+    two = script.object(PATTERN)
+    machine = script.ship(slot(0x71, 0, 1, -1) + EXIT_SLOT, [two])
+    script.steps(machine)
+
+
+def add_helpers(script):
+    script.note("helpers: lengths, the own number, emitted values, scopes")
+    script.begin_program()
+    freed = script.object(bytes(9)) >> 32
+    big = script.object(bytes(65536)) >> 32
+    script.tell(f"free {freed}")
+    for r1 in (0, freed, big, big + 1, 1024, 1025, STACK, big << 32, big + (1 << 32), MASK64):
+        script.steps(script.ship(slot(0x85, 0, 0, 0, 1) + EXIT_SLOT, [r1]))
+    for number in (-1, 0, 5, 0x7FFFFFFF):
+        script.run(slot(0x85, 0, 0, 0, number) + EXIT_SLOT)
+    everything = b"".join(slot(0x85, 0, 0, 0, number) for number in (4, 2, 3, 1))
+    script.run(everything + EXIT_SLOT, (0xABCDEF, 2, 3, 4, 5), shows=True)
+    for count in (0, 1, 63, 64, 65, 66):
+        script.begin_program()
+        loop = slot(0xB7, 2, 0, 0, count) + slot(0x15, 2, 0, 4) + slot(0x85, 0, 0, 0, 3) + slot(0x07, 1, 0, 0, 1)
+        machine = script.ship(loop + slot(0x17, 2, 0, 0, 1) + slot(0x05, offset=-5) + EXIT_SLOT, [0xFFFFFFFFFFFFFFF0])
+        script.steps(machine, limit=400)
+        script.tell(f"out {machine}")
+        script.tell(f"regs {machine}")
+
+
+def add_stops(script):
+    script.note("stops come in their order, and change nothing; helper calls and accesses take fuel")
+    body = PATTERN[:8]
+    for fuel in (0, 1, 2):
+        for code in (slot(0xDB, 1, 2, 4) + EXIT_SLOT, slot(0x79, 0, 1, 1) + EXIT_SLOT, slot(0x7A, 1, 0, 0, -1) + EXIT_SLOT):
+            script.begin_program()
+            address = script.object(body)
+            machine = script.ship(code, [address], fuel)
+            script.steps(machine, limit=4)
+            script.tell(f"regs {machine}")
+            script.tell(f"get {address >> 32} 0 8")
+    script.begin_program()
+    address = script.object(body)
+    script.tell(f"free {address >> 32}")
+    for code in (slot(0x71, 0, 1), slot(0x73, 1, 1), slot(0xDB, 1, 2, 1), slot(0xDB, 1, 2)):
+        script.steps(script.ship(code + EXIT_SLOT, [address]))
+
+
+def add_frames_on_the_stack(script):
+    script.note("functions write to their own part of the stack, and to that of their callers")
+    callee = slot(0x7B, 10, 6, -8) + slot(0x7B, 10, 7, 504) + slot(0x79, 0, 10, 504) + EXIT_SLOT
+    caller = slot(0xB7, 6, 0, 0, 0x55) + slot(0xB7, 7, 0, 0, 0x66) + slot(0x85, 0, 1, 0, 2) + slot(0x79, 6, 10, -8) + EXIT_SLOT
+    for fuel in (3, 5, 1000):
+        script.begin_program()
+        machine = script.ship(caller + callee, (), fuel)
+        script.steps(machine)
+        script.tell(f"stack {machine} 3568 32")
+        script.tell(f"stack {machine} 4080 16")
+        script.tell(f"regs {machine}")
+    deep = slot(0x7B, 10, 10, -8) + slot(0x85, 0, 1, 0, -2) + EXIT_SLOT
+    script.begin_program()
+    machine = script.ship(deep)
+    script.steps(machine)
+    for frame in range(9):
+        script.tell(f"stack {machine} {max(0, 4088 - 512 * frame)} 8")
+
+
+def random_access_row(chooser):
+    """An access by R1 to R3, which are addresses, or by R10, most of the time inside."""
+    base = chooser.choice([1, 1, 2, 2, 3, 10])
+    offset = chooser.choice([0, 4, 8, 8, 12, 16, chooser.randrange(-2, 34)])
+    offset = offset - 40 if base == 10 else offset
+    kind, other = chooser.random(), chooser.choice([0, 4, 5, 6, 7, 8, 9])
+    size = chooser.choice([1, 2, 4, 8])
+    if kind < 0.3:
+        mode = MEMSX if size < 8 and chooser.random() < 0.5 else MEM
+        return slot(access(CLASS_LDX, mode, size), other, base, offset)
+    if kind < 0.45:
+        return slot(access(CLASS_ST, MEM, size), base, 0, offset, chooser.choice(IMM_EDGES))
+    if kind < 0.6:
+        return slot(access(CLASS_STX, MEM, size), base, other, offset)
+    size = chooser.choice([4, 8])
+    return slot(access(CLASS_STX, ATOMIC, size), base, other, offset - offset % size, chooser.choice(ATOMICS))
+
+
+def random_memory_program(chooser, length):
+    body = b""
+    for _ in range(length):
+        kind = chooser.random()
+        if kind < 0.65:
+            body += random_access_row(chooser)
+        elif kind < 0.72:
+            body += slot(0x85, 0, 0, 0, chooser.choice([1, 2, 3, 4]))
+        else:
+            klass = chooser.choice([CLASS_ALU, CLASS_ALU64])
+            dst, src = chooser.choice([0, 4, 5, 6, 7, 8, 9]), chooser.randrange(11)
+            body += slot(chooser.choice(ARITHMETIC) << 4 | REGISTER | klass, dst, src)
+    return body + EXIT_SLOT
+
+
+def add_random_memory(script):
+    script.note("programs of random accesses to two objects and the stack, one alone and two in turn")
+    chooser = random.Random(5)
+    for i in range(160):
+        script.begin_program()
+        bodies = [bytes(chooser.getrandbits(8) for _ in range(chooser.choice([8, 24, 32]))) for _ in range(2)]
+        first, second = (script.object(body) for body in bodies)
+        machines = []
+        for _ in range(1 + i % 2):
+            code = random_memory_program(chooser, chooser.randrange(2, 14))
+            arguments = [first, second, chooser.choice([first + 4, second + 1]), chooser.getrandbits(64), chooser.getrandbits(8)]
+            machines.append(script.ship(code, arguments, chooser.choice([6, 30, 30])))
+        for _ in range(16 * len(machines)):
+            script.tell(f"step {chooser.choice(machines)}")
+        for address, body in zip((first, second), bodies):
+            script.tell(f"get {address >> 32} 0 {len(body)}")
+        for machine in machines:
+            script.tell(f"stack {machine} 4048 48")
+            script.tell(f"regs {machine}")
+            script.tell(f"out {machine}")
 
 
 def random_row(chooser, left):
@@ -510,17 +445,17 @@ def random_row(chooser, left):
     if kind < 0.1:
         return wide(chooser.randrange(11), chooser.getrandbits(64), chooser.choice([0, 0, 0, 0, 1]))
     if kind < 0.2:
-        return word(chooser.choice([0x05, 0x06]), 0, 0, *chooser.choice([(1, 0), (0, 1), (0, 0)]))
+        return slot(chooser.choice([0x05, 0x06]), 0, 0, *chooser.choice([(1, 0), (0, 1), (0, 0)]))
     if kind < 0.45:
         op = opcode(chooser.choice([CLASS_JMP, CLASS_JMP32]), IMMEDIATE, chooser.choice(CONDITIONS))
-        return word(op, chooser.randrange(11), 0, chooser.randrange(-1, left + 2), chooser.choice(IMM_EDGES))
+        return slot(op, chooser.randrange(11), 0, chooser.randrange(-1, left + 2), chooser.choice(IMM_EDGES))
     klass = chooser.choice([CLASS_ALU, CLASS_ALU64])
     code = chooser.choice(ARITHMETIC)
     if kind < 0.7:
         dst = chooser.choice([0, 1, 2, 3, 4, 5, 6, 7, 8, 9, 9, 10])
-        return word(opcode(klass, IMMEDIATE, code), dst, 0, 0, chooser.choice(IMM_EDGES))
+        return slot(opcode(klass, IMMEDIATE, code), dst, 0, 0, chooser.choice(IMM_EDGES))
     if kind < 0.95:
-        return word(opcode(klass, REGISTER, code), chooser.randrange(10), chooser.randrange(11))
+        return slot(opcode(klass, REGISTER, code), chooser.randrange(10), chooser.randrange(11))
     return bytes(chooser.getrandbits(8) for _ in range(8))
 
 
@@ -530,23 +465,43 @@ def add_random(script):
     for i in range(400):
         length = chooser.randrange(1, 9)
         body = b"".join(random_row(chooser, length - at) for at in range(length))
-        tail = chooser.choice([EXIT_SLOT] * 12 + [b"", EXIT_SLOT[:5], word(0x05, offset=-1)])
+        tail = chooser.choice([EXIT_SLOT] * 12 + [b"", EXIT_SLOT[:5], slot(0x05, offset=-1)])
         arguments = [chooser.getrandbits(64) for _ in range(5)]
         script.run(body + tail, arguments, fuel=chooser.choice([5, 40]), shows=i % 3 == 0)
 
 
+def differences(path):
+    """The replies of a script that the agent in Python doesn't give."""
+    agent, found, command = Agent(), [], None
+    for line in open(path, encoding="ascii").read().splitlines():
+        if line == "---":
+            agent = Agent()
+        elif line.startswith("> "):
+            reply = agent.reply(command)
+            if reply != line[2:]:
+                found.append(f"{path}: {command[:70]} is answered {reply}, and the script says {line[2:]}")
+        elif line and not line.startswith("#"):
+            command = line
+    return found
+
+
+PARTS = [
+    add_arithmetic, add_one_operand, add_jumps, add_control, add_opcodes, add_random, add_loads, add_stores, add_atomics,
+    add_atomic_registers, add_addresses, add_helpers, add_stops, add_frames_on_the_stack, add_random_memory,
+]
+
+
 def main():
+    if sys.argv[1:2] == ["--check"]:
+        found = [text for path in sys.argv[2:] for text in differences(path)]
+        sys.exit("\n".join(found) if found else 0)
     script = Script()
     script.lines += [
-        "# Made by make_vectors.py, an interpreter of RFC 9669 of its own; `make vectors` compares.",
+        "# Made by make_vectors.py, with an interpreter of RFC 9669 of its own; `make vectors` compares.",
         "# Each `---` begins with a fresh agent.",
     ]
-    add_arithmetic(script)
-    add_one_operand(script)
-    add_jumps(script)
-    add_control(script)
-    add_opcodes(script)
-    add_random(script)
+    for part in PARTS:
+        part(script)
     sys.stdout.write("\n".join(script.lines) + "\n")
     print(f"{script.programs} programs", file=sys.stderr)
 
