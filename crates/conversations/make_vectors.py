@@ -384,6 +384,22 @@ def add_frames_on_the_stack(script):
         script.tell(f"stack {machine} {max(0, 4088 - 512 * frame)} 8")
 
 
+def add_limits(script):
+    script.note("1024 objects are ever made, and 48 machines")
+    script.begin_program()
+    for _ in range(1025):
+        script.tell("make 1")
+    for command in ("free 5", "free 5", "make 1", "put 5 0 01", "get 5 0 1", "free 1024", "free 1025", "get 1023 0 1"):
+        script.tell(command)
+    for _ in range(49):
+        script.ship(EXIT_SLOT)
+    script.tell("step 48")
+    script.tell("step 49")
+    for length in (0, 1, 65536, 65537):
+        script.tell(f"make {length}")
+    script.in_block = PROGRAMS_A_BLOCK
+
+
 def random_access_row(chooser):
     """An access by R1 to R3, which are addresses, or by R10, most of the time inside."""
     base = chooser.choice([1, 1, 2, 2, 3, 10])
@@ -487,7 +503,7 @@ def differences(path):
 
 PARTS = [
     add_arithmetic, add_one_operand, add_jumps, add_control, add_opcodes, add_random, add_loads, add_stores, add_atomics,
-    add_atomic_registers, add_addresses, add_helpers, add_stops, add_frames_on_the_stack, add_random_memory,
+    add_atomic_registers, add_addresses, add_helpers, add_stops, add_limits, add_frames_on_the_stack, add_random_memory,
 ]
 
 
