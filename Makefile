@@ -9,7 +9,7 @@ below = $(1) $(foreach it,$(shell sed -n 's/^$(1):  *//p' crates.txt),$(if $(wil
 CRATES := $(sort $(call below,bpfagent))
 SOURCES := crates.txt $(shell find $(CRATES:%=crates/%) -path '*/out' -prune -o \( -name '*.rt' -o -name '*.antt' \) -print)
 
-.PHONY: run program test vectors bench refused-growth
+.PHONY: run program test vectors bench failed-allocations
 
 # A proved program that is up to date runs at once. Else the sources are built without a proof.
 run:
@@ -35,14 +35,14 @@ test:
 	@python3 tests/failures.py
 	@python3 tests/gate.py $(RT)
 
-# Makes the test vectors again, by an interpreter of RFC 9669 of its own, and compares; likewise the
-# examples of docs/PROTOCOL.md with the script that the tests run.
-VECTORS := crates/conversations/data/vectors.script
+# Makes the test vectors again, by an interpreter of RFC 9669 of its own, and compares; it also says
+# whether the replies of the other scripts are those that the interpreter gives.
+SCRIPTS := crates/conversations/data
 
 vectors:
-	@python3 crates/conversations/make_vectors.py | cmp - $(VECTORS)
-	@python3 tests/protocol.py
-	@echo "the scripts are what they are made from"
+	@python3 crates/conversations/make_vectors.py | cmp - $(SCRIPTS)/vectors.script
+	@python3 crates/conversations/make_vectors.py --check $(SCRIPTS)/worked.script $(SCRIPTS)/protocol.script examples/*.script
+	@echo "the vectors are what they are made from, and the replies of all scripts are those of the interpreter"
 
 # Outside the gate. These need a C compiler and Python.
 
@@ -58,9 +58,9 @@ bench: $(PROGRAM)
 	@$(BENCH)/steps
 	@python3 bench/lines.py $(PROGRAM) $(BENCH)/lines
 
-# The program, and a run of commands, with each of their allocations refused in turn.
-refused-growth: $(PROGRAM)
+# The program, and a run of commands, with each of their allocations failing in turn.
+failed-allocations: $(PROGRAM)
 	@mkdir -p $(BENCH)
 	@cd crates/refused_run && $(RT) run >/dev/null 2>&1
-	@$(CC) -O1 -shared -fPIC -o $(BENCH)/refuse.so tests/refuse.c -ldl
-	@python3 tests/refused_growth.py $(BENCH)/refuse.so $(PROGRAM) crates/refused_run/out/refused_run
+	@$(CC) -O1 -shared -fPIC -o $(BENCH)/fail_allocation.so tests/fail_allocation.c -ldl
+	@python3 tests/failed_allocations.py $(BENCH)/fail_allocation.so $(PROGRAM) crates/refused_run/out/refused_run
