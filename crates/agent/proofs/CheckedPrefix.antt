@@ -25,8 +25,9 @@ refused limit why.TooLong n input is h = (h.0, longer 32768 limit input h.1)
 refused limit why.JumpOut n input is h = subst (λ bytes. Refuses bytes n why.JumpOut) (short 32768 limit input is h.0.1) h
 refused limit why.JumpInside n input is h = subst (λ bytes. Refuses bytes n why.JumpInside) (short 32768 limit input is h.0.1) h
 refused limit why.WritesR10 n input is h = subst (λ bytes. Refuses bytes n why.WritesR10) (short 32768 limit input is h.0.1) h
+refused limit why.Helper n input is h = subst (λ bytes. Refuses bytes n why.Helper) (short 32768 limit input is h.0.1) h
 refused limit why.FallsOff n input is h = subst (λ bytes. Refuses bytes n why.FallsOff) (short 32768 limit input is h.0.1) h
-refused limit why.Memory n input is h = h
+refused limit why.Memory n input is h = subst (λ bytes. Refuses bytes n why.Memory) (short 32768 limit input is h.0.1) h
 
 found_whole : (limit : ℕ) (input : List ℕ) (result : Result ℕ Failure) → limit ≡ 32769 → Finds (take limit input) result → Finds input result
 found_whole limit input (Ok slots) is h = subst (λ bytes. Finds bytes (Ok slots)) (short 32768 limit input is h.0.1.short) h

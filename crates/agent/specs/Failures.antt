@@ -1,6 +1,6 @@
 -- What the program says where it gives up, and the status that it ends with.
 use Rattle.std.specs.Prelude.{ℕ, List, [], ◌∷◌, ◌++◌, codes, decimal}
-use Rattle.console.specs.Lines.{why_name}
+use Rattle.loader.specs.Refusals.{why_name}
 use Rattle.agent.specs.declared.failure.Status.{Status}
 use Rattle.agent.specs.declared.failure.Status.TheVariants.{Done, Refused, InvalidArguments, Failed}
 use Rattle.agent.specs.declared.failure.Failure.{Failure}

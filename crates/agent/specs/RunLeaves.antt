@@ -1,16 +1,17 @@
 -- What `run` leaves in its streams.
 use Rattle.std.specs.Prelude.{ℕ, ⊤, List, Option, Some, Result, Ok, Err}
 use Rattle.std.specs.Io.KnownBytes.{Keeps}
-use Rattle.world.specs.Answers.{WorldState, world_start}
+use Rattle.world.specs.WorldState.{WorldState, world_start}
 use Rattle.console.specs.Held.{Held}
-use Rattle.console.specs.Conversations.{Ends, StopsReading, StopsWriting}
+use Rattle.console.specs.Agent.{agent}
+use Rattle.console.specs.Conversations.{AnswersAll, StopsReading, StopsWriting}
 use Rattle.agent.specs.declared.failure.Failure.{Failure}
 use Rattle.agent.specs.declared.failure.Failure.TheVariants.{Refused, Read, Write, NoMemory}
 
--- Over this input, in the output, which was as before, and unread: all replies from a world with no machine, or those up to where a stream failed. Out of memory before the first line leaves both streams as they were.
+-- Over this input, in the output, which was as before, and unread: all replies from a world with no machine and no object, or those up to where a stream failed. Out of memory before the first line leaves both streams as they were.
 abbrev pub RunLeaves : List ℕ → Option (List ℕ) → Option (List ℕ) → Option (List ℕ) → Result ⊤ Failure → Type 0
-RunLeaves input before after unread (Ok done) = (end : WorldState) × Ends world_start input before after end
-RunLeaves input before after unread (Err Read) = (end : WorldState) × (held : Held) × StopsReading world_start input before after end held unread
-RunLeaves input before after unread (Err Write) = (end : WorldState) × StopsWriting world_start input before after end
+RunLeaves input before after unread (Ok done) = (end : WorldState) × AnswersAll agent world_start input before after end
+RunLeaves input before after unread (Err Read) = (end : WorldState) × (held : Held) × StopsReading agent world_start input before after end held unread
+RunLeaves input before after unread (Err Write) = (end : WorldState) × StopsWriting agent world_start input before after end unread
 RunLeaves input before after unread (Err NoMemory) = Keeps before after × Keeps (Some input) unread
 RunLeaves input before after unread (Err (Refused error)) = ⊥

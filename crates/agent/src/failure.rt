@@ -3,7 +3,6 @@ ghost use Rattle.std.specs.Prelude.{◌≡◌, ◌++◌, codes};
 ghost use Rattle.agent.specs.Failures.{status_number, failure_line, status_of};
 
 use arrayvec::ArrayVec;
-use console::name_of_why;
 use loader::LoadError;
 
 /// How the program ended.
@@ -66,7 +65,7 @@ impl Failure {
                 let _ = line.try_extend_from_slice(b"slot ");
                 let _ = line.try_extend_from_slice(number.format(error.slot).as_bytes());
                 let _ = line.try_extend_from_slice(b": ");
-                let _ = line.try_extend_from_slice(name_of_why(error.why));
+                let _ = line.try_extend_from_slice(error.why.name());
             }
             Failure::Read => {
                 let _ = line.try_extend_from_slice(b"read fault");

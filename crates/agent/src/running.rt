@@ -8,8 +8,8 @@ use std::alloc::Global;
 use std::io::{Read, Write};
 use world::World;
 
-/// Does the commands that the reader has, from a world with no machine, and writes their replies.
-/// Out of memory before the first line reads no input.
+/// Does the commands that the reader has, from a world with no machine and no object, and writes
+/// their replies. Out of memory before the first line reads no input.
 pub fn run<R: Read, W: Write>(alloc: Global, reader: &mut R, writer: &mut W) -> Result<(), Failure>
     ensures { IfSome (R.remaining reader.old) (λ input. RunLeaves input (W.contents writer.old) (W.contents writer.new) (R.remaining reader.new) result) }
 {
