@@ -1,5 +1,13 @@
-//! Tests of machines through their public calls.
+//! Machines that run small programs, over the store of objects.
 #![tactic(auto)]
 
+#[cfg(test)]
+mod accesses;
+#[cfg(test)]
+mod atomics;
+#[cfg(test)]
+mod common;
+#[cfg(test)]
+mod helper_calls;
 #[cfg(test)]
 mod programs;
