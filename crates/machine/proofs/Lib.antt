@@ -13,3 +13,4 @@ pub mod Changes
 pub mod Others
 pub mod Carried
 pub mod Replaying
+pub mod Starts
