@@ -1,9 +1,9 @@
 //! The arguments of the command line, and help.
 
-use crate::devices::Narrow;
 use crate::outcome::outcome_of;
 use agent::{refuse_arguments, tool};
 use std::io::{Error, ErrorKind};
+use test_devices::Narrow;
 
 const HELP: &str = "Runs BPF programs
 
@@ -89,10 +89,7 @@ fn help_goes_to_the_output(rt: HostRuntime) {
 fn help_that_is_not_taken_is_a_write_fault(rt: HostRuntime) {
     let alloc = rt.alloc();
     let mut input = b"".as_slice();
-    let mut closed = Narrow {
-        taken: Vec::new(alloc),
-        room: 0,
-    };
+    let mut closed = Narrow::new(alloc, 1, 0);
     let mut errors = Vec::new(alloc);
     let status = tool(alloc, &["--help"], &mut input, &mut closed, &mut errors);
     assert_eq!(rt; status, 3);

@@ -1,9 +1,9 @@
 //! `check`.
 
-use crate::devices::{Broken, Narrow};
 use crate::outcome::outcome_of;
 use agent::tool;
 use std::test::Fail;
+use test_devices::{FailingReader, Narrow};
 
 /// `lddw r0, 0x8000000000000000`, `sdiv r0, -1`, `exit`.
 const WIDE: [u8; 32] = [
@@ -70,17 +70,14 @@ fn one_byte_past_the_longest_code_is_read(rt: HostRuntime) -> Result<(), Fail> {
 #[test]
 fn a_stream_that_fails_is_named(rt: HostRuntime) {
     let alloc = rt.alloc();
-    let mut reader = Broken { rest: &EXIT };
+    let mut reader = FailingReader::new(EXIT.as_slice(), 1);
     let mut output = Vec::new(alloc);
     let mut errors = Vec::new(alloc);
     let status = tool(alloc, &["check"], &mut reader, &mut output, &mut errors);
     assert_eq!(rt; status, 3);
     assert_eq!(rt; errors.as_slice(), b"read fault\n".as_slice());
     let mut reader = EXIT.as_slice();
-    let mut closed = Narrow {
-        taken: Vec::new(alloc),
-        room: 2,
-    };
+    let mut closed = Narrow::new(alloc, 1, 2);
     let mut errors = Vec::new(alloc);
     let status = tool(alloc, &["check"], &mut reader, &mut closed, &mut errors);
     assert_eq!(rt; status, 3);

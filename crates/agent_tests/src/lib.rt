@@ -6,8 +6,6 @@ mod arguments;
 #[cfg(test)]
 mod checking;
 #[cfg(test)]
-mod devices;
-#[cfg(test)]
 mod outcome;
 #[cfg(test)]
 mod running;

@@ -1,18 +1,15 @@
 //! `run`, where a stream fails or a line is cut. Whole conversations are in `conversations`.
 
-use crate::devices::{Broken, Narrow, Pieces};
 use crate::outcome::outcome_of;
 use agent::tool;
 use std::test::Fail;
+use test_devices::{FailingReader, Narrow, Pieces};
 
 #[test]
 fn a_closed_output_ends_the_run(rt: HostRuntime) {
     let alloc = rt.alloc();
     let mut input = b"step 1\nstep 1\nstep 1\n".as_slice();
-    let mut closed = Narrow {
-        taken: Vec::new(alloc),
-        room: 7,
-    };
+    let mut closed = Narrow::new(alloc, 1, 7);
     let mut errors = Vec::new(alloc);
     let status = tool(alloc, &["run"], &mut input, &mut closed, &mut errors);
     assert_eq!(rt; status, 3);
@@ -23,9 +20,7 @@ fn a_closed_output_ends_the_run(rt: HostRuntime) {
 #[test]
 fn a_broken_input_ends_the_run(rt: HostRuntime) {
     let alloc = rt.alloc();
-    let mut input = Broken {
-        rest: b"step 1\nstep".as_slice(),
-    };
+    let mut input = FailingReader::new(b"step 1\nstep".as_slice(), 1);
     let mut output = Vec::new(alloc);
     let mut errors = Vec::new(alloc);
     let status = tool(alloc, &["run"], &mut input, &mut output, &mut errors);
@@ -42,10 +37,7 @@ fn an_empty_line_a_long_line_and_a_cut_line(rt: HostRuntime) -> Result<(), Fail>
     input.extend_from_slice(b"\nregs 1")?;
     let whole = outcome_of(alloc, &["run"], &input);
     assert_eq!(rt; whole.output.as_slice(), b"bad\nbad\ncut\n".as_slice());
-    let mut pieces = Pieces {
-        rest: &input,
-        size: 1,
-    };
+    let mut pieces = Pieces::new(&input, 1);
     let mut output = Vec::new(alloc);
     let mut errors = Vec::new(alloc);
     let status = tool(alloc, &["run"], &mut pieces, &mut output, &mut errors);

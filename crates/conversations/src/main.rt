@@ -1,15 +1,14 @@
 //! Runs written conversations, and compares what the agent replies with what they say.
 #![tactic(auto)]
 
-mod reader;
 mod script;
 
 use anyhow::Result;
-use reader::Pieces;
 use script::{Conversation, conversations};
 use std::alloc::Global;
 use std::process::ExitCode;
 use std::{env, fs};
+use test_devices::Pieces;
 
 /// The first line of the output that isn't as wanted, in words.
 fn line_that_differs(alloc: Global, output: &str, wanted: &str) -> Result<Option<String>> {
@@ -29,10 +28,7 @@ fn line_that_differs(alloc: Global, output: &str, wanted: &str) -> Result<Option
 /// What the agent answered in place of the wanted replies, if it did, where it reads so many bytes
 /// at a time.
 fn difference(alloc: Global, conversation: &Conversation, size: usize) -> Result<Option<String>> {
-    let mut reader = Pieces {
-        rest: conversation.commands.as_str().as_bytes(),
-        size,
-    };
+    let mut reader = Pieces::new(conversation.commands.as_str().as_bytes(), size);
     let mut output = Vec::new(alloc);
     let mut errors = Vec::new(alloc);
     let status = agent::tool(alloc, &["run"], &mut reader, &mut output, &mut errors);
