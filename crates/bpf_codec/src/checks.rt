@@ -9,7 +9,7 @@ use crate::slot::Slot;
 use isa_table::Instr;
 
 /// Whether the number is a register's, where the field is read as one.
-fn is_register_in(field: Field, n: u8) -> bool
+fn is_register_in(field: Field, n: u32) -> bool
     ensures { result ≡ is_register field n }
 {
     match field {
@@ -23,19 +23,22 @@ fn may_hold_in(field: Field, n: u32) -> bool
     ensures { result ≡ may_hold field n }
 {
     match field {
-        Field::Register(_) => n < 11,
         Field::Only(m) => n == m,
-        _ => true,
+        _ => is_register_in(field, n),
     }
 }
 
+/// Whether the slot has the layout's opcode, and registers where the layout has them.
 #[tactic(auto, unfolding(crate::specs::Faults::has_registers_of))]
 fn holds_registers(f: Slot, l: Layout) -> bool
     ensures { result ≡ has_registers_of f l }
 {
-    f.opcode == l.opcode && is_register_in(l.dst, f.dst) && is_register_in(l.src, f.src)
+    f.opcode == l.opcode
+        && is_register_in(l.dst, f.dst as u32)
+        && is_register_in(l.src, f.src as u32)
 }
 
+/// Whether the slot has the layout's opcode, and each of its fields holds what that of the layout may hold.
 #[tactic(auto, unfolding(crate::specs::Faults::is_of))]
 fn fits_layout(f: Slot, l: Layout) -> bool
     ensures { result ≡ is_of f l }
