@@ -1,5 +1,5 @@
 -- The instruction of a row that is given operands.
-use Rattle.std.proofs.Common.{◌≡◌, ℕ, ◌+◌, ◌*◌, ◌/◌, ◌%◌, ◌<◌, ◌^◌, Bool, true, false, List, [], ◌∷◌, refl, ap, subst, sym, ◌∙◌, arith, ℤ}
+use Rattle.std.proofs.Common.{◌≡◌, ℕ, ◌+◌, ◌*◌, ◌/◌, ◌<◌, ◌^◌, true, false, List, [], ◌∷◌, refl, ap, sym, ◌∙◌, arith, ℤ}
 use Rattle.isa_table.specs.Words.{low_bytes}
 use Rattle.isa_table.specs.Rows.{row_of}
 use Rattle.isa_table.specs.declared.instr.Instr.{Instr}
@@ -7,11 +7,11 @@ use Rattle.isa_table.specs.declared.instr.Instr.TheVariants.{Alu, Jump, Store, L
 use Rattle.isa_table.specs.declared.instr.Operand.TheVariants as operand
 use Rattle.isa_table.specs.declared.instr.Reg.TheVariants.{R0}
 use Rattle.bpf_codec.specs.declared.layout.Field.{Field}
-use Rattle.bpf_codec.specs.declared.layout.Field.TheVariants.{Register, Offset, Imm, Wide, Only}
+use Rattle.bpf_codec.specs.declared.layout.Field.TheVariants.{Wide}
 use Rattle.bpf_codec.specs.declared.layout.Layout.{Layout}
 use Rattle.bpf_codec.specs.declared.slot.Slot.{Slot}
 use Rattle.bpf_codec.specs.declared.building.Operands.{Operands}
-use Rattle.bpf_codec.specs.Slots.{row, layout, slot, number_in, filled, first, second, next_word, Fits}
+use Rattle.bpf_codec.specs.Slots.{row, layout, slot, filled, first, second, next_word, Fits}
 use Rattle.bpf_codec.specs.Decoding.{operands, built}
 use Rattle.bpf_codec.proofs.Fields.{is_wide_imm, with_register, with_offset, with_imm, register_given, offset_given, imm_given, offset_fits, imm_fits, register_in, offset_in, imm_in, next_in, value_in, register_is, offset_is, imm_is, value_is}
 use Rattle.bpf_codec.proofs.Rows.{IsPlaced, IsOf}

@@ -1,13 +1,13 @@
 -- The fields of a slot and its eight bytes.
-use Rattle.std.proofs.Common.{◌≡◌, ℕ, ◌+◌, ◌*◌, ◌/◌, ◌%◌, ◌<◌, ◌≤◌, ◌^◌, Bool, true, false, List, [], ◌∷◌, ◌++◌, length, get_or, drop, ◌&&◌, ◌==◌, not, refl, ap, sym, ◌∙◌, arith, append_assoc}
-use Rattle.std.specs.Prelude.{slice_index, nat_lt, nat_le}
+use Rattle.std.proofs.Common.{◌≡◌, ℕ, ◌+◌, ◌*◌, ◌/◌, ◌%◌, ◌<◌, ◌≤◌, ◌^◌, true, false, List, ◌∷◌, ◌++◌, length, get_or, drop, ◌==◌, not, refl, ap, ◌∙◌, arith, append_assoc}
+use Rattle.std.specs.Prelude.{slice_index, nat_lt}
 use Rattle.std.proofs.lemmas.Bool.{eqb-true}
 use Rattle.std.proofs.lemmas.Bool.Decides.{nat_tests}
 use Rattle.std.proofs.lemmas.List.{get_or-drop, length-drop}
 use Rattle.isa_table.specs.Words.{low_bytes}
 use Rattle.isa_table.specs.declared.instr.Instr.{Instr}
 use Rattle.bpf_codec.specs.declared.slot.Slot.{Slot}
-use Rattle.bpf_codec.specs.Slots.{slot, layout, first, fields, slot_bytes, second, Begins}
+use Rattle.bpf_codec.specs.Slots.{layout, first, fields, slot_bytes, second, Begins}
 use Rattle.bpf_codec.specs.Faults.{is_whole, has_second, has_reserved_bits}
 use Rattle.bpf_codec.specs.Decoding.{reserved_are_zero}
 use Rattle.bpf_codec.proofs.Lists.{and_true}

@@ -1,5 +1,5 @@
 -- What the encodings say of one another and of faults, and what is read at a slot.
-use Rattle.std.proofs.Common.{◌≡◌, ℕ, ◌+◌, ◌*◌, ◌/◌, ◌%◌, ◌<◌, ◌^◌, Bool, true, false, List, [], ◌∷◌, ◌++◌, length, get_or, drop, Option, Some, None, Result, Ok, Err, ◌==◌, refl, ap, subst, sym, ◌∙◌, arith, append_assoc, append-nil, inl, inr, ◌⊎◌, ◌≤◌}
+use Rattle.std.proofs.Common.{◌≡◌, ℕ, ◌+◌, ◌*◌, ◌/◌, ◌<◌, ◌^◌, true, false, List, [], ◌∷◌, ◌++◌, length, get_or, drop, Some, Result, Ok, Err, ◌==◌, refl, ap, subst, sym, ◌∙◌, arith, append_assoc, append-nil, inl, inr, ◌⊎◌, ◌≤◌}
 use Rattle.std.specs.Prelude.{IfOk, IfErr, All, nat_lt}
 use Rattle.std.proofs.lemmas.Bool.Decides.{nat_tests}
 use Rattle.std.proofs.lemmas.Bool.{cases_lt}

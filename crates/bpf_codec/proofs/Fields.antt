@@ -1,5 +1,5 @@
 -- What a field of a slot holds, by its kind.
-use Rattle.std.proofs.Common.{◌≡◌, ℕ, zero, suc, ◌+◌, ◌*◌, ◌/◌, ◌%◌, ◌<◌, ◌≤◌, ◌^◌, Bool, true, false, List, [], ◌∷◌, length, get_or, ◌&&◌, ◌==◌, refl, ap, sym, ◌∙◌, arith, ℤ, pos, negsuc}
+use Rattle.std.proofs.Common.{◌≡◌, ℕ, ◌+◌, ◌*◌, ◌/◌, ◌<◌, ◌^◌, Bool, true, false, ◌==◌, refl, sym, arith, ℤ, pos, negsuc}
 use Rattle.std.specs.Prelude.{nat_lt}
 use Rattle.std.specs.Int.{w16, w32, cast_signed}
 use Rattle.std.specs.Int.RustNames.{FitsSigned}
@@ -7,7 +7,7 @@ use Rattle.std.proofs.Math.Facts.{sfits_to_z}
 use Rattle.std.proofs.lemmas.Int.{ints}
 use Rattle.std.proofs.lemmas.Bool.{eqb-true}
 use Rattle.std.proofs.lemmas.Bool.Decides.{nat_tests}
-use Rattle.isa_table.specs.Words.{wrapped, low_bytes}
+use Rattle.isa_table.specs.Words.{wrapped}
 use Rattle.isa_table.specs.Registers.{register_number}
 use Rattle.isa_table.specs.declared.instr.Reg.{Reg}
 use Rattle.isa_table.specs.declared.instr.Reg.TheVariants.{R0}
@@ -17,7 +17,7 @@ use Rattle.bpf_codec.specs.declared.building.TheConstants.{REGISTERS}
 use Rattle.bpf_codec.specs.Slots.{number_in, FitsField}
 use Rattle.bpf_codec.specs.Faults.{is_register, may_hold}
 use Rattle.bpf_codec.specs.Decoding.{register}
-use Rattle.bpf_codec.proofs.Lists.{and_true, at_place}
+use Rattle.bpf_codec.proofs.Lists.{at_place}
 
 -- ---- registers and signed numbers
 
@@ -129,23 +129,18 @@ kind_wide _ = refl
 pub small_below : (x : Field) → is_small x ≡ true → number_in x < 16
 small_below (Register r) h = omega (arith, register_below r)
 small_below (Only n) h = grind (arith, nat_tests, h)
-small_below (Offset z) h = absurd (cc)
-small_below (Imm z) h = absurd (cc)
-small_below (Wide v) h = absurd (cc)
+small_below _ h = absurd (cc)
 
 pub offset_below : (x : Field) → is_offset x ≡ true → number_in x < 2 ^ 16
 offset_below (Offset z) h = low_below_16 z
 offset_below (Only n) h = grind (arith, nat_tests, h)
-offset_below (Register r) h = absurd (cc)
-offset_below (Imm z) h = absurd (cc)
-offset_below (Wide v) h = absurd (cc)
+offset_below _ h = absurd (cc)
 
 pub imm_below : (x : Field) → is_imm x ≡ true → number_in x < 2 ^ 32
 imm_below (Imm z) h = low_below_32 z
 imm_below (Wide v) h = omega arith
 imm_below (Only n) h = grind (arith, nat_tests, h)
-imm_below (Register r) h = absurd (cc)
-imm_below (Offset z) h = absurd (cc)
+imm_below _ h = absurd (cc)
 
 -- ---- a field that is given an operand
 
@@ -165,37 +160,29 @@ with_imm x z v = x
 pub register_given : (x : Field) (n : ℕ) → is_small x ≡ true → may_hold x n ≡ true → number_in (with_register x (register n)) ≡ n
 register_given (Register r) n s h = register_named n h
 register_given (Only m) n s h = sym (eqb-true _ _ h)
-register_given (Offset z) n s h = absurd (cc)
-register_given (Imm z) n s h = absurd (cc)
-register_given (Wide v) n s h = absurd (cc)
+register_given _ n s h = absurd (cc)
 
 pub offset_given : (x : Field) (n : ℕ) → is_offset x ≡ true → may_hold x n ≡ true → n < 2 ^ 16 → number_in (with_offset x (cast_signed w16 n)) ≡ n
 offset_given (Offset z) n s h r = low_of_signed_16 n r
 offset_given (Only m) n s h r = sym (eqb-true _ _ h)
-offset_given (Register d) n s h r = absurd (cc)
-offset_given (Imm z) n s h r = absurd (cc)
-offset_given (Wide v) n s h r = absurd (cc)
+offset_given _ n s h r = absurd (cc)
 
 pub imm_given : (x : Field) (n next : ℕ) → is_imm x ≡ true → may_hold x n ≡ true → n < 2 ^ 32 → number_in (with_imm x (cast_signed w32 n) (n + 2 ^ 32 * next)) ≡ n
 imm_given (Imm z) n next s h r = low_of_signed_32 n r
 imm_given (Wide v) n next s h r = omega arith
 imm_given (Only m) n next s h r = sym (eqb-true _ _ h)
-imm_given (Register d) n next s h r = absurd (cc)
-imm_given (Offset z) n next s h r = absurd (cc)
+imm_given _ n next s h r = absurd (cc)
 
 pub offset_fits : (x : Field) (n : ℕ) → is_offset x ≡ true → n < 2 ^ 16 → FitsField (with_offset x (cast_signed w16 n))
 offset_fits (Offset z) n s r = sfits_to_z (record { fits = r })
 offset_fits (Only m) n s r = tt
-offset_fits (Register d) n s r = tt
-offset_fits (Imm z) n s r = absurd (cc)
-offset_fits (Wide v) n s r = absurd (cc)
+offset_fits _ n s r = absurd (cc)
 
 pub imm_fits : (x : Field) (n next : ℕ) → is_imm x ≡ true → n < 2 ^ 32 → next < 2 ^ 32 → FitsField (with_imm x (cast_signed w32 n) (n + 2 ^ 32 * next))
 imm_fits (Imm z) n next s r t = sfits_to_z (record { fits = r })
 imm_fits (Wide v) n next s r t = omega arith
 imm_fits (Only m) n next s r t = tt
-imm_fits (Register d) n next s r t = tt
-imm_fits (Offset z) n next s r t = absurd (cc)
+imm_fits _ n next s r t = absurd (cc)
 
 -- ---- the operand in a field
 

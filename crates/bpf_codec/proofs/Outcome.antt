@@ -1,9 +1,8 @@
 -- What is decoded from bytes: an instruction with which they begin, and then they have no fault, or their least fault.
-use Rattle.std.proofs.Common.{◌≡◌, ℕ, zero, suc, ◌+◌, ◌<◌, ◌≤◌, ◌^◌, Bool, true, false, cond, not, List, [], ◌∷◌, ◌++◌, length, drop, Option, Some, None, Result, Ok, Err, ◌&&◌, ◌||◌, ◌==◌, refl, ap, subst, sym, ◌∙◌, arith, append_assoc, inl, inr, ◌⊎◌}
+use Rattle.std.proofs.Common.{◌≡◌, ℕ, suc, ◌<◌, ◌≤◌, ◌^◌, Bool, true, false, cond, not, List, [], ◌∷◌, ◌++◌, length, drop, Option, Some, None, Result, Ok, Err, ◌&&◌, ◌==◌, refl, ap, subst, sym, ◌∙◌, arith, append_assoc, inl, inr, ◌⊎◌}
 use Rattle.std.specs.Prelude.{nat_lt}
 use Rattle.std.proofs.lemmas.Bool.{cases_lt}
 use Rattle.std.proofs.lemmas.Bool.Decides.{nat_tests}
-use Rattle.isa_table.specs.Words.{low_bytes}
 use Rattle.isa_table.specs.declared.instr.Instr.{Instr}
 use Rattle.bpf_codec.specs.declared.fault.Fault.{Fault}
 use Rattle.bpf_codec.specs.declared.fault.Fault.TheVariants as fault
@@ -14,7 +13,7 @@ use Rattle.bpf_codec.specs.Decoding.{◌>>=◌, rows_of, row_for, have_registers
 use Rattle.bpf_codec.proofs.Lists.{Has}
 use Rattle.bpf_codec.proofs.Fields.{is_wide_imm}
 use Rattle.bpf_codec.proofs.Rows.{row_placed, no_rows, some_rows, registers_of_table, none_of_table, no_packet, platform_registers, IsRowOf, row_is}
-use Rattle.bpf_codec.proofs.Built.{InRange, first_built, fits_built, second_built, none_built}
+use Rattle.bpf_codec.proofs.Built.{first_built, fits_built, second_built, none_built}
 use Rattle.bpf_codec.proofs.Bytes.{IsBytes, bytes_from, bytes_are, in_range, whole_is, second_there, reserved_is, second_bytes}
 use Rattle.bpf_codec.proofs.Platform.{platform_is}
 

@@ -1,7 +1,7 @@
 -- The rows of the instruction table, and the one of them that a slot is of.
-use Rattle.std.proofs.Common.{◌≡◌, ℕ, ◌+◌, Bool, true, false, List, [], ◌∷◌, Option, Some, None, ◌&&◌, ◌||◌, ◌==◌, not, refl, ap, subst, sym, ◌∙◌, arith, inl, inr, ◌⊎◌}
+use Rattle.std.proofs.Common.{◌≡◌, ℕ, Bool, true, false, List, [], ◌∷◌, Some, None, ◌&&◌, ◌==◌, not, refl, ap, subst, sym, ◌∙◌, arith, inl, inr}
 use Rattle.std.specs.Prelude.{nat_lt}
-use Rattle.std.specs.List.{list_any, list_all, filter, find}
+use Rattle.std.specs.List.{list_any, list_all, filter}
 use Rattle.std.proofs.lemmas.Bool.{eqb-true}
 use Rattle.std.proofs.lemmas.Bool.Decides.{nat_tests}
 use Rattle.isa_table.specs.Rows.{all_rows, row_of}
@@ -173,18 +173,19 @@ own_layout i =
 own_row : (i : Instr) → is_of (first i) (layout (row_of i)) ≡ true
 own_row i = sym (of_kinds (first i) (layout (row_of i))) ∙ ap (is_of (first i)) (same_kinds i) ∙ of_kinds (first i) (layout i) ∙ own_layout i
 
+-- of the rows of an opcode, a slot is of the one of which it is in the table
+one_row : (f : Slot) (i : Instr) → Has all_rows i → is_of f (layout i) ≡ true → row_for f (rows_of f.opcode) ≡ Some i
+unfolding rows_of
+one_row f i there own =
+    let code : (f.opcode == (layout i).opcode) ≡ true = grind (arith, nat_tests, (parts_of f (layout i) own).opcode) in
+    let s = some_found (λ j. is_of f (layout j)) (rows_of f.opcode) i (has_filtered (λ j. f.opcode == (layout j).opcode) all_rows i there code) own in
+    let k = found (λ j. is_of f (layout j)) (rows_of f.opcode) s.0 s.1 in
+    let h = filtered (λ j. f.opcode == (layout j).opcode) all_rows s.0 k.0 in
+    subst (λ (j : Instr). row_for f (rows_of f.opcode) ≡ Some j) (one_of f all_rows s.0 i all_apart h.0 there k.1 own) s.1
+
 -- an instruction's first slot is of its row, and of no other
 pub row_found : (i : Instr) → row_for (first i) (rows_of (first i).opcode) ≡ Some (row_of i)
-unfolding rows_of
-row_found i =
-    let f = first i in
-    let own : is_of (first i) (layout (row_of i)) ≡ true = own_row i in
-    let code : ((first i).opcode == (layout (row_of i)).opcode) ≡ true = grind (arith, nat_tests, (parts_of f (layout (row_of i)) own).opcode) in
-    let there = in_table i in
-    let s = some_found (λ j. is_of f (layout j)) (filter (λ j. f.opcode == (layout j).opcode) all_rows) (row_of i) (has_filtered (λ j. f.opcode == (layout j).opcode) all_rows (row_of i) there code) own in
-    let k = found (λ j. is_of f (layout j)) (filter (λ j. f.opcode == (layout j).opcode) all_rows) s.0 s.1 in
-    let h = filtered (λ j. f.opcode == (layout j).opcode) all_rows s.0 k.0 in
-    s.1 ∙ ap Some (one_of f all_rows s.0 (row_of i) all_apart h.0 there k.1 own)
+row_found i = one_row (first i) (row_of i) (in_table i) (own_row i)
 
 -- ---- the rows of an opcode, and the table
 

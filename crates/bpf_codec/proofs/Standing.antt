@@ -1,12 +1,10 @@
 -- Where the rows of each opcode stand.
-use Rattle.std.proofs.Common.{◌≡◌, ℕ, zero, suc, ◌+◌, ◌-◌, ◌<◌, ◌≤◌, Bool, true, false, List, [], ◌∷◌, length, get_or, take, drop, ◌&&◌, refl, ap, sym, ◌∙◌, arith}
+use Rattle.std.proofs.Common.{◌≡◌, ℕ, zero, suc, ◌+◌, ◌<◌, ◌≤◌, Bool, true, List, [], ◌∷◌, length, get_or, take, drop, refl, ap, sym, ◌∙◌, arith}
 use Rattle.std.specs.Prelude.{nat_le}
-use Rattle.std.specs.List.{filter}
 use Rattle.std.proofs.lemmas.Bool.Decides.{nat_tests}
 use Rattle.isa_table.specs.Rows.{all_rows}
 use Rattle.isa_table.specs.declared.instr.Instr.{Instr}
 use Rattle.bpf_codec.specs.declared.places.TheConstants.{FIRSTS, COUNTS}
-use Rattle.bpf_codec.specs.Slots.{layout}
 use Rattle.bpf_codec.specs.Decoding.{rows_of}
 use Rattle.bpf_codec.proofs.Lists.{at_place}
 

@@ -1,5 +1,5 @@
 -- Why the bytes at a slot encode no instruction (RFC 9669, sections 3 to 5), by the bytes and the rows of the table.
-use Rattle.std.specs.Prelude.{ℕ, ◌<◌, ◌==◌, nat_lt, nat_le, ◌&&◌, ◌||◌, not, Bool, true, false, List, [], ◌∷◌, length, slice_index, IsTrue, IsFalse, All, codes, ◌↔◌, pos, ◌++◌, map}
+use Rattle.std.specs.Prelude.{ℕ, ◌<◌, ◌==◌, nat_lt, nat_le, ◌&&◌, ◌||◌, not, Bool, true, List, [], ◌∷◌, length, slice_index, IsTrue, IsFalse, All, codes, ◌↔◌, pos, ◌++◌, map}
 use Rattle.std.specs.List.{list_any}
 use Rattle.isa_table.specs.Rows.{all_rows}
 use Rattle.isa_table.specs.declared.instr.Instr.{Instr}
@@ -97,8 +97,15 @@ has_second xs = nat_le 16 (length xs)
 unfoldable pub has_reserved_bits : List ℕ → Bool
 has_reserved_bits xs = not ((slice_index xs 8 == 0) && (slice_index xs 9 == 0) && (slice_index xs 10 == 0) && (slice_index xs 11 == 0))
 
--- The bytes at a slot have this fault. Of fewer than eight bytes only Short is said, of an opcode that is neither in
--- the table nor one of packet access only Opcode, and of the latter only Packet.
+-- The bytes at a slot have this fault:
+-- Opcode: the opcode is neither in the table nor one of packet access.
+-- Register: in no row of the opcode do the register fields hold registers. (The rows of an opcode read the same fields
+-- as registers.)
+-- Field: the slot is of no row and is none of the platform's, or a second slot that is there has reserved bits set.
+-- HalfWide: the opcode is that of the wide encoding, and the second slot is not there whole.
+-- Packet: the opcode is one of packet access.
+-- Platform: only a platform defines the slot.
+-- Short: fewer than eight bytes are left. Of these nothing else is said.
 unfoldable pub has_fault : Fault → List ℕ → Bool
 has_fault fault.Opcode xs = is_whole xs && not (is_row (opcode xs)) && not (is_packet (opcode xs))
 has_fault fault.Register xs = is_whole xs && is_row (opcode xs) && not (some_row (has_registers_of (fields xs)))

@@ -60,7 +60,7 @@ fn read(bytes: &[u8]) -> Result<Instr, Fault>
     }
 }
 
-/// As `decode_at`.
+/// As `decode_at`, by what the bytes from the slot on are read as.
 #[tactic(auto, using(crate::proofs::Encodings::past_the_end))]
 fn read_at(code: &[u8], slot: usize) -> Result<(Instr, usize), Fault>
     ensures { result ≡ with_slots (decoded (drop (8 * slot) code.now)) }

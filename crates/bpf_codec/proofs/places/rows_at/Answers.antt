@@ -1,4 +1,4 @@
-use Rattle.std.proofs.Common.{◌≡◌, ℕ, ◌+◌, ◌-◌, ◌≤◌, length, ap, ◌∙◌, arith, get_or, take, drop, List}
+use Rattle.std.proofs.Common.{◌≡◌, ℕ, ◌+◌, ◌-◌, arith, get_or, List}
 use Rattle.isa_table.specs.declared.instr.Instr.{Instr}
 use Rattle.bpf_codec.specs.declared.places.TheConstants.{FIRSTS, COUNTS}
 use Rattle.bpf_codec.proofs.Standing.{rows_stand, rows_within}

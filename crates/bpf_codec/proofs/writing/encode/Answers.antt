@@ -1,5 +1,4 @@
-use Rattle.std.proofs.Common.{◌≡◌, arith}
-use Rattle.bpf_codec.specs.Slots.{layout}
+use Rattle.std.proofs.Common.{arith}
 use Rattle.bpf_codec.proofs.Encodings.{padded_is, registers_fit}
 use Rattle.bpf_codec.proofs.writing.encode.Goals as goal
 
