@@ -1,9 +1,9 @@
 #!/usr/bin/env python3
 """Checks that out of memory, and a fault of a reader or a writer, are answered only where tests/failures.txt says.
 
-No proof shows that a function answers them only after a call that failed. So each function that writes one of these words
-in its body is listed, with how often it does, and a new one fails this test until someone has looked at it. With --list
-the script prints what it finds.
+No proof shows that a function answers them only after a call that failed. So each function that answers one of these words
+is listed, with how often its body does, and a new one fails this test until someone has looked at it. With --list the
+script prints what it finds.
 """
 import re
 import sys
@@ -11,7 +11,9 @@ import sys
 from sources import ROOT, blanked, crates, functions
 
 LIST = ROOT / "tests/failures.txt"
-WORDS = re.compile(r"\b(?:AllocError|AllocFailed|NoMemory|OutOfMemory|\w+::(?:Memory|Read|Write))\b")
+WORDS = re.compile(r"\b(?:AllocError|AllocFailed|NoMemory|OutOfMemory|WriteFault|(?:Why|Self|Failure|\w+Error|\w+Fault)::(?:Memory|Read|Write|Io))\b")
+# What follows a pattern or a comparison, which answers nothing.
+PATTERN = re.compile(r"[\s)}]*(?:\||=>|if\b)")
 NOT_IN_THE_PROGRAM = re.compile(r"_tests$|^test_devices$|^conversations$|^bench_steps$|^refused_run$")
 
 
@@ -25,9 +27,10 @@ def places():
             if path.name == "tests.rt":
                 continue
             for function, _, body in functions(blanked(path.read_text())):
-                for word in WORDS.findall(body):
-                    place = (f"{crate}/src/{path.name}", function, word)
-                    found[place] = found.get(place, 0) + 1
+                for word in WORDS.finditer(body):
+                    if not PATTERN.match(body, word.end()):
+                        place = (f"{crate}/src/{path.name}", function, word[0])
+                        found[place] = found.get(place, 0) + 1
     return found
 
 
