@@ -1,7 +1,8 @@
 #!/usr/bin/env python3
 """Checks that docs/DEFINITIONS.md names every definition that a public clause depends on, and none that isn't there.
 
-With --list it prints these definitions, by crate and file, each with the comment above it.
+With --list it prints these definitions, by crate and file, each with the comment above it; with --table as tables of the
+page, a row for each file.
 
 A public clause is one of a `pub fn`, of a method of a trait's impl, or of a `pub trait`, and what a public type says of
 itself (its Model, its ghost items). From the names in these clauses the script follows the imports: the `ghost use`
@@ -49,6 +50,7 @@ class Specs:
 
     def __init__(self, crate, module, own):
         text = (ROOT / f"crates/{crate}/specs/{module}.antt").read_text()
+        self.says = text.split("\n")[0].lstrip("- ").split(". ")[0].rstrip(".")
         self.imports = imports(text, USE, own)
         self.definitions, self.comments = {}, {}
         comment, name = [], None
@@ -167,15 +169,27 @@ def not_there(own):
     return lost
 
 
+def show(own, found, specs, as_table):
+    """Prints the definitions, by crate and file."""
+    for crate in own:
+        modules = dict.fromkeys(m for c, m, _ in found if c == crate)
+        if as_table and modules:
+            print(f"\n## `{crate}`\n\n| File | Definitions | They say |\n|---|---|---|")
+        for module in modules:
+            names = [n for c, m, n in found if (c, m) == (crate, module)]
+            if as_table:
+                print(f"| `{module}` | {', '.join(f'`{name}`' for name in names)} | {specs[crate, module].says} |")
+                continue
+            print(f"## {crate} {module}")
+            for name in names:
+                print(f"{name}: {specs[crate, module].comments[name]}")
+
+
 def main():
     own = libraries()
     found, specs = reached(own)
-    if sys.argv[1:] == ["--list"]:
-        for crate in own:
-            for module in dict.fromkeys(m for c, m, _ in found if c == crate):
-                print(f"## {crate} {module}")
-                for name in (n for c, m, n in found if (c, m) == (crate, module)):
-                    print(f"{name}: {specs[crate, module].comments[name]}")
+    if sys.argv[1:] in (["--list"], ["--table"]):
+        show(own, found, specs, sys.argv[1:] == ["--table"])
         return
     names = page_names()
     missing = [(c, m, n) for c, m, n in found if n not in names.get(c, set())]
