@@ -16,7 +16,7 @@ use Rattle.asm_table.specs.declared.mnemonic.Mnemonic.{Mnemonic}
 use Rattle.asm_table.specs.declared.mnemonic.Mnemonic.TheVariants as mnemonic
 use Rattle.asm_table.specs.declared.named.TheConstants.{BY_NAME}
 use Rattle.asm_table.specs.Mnemonics.{name}
-use Rattle.asm_table.specs.Names.{named, named_in, is_local, register_name, register_named}
+use Rattle.asm_table.specs.Names.{named, named_in, is_local, register_in, register_name, register_named}
 
 pub named_name : (m : Mnemonic) → is_local m ≡ false → named (name m) ≡ Some m
 unfolding named
@@ -190,3 +190,11 @@ register_again R7 = refl
 register_again R8 = refl
 register_again R9 = refl
 register_again R10 = refl
+
+register_at : (rs : List Reg) (w : List ℕ) (r k : Reg) (b : Bool) → bytes_eq (register_name k) w ≡ b → (register_in rs w ≡ Some r → w ≡ register_name r) → cond b (Some k) (register_in rs w) ≡ Some r → w ≡ register_name r
+register_at rs w r k true e h f = let i : k ≡ r = cc f in sym ((bytes_eq-Decides (register_name k) w).0 e) ∙ ap register_name i
+register_at rs w r k false e h f = h f
+
+pub register_is : (rs : List Reg) (w : List ℕ) (r : Reg) → register_in rs w ≡ Some r → w ≡ register_name r
+register_is [] w r e = absurd (cc e)
+register_is (k ∷ rs) w r e = register_at rs w r k (bytes_eq (register_name k) w) refl (λ f. register_is rs w r f) e

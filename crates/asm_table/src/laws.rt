@@ -1,5 +1,5 @@
 //! Laws of the table.
-ghost use Rattle.asm_table.specs.Laws.{PartsAreExact, NamesAreExact};
+ghost use Rattle.asm_table.specs.Laws.{PartsAreExact, NamesAreExact, RegistersAreExact};
 
 /// An instruction is built from its own parts, and what is built of parts has them.
 pub fn parts_are_exact()
@@ -9,4 +9,9 @@ pub fn parts_are_exact()
 /// A mnemonic of one word is found by its own name alone.
 pub fn names_are_exact()
     ensures { NamesAreExact }
+{}
+
+/// A register is found by its own name alone.
+pub fn registers_are_exact()
+    ensures { RegistersAreExact }
 {}

@@ -10,7 +10,7 @@ mod parts;
 mod register;
 
 pub use building::build;
-pub use laws::{names_are_exact, parts_are_exact};
+pub use laws::{names_are_exact, parts_are_exact, registers_are_exact};
 pub use mnemonic::{Mnemonic, Sort};
 pub use operands::{AsmOperand, Operands};
 pub use parts::{mnemonic_of, operands_of};

@@ -4,5 +4,7 @@
 mod hex;
 mod lines;
 mod operands;
+mod programs;
 
-pub use lines::{line, text};
+pub use lines::line;
+pub use programs::text;
