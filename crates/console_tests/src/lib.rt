@@ -1,13 +1,14 @@
-//! Conversations with a console, over public calls alone.
+//! Lines, replies and devices of a console, over public calls alone. Whole conversations are
+//! scripts, which the crate `conversations` runs.
 #![tactic(auto)]
 
-#[cfg(test)]
-mod conversations;
-#[cfg(test)]
-mod devices;
 #[cfg(test)]
 mod faults;
 #[cfg(test)]
 mod lines;
 #[cfg(test)]
+mod pieces;
+#[cfg(test)]
 mod replies;
+#[cfg(test)]
+mod talks;

@@ -1,0 +1,74 @@
+//! One conversation, and what is left of it when a device fails.
+
+use std::alloc::Global;
+use console::{Console, drive};
+use std::test::Fail;
+use test_devices::Pieces;
+use world::{Event, Reply, World};
+
+/// An object, and a machine that puts 7 into R0 and ends, in seven commands.
+pub const INPUT: &[u8] =
+    b"make 8\nput 1 2 0Aff\nget 1 1 4\nship 10 0 0 0 0 0 b7000000070000009500000000000000\nstep 1\nstep 1\nout 1\n";
+
+/// What they are answered.
+pub const OUTPUT: &[u8] =
+    b"made 1\nok\nbytes 000aff00\nshipped 1\nran 1 1\nstopped 1 exit 0000000000000007\nout 1\n";
+
+/// The first lines of a text.
+pub fn first_lines(text: &[u8], lines: usize) -> &[u8] {
+    let mut seen = 0usize;
+    for i in 0..text.len() {
+        if seen == lines {
+            return &text[..i];
+        }
+        if text[i] == b'\n' {
+            seen = seen.saturating_add(1);
+        }
+    }
+    text
+}
+
+/// How many lines of a text are ended.
+pub fn count_lines(text: &[u8]) -> usize {
+    text.iter().filter(|b| **b == b'\n').count()
+}
+
+/// How many of the seven commands are done.
+pub fn count_done(world: &mut World) -> usize {
+    let fuel = match world.apply(Event::Regs { machine: 1 }) {
+        Reply::Registers(shown) => shown.fuel,
+        _ => 11,
+    };
+    let bytes = world.apply(Event::Get {
+        object: 1,
+        offset: 2,
+        length: 2,
+    });
+    match (fuel, bytes) {
+        (8, _) => 6,
+        (9, _) => 5,
+        (10, _) => 4,
+        (_, Reply::Bytes(bytes)) if bytes.as_slice() == [10, 255].as_slice() => 2,
+        (_, Reply::Bytes(_)) => 1,
+        _ => 0,
+    }
+}
+
+/// How many commands change the world up to and with that many of the seven: `get` and `out` change nothing.
+pub fn seen_done(commands: usize) -> usize {
+    match commands {
+        3 => 2,
+        7 => 6,
+        n => n,
+    }
+}
+
+/// What a fresh agent answers to this input, so many bytes at a time.
+pub fn answers(alloc: Global, input: &[u8], size: usize) -> Result<Vec<u8>, Fail> {
+    let mut world = World::new(alloc)?;
+    let mut console = Console::new(alloc)?;
+    let mut out = Vec::new(alloc);
+    let mut reader = Pieces::new(input, size);
+    drive(&mut reader, &mut out, &mut console, &mut world)?;
+    Ok(out)
+}
