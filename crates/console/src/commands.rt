@@ -69,6 +69,7 @@ fn event_with(kind: Kind, numbers: [u64; NUMBERS], bytes: Vec<u8>) -> Event
     requires { (i : ℕ) → i < length (number_limits kind) → IsWithin (get_or (number_limits kind) i (within 0 0)) (slice_index numbers i) }
     ensures { command_of result ≡ command_with kind (take (length (number_limits kind)) numbers) bytes.items }
 {
+    let machine = numbers[0] as usize;
     match kind {
         Kind::Make => Event::Make {
             length: ObjectLength::new(numbers[0]).unwrap(),
@@ -91,17 +92,11 @@ fn event_with(kind: Kind, numbers: [u64; NUMBERS], bytes: Vec<u8>) -> Event
             arguments: [numbers[1], numbers[2], numbers[3], numbers[4], numbers[5]],
             code: bytes,
         },
-        Kind::Step => Event::Step {
-            machine: numbers[0] as usize,
-        },
-        Kind::Regs => Event::Regs {
-            machine: numbers[0] as usize,
-        },
-        Kind::Out => Event::Out {
-            machine: numbers[0] as usize,
-        },
+        Kind::Step => Event::Step { machine },
+        Kind::Regs => Event::Regs { machine },
+        Kind::Out => Event::Out { machine },
         Kind::Stack => Event::Stack {
-            machine: numbers[0] as usize,
+            machine,
             offset: numbers[1] as u32,
             length: numbers[2] as u32,
         },

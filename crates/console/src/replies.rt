@@ -3,10 +3,12 @@ ghost use Rattle.std.specs.Prelude.{◌≡◌, ◌≤◌, ◌+◌, ◌*◌, ◌+
 ghost use Rattle.arrayvec.specs.ArrayVec.{array_vec_len};
 ghost use Rattle.console.specs.Lines.{ended, bad_text, nomem_text};
 ghost use Rattle.hex.specs.Hex.{encode_lower};
+ghost use Rattle.loader.specs.Refusals.{why_name};
 ghost use Rattle.console.specs.Replies.{reply_text, number_text, value_text, stop_name, stop_value_text, state_name, IsShort};
 
 use crate::fault::LineFault;
 use arrayvec::ArrayVec;
+use loader::LoadError;
 use machine::Stop;
 use world::{Reply, Shown};
 
@@ -42,6 +44,16 @@ fn put_named(line: &mut ReplyLine, name: &[u8], number: u64)
 {
     put(line, name);
     put_number(line, number);
+}
+
+/// Adds a name and two numbers.
+fn put_pair(line: &mut ReplyLine, name: &[u8], first: u64, second: u64)
+    requires { array_vec_len line.old + length name.now + 42 ≤ REPLY_LIMIT }
+    ensures text { line.new.items ≡ line.old.items ++ name.now ++ number_text first ++ number_text second }
+    ensures short { array_vec_len line.new ≤ array_vec_len line.old + length name.now + 42 }
+{
+    put_named(line, name, first);
+    put_number(line, second);
 }
 
 /// Adds a space and a register's value in hex.
@@ -144,6 +156,17 @@ fn put_shown(line: &mut ReplyLine, shown: &Shown)
     put_values(line, &shown.registers);
 }
 
+/// Adds where and why code is refused.
+fn put_refusal(line: &mut ReplyLine, error: &LoadError)
+    requires { array_vec_len line.old + 39 ≤ REPLY_LIMIT }
+    ensures text { line.new.items ≡ line.old.items ++ codes "refused" ++ number_text error.now.slot ++ codes " " ++ why_name error.now.why }
+    ensures short { array_vec_len line.new ≤ array_vec_len line.old + 39 }
+{
+    put_named(line, b"refused", error.slot as u64);
+    put(line, b" ");
+    put(line, error.why.name());
+}
+
 /// Makes this the line of a reply.
 pub fn print_reply(reply: &Reply, line: &mut ReplyLine)
     requires { IsShort reply.now }
@@ -159,13 +182,9 @@ pub fn print_reply(reply: &Reply, line: &mut ReplyLine)
             put_bytes(line, bytes.as_slice());
         }
         Reply::Shipped { machine } => put_named(line, b"shipped", *machine as u64),
-        Reply::Ran { machine, slot } => {
-            put_named(line, b"ran", *machine as u64);
-            put_number(line, *slot as u64);
-        }
+        Reply::Ran { machine, slot } => put_pair(line, b"ran", *machine as u64, *slot as u64),
         Reply::Waiting { machine, object } => {
-            put_named(line, b"waiting", *machine as u64);
-            put_number(line, *object as u64);
+            put_pair(line, b"waiting", *machine as u64, *object as u64);
         }
         Reply::Stopped { machine, stop } => {
             put_named(line, b"stopped", *machine as u64);
@@ -182,11 +201,7 @@ pub fn print_reply(reply: &Reply, line: &mut ReplyLine)
         Reply::NoMemory => put(line, b"nomem"),
         Reply::Full => put(line, b"full"),
         Reply::Outside => put(line, b"outside"),
-        Reply::Refused(error) => {
-            put_named(line, b"refused", error.slot as u64);
-            put(line, b" ");
-            put(line, error.why.name());
-        }
+        Reply::Refused(error) => put_refusal(line, error),
         Reply::Missing => put(line, b"none"),
     }
     put(line, b"\n");
