@@ -1,7 +1,8 @@
-/* Nanoseconds a step of the agent's machine beside the plain interpreter, on three programs. */
+/* Nanoseconds a step of the agent's machine beside the plain interpreter, on programs that compute, call, load and store. */
 #include "plain.h"
 #include <stdio.h>
 #include <stdlib.h>
+#include <string.h>
 #include <time.h>
 
 uint64_t bpf_run(const uint8_t *code, size_t length, uint64_t fuel, uint64_t argument);
@@ -21,8 +22,14 @@ static int by_value(const void *a, const void *b)
 
 #define RUNS 9
 
+#define OBJECT_BYTES 65536
+#define OBJECT 0x100000000
+static uint8_t object[OBJECT_BYTES];
+
+/* R1 is the address of object 1. */
 static void compare(const char *name, const uint8_t *bytes, size_t length, uint64_t fuel)
 {
+    const struct plain_object objects[2] = { { NULL, 0 }, { object, OBJECT_BYTES } };
     size_t slots = length / 8;
     struct plain_instr *code = calloc(slots, sizeof *code);
     if (!code) exit(1);
@@ -31,9 +38,11 @@ static void compare(const char *name, const uint8_t *bytes, size_t length, uint6
     for (int k = 0; k < RUNS; k++) {
         struct plain_machine m;
         double a = now();
-        uint64_t x = bpf_run(bytes, length, fuel, 1);
+        uint64_t x = bpf_run(bytes, length, fuel, OBJECT);
         double b = now();
-        plain_start(&m, code, fuel, 1);
+        memset(object, 0, sizeof object);
+        plain_start(&m, code, fuel, OBJECT);
+        plain_objects(&m, objects, 2);
         uint64_t y = plain_run(&m);
         double c = now();
         if (x != y) {
@@ -64,8 +73,29 @@ int main(void)
     static const uint8_t calls[] = {
         0x85, 0x10, 0, 0, 1, 0, 0, 0, 0x05, 0, 0xfe, 0xff, 0, 0, 0, 0, 0x85, 0x10, 0, 0, 1, 0, 0, 0, 0x95, 0, 0, 0, 0, 0, 0, 0,
         0x07, 0, 0, 0, 1, 0, 0, 0, 0x95, 0, 0, 0, 0, 0, 0, 0 };
+    /* ldxdw r0, [r1+8]; ldxw r0, [r1+16]; ldxh r0, [r1+24]; ldxsb r0, [r1+32]; goto -5 */
+    static const uint8_t loads[] = {
+        0x79, 0x10, 8, 0, 0, 0, 0, 0, 0x61, 0x10, 16, 0, 0, 0, 0, 0, 0x69, 0x10, 24, 0, 0, 0, 0, 0, 0x91, 0x10, 32, 0, 0, 0, 0, 0,
+        0x05, 0, 0xfb, 0xff, 0, 0, 0, 0 };
+    /* stxdw [r1+8], r1; stw [r1+16], 7; stxh [r1+24], r1; stxb [r10-8], r1; goto -5 */
+    static const uint8_t stores[] = {
+        0x7b, 0x11, 8, 0, 0, 0, 0, 0, 0x62, 1, 16, 0, 7, 0, 0, 0, 0x6b, 0x11, 24, 0, 0, 0, 0, 0, 0x73, 0x1a, 0xf8, 0xff, 0, 0, 0, 0,
+        0x05, 0, 0xfb, 0xff, 0, 0, 0, 0 };
+    /* r2 = 3; then aadd [r1+8], r2; afadd32 [r1+16], r2; axchg [r1+24], r2; acmpxchg [r1+8], r2; goto -5 */
+    static const uint8_t atomics[] = {
+        0xb7, 2, 0, 0, 3, 0, 0, 0, 0xdb, 0x21, 8, 0, 0, 0, 0, 0, 0xc3, 0x21, 16, 0, 1, 0, 0, 0, 0xdb, 0x21, 24, 0, 0xe1, 0, 0, 0,
+        0xdb, 0x21, 8, 0, 0xf1, 0, 0, 0, 0x05, 0, 0xfb, 0xff, 0, 0, 0, 0 };
+    /* r2 = r1; r3 = r1; r3 += 65536; then r4 = [r2]; r0 += r4; [r2] = r0; aadd [r2], r4; r2 += 8; if r2 < r3 goto -6; goto -10 */
+    static const uint8_t walk[] = {
+        0xbf, 0x12, 0, 0, 0, 0, 0, 0, 0xbf, 0x13, 0, 0, 0, 0, 0, 0, 0x07, 3, 0, 0, 0, 0, 1, 0, 0x79, 0x24, 0, 0, 0, 0, 0, 0,
+        0x0f, 0x40, 0, 0, 0, 0, 0, 0, 0x7b, 2, 0, 0, 0, 0, 0, 0, 0xdb, 0x42, 0, 0, 0, 0, 0, 0, 0x07, 2, 0, 0, 8, 0, 0, 0,
+        0xad, 0x32, 0xfa, 0xff, 0, 0, 0, 0, 0x05, 0, 0xf6, 0xff, 0, 0, 0, 0 };
     compare("counting loop", loop, sizeof loop, 20000000);
     compare("straight arithmetic", straight, sizeof straight, 20000000);
     compare("nested calls", calls, sizeof calls, 20000000);
+    compare("loads", loads, sizeof loads, 20000000);
+    compare("stores", stores, sizeof stores, 20000000);
+    compare("atomic operations", atomics, sizeof atomics, 20000000);
+    compare("over 64 KiB", walk, sizeof walk, 20000000);
     return 0;
 }

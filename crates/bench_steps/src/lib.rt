@@ -1,34 +1,39 @@
 //! Steps of a machine, for a program in C that measures them.
 #![tactic(auto)]
 
-ghost use Rattle.std.specs.Prelude.{◌≡◌, Some};
-ghost use Rattle.bench_steps.specs.Reached.{Reaches};
+ghost use Rattle.std.specs.Prelude.{◌≡◌};
+ghost use Rattle.bench_steps.specs.Reached.{Reaches, IsEnd};
 
 use loader::load;
-use machine::{Machine, Stepped, Stop};
+use machine::{Machine, Stepped};
+use object_store::ObjectStore;
 use std::alloc::Global;
 
 /// Steps the machine until it stops.
-fn run_to_stop(machine: &mut Machine) -> Stop
-    ensures steps { Reaches machine.old machine.new }
-    ensures stops { machine.new.stop ≡ Some result }
+fn run_to_end(machine: &mut Machine, store: &mut ObjectStore) -> Stepped
+    ensures steps { Reaches machine.old store.old machine.new store.new }
+    ensures end { IsEnd result }
 {
     loop {
-        if let Stepped::Stopped(stop) = machine.step() {
-            return stop;
+        match machine.step(store) {
+            Stepped::Ran(_) => {}
+            Stepped::Waiting(number) => return Stepped::Waiting(number),
+            Stepped::Stopped(stop) => return Stepped::Stopped(stop),
         }
     }
 }
 
-/// Runs the code with this fuel and with R1 as given, and gives R0 as it stops; 0 where the code isn't loaded.
+/// Runs the code with this fuel and with R1 as given, beside an object of 65,536 bytes with number 1, and gives R0 as the
+/// machine stops; 0 where the code isn't loaded.
 #[unsafe(no_mangle)]
 pub extern "C" fn bpf_run(alloc: Global, code: &[u8], fuel: u64, argument: u64) -> u64 {
-    match load(alloc, code) {
-        Ok(program) => {
-            let mut machine = Machine::new(program, 1, fuel, [argument, 0, 0, 0, 0]);
-            let _ = run_to_stop(&mut machine);
-            machine.registers()[0]
-        }
-        Err(_) => 0,
+    let (Ok(program), Ok(mut store)) = (load(alloc, code), ObjectStore::new(alloc)) else {
+        return 0;
+    };
+    if store.make(65_536).is_err() {
+        return 0;
     }
+    let mut machine = Machine::new(program, 1, fuel, [argument, 0, 0, 0, 0]);
+    let _ = run_to_end(&mut machine, &mut store);
+    machine.registers()[0]
 }
