@@ -1,5 +1,5 @@
 -- The rows of the instruction table, and the one of them that a slot is of.
-use Rattle.std.proofs.Common.{◌≡◌, ℕ, Bool, true, false, List, [], ◌∷◌, Some, None, ◌&&◌, ◌==◌, not, refl, ap, subst, sym, ◌∙◌, arith, inl, inr}
+use Rattle.std.proofs.Common.{◌≡◌, ℕ, Option, Bool, true, false, List, [], ◌∷◌, Some, None, ◌&&◌, ◌==◌, not, refl, ap, sym, ◌∙◌, arith, inl, inr}
 use Rattle.std.specs.Prelude.{nat_lt}
 use Rattle.std.specs.List.{list_any, list_all, filter}
 use Rattle.std.proofs.lemmas.Bool.{eqb-true}
@@ -173,6 +173,9 @@ own_layout i =
 own_row : (i : Instr) → is_of (first i) (layout (row_of i)) ≡ true
 own_row i = sym (of_kinds (first i) (layout (row_of i))) ∙ ap (is_of (first i)) (same_kinds i) ∙ of_kinds (first i) (layout i) ∙ own_layout i
 
+named_alike : (o : Option Instr) (i j : Instr) → o ≡ Some j → j ≡ i → o ≡ Some i
+named_alike o i j e s = e ∙ ap Some s
+
 -- of the rows of an opcode, a slot is of the one of which it is in the table
 one_row : (f : Slot) (i : Instr) → Has all_rows i → is_of f (layout i) ≡ true → row_for f (rows_of f.opcode) ≡ Some i
 unfolding rows_of
@@ -181,7 +184,7 @@ one_row f i there own =
     let s = some_found (λ j. is_of f (layout j)) (rows_of f.opcode) i (has_filtered (λ j. f.opcode == (layout j).opcode) all_rows i there code) own in
     let k = found (λ j. is_of f (layout j)) (rows_of f.opcode) s.0 s.1 in
     let h = filtered (λ j. f.opcode == (layout j).opcode) all_rows s.0 k.0 in
-    subst (λ (j : Instr). row_for f (rows_of f.opcode) ≡ Some j) (one_of f all_rows s.0 i all_apart h.0 there k.1 own) s.1
+    named_alike (row_for f (rows_of f.opcode)) i s.0 s.1 (one_of f all_rows s.0 i all_apart h.0 there k.1 own)
 
 -- an instruction's first slot is of its row, and of no other
 pub row_found : (i : Instr) → row_for (first i) (rows_of (first i).opcode) ≡ Some (row_of i)
