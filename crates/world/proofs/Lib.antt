@@ -1,1 +1,11 @@
 pub mod Joined
+pub mod Unchanged
+pub mod Machines
+pub mod Steps
+pub mod Kept
+pub mod Shipped
+pub mod OneWay
+pub mod Objects
+pub mod Effects
+pub mod ChangedPlaces
+pub mod Numbers
