@@ -1,65 +1,16 @@
 -- Steps of two machines that come to no common object may change places.
 use Rattle.std.proofs.Common.{inl, inr, ◌≡◌, ◌≢◌, ℕ, ◌-◌, List, [], ◌∷◌, length, Some, None, refl, sym, ap, ◌∙◌, subst}
 use Rattle.std.specs.Prelude.{◌⊎◌, slice_set}
-use Rattle.std.proofs.lemmas.List.{get_or-set_other, set_comm}
-use Rattle.object_store.specs.Objects.{bytes_of, with_bytes, map_memory}
-use Rattle.object_store.proofs.Lengths.{length-set_at}
 use Rattle.machine.specs.declared.state.Stepped.{Stepped}
 use Rattle.machine.specs.declared.state.Stepped.TheVariants as stepped
 use Rattle.machine.specs.MachineState.{MachineState}
-use Rattle.machine.specs.TableStep.{TableStep}
+use Rattle.machine.proofs.Others.{steps_commute}
 use Rattle.world.specs.declared.events.Reply.{Reply}
 use Rattle.world.specs.declared.events.Reply.TheVariants.{Ran, Waiting, Stopped, Missing}
 use Rattle.world.specs.WorldState.{WorldState, machine_at, with_machine}
 use Rattle.world.specs.Answers.{StepsMachine, AnswersStep}
 use Rattle.world.specs.Laws.{Comes, StepsChangePlaces}
 use Rattle.world.proofs.Machines.{not_zero, others, other_machine, machines_swap}
-use Rattle.world.proofs.Effects.{SameLengths, Touches, Effect, Stays, Changes, step_effect}
-
-abbrev Objects : Type 0
-Objects = List (List ℕ)
-
--- ---- the objects
-
--- the two steps in the other order
-record Swapped (p q : Objects → Objects → Type 0) (old new : Objects) : Type 0 where
-  side : Objects
-  second : q old side
-  first : p side new
-
-set_lengths : (x : Objects) (n : ℕ) (bytes : List ℕ) → length bytes ≡ length (bytes_of x n) → SameLengths x (with_bytes x n bytes)
-set_lengths x n bytes h k = sym (length-set_at x n k bytes h)
-
-swapped : (m k : MachineState) (p q : Objects → Objects → Type 0) (old mid new : Objects) → ((n : ℕ) → Touches m n → Touches k n → ⊥)
-    → Effect m p old mid → Effect k q mid new → Swapped p q old new
-swapped m k p q old mid new d (Stays e f) (Stays u g) = record {
-  side = old;
-  second = g old (λ n. ap (λ (x : Objects). length (bytes_of x n)) e);
-  first = subst (λ (x : Objects). p old x) (sym (u ∙ e)) (f old (λ n. refl));
-}
-swapped m k p q old mid new d (Stays e f) (Changes n bytes t l u g) =
-    let there : new ≡ with_bytes old n bytes = u ∙ ap (λ (x : Objects). with_bytes x n bytes) e in
-    let size : length bytes ≡ length (bytes_of old n) = l ∙ ap (λ (x : Objects). length (bytes_of x n)) e in
-    record {
-      side = with_bytes old n bytes;
-      second = g old (sym (ap (λ (x : Objects). bytes_of x n) e));
-      first = subst (λ (x : Objects). p (with_bytes old n bytes) x) (sym there) (f (with_bytes old n bytes) (set_lengths old n bytes size));
-    }
-swapped m k p q old mid new d (Changes n bytes t l e f) (Stays u g) = record {
-  side = old;
-  second = g old (λ i. ap (λ (x : Objects). length (bytes_of x i)) e ∙ sym (set_lengths old n bytes l i));
-  first = subst (λ (x : Objects). p old x) (sym (u ∙ e)) (f old refl);
-}
-swapped m k p q old mid new d (Changes n bytes t l e f) (Changes i more s v u g) =
-    let apart : n ≢ i = λ z. d n t (subst (λ j. Touches k j) (sym z) s) in
-    let there : new ≡ with_bytes (with_bytes old i more) n bytes = u ∙ ap (λ (x : Objects). with_bytes x i more) e ∙ set_comm old n i bytes more apart in
-    record {
-      side = with_bytes old i more;
-      second = g old (sym (ap (λ (x : Objects). bytes_of x i) e ∙ get_or-set_other old n i bytes [] (λ z. apart (sym z))));
-      first = subst (λ (x : Objects). p (with_bytes old i more) x) (sym there) (f (with_bytes old i more) (get_or-set_other old i n more [] apart));
-    }
-
--- ---- the machines
 
 -- the reply to a step
 abbrev Tells : ℕ → Stepped → MachineState → Reply → Type 0
@@ -99,21 +50,20 @@ record Turned (old : WorldState) (m k : ℕ) (a b : Reply) (new : WorldState) : 
 both_step : (old mid new : WorldState) (m k : ℕ) (a b : Reply) → m ≢ k → ((n : ℕ) → Comes old m n → Comes old k n → ⊥) → Stepping old m a mid → Stepping mid k b new → Turned old m k a b new
 both_step old mid new m k a b d apart g h =
     let there : machine_at old k ≡ Some h.steps.before = sym (others old mid m k g.answer g.after g.steps (λ z. d (sym z))) ∙ h.steps.found in
-    let o = swapped g.steps.before h.steps.before _ _ old.objects mid.objects new.objects
-        (λ n s t. apart n (record { machine = g.steps.before; found = g.steps.found; instr = s.instr; attempts = s.attempts; op = s.op; access = s.access })
-            (record { machine = h.steps.before; found = there; instr = t.instr; attempts = t.attempts; op = t.op; access = t.access }))
-        (step_effect g.steps.before g.after old.objects mid.objects g.answer g.steps.step) (step_effect h.steps.before h.after mid.objects new.objects h.answer h.steps.step) in
-    let side : WorldState = with_machine (record old { objects = o.side }) k h.after in
+    let o = steps_commute g.steps.before h.steps.before g.after h.after old.objects mid.objects new.objects g.answer h.answer
+        (λ n s t. apart n (record { machine = g.steps.before; found = g.steps.found; touches = s }) (record { machine = h.steps.before; found = there; touches = t }))
+        g.steps.step h.steps.step in
+    let side : WorldState = with_machine (record old { objects = o.0 }) k h.after in
     let machines : new.machines ≡ slice_set (slice_set old.machines (k - 1) h.after) (m - 1) g.after =
         ap (λ (w : WorldState). w.machines) h.steps.changed ∙ ap (λ (w : WorldState). slice_set w.machines (k - 1) h.after) g.steps.changed
         ∙ machines_swap old.machines m k g.after h.after (not_zero old m g.steps.before g.steps.found) (not_zero old k h.steps.before there) d in
     record {
       side = side;
-      second = told old side k h.answer h.after b (record { before = h.steps.before; found = there; step = o.second; changed = refl }) h.tells;
+      second = told old side k h.answer h.after b (record { before = h.steps.before; found = there; step = o.1; changed = refl }) h.tells;
       first = told side new m g.answer g.after a (record {
         before = g.steps.before;
-        found = other_machine (record old { objects = o.side }) k m h.after (not_zero old k h.steps.before there) d ∙ g.steps.found;
-        step = o.first;
+        found = other_machine (record old { objects = o.0 }) k m h.after (not_zero old k h.steps.before there) d ∙ g.steps.found;
+        step = o.2;
         changed = ap (λ (ms : List MachineState). record { machines = ms; objects = new.objects }) machines;
       }) g.tells;
     }

@@ -6,6 +6,5 @@ pub mod Kept
 pub mod Shipped
 pub mod OneWay
 pub mod Objects
-pub mod Effects
 pub mod ChangedPlaces
 pub mod Numbers

@@ -1,6 +1,7 @@
 -- Machines by number.
-use Rattle.std.proofs.Common.{◌≡◌, ◌≢◌, ℕ, zero, suc, ◌-◌, List, [], ◌∷◌, Option, Some, None, refl, sym, ap, subst, ◌∙◌, arith}
+use Rattle.std.proofs.Common.{◌≡◌, ◌≢◌, ◌≤◌, ◌<◌, ℕ, zero, suc, ◌-◌, List, length, get_or, [], ◌∷◌, Option, Some, None, refl, sym, ap, subst, ◌∙◌, arith}
 use Rattle.std.specs.Prelude.{slice_get, slice_set}
+use Rattle.std.proofs.lemmas.Option.{slice_get-get_or}
 use Rattle.machine.specs.MachineState.{MachineState}
 use Rattle.machine.specs.declared.state.Stepped.{Stepped}
 use Rattle.world.specs.declared.events.Reply.TheVariants.{Ran, Waiting, Stopped, Missing}
@@ -17,6 +18,13 @@ found_once o x y p q = cc
 
 pub found_none : {P : Type 0} (o : Option MachineState) (s : MachineState) → o ≡ None → o ≡ Some s → P
 found_none o s a b = absurd (cc)
+
+-- the machine that is read at a number
+pub found_at : (w : WorldState) (m : ℕ) (x d : MachineState) → 0 < m → m ≤ length w.machines → x ≡ get_or w.machines (m - 1) d → machine_at w m ≡ Some x
+found_at w zero x d z h e = absurd (omega arith)
+found_at w (suc n) x d z h e =
+    let i : suc n - 1 ≡ n = omega arith in
+    slice_get-get_or w.machines n d (omega (arith, h)) ∙ ap (λ (y : MachineState). Some y) (sym (e ∙ ap (λ k. get_or w.machines k d) i))
 
 other_place : (xs : List MachineState) (n k : ℕ) (x : MachineState) → k ≢ n → slice_get (slice_set xs n x) k ≡ slice_get xs k
 other_place [] n k x h = refl

@@ -12,7 +12,7 @@ use Rattle.world.specs.Commands.Command.{Make, Free, Put, Get, Ship, Step, Regs,
 use Rattle.world.specs.WorldState.{WorldState, world_start}
 use Rattle.world.specs.Answers.{StepsMachine, Answers}
 use Rattle.world.specs.Laws.{made_numbers, counted_from, NumbersCountUp}
-use Rattle.world.proofs.Effects.{Effect, Stays, Changes, step_effect}
+use Rattle.world.proofs.Steps.{step_count}
 
 -- the numbers in the replies count up from this one
 abbrev CountsFrom : ℕ → List Reply → Type 0
@@ -43,12 +43,8 @@ made old new n bytes e u replies h =
     let rest : CountsFrom (suc (length old.objects)) replies = subst (λ k. CountsFrom k replies) count h in
     rw e (ap (λ (l : List ℕ). length old.objects ∷ l) rest)
 
-effect_count : (m : MachineState) (does : List (List ℕ) → List (List ℕ) → Type 0) (before after : List (List ℕ)) → Effect m does before after → length after ≡ length before
-effect_count m does before after (Stays e f) = ap length e
-effect_count m does before after (Changes n bytes t l e f) = ap length e ∙ length-set before n bytes
-
 stepped : (old new : WorldState) (m : ℕ) (a : Stepped) (after : MachineState) (r : Reply) → IsOther r → StepsMachine old m a after new → Adds old r new
-stepped old new m a after r i h = same_count old new r i (effect_count h.before _ old.objects new.objects (step_effect h.before after old.objects new.objects a h.step))
+stepped old new m a after r i h = same_count old new r i (step_count h.before after old.objects new.objects a h.step)
 
 one : (old new : WorldState) (c : Command) (r : Reply) → Answers old c r new → Adds old r new
 one old new (Make z) (Made n) h = made old new n _ h.1 h.2

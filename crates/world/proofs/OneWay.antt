@@ -1,14 +1,14 @@
 -- But for `nomem`, commands have one run.
 use Rattle.std.proofs.Common.{◌≡◌, ◌≢◌, ℕ, ◌+◌, ◌≤◌, List, [], ◌∷◌, ◌++◌, length, take, drop, replicate, Option, Some, None, refl, sym, ap, subst, ◌∙◌}
 use Rattle.loader.specs.declared.loading.LoadError.{LoadError}
-use Rattle.loader.proofs.Refused.{one_refusal, no_refusal_of_valid}
+use Rattle.loader.proofs.OneReason.{one_refusal, no_refusal_of_valid}
 use Rattle.machine.specs.MachineState.{MachineState, start}
 use Rattle.machine.specs.TableStep.{TableStep}
 use Rattle.machine.specs.declared.state.Written.{Written}
 use Rattle.machine.specs.declared.state.Stop.{Stop}
 use Rattle.machine.specs.declared.state.Stepped.{Stepped}
 use Rattle.machine.specs.declared.state.Stepped.TheVariants as stepped
-use Rattle.machine.proofs.Outcomes.{map_steps_one_way}
+use Rattle.machine.proofs.OneWay.{map_steps_one_way}
 use Rattle.object_store.specs.Objects.{map_memory}
 use Rattle.world.specs.declared.events.Reply.{Reply}
 use Rattle.world.specs.declared.events.Reply.TheVariants.{Made, Freed, Done, Bytes, Shipped, Ran, Waiting, Stopped, Registers, Emitted, NoMemory, Full, Outside, Refused, Missing}

@@ -1,17 +1,18 @@
 -- What the definitions say, in the agent's own words.
-use Rattle.std.specs.Prelude.{◌≡◌, ◌≢◌, ◌<◌, ◌≤◌, ℕ, zero, suc, ◌+◌, Bool, true, false, List, [], ◌∷◌, length, map, slice_get, Option, Some, None, ◌⊎◌}
-use Rattle.object_store.specs.Objects.{bytes_of, IsLive}
+use Rattle.std.specs.Prelude.{◌≡◌, ◌≢◌, ◌<◌, ◌≤◌, ℕ, zero, suc, ◌+◌, Bool, true, false, List, [], ◌∷◌, length, get_or, map, Option, Some, None, ◌⊎◌}
+use Rattle.isa_table.specs.Table.{size_bytes}
+use Rattle.object_store.specs.Objects.{bytes_of}
 use Rattle.machine.specs.MachineState.{MachineState}
-use Rattle.machine.specs.Rows.{asks}
-use Rattle.machine.specs.Rows.Request.{Touch}
-use Rattle.machine.specs.TableStep.{Attempts}
+use Rattle.machine.specs.Laws.{Touches}
+use Rattle.machine.specs.declared.state.Stepped.{Stepped}
+use Rattle.machine.specs.declared.state.Stepped.TheVariants as stepped
 use Rattle.world.specs.declared.events.Reply.{Reply}
 use Rattle.world.specs.declared.events.Reply.TheVariants.{Made, Freed, Done, Bytes, Shipped, Ran, Waiting, Stopped, Registers, Emitted, NoMemory, Full, Outside, Refused, Missing}
 use Rattle.world.specs.Run.{Runs}
 use Rattle.world.specs.Commands.{Command}
 use Rattle.world.specs.Commands.Command.{Make, Free, Put, Get, Ship, Step, Regs, Out, Stack}
 use Rattle.world.specs.WorldState.{WorldState, world_start, machine_at}
-use Rattle.world.specs.Answers.{Answers}
+use Rattle.world.specs.Answers.{StepsMachine, Answers}
 
 -- ---- replies
 
@@ -91,14 +92,11 @@ abbrev pub RunsWhatWasShipped : Type 0
 RunsWhatWasShipped = (commands : List Command) (replies : List Reply) (new : WorldState) → Runs Answers world_start commands replies new
     → map code_of new.machines ≡ shipped_codes commands replies
 
--- Machine m comes to an access to object n, which no stop prevents.
+-- The next step of machine m is an access to object n.
 pub record Comes (w : WorldState) (m n : ℕ) : Type 0 where
   pub machine : MachineState
   pub found : machine_at w m ≡ Some machine
-  pub instr : _
-  pub attempts : Attempts machine instr
-  pub op : _
-  pub access : asks instr machine ≡ Touch n op
+  pub touches : Touches machine n
 
 -- Where two machines come to no common object, their steps may change places: the replies are the same, and so is the state after both.
 abbrev pub StepsChangePlaces : Type 0
@@ -106,6 +104,21 @@ StepsChangePlaces = (old new : WorldState) (m k : ℕ) (a b : Reply) → m ≢ k
     → Runs Answers old (Step m ∷ Step k ∷ []) (a ∷ b ∷ []) new → Runs Answers old (Step k ∷ Step m ∷ []) (b ∷ a ∷ []) new
 
 -- ---- objects
+
+-- byte i of the object is one of those that the step tells that it wrote
+abbrev pub IsTold : Stepped → ℕ → ℕ → Type 0
+IsTold (stepped.Ran (Some w)) n i = (n ≡ w.number) × (w.offset ≤ i) × (i < w.offset + size_bytes w.size)
+IsTold _ n i = ⊥
+
+-- no object's length changes, and no byte but those
+abbrev pub ChangesTold : Stepped → List (List ℕ) → List (List ℕ) → Type 0
+ChangesTold answer before after = (n : ℕ) → (length (bytes_of after n) ≡ length (bytes_of before n))
+    × ((i : ℕ) → (IsTold answer n i → ⊥) → get_or (bytes_of after n) i 0 ≡ get_or (bytes_of before n) i 0)
+
+-- A step writes one object at most, and of it the range at most that it tells.
+abbrev pub StepsTellWhatTheyWrite : Type 0
+StepsTellWhatTheyWrite = (old new : WorldState) (m : ℕ) (answer : Stepped) (after : MachineState) → StepsMachine old m answer after new
+    → ChangesTold answer old.objects new.objects
 
 -- Writing bytes into an object leaves all machines and every other object as they were.
 abbrev pub PutsStayApart : Type 0

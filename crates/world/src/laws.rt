@@ -1,5 +1,5 @@
 //! What the definitions say, apart from any call.
-ghost use Rattle.world.specs.Laws.{RefusalsChangeNothing, ShowingChangesNothing, NeverWaits, AnswersOneWay, RunsOneWay, OthersStay, RunsWhatWasShipped, StepsChangePlaces, PutsStayApart, GetsWhatWasPut, NumbersCountUp};
+ghost use Rattle.world.specs.Laws.{RefusalsChangeNothing, ShowingChangesNothing, NeverWaits, AnswersOneWay, RunsOneWay, OthersStay, RunsWhatWasShipped, StepsChangePlaces, StepsTellWhatTheyWrite, PutsStayApart, GetsWhatWasPut, NumbersCountUp};
 
 /// A refusal changes nothing.
 pub fn refusals_change_nothing()
@@ -39,6 +39,11 @@ pub fn runs_what_was_shipped()
 /// Steps of two machines that come to no common object may change places.
 pub fn steps_change_places()
     ensures { StepsChangePlaces }
+{}
+
+/// A step writes one object at most, and of it the range at most that it tells.
+pub fn steps_tell_what_they_write()
+    ensures { StepsTellWhatTheyWrite }
 {}
 
 /// Writing bytes into an object leaves the machines and every other object as they were.

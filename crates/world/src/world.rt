@@ -8,7 +8,7 @@ ghost use Rattle.world.specs.Run.{Runs};
 ghost use Rattle.world.specs.Commands.{command_of};
 ghost use Rattle.world.specs.Commands.Command.{Put, Ship};
 ghost use Rattle.world.specs.WorldState.{WorldState, machine_at, world_start};
-ghost use Rattle.world.specs.Answers.{Answers, AnswersMake, AnswersFree, AnswersPut, AnswersGet, AnswersShip, AnswersStep, AnswersRegs, AnswersOut, AnswersStack, ShowsRange};
+ghost use Rattle.world.specs.Answers.{StepsMachine, Answers, AnswersMake, AnswersFree, AnswersPut, AnswersGet, AnswersShip, AnswersStep, AnswersRegs, AnswersOut, AnswersStack, ShowsRange};
 
 use crate::events::{Event, ObjectLength, Reply};
 use crate::shown::{Bytes, Shown, Values};
@@ -45,6 +45,17 @@ fn step_over(machine: &mut Machine, objects: &mut ObjectStore) -> Stepped
     ensures { TableStep map_memory machine.old objects.old result machine.new objects.new }
 {
     machine.step(objects)
+}
+
+/// The reply to a step of a machine, which is at that slot after it.
+fn reply_to(machine: usize, answer: Stepped, slot: usize) -> Reply
+    ensures { (old new : WorldState) (after : MachineState) → StepsMachine old machine answer after new → slot ≡ after.slot → AnswersStep old machine result new }
+{
+    match answer {
+        Stepped::Ran(_) => Reply::Ran { machine, slot },
+        Stepped::Waiting(object) => Reply::Waiting { machine, object },
+        Stepped::Stopped(stop) => Reply::Stopped { machine, stop },
+    }
 }
 
 /// The bytes from the offset on.
@@ -209,14 +220,8 @@ impl World {
             return Reply::Missing;
         }
         let stepping = &mut self.machines[machine - 1];
-        match step_over(stepping, &mut self.objects) {
-            Stepped::Ran(_) => Reply::Ran {
-                machine,
-                slot: stepping.slot(),
-            },
-            Stepped::Waiting(object) => Reply::Waiting { machine, object },
-            Stepped::Stopped(stop) => Reply::Stopped { machine, stop },
-        }
+        let answer = step_over(stepping, &mut self.objects);
+        reply_to(machine, answer, stepping.slot())
     }
 
     /// The machine of a number.
