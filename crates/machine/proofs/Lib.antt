@@ -13,4 +13,3 @@ pub mod Changes
 pub mod Others
 pub mod Carried
 pub mod Replaying
-pub mod Starts
