@@ -52,7 +52,6 @@ one old new (Make z) Full h = equal old new Full (λ _. refl) h.1
 one old new (Make z) NoMemory h = equal old new NoMemory (λ _. refl) h.1
 one old new (Free n) Missing h = equal old new Missing (λ _. refl) h.1
 one old new (Free n) (Freed k) h = in_bytes old new n _ (Freed k) (λ _. refl) h.2
-one old new (Put n o b) NoMemory h = equal old new NoMemory (λ _. refl) h
 one old new (Put n o b) Outside h = equal old new Outside (λ _. refl) h.1
 one old new (Put n o b) Done h = in_bytes old new n _ Done (λ _. refl) h.1
 one old new (Get n o z) Outside h = equal old new Outside (λ _. refl) h.1

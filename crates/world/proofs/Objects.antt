@@ -12,7 +12,6 @@ use Rattle.world.specs.Answers.{AnswersGet}
 use Rattle.world.specs.Laws.{PutsStayApart, GetsWhatWasPut}
 
 pub puts_stay_apart : PutsStayApart
-puts_stay_apart old new n o b NoMemory h = (ap (λ (w : WorldState). w.machines) h, λ k u. ap (λ (w : WorldState). bytes_of w.objects k) h)
 puts_stay_apart old new n o b Outside h = (ap (λ (w : WorldState). w.machines) h.1, λ k u. ap (λ (w : WorldState). bytes_of w.objects k) h.1)
 puts_stay_apart old new n o b Done h =
     (ap (λ (w : WorldState). w.machines) h.1, λ k u. ap (λ (w : WorldState). bytes_of w.objects k) h.1 ∙ get_or-set_other old.objects n k _ [] u)

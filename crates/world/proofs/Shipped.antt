@@ -56,7 +56,6 @@ one_more old new (Make z) NoMemory h = equal old new h.1
 one_more old new (Make z) (Made n) h = in_objects old new _ h.2
 one_more old new (Free n) Missing h = equal old new h.1
 one_more old new (Free n) (Freed k) h = in_objects old new _ h.2
-one_more old new (Put n o b) NoMemory h = equal old new h
 one_more old new (Put n o b) Outside h = equal old new h.1
 one_more old new (Put n o b) Done h = in_objects old new _ h.1
 one_more old new (Get n o z) Outside h = equal old new h.1

@@ -10,7 +10,6 @@ refusals_change_nothing old new (Make z) NoMemory h t = h.1
 refusals_change_nothing old new (Make z) (Made n) h t = absurd (cc)
 refusals_change_nothing old new (Free n) Missing h t = h.1
 refusals_change_nothing old new (Free n) (Freed k) h t = absurd (cc)
-refusals_change_nothing old new (Put n o b) NoMemory h t = h
 refusals_change_nothing old new (Put n o b) Outside h t = h.1
 refusals_change_nothing old new (Put n o b) Done h t = absurd (cc)
 refusals_change_nothing old new (Get n o z) Outside h t = h.1

@@ -31,9 +31,8 @@ AnswersFree old n Missing new = (IsLive old.objects n → ⊥) × (new ≡ old)
 AnswersFree old n (Freed k) new = IsLive old.objects n × (k ≡ n) × (new ≡ record old { objects = with_bytes old.objects n [] })
 AnswersFree old n _ new = ⊥
 
--- The bytes stand over those of the object from the offset on. They take memory before the command is whole, so `nomem` comes first.
+-- the bytes stand over those of the object from the offset on
 abbrev pub AnswersPut : WorldState → ℕ → ℕ → List ℕ → Reply → WorldState → Type 0
-AnswersPut old n offset bytes NoMemory new = new ≡ old
 AnswersPut old n offset bytes Outside new = (HasRange old.objects n offset (length bytes) → ⊥) × (new ≡ old)
 AnswersPut old n offset bytes Done new = HasRange old.objects n offset (length bytes) × (new ≡ record old { objects = with_range old.objects n offset bytes })
 AnswersPut old n offset bytes _ new = ⊥

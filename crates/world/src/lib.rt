@@ -13,4 +13,4 @@ pub use laws::{
     steps_change_places, steps_tell_what_they_write,
 };
 pub use shown::{Bytes, Shown, Values};
-pub use world::World;
+pub use world::{MACHINE_LIMIT, World};

@@ -6,20 +6,19 @@ ghost use Rattle.machine.specs.TableStep.{TableStep};
 ghost use Rattle.world.specs.declared.events.Reply.{Reply};
 ghost use Rattle.world.specs.Run.{Runs};
 ghost use Rattle.world.specs.Commands.{command_of};
-ghost use Rattle.world.specs.Commands.Command.{Put, Ship};
 ghost use Rattle.world.specs.WorldState.{WorldState, machine_at, world_start};
 ghost use Rattle.world.specs.Answers.{StepsMachine, Answers, AnswersMake, AnswersFree, AnswersPut, AnswersGet, AnswersShip, AnswersStep, AnswersRegs, AnswersOut, AnswersStack, ShowsRange};
 
 use crate::events::{Event, ObjectLength, Reply};
 use crate::shown::{Bytes, Shown, Values};
-use loader::{CODE_LIMIT, LoadError, Why, load};
+use loader::{Why, load};
 use machine::{Machine, Stepped};
 use object_store::{GetError, MakeError, ObjectStore, PutError};
 use std::alloc::{AllocError, Global};
 use std::marker::Model;
 
-/// How many machines can ever be shipped.
-const MACHINE_LIMIT: usize = 48;
+/// How many machines are ever shipped (this project's choice).
+pub const MACHINE_LIMIT: usize = 48;
 
 /// The machines and objects of an agent.
 #[derive(Drop)]
@@ -88,9 +87,7 @@ impl World {
 
     /// Does one command.
     pub fn apply(&mut self, event: Event) -> Reply
-        ensures answers { Answers self.old (command_of event) result self.new }
-        // The bytes of a `put` are in the event, and no more memory is asked for.
-        ensures put { (n offset : ℕ) (bytes : List ℕ) → command_of event ≡ Put n offset bytes → result ≢ Reply.NoMemory }
+        ensures { Answers self.old (command_of event) result self.new }
     {
         match event {
             Event::Make { length } => self.make(length),
@@ -134,22 +131,6 @@ impl World {
         Ok(())
     }
 
-    /// What a `ship` is answered whose code, of so many bytes, found no memory. It is refused in another way where no memory
-    /// is needed for that.
-    pub fn ship_unread(&self, count: usize) -> Reply
-        ensures { (fuel : ℕ) (arguments code : List ℕ) → length code ≡ count → Answers self.now (Ship fuel arguments code) result self.now }
-    {
-        if self.machines.len() >= MACHINE_LIMIT {
-            return Reply::Full;
-        }
-        let why = match count {
-            0 => Why::Empty,
-            1..=CODE_LIMIT => return Reply::NoMemory,
-            _ => Why::TooLong,
-        };
-        Reply::Refused(LoadError { slot: 0, why })
-    }
-
     /// Makes an object.
     fn make(&mut self, length: ObjectLength) -> Reply
         ensures { AnswersMake self.old length result self.new }
@@ -173,8 +154,7 @@ impl World {
 
     /// Writes bytes into an object.
     fn put(&mut self, object: u32, offset: u32, bytes: &[u8]) -> Reply
-        ensures answers { AnswersPut self.old object offset bytes.now result self.new }
-        ensures memory { result ≢ Reply.NoMemory }
+        ensures { AnswersPut self.old object offset bytes.now result self.new }
     {
         match self.objects.put(object, offset, bytes) {
             Ok(()) => Reply::Done,

@@ -15,7 +15,7 @@ loop-event-preserved c =
       run = (
         i.run.0 ++ c.apply.result ∷ [],
         rw (c.push.ensures.items, ok) (ap (λ (l : List Reply). l ++ c.apply.result ∷ []) i.run.1 ∙ append_assoc _ i.run.0 (c.apply.result ∷ [])),
-        rw map-append (Runs-append Answers c.args.self.now c.loop-event.self c.apply.new.self (map command_of c.loop-event.yielded) i.run.0 (command_of c.in-Some.event ∷ []) (c.apply.result ∷ []) i.run.2 (c.apply.new.self, c.apply.ensures.answers, refl)),
+        rw map-append (Runs-append Answers c.args.self.now c.loop-event.self c.apply.new.self (map command_of c.loop-event.yielded) i.run.0 (command_of c.in-Some.event ∷ []) (c.apply.result ∷ []) i.run.2 (c.apply.new.self, c.apply.ensures, refl)),
       );
       room = omega (arith, s.1);
     }
