@@ -4,6 +4,7 @@ ghost use Rattle.agent.specs.Failures.{status_number, failure_line, status_of};
 
 use arrayvec::ArrayVec;
 use loader::LoadError;
+use thiserror::Error;
 
 /// How the program ended.
 #[derive(Clone, Copy, Debug, PartialEq, Eq)]
@@ -14,7 +15,7 @@ pub enum Status {
     Refused = 1,
     /// The arguments name nothing that the program does.
     InvalidArguments = 2,
-    /// A stream failed, or there was no memory.
+    /// A stream failed, or out of memory.
     Failed = 3,
 }
 
@@ -28,15 +29,19 @@ impl Status {
 }
 
 /// Why the program gave up.
-#[derive(Clone, Copy, Drop, Debug, PartialEq, Eq)]
+#[derive(Clone, Copy, Drop, Debug, PartialEq, Eq, Error)]
 pub enum Failure {
     /// The code of the input isn't valid.
+    #[error("{0}")]
     Refused(LoadError),
-    /// The input couldn't be read.
+    /// The input can't be read.
+    #[error("read fault")]
     Read,
-    /// The output couldn't be written.
+    /// The output can't be written.
+    #[error("write fault")]
     Write,
-    /// There was no memory.
+    /// Out of memory.
+    #[error("no memory")]
     NoMemory,
 }
 

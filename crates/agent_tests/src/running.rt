@@ -1,7 +1,9 @@
 //! `run`, where a stream fails or a line is cut. Whole conversations are in `conversations`.
 
 use crate::outcome::outcome_of;
-use agent::tool;
+use agent::{Failure, tool};
+use bpf_codec::Fault;
+use loader::{LoadError, Why};
 use std::test::Fail;
 use test_devices::{FailingReader, Narrow, Pieces};
 
@@ -43,5 +45,24 @@ fn an_empty_line_a_long_line_and_a_cut_line(rt: HostRuntime) -> Result<(), Fail>
     let status = tool(alloc, &["run"], &mut pieces, &mut output, &mut errors);
     assert_eq!(rt; (whole.status, status), (0, 0));
     assert_eq!(rt; output.as_slice(), whole.output.as_slice());
+    Ok(())
+}
+
+#[test]
+fn failures_have_their_texts(rt: HostRuntime) -> Result<(), Fail> {
+    let alloc = rt.alloc();
+    let refused = LoadError {
+        slot: 3,
+        why: Why::Decoder(Fault::HalfWide),
+    };
+    let texts = [
+        (Failure::Refused(refused), "slot 3: HalfWide"),
+        (Failure::Read, "read fault"),
+        (Failure::Write, "write fault"),
+        (Failure::NoMemory, "no memory"),
+    ];
+    for (failure, text) in texts {
+        assert_eq!(rt; format!(in alloc; "{failure}")?.as_str(), text);
+    }
     Ok(())
 }
