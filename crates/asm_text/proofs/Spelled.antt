@@ -1,6 +1,8 @@
 -- The tokens of bytes that are written token by token.
-use Rattle.std.proofs.Common.{◌≡◌, ℕ, ◌-◌, ◌<◌, ◌^◌, ◌==◌, ◌&&◌, nat_lt, suc, Bool, true, false, cond, List, [], ◌∷◌, ◌++◌, length, take, drop, get_or, refl, ap, ◌∙◌, arith, Some, None}
+use Rattle.std.proofs.Common.{◌≡◌, ℕ, ◌-◌, ◌<◌, ◌^◌, ◌==◌, ◌&&◌, nat_lt, suc, Bool, true, false, cond, List, [], ◌∷◌, ◌++◌, length, take, drop, get_or, map, refl, sym, ap, ◌∙◌, arith, Some, None}
 use Rattle.std.proofs.lemmas.Bool.Decides.{nat_tests}
+use Rattle.std.proofs.lemmas.Int.Digits.{digits_value_is}
+use Rattle.std.specs.Int.Digits.{number_from_digits}
 use Rattle.std.specs.Char.{digit_value, is_ascii_digit, is_ascii_hexdigit}
 use Rattle.std.specs.Str.Parse.{IsNumeral, AllDigits, digits_value}
 use Rattle.asm_text.specs.Tokens.{run, tokens, tokens_past, is_blank, is_letter, is_name_byte, begins_comment, begins_hex, word_length, lexeme_of, bounded}
@@ -95,10 +97,10 @@ minus_front rest = refl
 
 -- ---- numbers
 
-name_byte_ends : (x : ℕ) → is_name_byte x ≡ false → is_ascii_digit x ≡ false
+pub name_byte_ends : (x : ℕ) → is_name_byte x ≡ false → is_ascii_digit x ≡ false
 name_byte_ends x h = grind (arith, nat_tests)
 
-name_byte_ends_hex : (x : ℕ) → is_name_byte x ≡ false → is_ascii_hexdigit x ≡ false
+pub name_byte_ends_hex : (x : ℕ) → is_name_byte x ≡ false → is_ascii_hexdigit x ≡ false
 name_byte_ends_hex x h = grind (arith, nat_tests)
 
 no_x : (x : ℕ) (xs : List ℕ) (b : Bool) → is_name_byte x ≡ b → run is_name_byte (x ∷ xs) ≡ 0 → (x == 120) ≡ false
@@ -108,7 +110,7 @@ no_x x xs false e h = grind (arith, nat_tests)
 and_left : (a b : Bool) → a ≡ false → (a && b) ≡ false
 and_left a b e = rw e refl
 
-begins_no_hex : (x : ℕ) (xs : List ℕ) → (x == 120) ≡ false → begins_hex (x ∷ xs) ≡ false
+pub begins_no_hex : (x : ℕ) (xs : List ℕ) → (x == 120) ≡ false → begins_hex (x ∷ xs) ≡ false
 begins_no_hex x [] h = refl
 begins_no_hex x (d ∷ xs) h = and_left (x == 120) (is_ascii_hexdigit d) h
 
@@ -126,7 +128,7 @@ second_no_x : (ds : List ℕ) → run is_ascii_digit ds ≡ length ds → (get_o
 second_no_x [] all = refl
 second_no_x (d ∷ ds) all = digit_no_x d ds (is_ascii_digit d) refl all
 
-and_right : (a b : Bool) → b ≡ false → (a && b) ≡ false
+pub and_right : (a b : Bool) → b ≡ false → (a && b) ≡ false
 and_right true b e = e
 and_right false b e = refl
 
@@ -176,12 +178,22 @@ hex_length d ds rest e all end =
     let r : run is_ascii_hexdigit (d ∷ (ds ++ rest)) ≡ suc (length ds) = run_through is_ascii_hexdigit (d ∷ ds) rest all (run_ends_too is_name_byte is_ascii_hexdigit name_byte_ends_hex rest end) in
     ap (λ b. cond b (suc (suc (run is_ascii_hexdigit (d ∷ (ds ++ rest))))) (suc (run is_ascii_digit (120 ∷ d ∷ (ds ++ rest))))) e ∙ ap (λ k. suc (suc k)) r
 
-hex_number_is : (ds : List ℕ) (k : ℕ) → digits_value 16 ds ≡ k → k < 2 ^ 64 → lexeme_of (48 ∷ 120 ∷ ds) ≡ Number (Some k)
+hex_number_is : (ds : List ℕ) → lexeme_of (48 ∷ 120 ∷ ds) ≡ Number (bounded (digits_value 16 ds))
 unfolding lexeme_of
-hex_number_is ds k v small = ap (λ o. Number o) (bounded_small (digits_value 16 ds) k v small)
+hex_number_is ds = refl
+
+-- hex digits at the front
+pub hex_digits_front : (ds rest : List ℕ) → IsNumeral 16 ds → run is_name_byte rest ≡ 0 → tokens (48 ∷ 120 ∷ (ds ++ rest)) ≡ Number (bounded (digits_value 16 ds)) ∷ tokens rest
+hex_digits_front [] rest h end = absurd (let p : 0 < 0 = h.0 in omega arith)
+hex_digits_front (d ∷ ds) rest h end =
+    word_front 48 (120 ∷ d ∷ ds) rest refl refl (hex_length d ds rest (hex_is d h.1.0) (hex_run (d ∷ ds) h.1) end) ∙ ap (λ t. t ∷ tokens rest) (hex_number_is (d ∷ ds))
 
 -- a hex number at the front
 pub hex_front : (ds rest : List ℕ) (k : ℕ) → IsNumeral 16 ds → digits_value 16 ds ≡ k → k < 2 ^ 64 → run is_name_byte rest ≡ 0 → tokens (48 ∷ 120 ∷ (ds ++ rest)) ≡ Number (Some k) ∷ tokens rest
-hex_front [] rest k h v small end = absurd (let p : 0 < 0 = h.0 in omega arith)
-hex_front (d ∷ ds) rest k h v small end =
-    word_front 48 (120 ∷ d ∷ ds) rest refl refl (hex_length d ds rest (hex_is d h.1.0) (hex_run (d ∷ ds) h.1) end) ∙ ap (λ t. t ∷ tokens rest) (hex_number_is (d ∷ ds) k v small)
+hex_front ds rest k h v small end = hex_digits_front ds rest h end ∙ ap (λ o. Number o ∷ tokens rest) (bounded_small (digits_value 16 ds) k v small)
+
+-- hex digits of the same values
+pub hex_same : (ds es rest : List ℕ) → IsNumeral 16 ds → IsNumeral 16 es → map digit_value ds ≡ map digit_value es → run is_name_byte rest ≡ 0 → tokens (48 ∷ 120 ∷ (ds ++ rest)) ≡ tokens (48 ∷ 120 ∷ (es ++ rest))
+hex_same ds es rest h i e end =
+    let v : digits_value 16 ds ≡ digits_value 16 es = digits_value_is 16 ds ∙ ap (number_from_digits 16) e ∙ sym (digits_value_is 16 es) in
+    hex_digits_front ds rest h end ∙ ap (λ k. Number (bounded k) ∷ tokens rest) v ∙ sym (hex_digits_front es rest i end)

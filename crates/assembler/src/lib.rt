@@ -8,5 +8,7 @@ mod passes;
 
 pub use asm_grammar::Why;
 pub use error::AsmError;
-pub use laws::{canonical_spells, label_last, least_first, ok_exactly, one_spelling};
+pub use laws::{
+    canonical_spells, label_last, least_first, ok_exactly, one_meaning, one_spelling, tokens_decide,
+};
 pub use passes::assemble;
