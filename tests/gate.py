@@ -21,17 +21,17 @@ def progress(start, proved, tests, total):
 
 def run_ci(rt):
     """Passes on what `rt ci` says, but for its last line, and gives that with the status."""
-    start, proved, tests, last = time.monotonic(), 0, 0, ""
+    start, proved, tests, last = time.monotonic(), 0, 0, None
     process = subprocess.Popen([rt, "ci"], cwd=ROOT, stdout=subprocess.PIPE, stderr=subprocess.STDOUT, text=True, errors="replace")
     for line in process.stdout:
-        if last:
+        if last is not None:
             print(last, flush=True)
+            done = PROVED.match(last)
+            if done:
+                tests += bool(done[1])
+                proved += not done[1]
+                progress(start, proved, tests, len(crates()))
         last = line.rstrip("\n")
-        done = PROVED.match(last)
-        if done:
-            tests += bool(done[1])
-            proved += not done[1]
-            progress(start, proved, tests, len(crates()))
     return process.wait(), last
 
 

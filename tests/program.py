@@ -144,7 +144,7 @@ def main():
         show_faults(program)
         show_no_memory(program)
         count = show_examples(program)
-    except (Failed, subprocess.TimeoutExpired) as wrong:
+    except (Failed, OSError, subprocess.TimeoutExpired) as wrong:
         sys.exit(f"{sys.argv[1]}: {wrong}")
     print(f"{sys.argv[1]}: statuses and streams are right, and {count} replies to examples/ came line by line")
 
