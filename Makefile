@@ -28,11 +28,8 @@ $(PROGRAM): $(SOURCES)
 	@cd crates/bpfagent && $(RT) run -- run < /dev/null >&2
 	@touch $(PROGRAM)
 
-# First what takes seconds: that the documents and lists are those of the sources.
+# It says how far it is. The last line is that of `rt ci`.
 test:
-	@python3 tests/protocol.py
-	@python3 tests/definitions.py
-	@python3 tests/failures.py
 	@python3 tests/gate.py $(RT)
 
 # Makes the test vectors again, by an interpreter of RFC 9669 of its own, and compares; it also says

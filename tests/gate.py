@@ -1,7 +1,9 @@
 #!/usr/bin/env python3
-"""Runs `rt ci`, says how far it is, and then runs the programs that it built by tests/program.py: gate.py RT
+"""The gate: gate.py RT
 
-The last line is that of `rt ci`; where a program fails, it counts one more failure.
+First the scripts that compare documents and lists with the sources, which take seconds. Then `rt ci`, with a line on how
+far it is. Then tests/program.py over the program as `rt ci` has built it, by LLVM and by Rattle's own compiler. The last
+line is that of `rt ci`; what else fails is counted in it.
 """
 import re
 import subprocess
@@ -10,13 +12,19 @@ import time
 
 from sources import ROOT, crates
 
+SCRIPTS = ["tests/protocol.py", "tests/definitions.py", "tests/failures.py"]
 BUILT = ["crates/bpfagent/out/bpfagent", "crates/bpfagent/out/bpfagent.by-rattle"]
 PROVED = re.compile(r"rt: \w+(: its tests are)? proved$")
 
 
-def progress(start, proved, tests, total):
+def failures_of(calls):
+    """How many of these scripts fail, each called with its arguments."""
+    return sum(subprocess.run([sys.executable, *call], cwd=ROOT).returncode != 0 for call in calls)
+
+
+def progress(start, proved, tests):
     minutes = (time.monotonic() - start) / 60
-    print(f"gate: {proved} of {total} crates and {tests} crates' tests proved, {minutes:.0f} minutes", flush=True)
+    print(f"gate: {proved} of {len(crates())} crates and {tests} crates' tests proved, {minutes:.0f} minutes", flush=True)
 
 
 def run_ci(rt):
@@ -30,16 +38,19 @@ def run_ci(rt):
             if done:
                 tests += bool(done[1])
                 proved += not done[1]
-                progress(start, proved, tests, len(crates()))
+                progress(start, proved, tests)
         last = line.rstrip("\n")
     return process.wait(), last
 
 
 def main():
+    failed = failures_of([[script] for script in SCRIPTS])
+    if failed:
+        print(f"0 passed, {failed} failed")
+        sys.exit(1)
     status, last = run_ci(sys.argv[1])
-    failed = 0
-    for program in BUILT if status == 0 else []:
-        failed += subprocess.run([sys.executable, "tests/program.py", program], cwd=ROOT).returncode != 0
+    if status == 0:
+        failed = failures_of([["tests/program.py", program] for program in BUILT])
     counts = re.fullmatch(r"(\d+) passed, (\d+) failed", last)
     if failed and counts:
         last = f"{counts[1]} passed, {int(counts[2]) + failed} failed"
