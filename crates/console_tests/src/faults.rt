@@ -5,7 +5,7 @@ use console::{Console, DriveFault, LineFault, WriteFault, drive, put_all};
 use std::alloc::Global;
 use std::io::ErrorKind;
 use std::test::Fail;
-use test_devices::{Failure, FailingReader, FailingWriter, Narrow, Pieces};
+use test_devices::{FailingReader, FailingWriter, Failure, Narrow, Pieces};
 use world::World;
 
 #[test]
@@ -24,7 +24,10 @@ fn numbers_and_texts(rt: HostRuntime) -> Result<(), Fail> {
         assert_eq!(rt; fault.number(), number);
         assert_eq!(rt; format!(in rt.alloc(); "{fault}")?.as_str(), text);
     }
-    assert_eq!(rt; format!(in rt.alloc(); "{}", WriteFault)?.as_str(), "write fault");
+    assert_eq!(rt;
+        format!(in rt.alloc(); "{}", WriteFault)?.as_str(),
+        "write fault"
+    );
     Ok(())
 }
 
@@ -72,7 +75,11 @@ fn a_write_fails(rt: HostRuntime) -> Result<(), Fail> {
             assert_eq!(rt; ended, Err(DriveFault::Write));
             assert_eq!(rt; writer.calls, writes.saturating_add(1));
             assert_eq!(rt; reader.calls, 1);
-            assert_eq!(rt; writer.taken.as_slice(), first_lines(OUTPUT, writes), "{writes} writes");
+            assert_eq!(rt;
+                writer.taken.as_slice(),
+                first_lines(OUTPUT, writes),
+                "{writes} writes"
+            );
             // the command whose reply was due is done, and no later one
             assert_eq!(rt; count_done(&mut world), seen_done(writes.saturating_add(1)));
             assert!(rt; !console.rest());

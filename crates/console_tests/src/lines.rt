@@ -38,26 +38,41 @@ fn bytes_in_commands_out(rt: HostRuntime) -> Result<(), Fail> {
     Ok(())
 }
 
+/// Lines, each with the command that it spells.
+const GOOD: [(&str, &str); 13] = [
+    ("make 1", "Make { length: ObjectLength { count: 1 } }"),
+    (
+        "make 65536",
+        "Make { length: ObjectLength { count: 65536 } }",
+    ),
+    ("free 1024", "Free { object: 1024 }"),
+    (
+        "put 1 65535 0Ff0",
+        "Put { object: 1, offset: 65535, bytes: [15, 240] }",
+    ),
+    (
+        "get 0x400 0xFFFF 0x1000",
+        "Get { object: 1024, offset: 65535, length: 4096 }",
+    ),
+    ("get 1 0 1", "Get { object: 1, offset: 0, length: 1 }"),
+    (
+        "ship 18446744073709551615 0xffffffffffffffff 0xFfFf 0 0 0x0000000000000001 00",
+        "Ship { fuel: 18446744073709551615, arguments: [18446744073709551615, 65535, 0, 0, 1], code: [0] }",
+    ),
+    ("step 48", "Step { machine: 48 }"),
+    ("step 0x30", "Step { machine: 48 }"),
+    ("regs 1", "Regs { machine: 1 }"),
+    ("out 48", "Out { machine: 48 }"),
+    (
+        "stack 48 4095 4096",
+        "Stack { machine: 48, offset: 4095, length: 4096 }",
+    ),
+    ("stack 1 0 1", "Stack { machine: 1, offset: 0, length: 1 }"),
+];
+
 #[test]
 fn good_lines(rt: HostRuntime) -> Result<(), Fail> {
-    for (line, event) in [
-        ("make 1", "Make { length: ObjectLength { count: 1 } }"),
-        ("make 65536", "Make { length: ObjectLength { count: 65536 } }"),
-        ("free 1024", "Free { object: 1024 }"),
-        ("put 1 65535 0Ff0", "Put { object: 1, offset: 65535, bytes: [15, 240] }"),
-        ("get 0x400 0xFFFF 0x1000", "Get { object: 1024, offset: 65535, length: 4096 }"),
-        ("get 1 0 1", "Get { object: 1, offset: 0, length: 1 }"),
-        (
-            "ship 18446744073709551615 0xffffffffffffffff 0xFfFf 0 0 0x0000000000000001 00",
-            "Ship { fuel: 18446744073709551615, arguments: [18446744073709551615, 65535, 0, 0, 1], code: [0] }",
-        ),
-        ("step 48", "Step { machine: 48 }"),
-        ("step 0x30", "Step { machine: 48 }"),
-        ("regs 1", "Regs { machine: 1 }"),
-        ("out 48", "Out { machine: 48 }"),
-        ("stack 48 4095 4096", "Stack { machine: 48, offset: 4095, length: 4096 }"),
-        ("stack 1 0 1", "Stack { machine: 1, offset: 0, length: 1 }"),
-    ] {
+    for (line, event) in GOOD {
         let Some(Ok(found)) = read(rt.alloc(), line)? else {
             return Err("no command")?;
         };
@@ -67,23 +82,80 @@ fn good_lines(rt: HostRuntime) -> Result<(), Fail> {
     Ok(())
 }
 
+/// Lines that spell no command.
+const BAD: [&str; 62] = [
+    // names and spaces
+    "",
+    " ",
+    "step",
+    "step ",
+    " step 1",
+    "step 1 ",
+    "step  1",
+    "step 1 1",
+    "step\t1",
+    "step 1\r",
+    "Step 1",
+    "steps 1",
+    "made 8",
+    // numbers
+    "step 00",
+    "step 01",
+    "step +1",
+    "step -1",
+    "step 0X1",
+    "step 0x",
+    "step 0x00000000000000001",
+    "step 18446744073709551617",
+    "step 1a",
+    // limits
+    "step 0",
+    "step 49",
+    "step 0x31",
+    "regs 0",
+    "out 49",
+    "stack 0 0 1",
+    "stack 49 0 1",
+    "stack 1 4096 1",
+    "stack 1 0 0",
+    "stack 1 0 4097",
+    "make 0",
+    "make 65537",
+    "free 0",
+    "free 1025",
+    "put 0 0 00",
+    "put 1025 0 00",
+    "put 1 65536 00",
+    "get 0 0 1",
+    "get 1025 0 1",
+    "get 1 65536 1",
+    "get 1 0 0",
+    "get 1 0 4097",
+    // bytes
+    "put 1 0",
+    "put 1 0 ",
+    "put 1 0 0",
+    "put 1 0 0g",
+    "put 1 0 00 00",
+    "ship 0 0 0 0 0 0",
+    "ship 0 0 0 0 0 0 ",
+    "ship 0 0 0 0 0 0 9",
+    "ship 0 0 0 0 0 0 9g",
+    "ship 0 0 0 0 0 0 0x95",
+    "ship 0 0 0 0 0 95",
+    "ship 0 0 0 0 0 0 95 0",
+    "ship 0 18446744073709551616 0 0 0 0 95",
+    "ship 0 00 0 0 0 0 95",
+    // commands that are to come
+    "one 1",
+    "leave 1",
+    "line 1 0",
+    "break 1 0",
+];
+
 #[test]
 fn bad_lines(rt: HostRuntime) -> Result<(), Fail> {
-    for line in [
-        // names and spaces
-        "", " ", "step", "step ", " step 1", "step 1 ", "step  1", "step 1 1", "step\t1", "step 1\r", "Step 1", "steps 1", "made 8",
-        // numbers
-        "step 00", "step 01", "step +1", "step -1", "step 0X1", "step 0x", "step 0x00000000000000001", "step 18446744073709551617", "step 1a",
-        // limits
-        "step 0", "step 49", "step 0x31", "regs 0", "out 49", "stack 0 0 1", "stack 49 0 1", "stack 1 4096 1", "stack 1 0 0", "stack 1 0 4097",
-        "make 0", "make 65537", "free 0", "free 1025", "put 0 0 00", "put 1025 0 00", "put 1 65536 00", "get 0 0 1", "get 1025 0 1", "get 1 65536 1",
-        "get 1 0 0", "get 1 0 4097",
-        // bytes
-        "put 1 0", "put 1 0 ", "put 1 0 0", "put 1 0 0g", "put 1 0 00 00", "ship 0 0 0 0 0 0", "ship 0 0 0 0 0 0 ", "ship 0 0 0 0 0 0 9", "ship 0 0 0 0 0 0 9g",
-        "ship 0 0 0 0 0 0 0x95", "ship 0 0 0 0 0 95", "ship 0 0 0 0 0 0 95 0", "ship 0 18446744073709551616 0 0 0 0 95", "ship 0 00 0 0 0 0 95",
-        // commands that are to come
-        "one 1", "leave 1", "line 1 0", "break 1 0",
-    ] {
+    for line in BAD {
         let said = read(rt.alloc(), line)?;
         assert!(rt; matches!(said, Some(Err(LineFault::Bad))), "{line}");
     }

@@ -4,7 +4,7 @@ use crate::talks::{INPUT, OUTPUT, answers};
 use console::{Console, drive};
 use std::cell::Cell;
 use std::test::Fail;
-use test_devices::{PipeReader, PipeWriter, Pieces};
+use test_devices::{Pieces, PipeReader, PipeWriter};
 use world::World;
 
 #[test]

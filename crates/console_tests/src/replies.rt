@@ -14,19 +14,7 @@ const SHOWN: Shown = Shown {
     slot: 4095,
     fuel: u64::MAX,
     stop: None,
-    registers: [
-        0,
-        1,
-        0xab,
-        0x1234567890abcdef,
-        4,
-        5,
-        6,
-        7,
-        8,
-        9,
-        u64::MAX,
-    ],
+    registers: [0, 1, 0xab, 0x1234567890abcdef, 4, 5, 6, 7, 8, 9, u64::MAX],
 };
 
 /// Asserts that the reply has this text.

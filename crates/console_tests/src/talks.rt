@@ -1,7 +1,7 @@
 //! One conversation, and what is left of it when a device fails.
 
-use std::alloc::Global;
 use console::{Console, drive};
+use std::alloc::Global;
 use std::test::Fail;
 use test_devices::Pieces;
 use world::{Event, Reply, World};
