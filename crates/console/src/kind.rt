@@ -4,6 +4,7 @@ ghost use Rattle.console.specs.Commands.{kind_named, number_limits, most_bytes};
 
 use crate::commands::LINE_LIMIT;
 use object_store::{OBJECT_BYTES, OBJECT_LIMIT};
+use world::MACHINE_LIMIT;
 
 /// The command that a line's first token names.
 #[derive(Clone, Copy, Debug, PartialEq, Eq)]
@@ -51,7 +52,10 @@ const OBJECT: Limits = Limits {
 };
 
 /// The number of a machine that there may be.
-const MACHINE: Limits = Limits { least: 1, most: 48 };
+const MACHINE: Limits = Limits {
+    least: 1,
+    most: MACHINE_LIMIT as u64,
+};
 
 /// Where a range of an object's bytes may begin.
 const OBJECT_OFFSET: Limits = Limits {
