@@ -1,12 +1,12 @@
 //! The machine that runs a program over a memory: one row of the instruction table a step.
 #![tactic(auto)]
 
+mod accesses;
 mod jumps;
 mod laws;
 mod machine;
 mod registers;
 mod state;
-mod wants;
 
 pub use laws::{
     always_steps, changes_one, fuel_bounds, fuel_counts, leaves_others, map_always_steps,
