@@ -9,7 +9,7 @@ use Rattle.machine.specs.declared.state.Stepped.TheVariants.{Ran}
 pub data Reaches : MachineState → List (List ℕ) → MachineState → List (List ℕ) → Type 0 where
   here : (m : MachineState) (objects : List (List ℕ)) → Reaches m objects m objects
   on : (old mid new : MachineState) (before between after : List (List ℕ)) (answer : Stepped)
-    → Reaches old before mid between → TableStep map_memory mid between answer new after → Reaches old before new after
+      → Reaches old before mid between → TableStep map_memory mid between answer new after → Reaches old before new after
 
 -- a step that ran is followed by another
 abbrev pub IsEnd : Stepped → Type 0

@@ -1,17 +1,16 @@
 -- Machines that reach different objects.
-use Rattle.std.proofs.Common.{◌≡◌, ◌≢◌, ℕ, zero, suc, Bool, true, false, List, length, Option, Some, None, refl, ap, sym, ◌∙◌, subst, inl, inr}
-use Rattle.isa_table.specs.declared.instr.Instr.{Instr}
+use Rattle.std.proofs.Common.{◌≡◌, ◌≢◌, ℕ, zero, suc, Bool, true, false, List, length, refl, ap, sym, ◌∙◌, subst, inl, inr}
 use Rattle.object_store.specs.declared.access.Op.{Op}
 use Rattle.object_store.specs.declared.access.Reach.{Reach}
 use Rattle.object_store.specs.Objects.{map_memory, bytes_of}
 use Rattle.object_store.proofs.Accesses as accesses
 use Rattle.machine.specs.declared.state.Stepped.{Stepped}
 use Rattle.machine.specs.MachineState.{MachineState}
-use Rattle.machine.specs.Rows.{Request, MemoryAnswer, Outcome, asks, told}
+use Rattle.machine.specs.Rows.{Request, MemoryAnswer, Outcome, asks}
 use Rattle.machine.specs.Rows.Request.{Nothing, Touch, Measure}
 use Rattle.machine.specs.Rows.MemoryAnswer.{NoAnswer, Reached, Measured}
-use Rattle.machine.specs.TableStep.{TableStep, Attempts, Answers, Closes, StepsFrom}
-use Rattle.machine.specs.Laws.{Touches, StepsElsewhere, LeavesOthers, StepsCommute}
+use Rattle.machine.specs.TableStep.{TableStep, Answers, Closes, StepsFrom}
+use Rattle.machine.specs.Laws.{Touches, LeavesOthers, StepsCommute}
 use Rattle.machine.proofs.StepCases.{StepCase, step_case, steps_told, steps_stayed}
 use Rattle.machine.proofs.Changes.{map_closes}
 

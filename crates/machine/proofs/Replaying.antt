@@ -1,8 +1,7 @@
 -- A machine as the replay of its accesses.
 use Rattle.std.proofs.Common.{◌≡◌, ℕ, zero, suc, Bool, true, false, cond, nat_eq, List, [], ◌∷◌, ◌++◌, Option, Some, None, refl, ap, sym, ◌∙◌, subst, append-nil, inl, inr}
 use Rattle.isa_table.specs.declared.instr.Instr.{Instr}
-use Rattle.isa_table.specs.declared.instr.Instr.TheVariants.{CallHelper, CallLocal, Exit}
-use Rattle.object_store.specs.declared.access.Op.{Op}
+use Rattle.isa_table.specs.declared.instr.Instr.TheVariants.{CallHelper, Exit}
 use Rattle.object_store.specs.declared.access.Reach.{Reach}
 use Rattle.object_store.specs.declared.access.Reach.TheVariants as reach
 use Rattle.object_store.specs.Access.{is_inside}

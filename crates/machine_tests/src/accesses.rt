@@ -19,12 +19,18 @@ fn an_access_over_the_last_byte_changes_nothing(rt: HostRuntime) -> Result<(), F
         assert_eq!(rt; machine.step(&mut store), OUTSIDE);
         assert_eq!(rt; (machine.slot(), machine.fuel()), (0, 10));
         assert_eq!(rt; machine.stop(), Some(Stop::Outside));
-        assert_eq!(rt; (machine.registers()[0], machine.registers()[1]), (0, OBJECT));
+        assert_eq!(rt;
+            (machine.registers()[0], machine.registers()[1]),
+            (0, OBJECT)
+        );
     }
     // stxdw [r1+1], r2 writes none of its bytes.
     let stored = first_step(rt.alloc(), &mut store, OBJECT, 9, 0x7b21_0100_0000_0000)?;
     assert_eq!(rt; stored, OUTSIDE);
-    assert_eq!(rt; store.get(1, 0, 8)?.as_slice(), [1, 2, 3, 4, 5, 6, 7, 8].as_slice());
+    assert_eq!(rt;
+        store.get(1, 0, 8)?.as_slice(),
+        [1, 2, 3, 4, 5, 6, 7, 8].as_slice()
+    );
     Ok(())
 }
 
@@ -45,7 +51,10 @@ fn loads_of_each_size(rt: HostRuntime) -> Result<(), Fail> {
         let mut store = store_of(rt.alloc(), bytes)?;
         let mut machine = machine_of(rt.alloc(), 10, [OBJECT, 0, 0, 0, 0], &[load, EXIT])?;
         assert_eq!(rt; machine.step(&mut store), Stepped::Ran(None));
-        assert_eq!(rt; machine.step(&mut store), Stepped::Stopped(Stop::Exit(value)));
+        assert_eq!(rt;
+            machine.step(&mut store),
+            Stepped::Stopped(Stop::Exit(value))
+        );
         assert_eq!(rt; store.get(1, 0, 8)?.as_slice(), bytes.as_slice());
     }
     Ok(())
@@ -72,17 +81,41 @@ fn loads_of_positive_numbers_with_sign(rt: HostRuntime) -> Result<(), Fail> {
 fn stores_of_each_size(rt: HostRuntime) -> Result<(), Fail> {
     // A store of -2 or of r2 at r1 plus 1, its size, and the bytes after it.
     let cases: [(u64, Size, [u8; 8]); 8] = [
-        (0x7201_0000_feff_ffff, Size::Byte, [0xfe, 0, 0, 0, 0, 0, 0, 0]),
-        (0x6a01_0000_feff_ffff, Size::Half, [0xfe, 0xff, 0, 0, 0, 0, 0, 0]),
-        (0x6201_0000_feff_ffff, Size::Word, [0xfe, 0xff, 0xff, 0xff, 0, 0, 0, 0]),
+        (
+            0x7201_0000_feff_ffff,
+            Size::Byte,
+            [0xfe, 0, 0, 0, 0, 0, 0, 0],
+        ),
+        (
+            0x6a01_0000_feff_ffff,
+            Size::Half,
+            [0xfe, 0xff, 0, 0, 0, 0, 0, 0],
+        ),
+        (
+            0x6201_0000_feff_ffff,
+            Size::Word,
+            [0xfe, 0xff, 0xff, 0xff, 0, 0, 0, 0],
+        ),
         (
             0x7a01_0000_feff_ffff,
             Size::Double,
             [0xfe, 0xff, 0xff, 0xff, 0xff, 0xff, 0xff, 0xff],
         ),
-        (0x7321_0000_0000_0000, Size::Byte, [0x88, 0, 0, 0, 0, 0, 0, 0]),
-        (0x6b21_0000_0000_0000, Size::Half, [0x88, 0x77, 0, 0, 0, 0, 0, 0]),
-        (0x6321_0000_0000_0000, Size::Word, [0x88, 0x77, 0x66, 0x55, 0, 0, 0, 0]),
+        (
+            0x7321_0000_0000_0000,
+            Size::Byte,
+            [0x88, 0, 0, 0, 0, 0, 0, 0],
+        ),
+        (
+            0x6b21_0000_0000_0000,
+            Size::Half,
+            [0x88, 0x77, 0, 0, 0, 0, 0, 0],
+        ),
+        (
+            0x6321_0000_0000_0000,
+            Size::Word,
+            [0x88, 0x77, 0x66, 0x55, 0, 0, 0, 0],
+        ),
         (
             0x7b21_0000_0000_0000,
             Size::Double,
@@ -91,7 +124,13 @@ fn stores_of_each_size(rt: HostRuntime) -> Result<(), Fail> {
     ];
     for (stores, size, bytes) in cases {
         let mut store = store_of(rt.alloc(), [0; 8])?;
-        let told = first_step(rt.alloc(), &mut store, OBJECT, 0x1122_3344_5566_7788, stores)?;
+        let told = first_step(
+            rt.alloc(),
+            &mut store,
+            OBJECT,
+            0x1122_3344_5566_7788,
+            stores,
+        )?;
         let written = Written {
             number: 1,
             offset: 0,
@@ -159,12 +198,21 @@ fn numbers_that_are_no_object(rt: HostRuntime) -> Result<(), Fail> {
     const LOAD: u64 = 0x7110_0000_0000_0000;
     for number in [0_u64, 2, 1024, 1025, 0xffff_fffe] {
         let mut store = store_of(rt.alloc(), [0; 8])?;
-        assert_eq!(rt; first_step(rt.alloc(), &mut store, number << 32, 0, LOAD)?, OUTSIDE);
+        assert_eq!(rt;
+            first_step(rt.alloc(), &mut store, number << 32, 0, LOAD)?,
+            OUTSIDE
+        );
     }
     let mut store = store_of(rt.alloc(), [0; 8])?;
-    assert_eq!(rt; first_step(rt.alloc(), &mut store, OBJECT, 0, LOAD)?, Stepped::Ran(None));
+    assert_eq!(rt;
+        first_step(rt.alloc(), &mut store, OBJECT, 0, LOAD)?,
+        Stepped::Ran(None)
+    );
     assert!(rt; store.free(1));
-    assert_eq!(rt; first_step(rt.alloc(), &mut store, OBJECT, 0, LOAD)?, OUTSIDE);
+    assert_eq!(rt;
+        first_step(rt.alloc(), &mut store, OBJECT, 0, LOAD)?,
+        OUTSIDE
+    );
     Ok(())
 }
 
@@ -185,7 +233,10 @@ fn the_stack_is_the_machine_s_own(rt: HostRuntime) -> Result<(), Fail> {
     assert_eq!(rt; machine.step(&mut store), Stepped::Ran(None));
     let end = Stepped::Stopped(Stop::Exit(0xffff_ffff_ffff_ffff));
     assert_eq!(rt; machine.step(&mut store), end);
-    assert_eq!(rt; &machine.stack()[4091..], [0, 0xff, 0xff, 0xff, 0xff].as_slice());
+    assert_eq!(rt;
+        &machine.stack()[4091..],
+        [0, 0xff, 0xff, 0xff, 0xff].as_slice()
+    );
     let other = machine_of(rt.alloc(), 10, [0; 5], &slots)?;
     assert_eq!(rt; &other.stack()[4092..], [0; 4].as_slice());
     Ok(())
@@ -195,7 +246,12 @@ fn the_stack_is_the_machine_s_own(rt: HostRuntime) -> Result<(), Fail> {
 fn two_machines_reach_one_object(rt: HostRuntime) -> Result<(), Fail> {
     // stxb [r1+2], r2 in one, ldxb r0, [r1+2] in the other
     let mut store = store_of(rt.alloc(), [0; 8])?;
-    let mut reader = machine_of(rt.alloc(), 10, [OBJECT, 0, 0, 0, 0], &[0x7110_0200_0000_0000, EXIT])?;
+    let mut reader = machine_of(
+        rt.alloc(),
+        10,
+        [OBJECT, 0, 0, 0, 0],
+        &[0x7110_0200_0000_0000, EXIT],
+    )?;
     let stored = first_step(rt.alloc(), &mut store, OBJECT, 5, 0x7321_0200_0000_0000)?;
     let written = Written {
         number: 1,

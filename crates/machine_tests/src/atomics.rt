@@ -19,9 +19,7 @@ struct Left {
 }
 
 /// The ten operations as the imm field has them.
-const OPERATIONS: [u64; 10] = [
-    0x00, 0x40, 0x50, 0xa0, 0x01, 0x41, 0x51, 0xa1, 0xe1, 0xf1,
-];
+const OPERATIONS: [u64; 10] = [0x00, 0x40, 0x50, 0xa0, 0x01, 0x41, 0x51, 0xa1, 0xe1, 0xf1];
 
 /// The operation at [r1 + 8] with r2; 32 bits wide, or 64.
 fn slot_of(operation: u64, double: bool) -> u64 {
@@ -73,9 +71,17 @@ fn check(
     let written = Written {
         number: (place >> 32) as u32,
         offset: 8,
-        size: if slot >> 60 == 0xd { Size::Double } else { Size::Word },
+        size: if slot >> 60 == 0xd {
+            Size::Double
+        } else {
+            Size::Word
+        },
     };
-    let expected = if left.bytes == OLD { None } else { Some(written) };
+    let expected = if left.bytes == OLD {
+        None
+    } else {
+        Some(written)
+    };
     assert_eq!(rt; told, Stepped::Ran(expected), "at {slot}");
     assert_eq!(rt; machine.step(&mut store), Stepped::Ran(None));
     assert_eq!(rt; machine.registers()[5], left.bytes, "at {slot}");
@@ -110,7 +116,14 @@ fn operations_of_64_bits(rt: HostRuntime) -> Result<(), Fail> {
             r2: SOURCE,
             r0: OLD,
         };
-        check(&rt, rt.alloc(), place, slot_of(0xf1, true), 0xf000_000f, &failed)?;
+        check(
+            &rt,
+            rt.alloc(),
+            place,
+            slot_of(0xf1, true),
+            0xf000_000f,
+            &failed,
+        )?;
         let exchanged = Left {
             bytes: SOURCE,
             r2: SOURCE,
@@ -147,14 +160,28 @@ fn operations_of_32_bits(rt: HostRuntime) -> Result<(), Fail> {
             r2: SOURCE,
             r0: 0xf000_000f,
         };
-        check(&rt, rt.alloc(), place, slot_of(0xf1, false), 0xf000_000e, &failed)?;
+        check(
+            &rt,
+            rt.alloc(),
+            place,
+            slot_of(0xf1, false),
+            0xf000_000e,
+            &failed,
+        )?;
         // The upper half of R0 isn't compared.
         let exchanged = Left {
             bytes: 0x8000_0001_1234_5678,
             r2: SOURCE,
             r0: 0xf000_000f,
         };
-        check(&rt, rt.alloc(), place, slot_of(0xf1, false), 0x5555_5555_f000_000f, &exchanged)?;
+        check(
+            &rt,
+            rt.alloc(),
+            place,
+            slot_of(0xf1, false),
+            0x5555_5555_f000_000f,
+            &exchanged,
+        )?;
     }
     Ok(())
 }
@@ -178,7 +205,10 @@ fn an_exchange_of_words(rt: HostRuntime) -> Result<(), Fail> {
         size: Size::Word,
     };
     assert_eq!(rt; machine.step(&mut store), Stepped::Ran(Some(written)));
-    assert_eq!(rt; machine.step(&mut store), Stepped::Stopped(Stop::Exit(0x1122_3344)));
+    assert_eq!(rt;
+        machine.step(&mut store),
+        Stepped::Stopped(Stop::Exit(0x1122_3344))
+    );
     let bytes = [0x88, 0x77, 0x66, 0x55, 0, 0, 0, 0];
     assert_eq!(rt; store.get(1, 0, 8)?.as_slice(), bytes.as_slice());
     Ok(())
@@ -191,11 +221,23 @@ fn misaligned_by_the_address_alone(rt: HostRuntime) -> Result<(), Fail> {
         for operation in OPERATIONS {
             let mut store = store_of(rt.alloc(), [0; 8])?;
             for offset in 1..4 {
-                let told = first_step(rt.alloc(), &mut store, place + offset, 0, slot_of(operation, false))?;
+                let told = first_step(
+                    rt.alloc(),
+                    &mut store,
+                    place + offset,
+                    0,
+                    slot_of(operation, false),
+                )?;
                 assert_eq!(rt; told, MISALIGNED);
             }
             for offset in 1..8 {
-                let told = first_step(rt.alloc(), &mut store, place + offset, 0, slot_of(operation, true))?;
+                let told = first_step(
+                    rt.alloc(),
+                    &mut store,
+                    place + offset,
+                    0,
+                    slot_of(operation, true),
+                )?;
                 assert_eq!(rt; told, MISALIGNED);
             }
             let bytes = store.get(1, 0, 8)?;
@@ -215,25 +257,37 @@ fn the_offset_of_the_address_is_aligned_not_that_of_the_instruction(
     const STORE: u64 = 0x7b21_0400_0000_0000;
     let mut store = ObjectStore::new(rt.alloc())?;
     let _ = store.make(16)?;
-    assert_eq!(rt; first_step(rt.alloc(), &mut store, OBJECT, 1, ADD)?, MISALIGNED);
+    assert_eq!(rt;
+        first_step(rt.alloc(), &mut store, OBJECT, 1, ADD)?,
+        MISALIGNED
+    );
     let written = Written {
         number: 1,
         offset: 4,
         size: Size::Double,
     };
-    assert_eq!(rt; first_step(rt.alloc(), &mut store, OBJECT, 1, STORE)?, Stepped::Ran(Some(written)));
+    assert_eq!(rt;
+        first_step(rt.alloc(), &mut store, OBJECT, 1, STORE)?,
+        Stepped::Ran(Some(written))
+    );
     let word = Written {
         number: 1,
         offset: 4,
         size: Size::Word,
     };
-    assert_eq!(rt; first_step(rt.alloc(), &mut store, OBJECT, 1, ADD32)?, Stepped::Ran(Some(word)));
+    assert_eq!(rt;
+        first_step(rt.alloc(), &mut store, OBJECT, 1, ADD32)?,
+        Stepped::Ran(Some(word))
+    );
     let moved = Written {
         number: 1,
         offset: 8,
         size: Size::Double,
     };
-    assert_eq!(rt; first_step(rt.alloc(), &mut store, OBJECT + 4, 1, ADD)?, Stepped::Ran(Some(moved)));
+    assert_eq!(rt;
+        first_step(rt.alloc(), &mut store, OBJECT + 4, 1, ADD)?,
+        Stepped::Ran(Some(moved))
+    );
     Ok(())
 }
 
@@ -247,7 +301,10 @@ fn an_aligned_one_may_be_outside(rt: HostRuntime) -> Result<(), Fail> {
         (STACK + 4088, slot_of(0x00, true)),
         (0x0000_0401_0000_0000, slot_of(0xf1, true)),
     ] {
-        assert_eq!(rt; first_step(rt.alloc(), &mut store, place, 0, slot)?, outside);
+        assert_eq!(rt;
+            first_step(rt.alloc(), &mut store, place, 0, slot)?,
+            outside
+        );
     }
     Ok(())
 }

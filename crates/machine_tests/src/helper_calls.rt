@@ -25,7 +25,10 @@ fn answer(
     let mut machine = machine_with(alloc, r1, call)?;
     for count in 1..3 {
         assert_eq!(rt; machine.step(store), Stepped::Ran(None));
-        assert_eq!(rt; (machine.slot(), machine.fuel()), (count as usize, 10 - count));
+        assert_eq!(rt;
+            (machine.slot(), machine.fuel()),
+            (count as usize, 10 - count)
+        );
     }
     let registers = [
         machine.registers()[0],
@@ -82,7 +85,11 @@ fn lengths_of_objects(rt: HostRuntime) -> Result<(), Fail> {
         (u64::MAX, 0),
     ];
     for (number, length) in cases {
-        assert_eq!(rt; answer(&rt, rt.alloc(), &mut store, number, LENGTH)?, length, "of {number}");
+        assert_eq!(rt;
+            answer(&rt, rt.alloc(), &mut store, number, LENGTH)?,
+            length,
+            "of {number}"
+        );
     }
     assert!(rt; store.free(1));
     assert_eq!(rt; answer(&rt, rt.alloc(), &mut store, 1, LENGTH)?, 0);
@@ -92,8 +99,14 @@ fn lengths_of_objects(rt: HostRuntime) -> Result<(), Fail> {
 #[test]
 fn the_number_of_the_machine_and_the_end_of_scopes(rt: HostRuntime) -> Result<(), Fail> {
     let mut store = store_of(rt.alloc(), [0; 8])?;
-    assert_eq!(rt; answer(&rt, rt.alloc(), &mut store, 7, 0x8500_0000_0200_0000)?, 1);
-    assert_eq!(rt; answer(&rt, rt.alloc(), &mut store, 7, 0x8500_0000_0400_0000)?, 0);
+    assert_eq!(rt;
+        answer(&rt, rt.alloc(), &mut store, 7, 0x8500_0000_0200_0000)?,
+        1
+    );
+    assert_eq!(rt;
+        answer(&rt, rt.alloc(), &mut store, 7, 0x8500_0000_0400_0000)?,
+        0
+    );
     Ok(())
 }
 
