@@ -109,5 +109,8 @@ if __name__ == "__main__":
         print()
         print(f"pub const {name}: &[(&str, &str)] = &[")
         for text, code in rows:
-            print(f'    ("{text}", "{code}"),')
+            line = f'    ("{text}", "{code}"),'
+            if len(line) > 64:
+                line = f'    (\n        "{text}",\n        "{code}",\n    ),'
+            print(line)
         print("];")

@@ -3,6 +3,7 @@ ghost use Rattle.std.specs.Prelude.{◌≡◌, ◌∷◌, []};
 ghost use Rattle.asm_table.specs.Parts.{mnemonic_of, operands_of, second_operand};
 
 use crate::mnemonic::Mnemonic;
+use crate::operands::AsmOperand::{Imm, Imm64, LongOffset, Memory, Offset, Register};
 use crate::operands::{AsmOperand, Operands};
 use isa_table::{Instr, Operand};
 
@@ -44,8 +45,8 @@ fn second(src: Operand) -> AsmOperand
     ensures { result ≡ second_operand src }
 {
     match src {
-        Operand::Imm(z) => AsmOperand::Imm(z),
-        Operand::Register(r) => AsmOperand::Register(r),
+        Operand::Imm(z) => Imm(z),
+        Operand::Register(r) => Register(r),
     }
 }
 
@@ -81,54 +82,47 @@ pub fn operands_of(i: &Instr) -> Operands
     ensures { result.items ≡ operands_of i.now }
 {
     match *i {
-        Instr::Alu { dst, src, .. } => two(AsmOperand::Register(dst), second(src)),
-        Instr::Neg { dst, .. } => one(AsmOperand::Register(dst)),
-        Instr::MovSx8 { dst, src, .. } => two(AsmOperand::Register(dst), AsmOperand::Register(src)),
-        Instr::MovSx16 { dst, src, .. } => two(
-            AsmOperand::Register(dst),
-            AsmOperand::Register(src),
-        ),
-        Instr::MovSx32 { dst, src } => two(AsmOperand::Register(dst), AsmOperand::Register(src)),
-        Instr::End { dst, .. } => one(AsmOperand::Register(dst)),
+        Instr::Alu { dst, src, .. } => two(Register(dst), second(src)),
+        Instr::Neg { dst, .. } => one(Register(dst)),
+        Instr::MovSx8 { dst, src, .. } => two(Register(dst), Register(src)),
+        Instr::MovSx16 { dst, src, .. } => two(Register(dst), Register(src)),
+        Instr::MovSx32 { dst, src } => two(Register(dst), Register(src)),
+        Instr::End { dst, .. } => one(Register(dst)),
         Instr::Jump {
             dst,
             src,
             offset,
             ..
-        } => three(
-            AsmOperand::Register(dst),
-            second(src),
-            AsmOperand::Offset(offset),
-        ),
-        Instr::Ja { offset } => one(AsmOperand::Offset(offset)),
-        Instr::JaLong { offset } => one(AsmOperand::LongOffset(offset)),
-        Instr::CallHelper { id } => one(AsmOperand::Imm(id)),
-        Instr::CallLocal { offset } => one(AsmOperand::LongOffset(offset)),
+        } => three(Register(dst), second(src), Offset(offset)),
+        Instr::Ja { offset } => one(Offset(offset)),
+        Instr::JaLong { offset } => one(LongOffset(offset)),
+        Instr::CallHelper { id } => one(Imm(id)),
+        Instr::CallLocal { offset } => one(LongOffset(offset)),
         Instr::Exit => Operands::new(),
         Instr::Load {
             dst,
             src,
             offset,
             ..
-        } => two(AsmOperand::Register(dst), AsmOperand::Memory(src, offset)),
+        } => two(Register(dst), Memory(src, offset)),
         Instr::LoadSigned {
             dst,
             src,
             offset,
             ..
-        } => two(AsmOperand::Register(dst), AsmOperand::Memory(src, offset)),
+        } => two(Register(dst), Memory(src, offset)),
         Instr::Store {
             dst,
             src,
             offset,
             ..
-        } => two(AsmOperand::Memory(dst, offset), second(src)),
+        } => two(Memory(dst, offset), second(src)),
         Instr::Atomic {
             dst,
             src,
             offset,
             ..
-        } => two(AsmOperand::Memory(dst, offset), AsmOperand::Register(src)),
-        Instr::LoadImm64 { dst, value } => two(AsmOperand::Register(dst), AsmOperand::Imm64(value)),
+        } => two(Memory(dst, offset), Register(src)),
+        Instr::LoadImm64 { dst, value } => two(Register(dst), Imm64(value)),
     }
 }

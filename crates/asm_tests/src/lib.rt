@@ -4,6 +4,10 @@
 #[cfg(test)]
 mod answers;
 #[cfg(test)]
+mod example_list;
+#[cfg(test)]
+mod examples;
+#[cfg(test)]
 mod form_list;
 #[cfg(test)]
 mod forms;
@@ -11,6 +15,10 @@ mod forms;
 mod limits;
 #[cfg(test)]
 mod lines;
+#[cfg(test)]
+mod page;
+#[cfg(test)]
+mod page_list;
 #[cfg(test)]
 mod programs;
 #[cfg(test)]
