@@ -1,4 +1,4 @@
--- Which line spells which command.
+-- Which line spells which command. Names, parameters and limits are this project's choice.
 use Rattle.std.specs.Prelude.{◌≡◌, ℕ, ◌≤◌, ◌-◌, ◌^◌, List, [], ◌∷◌, length, slice_index, codes, if◌then◌else◌, Option, Some, None, Result, Ok, Err}
 use Rattle.std.specs.Str.{bytes_eq}
 use Rattle.object_store.specs.Objects.{object_limit, object_bytes}
@@ -42,14 +42,15 @@ object_number = within 1 object_limit
 abbrev pub machine_number : Limits
 machine_number = within 1 machine_limit
 
--- where a range of an object's bytes, or of a stack's, may begin
+-- where a range of an object's bytes may begin
 abbrev pub object_offset : Limits
 object_offset = within 0 (object_bytes - 1)
 
+-- where a range of a stack's bytes may begin
 abbrev pub stack_offset : Limits
 stack_offset = within 0 (stack_size - 1)
 
--- the most bytes that a line or a reply carries but for code
+-- the most bytes that a line or a reply carries, but for code
 abbrev pub range_limit : ℕ
 range_limit = 4096
 

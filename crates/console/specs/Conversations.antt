@@ -68,7 +68,7 @@ pub record Exchange (p : Protocol) (old : p.State) (input output : List ℕ) (ne
   pub written : output ≡ written_of p turns
   pub run : RunsTurns p old turns new
 
--- Each ended line of the input has its reply, in order, and trailing bytes without a line end have `cut`.
+-- Each ended line of the input has its reply, in order, and trailing bytes without a line end are answered `cut`.
 abbrev pub Converses : (p : Protocol) → p.State → List ℕ → List ℕ → p.State → Type 0
 Converses p old input output new = (written rest : List ℕ) × Exchange p old input written new rest × IsLine rest × (output ≡ written ++ cut_of rest)
 

@@ -9,7 +9,7 @@ IsLine bytes = All (λ b. b ≢ 10) bytes
 abbrev pub ended : List ℕ → List ℕ
 ended line = line ++ 10 ∷ []
 
--- the longest line that can spell a command
+-- the longest line that can spell a command (this project's choice)
 abbrev pub line_limit : ℕ
 line_limit = 70000
 

@@ -11,7 +11,7 @@ use crate::tokens::Tokens;
 use std::alloc::Global;
 use world::{Event, ObjectLength};
 
-/// The most bytes that a line may have, without its end.
+/// The most bytes that a line may have, without its end (this project's choice).
 pub const LINE_LIMIT: usize = 70_000;
 
 /// What a line says.

@@ -1,4 +1,4 @@
-//! The commands: their names, and what comes after the name.
+//! The commands: their names, and what comes after the name. All of it is this project's choice.
 ghost use Rattle.std.specs.Prelude.{◌≡◌, ◌≤◌, length};
 ghost use Rattle.console.specs.Commands.{kind_named, number_limits, most_bytes};
 
