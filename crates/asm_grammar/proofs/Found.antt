@@ -131,7 +131,7 @@ module _ (look : Look) (n : ℕ) where
     pub in_range : g.out ≡ false
     pub known : g.unknown ≡ false
 
-  step_is : (first : Bool) (g : Gathered) (s : Sort) (ts : List Lexeme) (x : Gathered × List Lexeme) → step look n first g s ts ≡ Some x → (w : Written) × (next_operand first ts ≡ Some (w, x.1)) × (added look n g (taken s w) ≡ Some x.0)
+  pub step_is : (first : Bool) (g : Gathered) (s : Sort) (ts : List Lexeme) (x : Gathered × List Lexeme) → step look n first g s ts ≡ Some x → (w : Written) × (next_operand first ts ≡ Some (w, x.1)) × (added look n g (taken s w) ≡ Some x.0)
   unfolding step
   step_is first g s ts x e =
       let a = and_then_some _ (next_operand first ts) x e in

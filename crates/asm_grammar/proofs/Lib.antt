@@ -3,3 +3,4 @@ pub mod Meant
 pub mod Found
 pub mod Alike
 pub mod Rewritten
+pub mod Formed

@@ -1,5 +1,5 @@
 -- The first pass answers the first wrong line and the least reason.
-use Rattle.std.proofs.Common.{◌≡◌, ◌+◌, ◌⊎◌, ◌||◌, ◌&&◌, inl, inr, ℕ, nat_lt, not, Bool, true, false, cond, List, [], ◌∷◌, refl, sym, ap, ◌∙◌, Option, Some, None, is_some, Result, Err}
+use Rattle.std.proofs.Common.{◌≡◌, ◌+◌, ◌⊎◌, ◌||◌, inl, inr, ℕ, nat_lt, not, Bool, true, false, cond, List, [], ◌∷◌, refl, sym, ap, ◌∙◌, Option, Some, None, is_some, Result, Err}
 use Rattle.std.specs.Str.Lines.{lines}
 use Rattle.asm_text.specs.Tokens.{Lexeme, tokens}
 use Rattle.isa_table.specs.declared.instr.Instr.{Instr}
@@ -10,6 +10,7 @@ use Rattle.asm_table.specs.Mnemonics.{sorts}
 use Rattle.asm_table.specs.Parts.{built}
 use Rattle.asm_grammar.specs.Reading.{Look, Gathered, gathered, nothing, mnemonic_at, judged, finished, said, by_mnemonic, body, label_of, after_label, has_stray, fault_of}
 use Rattle.asm_grammar.proofs.Alike.{line_alike}
+use Rattle.asm_grammar.proofs.Formed.{built_gathered}
 use Rattle.assembler.specs.declared.error.AsmError.{AsmError}
 use Rattle.assembler.specs.Passes.{nowhere, with_label, slots_in, is_twice, or_else, wrong, refused, unless_wrong, outlined}
 use Rattle.assembler.specs.Conditions.{is_unnamed, has_no_form, is_out, of_operands, of_body, holds, reasons, first_that, IsFirstWrong}
@@ -18,25 +19,25 @@ use Rattle.assembler.specs.Conditions.{is_unnamed, has_no_form, is_out, of_opera
 abbrev three : Bool → Bool → Bool → Option Why → Option Why
 three a b c rest = cond a (Some why.Word) (cond b (Some why.Operand) (cond c (Some why.Range) rest))
 
-judged_first : (t u : Bool) (o : Option Instr) (rest : Option Why) → or_else (fault_of (said (cond t (Err why.Range) (judged u o)))) rest ≡ three false (not t && not (is_some o)) t rest
-judged_first true u o rest = refl
-judged_first false u None rest = refl
-judged_first false true (Some i) rest = refl
-judged_first false false (Some i) rest = refl
+judged_first : (t u : Bool) (o : Option Instr) (rest : Option Why) → (t ≡ false → is_some o ≡ true) → or_else (fault_of (said (cond t (Err why.Range) (judged u o)))) rest ≡ three false false t rest
+judged_first true u o rest h = refl
+judged_first false u None rest h = absurd (let k : false ≡ true = h refl in cc k)
+judged_first false true (Some i) rest h = refl
+judged_first false false (Some i) rest h = refl
 
-finished_first : (m : Mnemonic) (g : Option Gathered) (rest : Option Why) → or_else (fault_of (said (finished m g))) rest ≡ three false (has_no_form m g) (is_out g) rest
-finished_first m None rest = refl
-finished_first m (Some g) rest = judged_first g.out g.unknown (built m g.operands) rest
+finished_first : (m : Mnemonic) (ts : List Lexeme) (o : Option Gathered) (rest : Option Why) → gathered nowhere 0 true nothing (sorts m) ts ≡ o → or_else (fault_of (said (finished m o))) rest ≡ three false (has_no_form o) (is_out o) rest
+finished_first m ts None rest e = refl
+finished_first m ts (Some g) rest e = judged_first g.out g.unknown (built m g.operands) rest (λ f. built_gathered nowhere 0 m ts g e f)
 
-named_first : (o : Option (Mnemonic × List Lexeme)) (rest : Option Why) → or_else (fault_of (by_mnemonic nowhere 0 o)) rest ≡ three (not (is_some o)) (of_operands has_no_form o) (of_operands (λ m g. is_out g) o) rest
+named_first : (o : Option (Mnemonic × List Lexeme)) (rest : Option Why) → or_else (fault_of (by_mnemonic nowhere 0 o)) rest ≡ three (not (is_some o)) (of_operands has_no_form o) (of_operands is_out o) rest
 named_first None rest = refl
-named_first (Some x) rest = finished_first x.0 (gathered nowhere 0 true nothing (sorts x.0) x.1) rest
+named_first (Some x) rest = finished_first x.0 x.1 (gathered nowhere 0 true nothing (sorts x.0) x.1) rest refl
 
-body_first : (ts : List Lexeme) (rest : Option Why) → or_else (fault_of (body nowhere 0 ts)) rest ≡ three (is_unnamed ts) (of_body has_no_form ts) (of_body (λ m g. is_out g) ts) rest
+body_first : (ts : List Lexeme) (rest : Option Why) → or_else (fault_of (body nowhere 0 ts)) rest ≡ three (is_unnamed ts) (of_body has_no_form ts) (of_body is_out ts) rest
 body_first [] rest = refl
 body_first (t ∷ ts) rest = named_first (mnemonic_at (t ∷ ts)) rest
 
-line_first : (b : Bool) (ts : List Lexeme) (rest : Option Why) → or_else (fault_of (cond b (Err why.Word) (body nowhere 0 ts))) rest ≡ three (b || is_unnamed ts) (of_body has_no_form ts) (of_body (λ m g. is_out g) ts) rest
+line_first : (b : Bool) (ts : List Lexeme) (rest : Option Why) → or_else (fault_of (cond b (Err why.Word) (body nowhere 0 ts))) rest ≡ three (b || is_unnamed ts) (of_body has_no_form ts) (of_body is_out ts) rest
 line_first true ts rest = refl
 line_first false ts rest = body_first ts rest
 

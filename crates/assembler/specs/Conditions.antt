@@ -1,5 +1,5 @@
 -- What may be wrong with a line, each condition by itself, and the least of them.
-use Rattle.std.specs.Prelude.{◌≡◌, ◌+◌, ◌⊎◌, ◌&&◌, ◌||◌, ℕ, nat_lt, not, Bool, true, false, List, [], ◌∷◌, Option, Some, None, is_some, Err, if◌then◌else◌, ◌↔◌}
+use Rattle.std.specs.Prelude.{◌≡◌, ◌+◌, ◌⊎◌, ◌||◌, ℕ, nat_lt, not, Bool, true, false, List, [], ◌∷◌, Option, Some, None, is_some, Err, if◌then◌else◌, ◌↔◌}
 use Rattle.std.specs.Str.Lines.{lines}
 use Rattle.asm_text.specs.Tokens.{Lexeme, tokens}
 use Rattle.asm_table.specs.declared.mnemonic.Mnemonic.{Mnemonic}
@@ -7,7 +7,6 @@ use Rattle.asm_grammar.specs.declared.why.Why.{Why}
 use Rattle.asm_grammar.specs.declared.why.Why.TheVariants as why
 use Rattle.asm_table.specs.Mnemonics.{sorts}
 use Rattle.asm_grammar.specs.Reading.{Look, Gathered, gathered, nothing, mnemonic_at, label_of, after_label, has_stray}
-use Rattle.asm_table.specs.Parts.{built}
 use Rattle.assembler.specs.declared.error.AsmError.{AsmError}
 use Rattle.assembler.specs.Passes.{nowhere, with_label, slots_in, is_twice, outlined}
 
@@ -16,29 +15,29 @@ abbrev pub is_unnamed : List Lexeme → Bool
 is_unnamed [] = false
 is_unnamed (t ∷ ts) = not (is_some (mnemonic_at (t ∷ ts)))
 
--- the operands have no form of the mnemonic
-abbrev pub has_no_form : Mnemonic → Option Gathered → Bool
-has_no_form m None = true
-has_no_form m (Some g) = not g.out && not (is_some (built m g.operands))
+-- the operands have no form of the mnemonic, or something stands after them
+abbrev pub has_no_form : Option Gathered → Bool
+has_no_form None = true
+has_no_form (Some g) = false
 
 -- a number is out of its range
 abbrev pub is_out : Option Gathered → Bool
 is_out None = false
 is_out (Some g) = g.out
 
--- the test holds of what the mnemonic at the front and the operands after it are
-abbrev pub of_operands : (Mnemonic → Option Gathered → Bool) → Option (Mnemonic × List Lexeme) → Bool
+-- the test holds of the operands after the mnemonic at the front
+abbrev pub of_operands : (Option Gathered → Bool) → Option (Mnemonic × List Lexeme) → Bool
 of_operands test None = false
-of_operands test (Some x) = test x.0 (gathered nowhere 0 true nothing (sorts x.0) x.1)
+of_operands test (Some x) = test (gathered nowhere 0 true nothing (sorts x.0) x.1)
 
-abbrev pub of_body : (Mnemonic → Option Gathered → Bool) → List Lexeme → Bool
+abbrev pub of_body : (Option Gathered → Bool) → List Lexeme → Bool
 of_body test ts = of_operands test (mnemonic_at ts)
 
 -- the reason holds against a line at slot n, before which these labels stand
 abbrev pub holds : Look → ℕ → List Lexeme → Why → Bool
 holds before n ts why.Word = has_stray ts || is_unnamed (after_label ts)
 holds before n ts why.Operand = of_body has_no_form (after_label ts)
-holds before n ts why.Range = of_body (λ m g. is_out g) (after_label ts)
+holds before n ts why.Range = of_body is_out (after_label ts)
 holds before n ts why.TwiceLabel = is_twice before (label_of ts)
 holds before n ts why.TooLong = nat_lt 4096 (n + slots_in ts)
 holds before n ts _ = false
