@@ -5,10 +5,10 @@ use Rattle.machine.specs.MachineState.{MachineState}
 use Rattle.machine.specs.declared.state.Stepped.{Stepped}
 use Rattle.machine.specs.TableStep.{TableStep}
 use Rattle.world.specs.declared.events.Reply.{Reply}
-use Rattle.world.specs.declared.events.Reply.TheVariants.{Made, Freed, Done, Bytes, Shipped, Ran, Waiting, Stopped, Registers, Emitted, NoMemory, Full, Outside, Refused, Missing}
+use Rattle.world.specs.declared.events.Reply.TheVariants.{Made, Freed, Done, Bytes, Shipped, Ran, Waiting, Stopped, Registers, Emitted, Disassembled, NoMemory, Full, Outside, NoSlot, Refused, Missing}
 use Rattle.world.specs.Run.{Runs}
 use Rattle.world.specs.Commands.{Command}
-use Rattle.world.specs.Commands.Command.{Make, Free, Put, Get, Ship, Step, Regs, Out, Stack}
+use Rattle.world.specs.Commands.Command.{Make, Free, Put, Get, Ship, Step, Regs, Out, Stack, Line}
 use Rattle.world.specs.WorldState.{WorldState, world_start}
 use Rattle.world.specs.Answers.{StepsMachine, Answers}
 use Rattle.world.specs.Laws.{made_numbers, counted_from, NumbersCountUp}
@@ -74,6 +74,11 @@ one old new (Stack m o z) Outside h = equal old new Outside (λ _. refl) h.1
 one old new (Stack m o z) NoMemory h = equal old new NoMemory (λ _. refl) h.1
 one old new (Stack m o z) (Bytes b) h = equal old new (Bytes b) (λ _. refl) h.1
 one old new (Stack m o z) _ h = absurd h.0.2
+one old new (Line m n) Missing h = equal old new Missing (λ _. refl) h.1
+one old new (Line m n) NoSlot h = equal old new NoSlot (λ _. refl) h.1
+one old new (Line m n) NoMemory h = equal old new NoMemory (λ _. refl) h.1
+one old new (Line m n) (Disassembled k s x) h = equal old new (Disassembled k s x) (λ _. refl) h.1
+one old new (Line m n) _ h = absurd h.0.2
 one old new _ _ h = absurd h
 
 counts : (old new : WorldState) (cs : List Command) (rs : List Reply) → Runs Answers old cs rs new → CountsFrom (length old.objects) rs

@@ -1,6 +1,10 @@
 -- But for `nomem`, commands have one run.
 use Rattle.std.proofs.Common.{◌≡◌, ◌≢◌, ℕ, ◌+◌, ◌≤◌, List, [], ◌∷◌, ◌++◌, length, take, drop, replicate, Option, Some, None, refl, sym, ap, subst, ◌∙◌}
+use Rattle.isa_table.specs.declared.instr.Instr.{Instr}
+use Rattle.asm_table.specs.Canonical.{line_text}
 use Rattle.loader.specs.declared.loading.LoadError.{LoadError}
+use Rattle.loader.specs.ValidCode.{IsAt, IsRowAt}
+use Rattle.loader.proofs.Positions.{same_first}
 use Rattle.loader.proofs.OneReason.{one_refusal, no_refusal_of_valid}
 use Rattle.machine.specs.MachineState.{MachineState, start}
 use Rattle.machine.specs.TableStep.{TableStep}
@@ -11,11 +15,11 @@ use Rattle.machine.specs.declared.state.Stepped.TheVariants as stepped
 use Rattle.machine.proofs.OneWay.{map_steps_one_way}
 use Rattle.object_store.specs.Objects.{map_memory}
 use Rattle.world.specs.declared.events.Reply.{Reply}
-use Rattle.world.specs.declared.events.Reply.TheVariants.{Made, Freed, Done, Bytes, Shipped, Ran, Waiting, Stopped, Registers, Emitted, NoMemory, Full, Outside, Refused, Missing}
+use Rattle.world.specs.declared.events.Reply.TheVariants.{Made, Freed, Done, Bytes, Shipped, Ran, Waiting, Stopped, Registers, Emitted, Disassembled, NoMemory, Full, Outside, NoSlot, Refused, Missing}
 use Rattle.world.specs.Run.{Runs}
-use Rattle.world.specs.Commands.Command.{Make, Free, Put, Get, Ship, Step, Regs, Out, Stack}
+use Rattle.world.specs.Commands.Command.{Make, Free, Put, Get, Ship, Step, Regs, Out, Stack, Line}
 use Rattle.world.specs.WorldState.{WorldState, machine_at, with_machine}
-use Rattle.world.specs.Answers.{StepsMachine, Answers, AnswersMake, AnswersFree, AnswersPut, AnswersGet, AnswersShip, AnswersStep, AnswersRegs, AnswersOut, AnswersStack, ShowsRange, shown_of}
+use Rattle.world.specs.Answers.{StepsMachine, Answers, AnswersMake, AnswersFree, AnswersPut, AnswersGet, AnswersShip, AnswersStep, AnswersRegs, AnswersOut, AnswersStack, ShowsRange, AnswersLine, ShowsLine, shown_of}
 use Rattle.world.specs.Laws.{AnswersOneWay, RunsOneWay}
 use Rattle.world.proofs.Machines.{found_once, found_none}
 use Rattle.world.proofs.Steps.{never_waits}
@@ -191,6 +195,40 @@ stack m o z old new other Missing _ g h p q = found_none (machine_at old m) _ g.
 stack m o z old new other _ Missing g h p q = found_none (machine_at old m) _ h.0 g.0.1
 stack m o z old new other a b g h p q = (shown_once old m o z a b g.0 h.0 p q, g.1 ∙ sym h.1)
 
+same_row : (bytes : List ℕ) (n : ℕ) (i j : Instr) → IsRowAt bytes n i → IsRowAt bytes n j → i ≡ j
+same_row bytes n i j g h = same_first i j g.begins.0 h.begins.0 g.fits h.fits (sym g.begins.1 ∙ h.begins.1)
+
+at_row : (bytes : List ℕ) (n : ℕ) (i : Instr) → IsRowAt bytes n i → IsAt bytes n
+at_row bytes n i h = (h.code, h.is_code, (i, h.stands))
+
+lines : (s : MachineState) (m n : ℕ) (a b : Reply) → ShowsLine s m n a → ShowsLine s m n b → a ≢ NoMemory → b ≢ NoMemory → a ≡ b
+lines s m n (Disassembled k x t) (Disassembled j y u) g h p q =
+    let same : t ≡ u = g.2.spelled ∙ ap line_text (same_row s.code n g.2.instr h.2.instr g.2.row h.2.row) ∙ sym h.2.spelled in
+    rw (g.0, g.1, h.0, h.1, same) refl
+lines s m n NoSlot NoSlot g h p q = refl
+lines s m n (Disassembled k x t) NoSlot g h p q = absurd (h (at_row s.code n g.2.instr g.2.row))
+lines s m n NoSlot (Disassembled j y u) g h p q = absurd (g (at_row s.code n h.2.instr h.2.row))
+lines s m n NoMemory _ g h p q = absurd (p refl)
+lines s m n (Disassembled k x t) NoMemory g h p q = absurd (q refl)
+lines s m n NoSlot NoMemory g h p q = absurd (q refl)
+lines s m n (Disassembled k x t) _ g h p q = absurd h
+lines s m n NoSlot _ g h p q = absurd h
+lines s m n _ _ g h p q = absurd g
+
+abbrev ShownLine : WorldState → ℕ → ℕ → Reply → Type 0
+ShownLine old m n reply = (state : MachineState) × (machine_at old m ≡ Some state) × ShowsLine state m n reply
+
+line_once : (old : WorldState) (m n : ℕ) (a b : Reply) → ShownLine old m n a → ShownLine old m n b → a ≢ NoMemory → b ≢ NoMemory → a ≡ b
+line_once old m n a b g h p q =
+    let same = found_once (machine_at old m) g.0 h.0 g.1 h.1 in
+    lines h.0 m n a b (subst (λ (s : MachineState). ShowsLine s m n a) same g.2) h.2 p q
+
+line : (m n : ℕ) → OneWay (λ old a new. AnswersLine old m n a new)
+line m n old new other Missing Missing g h p q = (refl, g.1 ∙ sym h.1)
+line m n old new other Missing _ g h p q = found_none (machine_at old m) _ g.0 h.0.1
+line m n old new other _ Missing g h p q = found_none (machine_at old m) _ h.0 g.0.1
+line m n old new other a b g h p q = (line_once old m n a b g.0 h.0 p q, g.1 ∙ sym h.1)
+
 -- ---- commands
 
 pub answers_one_way : AnswersOneWay
@@ -203,6 +241,7 @@ answers_one_way old new other (Step m) a b g h p q = step m old new other a b g 
 answers_one_way old new other (Regs m) a b g h p q = regs m old new other a b g h p q
 answers_one_way old new other (Out m) a b g h p q = out m old new other a b g h p q
 answers_one_way old new other (Stack m o z) a b g h p q = stack m o z old new other a b g h p q
+answers_one_way old new other (Line m n) a b g h p q = line m n old new other a b g h p q
 
 pub runs_one_way : RunsOneWay
 runs_one_way old new other [] [] [] g h p q = (refl, g ∙ sym h)

@@ -6,10 +6,10 @@ use Rattle.object_store.specs.Objects.{map_memory}
 use Rattle.machine.specs.MachineState.{MachineState, start}
 use Rattle.machine.specs.declared.state.Stepped.{Stepped}
 use Rattle.world.specs.declared.events.Reply.{Reply}
-use Rattle.world.specs.declared.events.Reply.TheVariants.{Made, Freed, Done, Bytes, Shipped, Ran, Waiting, Stopped, Registers, Emitted, NoMemory, Full, Outside, Refused, Missing}
+use Rattle.world.specs.declared.events.Reply.TheVariants.{Made, Freed, Done, Bytes, Shipped, Ran, Waiting, Stopped, Registers, Emitted, Disassembled, NoMemory, Full, Outside, NoSlot, Refused, Missing}
 use Rattle.world.specs.Run.{Runs}
 use Rattle.world.specs.Commands.{Command}
-use Rattle.world.specs.Commands.Command.{Make, Free, Put, Get, Ship, Step, Regs, Out, Stack}
+use Rattle.world.specs.Commands.Command.{Make, Free, Put, Get, Ship, Step, Regs, Out, Stack, Line}
 use Rattle.world.specs.WorldState.{WorldState, world_start, machine_at, with_machine}
 use Rattle.world.specs.Answers.{StepsMachine, Answers}
 use Rattle.world.specs.Laws.{shipped_codes, code_of, RunsWhatWasShipped}
@@ -71,6 +71,8 @@ one_more old new (Out m) Missing h = equal old new h.1
 one_more old new (Out m) (Emitted k v) h = equal old new h.2
 one_more old new (Stack m o z) Missing h = equal old new h.1
 one_more old new (Stack m o z) _ h = equal old new h.1
+one_more old new (Line m n) Missing h = equal old new h.1
+one_more old new (Line m n) _ h = equal old new h.1
 one_more old new _ _ h = absurd h
 
 first_then : (c : Command) (cs : List Command) (r : Reply) (rs : List Reply) → shipped_codes (c ∷ []) (r ∷ []) ++ shipped_codes cs rs ≡ shipped_codes (c ∷ cs) (r ∷ rs)
@@ -84,6 +86,7 @@ first_then (Step m) cs _ rs = refl
 first_then (Regs m) cs _ rs = refl
 first_then (Out m) cs _ rs = refl
 first_then (Stack m o z) cs _ rs = refl
+first_then (Line m n) cs _ rs = refl
 
 shipped_from : (old new : WorldState) (cs : List Command) (rs : List Reply) → Runs Answers old cs rs new → map code_of new.machines ≡ map code_of old.machines ++ shipped_codes cs rs
 shipped_from old new [] [] h = equal old new h

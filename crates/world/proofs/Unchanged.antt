@@ -1,7 +1,7 @@
 -- What refusals and showing leave as it was.
 use Rattle.std.proofs.Common.{◌≡◌, true}
-use Rattle.world.specs.declared.events.Reply.TheVariants.{Made, Freed, Done, Bytes, Shipped, Ran, Waiting, Stopped, Registers, Emitted, NoMemory, Full, Outside, Refused, Missing}
-use Rattle.world.specs.Commands.Command.{Make, Free, Put, Get, Ship, Step, Regs, Out, Stack}
+use Rattle.world.specs.declared.events.Reply.TheVariants.{Made, Freed, Done, Bytes, Shipped, Ran, Waiting, Stopped, Registers, Emitted, Disassembled, NoMemory, Full, Outside, NoSlot, Refused, Missing}
+use Rattle.world.specs.Commands.Command.{Make, Free, Put, Get, Ship, Step, Regs, Out, Stack, Line}
 use Rattle.world.specs.Laws.{RefusalsChangeNothing, ShowingChangesNothing}
 
 pub refusals_change_nothing : RefusalsChangeNothing
@@ -32,6 +32,11 @@ refusals_change_nothing old new (Stack m o z) Outside h t = h.1
 refusals_change_nothing old new (Stack m o z) NoMemory h t = h.1
 refusals_change_nothing old new (Stack m o z) (Bytes b) h t = absurd (cc)
 refusals_change_nothing old new (Stack m o z) _ h t = absurd h.0.2
+refusals_change_nothing old new (Line m n) Missing h t = h.1
+refusals_change_nothing old new (Line m n) NoSlot h t = h.1
+refusals_change_nothing old new (Line m n) NoMemory h t = h.1
+refusals_change_nothing old new (Line m n) (Disassembled k s x) h t = absurd (cc)
+refusals_change_nothing old new (Line m n) _ h t = absurd h.0.2
 refusals_change_nothing old new _ _ h t = absurd h
 
 pub showing_changes_nothing : ShowingChangesNothing
@@ -47,6 +52,8 @@ showing_changes_nothing old new (Out m) (Emitted k v) h t = h.2
 showing_changes_nothing old new (Out m) _ h t = absurd h
 showing_changes_nothing old new (Stack m o z) Missing h t = h.1
 showing_changes_nothing old new (Stack m o z) _ h t = h.1
+showing_changes_nothing old new (Line m n) Missing h t = h.1
+showing_changes_nothing old new (Line m n) _ h t = h.1
 showing_changes_nothing old new (Make z) _ h t = absurd (cc)
 showing_changes_nothing old new (Free n) _ h t = absurd (cc)
 showing_changes_nothing old new (Put n o b) _ h t = absurd (cc)

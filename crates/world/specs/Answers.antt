@@ -1,6 +1,8 @@
 -- What the commands do: which reply each may have, and to which state it leads. Refusals change nothing, and are tested in the order written.
 use Rattle.std.specs.Prelude.{◌≡◌, ◌≢◌, ◌≤◌, ℕ, ◌+◌, List, [], ◌∷◌, ◌++◌, length, take, drop, replicate, Option, Some, None}
-use Rattle.loader.specs.ValidCode.{ValidCode}
+use Rattle.isa_table.specs.declared.instr.Instr.{Instr}
+use Rattle.asm_table.specs.Canonical.{line_text}
+use Rattle.loader.specs.ValidCode.{ValidCode, IsAt, IsRowAt}
 use Rattle.loader.specs.Refusals.{HasCodeSize, Refuses}
 use Rattle.loader.specs.declared.loading.Why.TheVariants as why
 use Rattle.object_store.specs.Objects.{IsLive, IsFull, HasRange, with_bytes, range_of, with_range, map_memory}
@@ -11,9 +13,9 @@ use Rattle.machine.specs.declared.state.Stepped.{Stepped}
 use Rattle.machine.specs.declared.state.Stepped.TheVariants as stepped
 use Rattle.world.specs.declared.shown.Shown.{Shown}
 use Rattle.world.specs.declared.events.Reply.{Reply}
-use Rattle.world.specs.declared.events.Reply.TheVariants.{Made, Freed, Done, Bytes, Shipped, Ran, Waiting, Stopped, Registers, Emitted, NoMemory, Full, Outside, Refused, Missing}
+use Rattle.world.specs.declared.events.Reply.TheVariants.{Made, Freed, Done, Bytes, Shipped, Ran, Waiting, Stopped, Registers, Emitted, Disassembled, NoMemory, Full, Outside, NoSlot, Refused, Missing}
 use Rattle.world.specs.Commands.{Command}
-use Rattle.world.specs.Commands.Command.{Make, Free, Put, Get, Ship, Step, Regs, Out, Stack}
+use Rattle.world.specs.Commands.Command.{Make, Free, Put, Get, Ship, Step, Regs, Out, Stack, Line}
 use Rattle.world.specs.WorldState.{WorldState, AreAllShipped, machine_at, with_machine}
 
 -- ---- objects
@@ -98,6 +100,23 @@ abbrev pub AnswersStack : WorldState → ℕ → ℕ → ℕ → Reply → World
 AnswersStack old m offset size Missing new = (machine_at old m ≡ None) × (new ≡ old)
 AnswersStack old m offset size reply new = ((state : MachineState) × (machine_at old m ≡ Some state) × ShowsRange state.stack offset size reply) × (new ≡ old)
 
+-- the instruction i begins at slot n of the machine's code, and this is its canonical spelling
+pub record IsLineAt (state : MachineState) (n : ℕ) (text : List ℕ) : Type 0 where
+  pub instr : Instr
+  pub row : IsRowAt state.code n instr
+  pub spelled : text ≡ line_text instr
+
+-- the instruction at a slot of the code that was shipped, as assembly
+abbrev pub ShowsLine : MachineState → ℕ → ℕ → Reply → Type 0
+ShowsLine state m n NoSlot = IsAt state.code n → ⊥
+ShowsLine state m n NoMemory = IsAt state.code n
+ShowsLine state m n (Disassembled k slot text) = (k ≡ m) × (slot ≡ n) × IsLineAt state n text
+ShowsLine state m n _ = ⊥
+
+abbrev pub AnswersLine : WorldState → ℕ → ℕ → Reply → WorldState → Type 0
+AnswersLine old m n Missing new = (machine_at old m ≡ None) × (new ≡ old)
+AnswersLine old m n reply new = ((state : MachineState) × (machine_at old m ≡ Some state) × ShowsLine state m n reply) × (new ≡ old)
+
 -- ---- commands
 
 -- From old, the command may have this reply and lead to new.
@@ -111,3 +130,4 @@ Answers old (Step m) reply new = AnswersStep old m reply new
 Answers old (Regs m) reply new = AnswersRegs old m reply new
 Answers old (Out m) reply new = AnswersOut old m reply new
 Answers old (Stack m offset size) reply new = AnswersStack old m offset size reply new
+Answers old (Line m slot) reply new = AnswersLine old m slot reply new

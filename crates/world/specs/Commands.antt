@@ -20,6 +20,8 @@ pub data Command : Type 0 where
   Out : ℕ → Command
   -- machine, offset, length
   Stack : ℕ → ℕ → ℕ → Command
+  -- machine, slot
+  Line : ℕ → ℕ → Command
 
 -- the command that an event carries
 abbrev pub command_of : Event → Command
@@ -32,3 +34,4 @@ command_of (event.Step m) = Step m
 command_of (event.Regs m) = Regs m
 command_of (event.Out m) = Out m
 command_of (event.Stack m offset size) = Stack m offset size
+command_of (event.Line m slot) = Line m slot

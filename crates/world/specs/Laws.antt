@@ -7,10 +7,10 @@ use Rattle.machine.specs.Laws.{Touches}
 use Rattle.machine.specs.declared.state.Stepped.{Stepped}
 use Rattle.machine.specs.declared.state.Stepped.TheVariants as stepped
 use Rattle.world.specs.declared.events.Reply.{Reply}
-use Rattle.world.specs.declared.events.Reply.TheVariants.{Made, Freed, Done, Bytes, Shipped, Ran, Waiting, Stopped, Registers, Emitted, NoMemory, Full, Outside, Refused, Missing}
+use Rattle.world.specs.declared.events.Reply.TheVariants.{Made, Freed, Done, Bytes, Shipped, Ran, Waiting, Stopped, Registers, Emitted, Disassembled, NoMemory, Full, Outside, NoSlot, Refused, Missing}
 use Rattle.world.specs.Run.{Runs}
 use Rattle.world.specs.Commands.{Command}
-use Rattle.world.specs.Commands.Command.{Make, Free, Put, Get, Ship, Step, Regs, Out, Stack}
+use Rattle.world.specs.Commands.Command.{Make, Free, Put, Get, Ship, Step, Regs, Out, Stack, Line}
 use Rattle.world.specs.WorldState.{WorldState, world_start, machine_at}
 use Rattle.world.specs.Answers.{StepsMachine, Answers}
 
@@ -21,6 +21,7 @@ abbrev pub is_refusal : Reply → Bool
 is_refusal NoMemory = true
 is_refusal Full = true
 is_refusal Outside = true
+is_refusal NoSlot = true
 is_refusal (Refused e) = true
 is_refusal Missing = true
 is_refusal (Made n) = false
@@ -33,6 +34,7 @@ is_refusal (Waiting m n) = false
 is_refusal (Stopped m stop) = false
 is_refusal (Registers shown) = false
 is_refusal (Emitted m values) = false
+is_refusal (Disassembled m slot text) = false
 
 -- A refusal changes nothing.
 abbrev pub RefusalsChangeNothing : Type 0
@@ -44,6 +46,7 @@ is_showing (Get n offset size) = true
 is_showing (Regs m) = true
 is_showing (Out m) = true
 is_showing (Stack m offset size) = true
+is_showing (Line m slot) = true
 is_showing (Make size) = false
 is_showing (Free n) = false
 is_showing (Put n offset bytes) = false

@@ -89,6 +89,8 @@ pub enum Event {
         offset: u32,
         length: u32,
     },
+    /// Shows the instruction that begins at a slot of a machine's code.
+    Line { machine: usize, slot: u32 },
 }
 
 /// What a command was answered.
@@ -114,12 +116,20 @@ pub enum Reply {
     Registers(Shown),
     /// What a machine has emitted.
     Emitted { machine: usize, values: Values },
+    /// The instruction at a slot, as assembly.
+    Disassembled {
+        machine: usize,
+        slot: u32,
+        text: Bytes,
+    },
     /// Out of memory. Nothing is changed.
     NoMemory,
     /// There are as many machines, or as many objects, as there can be.
     Full,
     /// The bytes are not all within the object, or within the stack.
     Outside,
+    /// No instruction begins at the slot.
+    NoSlot,
     /// The code is not valid.
     Refused(LoadError),
     /// There is no such machine, or no such object.

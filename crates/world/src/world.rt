@@ -7,10 +7,11 @@ ghost use Rattle.world.specs.declared.events.Reply.{Reply};
 ghost use Rattle.world.specs.Run.{Runs};
 ghost use Rattle.world.specs.Commands.{command_of};
 ghost use Rattle.world.specs.WorldState.{WorldState, machine_at, world_start};
-ghost use Rattle.world.specs.Answers.{StepsMachine, Answers, AnswersMake, AnswersFree, AnswersPut, AnswersGet, AnswersShip, AnswersStep, AnswersRegs, AnswersOut, AnswersStack, ShowsRange};
+ghost use Rattle.world.specs.Answers.{StepsMachine, Answers, AnswersMake, AnswersFree, AnswersPut, AnswersGet, AnswersShip, AnswersStep, AnswersRegs, AnswersOut, AnswersStack, AnswersLine, ShowsLine, ShowsRange};
 
 use crate::events::{Event, ObjectLength, Reply};
 use crate::shown::{Bytes, Shown, Values};
+use disassembler::line;
 use loader::{Why, load};
 use machine::{Machine, Stepped};
 use object_store::{GetError, MakeError, ObjectStore, PutError};
@@ -71,6 +72,24 @@ fn show_range(alloc: Global, bytes: &[u8], offset: usize, length: usize) -> Repl
     }
 }
 
+/// The instruction at a slot of a machine's code.
+fn show_line(alloc: Global, shown: &Machine, machine: usize, slot: u32) -> Reply
+    ensures { ShowsLine shown.now machine slot result }
+{
+    let Some(instr) = shown.program().at(slot as usize) else {
+        return Reply::NoSlot;
+    };
+    let mut text = Vec::new(alloc);
+    match line(&instr, &mut text) {
+        Ok(()) => Reply::Disassembled {
+            machine,
+            slot,
+            text: Bytes::new(text),
+        },
+        Err(_) => Reply::NoMemory,
+    }
+}
+
 impl World {
     /// A world without machines and objects. It takes the memory for all that can be shipped and made, but for code and bytes.
     pub fn new(alloc: Global) -> Result<Self, AllocError>
@@ -115,6 +134,7 @@ impl World {
                 offset,
                 length,
             } => self.stack(machine, offset, length),
+            Event::Line { machine, slot } => self.line(machine, slot),
         }
     }
 
@@ -252,5 +272,15 @@ impl World {
             return Reply::Missing;
         };
         show_range(self.alloc, shown.stack(), offset as usize, length as usize)
+    }
+
+    /// The instruction at a slot of a machine's code.
+    fn line(&self, machine: usize, slot: u32) -> Reply
+        ensures { AnswersLine self.now machine slot result self.now }
+    {
+        let Some(shown) = self.machine(machine) else {
+            return Reply::Missing;
+        };
+        show_line(self.alloc, shown, machine, slot)
     }
 }
