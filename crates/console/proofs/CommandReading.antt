@@ -7,7 +7,7 @@ use Rattle.world.specs.declared.events.Reply.TheVariants as reply
 use Rattle.world.specs.WorldState.{WorldState}
 use Rattle.world.specs.Answers.{Answers}
 use Rattle.world.specs.Commands.{Command, command_of}
-use Rattle.world.specs.Commands.Command.{Get, Stack}
+use Rattle.world.specs.Commands.Command.{Get, Stack, Line}
 use Rattle.world.specs.declared.events.Event.{Event}
 use Rattle.console.specs.Tokens.{tokens_of, within, IsWithin, AreBytes}
 use Rattle.console.specs.Replies.{IsShort}
@@ -71,5 +71,6 @@ asks_short line command s = said_short (tokens_of line) command s.1
 pub answers_short : (old new : WorldState) (command : Command) (reply : Reply) → Answers old command reply new → AsksShort command → IsShort reply
 answers_short old new (Get n offset size) (reply.Bytes shown) a short = let e = ap length a.1 in let l = length-take size (drop offset (bytes_of old.objects n)) in omega (arith, e, l, short)
 answers_short old new (Stack m offset size) (reply.Bytes shown) a short = let e = ap length a.0.2.1 in let l = length-take size (drop offset a.0.0.stack) in omega (arith, e, l, short)
+answers_short old new (Line m n) (reply.Bytes shown) a short = absurd a.0.2
 answers_short old new command (reply.Bytes shown) a short = absurd a
 answers_short old new command reply a short = tt

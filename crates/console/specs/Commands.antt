@@ -1,10 +1,11 @@
 -- Which line spells which command. Names, parameters and limits are this project's choice.
-use Rattle.std.specs.Prelude.{◌≡◌, ℕ, ◌≤◌, ◌-◌, ◌^◌, List, [], ◌∷◌, length, slice_index, codes, if◌then◌else◌, Option, Some, None, Result, Ok, Err}
+use Rattle.std.specs.Prelude.{◌≡◌, ℕ, ◌≤◌, ◌-◌, ◌/◌, ◌^◌, List, [], ◌∷◌, length, slice_index, codes, if◌then◌else◌, Option, Some, None, Result, Ok, Err}
 use Rattle.std.specs.Str.{bytes_eq}
+use Rattle.loader.specs.ValidCode.{code_limit}
 use Rattle.object_store.specs.Objects.{object_limit, object_bytes}
 use Rattle.world.specs.declared.events.Event.{Event}
 use Rattle.world.specs.Commands.{Command, command_of}
-use Rattle.world.specs.Commands.Command.{Make, Free, Put, Get, Ship, Step, Regs, Out, Stack}
+use Rattle.world.specs.Commands.Command.{Make, Free, Put, Get, Ship, Step, Regs, Out, Stack, Line}
 use Rattle.world.specs.WorldState.{machine_limit}
 use Rattle.machine.specs.MachineState.{stack_size}
 use Rattle.console.specs.Lines.{line_limit}
@@ -28,7 +29,8 @@ kind_named name =
     (if bytes_eq name (codes "step") then Some kind.Step else
     (if bytes_eq name (codes "regs") then Some kind.Regs else
     (if bytes_eq name (codes "out") then Some kind.Out else
-    (if bytes_eq name (codes "stack") then Some kind.Stack else None))))))))
+    (if bytes_eq name (codes "stack") then Some kind.Stack else
+    (if bytes_eq name (codes "line") then Some kind.Line else None)))))))))
 
 -- any number of 64 bits
 abbrev pub any_number : Limits
@@ -49,6 +51,10 @@ object_offset = within 0 (object_bytes - 1)
 -- where a range of a stack's bytes may begin
 abbrev pub stack_offset : Limits
 stack_offset = within 0 (stack_size - 1)
+
+-- a slot of code that there may be
+abbrev pub code_slot : Limits
+code_slot = within 0 (code_limit / 8 - 1)
 
 -- the most bytes that a line or a reply carries, but for code
 abbrev pub range_limit : ℕ
@@ -71,6 +77,7 @@ number_limits kind.Step = machine_number ∷ []
 number_limits kind.Regs = machine_number ∷ []
 number_limits kind.Out = machine_number ∷ []
 number_limits kind.Stack = machine_number ∷ stack_offset ∷ range_length ∷ []
+number_limits kind.Line = machine_number ∷ code_slot ∷ []
 
 -- how many bytes may come after the numbers, in hex, where some have to
 abbrev pub most_bytes : Kind → Option ℕ
@@ -91,6 +98,7 @@ command_with kind.Step numbers bytes = Step (slice_index numbers 0)
 command_with kind.Regs numbers bytes = Regs (slice_index numbers 0)
 command_with kind.Out numbers bytes = Out (slice_index numbers 0)
 command_with kind.Stack numbers bytes = Stack (slice_index numbers 0) (slice_index numbers 1) (slice_index numbers 2)
+command_with kind.Line numbers bytes = Line (slice_index numbers 0) (slice_index numbers 1)
 
 -- ---- lines
 

@@ -54,6 +54,8 @@ reply_text reply.NoMemory = nomem_text
 reply_text reply.Full = codes "full"
 reply_text reply.Outside = codes "outside"
 reply_text (reply.Refused e) = codes "refused" ++ number_text e.slot ++ codes " " ++ why_name e.why
+reply_text (reply.Disassembled m slot text) = codes "line" ++ number_text m ++ number_text slot ++ codes " " ++ text
+reply_text reply.NoSlot = codes "noslot"
 reply_text reply.Missing = codes "none"
 
 -- a reply has at most so many bytes to show

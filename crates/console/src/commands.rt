@@ -100,5 +100,9 @@ fn event_with(kind: Kind, numbers: [u64; NUMBERS], bytes: Vec<u8>) -> Event
             offset: numbers[1] as u32,
             length: numbers[2] as u32,
         },
+        Kind::Line => Event::Line {
+            machine,
+            slot: numbers[1] as u32,
+        },
     }
 }

@@ -18,6 +18,7 @@ pub enum Kind {
     Regs,
     Out,
     Stack,
+    Line,
 }
 
 /// What a number may be.
@@ -69,6 +70,12 @@ const STACK_OFFSET: Limits = Limits {
     most: 4095,
 };
 
+/// A slot of code that there may be.
+const SLOT: Limits = Limits {
+    least: 0,
+    most: 4095,
+};
+
 /// How many bytes may be shown at once.
 const RANGE_LENGTH: Limits = Limits {
     least: 1,
@@ -98,6 +105,8 @@ impl Kind {
             Some(Kind::Out)
         } else if name == b"stack".as_slice() {
             Some(Kind::Stack)
+        } else if name == b"line".as_slice() {
+            Some(Kind::Line)
         } else {
             None
         }
@@ -118,6 +127,7 @@ impl Kind {
             Kind::Regs => &[MACHINE],
             Kind::Out => &[MACHINE],
             Kind::Stack => &[MACHINE, STACK_OFFSET, RANGE_LENGTH],
+            Kind::Line => &[MACHINE, SLOT],
         }
     }
 

@@ -198,9 +198,19 @@ pub fn print_reply(reply: &Reply, line: &mut ReplyLine)
             put_named(line, b"out", *machine as u64);
             put_values(line, values.as_slice());
         }
+        Reply::Disassembled {
+            machine,
+            slot,
+            text,
+        } => {
+            put_pair(line, b"line", *machine as u64, *slot as u64);
+            put(line, b" ");
+            put(line, text.as_slice());
+        }
         Reply::NoMemory => put(line, b"nomem"),
         Reply::Full => put(line, b"full"),
         Reply::Outside => put(line, b"outside"),
+        Reply::NoSlot => put(line, b"noslot"),
         Reply::Refused(error) => put_refusal(line, error),
         Reply::Missing => put(line, b"none"),
     }

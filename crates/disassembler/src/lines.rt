@@ -1,5 +1,6 @@
 //! The line of an instruction.
-ghost use Rattle.std.specs.Prelude.{◌≡◌, ◌++◌, OnOk, OnErr};
+ghost use Rattle.std.specs.Prelude.{◌≡◌, ◌≤◌, ◌++◌, length, OnOk, OnErr};
+ghost use Rattle.arrayvec.specs.ArrayVec.{array_vec_len};
 ghost use Rattle.asm_table.specs.Canonical.{line_text};
 
 use crate::operands::{Line, put, put_operands};
@@ -8,7 +9,8 @@ use isa_table::Instr;
 use std::alloc::AllocError;
 
 fn line_of(i: &Instr) -> Line
-    ensures { result.items ≡ line_text i.now }
+    ensures text { result.items ≡ line_text i.now }
+    ensures short { array_vec_len result ≤ 256 }
 {
     let mut line = Line::new();
     put(&mut line, mnemonic_of(i).name());
@@ -16,10 +18,11 @@ fn line_of(i: &Instr) -> Line
     line
 }
 
-/// Adds the canonical spelling of an instruction, without a line end. Out of memory changes nothing.
+/// Adds the canonical spelling of an instruction, without a line end: at most 256 bytes. Out of memory changes nothing.
 pub fn line(i: &Instr, out: &mut Vec<u8>) -> Result<(), AllocError>
     ensures ok { OnOk result (out.new.items ≡ out.old.items ++ line_text i.now) }
     ensures err { OnErr result (out.new.items ≡ out.old.items) }
+    ensures short { length (line_text i.now) ≤ 256 }
 {
     out.extend_from_slice(line_of(i).as_slice())
 }

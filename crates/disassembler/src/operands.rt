@@ -98,7 +98,8 @@ fn put_more(line: &mut Line, operands: &[AsmOperand])
 /// Adds a blank and all operands, or nothing where there is none.
 pub fn put_operands(line: &mut Line, operands: &[AsmOperand])
     requires { array_vec_len line.old + 52 * length operands.now ≤ 256 }
-    ensures { line.new.items ≡ line.old.items ++ operands_text operands.now }
+    ensures text { line.new.items ≡ line.old.items ++ operands_text operands.now }
+    ensures len { array_vec_len line.new ≤ array_vec_len line.old + 52 * length operands.now }
 {
     match operands {
         [] => {}

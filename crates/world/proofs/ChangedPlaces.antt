@@ -1,5 +1,5 @@
 -- Steps of two machines that come to no common object may change places.
-use Rattle.std.proofs.Common.{inl, inr, ◌≡◌, ◌≢◌, ℕ, ◌-◌, List, [], ◌∷◌, length, Some, None, refl, sym, ap, ◌∙◌, subst}
+use Rattle.std.proofs.Common.{inl, inr, ◌≡◌, ◌≢◌, ℕ, ◌-◌, List, Some, None, refl, sym, ap, ◌∙◌, subst}
 use Rattle.std.specs.Prelude.{◌⊎◌, slice_set}
 use Rattle.machine.specs.declared.state.Stepped.{Stepped}
 use Rattle.machine.specs.declared.state.Stepped.TheVariants as stepped
@@ -51,12 +51,12 @@ both_step : (old mid new : WorldState) (m k : ℕ) (a b : Reply) → m ≢ k →
 both_step old mid new m k a b d apart g h =
     let there : machine_at old k ≡ Some h.steps.before = sym (others old mid m k g.answer g.after g.steps (λ z. d (sym z))) ∙ h.steps.found in
     let o = steps_commute g.steps.before h.steps.before g.after h.after old.objects mid.objects new.objects g.answer h.answer
-        (λ n s t. apart n (record { machine = g.steps.before; found = g.steps.found; touches = s }) (record { machine = h.steps.before; found = there; touches = t }))
-        g.steps.step h.steps.step in
+    (λ n s t. apart n (record { machine = g.steps.before; found = g.steps.found; touches = s }) (record { machine = h.steps.before; found = there; touches = t }))
+    g.steps.step h.steps.step in
     let side : WorldState = with_machine (record old { objects = o.0 }) k h.after in
     let machines : new.machines ≡ slice_set (slice_set old.machines (k - 1) h.after) (m - 1) g.after =
-        ap (λ (w : WorldState). w.machines) h.steps.changed ∙ ap (λ (w : WorldState). slice_set w.machines (k - 1) h.after) g.steps.changed
-        ∙ machines_swap old.machines m k g.after h.after (not_zero old m g.steps.before g.steps.found) (not_zero old k h.steps.before there) d in
+    ap (λ (w : WorldState). w.machines) h.steps.changed ∙ ap (λ (w : WorldState). slice_set w.machines (k - 1) h.after) g.steps.changed
+    ∙ machines_swap old.machines m k g.after h.after (not_zero old m g.steps.before g.steps.found) (not_zero old k h.steps.before there) d in
     record {
       side = side;
       second = told old side k h.answer h.after b (record { before = h.steps.before; found = there; step = o.1; changed = refl }) h.tells;

@@ -11,9 +11,9 @@ use Rattle.machine.specs.declared.state.Accessing.{Accessing}
 use Rattle.machine.specs.declared.state.Frame.{Frame}
 use Rattle.machine.specs.declared.state.Work.{Work}
 use Rattle.machine.specs.declared.state.Work.TheVariants.{Computes, Accesses, Measures}
-use Rattle.machine.specs.MachineState.{MachineState, stack_size}
+use Rattle.machine.specs.MachineState.{MachineState}
 use Rattle.machine.specs.Rows.{MemoryAnswer, Outcome, told_for, told_access, told_own, told_call, computed, exits, work_of}
-use Rattle.machine.specs.Rows.MemoryAnswer.{NoAnswer, Reached, Measured}
+use Rattle.machine.specs.Rows.MemoryAnswer.{Reached, Measured}
 use Rattle.machine.specs.TableStep.{TableStep}
 use Rattle.machine.proofs.StepCases.{StepCase, step_case}
 

@@ -1,9 +1,8 @@
 -- The numbers of objects.
-use Rattle.std.proofs.Common.{◌≡◌, ℕ, suc, ◌+◌, List, [], ◌∷◌, ◌++◌, length, refl, sym, ap, ◌∙◌, subst, arith, length-append, length-set}
+use Rattle.std.proofs.Common.{◌≡◌, ℕ, suc, List, [], ◌∷◌, ◌++◌, length, refl, ap, ◌∙◌, subst, arith, length-append, length-set}
 use Rattle.object_store.specs.Objects.{with_bytes}
 use Rattle.machine.specs.MachineState.{MachineState}
 use Rattle.machine.specs.declared.state.Stepped.{Stepped}
-use Rattle.machine.specs.TableStep.{TableStep}
 use Rattle.world.specs.declared.events.Reply.{Reply}
 use Rattle.world.specs.declared.events.Reply.TheVariants.{Made, Freed, Done, Bytes, Shipped, Ran, Waiting, Stopped, Registers, Emitted, Disassembled, NoMemory, Full, Outside, NoSlot, Refused, Missing}
 use Rattle.world.specs.Run.{Runs}

@@ -1,5 +1,5 @@
 -- But for `nomem`, commands have one run.
-use Rattle.std.proofs.Common.{◌≡◌, ◌≢◌, ℕ, ◌+◌, ◌≤◌, List, [], ◌∷◌, ◌++◌, length, take, drop, replicate, Option, Some, None, refl, sym, ap, subst, ◌∙◌}
+use Rattle.std.proofs.Common.{◌≡◌, ◌≢◌, ℕ, List, [], ◌∷◌, ◌++◌, Option, Some, refl, sym, ap, subst, ◌∙◌}
 use Rattle.isa_table.specs.declared.instr.Instr.{Instr}
 use Rattle.asm_table.specs.Canonical.{line_text}
 use Rattle.loader.specs.declared.loading.LoadError.{LoadError}
@@ -114,7 +114,7 @@ both old new other m a b x y g h =
       answers = s.0;
       after = s.1;
       worlds = g.changed ∙ ap (λ (t : MachineState). with_machine (record old { objects = new.objects }) m t) s.1
-        ∙ ap (λ (o : List (List ℕ)). with_machine (record old { objects = o }) m y) s.2 ∙ sym h.changed;
+          ∙ ap (λ (o : List (List ℕ)). with_machine (record old { objects = o }) m y) s.2 ∙ sym h.changed;
     }
 
 ran_stopped : {P : Type 0} (w : Option Written) (s : Stop) → stepped.Ran w ≡ stepped.Stopped s → P

@@ -6,7 +6,7 @@ use Rattle.object_store.specs.Objects.{map_memory}
 use Rattle.machine.specs.MachineState.{MachineState, start}
 use Rattle.machine.specs.declared.state.Stepped.{Stepped}
 use Rattle.world.specs.declared.events.Reply.{Reply}
-use Rattle.world.specs.declared.events.Reply.TheVariants.{Made, Freed, Done, Bytes, Shipped, Ran, Waiting, Stopped, Registers, Emitted, Disassembled, NoMemory, Full, Outside, NoSlot, Refused, Missing}
+use Rattle.world.specs.declared.events.Reply.TheVariants.{Made, Freed, Done, Bytes, Shipped, Ran, Waiting, Stopped, Registers, Emitted, NoMemory, Full, Outside, Refused, Missing}
 use Rattle.world.specs.Run.{Runs}
 use Rattle.world.specs.Commands.{Command}
 use Rattle.world.specs.Commands.Command.{Make, Free, Put, Get, Ship, Step, Regs, Out, Stack, Line}

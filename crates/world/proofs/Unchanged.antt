@@ -1,5 +1,4 @@
 -- What refusals and showing leave as it was.
-use Rattle.std.proofs.Common.{◌≡◌, true}
 use Rattle.world.specs.declared.events.Reply.TheVariants.{Made, Freed, Done, Bytes, Shipped, Ran, Waiting, Stopped, Registers, Emitted, Disassembled, NoMemory, Full, Outside, NoSlot, Refused, Missing}
 use Rattle.world.specs.Commands.Command.{Make, Free, Put, Get, Ship, Step, Regs, Out, Stack, Line}
 use Rattle.world.specs.Laws.{RefusalsChangeNothing, ShowingChangesNothing}

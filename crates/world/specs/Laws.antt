@@ -1,5 +1,5 @@
 -- What the definitions say, in the agent's own words.
-use Rattle.std.specs.Prelude.{◌≡◌, ◌≢◌, ◌<◌, ◌≤◌, ℕ, zero, suc, ◌+◌, Bool, true, false, List, [], ◌∷◌, length, get_or, map, Option, Some, None, ◌⊎◌}
+use Rattle.std.specs.Prelude.{◌≡◌, ◌≢◌, ◌<◌, ◌≤◌, ℕ, zero, suc, ◌+◌, Bool, true, false, List, [], ◌∷◌, length, get_or, map, Some, ◌⊎◌}
 use Rattle.isa_table.specs.Table.{size_bytes}
 use Rattle.object_store.specs.Objects.{bytes_of}
 use Rattle.machine.specs.MachineState.{MachineState}

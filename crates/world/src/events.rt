@@ -3,7 +3,7 @@
 ghost use Rattle.std.specs.Prelude.{◌≡◌, ◌≤◌, IfSome, IfNone};
 ghost use Rattle.object_store.specs.Objects.{object_bytes};
 
-use crate::shown::{Bytes, Shown, Values};
+use crate::shown::{Bytes, LineText, Shown, Values};
 use loader::LoadError;
 use machine::Stop;
 use object_store::OBJECT_BYTES;
@@ -56,9 +56,13 @@ impl ObjectLength {
 #[derive(Debug, Drop)]
 pub enum Event {
     /// Makes an object of so many bytes, all of them zero.
-    Make { length: ObjectLength },
+    Make {
+        length: ObjectLength,
+    },
     /// Frees an object.
-    Free { object: u32 },
+    Free {
+        object: u32,
+    },
     /// Writes these bytes into an object, from an offset on.
     Put {
         object: u32,
@@ -78,11 +82,17 @@ pub enum Event {
         code: Vec<u8>,
     },
     /// One step of a machine.
-    Step { machine: usize },
+    Step {
+        machine: usize,
+    },
     /// Shows a machine's registers.
-    Regs { machine: usize },
+    Regs {
+        machine: usize,
+    },
     /// Shows what a machine has emitted.
-    Out { machine: usize },
+    Out {
+        machine: usize,
+    },
     /// Shows so many bytes of a machine's stack, from an offset on.
     Stack {
         machine: usize,
@@ -90,37 +100,58 @@ pub enum Event {
         length: u32,
     },
     /// Shows the instruction that begins at a slot of a machine's code.
-    Line { machine: usize, slot: u32 },
+    Line {
+        machine: usize,
+        slot: u32,
+    },
 }
 
 /// What a command was answered.
 #[derive(Drop, Debug, PartialEq, Eq)]
 pub enum Reply {
     /// There is an object of this number now.
-    Made { object: u32 },
+    Made {
+        object: u32,
+    },
     /// The object is no more.
-    Freed { object: u32 },
+    Freed {
+        object: u32,
+    },
     /// It was done.
     Done,
     /// The bytes that were asked for.
     Bytes(Bytes),
     /// The code is a machine now, of this number.
-    Shipped { machine: usize },
+    Shipped {
+        machine: usize,
+    },
     /// An instruction was done, and the machine goes on at the slot.
-    Ran { machine: usize, slot: usize },
+    Ran {
+        machine: usize,
+        slot: usize,
+    },
     /// The machine's next instruction waits for an object that isn't here.
-    Waiting { machine: usize, object: u32 },
+    Waiting {
+        machine: usize,
+        object: u32,
+    },
     /// The machine is stopped.
-    Stopped { machine: usize, stop: Stop },
+    Stopped {
+        machine: usize,
+        stop: Stop,
+    },
     /// What a machine is.
     Registers(Shown),
     /// What a machine has emitted.
-    Emitted { machine: usize, values: Values },
+    Emitted {
+        machine: usize,
+        values: Values,
+    },
     /// The instruction at a slot, as assembly.
     Disassembled {
         machine: usize,
         slot: u32,
-        text: Bytes,
+        text: LineText,
     },
     /// Out of memory. Nothing is changed.
     NoMemory,

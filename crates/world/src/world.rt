@@ -10,7 +10,7 @@ ghost use Rattle.world.specs.WorldState.{WorldState, machine_at, world_start};
 ghost use Rattle.world.specs.Answers.{StepsMachine, Answers, AnswersMake, AnswersFree, AnswersPut, AnswersGet, AnswersShip, AnswersStep, AnswersRegs, AnswersOut, AnswersStack, AnswersLine, ShowsLine, ShowsRange};
 
 use crate::events::{Event, ObjectLength, Reply};
-use crate::shown::{Bytes, Shown, Values};
+use crate::shown::{Bytes, LineText, Shown, Values};
 use disassembler::line;
 use loader::{Why, load};
 use machine::{Machine, Stepped};
@@ -84,7 +84,7 @@ fn show_line(alloc: Global, shown: &Machine, machine: usize, slot: u32) -> Reply
         Ok(()) => Reply::Disassembled {
             machine,
             slot,
-            text: Bytes::new(text),
+            text: LineText::new(text),
         },
         Err(_) => Reply::NoMemory,
     }
