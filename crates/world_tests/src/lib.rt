@@ -1,5 +1,11 @@
-//! Tests of the world through its public calls.
+//! Tests of commands through the world's public calls.
 #![tactic(auto)]
 
 #[cfg(test)]
-mod commands;
+mod common;
+#[cfg(test)]
+mod machines;
+#[cfg(test)]
+mod objects;
+#[cfg(test)]
+mod rows;

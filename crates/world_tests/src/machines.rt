@@ -1,4 +1,4 @@
-//! Commands and their replies, one at a time and as a run.
+//! Machines: what they are answered, one command at a time and as a run.
 
 use bpf_codec::Fault;
 use loader::{LoadError, Why};
@@ -40,7 +40,7 @@ fn a_run_has_the_replies_of_its_commands(rt: HostRuntime) -> Result<(), Fail> {
         Event::Regs { machine: 1 },
     ]?;
     assert_eq!(rt; world.run(events, &mut replies), Ok(()));
-    let ended = Reply::Stopped {
+    let ended = || Reply::Stopped {
         machine: 1,
         stop: Stop::Exit(7),
     };
@@ -57,8 +57,8 @@ fn a_run_has_the_replies_of_its_commands(rt: HostRuntime) -> Result<(), Fail> {
             machine: 1,
             slot: 1,
         },
-        ended,
-        ended,
+        ended(),
+        ended(),
         shown,
     ];
     assert_eq!(rt; replies.as_slice(), expected.as_slice());
@@ -160,6 +160,6 @@ fn machines_do_not_touch_each_other(rt: HostRuntime) -> Result<(), Fail> {
         registers: [0, 5, 0, 0, 0, 0, 0, 0, 0, 0, STACK_TOP],
     });
     assert_eq!(rt; before, shown);
-    assert_eq!(rt; world.apply(Event::Regs { machine: 2 }), shown);
+    assert_eq!(rt; world.apply(Event::Regs { machine: 2 }), before);
     Ok(())
 }
