@@ -69,7 +69,7 @@ def wanted(program, shim, replies):
     return ["nomem" if k in failed else next(others) for k in range(len(LINES))]
 
 
-DONE = "done, 3 replies, slot 1, fuel 8"
+DONE = "done, 7 replies, slot 1, fuel 8"
 REFUSED = "refused, 0 replies, slot 0, fuel 10"
 
 
@@ -82,7 +82,7 @@ def fail_runs(run_program, shim):
         said = done.stdout.decode().strip()
         if said == REFUSED:
             refused += 1
-        elif said not in (DONE, "no world", "no commands", "done, 3 replies, no machine"):
+        elif said not in (DONE, "no world", "no commands", "done, 7 replies, no machine"):
             sys.exit(f"allocation {at} of a run failed: {said}")
     if refused == 0:
         sys.exit("no run was refused")

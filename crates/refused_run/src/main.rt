@@ -4,14 +4,21 @@
 
 use std::alloc::{AllocError, Global};
 use std::io;
-use world::{Event, Reply, World};
+use world::{Event, ObjectLength, Reply, World};
 
 /// R0 = 7, then EXIT.
 const SEVEN: [u8; 16] = [0xb7, 0, 0, 0, 7, 0, 0, 0, 0x95, 0, 0, 0, 0, 0, 0, 0];
 
-/// A world with one machine.
+/// An object of eight bytes.
+fn make() -> Result<Event, AllocError> {
+    let length = ObjectLength::new(8).ok_or(AllocError)?;
+    Ok(Event::Make { length })
+}
+
+/// A world with one object and one machine.
 fn with_machine(alloc: Global) -> Result<World, AllocError> {
     let mut world = World::new(alloc)?;
+    let _ = world.apply(make()?);
     let code = SEVEN.to_vec(alloc)?;
     let _ = world.apply(Event::Ship {
         fuel: 10,
@@ -21,11 +28,33 @@ fn with_machine(alloc: Global) -> Result<World, AllocError> {
     Ok(world)
 }
 
-/// Three commands on that machine.
+/// Commands on the object and on the machine's stack.
+fn shows() -> [Event; 2] {
+    let get = Event::Get {
+        object: 1,
+        offset: 0,
+        length: 8,
+    };
+    let stack = Event::Stack {
+        machine: 1,
+        offset: 0,
+        length: 8,
+    };
+    [get, stack]
+}
+
+/// Seven commands on that object and that machine.
 fn commands(alloc: Global) -> Result<Vec<Event>, AllocError> {
+    let put = Event::Put {
+        object: 1,
+        offset: 0,
+        bytes: vec![in alloc; 1u8, 2]?,
+    };
+    let [get, stack] = shows();
     let step = Event::Step { machine: 1 };
     let again = Event::Step { machine: 1 };
-    Ok(vec![in alloc; step, again, Event::Regs { machine: 1 }]?)
+    let regs = Event::Regs { machine: 1 };
+    Ok(vec![in alloc; make()?, put, get, stack, step, again, regs]?)
 }
 
 /// Says how the run ended, and shows the machine.
