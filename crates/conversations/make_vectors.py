@@ -5,15 +5,17 @@ The replies come from `interpreter.py` and `reference_agent.py`, which share not
 this and compares its output with the file that the repository holds. With `--check FILE..` it compares the replies of
 other scripts.
 """
+import itertools
 import random
 import sys
 
 from interpreter import (
     ADD, ARITHMETIC, ATOMIC, ATOMICS, CLASS_ALU, CLASS_ALU64, CLASS_JMP, CLASS_JMP32, CLASS_LDX, CLASS_ST, CLASS_STX,
     CMPXCHG, CONDITIONS, DIV, FETCH, IMMEDIATE, LDDW, MASK32, MASK64, MEM, MEMSX, MOD, MOV, NEG, REGISTER, SIZE_BITS,
-    STACK, XCHG,
+    STACK, XCHG, Fault, load,
 )
 from reference_agent import Agent
+from spelling import line as spelling
 
 PROGRAMS_A_BLOCK = 40
 STEP_LIMIT = 60
@@ -400,6 +402,35 @@ def add_limits(script):
     script.in_block = PROGRAMS_A_BLOCK
 
 
+def sample_rows():
+    """Rows of all opcodes that load by themselves, with a few of the numbers that each may hold."""
+    rows = {}
+    for op in range(256):
+        for src, offset, imm in itertools.product((0, 1), (0, 1, -1, 8, 16, 32), (0, 1, -1, 16, 32, 64, 0x41, 0x50, 0x51, 0xA1, XCHG, CMPXCHG)):
+            row = slot(op, 2, src, offset, imm) if op not in (0x05, 0x06, 0x85, 0x95) else slot(op, 0, src, offset, imm)
+            try:
+                found = load(slot(0x05) + row + EXIT_SLOT * 66)[1]
+            except Fault:
+                continue
+            text = spelling(found)
+            rows.setdefault((text.split(" ")[0], "local" in text), []).append(row)
+    return [row for name in rows for row in rows[name][:4]]
+
+
+def add_lines(script):
+    script.note("instructions as assembly, and slots at which none begins")
+    rows = sample_rows() + [wide(3, number) for number in (0, 1, 1 << 63, MASK64, 0x1122334455667788)]
+    rows += [slot(0x61, 4, 5, -32768), slot(0x7B, 10, 9, 32767), slot(0xB7, 6, 0, 0, -(1 << 31)), slot(0xB7, 6, 0, 0, (1 << 31) - 1)]
+    for at in range(0, len(rows), 60):
+        script.begin_program()
+        code = slot(0x05) + b"".join(rows[at : at + 60]) + EXIT_SLOT * 66
+        machine = script.ship(code)
+        for place in range(len(code) // 8 - 64):
+            script.tell(f"line {machine} {place}")
+    for command in ("line 1 4095", "line 48 0", "line 1 4096", "line 0 0", "line 1"):
+        script.tell(command)
+
+
 def random_access_row(chooser):
     """An access by R1 to R3, which are addresses, or by R10, most of the time inside."""
     base = chooser.choice([1, 1, 2, 2, 3, 10])
@@ -503,7 +534,7 @@ def differences(path):
 
 PARTS = [
     add_arithmetic, add_one_operand, add_jumps, add_control, add_opcodes, add_random, add_loads, add_stores, add_atomics,
-    add_atomic_registers, add_addresses, add_helpers, add_stops, add_limits, add_frames_on_the_stack, add_random_memory,
+    add_atomic_registers, add_addresses, add_helpers, add_stops, add_limits, add_frames_on_the_stack, add_lines, add_random_memory,
 ]
 
 

@@ -2,6 +2,7 @@
 import re
 
 from interpreter import MACHINES, OBJECTS, Fault, Machine, load
+from spelling import line as spelling
 
 NUMBER = re.compile(r"0|[1-9][0-9]*|0x[0-9a-fA-F]{1,16}")
 BYTES = re.compile(r"(?:[0-9a-fA-F]{2})+")
@@ -112,3 +113,12 @@ class Agent:
         if offset + length > 4096:
             return "outside"
         return f"bytes {machine.stack[offset : offset + length].hex()}"
+
+    def do_line(self, m, slot):
+        machine = self.machine(m)
+        slot = number(slot, 0, 4095)
+        if machine is None:
+            return "none"
+        if slot not in machine.program:
+            return "noslot"
+        return f"line {machine.number} {slot} {spelling(machine.program[slot])}"
