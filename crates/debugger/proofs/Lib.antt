@@ -1,0 +1,4 @@
+pub mod Distinct
+pub mod Sets
+pub mod Hits
+pub mod Pauses

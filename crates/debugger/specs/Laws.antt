@@ -1,0 +1,114 @@
+-- What follows of breakpoints, watched ranges and steps, in their users' words. None of it speaks of the code.
+use Rattle.std.specs.Prelude.{◌≡◌, ◌≢◌, ◌≤◌, ◌<◌, ◌+◌, ℕ, true, false, ◌↔◌, List, [], Option, Some, Result}
+use Rattle.std.specs.List.{Any}
+use Rattle.isa_table.specs.declared.instr.Size.{Size}
+use Rattle.isa_table.specs.declared.instr.Width.{Width}
+use Rattle.isa_table.specs.declared.instr.AtomicOp.TheVariants.{CompareExchange}
+use Rattle.isa_table.specs.Words.{unsigned}
+use Rattle.isa_table.specs.Table.{size_bytes, width_bits}
+use Rattle.loader.specs.ValidCode.{IsAt}
+use Rattle.object_store.specs.declared.access.Action.TheVariants.{Load, Atomic}
+use Rattle.machine.specs.declared.state.Stop.{Stop}
+use Rattle.machine.specs.declared.state.Stepped.TheVariants.{Ran, Waiting, Stopped}
+use Rattle.machine.specs.declared.state.Written.{Written}
+use Rattle.machine.specs.Rows.{range}
+use Rattle.debugger.specs.declared.errors.SetBreakError.{SetBreakError}
+use Rattle.debugger.specs.declared.watch.Watch.{Watch}
+use Rattle.debugger.specs.DebugState.{DebugState, has_break, has_watch, hits}
+use Rattle.debugger.specs.Changes.{with_break, without_break, SetsBreak, with_watch, without_watch, resumed}
+use Rattle.debugger.specs.Steps.{pauses, before, after_step, debugged_step, debugged_one}
+
+-- ---- breakpoints
+
+-- After setting, a breakpoint is set there, and each other slot has one where it had one.
+abbrev pub SetBreaksAreSet : Type 0
+SetBreaksAreSet = (slot : ℕ) (d : DebugState)
+    → (has_break slot (with_break slot d) ≡ true) × ((other : ℕ) → other ≢ slot → has_break other (with_break slot d) ≡ has_break other d)
+
+-- After clearing, none is set there, each other slot has one where it had one.
+abbrev pub ClearedBreaksAreClear : Type 0
+ClearedBreaksAreClear = (slot : ℕ) (d : DebugState)
+    → (has_break slot (without_break slot d) ≡ false) × ((other : ℕ) → other ≢ slot → has_break other (without_break slot d) ≡ has_break other d)
+
+-- Where each breakpoint is at an instruction of the code, setting one keeps that.
+abbrev pub BreaksBegin : List ℕ → DebugState → Type 0
+BreaksBegin code d = (slot : ℕ) → has_break slot d ≡ true → IsAt code slot
+
+abbrev pub BreaksStayAtInstructions : Type 0
+BreaksStayAtInstructions = (code : List ℕ) (slot : ℕ) (old new : DebugState) (answer : Result Unit SetBreakError)
+    → SetsBreak code slot old answer new → BreaksBegin code old → BreaksBegin code new
+
+-- ---- watched ranges
+
+-- After setting, the range is watched, and each other range is where it was.
+abbrev pub SetWatchesAreSet : Type 0
+SetWatchesAreSet = (r : Watch) (d : DebugState)
+    → (has_watch r (with_watch r d) ≡ true) × ((other : Watch) → other ≢ r → has_watch other (with_watch r d) ≡ has_watch other d)
+
+-- After clearing, the range is not watched, and each other range is where it was.
+abbrev pub ClearedWatchesAreClear : Type 0
+ClearedWatchesAreClear = (r : Watch) (d : DebugState)
+    → (has_watch r (without_watch r d) ≡ false) × ((other : Watch) → other ≢ r → has_watch other (without_watch r d) ≡ has_watch other d)
+
+-- Byte i of object or stack n is written.
+pub record WritesByte (w : Written) (n i : ℕ) : Type 0 where
+  pub number : n ≡ w.number
+  pub from : w.offset ≤ i
+  pub to : i < w.offset + size_bytes w.size
+
+-- Byte i of object or stack n is in the range.
+pub record HasByte (r : Watch) (n i : ℕ) : Type 0 where
+  pub number : n ≡ r.number
+  pub from : r.offset ≤ i
+  pub to : i < r.offset + r.length
+
+-- There is a byte that is written and is in the range.
+abbrev pub SharesByte : Written → Watch → Type 0
+SharesByte w r = (n i : ℕ) × WritesByte w n i × HasByte r n i
+
+-- A write hits exactly where it shares a byte with one of the watched ranges.
+abbrev pub HitsShareAByte : Type 0
+HitsShareAByte = (w : Written) (d : DebugState) → (hits (Some w) d ≡ true) ↔ Any (SharesByte w) d.watches
+
+-- An access that only reads never hits, whatever it read.
+abbrev pub ReadsNeverHit : Type 0
+ReadsNeverHit = (number offset x : ℕ) (size : Size) (d : DebugState)
+    → hits (range (record { number = number; op = record { offset = offset; action = Load size } }) x) d ≡ false
+
+-- A compare-exchange that finds another number than R0's never hits.
+abbrev pub FailedExchangesNeverHit : Type 0
+FailedExchangesNeverHit = (number offset found src r0 : ℕ) (width : Width) (d : DebugState)
+    → found ≢ unsigned (width_bits width) r0
+    → hits (range (record { number = number; op = record { offset = offset; action = Atomic width CompareExchange src r0 } }) found) d ≡ false
+
+-- ---- steps
+
+-- Looking again before a step changes nothing more: a machine that has paused stays paused.
+abbrev pub PausingStays : Type 0
+PausingStays = (slot : ℕ) (d : DebugState) → before slot (before slot d) ≡ before slot d
+
+-- A step after `resume` does not pause, whatever is set.
+abbrev pub ResumingGoesOn : Type 0
+ResumingGoesOn = (slot : ℕ) (d : DebugState) → pauses slot (resumed d) ≡ false
+
+-- After a step that ran the machine pauses at each breakpoint again.
+abbrev pub PassingEnds : Type 0
+PassingEnds = (slot : ℕ) (w : Option Written) (d : DebugState) → has_break slot d ≡ true → pauses slot (after_step w d) ≡ true
+
+-- A machine that waits changes nothing, by `step` and by `one`.
+abbrev pub WaitingChangesNothing : Type 0
+WaitingChangesNothing = (n : ℕ) (d : DebugState) → (debugged_step (Waiting n) d ≡ d) × (debugged_one (Waiting n) d ≡ d)
+
+-- A machine that stops is not paused, and keeps its breakpoints and watched ranges.
+abbrev pub StopsEndPauses : Type 0
+StopsEndPauses = (s : Stop) (d : DebugState)
+    → (debugged_step (Stopped s) d ≡ record d { paused = false }) × (debugged_one (Stopped s) d ≡ record d { paused = false })
+
+-- By `one` the machine is paused in any case; all else is as by `step`.
+abbrev pub OnesPause : Type 0
+OnesPause = (w : Option Written) (d : DebugState) → debugged_one (Ran w) d ≡ record (debugged_step (Ran w) d) { paused = true }
+
+-- Where nothing is set, a machine that is not paused never pauses, and no write hits.
+abbrev pub NothingSetNothingPauses : Type 0
+NothingSetNothingPauses = (slot : ℕ) (w : Option Written) (d : DebugState)
+    → d.breakpoints ≡ [] → d.watches ≡ [] → d.paused ≡ false → (pauses slot d ≡ false) × (hits w d ≡ false)

@@ -1,0 +1,128 @@
+//! What is shown of a machine.
+ghost use Rattle.std.specs.Prelude.{◌≡◌, ◌≤◌, length};
+ghost use Rattle.std.specs.Str.{bytes_eq};
+ghost use Rattle.std.specs.Cmp.Rules.{comparing};
+ghost use Rattle.std.proofs.Common.{rules};
+
+use arrayvec::ArrayVec;
+use machine::Stop;
+use std::marker::Model;
+
+/// Whether a machine goes on.
+#[derive(Clone, Copy, Drop, Debug, PartialEq, Eq)]
+pub enum State {
+    /// Its next step is done.
+    Running,
+    /// It is paused.
+    Paused,
+    /// It is stopped.
+    Stopped(Stop),
+}
+
+/// What is shown of a machine.
+#[derive(Clone, Copy, Drop, Debug, PartialEq, Eq)]
+pub struct Shown {
+    /// The slot where the next instruction begins.
+    pub slot: usize,
+    /// How many instructions may still be done.
+    pub fuel: u64,
+    /// Whether it goes on.
+    pub state: State,
+    /// R0 to R10.
+    pub registers: [u64; 11],
+}
+
+/// Bytes, or the bytes of a text.
+#[derive(Drop, Debug)]
+pub struct Bytes {
+    bytes: Vec<u8>,
+}
+
+impl Model for Bytes {
+    ghost use Rattle.std.specs.Prelude.{ℕ, List};
+
+    ghost Value = { List ℕ };
+
+    ghost view = { λ b. b.bytes.items };
+}
+
+impl Bytes {
+    /// These bytes.
+    pub fn new(bytes: Vec<u8>) -> Self
+        ensures { result ≡ bytes.items }
+    {
+        Bytes { bytes }
+    }
+
+    /// The bytes.
+    pub fn as_slice(&self) -> &[u8]
+        ensures { result.now ≡ self.now }
+    {
+        self.bytes.as_slice()
+    }
+}
+
+impl PartialEq for Bytes {
+    ghost eq = { λ a b. bytes_eq a b };
+
+    ghost laws = { Prim.search (comparing, rules) };
+
+    fn eq(&self, other: &Bytes) -> bool {
+        self.as_slice() == other.as_slice()
+    }
+}
+
+impl Eq for Bytes {
+    ghost laws = { Prim.search (comparing, rules) };
+}
+
+/// How many values a machine keeps.
+const VALUE_LIMIT: usize = 64;
+
+/// What a machine has emitted, the oldest first.
+#[derive(Drop, Debug)]
+pub struct Values {
+    values: ArrayVec<u64, VALUE_LIMIT>,
+}
+
+impl Model for Values {
+    ghost use Rattle.std.specs.Prelude.{ℕ, List};
+
+    ghost Value = { List ℕ };
+
+    ghost view = { λ v. v.values.items };
+}
+
+impl Values {
+    /// These values.
+    pub fn new(values: &[u64]) -> Self
+        requires { length values.now ≤ 64 }
+        ensures { result ≡ values.now }
+    {
+        let mut kept = ArrayVec::new();
+        let _ = kept.try_extend_from_slice(values);
+        Values { values: kept }
+    }
+
+    /// The values, of which there are at most 64.
+    pub fn as_slice(&self) -> &[u64]
+        ensures values { result.now ≡ self.now }
+        ensures count { length result.now ≤ 64 }
+    {
+        self.values.as_slice()
+    }
+}
+
+impl PartialEq for Values {
+    ghost eq = { λ a b. bytes_eq a b };
+
+    ghost laws = { Prim.search (comparing, rules) };
+
+    fn eq(&self, other: &Values) -> bool {
+        self.as_slice() == other.as_slice()
+    }
+}
+
+impl Eq for Values {
+    ghost laws = { Prim.search (comparing, rules) };
+}

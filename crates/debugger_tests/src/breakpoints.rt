@@ -1,0 +1,141 @@
+//! Breakpoints.
+
+use crate::common::{Answer, EXIT, MOV, OBJECT, Session, one, session_of, step};
+use debugger::{
+    BREAK_LIMIT, Before, ClearBreakError, ResumeError, SetBreakError, State, show_regs,
+};
+use machine::Stop;
+use std::alloc::Global;
+use std::test::Fail;
+
+/// add r0, 1
+const ADD: u64 = 0x0700_0000_0100_0000;
+
+fn set(session: &mut Session, slot: usize) -> Result<(), SetBreakError> {
+    session.debugger.set_break(session.machine.program(), slot)
+}
+
+#[test]
+fn pauses_runs_one_and_goes_on(rt: HostRuntime) -> Result<(), Fail> {
+    let mut s = session_of(rt.alloc(), 10, [0; 5], &[MOV, ADD, EXIT])?;
+    assert_eq!(rt; set(&mut s, 1), Ok(()));
+    assert_eq!(rt; step(&mut s), Answer::Ran(1));
+    assert_eq!(rt; step(&mut s), Answer::Paused(1));
+    assert_eq!(rt; step(&mut s), Answer::Paused(1));
+    assert_eq!(rt; one(&mut s), Answer::Ran(2));
+    let shown = show_regs(&s.machine, &s.debugger);
+    assert_eq!(rt;
+        (shown.slot, shown.fuel, shown.state),
+        (2, 8, State::Paused)
+    );
+    assert_eq!(rt; shown.registers[0], 8);
+    assert_eq!(rt; s.debugger.resume(), Ok(()));
+    assert_eq!(rt; step(&mut s), Answer::Stopped(Stop::Exit(8)));
+    Ok(())
+}
+
+#[test]
+fn a_breakpoint_comes_before_fuel(rt: HostRuntime) -> Result<(), Fail> {
+    let mut s = session_of(rt.alloc(), 0, [0; 5], &[EXIT])?;
+    assert_eq!(rt; set(&mut s, 0), Ok(()));
+    assert_eq!(rt; step(&mut s), Answer::Paused(0));
+    assert_eq!(rt; one(&mut s), Answer::Stopped(Stop::Spent));
+    assert_eq!(rt; s.debugger.resume(), Err(ResumeError::NotPaused));
+    assert_eq!(rt; step(&mut s), Answer::Stopped(Stop::Spent));
+    assert_eq!(rt; s.debugger.breakpoints(), [0].as_slice());
+    Ok(())
+}
+
+#[test]
+fn a_resumed_machine_passes_one_breakpoint(rt: HostRuntime) -> Result<(), Fail> {
+    let mut s = session_of(rt.alloc(), 10, [0; 5], &[MOV, ADD, EXIT])?;
+    assert_eq!(rt; s.debugger.resume(), Err(ResumeError::NotPaused));
+    assert_eq!(rt; (set(&mut s, 0), set(&mut s, 1)), (Ok(()), Ok(())));
+    assert_eq!(rt; step(&mut s), Answer::Paused(0));
+    assert_eq!(rt; s.debugger.resume(), Ok(()));
+    assert!(rt; s.debugger.passes() && !s.debugger.is_paused());
+    assert_eq!(rt; step(&mut s), Answer::Ran(1));
+    assert_eq!(rt; step(&mut s), Answer::Paused(1));
+    assert_eq!(rt; one(&mut s), Answer::Ran(2));
+    assert!(rt; !s.debugger.passes());
+    Ok(())
+}
+
+#[test]
+fn waiting_leaves_a_breakpoint_passed(rt: HostRuntime) -> Result<(), Fail> {
+    let mut s = session_of(rt.alloc(), 10, [0; 5], &[MOV, EXIT])?;
+    assert_eq!(rt; set(&mut s, 0), Ok(()));
+    assert_eq!(rt; step(&mut s), Answer::Paused(0));
+    assert_eq!(rt; s.debugger.resume(), Ok(()));
+    // A machine that waits asks again, and nothing is told in between.
+    for _ in 0..3 {
+        assert_eq!(rt; s.debugger.before(0), Before::Go);
+    }
+    assert_eq!(rt; step(&mut s), Answer::Ran(1));
+    assert_eq!(rt; s.debugger.before(0), Before::Pause);
+    Ok(())
+}
+
+#[test]
+fn after_a_hit_the_next_breakpoint_is_passed(rt: HostRuntime) -> Result<(), Fail> {
+    // stxb [r1], r2
+    let slots = [0x7321_0000_0000_0000, MOV, EXIT];
+    let mut s = session_of(rt.alloc(), 10, [OBJECT, 5, 0, 0, 0], &slots)?;
+    assert_eq!(rt; set(&mut s, 1), Ok(()));
+    assert_eq!(rt; s.debugger.set_watch(OBJECT, 1), Ok(()));
+    assert_eq!(rt; step(&mut s), Answer::Hit(1));
+    assert_eq!(rt; s.debugger.resume(), Ok(()));
+    assert_eq!(rt; step(&mut s), Answer::Ran(2));
+    Ok(())
+}
+
+/// Seventeen instructions and EXIT.
+fn long(alloc: Global) -> Result<Session, Fail> {
+    let mut slots = [MOV; 18];
+    slots[17] = EXIT;
+    session_of(alloc, 100, [0; 5], &slots)
+}
+
+#[test]
+fn sixteen_breakpoints_are_set_and_no_more(rt: HostRuntime) -> Result<(), Fail> {
+    let mut s = long(rt.alloc())?;
+    for slot in 0..16 {
+        assert_eq!(rt; set(&mut s, slot), Ok(()), "{slot}");
+    }
+    assert_eq!(rt; s.debugger.breakpoints().len(), BREAK_LIMIT);
+    assert_eq!(rt; set(&mut s, 16), Err(SetBreakError::Full));
+    assert_eq!(rt; set(&mut s, 18), Err(SetBreakError::NoSlot));
+    assert_eq!(rt; set(&mut s, 3), Ok(()));
+    assert_eq!(rt; s.debugger.clear_break(3), Ok(()));
+    assert_eq!(rt; s.debugger.clear_break(3), Err(ClearBreakError::NoSlot));
+    assert_eq!(rt; set(&mut s, 16), Ok(()));
+    assert_eq!(rt; set(&mut s, 3), Err(SetBreakError::Full));
+    assert_eq!(rt;
+        s.debugger.breakpoints(),
+        [0, 1, 2, 4, 5, 6, 7, 8, 9, 10, 11, 12, 13, 14, 15, 16].as_slice()
+    );
+    Ok(())
+}
+
+#[test]
+fn no_instruction_begins_at_a_second_slot(rt: HostRuntime) -> Result<(), Fail> {
+    // lddw r0, 0x8000000000000000; sdiv r0, -1
+    let slots = [
+        0x1800_0000_0000_0000,
+        0x0000_0000_0000_0080,
+        0x3700_0100_ffff_ffff,
+        EXIT,
+    ];
+    let mut s = session_of(rt.alloc(), 10, [0; 5], &slots)?;
+    assert_eq!(rt; set(&mut s, 1), Err(SetBreakError::NoSlot));
+    assert_eq!(rt; set(&mut s, 4), Err(SetBreakError::NoSlot));
+    assert_eq!(rt; set(&mut s, 4095), Err(SetBreakError::NoSlot));
+    assert_eq!(rt; s.debugger.clear_break(0), Err(ClearBreakError::NoSlot));
+    assert_eq!(rt; set(&mut s, 2), Ok(()));
+    assert_eq!(rt; step(&mut s), Answer::Ran(2));
+    assert_eq!(rt; step(&mut s), Answer::Paused(2));
+    // The machine stays paused where its breakpoint is cleared.
+    assert_eq!(rt; s.debugger.clear_break(2), Ok(()));
+    assert_eq!(rt; step(&mut s), Answer::Paused(2));
+    Ok(())
+}

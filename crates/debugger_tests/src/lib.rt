@@ -1,0 +1,11 @@
+//! Debugged machines, over public calls alone.
+#![tactic(auto)]
+
+#[cfg(test)]
+mod breakpoints;
+#[cfg(test)]
+mod common;
+#[cfg(test)]
+mod shown;
+#[cfg(test)]
+mod watches;
