@@ -32,7 +32,7 @@ pub enum SetWatchError {
     Full,
 }
 
-/// Why no range is watched no more.
+/// Why no watched range is cleared.
 #[derive(Clone, Copy, Drop, Debug, PartialEq, Eq, Error)]
 pub enum ClearWatchError {
     /// The range is not watched.
