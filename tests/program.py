@@ -13,6 +13,7 @@ import sys
 
 ROOT = pathlib.Path(__file__).resolve().parent.parent
 EXIT = bytes.fromhex("9500000000000000")
+ALL_ONES = bytes.fromhex("18000000ffffffff00000000ffffffff") + EXIT
 SECONDS = 20
 
 
@@ -50,6 +51,11 @@ def show_statuses(program):
     for code, line in ((b"", b"slot 0: Empty\n"), (EXIT + b"\x95", b"slot 1: Short\n"), (EXIT * 4097, b"slot 0: TooLong\n")):
         found = call(program, ["check"], code)
         want(found == (1, b"", line), f"check of {code[:16]} ended with {found}")
+    is_done(program, ["asm"], b"lddw r0, -1\nexit\n", ALL_ONES)
+    is_done(program, ["dis"], ALL_ONES, b"lddw r0, 0xffffffffffffffff\nexit\n")
+    for task, given, line in (("asm", b"exit\nexot\n", b"line 2: Word\n"), ("asm", b"\n" * 1048577, b"input too long\n"), ("dis", b"\x95\0", b"slot 0: Short\n")):
+        found = call(program, [task], given)
+        want(found == (1, b"", line), f"{task} of {given[:16]} ended with {found}")
     for arguments in (["--help"], ["-h"], ["run", "--help"], ["check", "--help"]):
         status, output, errors = call(program, arguments)
         want((status, errors) == (0, b"") and b"Usage: bpfagent" in output, f"{arguments} ended with {status}, {output}, {errors}")
@@ -61,10 +67,10 @@ def show_statuses(program):
 def show_faults(program):
     """3 for a stream that fails."""
     folder = os.open("/", os.O_RDONLY)
-    for task in ("run", "check"):
+    for task in ("run", "check", "asm", "dis"):
         found = call(program, [task], stdin=folder)
         want(found == (3, b"", b"read fault\n"), f"{task} of a folder ended with {found}")
-    for arguments, given in ((["run"], b"step 1\n"), (["check"], EXIT), (["--help"], b"")):
+    for arguments, given in ((["run"], b"step 1\n"), (["check"], EXIT), (["asm"], b"exit\n"), (["dis"], EXIT), (["--help"], b"")):
         with open("/dev/full", "wb") as full:
             status, _, errors = call(program, arguments, given, stdout=full)
         want((status, errors) == (3, b"write fault\n"), f"{arguments} on a full device ended with {status}, {errors}")

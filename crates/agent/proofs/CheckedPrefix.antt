@@ -6,19 +6,19 @@ use Rattle.loader.specs.declared.loading.Why.{Why}
 use Rattle.loader.specs.declared.loading.Why.TheVariants as why
 use Rattle.agent.specs.CheckLeaves.{Finds}
 use Rattle.agent.specs.declared.failure.Failure.{Failure}
-use Rattle.agent.specs.declared.failure.Failure.TheVariants.{Refused, Read, Write, NoMemory}
+use Rattle.agent.specs.declared.failure.Failure.TheVariants.{Refused, WrongLine, InputTooLong, Read, Write, NoMemory}
 
-short : (n limit : ℕ) (input : List ℕ) → limit ≡ n + 1 → length (take limit input) ≤ n → take limit input ≡ input
+pub short : (n limit : ℕ) (input : List ℕ) → limit ≡ n + 1 → length (take limit input) ≤ n → take limit input ≡ input
 short n limit input above fits = take_all limit input (omega (arith, length-take limit input, fits, above))
 
-longer : (n limit : ℕ) (input : List ℕ) → n < length (take limit input) → n < length input
+pub longer : (n limit : ℕ) (input : List ℕ) → n < length (take limit input) → n < length input
 longer n limit input more = omega (arith, length-take limit input, more)
 
 empty : (limit : ℕ) (input : List ℕ) → 0 < limit → take limit input ≡ [] → input ≡ []
 empty limit [] some none = refl
 empty limit (b ∷ input) some none = absurd (omega (arith, ap length none, length-take limit (b ∷ input), some))
 
-refused : (limit : ℕ) (w : Why) (n : ℕ) (input : List ℕ) → limit ≡ 32769 → Refuses (take limit input) n w → Refuses input n w
+pub refused : (limit : ℕ) (w : Why) (n : ℕ) (input : List ℕ) → limit ≡ 32769 → Refuses (take limit input) n w → Refuses input n w
 refused limit (why.Decoder f) n input is h = subst (λ bytes. Refuses bytes n (why.Decoder f)) (short 32768 limit input is h.0.1) h
 refused limit why.Empty n input is h = (h.0, empty limit input (omega (arith, is)) h.1)
 refused limit why.TooLong n input is h = (h.0, longer 32768 limit input h.1)
@@ -35,6 +35,8 @@ found_whole limit input (Err (Refused error)) is h = (refused limit error.why er
 found_whole limit input (Err NoMemory) is h = tt
 found_whole limit input (Err Read) is h = tt
 found_whole limit input (Err Write) is h = absurd h
+found_whole limit input (Err (WrongLine error)) is h = absurd h
+found_whole limit input (Err InputTooLong) is h = absurd h
 
 pub found_in : (given : Option (List ℕ)) (limit : ℕ) (code : List ℕ) (result : Result ℕ Failure) → limit ≡ 32769
     → IfSome given (λ input. code ≡ take limit input) → Finds code result → IfSome given (λ input. Finds input result)

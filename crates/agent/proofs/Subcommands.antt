@@ -65,7 +65,7 @@ entered_named : (stop : Option (Text × List Text)) → is_some (entered (built 
     → IsSome (task_named (option_map (λ p. p.0) (entered (built command_line) stop)))
 unfolding clap_on_literals
 entered_named None some = absurd (cc)
-entered_named (Some p) some = found_named (built command_line).subs (λ s. answers_to p.0 (label_of s)) p.1 (refl, (refl, tt)) some
+entered_named (Some p) some = found_named (built command_line).subs (λ s. answers_to p.0 (label_of s)) p.1 (refl, (refl, (refl, (refl, tt)))) some
 
 pub right_names_a_task : (arguments : List Text) → faults_of arguments ≡ [] → IsSome (task_of arguments)
 unfolding clap_on_literals

@@ -6,7 +6,7 @@ use Rattle.loader.specs.ValidCode.{ValidCode, code_limit}
 use Rattle.loader.specs.declared.loading.Why.TheVariants as why
 use Rattle.agent.specs.Streams.{AppendsPart}
 use Rattle.agent.specs.declared.failure.Failure.{Failure}
-use Rattle.agent.specs.declared.failure.Failure.TheVariants.{Refused, Read, Write, NoMemory}
+use Rattle.agent.specs.declared.failure.Failure.TheVariants.{Refused, WrongLine, InputTooLong, Read, Write, NoMemory}
 
 -- as much as is read: the longest code that can be valid, and one byte more, which shows that there is more
 abbrev pub check_limit : ℕ
@@ -19,6 +19,8 @@ Finds code (Err (Refused error)) = Refuses code error.slot error.why × (error.w
 Finds code (Err NoMemory) = Unit {0}
 Finds code (Err Read) = Unit {0}
 Finds code (Err Write) = ⊥
+Finds code (Err (WrongLine error)) = ⊥
+Finds code (Err InputTooLong) = ⊥
 
 -- the line about valid code of so many slots
 abbrev pub ok_line : ℕ → List ℕ
@@ -31,3 +33,5 @@ CheckLeaves code before after (Err (Refused error)) = Finds code (Err (Refused e
 CheckLeaves code before after (Err Write) = (slots : ℕ) × Finds code (Ok slots) × AppendsPart before after (ok_line slots)
 CheckLeaves code before after (Err Read) = Keeps before after
 CheckLeaves code before after (Err NoMemory) = Keeps before after
+CheckLeaves code before after (Err (WrongLine error)) = ⊥
+CheckLeaves code before after (Err InputTooLong) = ⊥

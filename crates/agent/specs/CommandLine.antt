@@ -4,11 +4,13 @@ use Rattle.std.specs.Str.{bytes_eq}
 use Rattle.clap.specs.Words.{App, Kinds, Shape, Text, fault_of, subcommand_of, with_subcommand}
 use Rattle.clap.specs.Simple.{new_shape}
 use Rattle.agent.specs.declared.arguments.Task.{Task}
-use Rattle.agent.specs.declared.arguments.Task.TheVariants.{Run, Check}
+use Rattle.agent.specs.declared.arguments.Task.TheVariants.{Run, Check, Assemble, Disassemble}
 
 abbrev pub subcommand : Task → Shape
 subcommand Run = new_shape (codes "run")
 subcommand Check = new_shape (codes "check")
+subcommand Assemble = new_shape (codes "asm")
+subcommand Disassemble = new_shape (codes "dis")
 
 -- `bpfagent` with no subcommand yet: the arguments are those after the program's name, one of the subcommands is wanted, and none is `help`
 abbrev pub bare : App
@@ -16,7 +18,7 @@ bare = record { top = record (new_shape (codes "bpfagent")) { no_binary_name = t
 
 -- the command line, as `clap` reads it
 abbrev pub command_line : App
-command_line = with_subcommand (with_subcommand bare (subcommand Run)) (subcommand Check)
+command_line = with_subcommand (with_subcommand (with_subcommand (with_subcommand bare (subcommand Run)) (subcommand Check)) (subcommand Assemble)) (subcommand Disassemble)
 
 -- the kinds of error that these arguments may give: none, where they are right
 abbrev pub faults_of : List Text → Kinds
@@ -24,7 +26,8 @@ faults_of arguments = fault_of command_line arguments
 
 abbrev pub task_named : Option Text → Option Task
 task_named None = None
-task_named (Some name) = if bytes_eq name (codes "run") then Some Run else (if bytes_eq name (codes "check") then Some Check else None)
+task_named (Some name) = if bytes_eq name (codes "run") then Some Run else (if bytes_eq name (codes "check") then Some Check
+    else (if bytes_eq name (codes "asm") then Some Assemble else (if bytes_eq name (codes "dis") then Some Disassemble else None)))
 
 -- what right arguments ask for: the subcommand that they name
 abbrev pub task_of : List Text → Option Task

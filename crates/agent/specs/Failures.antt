@@ -1,6 +1,7 @@
 -- What the program says where it gives up, and the status that it ends with.
 use Rattle.std.specs.Prelude.{ℕ, List, [], ◌∷◌, ◌++◌, codes, decimal}
 use Rattle.loader.specs.Refusals.{why_name}
+use Rattle.asm_grammar.specs.Reasons as reasons
 use Rattle.agent.specs.declared.failure.Status.{Status}
 use Rattle.agent.specs.declared.failure.Status.TheVariants.{Done, Refused, InvalidArguments, Failed}
 use Rattle.agent.specs.declared.failure.Failure.{Failure}
@@ -15,6 +16,8 @@ status_number Failed = 3
 
 abbrev pub status_of : Failure → Status
 status_of (failure.Refused error) = Refused
+status_of (failure.WrongLine error) = Refused
+status_of failure.InputTooLong = Refused
 status_of failure.Read = Failed
 status_of failure.Write = Failed
 status_of failure.NoMemory = Failed
@@ -22,6 +25,8 @@ status_of failure.NoMemory = Failed
 -- what is said of a failure
 abbrev pub failure_text : Failure → List ℕ
 failure_text (failure.Refused error) = codes "slot " ++ decimal error.slot ++ codes ": " ++ why_name error.why
+failure_text (failure.WrongLine error) = codes "line " ++ decimal error.line ++ codes ": " ++ reasons.why_name error.why
+failure_text failure.InputTooLong = codes "input too long"
 failure_text failure.Read = codes "read fault"
 failure_text failure.Write = codes "write fault"
 failure_text failure.NoMemory = codes "no memory"

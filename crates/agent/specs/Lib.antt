@@ -1,6 +1,9 @@
 pub mod Failures
 pub mod Streams
 pub mod CheckLeaves
+pub mod Leaves
+pub mod AsmLeaves
+pub mod DisLeaves
 pub mod RunLeaves
 pub mod CommandLine
 pub mod Reports

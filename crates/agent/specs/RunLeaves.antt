@@ -6,7 +6,7 @@ use Rattle.console.specs.Held.{Held}
 use Rattle.console.specs.Agent.{agent}
 use Rattle.console.specs.Conversations.{AnswersAll, StopsReading, StopsWriting}
 use Rattle.agent.specs.declared.failure.Failure.{Failure}
-use Rattle.agent.specs.declared.failure.Failure.TheVariants.{Refused, Read, Write, NoMemory}
+use Rattle.agent.specs.declared.failure.Failure.TheVariants.{Refused, WrongLine, InputTooLong, Read, Write, NoMemory}
 
 -- Over this input, in the output, which was as before, and unread: all replies from a world with no machine and no object, or those up to where a stream failed. Out of memory before the first line leaves both streams as they were.
 abbrev pub RunLeaves : List ℕ → Option (List ℕ) → Option (List ℕ) → Option (List ℕ) → Result ⊤ Failure → Type 0
@@ -15,3 +15,5 @@ RunLeaves input before after unread (Err Read) = (end : WorldState) × (held : H
 RunLeaves input before after unread (Err Write) = (end : WorldState) × StopsWriting agent world_start input before after end unread
 RunLeaves input before after unread (Err NoMemory) = Keeps before after × Keeps (Some input) unread
 RunLeaves input before after unread (Err (Refused error)) = ⊥
+RunLeaves input before after unread (Err (WrongLine error)) = ⊥
+RunLeaves input before after unread (Err InputTooLong) = ⊥

@@ -14,6 +14,10 @@ pub enum Task {
     Run,
     /// To check raw code.
     Check,
+    /// To turn assembly into raw code.
+    Assemble,
+    /// To show raw code as assembly.
+    Disassemble,
 }
 
 /// The command line of the program.
@@ -22,6 +26,8 @@ fn make_command<'a>(alloc: Global) -> Result<Command<'a>, AllocError>
 {
     let run = Command::new(alloc, "run").about("Do the commands of standard input, one a line");
     let check = Command::new(alloc, "check").about("Check the raw code of standard input");
+    let asm = Command::new(alloc, "asm").about("Turn the assembly of standard input into raw code");
+    let dis = Command::new(alloc, "dis").about("Show the raw code of standard input as assembly");
     Command::new(alloc, "bpfagent")
         .bin_name("bpfagent")?
         .about("Runs BPF programs")
@@ -29,7 +35,9 @@ fn make_command<'a>(alloc: Global) -> Result<Command<'a>, AllocError>
         .disable_help_subcommand(true)
         .subcommand_required(true)
         .subcommand(run)?
-        .subcommand(check)
+        .subcommand(check)?
+        .subcommand(asm)?
+        .subcommand(dis)
 }
 
 /// The task of this name.
@@ -39,6 +47,8 @@ fn task_called(name: Option<&str>) -> Option<Task>
     match name? {
         "run" => Some(Task::Run),
         "check" => Some(Task::Check),
+        "asm" => Some(Task::Assemble),
+        "dis" => Some(Task::Disassemble),
         _ => None,
     }
 }

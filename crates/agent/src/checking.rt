@@ -1,9 +1,10 @@
 //! `check`: raw code in, whether it is valid out.
-ghost use Rattle.std.specs.Prelude.{◌≡◌, ◌⊎◌, take, IfOk, IfSome, IfErr};
+ghost use Rattle.std.specs.Prelude.{◌≡◌, IfSome};
 ghost use Rattle.agent.specs.CheckLeaves.{CheckLeaves, Finds, check_limit, ok_line};
 ghost use Rattle.agent.specs.Streams.{ConsumesAtMost};
 
 use crate::failure::Failure;
+use crate::reading::read_at_most;
 use arrayvec::ArrayVec;
 use console::put_all;
 use loader::{CODE_LIMIT, Why, load};
@@ -12,34 +13,10 @@ use std::io::{Read, Write};
 
 /// As much as is read: the longest code that can be valid, and one byte more, which shows that
 /// there is more.
-const CHECK_LIMIT: usize = CODE_LIMIT + 1;
+pub(crate) const CHECK_LIMIT: usize = CODE_LIMIT + 1;
 
 /// A line about valid code.
 type OkLine = ArrayVec<u8, 32>;
-
-/// The code that the reader has, or as much of it as shows that it is too long. Any error of the
-/// reader ends the reading, as it does in a conversation.
-fn read_code<R: Read>(alloc: Global, reader: &mut R) -> Result<Vec<u8>, Failure>
-    ensures whole { IfOk result (λ code. IfSome (R.remaining reader.old) (λ input. code.items ≡ take check_limit input)) }
-    ensures err { IfErr result (λ f. (f ≡ Failure.Read) ⊎ (f ≡ Failure.NoMemory)) }
-    ensures consumed { ConsumesAtMost check_limit (R.remaining reader.old) (R.remaining reader.new) }
-{
-    let mut code = Vec::new(alloc);
-    let mut piece = [0u8; 4096];
-    while code.len() < CHECK_LIMIT {
-        let room = (CHECK_LIMIT - code.len()).min(piece.len());
-        match reader.read(&mut piece[..room]) {
-            Ok(0) => return Ok(code),
-            Ok(n) => {
-                if code.extend_from_slice(&piece[..n]).is_err() {
-                    return Err(Failure::NoMemory);
-                }
-            }
-            Err(_) => return Err(Failure::Read),
-        }
-    }
-    Ok(code)
-}
 
 /// How many slots the code has, where it is valid.
 fn count_slots(alloc: Global, code: &[u8]) -> Result<usize, Failure>
@@ -57,7 +34,7 @@ fn find<R: Read>(alloc: Global, reader: &mut R) -> Result<usize, Failure>
     ensures found { IfSome (R.remaining reader.old) (λ input. Finds input result) }
     ensures consumed { ConsumesAtMost check_limit (R.remaining reader.old) (R.remaining reader.new) }
 {
-    let code = read_code(alloc, reader)?;
+    let code = read_at_most(alloc, reader, CHECK_LIMIT)?;
     count_slots(alloc, &code)
 }
 

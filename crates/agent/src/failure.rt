@@ -1,8 +1,10 @@
 //! What the program ends with.
-ghost use Rattle.std.specs.Prelude.{◌≡◌, ◌++◌, codes};
+ghost use Rattle.std.specs.Prelude.{◌≡◌, ◌≤◌, length};
+ghost use Rattle.asm_grammar.specs.Reasons.{why_name};
 ghost use Rattle.agent.specs.Failures.{status_number, failure_line, status_of};
 
 use arrayvec::ArrayVec;
+use assembler::{AsmError, Why};
 use loader::LoadError;
 use thiserror::Error;
 
@@ -34,6 +36,12 @@ pub enum Failure {
     /// The code of the input isn't valid.
     #[error("{0}")]
     Refused(LoadError),
+    /// The input isn't assembly.
+    #[error("{0}")]
+    WrongLine(AsmError),
+    /// The input is longer than any assembly may be.
+    #[error("input too long")]
+    InputTooLong,
     /// The input can't be read.
     #[error("read fault")]
     Read,
@@ -45,8 +53,16 @@ pub enum Failure {
     NoMemory,
 }
 
-/// A line about a failure: at most a slot's number and the longest of the names.
+/// A line about a failure: at most a slot's or a line's number and the longest of the names.
 pub(crate) type FailureLine = ArrayVec<u8, 48>;
+
+/// The name of what is wrong with a line.
+fn name_of(why: Why) -> &'static [u8]
+    ensures name { result.now ≡ why_name why }
+    ensures short { length result.now ≤ 10 }
+{
+    why.name().as_bytes()
+}
 
 impl Failure {
     /// The status that the program ends with.
@@ -54,7 +70,7 @@ impl Failure {
         ensures { result ≡ status_of self }
     {
         match self {
-            Failure::Refused(_) => Status::Refused,
+            Failure::Refused(_) | Failure::WrongLine(_) | Failure::InputTooLong => Status::Refused,
             Failure::Read | Failure::Write | Failure::NoMemory => Status::Failed,
         }
     }
@@ -71,6 +87,16 @@ impl Failure {
                 let _ = line.try_extend_from_slice(number.format(error.slot).as_bytes());
                 let _ = line.try_extend_from_slice(b": ");
                 let _ = line.try_extend_from_slice(error.why.name());
+            }
+            Failure::WrongLine(error) => {
+                let mut number = itoa::Buffer::new();
+                let _ = line.try_extend_from_slice(b"line ");
+                let _ = line.try_extend_from_slice(number.format(error.line).as_bytes());
+                let _ = line.try_extend_from_slice(b": ");
+                let _ = line.try_extend_from_slice(name_of(error.why));
+            }
+            Failure::InputTooLong => {
+                let _ = line.try_extend_from_slice(b"input too long");
             }
             Failure::Read => {
                 let _ = line.try_extend_from_slice(b"read fault");

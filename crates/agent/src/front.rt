@@ -2,15 +2,19 @@
 ghost use Rattle.std.specs.Prelude.{◌≡◌, ◌≢◌, [], map, Some, IfSome};
 ghost use Rattle.std.specs.Io.KnownBytes.{Keeps};
 ghost use Rattle.clap.specs.Words.{kind_of};
+ghost use Rattle.agent.specs.AsmLeaves.{AsmLeaves, asm_limit};
 ghost use Rattle.agent.specs.CheckLeaves.{CheckLeaves, check_limit};
 ghost use Rattle.agent.specs.CommandLine.{faults_of, task_of};
+ghost use Rattle.agent.specs.DisLeaves.{DisLeaves};
 ghost use Rattle.agent.specs.ErrorShown.{Shows, ShowsError, ShowsHelp, ShowsOneOf};
 ghost use Rattle.agent.specs.Reports.{ReportsOutcome};
 ghost use Rattle.agent.specs.RunLeaves.{RunLeaves};
 ghost use Rattle.agent.specs.Streams.{ConsumesAtMost};
 
 use crate::arguments::{Task, read_arguments};
+use crate::assembling::asm;
 use crate::checking::check;
+use crate::disassembling::dis;
 use crate::failure::{Failure, Status};
 use crate::reporting::{report, say};
 use crate::running::run;
@@ -70,7 +74,7 @@ fn show<W: Write, E: Write>(alloc: Global, error: Error, writer: &mut W, errors:
 /// Does what the arguments ask for, which are the program's without its own name, and gives the
 /// exit status.
 ///
-/// `run` and `check` tell in the status how they ended, and on `errors` why they gave up. Invalid
+/// Each subcommand tells in the status how it ended, and on `errors` why it gave up. Invalid
 /// arguments, and those that ask for help, read no input.
 pub fn tool<'a, S: AsStr, R: Read, W: Write, E: Write>(
     alloc: Global,
@@ -85,7 +89,15 @@ pub fn tool<'a, S: AsStr, R: Read, W: Write, E: Write>(
     ensures check { faults_of (map S.text arguments.entry.now) ≡ [] → task_of (map S.text arguments.entry.now) ≡ Some Task.Check
         → IfSome (R.remaining reader.old) (λ input. ReportsOutcome (CheckLeaves input (W.contents writer.old) (W.contents writer.new))
         (E.contents errors.old) (E.contents errors.new) result) }
+    ensures asm { faults_of (map S.text arguments.entry.now) ≡ [] → task_of (map S.text arguments.entry.now) ≡ Some Task.Assemble
+        → IfSome (R.remaining reader.old) (λ input. ReportsOutcome (AsmLeaves input (W.contents writer.old) (W.contents writer.new))
+        (E.contents errors.old) (E.contents errors.new) result) }
+    ensures dis { faults_of (map S.text arguments.entry.now) ≡ [] → task_of (map S.text arguments.entry.now) ≡ Some Task.Disassemble
+        → IfSome (R.remaining reader.old) (λ input. ReportsOutcome (DisLeaves input (W.contents writer.old) (W.contents writer.new))
+        (E.contents errors.old) (E.contents errors.new) result) }
     ensures consumed { task_of (map S.text arguments.entry.now) ≡ Some Task.Check → ConsumesAtMost check_limit (R.remaining reader.old) (R.remaining reader.new) }
+    ensures consumed_by_asm { task_of (map S.text arguments.entry.now) ≡ Some Task.Assemble → ConsumesAtMost asm_limit (R.remaining reader.old) (R.remaining reader.new) }
+    ensures consumed_by_dis { task_of (map S.text arguments.entry.now) ≡ Some Task.Disassemble → ConsumesAtMost check_limit (R.remaining reader.old) (R.remaining reader.new) }
     ensures invalid { faults_of (map S.text arguments.entry.now) ≢ []
         → ShowsOneOf (faults_of (map S.text arguments.entry.now)) (W.contents writer.old) (W.contents writer.new)
         (E.contents errors.old) (E.contents errors.new) result }
@@ -94,6 +106,8 @@ pub fn tool<'a, S: AsStr, R: Read, W: Write, E: Write>(
     match read_arguments(alloc, arguments) {
         Ok(Task::Run) => report(run(alloc, reader, writer), errors).number(),
         Ok(Task::Check) => report(check(alloc, reader, writer), errors).number(),
+        Ok(Task::Assemble) => report(asm(alloc, reader, writer), errors).number(),
+        Ok(Task::Disassemble) => report(dis(alloc, reader, writer), errors).number(),
         Err(error) => show(alloc, error, writer, errors).number(),
     }
 }

@@ -6,11 +6,13 @@ ghost use Rattle.agent.specs.Laws.{RightArgumentsNameATask};
 use crate::arguments::Task;
 use clap::error::ErrorKind;
 
-/// `run` and `check` alone are right arguments, and ask for what they are called; `--help` asks for
+/// `run`, `check`, `asm` and `dis` alone are right arguments, and ask for what they are called; `--help` asks for
 /// help.
 pub fn right_arguments()
     ensures run { (faults_of (codes "run" ∷ []) ≡ []) × (task_of (codes "run" ∷ []) ≡ Some Task.Run) }
     ensures check { (faults_of (codes "check" ∷ []) ≡ []) × (task_of (codes "check" ∷ []) ≡ Some Task.Check) }
+    ensures asm { (faults_of (codes "asm" ∷ []) ≡ []) × (task_of (codes "asm" ∷ []) ≡ Some Task.Assemble) }
+    ensures dis { (faults_of (codes "dis" ∷ []) ≡ []) × (task_of (codes "dis" ∷ []) ≡ Some Task.Disassemble) }
     ensures help { faults_of (codes "--help" ∷ []) ≡ ErrorKind.DisplayHelp ∷ [] }
 {}
 

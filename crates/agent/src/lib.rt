@@ -2,15 +2,20 @@
 #![tactic(auto)]
 
 mod arguments;
+mod assembling;
 mod checking;
+mod disassembling;
 mod failure;
 mod front;
 mod laws;
+mod reading;
 mod reporting;
 mod running;
 
 pub use arguments::Task;
+pub use assembling::asm;
 pub use checking::check;
+pub use disassembling::dis;
 pub use failure::{Failure, Status};
 pub use front::tool;
 pub use laws::{invalid_arguments, right_arguments, right_arguments_name_a_task};

@@ -12,6 +12,8 @@ Usage: bpfagent <COMMAND>
 Commands:
   run    Do the commands of standard input, one a line
   check  Check the raw code of standard input
+  asm    Turn the assembly of standard input into raw code
+  dis    Show the raw code of standard input as assembly
 
 Options:
   -h, --help  Print help
@@ -26,7 +28,7 @@ Options:
 ";
 
 const NO_SUBCOMMAND: &str = "error: 'bpfagent' requires a subcommand but one was not provided
-  [subcommands: run, check]
+  [subcommands: run, check, asm, dis]
 
 Usage: bpfagent <COMMAND>
 

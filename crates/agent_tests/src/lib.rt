@@ -4,6 +4,8 @@
 #[cfg(test)]
 mod arguments;
 #[cfg(test)]
+mod assembly;
+#[cfg(test)]
 mod checking;
 #[cfg(test)]
 mod outcome;

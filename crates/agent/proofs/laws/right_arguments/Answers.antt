@@ -7,5 +7,7 @@ unfolding clap_on_literals
 returns c = record {
   run = (refl, refl);
   check = (refl, refl);
+  asm = (refl, refl);
+  dis = (refl, refl);
   help = refl;
 }

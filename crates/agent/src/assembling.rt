@@ -1,0 +1,108 @@
+//! `asm`: assembly in, raw code out.
+ghost use Rattle.std.specs.Prelude.{◌≡◌, ◌++◌, OnOk, IfOk, IfErr, IfSome, Ok, Err};
+ghost use Rattle.std.specs.Char.{encode_utf8};
+ghost use Rattle.std.specs.String.{string_bytes};
+ghost use Rattle.bpf_codec.specs.Slots.{encoding};
+ghost use Rattle.loader.specs.Instructions.{encodings};
+ghost use Rattle.agent.specs.AsmLeaves.{AsmLeaves, Assembles, asm_limit, char_text, text_of_bytes};
+ghost use Rattle.agent.specs.Streams.{ConsumesAtMost};
+
+use crate::failure::Failure;
+use crate::reading::read_at_most;
+use assembler::{Why, assemble};
+use bpf_codec::encode;
+use console::put_all;
+use isa_table::Instr;
+use std::alloc::{AllocError, Global};
+use std::io::{Read, Write};
+
+/// The longest text.
+const TEXT_LIMIT: usize = 1_048_576;
+
+/// The character of a byte: U+0080, which begins no token, for one above 127.
+fn char_of(byte: u8) -> char
+    ensures { encode_utf8 result ≡ char_text byte }
+{
+    if byte < 128 {
+        char::from(byte)
+    } else {
+        '\u{80}'
+    }
+}
+
+/// The text that the bytes are.
+fn text_of(alloc: Global, bytes: &[u8]) -> Result<String, AllocError>
+    ensures { IfOk result (λ text. string_bytes text ≡ text_of_bytes bytes.now) }
+{
+    let mut text = String::new(alloc);
+    for b in bytes {
+        text.push(char_of(*b))?;
+    }
+    Ok(text)
+}
+
+/// Adds the encoding of an instruction.
+fn put_encoding(code: &mut Vec<u8>, i: &Instr) -> Result<(), AllocError>
+    ensures { OnOk result (code.new.items ≡ code.old.items ++ encoding i.now) }
+{
+    let (bytes, slots) = encode(i);
+    code.extend_from_slice(&bytes[..8 * slots])?;
+    Ok(())
+}
+
+/// The encodings of the instructions, one after the other.
+fn encode_all(alloc: Global, instrs: &[Instr]) -> Result<Vec<u8>, AllocError>
+    ensures { IfOk result (λ code. code.items ≡ encodings instrs.now) }
+{
+    let mut code = Vec::new(alloc);
+    for i in instrs {
+        put_encoding(&mut code, i)?;
+    }
+    Ok(code)
+}
+
+/// The code that the input spells.
+fn assemble_input(alloc: Global, input: &[u8]) -> Result<Vec<u8>, Failure>
+    ensures ok { IfOk result (λ code. Assembles input.now (Ok code.items)) }
+    ensures err { IfErr result (λ failure. Assembles input.now (Err failure)) }
+{
+    if input.len() > TEXT_LIMIT {
+        return Err(Failure::InputTooLong);
+    }
+    let Ok(text) = text_of(alloc, input) else {
+        return Err(Failure::NoMemory);
+    };
+    let instrs = match assemble(alloc, text.as_str()) {
+        Ok(instrs) => instrs,
+        Err(error) if error.why == Why::Memory => return Err(Failure::NoMemory),
+        Err(error) => return Err(Failure::WrongLine(error)),
+    };
+    match encode_all(alloc, &instrs) {
+        Ok(code) => Ok(code),
+        Err(_) => Err(Failure::NoMemory),
+    }
+}
+
+/// The code that the input of the reader spells.
+fn find_code<R: Read>(alloc: Global, reader: &mut R) -> Result<Vec<u8>, Failure>
+    ensures ok { IfSome (R.remaining reader.old) (λ input. IfOk result (λ code. Assembles input (Ok code.items))) }
+    ensures err { IfSome (R.remaining reader.old) (λ input. IfErr result (λ failure. Assembles input (Err failure))) }
+    ensures consumed { ConsumesAtMost asm_limit (R.remaining reader.old) (R.remaining reader.new) }
+{
+    let input = read_at_most(alloc, reader, TEXT_LIMIT + 1)?;
+    assemble_input(alloc, &input)
+}
+
+/// Reads assembly, and writes the code that it spells. At most one byte is read past the longest
+/// text.
+pub fn asm<R: Read, W: Write>(alloc: Global, reader: &mut R, writer: &mut W) -> Result<(), Failure>
+    ensures left { IfSome (R.remaining reader.old) (λ input.
+        AsmLeaves input (W.contents writer.old) (W.contents writer.new) result) }
+    ensures consumed { ConsumesAtMost asm_limit (R.remaining reader.old) (R.remaining reader.new) }
+{
+    let code = find_code(alloc, reader)?;
+    match put_all(writer, &code) {
+        Ok(()) => Ok(()),
+        Err(_) => Err(Failure::Write),
+    }
+}
