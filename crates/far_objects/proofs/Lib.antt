@@ -1,0 +1,6 @@
+pub mod Entries
+pub mod Objects_kept
+pub mod Wording
+pub mod Counting
+pub mod Keeping
+pub mod Returning

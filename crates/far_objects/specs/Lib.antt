@@ -1,0 +1,4 @@
+pub mod Stores
+pub mod Bodies
+pub mod Standings
+pub mod Calls

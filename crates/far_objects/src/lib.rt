@@ -1,0 +1,19 @@
+//! Objects that move: a store of objects whose bytes can be taken to a far store and brought back while machines run.
+//!
+//! Accesses and memory are those of `object_store`; [`StoreMemory`], a store lent to a machine, is a `Memory`. A machine
+//! that reaches an object has it in scope, and it stays here until the scope closes (after AIFM's dereference scopes;
+//! windows, budget and moves are this project's choice).
+#![tactic(auto)]
+
+mod bodies;
+mod errors;
+mod moving;
+mod places;
+mod scoping;
+mod standing;
+mod stores;
+mod words;
+
+pub use errors::{GetError, MakeError, PutError};
+pub use places::{Moved, Place};
+pub use stores::{MACHINE_LIMIT, ObjectStore, StoreMemory};
