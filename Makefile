@@ -48,7 +48,7 @@ vectors:
 BENCH := out/bench
 C_RUNTIME := $(dir $(realpath $(RT)))../c/liblibc_c.a
 
-# Steps and lines beside plain C, as ratios in one run.
+# Steps and lines beside plain C, as ratios in one run, and the time of a line of assembly.
 bench: $(PROGRAM)
 	@mkdir -p $(BENCH)
 	@cd crates/bench_steps && $(RT) lib >/dev/null
@@ -56,6 +56,7 @@ bench: $(PROGRAM)
 	@$(CC) -O2 -o $(BENCH)/lines bench/lines.c bench/plain.c
 	@$(BENCH)/steps
 	@python3 bench/lines.py $(PROGRAM) $(BENCH)/lines
+	@python3 bench/assembly.py $(PROGRAM)
 
 # The program, and a run of commands, with each of their allocations failing in turn.
 failed-allocations: $(PROGRAM)
