@@ -149,7 +149,7 @@ const BAD: [&str; 62] = [
     // commands that are to come
     "one 1",
     "leave 1",
-    "line 1 0",
+    "line 1 4096",
     "break 1 0",
 ];
 

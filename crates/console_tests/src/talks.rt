@@ -33,24 +33,33 @@ pub fn count_lines(text: &[u8]) -> usize {
     text.iter().filter(|b| **b == b'\n').count()
 }
 
+/// How many of the first two commands are done, by two bytes of the object.
+fn count_first_done(reply: &Reply) -> usize {
+    match reply {
+        Reply::Bytes(bytes) => if bytes.as_slice() == [10, 255].as_slice() {
+            2
+        } else {
+            1
+        },
+        _ => 0,
+    }
+}
+
 /// How many of the seven commands are done.
 pub fn count_done(world: &mut World) -> usize {
     let fuel = match world.apply(Event::Regs { machine: 1 }) {
         Reply::Registers(shown) => shown.fuel,
         _ => 11,
     };
-    let bytes = world.apply(Event::Get {
-        object: 1,
-        offset: 2,
-        length: 2,
-    });
-    match (fuel, bytes) {
-        (8, _) => 6,
-        (9, _) => 5,
-        (10, _) => 4,
-        (_, Reply::Bytes(bytes)) if bytes.as_slice() == [10, 255].as_slice() => 2,
-        (_, Reply::Bytes(_)) => 1,
-        _ => 0,
+    match fuel {
+        8 => 6,
+        9 => 5,
+        10 => 4,
+        _ => count_first_done(&world.apply(Event::Get {
+            object: 1,
+            offset: 2,
+            length: 2,
+        })),
     }
 }
 
