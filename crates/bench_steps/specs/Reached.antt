@@ -1,6 +1,6 @@
 -- States that a machine and the objects come to by steps of the table.
 use Rattle.std.specs.Prelude.{ℕ, List}
-use Rattle.object_store.specs.Objects.{map_memory}
+use Rattle.memory.specs.Objects.{map_memory}
 use Rattle.machine.specs.MachineState.{MachineState}
 use Rattle.machine.specs.TableStep.{TableStep}
 use Rattle.machine.specs.declared.state.Stepped.{Stepped}

@@ -6,11 +6,11 @@ ghost use Rattle.bench_steps.specs.Reached.{Reaches, IsEnd};
 
 use loader::load;
 use machine::{Machine, Stepped};
-use object_store::ObjectStore;
+use memory::PlainStore;
 use std::alloc::Global;
 
 /// Steps the machine until it stops.
-fn run_to_end(machine: &mut Machine, store: &mut ObjectStore) -> Stepped
+fn run_to_end(machine: &mut Machine, store: &mut PlainStore) -> Stepped
     ensures steps { Reaches machine.old store.old machine.new store.new }
     ensures end { IsEnd result }
 {
@@ -27,7 +27,7 @@ fn run_to_end(machine: &mut Machine, store: &mut ObjectStore) -> Stepped
 /// machine stops; 0 where the code isn't loaded.
 #[unsafe(no_mangle)]
 pub extern "C" fn bpf_run(alloc: Global, code: &[u8], fuel: u64, argument: u64) -> u64 {
-    let (Ok(program), Ok(mut store)) = (load(alloc, code), ObjectStore::new(alloc)) else {
+    let (Ok(program), Ok(mut store)) = (load(alloc, code), PlainStore::new(alloc)) else {
         return 0;
     };
     if store.make(65_536).is_err() {

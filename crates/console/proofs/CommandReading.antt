@@ -1,7 +1,7 @@
 -- What is read from tokens.
 use Rattle.std.proofs.Common.{◌≡◌, ℕ, ◌<◌, ◌≤◌, List, [], ◌∷◌, drop, length, get_or, slice_index, Some, None, Result, Ok, Err, subst, sym, ◌∙◌, ap, arith}
 use Rattle.std.proofs.lemmas.List.{length-take}
-use Rattle.object_store.specs.Objects.{bytes_of}
+use Rattle.memory.specs.Objects.{bytes_of}
 use Rattle.world.specs.declared.events.Reply.{Reply}
 use Rattle.world.specs.declared.events.Reply.TheVariants as reply
 use Rattle.world.specs.WorldState.{WorldState}

@@ -2,7 +2,7 @@
 use Rattle.std.specs.Prelude.{◌≡◌, ℕ, ◌≤◌, ◌-◌, ◌/◌, ◌^◌, List, [], ◌∷◌, length, slice_index, codes, if◌then◌else◌, Option, Some, None, Result, Ok, Err}
 use Rattle.std.specs.Str.{bytes_eq}
 use Rattle.loader.specs.ValidCode.{code_limit}
-use Rattle.object_store.specs.Objects.{object_limit, object_bytes}
+use Rattle.memory.specs.Objects.{object_limit, object_bytes}
 use Rattle.world.specs.declared.events.Event.{Event}
 use Rattle.world.specs.Commands.{Command, command_of}
 use Rattle.world.specs.Commands.Command.{Make, Free, Put, Get, Ship, Step, Regs, Out, Stack, Line}

@@ -3,7 +3,7 @@ ghost use Rattle.std.specs.Prelude.{◌≡◌, ◌≤◌, length};
 ghost use Rattle.console.specs.Commands.{kind_named, number_limits, most_bytes};
 
 use crate::commands::LINE_LIMIT;
-use object_store::{OBJECT_BYTES, OBJECT_LIMIT};
+use memory::{OBJECT_BYTES, OBJECT_LIMIT};
 use world::MACHINE_LIMIT;
 
 /// The command that a line's first token names.

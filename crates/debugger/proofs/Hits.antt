@@ -6,8 +6,8 @@ use Rattle.std.proofs.lemmas.List.Folds.{Any-from_list_any, list_any-from_Any}
 use Rattle.isa_table.specs.declared.instr.AtomicOp.TheVariants.{CompareExchange}
 use Rattle.isa_table.specs.Words.{unsigned}
 use Rattle.isa_table.specs.Table.{size_bytes, width_bits}
-use Rattle.object_store.specs.declared.access.Action.TheVariants.{Atomic}
-use Rattle.object_store.specs.Access.{writes}
+use Rattle.memory.specs.declared.access.Action.TheVariants.{Atomic}
+use Rattle.memory.specs.Access.{writes}
 use Rattle.machine.specs.declared.state.Written.{Written}
 use Rattle.debugger.specs.declared.watch.Watch.{Watch}
 use Rattle.debugger.specs.DebugState.{DebugState, reaches, hits}

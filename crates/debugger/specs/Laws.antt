@@ -7,7 +7,7 @@ use Rattle.isa_table.specs.declared.instr.AtomicOp.TheVariants.{CompareExchange}
 use Rattle.isa_table.specs.Words.{unsigned}
 use Rattle.isa_table.specs.Table.{size_bytes, width_bits}
 use Rattle.loader.specs.ValidCode.{IsAt}
-use Rattle.object_store.specs.declared.access.Action.TheVariants.{Load, Atomic}
+use Rattle.memory.specs.declared.access.Action.TheVariants.{Load, Atomic}
 use Rattle.machine.specs.declared.state.Stop.{Stop}
 use Rattle.machine.specs.declared.state.Stepped.TheVariants.{Ran, Waiting, Stopped}
 use Rattle.machine.specs.declared.state.Written.{Written}

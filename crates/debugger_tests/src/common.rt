@@ -3,7 +3,7 @@
 use debugger::{After, Before, Debugger};
 use loader::load;
 use machine::{Machine, Stepped, Stop};
-use object_store::ObjectStore;
+use memory::PlainStore;
 use std::alloc::Global;
 use std::test::Fail;
 
@@ -33,7 +33,7 @@ pub enum Answer {
 pub struct Session {
     pub machine: Machine,
     pub debugger: Debugger,
-    pub store: ObjectStore,
+    pub store: PlainStore,
 }
 
 /// A session over an object of eight bytes.
@@ -48,7 +48,7 @@ pub fn session_of(
         bytes.extend_from_slice(&slot.to_be_bytes())?;
     }
     let program = load(alloc, bytes.as_slice())?;
-    let mut store = ObjectStore::new(alloc)?;
+    let mut store = PlainStore::new(alloc)?;
     let _ = store.make(8)?;
     Ok(Session {
         machine: Machine::new(program, 1, fuel, arguments),

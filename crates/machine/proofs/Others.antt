@@ -1,9 +1,9 @@
 -- Machines that reach different objects.
 use Rattle.std.proofs.Common.{◌≡◌, ◌≢◌, ℕ, zero, suc, Bool, true, false, List, length, refl, ap, sym, ◌∙◌, subst, inl, inr}
-use Rattle.object_store.specs.declared.access.Op.{Op}
-use Rattle.object_store.specs.declared.access.Reach.{Reach}
-use Rattle.object_store.specs.Objects.{map_memory, bytes_of}
-use Rattle.object_store.proofs.Accesses as accesses
+use Rattle.memory.specs.declared.access.Op.{Op}
+use Rattle.memory.specs.declared.access.Reach.{Reach}
+use Rattle.memory.specs.Objects.{map_memory, bytes_of}
+use Rattle.memory.proofs.Accesses as accesses
 use Rattle.machine.specs.declared.state.Stepped.{Stepped}
 use Rattle.machine.specs.MachineState.{MachineState}
 use Rattle.machine.specs.Rows.{Request, MemoryAnswer, Outcome, asks}

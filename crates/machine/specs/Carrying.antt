@@ -1,9 +1,9 @@
 -- A memory that is seen as another.
 use Rattle.std.specs.Prelude.{◌≡◌, ℕ, Bool, true, false, ◌||◌}
-use Rattle.object_store.specs.declared.access.Op.{Op}
-use Rattle.object_store.specs.declared.access.Reach.{Reach}
-use Rattle.object_store.specs.declared.access.Reach.TheVariants.{Away, Busy}
-use Rattle.object_store.specs.Memories.{Memories}
+use Rattle.memory.specs.declared.access.Op.{Op}
+use Rattle.memory.specs.declared.access.Reach.{Reach}
+use Rattle.memory.specs.declared.access.Reach.TheVariants.{Away, Busy}
+use Rattle.memory.specs.Memories.{Memories}
 use Rattle.machine.specs.declared.state.Stepped.{Stepped}
 use Rattle.machine.specs.declared.state.Stepped.TheVariants.{Waiting}
 use Rattle.machine.specs.MachineState.{MachineState}

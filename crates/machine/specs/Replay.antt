@@ -1,10 +1,10 @@
 -- A machine is its start, done again with the answers that its accesses were given. No memory is needed to say it.
 use Rattle.std.specs.Prelude.{◌≡◌, ℕ, zero, suc, List, [], ◌∷◌, ◌++◌, None}
 use Rattle.isa_table.specs.declared.instr.Instr.{Instr}
-use Rattle.object_store.specs.declared.access.Op.{Op}
-use Rattle.object_store.specs.declared.access.Reach.{Reach}
-use Rattle.object_store.specs.declared.access.Reach.TheVariants.{Done}
-use Rattle.object_store.specs.Memories.{Memories}
+use Rattle.memory.specs.declared.access.Op.{Op}
+use Rattle.memory.specs.declared.access.Reach.{Reach}
+use Rattle.memory.specs.declared.access.Reach.TheVariants.{Done}
+use Rattle.memory.specs.Memories.{Memories}
 use Rattle.machine.specs.declared.state.Stop.TheVariants as stop
 use Rattle.machine.specs.declared.state.Stepped.{Stepped}
 use Rattle.machine.specs.declared.state.Stepped.TheVariants.{Ran, Waiting, Stopped}

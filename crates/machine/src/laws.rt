@@ -4,7 +4,7 @@ ghost use Rattle.machine.specs.FramePointer.{StartsAtTop, StaysAtDepth};
 ghost use Rattle.machine.specs.Replay.{ReplaysOneWay, StaysReplay};
 ghost use Rattle.machine.specs.Carrying.{StepsCarry};
 
-use object_store::Memory;
+use memory::Memory;
 
 /// Over a memory with one answer to each access, a machine has one next state, and one answer.
 pub fn steps_one_way<M: Memory>()

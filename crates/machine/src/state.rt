@@ -1,7 +1,7 @@
 //! Parts of a machine that others see.
 
 use isa_table::Size;
-use object_store::Op;
+use memory::Op;
 
 /// Why a machine goes on no more.
 #[derive(Clone, Copy, Drop, Debug, PartialEq, Eq)]

@@ -3,7 +3,7 @@
 use crate::common::{EXIT, OBJECT, STACK, first_step, machine_of, store_of};
 use isa_table::Size;
 use machine::{Stepped, Stop, Written};
-use object_store::ObjectStore;
+use memory::PlainStore;
 use std::test::Fail;
 
 const OUTSIDE: Stepped = Stepped::Stopped(Stop::Outside);
@@ -220,7 +220,7 @@ fn numbers_that_are_no_object(rt: HostRuntime) -> Result<(), Fail> {
 fn the_stack_is_the_machine_s_own(rt: HostRuntime) -> Result<(), Fail> {
     // stw [r10-4], -1; ldxsw r0, [r10-4]; exit
     let slots = [0x620a_fcff_ffff_ffff, 0x81a0_fcff_0000_0000, EXIT];
-    let mut store = ObjectStore::new(rt.alloc())?;
+    let mut store = PlainStore::new(rt.alloc())?;
     let mut machine = machine_of(rt.alloc(), 10, [0; 5], &slots)?;
     assert_eq!(rt; machine.stack().len(), 4096);
     assert!(rt; machine.stack().iter().all(|&byte| byte == 0));

@@ -3,7 +3,7 @@
 use crate::common::{EXIT, OBJECT, STACK, first_step, machine_of, store_of};
 use isa_table::Size;
 use machine::{Machine, Stepped, Stop, Written};
-use object_store::ObjectStore;
+use memory::PlainStore;
 use std::alloc::Global;
 use std::process::Abort;
 use std::test::Fail;
@@ -61,7 +61,7 @@ fn check(
 ) -> Result<(), Fail> {
     const SOURCE: u64 = 0xaaaa_aaaa_1234_5678;
     const OLD: u64 = 0x8000_0001_f000_000f;
-    let mut store = ObjectStore::new(alloc)?;
+    let mut store = PlainStore::new(alloc)?;
     let _ = store.make(16)?;
     let mut machine = machine_with(alloc, place, SOURCE, OLD, r0, slot)?;
     for _ in 0..2 {
@@ -255,7 +255,7 @@ fn the_offset_of_the_address_is_aligned_not_that_of_the_instruction(
     const ADD: u64 = 0xdb21_0400_0000_0000;
     const ADD32: u64 = 0xc321_0400_0000_0000;
     const STORE: u64 = 0x7b21_0400_0000_0000;
-    let mut store = ObjectStore::new(rt.alloc())?;
+    let mut store = PlainStore::new(rt.alloc())?;
     let _ = store.make(16)?;
     assert_eq!(rt;
         first_step(rt.alloc(), &mut store, OBJECT, 1, ADD)?,

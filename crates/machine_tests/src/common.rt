@@ -2,7 +2,7 @@
 
 use loader::load;
 use machine::{Machine, Stepped};
-use object_store::ObjectStore;
+use memory::PlainStore;
 use std::alloc::Global;
 use std::test::Fail;
 
@@ -30,8 +30,8 @@ pub fn machine_of(
 }
 
 /// A store with one object of eight bytes.
-pub fn store_of(alloc: Global, bytes: [u8; 8]) -> Result<ObjectStore, Fail> {
-    let mut store = ObjectStore::new(alloc)?;
+pub fn store_of(alloc: Global, bytes: [u8; 8]) -> Result<PlainStore, Fail> {
+    let mut store = PlainStore::new(alloc)?;
     let number = store.make(8)?;
     store.put(number, 0, &bytes)?;
     Ok(store)
@@ -40,7 +40,7 @@ pub fn store_of(alloc: Global, bytes: [u8; 8]) -> Result<ObjectStore, Fail> {
 /// What the first step of a program answers, with R1 and R2 as given.
 pub fn first_step(
     alloc: Global,
-    store: &mut ObjectStore,
+    store: &mut PlainStore,
     r1: u64,
     r2: u64,
     slot: u64,

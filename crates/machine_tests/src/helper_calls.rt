@@ -3,7 +3,7 @@
 use crate::common::{EXIT, machine_of, store_of};
 use helpers::Helper;
 use machine::{Machine, Stepped, Stop};
-use object_store::ObjectStore;
+use memory::PlainStore;
 use std::alloc::Global;
 use std::process::Abort;
 use std::test::Fail;
@@ -18,7 +18,7 @@ fn machine_with(alloc: Global, r1: u64, call: u64) -> Result<Machine, Fail> {
 fn answer(
     rt: &impl Abort,
     alloc: Global,
-    store: &mut ObjectStore,
+    store: &mut PlainStore,
     r1: u64,
     call: u64,
 ) -> Result<u64, Fail> {
@@ -118,7 +118,7 @@ fn values_are_emitted_while_there_is_room(rt: HostRuntime) -> Result<(), Fail> {
         0x0701_0000_0100_0000,
         0x0500_fdff_0000_0000,
     ];
-    let mut store = ObjectStore::new(rt.alloc())?;
+    let mut store = PlainStore::new(rt.alloc())?;
     let mut machine = machine_of(rt.alloc(), 1000, [100, 0, 0, 0, 0], &slots)?;
     assert!(rt; machine.emitted().is_empty());
     for count in 0..66_u64 {

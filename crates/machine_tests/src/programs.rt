@@ -4,7 +4,7 @@ use crate::common::{EXIT, machine_of};
 use isa_table::Instr;
 use loader::load;
 use machine::{Frame, Machine, Stepped, Stop};
-use object_store::ObjectStore;
+use memory::PlainStore;
 use std::alloc::Global;
 use std::test::Fail;
 
@@ -14,7 +14,7 @@ const STACK_TOP: u64 = 0xffff_ffff_0000_1000;
 /// The stop of a program, and how many instructions it did, of a hundred at most.
 fn run(alloc: Global, first: u64, slots: &[u64]) -> Result<(Option<Stop>, u64), Fail> {
     let mut machine = machine_of(alloc, 100, [first, 0, 0, 0, 0], slots)?;
-    let mut store = ObjectStore::new(alloc)?;
+    let mut store = PlainStore::new(alloc)?;
     for _ in 0..101 {
         let _ = machine.step(&mut store);
     }
@@ -23,7 +23,7 @@ fn run(alloc: Global, first: u64, slots: &[u64]) -> Result<(Option<Stop>, u64), 
 
 #[test]
 fn an_exit_is_answered_again(rt: HostRuntime) -> Result<(), Fail> {
-    let mut store = ObjectStore::new(rt.alloc())?;
+    let mut store = PlainStore::new(rt.alloc())?;
     let mut machine = machine_of(rt.alloc(), 10, [0; 5], &[0xb700_0000_0700_0000, EXIT])?;
     assert_eq!(rt; machine.number(), 1);
     assert_eq!(rt; machine.program().slots(), 2);
@@ -206,7 +206,7 @@ fn a_call_gives_its_registers_back(rt: HostRuntime) -> Result<(), Fail> {
         0xb705_0000_0500_0000,
         EXIT,
     ];
-    let mut store = ObjectStore::new(rt.alloc())?;
+    let mut store = PlainStore::new(rt.alloc())?;
     let mut machine = machine_of(rt.alloc(), 20, [3, 0, 0, 0, 0], &slots)?;
     for _ in 0..5 {
         assert_eq!(rt; machine.step(&mut store), Stepped::Ran(None));
@@ -241,7 +241,7 @@ fn a_call_gives_its_registers_back(rt: HostRuntime) -> Result<(), Fail> {
 #[test]
 fn the_ninth_call_stops(rt: HostRuntime) -> Result<(), Fail> {
     // call local -1
-    let mut store = ObjectStore::new(rt.alloc())?;
+    let mut store = PlainStore::new(rt.alloc())?;
     let mut machine = machine_of(rt.alloc(), 100, [0; 5], &[0x8510_0000_ffff_ffff, EXIT])?;
     for _ in 0..8 {
         assert_eq!(rt; machine.step(&mut store), Stepped::Ran(None));
@@ -258,7 +258,7 @@ fn the_ninth_call_stops(rt: HostRuntime) -> Result<(), Fail> {
 
 #[test]
 fn fuel_runs_out(rt: HostRuntime) -> Result<(), Fail> {
-    let mut store = ObjectStore::new(rt.alloc())?;
+    let mut store = PlainStore::new(rt.alloc())?;
     let mut machine = machine_of(rt.alloc(), 0, [0; 5], &[EXIT])?;
     assert_eq!(rt; machine.step(&mut store), Stepped::Stopped(Stop::Spent));
     // Before a call that would be the ninth, too: fuel comes first.

@@ -1,4 +1,6 @@
-pub mod Replacing
-pub mod Standing
-pub mod Lengths
-pub mod Accesses
+pub mod Entries
+pub mod Objects_kept
+pub mod Wording
+pub mod Counting
+pub mod Keeping
+pub mod Returning

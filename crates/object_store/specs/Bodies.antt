@@ -1,6 +1,94 @@
 -- Objects, as they are kept.
-use Rattle.std.specs.Prelude.{ℕ, List}
-use Rattle.object_store.specs.declared.bodies.Body.{Body}
+use Rattle.std.specs.Prelude.{◌≡◌, ℕ, ◌+◌, ◌-◌, Bool, true, false, cond, List, [], length, map, get_or, set, Option, Some, None, is_some}
+use Rattle.pointer_word.specs.declared.word.Place.{Place as WordPlace}
+use Rattle.pointer_word.specs.declared.word.Place.TheVariants.{Local, Moving, Far as WordFar}
+use Rattle.pointer_word.specs.Words.{WordRecord}
+use Rattle.object_store.specs.declared.places.Place.{Place}
+use Rattle.object_store.specs.declared.places.Place.TheVariants.{Here, Leaving, Far, Returning}
+use Rattle.memory.specs.Objects.{AreObjects, bytes_of, with_bytes}
+use Rattle.object_store.specs.Stores.{holders, near_bytes}
 
-abbrev pub bytes_in : Body → List ℕ
-bytes_in b = b.bytes.items
+-- ---- one object
+
+pub record Kept : Type 0 where
+  -- wherever they are
+  pub bytes : List ℕ
+  pub place : Place
+  -- how many windows hold it
+  pub scopes : ℕ
+
+-- for which bytes a parcel stands
+abbrev pub sent : {P : Type 0} → (P → List ℕ) → Option P → List ℕ
+sent stands_for None = []
+sent stands_for (Some p) = stands_for p
+
+-- the bytes of an object that is out, or isn't
+abbrev pub contents : {P : Type 0} → (P → List ℕ) → Bool → List ℕ → Option P → List ℕ
+contents stands_for out bytes parcel = cond out (sent stands_for parcel) bytes
+
+-- its place, by its word
+abbrev pub place_by : Bool → WordPlace → Place
+place_by out Local = Here
+place_by false Moving = Leaving
+place_by true Moving = Returning
+place_by out WordFar = Far
+
+-- whether the bytes are out where the word says so
+abbrev pub FitsWord : Bool → WordPlace → Type 0
+FitsWord out Local = out ≡ false
+FitsWord out Moving = Unit {0}
+FitsWord out WordFar = out ≡ true
+
+-- An object as it is always kept. The mark that it is clean says that its parcel stands for its bytes as they are. What
+-- was freed keeps no parcel.
+pub record IsKept {P : Type 0} (stands_for : P → List ℕ) (word : WordRecord) (count : ℕ) (bytes : List ℕ) (parcel : Option P) (out clean : Bool) : Type 0 where
+  pub fits : FitsWord out word.place
+  pub no_turn : word.turn ≡ false
+  pub length_is : length (contents stands_for out bytes parcel) ≡ count
+  pub freed : count ≡ 0 → is_some parcel ≡ false
+  pub sent_out : out ≡ true → is_some parcel ≡ true
+  pub kept_clean : clean ≡ true → is_some parcel ≡ true
+  pub same_clean : clean ≡ true → sent stands_for parcel ≡ contents stands_for out bytes parcel
+
+-- What it is once its bytes came back: the same, or, where the store doesn't promise that, as many.
+abbrev pub ReturnsTo : Bool → Kept → Kept → Type 0
+ReturnsTo true old new = new ≡ record old { place = Here }
+ReturnsTo false old new = (length new.bytes ≡ length old.bytes) × (new ≡ record old { bytes = new.bytes; place = Here })
+
+abbrev pub bytes_in : Kept → List ℕ
+bytes_in k = k.bytes
+
+abbrev pub place_in : Kept → Place
+place_in k = k.place
+
+abbrev pub scopes_in : Kept → ℕ
+scopes_in k = k.scopes
+
+-- the same of all objects
+abbrev pub BytesBack : Bool → List (List ℕ) → ℕ → List (List ℕ) → Type 0
+BytesBack true old n new = new ≡ old
+BytesBack false old n new = (length (bytes_of new n) ≡ length (bytes_of old n)) × (new ≡ with_bytes old n (bytes_of new n))
+
+-- ---- counts
+
+-- The count of each object is the number of windows that hold it.
+pub record CountsHold (counts : List ℕ) (windows : List (List ℕ)) : Type 0 where
+  pub each : (n : ℕ) → get_or counts n 0 ≡ holders windows n
+
+-- a window less, where one number is pushed out of it
+abbrev pub lessened : Option ℕ → List ℕ → List ℕ
+lessened None counts = counts
+lessened (Some n) counts = set counts n (get_or counts n 0 - 1)
+
+-- a window more
+abbrev pub grown : ℕ → List ℕ → List ℕ
+grown n counts = set counts n (get_or counts n 0 + 1)
+
+-- ---- a store
+
+-- A store as it is always kept, with so many bytes left of its budget.
+pub record IsKeptStore (bodies : List Kept) (windows : List (List ℕ)) (budget spare : ℕ) : Type 0 where
+  pub objects : AreObjects (map bytes_in bodies)
+  pub counts : CountsHold (map scopes_in bodies) windows
+  pub windows_are : length windows ≡ 49
+  pub left : spare + near_bytes (map bytes_in bodies) (map place_in bodies) ≡ budget

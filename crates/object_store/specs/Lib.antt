@@ -1,6 +1,4 @@
-pub mod Access
-pub mod Memories
-pub mod Objects
+pub mod Stores
 pub mod Bodies
+pub mod Standings
 pub mod Calls
-pub mod Laws

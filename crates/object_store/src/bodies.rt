@@ -1,92 +1,289 @@
-//! The bytes of one object of a list.
-ghost use Rattle.std.specs.Prelude.{◌≡◌, ◌<◌, ◌≤◌, [], IsTrue, ◌↔◌, IfOk, length, map};
-ghost use Rattle.object_store.specs.Access.{answer, after};
-ghost use Rattle.object_store.specs.Objects.{Reaches, HasRange, IsLive, bytes_of, with_bytes, range_of, with_range};
-ghost use Rattle.object_store.specs.Bodies.{bytes_in};
+//! What is kept of one object: its word, its bytes, and the parcel that stands for them in the far store.
+ghost use Rattle.std.specs.Prelude.{◌≡◌, ◌<◌, ◌≤◌, ◌+◌, ◌-◌, [], true, false, is_some, replicate, length, IfOk, OnOk, OnErr, take, drop};
+ghost use Rattle.memory.specs.Access.{IsInside, answer, after, replaced};
+ghost use Rattle.object_store.specs.Stores.{HasRisen};
+ghost use Rattle.object_store.specs.Calls.{FailsToReturn};
+ghost use Rattle.object_store.specs.Bodies.{sent, ReturnsTo};
+ghost use Rattle.object_store.specs.declared.places.Place.TheVariants as place;
 
-use crate::access::Op;
-use crate::bytes::{act, overwrite};
+use crate::places::Place;
+use crate::words;
+use far_store::{FarStore, StoreFault};
+use memory::{Action, Op, act};
+use pointer_word::{Place as WordPlace, Word};
 use std::alloc::{AllocError, Global};
+use std::marker::Model;
+use std::mem;
 
-/// What is kept of an object.
+/// Writes bytes over those from an offset on.
+fn overwrite(bytes: &mut [u8], offset: usize, new: &[u8])
+    requires { offset + length new.now ≤ length bytes.old }
+    ensures { bytes.new ≡ replaced offset new.now bytes.old }
+{
+    bytes[offset..offset + new.len()].copy_from_slice(new);
+}
+
+/// One object. It is seen as its bytes, wherever they are, its place, and how many windows hold it.
+///
+/// Its parcel stays with it after it has come back, and the mark that it is clean says that the parcel still stands for
+/// its bytes: then it leaves again without being sent. An access that can write takes the mark away. Over a store that
+/// doesn't promise to return what was put the mark is never set (this project's choice).
 #[derive(Drop)]
-pub struct Body {
-    pub bytes: Vec<u8>,
+pub struct Body<F: FarStore> {
+    word: Word,
+    // wherever its bytes are
+    length: usize,
+    // none where it is out
+    bytes: Vec<u8>,
+    parcel: Option<F::Parcel>,
+    // the far store alone has its bytes
+    out: bool,
+    clean: bool,
 }
 
-/// How many bytes a number has.
-#[tactic(auto, using(crate::proofs::Standing::at_steps))]
-pub fn length_at(bodies: &[Body], number: usize) -> usize
-    ensures value { result ≡ length (bytes_of (map bytes_in bodies.now) number) }
-    ensures found { 0 < result → number < length bodies.now }
+impl<F: FarStore> Model for Body<F> {
+    ghost use Rattle.object_store.specs.Bodies.{Kept, IsKept, contents, place_by};
+
+    ghost Value = { Kept };
+
+    ghost view = { λ b. record { bytes = contents F.bytes_in b.out b.bytes.items b.parcel; place = place_by b.out b.word.place; scopes = b.word.count } };
+
+    ghost invariant = { λ b. IsKept F.bytes_in b.word b.length b.bytes.items b.parcel b.out b.clean };
+}
+
+/// Lets go of a parcel, if there is one.
+fn forget_kept<F: FarStore>(store: &mut F, parcel: &mut Option<F::Parcel>)
+    ensures gone { is_some parcel.new ≡ false }
+    ensures faults { F.faults_of store.old ≤ F.faults_of store.new }
 {
-    if number >= bodies.len() {
-        return 0;
+    if let Some(old) = parcel.take() {
+        store.forget(old);
     }
-    bodies[number].bytes.len()
 }
 
-/// Whether an access of an object ends within its bytes.
-pub fn reaches(bodies: &[Body], number: usize, op: &Op) -> bool
-    ensures inside { IsTrue result ↔ Reaches (map bytes_in bodies.now) number op.now }
-    ensures found { IsTrue result → number < length bodies.now }
-{
-    op.is_inside(length_at(bodies, number))
-}
-
-/// Does an access on the bytes of an object.
-#[tactic(auto, using(crate::proofs::Standing::at_steps))]
-pub fn act_at(bodies: &mut [Body], number: usize, op: &Op) -> u64
-    requires found { number < length bodies.old }
-    requires inside { Reaches (map bytes_in bodies.old) number op.now }
-    ensures answer { result ≡ answer op.now (bytes_of (map bytes_in bodies.old) number) }
-    ensures bytes { map bytes_in bodies.new ≡ with_bytes (map bytes_in bodies.old) number (after op.now (bytes_of (map bytes_in bodies.old) number)) }
-    ensures len { length bodies.new ≡ length bodies.old }
-{
-    act(bodies[number].bytes.as_mut_slice(), op)
-}
-
-/// Whether a range of an object ends within its bytes.
-pub fn has_range(bodies: &[Body], number: usize, offset: usize, count: usize) -> bool
-    ensures inside { IsTrue result ↔ HasRange (map bytes_in bodies.now) number offset count }
-    ensures found { IsTrue result → number < length bodies.now }
-{
-    let length = length_at(bodies, number);
-    length > 0 && offset <= length && count <= length - offset
-}
-
-/// A copy of a range.
-#[tactic(auto, using(crate::proofs::Standing::at_steps))]
-pub fn copy_range(
+/// Sends bytes to the far store, and lets go of an older parcel first.
+fn send<F: FarStore>(
     alloc: Global,
-    bodies: &[Body],
-    number: usize,
-    offset: usize,
+    store: &mut F,
+    parcel: &mut Option<F::Parcel>,
+    bytes: &mut Vec<u8>,
+) -> Result<(), StoreFault>
+    ensures sent { OnOk result ((is_some parcel.new ≡ true) × (sent F.bytes_in parcel.new ≡ bytes.old.items)) }
+    ensures back { OnErr result (bytes.new.items ≡ bytes.old.items) }
+    ensures faults { OnOk result (F.faults_of store.old ≤ F.faults_of store.new) }
+    ensures fault { OnErr result (HasRisen (F.faults_of store.old) (F.faults_of store.new)) }
+{
+    forget_kept(store, parcel);
+    match store.put(mem::replace(bytes, Vec::new(alloc))) {
+        Ok(new) => {
+            *parcel = Some(new);
+            Ok(())
+        }
+        Err((fault, back)) => {
+            *bytes = back;
+            Err(fault)
+        }
+    }
+}
+
+/// Fetches the bytes of a parcel, which are to be so many.
+fn fetch<F: FarStore>(
+    store: &mut F,
+    parcel: &F::Parcel,
     count: usize,
-) -> Result<Vec<u8>, AllocError>
-    requires found { number < length bodies.now }
-    requires inside { HasRange (map bytes_in bodies.now) number offset count }
-    ensures { IfOk result (λ v. v.items ≡ range_of (map bytes_in bodies.now) number offset count) }
+) -> Result<Vec<u8>, StoreFault>
+    requires count { length (F.bytes_in parcel.now) ≡ count }
+    ensures count { IfOk result (λ v. length v.items ≡ count) }
+    ensures bytes { IfOk result (λ v. F.RETURNS ≡ true → v.items ≡ F.bytes_in parcel.now) }
+    ensures calm { OnOk result (F.faults_of store.new ≡ F.faults_of store.old) }
+    ensures fault { OnErr result (FailsToReturn F.RETURNS (F.faults_of store.old) (F.faults_of store.new)) }
 {
-    Vec::from_slice(alloc, &bodies[number].bytes[offset..offset + count])
+    match store.get(parcel) {
+        Ok(bytes) => {
+            if bytes.len() == count {
+                Ok(bytes)
+            } else {
+                Err(StoreFault::Damaged)
+            }
+        }
+        Err(fault) => Err(fault),
+    }
 }
 
-/// Writes over a range.
-#[tactic(auto, using(crate::proofs::Standing::at_steps))]
-pub fn write_range(bodies: &mut [Body], number: usize, offset: usize, bytes: &[u8])
-    requires found { number < length bodies.old }
-    requires inside { HasRange (map bytes_in bodies.old) number offset (length bytes.now) }
-    ensures bytes { map bytes_in bodies.new ≡ with_range (map bytes_in bodies.old) number offset bytes.now }
-    ensures len { length bodies.new ≡ length bodies.old }
-{
-    overwrite(bodies[number].bytes.as_mut_slice(), offset, bytes);
-}
+impl<F: FarStore> Body<F> {
+    /// No object.
+    pub fn none(alloc: Global) -> Self
+        ensures { result ≡ record { bytes = []; place = place.Here; scopes = 0 } }
+    {
+        Body::with_bytes(Vec::new(alloc))
+    }
 
-/// Leaves an object without bytes.
-#[tactic(auto, using(crate::proofs::Standing::at_steps))]
-pub fn empty_at(bodies: &mut [Body], number: usize, alloc: Global)
-    requires found { number < length bodies.old }
-    ensures { map bytes_in bodies.new ≡ with_bytes (map bytes_in bodies.old) number [] }
-{
-    bodies[number].bytes = Vec::new(alloc);
+    /// An object of these bytes.
+    pub fn with_bytes(bytes: Vec<u8>) -> Self
+        ensures { result ≡ record { bytes = bytes.items; place = place.Here; scopes = 0 } }
+    {
+        Body {
+            word: Word::new(),
+            length: bytes.len(),
+            bytes,
+            parcel: None,
+            out: false,
+            clean: false,
+        }
+    }
+
+    /// How many bytes it has.
+    pub fn len(&self) -> usize
+        ensures { result ≡ length self.now.bytes }
+    {
+        self.length
+    }
+
+    /// Where it is.
+    pub fn place(&self) -> Place
+        ensures { result ≡ self.now.place }
+    {
+        match self.word.place() {
+            WordPlace::Local => Place::Here,
+            WordPlace::Far => Place::Far,
+            WordPlace::Moving => {
+                if self.out {
+                    Place::Returning
+                } else {
+                    Place::Leaving
+                }
+            }
+        }
+    }
+
+    /// How many windows hold it.
+    pub fn scopes(&self) -> u8
+        ensures { result ≡ self.now.scopes }
+    {
+        self.word.scopes()
+    }
+
+    /// Does an access.
+    pub fn act(&mut self, op: &Op) -> u64
+        requires here { self.old.place ≡ place.Here }
+        requires inside { IsInside op.now (length self.old.bytes) }
+        ensures answer { result ≡ answer op.now self.old.bytes }
+        ensures new { self.new ≡ record self.old { bytes = after op.now self.old.bytes } }
+    {
+        // A compare-exchange can write, whatever it finds.
+        self.clean = self.clean && matches!(&op.action, Action::Load { .. });
+        act(self.bytes.as_mut_slice(), op)
+    }
+
+    /// A copy of a range.
+    pub fn copy(&self, alloc: Global, offset: usize, count: usize) -> Result<Vec<u8>, AllocError>
+        requires here { self.now.place ≡ place.Here }
+        requires inside { offset + count ≤ length self.now.bytes }
+        ensures { IfOk result (λ v. v.items ≡ take count (drop offset self.now.bytes)) }
+    {
+        Vec::from_slice(alloc, &self.bytes[offset..offset + count])
+    }
+
+    /// Writes over a range.
+    pub fn write(&mut self, offset: usize, bytes: &[u8])
+        requires here { self.old.place ≡ place.Here }
+        requires inside { offset + length bytes.now ≤ length self.old.bytes }
+        ensures { self.new ≡ record self.old { bytes = replaced offset bytes.now self.old.bytes } }
+    {
+        self.clean = false;
+        overwrite(self.bytes.as_mut_slice(), offset, bytes);
+    }
+
+    /// One window more holds it.
+    pub fn open_scope(&mut self)
+        requires { self.old.scopes < 255 }
+        ensures { self.new ≡ record self.old { scopes = self.old.scopes + 1 } }
+    {
+        words::open_scope(&mut self.word);
+    }
+
+    /// One window fewer holds it.
+    pub fn close_scope(&mut self)
+        requires { 0 < self.old.scopes }
+        ensures { self.new ≡ record self.old { scopes = self.old.scopes - 1 } }
+    {
+        words::close_scope(&mut self.word);
+    }
+
+    /// It is no object any more.
+    pub fn free(&mut self, alloc: Global, store: &mut F)
+        requires here { self.old.place ≡ place.Here }
+        ensures new { self.new ≡ record self.old { bytes = [] } }
+        ensures faults { F.faults_of store.old ≤ F.faults_of store.new }
+    {
+        forget_kept(store, &mut self.parcel);
+        self.clean = false;
+        self.bytes = Vec::new(alloc);
+        self.length = 0;
+    }
+
+    /// It begins to leave.
+    pub fn begin_leave(&mut self)
+        requires here { self.old.place ≡ place.Here }
+        requires alone { self.old.scopes ≡ 0 }
+        ensures { self.new ≡ record self.old { place = place.Leaving } }
+    {
+        words::begin_leave(&mut self.word);
+    }
+
+    /// Its bytes go to the far store, unless its parcel stands for them.
+    pub fn end_leave(&mut self, alloc: Global, store: &mut F) -> Result<(), StoreFault>
+        requires leaving { self.old.place ≡ place.Leaving }
+        requires live { 0 < length self.old.bytes }
+        ensures done { OnOk result (self.new ≡ record self.old { place = place.Far }) }
+        ensures failed { OnErr result (self.new ≡ record self.old { place = place.Here }) }
+        ensures faults { OnOk result (F.faults_of store.old ≤ F.faults_of store.new) }
+        ensures fault { OnErr result (HasRisen (F.faults_of store.old) (F.faults_of store.new)) }
+    {
+        if self.clean {
+            self.bytes = Vec::new(alloc);
+        } else if let Err(fault) = send(alloc, store, &mut self.parcel, &mut self.bytes) {
+            words::end_return(&mut self.word);
+            return Err(fault);
+        }
+        self.out = true;
+        words::end_leave(&mut self.word);
+        Ok(())
+    }
+
+    /// It begins to return.
+    pub fn begin_return(&mut self)
+        requires far { self.old.place ≡ place.Far }
+        ensures { self.new ≡ record self.old { place = place.Returning } }
+    {
+        words::begin_return(&mut self.word);
+    }
+
+    /// Its bytes come from the far store, and its parcel is kept.
+    pub fn end_return(&mut self, store: &mut F) -> Result<(), StoreFault>
+        requires returning { self.old.place ≡ place.Returning }
+        requires live { 0 < length self.old.bytes }
+        ensures done { OnOk result (ReturnsTo F.RETURNS self.old self.new) }
+        ensures failed { OnErr result (self.new ≡ record self.old { place = place.Far }) }
+        ensures calm { OnOk result (F.faults_of store.new ≡ F.faults_of store.old) }
+        ensures fault { OnErr result (FailsToReturn F.RETURNS (F.faults_of store.old) (F.faults_of store.new)) }
+    {
+        let fetched = match &self.parcel {
+            Some(parcel) => fetch(store, parcel, self.length),
+            None => unreachable!(),
+        };
+        match fetched {
+            Ok(bytes) => {
+                self.bytes = bytes;
+                self.out = false;
+                self.clean = F::RETURNS;
+                words::end_return(&mut self.word);
+                Ok(())
+            }
+            Err(fault) => {
+                words::end_leave(&mut self.word);
+                Err(fault)
+            }
+        }
+    }
 }

@@ -8,6 +8,9 @@ pub enum MakeError {
     /// As many objects were made as there may be ([`OBJECT_LIMIT`](crate::OBJECT_LIMIT)).
     #[error("no more objects can be made")]
     Full,
+    /// With the object the budget would be exceeded.
+    #[error("the budget has no room for the object")]
+    NoRoom,
     /// An allocation failed.
     #[error("out of memory")]
     Memory,
@@ -19,6 +22,9 @@ pub enum GetError {
     /// There is no such object, or the range does not end within its bytes.
     #[error("outside the object")]
     Outside,
+    /// The object isn't here.
+    #[error("the object isn't here")]
+    Away,
     /// An allocation failed.
     #[error("out of memory")]
     Memory,
@@ -30,4 +36,7 @@ pub enum PutError {
     /// There is no such object, or the range does not end within its bytes.
     #[error("outside the object")]
     Outside,
+    /// The object isn't here.
+    #[error("the object isn't here")]
+    Away,
 }

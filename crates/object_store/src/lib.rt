@@ -1,24 +1,19 @@
-//! Objects: rows of bytes with a number, and the accesses of machines to them.
+//! Objects that move: a store of objects whose bytes can be taken to a far store and brought back while machines run.
 //!
-//! An access is data ([`Op`]), and what it answers and which bytes stand after it are functions of the bytes before
-//! (`specs/Access`). A machine sees memory by the trait [`Memory`] alone; [`ObjectStore`] is one.
+//! Accesses and memory are those of `memory`; [`StoreMemory`], a store lent to a machine, is a `Memory`. A machine
+//! that reaches an object has it in scope, and it stays here until the scope closes (after AIFM's dereference scopes;
+//! windows, budget and moves are this project's choice).
 #![tactic(auto)]
 
-mod access;
 mod bodies;
-mod bytes;
 mod errors;
-mod laws;
-mod memory;
-mod object_store;
+mod moving;
+mod places;
+mod scoping;
+mod standing;
+mod stores;
+mod words;
 
-pub use access::{Action, Op, Reach};
-pub use bytes::act;
 pub use errors::{GetError, MakeError, PutError};
-pub use laws::{
-    accesses_commute, accesses_one_way, failed_exchanges_change_nothing, lengths_stay,
-    loads_what_was_stored, other_bytes_stay, other_objects_stay, unwritten_stays,
-    writes_are_inside,
-};
-pub use memory::Memory;
-pub use object_store::{OBJECT_BYTES, OBJECT_LIMIT, ObjectStore};
+pub use places::{Moved, Place};
+pub use stores::{MACHINE_LIMIT, ObjectStore, StoreMemory};

@@ -1,7 +1,9 @@
-//! Tests of objects and their accesses through public calls. Expected bytes are worked out by hand.
+//! Tests of objects that move, through public calls. Expected answers are worked out by hand.
 #![tactic(auto)]
 
 #[cfg(test)]
-mod accesses;
+mod moves;
 #[cfg(test)]
-mod objects;
+mod parcels;
+#[cfg(test)]
+mod stores;

@@ -1,7 +1,7 @@
 -- A step keeps the machine's code.
 use Rattle.std.proofs.Common.{◌≡◌, ℕ, Bool, true, false, List, [], ◌∷◌, Option, Some, None, refl, ap, ◌∙◌, inl, inr}
-use Rattle.object_store.specs.declared.access.Reach.TheVariants as reach
-use Rattle.object_store.specs.Memories.{Memories}
+use Rattle.memory.specs.declared.access.Reach.TheVariants as reach
+use Rattle.memory.specs.Memories.{Memories}
 use Rattle.helpers.specs.declared.helper.Helper.{Helper}
 use Rattle.helpers.specs.Helpers.{helper_of}
 use Rattle.isa_table.specs.declared.instr.Instr.{Instr}

@@ -1,6 +1,6 @@
 -- The numbers of objects.
 use Rattle.std.proofs.Common.{◌≡◌, ℕ, suc, List, [], ◌∷◌, ◌++◌, length, refl, ap, ◌∙◌, subst, arith, length-append, length-set}
-use Rattle.object_store.specs.Objects.{with_bytes}
+use Rattle.memory.specs.Objects.{with_bytes}
 use Rattle.machine.specs.MachineState.{MachineState}
 use Rattle.machine.specs.declared.state.Stepped.{Stepped}
 use Rattle.world.specs.declared.events.Reply.{Reply}

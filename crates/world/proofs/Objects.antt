@@ -3,8 +3,8 @@ use Rattle.std.proofs.Common.{inl, inr, ◌≡◌, ℕ, zero, suc, ◌+◌, ◌<
 use Rattle.std.specs.Prelude.{◌⊎◌}
 use Rattle.std.proofs.lemmas.List.{get_or-set_same, get_or-set_other}
 use Rattle.std.proofs.Math.Seq.{drop-append_seam, take-append_seam}
-use Rattle.object_store.specs.Access.{replaced}
-use Rattle.object_store.specs.Objects.{bytes_of, HasRange, range_of, with_range}
+use Rattle.memory.specs.Access.{replaced}
+use Rattle.memory.specs.Objects.{bytes_of, HasRange, range_of, with_range}
 use Rattle.world.specs.declared.events.Reply.{Reply}
 use Rattle.world.specs.declared.events.Reply.TheVariants.{Done, Bytes, NoMemory, Outside}
 use Rattle.world.specs.WorldState.{WorldState}

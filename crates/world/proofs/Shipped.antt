@@ -2,7 +2,7 @@
 use Rattle.std.proofs.Common.{◌≡◌, ℕ, zero, suc, ◌-◌, List, [], ◌∷◌, ◌++◌, map, Some, refl, sym, ap, subst, ◌∙◌, arith, append_assoc, append-nil}
 use Rattle.std.specs.Prelude.{slice_get, slice_set}
 use Rattle.std.proofs.lemmas.List.{map-append}
-use Rattle.object_store.specs.Objects.{map_memory}
+use Rattle.memory.specs.Objects.{map_memory}
 use Rattle.machine.specs.MachineState.{MachineState, start}
 use Rattle.machine.specs.declared.state.Stepped.{Stepped}
 use Rattle.world.specs.declared.events.Reply.{Reply}

@@ -2,12 +2,12 @@
 use Rattle.std.proofs.Common.{◌≡◌, ◌≢◌, ℕ, nat_eq, Bool, true, false, cond, List, length, get_or, Some, None, IsTrue, refl, ap, sym, ◌∙◌, subst, inl, inr, length-set, arith}
 use Rattle.std.proofs.lemmas.Bool.Decides.{nat_tests}
 use Rattle.isa_table.specs.declared.instr.Instr.{Instr}
-use Rattle.object_store.specs.declared.access.Op.{Op}
-use Rattle.object_store.specs.declared.access.Reach.{Reach}
-use Rattle.object_store.specs.declared.access.Reach.TheVariants as reach
-use Rattle.object_store.specs.Access.{Writes, writes}
-use Rattle.object_store.specs.Objects.{bytes_of, map_reaches, map_memory}
-use Rattle.object_store.proofs.Accesses.{bytes_stay, others, lengths}
+use Rattle.memory.specs.declared.access.Op.{Op}
+use Rattle.memory.specs.declared.access.Reach.{Reach}
+use Rattle.memory.specs.declared.access.Reach.TheVariants as reach
+use Rattle.memory.specs.Access.{Writes, writes}
+use Rattle.memory.specs.Objects.{bytes_of, map_reaches, map_memory}
+use Rattle.memory.proofs.Accesses.{bytes_stay, others, lengths}
 use Rattle.machine.specs.declared.state.Accessing.{Accessing}
 use Rattle.machine.specs.declared.state.Work.{Work}
 use Rattle.machine.specs.declared.state.Work.TheVariants.{Computes, Accesses, Measures}

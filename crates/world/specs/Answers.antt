@@ -5,7 +5,7 @@ use Rattle.asm_table.specs.Canonical.{line_text}
 use Rattle.loader.specs.ValidCode.{ValidCode, IsAt, IsRowAt}
 use Rattle.loader.specs.Refusals.{HasCodeSize, Refuses}
 use Rattle.loader.specs.declared.loading.Why.TheVariants as why
-use Rattle.object_store.specs.Objects.{IsLive, IsFull, HasRange, with_bytes, range_of, with_range, map_memory}
+use Rattle.memory.specs.Objects.{IsLive, IsFull, HasRange, with_bytes, range_of, with_range, map_memory}
 use Rattle.machine.specs.MachineState.{MachineState, start}
 use Rattle.machine.specs.TableStep.{TableStep}
 use Rattle.machine.specs.declared.state.Written.{Written}

@@ -1,7 +1,7 @@
 -- What the definitions say, in the agent's own words.
 use Rattle.std.specs.Prelude.{◌≡◌, ◌≢◌, ◌<◌, ◌≤◌, ℕ, zero, suc, ◌+◌, Bool, true, false, List, [], ◌∷◌, length, get_or, map, Some, ◌⊎◌}
 use Rattle.isa_table.specs.Table.{size_bytes}
-use Rattle.object_store.specs.Objects.{bytes_of}
+use Rattle.memory.specs.Objects.{bytes_of}
 use Rattle.machine.specs.MachineState.{MachineState}
 use Rattle.machine.specs.Laws.{Touches}
 use Rattle.machine.specs.declared.state.Stepped.{Stepped}

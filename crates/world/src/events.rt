@@ -1,12 +1,12 @@
 //! Commands and replies.
 
 ghost use Rattle.std.specs.Prelude.{◌≡◌, ◌≤◌, IfSome, IfNone};
-ghost use Rattle.object_store.specs.Objects.{object_bytes};
+ghost use Rattle.memory.specs.Objects.{object_bytes};
 
 use crate::shown::{Bytes, LineText, Shown, Values};
 use loader::LoadError;
 use machine::Stop;
-use object_store::OBJECT_BYTES;
+use memory::OBJECT_BYTES;
 use std::marker::Model;
 
 /// How many bytes an object is made of: at least one, and at most 65,536.
@@ -17,7 +17,7 @@ pub struct ObjectLength {
 
 impl Model for ObjectLength {
     ghost use Rattle.std.specs.Prelude.{ℕ, ◌≤◌};
-    ghost use Rattle.object_store.specs.Objects.{object_bytes};
+    ghost use Rattle.memory.specs.Objects.{object_bytes};
 
     ghost Value = { ℕ };
 

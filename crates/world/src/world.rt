@@ -1,6 +1,6 @@
 //! What the commands do.
 ghost use Rattle.std.specs.Prelude.{◌≡◌, ◌≢◌, ◌<◌, ◌^◌, ◌++◌, ◌+◌, ℕ, List, map, length, IfOk, IfSome, IfNone, OnOk, OnErr, Some, None};
-ghost use Rattle.object_store.specs.Objects.{map_memory};
+ghost use Rattle.memory.specs.Objects.{map_memory};
 ghost use Rattle.machine.specs.MachineState.{MachineState};
 ghost use Rattle.machine.specs.TableStep.{TableStep};
 ghost use Rattle.world.specs.declared.events.Reply.{Reply};
@@ -14,7 +14,7 @@ use crate::shown::{Bytes, LineText, Shown, Values};
 use disassembler::line;
 use loader::{Why, load};
 use machine::{Machine, Stepped};
-use object_store::{GetError, MakeError, ObjectStore, PutError};
+use memory::{GetError, MakeError, PlainStore, PutError};
 use std::alloc::{AllocError, Global};
 use std::marker::Model;
 
@@ -26,7 +26,7 @@ pub const MACHINE_LIMIT: usize = 48;
 pub struct World {
     alloc: Global,
     machines: Vec<Machine>,
-    objects: ObjectStore,
+    objects: PlainStore,
 }
 
 impl Model for World {
@@ -41,7 +41,7 @@ impl Model for World {
 }
 
 /// One step of a machine over the objects.
-fn step_over(machine: &mut Machine, objects: &mut ObjectStore) -> Stepped
+fn step_over(machine: &mut Machine, objects: &mut PlainStore) -> Stepped
     ensures { TableStep map_memory machine.old objects.old result machine.new objects.new }
 {
     machine.step(objects)
@@ -96,7 +96,7 @@ impl World {
         ensures { IfOk result (λ w. w ≡ world_start) }
     {
         let machines = Vec::with_capacity(alloc, MACHINE_LIMIT)?;
-        let objects = ObjectStore::new(alloc)?;
+        let objects = PlainStore::new(alloc)?;
         Ok(World {
             alloc,
             machines,

@@ -1,5 +1,5 @@
 use Rattle.std.proofs.Common.{arith, refl}
-use Rattle.object_store.specs.Objects.{map_memory}
+use Rattle.memory.specs.Objects.{map_memory}
 use Rattle.machine.specs.TableStep.{TableStep}
 use Rattle.machine.specs.declared.state.Stepped.TheVariants.{Ran}
 use Rattle.machine.proofs.Fuel.{ran_paid}

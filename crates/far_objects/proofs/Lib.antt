@@ -1,6 +1,0 @@
-pub mod Entries
-pub mod Objects_kept
-pub mod Wording
-pub mod Counting
-pub mod Keeping
-pub mod Returning

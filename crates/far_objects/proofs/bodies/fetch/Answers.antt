@@ -1,5 +1,0 @@
-use Rattle.far_objects.proofs.Returning.{fails}
-use Rattle.far_objects.proofs.bodies.fetch.Goals as goal
-
-pub returns-in-Err-clause-fault : goal.returns-in-Err-clause-fault
-returns-in-Err-clause-fault g c = fails g.F.FarStore.RETURNS (g.F.FarStore.faults_of c.args.store.now) (g.F.FarStore.faults_of c.get.new.self) c.in-Err.ensures.fault

@@ -1,5 +1,0 @@
-use Rattle.far_objects.proofs.Returning.{risen}
-use Rattle.far_objects.proofs.bodies.send.Goals as goal
-
-pub returns-in-Err-clause-fault : goal.returns-in-Err-clause-fault
-returns-in-Err-clause-fault g c = risen _ _ _ c.forget_kept.ensures.faults c.in-Err.ensures.fault

@@ -1,4 +1,0 @@
-pub mod Stores
-pub mod Bodies
-pub mod Standings
-pub mod Calls

@@ -1,9 +1,0 @@
-//! Tests of objects that move, through public calls. Expected answers are worked out by hand.
-#![tactic(auto)]
-
-#[cfg(test)]
-mod moves;
-#[cfg(test)]
-mod parcels;
-#[cfg(test)]
-mod stores;

@@ -1,0 +1,4 @@
+pub mod Replacing
+pub mod Standing
+pub mod Lengths
+pub mod Accesses

@@ -1,0 +1,33 @@
+//! Why a call of a store is refused. A refusal changes nothing.
+
+use thiserror::Error;
+
+/// Why no object is made.
+#[derive(Clone, Copy, Drop, Debug, PartialEq, Eq, Error)]
+pub enum MakeError {
+    /// As many objects were made as there may be ([`OBJECT_LIMIT`](crate::OBJECT_LIMIT)).
+    #[error("no more objects can be made")]
+    Full,
+    /// An allocation failed.
+    #[error("out of memory")]
+    Memory,
+}
+
+/// Why a range isn't read.
+#[derive(Clone, Copy, Drop, Debug, PartialEq, Eq, Error)]
+pub enum GetError {
+    /// There is no such object, or the range does not end within its bytes.
+    #[error("outside the object")]
+    Outside,
+    /// An allocation failed.
+    #[error("out of memory")]
+    Memory,
+}
+
+/// Why a range isn't written.
+#[derive(Clone, Copy, Drop, Debug, PartialEq, Eq, Error)]
+pub enum PutError {
+    /// There is no such object, or the range does not end within its bytes.
+    #[error("outside the object")]
+    Outside,
+}

@@ -1,0 +1,7 @@
+//! Tests of objects and their accesses through public calls. Expected bytes are worked out by hand.
+#![tactic(auto)]
+
+#[cfg(test)]
+mod accesses;
+#[cfg(test)]
+mod objects;

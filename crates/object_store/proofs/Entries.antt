@@ -1,0 +1,43 @@
+-- What is read of one object of a list, and what a change at one leaves.
+use Rattle.std.proofs.Common.{◌≡◌, ℕ, ◌<◌, ◌≤◌, List, [], length, map, set, get_or, sym, arith}
+use Rattle.std.proofs.lemmas.List.{get_or-map, map-set, length-map}
+use Rattle.std.proofs.Math.ListN.{get_or-eq_default}
+use Rattle.std.proofs.Math.Seq.{map-set_same}
+use Rattle.object_store.specs.declared.places.Place.TheVariants as place
+use Rattle.object_store.specs.Bodies.{Kept, bytes_in, place_in, scopes_in}
+
+pub bytes_at : (bodies : List Kept) (i : ℕ) (d : Kept) → i < length bodies → (get_or bodies i d).bytes ≡ get_or (map bytes_in bodies) i []
+bytes_at bodies i d h = sym (get_or-map bytes_in bodies i d [] h)
+
+pub no_bytes_at : (bodies : List Kept) (i : ℕ) → length bodies ≤ i → get_or (map bytes_in bodies) i [] ≡ []
+no_bytes_at bodies i h = get_or-eq_default (map bytes_in bodies) [] (let l = length-map bodies bytes_in in omega arith)
+
+pub place_at : (bodies : List Kept) (i : ℕ) (d : Kept) → i < length bodies → (get_or bodies i d).place ≡ get_or (map place_in bodies) i place.Here
+place_at bodies i d h = sym (get_or-map place_in bodies i d place.Here h)
+
+pub scopes_at : (bodies : List Kept) (i : ℕ) (d : Kept) → i < length bodies → (get_or bodies i d).scopes ≡ get_or (map scopes_in bodies) i 0
+scopes_at bodies i d h = sym (get_or-map scopes_in bodies i d 0 h)
+
+pub bytes_set : (bodies : List Kept) (i : ℕ) (b : Kept) → map bytes_in (set bodies i b) ≡ set (map bytes_in bodies) i b.bytes
+bytes_set bodies i b = map-set bytes_in bodies i b
+
+pub places_set : (bodies : List Kept) (i : ℕ) (b : Kept) → map place_in (set bodies i b) ≡ set (map place_in bodies) i b.place
+places_set bodies i b = map-set place_in bodies i b
+
+pub bytes_same : (bodies : List Kept) (i : ℕ) (b d : Kept) → b.bytes ≡ (get_or bodies i d).bytes → map bytes_in (set bodies i b) ≡ map bytes_in bodies
+bytes_same bodies i b d e = map-set_same bytes_in bodies i b d e
+
+pub places_same : (bodies : List Kept) (i : ℕ) (b d : Kept) → b.place ≡ (get_or bodies i d).place → map place_in (set bodies i b) ≡ map place_in bodies
+places_same bodies i b d e = map-set_same place_in bodies i b d e
+
+pub scopes_same : (bodies : List Kept) (i : ℕ) (b d : Kept) → b.scopes ≡ (get_or bodies i d).scopes → map scopes_in (set bodies i b) ≡ map scopes_in bodies
+scopes_same bodies i b d e = map-set_same scopes_in bodies i b d e
+
+-- an access
+pub ruleset at_steps = (bytes_at, no_bytes_at, place_at, scopes_at, bytes_set, places_same, scopes_same)
+
+-- a move
+pub ruleset move_steps = (bytes_at, place_at, scopes_at, places_set, bytes_same, scopes_same)
+
+-- freeing
+pub ruleset free_steps = (bytes_at, place_at, bytes_set, places_same, scopes_same)

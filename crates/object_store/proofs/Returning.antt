@@ -1,0 +1,27 @@
+-- What a far store gives back, and how it fails.
+use Rattle.std.proofs.Common.{◌≡◌, ℕ, ◌+◌, ◌<◌, ◌≤◌, Bool, true, false, List, [], length, map, set, get_or, sym, ap, ◌∙◌, arith}
+use Rattle.std.proofs.lemmas.Bool.Decides.{nat_tests}
+use Rattle.std.proofs.lemmas.List.{map-set, set-get_or, get_or-set_same, length-map}
+use Rattle.far_store.specs.Stores.{capped, Rises}
+use Rattle.memory.specs.Objects.{bytes_of}
+use Rattle.object_store.specs.Stores.{HasRisen}
+use Rattle.object_store.specs.Calls.{FailsToReturn}
+use Rattle.object_store.specs.Bodies.{Kept, ReturnsTo, BytesBack, bytes_in}
+
+pub capped_rises : (a b : ℕ) → a ≤ b → capped (a + 1) ≤ capped (b + 1)
+capped_rises a b h = grind (arith, nat_tests)
+
+pub risen : (a b c : ℕ) → a ≤ b → Rises b c → HasRisen a c
+risen a b c h r = rw r (capped_rises a b h)
+
+pub fails : (returns : Bool) (a b : ℕ) → Rises a b → FailsToReturn returns a b
+fails true a b r = risen a a b (omega arith) r
+fails false a b r = λ n. absurd (n (risen a a b (omega arith) r))
+
+-- of an object, and so of all
+pub back_in : (returns : Bool) (bodies : List Kept) (n : ℕ) (old new : Kept) → n < length bodies → old.bytes ≡ bytes_of (map bytes_in bodies) n
+    → ReturnsTo returns old new → BytesBack returns (map bytes_in bodies) n (map bytes_in (set bodies n new))
+back_in true bodies n old new h e r = map-set bytes_in bodies n new ∙ ap (set (map bytes_in bodies) n) (ap bytes_in r ∙ e) ∙ set-get_or (map bytes_in bodies) n []
+back_in false bodies n old new h e r =
+    let there : bytes_of (map bytes_in (set bodies n new)) n ≡ new.bytes = ap (λ (l : List (List ℕ)). get_or l n []) (map-set bytes_in bodies n new) ∙ get_or-set_same (map bytes_in bodies) n new.bytes [] (let l = length-map bodies bytes_in in omega arith) in
+    (ap (λ (l : List ℕ). length l) there ∙ (r.0 ∙ ap (λ (l : List ℕ). length l) e), map-set bytes_in bodies n new ∙ ap (set (map bytes_in bodies) n) (sym there))

@@ -1,0 +1,94 @@
+//! One object of a list, moved.
+ghost use Rattle.std.specs.Prelude.{◌≡◌, ◌<◌, ◌≤◌, ◌+◌, [], length, map, set, get_or, true, false, OnOk, OnErr};
+ghost use Rattle.memory.specs.Objects.{bytes_of, with_bytes};
+ghost use Rattle.object_store.specs.Stores.{place_of, HasRisen};
+ghost use Rattle.object_store.specs.Calls.{FailsToReturn};
+ghost use Rattle.object_store.specs.Bodies.{bytes_in, place_in, scopes_in, BytesBack};
+ghost use Rattle.object_store.specs.declared.places.Place.TheVariants as place;
+
+use crate::bodies::Body;
+use far_store::{FarStore, StoreFault};
+use std::alloc::Global;
+
+/// Leaves a number without bytes.
+#[tactic(auto, using(crate::proofs::Entries::free_steps))]
+pub fn free_at<F: FarStore>(alloc: Global, store: &mut F, bodies: &mut [Body<F>], number: usize)
+    requires found { number < length bodies.old }
+    requires here { place_of (map place_in bodies.old) number ≡ place.Here }
+    ensures bytes { map bytes_in bodies.new ≡ with_bytes (map bytes_in bodies.old) number [] }
+    ensures places { map place_in bodies.new ≡ map place_in bodies.old }
+    ensures counts { map scopes_in bodies.new ≡ map scopes_in bodies.old }
+    ensures faults { F.faults_of store.old ≤ F.faults_of store.new }
+{
+    bodies[number].free(alloc, store);
+}
+
+/// From here on its way.
+#[tactic(auto, using(crate::proofs::Entries::move_steps))]
+pub fn begin_leave_at<F: FarStore>(bodies: &mut [Body<F>], number: usize)
+    requires found { number < length bodies.old }
+    requires here { place_of (map place_in bodies.old) number ≡ place.Here }
+    requires alone { get_or (map scopes_in bodies.old) number 0 ≡ 0 }
+    ensures bytes { map bytes_in bodies.new ≡ map bytes_in bodies.old }
+    ensures places { map place_in bodies.new ≡ set (map place_in bodies.old) number place.Leaving }
+    ensures counts { map scopes_in bodies.new ≡ map scopes_in bodies.old }
+{
+    bodies[number].begin_leave();
+}
+
+/// From its way to the far store.
+#[tactic(auto, using(crate::proofs::Entries::move_steps))]
+pub fn end_leave_at<F: FarStore>(
+    alloc: Global,
+    store: &mut F,
+    bodies: &mut [Body<F>],
+    number: usize,
+) -> Result<(), StoreFault>
+    requires found { number < length bodies.old }
+    requires leaving { place_of (map place_in bodies.old) number ≡ place.Leaving }
+    requires live { 0 < length (bytes_of (map bytes_in bodies.old) number) }
+    ensures bytes { map bytes_in bodies.new ≡ map bytes_in bodies.old }
+    ensures far { OnOk result (map place_in bodies.new ≡ set (map place_in bodies.old) number place.Far) }
+    ensures here { OnErr result (map place_in bodies.new ≡ set (map place_in bodies.old) number place.Here) }
+    ensures counts { map scopes_in bodies.new ≡ map scopes_in bodies.old }
+    ensures faults { OnOk result (F.faults_of store.old ≤ F.faults_of store.new) }
+    ensures fault { OnErr result (HasRisen (F.faults_of store.old) (F.faults_of store.new)) }
+{
+    bodies[number].end_leave(alloc, store)
+}
+
+/// From the far store on its way.
+#[tactic(auto, using(crate::proofs::Entries::move_steps))]
+pub fn begin_return_at<F: FarStore>(bodies: &mut [Body<F>], number: usize)
+    requires found { number < length bodies.old }
+    requires far { place_of (map place_in bodies.old) number ≡ place.Far }
+    ensures bytes { map bytes_in bodies.new ≡ map bytes_in bodies.old }
+    ensures places { map place_in bodies.new ≡ set (map place_in bodies.old) number place.Returning }
+    ensures counts { map scopes_in bodies.new ≡ map scopes_in bodies.old }
+{
+    bodies[number].begin_return();
+}
+
+/// From its way to here.
+#[tactic(auto, using(crate::proofs::Entries::move_steps))]
+pub fn end_return_at<F: FarStore>(
+    store: &mut F,
+    bodies: &mut [Body<F>],
+    number: usize,
+) -> Result<(), StoreFault>
+    requires found { number < length bodies.old }
+    requires returning { place_of (map place_in bodies.old) number ≡ place.Returning }
+    requires live { 0 < length (bytes_of (map bytes_in bodies.old) number) }
+    ensures bytes { OnOk result (BytesBack F.RETURNS (map bytes_in bodies.old) number (map bytes_in bodies.new)) }
+    ensures here { OnOk result (map place_in bodies.new ≡ set (map place_in bodies.old) number place.Here) }
+    ensures same { OnErr result (map bytes_in bodies.new ≡ map bytes_in bodies.old) }
+    ensures far { OnErr result (map place_in bodies.new ≡ set (map place_in bodies.old) number place.Far) }
+    ensures counts { map scopes_in bodies.new ≡ map scopes_in bodies.old }
+    ensures calm { OnOk result (F.faults_of store.new ≡ F.faults_of store.old) }
+    ensures fault { OnErr result (FailsToReturn F.RETURNS (F.faults_of store.old) (F.faults_of store.new)) }
+{
+    match bodies[number].end_return(store) {
+        Ok(()) => Ok(()),
+        Err(fault) => Err(fault),
+    }
+}

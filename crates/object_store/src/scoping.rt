@@ -1,0 +1,74 @@
+//! Which objects the windows hold.
+ghost use Rattle.std.specs.Prelude.{◌≡◌, ◌<◌, ◌≤◌, ◌+◌, ◌-◌, [], length, map, set, get_or, IfSome};
+ghost use Rattle.scopes.specs.Windows.{noted};
+ghost use Rattle.object_store.specs.Stores.{window_of};
+ghost use Rattle.object_store.specs.Bodies.{CountsHold, lessened, bytes_in, place_in, scopes_in};
+
+use crate::bodies::Body;
+use far_store::FarStore;
+use scopes::Window;
+
+#[tactic(auto, using(crate::proofs::Counting::body_steps))]
+fn open_scope<F: FarStore>(bodies: &mut [Body<F>], number: usize)
+    requires object { number < length bodies.old }
+    requires fits { get_or (map scopes_in bodies.old) number 0 < 255 }
+    ensures counts { map scopes_in bodies.new ≡ set (map scopes_in bodies.old) number (get_or (map scopes_in bodies.old) number 0 + 1) }
+    ensures bytes { map bytes_in bodies.new ≡ map bytes_in bodies.old }
+    ensures places { map place_in bodies.new ≡ map place_in bodies.old }
+{
+    bodies[number].open_scope();
+}
+
+#[tactic(auto, using(crate::proofs::Counting::body_steps))]
+fn end_scope<F: FarStore>(bodies: &mut [Body<F>], number: usize)
+    requires held { 0 < get_or (map scopes_in bodies.old) number 0 }
+    ensures counts { map scopes_in bodies.new ≡ set (map scopes_in bodies.old) number (get_or (map scopes_in bodies.old) number 0 - 1) }
+    ensures bytes { map bytes_in bodies.new ≡ map bytes_in bodies.old }
+    ensures places { map place_in bodies.new ≡ map place_in bodies.old }
+{
+    bodies[number].close_scope();
+}
+
+fn end_pushed<F: FarStore>(bodies: &mut [Body<F>], out: Option<u32>)
+    requires held { IfSome out (λ n. 0 < get_or (map scopes_in bodies.old) n 0) }
+    ensures counts { map scopes_in bodies.new ≡ lessened out (map scopes_in bodies.old) }
+    ensures bytes { map bytes_in bodies.new ≡ map bytes_in bodies.old }
+    ensures places { map place_in bodies.new ≡ map place_in bodies.old }
+{
+    if let Some(number) = out {
+        end_scope(bodies, number as usize);
+    }
+}
+
+/// Notes a number in the window of a machine.
+pub fn note<F: FarStore>(bodies: &mut [Body<F>], windows: &mut [Window], who: usize, number: u32)
+    requires machine { (who < length windows.old) × (length windows.old ≤ 49) }
+    requires object { number < length bodies.old }
+    requires counts { CountsHold (map scopes_in bodies.old) windows.old }
+    ensures counts { CountsHold (map scopes_in bodies.new) windows.new }
+    ensures windows { windows.new ≡ set windows.old who (noted number (window_of windows.old who)) }
+    ensures bytes { map bytes_in bodies.new ≡ map bytes_in bodies.old }
+    ensures places { map place_in bodies.new ≡ map place_in bodies.old }
+{
+    let window = &mut windows[who];
+    if window.holds(number) {
+        return;
+    }
+    let out = window.note(number);
+    end_pushed(bodies, out);
+    open_scope(bodies, number as usize);
+}
+
+/// Closes all scopes of a machine.
+pub fn close<F: FarStore>(bodies: &mut [Body<F>], windows: &mut [Window], who: usize)
+    requires machine { who < length windows.old }
+    requires counts { CountsHold (map scopes_in bodies.old) windows.old }
+    ensures counts { CountsHold (map scopes_in bodies.new) windows.new }
+    ensures windows { windows.new ≡ set windows.old who [] }
+    ensures bytes { map bytes_in bodies.new ≡ map bytes_in bodies.old }
+    ensures places { map place_in bodies.new ≡ map place_in bodies.old }
+{
+    while let Some(number) = windows[who].pop() {
+        end_scope(bodies, number as usize);
+    }
+}

@@ -1,0 +1,139 @@
+//! One object of a list: whether an access can be done, and what is done to it.
+ghost use Rattle.std.specs.Prelude.{◌≡◌, ◌<◌, ◌≤◌, ◌+◌, [], length, map, set, get_or, None, IfSome, IsSome, IfOk};
+ghost use Rattle.memory.specs.Access.{answer, after};
+ghost use Rattle.memory.specs.Objects.{AreObjects, Reaches, HasRange, bytes_of, with_bytes, range_of, with_range};
+ghost use Rattle.object_store.specs.Stores.{place_of, near_bytes};
+ghost use Rattle.object_store.specs.Bodies.{bytes_in, place_in, scopes_in};
+ghost use Rattle.object_store.specs.Standings.{Stands, StandsRange};
+ghost use Rattle.object_store.specs.declared.places.Place.TheVariants as place;
+
+use crate::bodies::Body;
+use crate::places::Place;
+use far_store::FarStore;
+use memory::Op;
+use std::alloc::{AllocError, Global};
+
+/// What stands in the way of an access.
+#[derive(Clone, Copy, Drop, Debug, PartialEq, Eq)]
+pub enum Standing {
+    /// It isn't inside an object.
+    Outside,
+    /// The object isn't here.
+    Away,
+    /// Nothing.
+    Here,
+}
+
+/// How many bytes a number has, wherever they are.
+#[tactic(auto, using(crate::proofs::Entries::at_steps))]
+pub fn length_at<F: FarStore>(bodies: &[Body<F>], number: usize) -> usize
+    ensures value { result ≡ length (bytes_of (map bytes_in bodies.now) number) }
+    ensures found { 0 < result → number < length bodies.now }
+{
+    if number >= bodies.len() {
+        return 0;
+    }
+    bodies[number].len()
+}
+
+/// The place of an object, if there is one.
+#[tactic(auto, using(crate::proofs::Entries::at_steps))]
+pub fn place_at<F: FarStore>(bodies: &[Body<F>], number: usize) -> Option<Place>
+    ensures none { result ≡ None → length (bytes_of (map bytes_in bodies.now) number) ≡ 0 }
+    ensures some { IfSome result (λ p. (0 < length (bytes_of (map bytes_in bodies.now) number)) × (place_of (map place_in bodies.now) number ≡ p)) }
+    ensures found { IsSome result → number < length bodies.now }
+{
+    if length_at(bodies, number) == 0 {
+        return None;
+    }
+    Some(bodies[number].place())
+}
+
+/// Whether an access can be done.
+#[tactic(auto, using(crate::proofs::Entries::at_steps))]
+pub fn stand<F: FarStore>(bodies: &[Body<F>], number: usize, op: &Op) -> Standing
+    ensures stands { Stands (map bytes_in bodies.now) (map place_in bodies.now) number op.now result }
+    ensures found { result ≡ Standing.Here → number < length bodies.now }
+{
+    if !op.is_inside(length_at(bodies, number)) {
+        return Standing::Outside;
+    }
+    match bodies[number].place() {
+        Place::Here => Standing::Here,
+        _ => Standing::Away,
+    }
+}
+
+/// Whether a range can be read or written.
+#[tactic(auto, using(crate::proofs::Entries::at_steps))]
+pub fn stand_range<F: FarStore>(
+    bodies: &[Body<F>],
+    number: usize,
+    offset: usize,
+    count: usize,
+) -> Standing
+    ensures stands { StandsRange (map bytes_in bodies.now) (map place_in bodies.now) number offset count result }
+    ensures found { result ≡ Standing.Here → number < length bodies.now }
+{
+    let length = length_at(bodies, number);
+    if length == 0 || offset > length || count > length - offset {
+        return Standing::Outside;
+    }
+    match bodies[number].place() {
+        Place::Here => Standing::Here,
+        _ => Standing::Away,
+    }
+}
+
+/// Does an access on an object.
+#[tactic(auto, using(crate::proofs::Entries::at_steps))]
+pub fn act_at<F: FarStore>(bodies: &mut [Body<F>], number: usize, op: &Op) -> u64
+    requires found { number < length bodies.old }
+    requires here { place_of (map place_in bodies.old) number ≡ place.Here }
+    requires inside { Reaches (map bytes_in bodies.old) number op.now }
+    ensures answer { result ≡ answer op.now (bytes_of (map bytes_in bodies.old) number) }
+    ensures bytes { map bytes_in bodies.new ≡ with_bytes (map bytes_in bodies.old) number (after op.now (bytes_of (map bytes_in bodies.old) number)) }
+    ensures places { map place_in bodies.new ≡ map place_in bodies.old }
+    ensures counts { map scopes_in bodies.new ≡ map scopes_in bodies.old }
+{
+    bodies[number].act(op)
+}
+
+/// A copy of a range.
+#[tactic(auto, using(crate::proofs::Entries::at_steps))]
+pub fn copy_range<F: FarStore>(
+    alloc: Global,
+    bodies: &[Body<F>],
+    number: usize,
+    offset: usize,
+    count: usize,
+) -> Result<Vec<u8>, AllocError>
+    requires found { number < length bodies.now }
+    requires here { place_of (map place_in bodies.now) number ≡ place.Here }
+    requires inside { HasRange (map bytes_in bodies.now) number offset count }
+    ensures { IfOk result (λ v. v.items ≡ range_of (map bytes_in bodies.now) number offset count) }
+{
+    bodies[number].copy(alloc, offset, count)
+}
+
+/// Writes over a range.
+#[tactic(auto, using(crate::proofs::Entries::at_steps))]
+pub fn write_range<F: FarStore>(bodies: &mut [Body<F>], number: usize, offset: usize, bytes: &[u8])
+    requires found { number < length bodies.old }
+    requires here { place_of (map place_in bodies.old) number ≡ place.Here }
+    requires inside { HasRange (map bytes_in bodies.old) number offset (length bytes.now) }
+    ensures bytes { map bytes_in bodies.new ≡ with_range (map bytes_in bodies.old) number offset bytes.now }
+    ensures places { map place_in bodies.new ≡ map place_in bodies.old }
+    ensures counts { map scopes_in bodies.new ≡ map scopes_in bodies.old }
+{
+    bodies[number].write(offset, bytes);
+}
+
+/// How many windows hold a number.
+#[tactic(auto, using(crate::proofs::Entries::at_steps))]
+pub fn scopes_at<F: FarStore>(bodies: &[Body<F>], number: usize) -> u8
+    requires { number < length bodies.now }
+    ensures { result ≡ get_or (map scopes_in bodies.now) number 0 }
+{
+    bodies[number].scopes()
+}

@@ -1,0 +1,294 @@
+//! The objects of an agent.
+ghost use Rattle.std.specs.Prelude.{◌≡◌, ◌≤◌, [], IfOk, length};
+ghost use Rattle.memory.specs.Objects.{AreObjects, bytes_of, object_bytes};
+ghost use Rattle.object_store.specs.Stores.{StoreState, IsMachine, IsStore, Touches, store_start, with_window};
+ghost use Rattle.object_store.specs.Calls.{Makes, Frees, Gets, Puts, BeginsLeave, EndsLeave, BeginsReturn, EndsReturn};
+
+use crate::bodies::Body;
+use crate::errors::{GetError, MakeError, PutError};
+use crate::moving::{begin_leave_at, begin_return_at, end_leave_at, end_return_at, free_at};
+use crate::places::{Moved, Place};
+use crate::scoping::{close, note};
+use crate::standing::{
+    Standing, act_at, copy_range, length_at, place_at, scopes_at, stand, stand_range, write_range,
+};
+use far_store::FarStore;
+use memory::{Memory, OBJECT_BYTES, OBJECT_LIMIT, Op, Reach};
+use scopes::Window;
+use std::alloc::{AllocError, Global};
+use std::marker::Model;
+
+/// The greatest number of a machine, which has a window (this project's choice).
+pub const MACHINE_LIMIT: usize = 48;
+
+/// Objects by number, from 1 on, a window for each machine, and the far store to which objects are moved. It is seen as
+/// the lists of the objects' bytes, of their places and of the windows; a number without bytes is no object, and number 0
+/// never is one.
+#[derive(Drop)]
+pub struct ObjectStore<F: FarStore> {
+    alloc: Global,
+    bodies: Vec<Body<F>>,
+    // by the number of the machine
+    windows: Vec<Window>,
+    budget: u32,
+    // what the objects that aren't far leave of it
+    spare: u32,
+    store: F,
+}
+
+impl<F: FarStore> Model for ObjectStore<F> {
+    ghost use Rattle.std.specs.Prelude.{map, ◌≤◌, vec_capacity};
+    ghost use Rattle.object_store.specs.Stores.{StoreState};
+    ghost use Rattle.object_store.specs.Bodies.{IsKeptStore, bytes_in, place_in};
+
+    ghost Value = { StoreState };
+
+    ghost view = { λ s. record { objects = map bytes_in s.bodies.items; places = map place_in s.bodies.items; windows = s.windows.items; budget = s.budget; faults = F.faults_of s.store } };
+
+    ghost invariant = { λ s. IsKeptStore s.bodies.items s.windows.items s.budget s.spare × (1025 ≤ vec_capacity s.bodies) };
+}
+
+impl<F: FarStore + Drop> ObjectStore<F> {
+    /// A store without objects, over a far store. It takes the memory for all that can be made, their bytes apart. At most
+    /// `budget` bytes of objects are here at a time.
+    pub fn new(alloc: Global, budget: u32, store: F) -> Result<Self, AllocError>
+        ensures { IfOk result (λ s. s ≡ store_start budget (F.faults_of store)) }
+    {
+        let mut bodies = Vec::with_capacity(alloc, OBJECT_LIMIT + 1)?;
+        bodies.push_reserved(Body::none(alloc));
+        let mut windows = Vec::with_capacity(alloc, MACHINE_LIMIT + 1)?;
+        for _ in 0..MACHINE_LIMIT + 1 {
+            windows.push_reserved(Window::new());
+        }
+        Ok(ObjectStore {
+            alloc,
+            bodies,
+            windows,
+            budget,
+            spare: budget,
+            store,
+        })
+    }
+}
+
+impl<F: FarStore> ObjectStore<F> {
+    /// Makes an object of so many zeros, and gives its number.
+    pub fn make(&mut self, length: u32) -> Result<u32, MakeError>
+        requires { (1 ≤ length) × (length ≤ object_bytes) }
+        ensures { Makes self.old length result self.new }
+    {
+        let number = self.bodies.len();
+        if number > OBJECT_LIMIT {
+            return Err(MakeError::Full);
+        }
+        if length > self.spare {
+            return Err(MakeError::NoRoom);
+        }
+        match vec![in self.alloc; 0u8; length as usize] {
+            Ok(bytes) => {
+                self.bodies.push_reserved(Body::with_bytes(bytes));
+                self.spare -= length;
+                Ok(number as u32)
+            }
+            Err(_) => Err(MakeError::Memory),
+        }
+    }
+
+    /// Frees an object that is here and in no scope. Its number is not used again.
+    pub fn free(&mut self, number: u32) -> Moved
+        ensures { Frees self.old number result self.new }
+    {
+        let index = number as usize;
+        match place_at(self.bodies.as_slice(), index) {
+            None => Moved::NoObject,
+            Some(Place::Here) => {
+                let bodies = self.bodies.as_slice();
+                if scopes_at(bodies, index) > 0 {
+                    return Moved::Scoped;
+                }
+                let freed = length_at(bodies, index) as u32;
+                let bodies = self.bodies.as_mut_slice();
+                free_at(self.alloc, &mut self.store, bodies, index);
+                self.spare += freed;
+                Moved::Done
+            }
+            Some(place) => Moved::Misplaced(place),
+        }
+    }
+
+    /// How many bytes an object has, wherever it is; 0 where there is none of this number.
+    pub fn length(&self, number: u64) -> usize
+        ensures length { result ≡ length (bytes_of self.now.objects number) }
+        ensures store { IsStore self.now }
+    {
+        length_at(self.bodies.as_slice(), number as usize)
+    }
+
+    /// Reads a range of an object.
+    pub fn get(&self, number: u32, offset: u32, length: u32) -> Result<Vec<u8>, GetError>
+        ensures { Gets self.now number offset length result }
+    {
+        let bodies = self.bodies.as_slice();
+        let (index, offset, count) = (number as usize, offset as usize, length as usize);
+        match stand_range(bodies, index, offset, count) {
+            Standing::Outside => Err(GetError::Outside),
+            Standing::Away => Err(GetError::Away),
+            Standing::Here => match copy_range(self.alloc, bodies, index, offset, count) {
+                Ok(bytes) => Ok(bytes),
+                Err(_) => Err(GetError::Memory),
+            },
+        }
+    }
+
+    /// Writes bytes over a range of an object.
+    pub fn put(&mut self, number: u32, offset: u32, bytes: &[u8]) -> Result<(), PutError>
+        ensures { Puts self.old number offset bytes.now result self.new }
+    {
+        let (index, offset) = (number as usize, offset as usize);
+        match stand_range(self.bodies.as_slice(), index, offset, bytes.len()) {
+            Standing::Outside => Err(PutError::Outside),
+            Standing::Away => Err(PutError::Away),
+            Standing::Here => {
+                write_range(self.bodies.as_mut_slice(), index, offset, bytes);
+                Ok(())
+            }
+        }
+    }
+
+    /// Does one access of an object by a machine, which then has it in scope. Takes no memory.
+    pub fn touch(&mut self, who: usize, number: u32, op: &Op) -> Reach
+        requires { IsMachine who }
+        ensures { Touches who self.old number op.now result self.new }
+    {
+        let index = number as usize;
+        match stand(self.bodies.as_slice(), index, op) {
+            Standing::Outside => Reach::Outside,
+            Standing::Away => Reach::Away,
+            Standing::Here => {
+                let answer = act_at(self.bodies.as_mut_slice(), index, op);
+                let bodies = self.bodies.as_mut_slice();
+                note(bodies, self.windows.as_mut_slice(), who, number);
+                Reach::Done(answer)
+            }
+        }
+    }
+
+    /// Closes all scopes of a machine.
+    pub fn close_scopes(&mut self, who: usize)
+        requires { IsMachine who }
+        ensures { self.new ≡ with_window self.old who [] }
+    {
+        close(self.bodies.as_mut_slice(), self.windows.as_mut_slice(), who);
+    }
+
+    /// An object that is here and in no scope begins to leave.
+    pub fn leave(&mut self, number: u32) -> Moved
+        ensures { BeginsLeave self.old number result self.new }
+    {
+        let index = number as usize;
+        match place_at(self.bodies.as_slice(), index) {
+            None => Moved::NoObject,
+            Some(Place::Here) => {
+                if scopes_at(self.bodies.as_slice(), index) > 0 {
+                    return Moved::Scoped;
+                }
+                begin_leave_at(self.bodies.as_mut_slice(), index);
+                Moved::Done
+            }
+            Some(place) => Moved::Misplaced(place),
+        }
+    }
+
+    /// An object that leaves is put in the far store. Where that fails it is here again.
+    pub fn left(&mut self, number: u32) -> Moved
+        ensures { EndsLeave self.old number result self.new }
+    {
+        let index = number as usize;
+        match place_at(self.bodies.as_slice(), index) {
+            None => Moved::NoObject,
+            Some(Place::Leaving) => {
+                let gained = length_at(self.bodies.as_slice(), index) as u32;
+                let bodies = self.bodies.as_mut_slice();
+                match end_leave_at(self.alloc, &mut self.store, bodies, index) {
+                    Ok(()) => {
+                        self.spare += gained;
+                        Moved::Done
+                    }
+                    Err(fault) => Moved::Fault(fault),
+                }
+            }
+            Some(place) => Moved::Misplaced(place),
+        }
+    }
+
+    /// An object that is far begins to return, where the budget has room for it.
+    pub fn return_(&mut self, number: u32) -> Moved
+        ensures { BeginsReturn self.old number result self.new }
+    {
+        let index = number as usize;
+        match place_at(self.bodies.as_slice(), index) {
+            None => Moved::NoObject,
+            Some(Place::Far) => {
+                let needed = length_at(self.bodies.as_slice(), index) as u32;
+                if needed > self.spare {
+                    return Moved::NoRoom;
+                }
+                begin_return_at(self.bodies.as_mut_slice(), index);
+                self.spare -= needed;
+                Moved::Done
+            }
+            Some(place) => Moved::Misplaced(place),
+        }
+    }
+
+    /// An object that returns is got from the far store. Where that fails it is far again.
+    pub fn returned(&mut self, number: u32) -> Moved
+        ensures { EndsReturn F.RETURNS self.old number result self.new }
+    {
+        let index = number as usize;
+        match place_at(self.bodies.as_slice(), index) {
+            None => Moved::NoObject,
+            Some(Place::Returning) => {
+                let length = length_at(self.bodies.as_slice(), index) as u32;
+                let bodies = self.bodies.as_mut_slice();
+                match end_return_at(&mut self.store, bodies, index) {
+                    Ok(()) => Moved::Done,
+                    Err(fault) => {
+                        self.spare += length;
+                        Moved::Fault(fault)
+                    }
+                }
+            }
+            Some(place) => Moved::Misplaced(place),
+        }
+    }
+}
+
+/// A store as the memory of a machine.
+#[derive(Drop)]
+pub struct StoreMemory<'a, F: FarStore> {
+    pub store: &'a mut ObjectStore<F>,
+    pub who: usize,
+}
+
+impl<'a, F: FarStore> Memory for StoreMemory<'a, F> {
+    ghost use Rattle.object_store.specs.Stores.{IsMachine, lent_memory, store_promises};
+
+    ghost is_ready = { λ m. IsMachine m.who };
+
+    ghost acts = { lent_memory (λ m. m.store.now) (λ m. m.store.ghost_name) (λ m. m.who) };
+
+    ghost promises = { λ old new n op r h. store_promises old.who old.store.now new.store.now n op r h.0 };
+
+    fn length(&self, number: u64) -> usize {
+        self.store.length(number)
+    }
+
+    fn touch(&mut self, number: u32, op: &Op) -> Reach {
+        self.store.touch(self.who, number, op)
+    }
+
+    fn close_scopes(&mut self) {
+        self.store.close_scopes(self.who);
+    }
+}
