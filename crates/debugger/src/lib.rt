@@ -19,5 +19,5 @@ pub use laws::{
     set_watches_are_set, stops_end_pauses, waiting_changes_nothing,
 };
 pub use show::{show_bytes, show_line, show_out, show_regs};
-pub use shown::{Bytes, Shown, State, Values};
+pub use shown::{Bytes, LineText, Shown, State, Values};
 pub use watch::Watch;

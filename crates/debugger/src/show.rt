@@ -5,7 +5,7 @@ ghost use Rattle.debugger.specs.Showing.{state_of, shown_of, ShowsBytes, IsLineA
 
 use crate::debugger::Debugger;
 use crate::errors::ShowBytesError;
-use crate::shown::{Bytes, Shown, State, Values};
+use crate::shown::{Bytes, LineText, Shown, State, Values};
 use disassembler::line;
 use loader::Program;
 use machine::{Machine, Stop};
@@ -73,7 +73,11 @@ fn show_range(
 }
 
 /// The canonical spelling, without a line end, of the instruction that begins at a slot, if one does.
-pub fn show_line(alloc: Global, program: &Program, slot: usize) -> Result<Option<Bytes>, AllocError>
+pub fn show_line(
+    alloc: Global,
+    program: &Program,
+    slot: usize,
+) -> Result<Option<LineText>, AllocError>
     ensures line { IfOk result (λ shown. IfSome shown (λ text. IsLineAt program.now slot text)) }
     ensures none { IfOk result (λ shown. IfNone shown (IsAt program.now slot → ⊥)) }
     ensures err { OnErr result (IsAt program.now slot) }
@@ -83,5 +87,5 @@ pub fn show_line(alloc: Global, program: &Program, slot: usize) -> Result<Option
     };
     let mut text = Vec::new(alloc);
     line(&instr, &mut text)?;
-    Ok(Some(Bytes::new(text)))
+    Ok(Some(LineText::new(text)))
 }

@@ -32,7 +32,7 @@ pub struct Shown {
     pub registers: [u64; 11],
 }
 
-/// Bytes, or the bytes of a text.
+/// Bytes of a stack or of an object.
 #[derive(Drop, Debug)]
 pub struct Bytes {
     bytes: Vec<u8>,
@@ -73,6 +73,54 @@ impl PartialEq for Bytes {
 }
 
 impl Eq for Bytes {
+    ghost laws = { Prim.search (comparing, rules) };
+}
+
+/// An instruction as assembly: at most 256 bytes.
+#[derive(Drop, Debug)]
+pub struct LineText {
+    text: Vec<u8>,
+}
+
+impl Model for LineText {
+    ghost use Rattle.std.specs.Prelude.{ℕ, List, ◌≤◌, length};
+
+    ghost Value = { List ℕ };
+
+    ghost view = { λ t. t.text.items };
+
+    ghost invariant = { λ t. length t.text.items ≤ 256 };
+}
+
+impl LineText {
+    /// This text.
+    pub fn new(text: Vec<u8>) -> Self
+        requires { length text.items ≤ 256 }
+        ensures { result ≡ text.items }
+    {
+        LineText { text }
+    }
+
+    /// The text, of at most 256 bytes.
+    pub fn as_slice(&self) -> &[u8]
+        ensures text { result.now ≡ self.now }
+        ensures short { length result.now ≤ 256 }
+    {
+        self.text.as_slice()
+    }
+}
+
+impl PartialEq for LineText {
+    ghost eq = { λ a b. bytes_eq a b };
+
+    ghost laws = { Prim.search (comparing, rules) };
+
+    fn eq(&self, other: &LineText) -> bool {
+        self.as_slice() == other.as_slice()
+    }
+}
+
+impl Eq for LineText {
     ghost laws = { Prim.search (comparing, rules) };
 }
 
