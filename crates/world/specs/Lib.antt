@@ -1,5 +1,12 @@
 pub mod Run
 pub mod Commands
 pub mod WorldState
+pub mod Steps
+pub mod Showing
+pub mod Debugging
 pub mod Answers
-pub mod Laws
+pub mod Places
+pub mod Kept
+pub mod Plain
+pub mod Undebugged
+pub mod Unseen

@@ -3,10 +3,11 @@
 ghost use Rattle.std.specs.Prelude.{◌≡◌, ◌≤◌, IfSome, IfNone};
 ghost use Rattle.memory.specs.Objects.{object_bytes};
 
-use crate::shown::{Bytes, LineText, Shown, Values};
+use debugger::{Bytes, LineText, Shown, Values};
 use loader::LoadError;
 use machine::Stop;
 use memory::OBJECT_BYTES;
+use object_store::Place;
 use std::marker::Model;
 
 /// How many bytes an object is made of: at least one, and at most 65,536.
@@ -81,8 +82,28 @@ pub enum Event {
         arguments: [u64; 5],
         code: Vec<u8>,
     },
-    /// One step of a machine.
+    /// An object that is here begins to leave.
+    Leave {
+        object: u32,
+    },
+    /// An object that is leaving is put in the far store.
+    Left {
+        object: u32,
+    },
+    /// An object that is far begins to return.
+    Return {
+        object: u32,
+    },
+    /// An object that is returning is got from the far store.
+    Returned {
+        object: u32,
+    },
+    /// One step of a machine, which may pause in its place.
     Step {
+        machine: usize,
+    },
+    /// One step of a machine, paused or not, after which it is paused.
+    One {
         machine: usize,
     },
     /// Shows a machine's registers.
@@ -104,6 +125,32 @@ pub enum Event {
         machine: usize,
         slot: u32,
     },
+    /// Sets a breakpoint at a slot of a machine's code.
+    Break {
+        machine: usize,
+        slot: u32,
+    },
+    /// Clears the breakpoint at a slot.
+    Unbreak {
+        machine: usize,
+        slot: u32,
+    },
+    /// Watches a machine's writes to so many bytes from an address on.
+    Watch {
+        machine: usize,
+        address: u64,
+        length: u32,
+    },
+    /// Watches a range no more.
+    Unwatch {
+        machine: usize,
+        address: u64,
+        length: u32,
+    },
+    /// Lets a paused machine go on.
+    Resume {
+        machine: usize,
+    },
 }
 
 /// What a command was answered.
@@ -115,6 +162,22 @@ pub enum Reply {
     },
     /// The object is no more.
     Freed {
+        object: u32,
+    },
+    /// The object begins to leave.
+    Leaving {
+        object: u32,
+    },
+    /// The object is far.
+    Left {
+        object: u32,
+    },
+    /// The object begins to return.
+    Returning {
+        object: u32,
+    },
+    /// The object is here again.
+    Home {
         object: u32,
     },
     /// It was done.
@@ -130,10 +193,20 @@ pub enum Reply {
         machine: usize,
         slot: usize,
     },
+    /// An instruction was done that wrote a byte of a watched range, and the machine is paused at the slot.
+    Hit {
+        machine: usize,
+        slot: usize,
+    },
     /// The machine's next instruction waits for an object that isn't here.
     Waiting {
         machine: usize,
         object: u32,
+    },
+    /// The machine is paused at the slot, and nothing was done.
+    Paused {
+        machine: usize,
+        slot: usize,
     },
     /// The machine is stopped.
     Stopped {
@@ -141,7 +214,10 @@ pub enum Reply {
         stop: Stop,
     },
     /// What a machine is.
-    Registers(Shown),
+    Registers {
+        machine: usize,
+        shown: Shown,
+    },
     /// What a machine has emitted.
     Emitted {
         machine: usize,
@@ -155,12 +231,36 @@ pub enum Reply {
     },
     /// Out of memory. Nothing is changed.
     NoMemory,
-    /// There are as many machines, or as many objects, as there can be.
+    /// There are as many machines, objects, breakpoints or watched ranges as there can be.
     Full,
+    /// The budget has no room for the object.
+    NoRoom,
     /// The bytes are not all within the object, or within the stack.
     Outside,
-    /// No instruction begins at the slot.
+    /// The object isn't here.
+    Away {
+        object: u32,
+    },
+    /// The object is in a place where this can't be done.
+    Misplaced {
+        object: u32,
+        place: Place,
+    },
+    /// A machine has the object in scope.
+    Scoped {
+        object: u32,
+    },
+    /// The far store failed, and the object is in the place where it was.
+    Faulted {
+        object: u32,
+        place: Place,
+    },
+    /// No instruction begins at the slot, or it has no breakpoint.
     NoSlot,
+    /// The range isn't watched.
+    NoWatch,
+    /// The machine isn't paused.
+    NotPaused,
     /// The code is not valid.
     Refused(LoadError),
     /// There is no such machine, or no such object.

@@ -1,0 +1,24 @@
+-- Where an object is, read off the replies.
+use Rattle.std.specs.Prelude.{ℕ, nat_eq, cond, List, [], ◌∷◌}
+use Rattle.object_store.specs.declared.places.Place.{Place}
+use Rattle.object_store.specs.declared.places.Place.TheVariants as place
+use Rattle.world.specs.declared.events.Reply.{Reply}
+use Rattle.world.specs.declared.events.Reply.TheVariants.{Made, Leaving, Left, Returning, Home, Faulted}
+
+-- where object n is after a reply, if it was at p
+abbrev pub placed : ℕ → Place → Reply → Place
+placed n p (Made k) = cond (nat_eq k n) place.Here p
+placed n p (Leaving k) = cond (nat_eq k n) place.Leaving p
+placed n p (Left k) = cond (nat_eq k n) place.Far p
+placed n p (Returning k) = cond (nat_eq k n) place.Returning p
+placed n p (Home k) = cond (nat_eq k n) place.Here p
+placed n p (Faulted k q) = cond (nat_eq k n) q p
+placed n p _ = p
+
+abbrev pub place_from : ℕ → Place → List Reply → Place
+place_from n p [] = p
+place_from n p (r ∷ rs) = place_from n (placed n p r) rs
+
+-- the last reply that tells it decides
+abbrev pub place_after : ℕ → List Reply → Place
+place_after n rs = place_from n place.Here rs

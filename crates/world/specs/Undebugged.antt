@@ -1,0 +1,60 @@
+-- An agent that nobody debugs: no breakpoint and no range is set, no machine is paused, and `one` is `step`.
+use Rattle.std.specs.Prelude.{Bool, true, false, not, ◌||◌, List, map}
+use Rattle.debugger.specs.DebugState.{debug_start}
+use Rattle.debugger.specs.declared.shown.State.{State}
+use Rattle.debugger.specs.declared.shown.State.TheVariants as state
+use Rattle.world.specs.declared.debuggee.Debuggee.{Debuggee}
+use Rattle.world.specs.declared.events.Reply.{Reply}
+use Rattle.world.specs.declared.events.Reply.TheVariants.{Ran, Hit, Paused, Registers}
+use Rattle.world.specs.Commands.{Command}
+use Rattle.world.specs.Commands.Command.{Step, One, Break, Unbreak, Watch, Unwatch, Resume}
+use Rattle.world.specs.WorldState.{WorldState}
+use Rattle.world.specs.Kept.{commands_kept, replies_kept}
+
+abbrev pub undebugged_machine : Debuggee → Debuggee
+undebugged_machine d = record d { debugger = debug_start }
+
+-- the state in which nobody debugs
+abbrev pub undebugged : WorldState → WorldState
+undebugged w = record w { machines = map undebugged_machine w.machines }
+
+-- ---- what is left out
+
+abbrev pub is_debugging : Command → Bool
+is_debugging (Break m slot) = true
+is_debugging (Unbreak m slot) = true
+is_debugging (Watch m address size) = true
+is_debugging (Unwatch m address size) = true
+is_debugging (Resume m) = true
+is_debugging _ = false
+
+-- the machine is paused, so nothing was done
+abbrev pub is_pause : Reply → Bool
+is_pause (Paused m slot) = true
+is_pause _ = false
+
+abbrev pub is_undebugged : Command → Reply → Bool
+is_undebugged c r = not (is_debugging c || is_pause r)
+
+-- ---- other words
+
+abbrev pub undebugged_command : Command → Command
+undebugged_command (One m) = Step m
+undebugged_command c = c
+
+abbrev pub unpaused : State → State
+unpaused state.Paused = state.Running
+unpaused s = s
+
+-- a hit is a step that ran, and no machine shows that it is paused
+abbrev pub undebugged_reply : Reply → Reply
+undebugged_reply (Hit m slot) = Ran m slot
+undebugged_reply (Registers m shown) = Registers m (record shown { state = unpaused shown.state })
+undebugged_reply r = r
+
+-- a run without the debugging commands, and without what was not done since a machine was paused
+abbrev pub undebugged_commands : List Command → List Reply → List Command
+undebugged_commands cs rs = map undebugged_command (commands_kept is_undebugged cs rs)
+
+abbrev pub undebugged_replies : List Command → List Reply → List Reply
+undebugged_replies cs rs = map undebugged_reply (replies_kept is_undebugged cs rs)
