@@ -1,6 +1,6 @@
 -- What the debugging commands do: they change the debug state of their machine and nothing else. Refusals change nothing,
 -- and are tested in the order written.
-use Rattle.std.specs.Prelude.{◌≡◌, ℕ, List, Option, Some, None, Result, Ok, Err}
+use Rattle.std.specs.Prelude.{◌≡◌, ℕ, List, Some, None, Ok, Err}
 use Rattle.machine.specs.MachineState.{MachineState}
 use Rattle.debugger.specs.DebugState.{DebugState, watch_at}
 use Rattle.debugger.specs.Changes.{SetsBreak, ClearsBreak, SetsWatch, ClearsWatch, Resumes}

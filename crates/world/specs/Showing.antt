@@ -1,5 +1,5 @@
 -- What is shown of a machine: its state, as it is. Refusals come in the order written.
-use Rattle.std.specs.Prelude.{◌≡◌, ℕ, List, Option, Some, None, Ok, Err}
+use Rattle.std.specs.Prelude.{◌≡◌, ℕ, List, Some, None, Ok, Err}
 use Rattle.loader.specs.ValidCode.{IsAt}
 use Rattle.debugger.specs.Showing.{shown_of, ShowsBytes, IsLineAt}
 use Rattle.debugger.specs.declared.errors.ShowBytesError.TheVariants as show_error

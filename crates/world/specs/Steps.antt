@@ -1,6 +1,6 @@
 -- A step of one machine, by `step` and by `one`, over any memory. The stop that is already there comes first, then pauses
 -- (by `step` alone), then fuel and the row.
-use Rattle.std.specs.Prelude.{◌≡◌, ℕ, Bool, true, false, ◌&&◌, is_none, cond, List, Option, Some, None}
+use Rattle.std.specs.Prelude.{◌≡◌, ℕ, Bool, true, false, ◌&&◌, is_none, cond, List, Some, None}
 use Rattle.memory.specs.Memories.{Memories}
 use Rattle.machine.specs.TableStep.{TableStep}
 use Rattle.machine.specs.MachineState.{MachineState}
