@@ -90,16 +90,16 @@ def show_no_memory(program):
 
 
 def conversations(text):
-    """The commands of a script with their replies, for each agent that it talks to."""
-    talks, command = [[]], None
+    """For each agent that a script talks to the arguments of `run`, and the commands with their replies."""
+    talks, command = [([], [])], None
     for line in text.splitlines():
-        if line == "---":
-            talks.append([])
+        if line.startswith("---"):
+            talks.append((line.split()[1:], []))
         elif line.startswith("> "):
-            talks[-1].append((command, line[2:]))
+            talks[-1][1].append((command, line[2:]))
         elif line and not line.startswith("#"):
             command = line
-    return [talk for talk in talks if talk]
+    return [(arguments, talk) for arguments, talk in talks if talk]
 
 
 def reply_of(process):
@@ -114,8 +114,8 @@ def reply_of(process):
     return line[:-1].decode()
 
 
-def talk_to(program, talk):
-    process = subprocess.Popen([program, "run"], stdin=subprocess.PIPE, stdout=subprocess.PIPE, stderr=subprocess.PIPE)
+def talk_to(program, arguments, talk):
+    process = subprocess.Popen([program, "run", *arguments], stdin=subprocess.PIPE, stdout=subprocess.PIPE, stderr=subprocess.PIPE)
     try:
         for command, reply in talk:
             process.stdin.write(command.encode() + b"\n")
@@ -133,8 +133,8 @@ def show_examples(program):
     count = 0
     for path in sorted((ROOT / "examples").glob("*.script")):
         text = path.read_text()
-        for talk in conversations(text):
-            talk_to(program, talk)
+        for arguments, talk in conversations(text):
+            talk_to(program, arguments, talk)
             count += len(talk)
     for path in sorted((ROOT / "examples").glob("*.code")):
         code = path.read_bytes()

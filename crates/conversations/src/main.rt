@@ -25,13 +25,24 @@ fn line_that_differs(alloc: Global, output: &str, wanted: &str) -> Result<Option
     }
 }
 
+/// `run`, and the arguments that a conversation gives it.
+fn words(alloc: Global, conversation: &Conversation) -> Result<Vec<&str>> {
+    let mut words = Vec::new(alloc);
+    words.push("run")?;
+    for word in conversation.arguments.as_str().split_whitespace() {
+        words.push(word)?;
+    }
+    Ok(words)
+}
+
 /// What the agent answered in place of the wanted replies, if it did, where it reads so many bytes
 /// at a time.
 fn difference(alloc: Global, conversation: &Conversation, size: usize) -> Result<Option<String>> {
+    let words = words(alloc, conversation)?;
     let mut reader = Pieces::new(conversation.commands.as_str().as_bytes(), size);
     let mut output = Vec::new(alloc);
     let mut errors = Vec::new(alloc);
-    let status = agent::tool(alloc, &["run"], &mut reader, &mut output, &mut errors);
+    let status = agent::tool(alloc, &words, &mut reader, &mut output, &mut errors);
     if status != 0 || !errors.is_empty() {
         return Ok(Some(format!(in alloc; "status {status}")?));
     }
