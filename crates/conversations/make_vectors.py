@@ -517,12 +517,18 @@ def add_random(script):
         script.run(body + tail, arguments, fuel=chooser.choice([5, 40]), shows=i % 3 == 0)
 
 
+def agent_of(line):
+    """A fresh agent, with the budget that a line such as `--- --budget 8` gives it."""
+    words = line.split()
+    return Agent(int(words[2])) if words[1:2] == ["--budget"] else Agent()
+
+
 def differences(path):
     """The replies of a script that the agent in Python doesn't give."""
     agent, found, command = Agent(), [], None
     for line in open(path, encoding="ascii").read().splitlines():
-        if line == "---":
-            agent = Agent()
+        if line.startswith("---"):
+            agent = agent_of(line)
         elif line.startswith("> "):
             reply = agent.reply(command)
             if reply != line[2:]:
