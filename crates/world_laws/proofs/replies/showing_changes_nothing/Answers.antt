@@ -1,0 +1,5 @@
+use Rattle.world_laws.proofs.Showing.{showing_keeps}
+use Rattle.world_laws.proofs.replies.showing_changes_nothing.Goals as goal
+
+pub returns : goal.returns
+returns c = showing_keeps
