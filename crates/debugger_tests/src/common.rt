@@ -1,9 +1,10 @@
 //! A debugged machine over a store of objects. A slot of code is written as its bytes, first to last.
 
 use debugger::{After, Before, Debugger};
+use far_store::OwnStore;
 use loader::load;
 use machine::{Machine, Stepped, Stop};
-use memory::PlainStore;
+use object_store::{ObjectStore, StoreMemory};
 use std::alloc::Global;
 use std::test::Fail;
 
@@ -33,7 +34,7 @@ pub enum Answer {
 pub struct Session {
     pub machine: Machine,
     pub debugger: Debugger,
-    pub store: PlainStore,
+    pub store: ObjectStore<OwnStore>,
 }
 
 /// A session over an object of eight bytes.
@@ -48,13 +49,22 @@ pub fn session_of(
         bytes.extend_from_slice(&slot.to_be_bytes())?;
     }
     let program = load(alloc, bytes.as_slice())?;
-    let mut store = PlainStore::new(alloc)?;
+    let mut store = ObjectStore::new(alloc, 64, OwnStore::new(alloc))?;
     let _ = store.make(8)?;
     Ok(Session {
         machine: Machine::new(program, 1, fuel, arguments),
         debugger: Debugger::new(),
         store,
     })
+}
+
+/// One step over the objects.
+fn step_over(session: &mut Session) -> Stepped {
+    let mut memory = StoreMemory {
+        store: &mut session.store,
+        who: 1,
+    };
+    session.machine.step(&mut memory)
 }
 
 /// `step`: a stop comes first, then a pause.
@@ -66,7 +76,7 @@ pub fn step(session: &mut Session) -> Answer {
     if session.debugger.before(slot) == Before::Pause {
         return Answer::Paused(slot);
     }
-    match session.machine.step(&mut session.store) {
+    match step_over(session) {
         Stepped::Ran(written) => {
             let after = session.debugger.after(written);
             answer_of(after, session.machine.slot())
@@ -81,7 +91,7 @@ pub fn step(session: &mut Session) -> Answer {
 
 /// `one`: without a look at pauses.
 pub fn one(session: &mut Session) -> Answer {
-    match session.machine.step(&mut session.store) {
+    match step_over(session) {
         Stepped::Ran(written) => {
             let after = session.debugger.after_one(written);
             answer_of(after, session.machine.slot())

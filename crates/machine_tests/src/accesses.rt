@@ -1,9 +1,9 @@
 //! Loads and stores, in objects and on the stack.
 
-use crate::common::{EXIT, OBJECT, STACK, first_step, machine_of, store_of};
+use crate::common::{EXIT, OBJECT, STACK, first_step, machine_of, objects, step, store_of};
 use isa_table::Size;
 use machine::{Stepped, Stop, Written};
-use memory::PlainStore;
+use object_store::Moved;
 use std::test::Fail;
 
 const OUTSIDE: Stepped = Stepped::Stopped(Stop::Outside);
@@ -16,7 +16,7 @@ fn an_access_over_the_last_byte_changes_nothing(rt: HostRuntime) -> Result<(), F
     let mut store = store_of(rt.alloc(), [1, 2, 3, 4, 5, 6, 7, 8])?;
     let mut machine = machine_of(rt.alloc(), 10, [OBJECT, 0, 0, 0, 0], &[LOAD_AT_1, EXIT])?;
     for _ in 0..2 {
-        assert_eq!(rt; machine.step(&mut store), OUTSIDE);
+        assert_eq!(rt; step(&mut machine, &mut store), OUTSIDE);
         assert_eq!(rt; (machine.slot(), machine.fuel()), (0, 10));
         assert_eq!(rt; machine.stop(), Some(Stop::Outside));
         assert_eq!(rt;
@@ -50,9 +50,9 @@ fn loads_of_each_size(rt: HostRuntime) -> Result<(), Fail> {
     for (load, value) in cases {
         let mut store = store_of(rt.alloc(), bytes)?;
         let mut machine = machine_of(rt.alloc(), 10, [OBJECT, 0, 0, 0, 0], &[load, EXIT])?;
-        assert_eq!(rt; machine.step(&mut store), Stepped::Ran(None));
+        assert_eq!(rt; step(&mut machine, &mut store), Stepped::Ran(None));
         assert_eq!(rt;
-            machine.step(&mut store),
+            step(&mut machine, &mut store),
             Stepped::Stopped(Stop::Exit(value))
         );
         assert_eq!(rt; store.get(1, 0, 8)?.as_slice(), bytes.as_slice());
@@ -71,7 +71,7 @@ fn loads_of_positive_numbers_with_sign(rt: HostRuntime) -> Result<(), Fail> {
     for (load, value) in cases {
         let mut store = store_of(rt.alloc(), [1, 2, 3, 4, 5, 6, 7, 8])?;
         let mut machine = machine_of(rt.alloc(), 10, [OBJECT, 0, 0, 0, 0], &[load, EXIT])?;
-        assert_eq!(rt; machine.step(&mut store), Stepped::Ran(None));
+        assert_eq!(rt; step(&mut machine, &mut store), Stepped::Ran(None));
         assert_eq!(rt; machine.registers()[0], value);
     }
     Ok(())
@@ -208,7 +208,8 @@ fn numbers_that_are_no_object(rt: HostRuntime) -> Result<(), Fail> {
         first_step(rt.alloc(), &mut store, OBJECT, 0, LOAD)?,
         Stepped::Ran(None)
     );
-    assert!(rt; store.free(1));
+    store.close_scopes(1);
+    assert_eq!(rt; store.free(1), Moved::Done);
     assert_eq!(rt;
         first_step(rt.alloc(), &mut store, OBJECT, 0, LOAD)?,
         OUTSIDE
@@ -220,7 +221,7 @@ fn numbers_that_are_no_object(rt: HostRuntime) -> Result<(), Fail> {
 fn the_stack_is_the_machine_s_own(rt: HostRuntime) -> Result<(), Fail> {
     // stw [r10-4], -1; ldxsw r0, [r10-4]; exit
     let slots = [0x620a_fcff_ffff_ffff, 0x81a0_fcff_0000_0000, EXIT];
-    let mut store = PlainStore::new(rt.alloc())?;
+    let mut store = objects(rt.alloc())?;
     let mut machine = machine_of(rt.alloc(), 10, [0; 5], &slots)?;
     assert_eq!(rt; machine.stack().len(), 4096);
     assert!(rt; machine.stack().iter().all(|&byte| byte == 0));
@@ -229,10 +230,10 @@ fn the_stack_is_the_machine_s_own(rt: HostRuntime) -> Result<(), Fail> {
         offset: 4092,
         size: Size::Word,
     };
-    assert_eq!(rt; machine.step(&mut store), Stepped::Ran(Some(written)));
-    assert_eq!(rt; machine.step(&mut store), Stepped::Ran(None));
+    assert_eq!(rt; step(&mut machine, &mut store), Stepped::Ran(Some(written)));
+    assert_eq!(rt; step(&mut machine, &mut store), Stepped::Ran(None));
     let end = Stepped::Stopped(Stop::Exit(0xffff_ffff_ffff_ffff));
-    assert_eq!(rt; machine.step(&mut store), end);
+    assert_eq!(rt; step(&mut machine, &mut store), end);
     assert_eq!(rt;
         &machine.stack()[4091..],
         [0, 0xff, 0xff, 0xff, 0xff].as_slice()
@@ -259,7 +260,7 @@ fn two_machines_reach_one_object(rt: HostRuntime) -> Result<(), Fail> {
         size: Size::Byte,
     };
     assert_eq!(rt; stored, Stepped::Ran(Some(written)));
-    assert_eq!(rt; reader.step(&mut store), Stepped::Ran(None));
+    assert_eq!(rt; step(&mut reader, &mut store), Stepped::Ran(None));
     assert_eq!(rt; reader.registers()[0], 5);
     Ok(())
 }

@@ -1,9 +1,8 @@
 //! Atomic operations, of both widths, in objects and on the stack.
 
-use crate::common::{EXIT, OBJECT, STACK, first_step, machine_of, store_of};
+use crate::common::{EXIT, OBJECT, STACK, first_step, machine_of, objects, step, store_of};
 use isa_table::Size;
 use machine::{Machine, Stepped, Stop, Written};
-use memory::PlainStore;
 use std::alloc::Global;
 use std::process::Abort;
 use std::test::Fail;
@@ -61,13 +60,13 @@ fn check(
 ) -> Result<(), Fail> {
     const SOURCE: u64 = 0xaaaa_aaaa_1234_5678;
     const OLD: u64 = 0x8000_0001_f000_000f;
-    let mut store = PlainStore::new(alloc)?;
+    let mut store = objects(alloc)?;
     let _ = store.make(16)?;
     let mut machine = machine_with(alloc, place, SOURCE, OLD, r0, slot)?;
     for _ in 0..2 {
-        let _ = machine.step(&mut store);
+        let _ = step(&mut machine, &mut store);
     }
-    let told = machine.step(&mut store);
+    let told = step(&mut machine, &mut store);
     let written = Written {
         number: (place >> 32) as u32,
         offset: 8,
@@ -83,7 +82,7 @@ fn check(
         Some(written)
     };
     assert_eq!(rt; told, Stepped::Ran(expected), "at {slot}");
-    assert_eq!(rt; machine.step(&mut store), Stepped::Ran(None));
+    assert_eq!(rt; step(&mut machine, &mut store), Stepped::Ran(None));
     assert_eq!(rt; machine.registers()[5], left.bytes, "at {slot}");
     assert_eq!(rt; machine.registers()[2], left.r2, "at {slot}");
     assert_eq!(rt; machine.registers()[0], left.r0, "at {slot}");
@@ -197,16 +196,16 @@ fn an_exchange_of_words(rt: HostRuntime) -> Result<(), Fail> {
     ];
     let mut store = store_of(rt.alloc(), [0x44, 0x33, 0x22, 0x11, 0, 0, 0, 0])?;
     let mut machine = machine_of(rt.alloc(), 10, [OBJECT, 0x5566_7788, 0, 0, 0], &slots)?;
-    assert_eq!(rt; machine.step(&mut store), Stepped::Ran(None));
+    assert_eq!(rt; step(&mut machine, &mut store), Stepped::Ran(None));
     assert_eq!(rt; machine.slot(), 2);
     let written = Written {
         number: 1,
         offset: 0,
         size: Size::Word,
     };
-    assert_eq!(rt; machine.step(&mut store), Stepped::Ran(Some(written)));
+    assert_eq!(rt; step(&mut machine, &mut store), Stepped::Ran(Some(written)));
     assert_eq!(rt;
-        machine.step(&mut store),
+        step(&mut machine, &mut store),
         Stepped::Stopped(Stop::Exit(0x1122_3344))
     );
     let bytes = [0x88, 0x77, 0x66, 0x55, 0, 0, 0, 0];
@@ -255,7 +254,7 @@ fn the_offset_of_the_address_is_aligned_not_that_of_the_instruction(
     const ADD: u64 = 0xdb21_0400_0000_0000;
     const ADD32: u64 = 0xc321_0400_0000_0000;
     const STORE: u64 = 0x7b21_0400_0000_0000;
-    let mut store = PlainStore::new(rt.alloc())?;
+    let mut store = objects(rt.alloc())?;
     let _ = store.make(16)?;
     assert_eq!(rt;
         first_step(rt.alloc(), &mut store, OBJECT, 1, ADD)?,

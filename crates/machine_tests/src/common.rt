@@ -1,8 +1,9 @@
 //! Programs and objects for the tests. A slot is written as its bytes, first to last.
 
+use far_store::OwnStore;
 use loader::load;
 use machine::{Machine, Stepped};
-use memory::PlainStore;
+use object_store::{ObjectStore, StoreMemory};
 use std::alloc::Global;
 use std::test::Fail;
 
@@ -29,9 +30,19 @@ pub fn machine_of(
     Ok(Machine::new(program, 1, fuel, arguments))
 }
 
+/// A store without objects.
+pub fn objects(alloc: Global) -> Result<ObjectStore<OwnStore>, Fail> {
+    Ok(ObjectStore::new(alloc, 0x0400_0000, OwnStore::new(alloc))?)
+}
+
+/// One step over the objects.
+pub fn step(machine: &mut Machine, store: &mut ObjectStore<OwnStore>) -> Stepped {
+    machine.step(&mut StoreMemory { store, who: 1 })
+}
+
 /// A store with one object of eight bytes.
-pub fn store_of(alloc: Global, bytes: [u8; 8]) -> Result<PlainStore, Fail> {
-    let mut store = PlainStore::new(alloc)?;
+pub fn store_of(alloc: Global, bytes: [u8; 8]) -> Result<ObjectStore<OwnStore>, Fail> {
+    let mut store = objects(alloc)?;
     let number = store.make(8)?;
     store.put(number, 0, &bytes)?;
     Ok(store)
@@ -40,11 +51,11 @@ pub fn store_of(alloc: Global, bytes: [u8; 8]) -> Result<PlainStore, Fail> {
 /// What the first step of a program answers, with R1 and R2 as given.
 pub fn first_step(
     alloc: Global,
-    store: &mut PlainStore,
+    store: &mut ObjectStore<OwnStore>,
     r1: u64,
     r2: u64,
     slot: u64,
 ) -> Result<Stepped, Fail> {
     let mut machine = machine_of(alloc, 10, [r1, r2, 0, 0, 0], &[slot, EXIT])?;
-    Ok(machine.step(store))
+    Ok(step(&mut machine, store))
 }

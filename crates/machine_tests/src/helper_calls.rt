@@ -1,9 +1,10 @@
 //! Calls of the four helpers.
 
-use crate::common::{EXIT, machine_of, store_of};
+use crate::common::{EXIT, machine_of, objects, step, store_of};
+use far_store::OwnStore;
 use helpers::Helper;
 use machine::{Machine, Stepped, Stop};
-use memory::PlainStore;
+use object_store::{Moved, ObjectStore};
 use std::alloc::Global;
 use std::process::Abort;
 use std::test::Fail;
@@ -18,13 +19,13 @@ fn machine_with(alloc: Global, r1: u64, call: u64) -> Result<Machine, Fail> {
 fn answer(
     rt: &impl Abort,
     alloc: Global,
-    store: &mut PlainStore,
+    store: &mut ObjectStore<OwnStore>,
     r1: u64,
     call: u64,
 ) -> Result<u64, Fail> {
     let mut machine = machine_with(alloc, r1, call)?;
     for count in 1..3 {
-        assert_eq!(rt; machine.step(store), Stepped::Ran(None));
+        assert_eq!(rt; step(&mut machine, store), Stepped::Ran(None));
         assert_eq!(rt;
             (machine.slot(), machine.fuel()),
             (count as usize, 10 - count)
@@ -45,7 +46,10 @@ fn answer(
     ];
     assert_eq!(rt; *machine.registers(), registers);
     let value = machine.registers()[0];
-    assert_eq!(rt; machine.step(store), Stepped::Stopped(Stop::Exit(value)));
+    assert_eq!(rt;
+        step(&mut machine, store),
+        Stepped::Stopped(Stop::Exit(value))
+    );
     Ok(value)
 }
 
@@ -91,7 +95,7 @@ fn lengths_of_objects(rt: HostRuntime) -> Result<(), Fail> {
             "of {number}"
         );
     }
-    assert!(rt; store.free(1));
+    assert_eq!(rt; store.free(1), Moved::Done);
     assert_eq!(rt; answer(&rt, rt.alloc(), &mut store, 1, LENGTH)?, 0);
     Ok(())
 }
@@ -118,17 +122,17 @@ fn values_are_emitted_while_there_is_room(rt: HostRuntime) -> Result<(), Fail> {
         0x0701_0000_0100_0000,
         0x0500_fdff_0000_0000,
     ];
-    let mut store = PlainStore::new(rt.alloc())?;
+    let mut store = objects(rt.alloc())?;
     let mut machine = machine_of(rt.alloc(), 1000, [100, 0, 0, 0, 0], &slots)?;
     assert!(rt; machine.emitted().is_empty());
     for count in 0..66_u64 {
-        assert_eq!(rt; machine.step(&mut store), Stepped::Ran(None));
+        assert_eq!(rt; step(&mut machine, &mut store), Stepped::Ran(None));
         let refused = if count < 64 { 0 } else { 1 };
         assert_eq!(rt; machine.registers()[0], refused, "after {count}");
         assert_eq!(rt; machine.registers()[1], 100 + count);
         assert_eq!(rt; machine.emitted().len() as u64, 64.min(count + 1));
         for _ in 0..2 {
-            assert_eq!(rt; machine.step(&mut store), Stepped::Ran(None));
+            assert_eq!(rt; step(&mut machine, &mut store), Stepped::Ran(None));
         }
     }
     assert_eq!(rt; machine.emitted().first().copied(), Some(100));

@@ -1,10 +1,9 @@
 //! Programs by hand, without objects.
 
-use crate::common::{EXIT, machine_of};
+use crate::common::{EXIT, machine_of, objects, step};
 use isa_table::Instr;
 use loader::load;
 use machine::{Frame, Machine, Stepped, Stop};
-use memory::PlainStore;
 use std::alloc::Global;
 use std::test::Fail;
 
@@ -14,26 +13,29 @@ const STACK_TOP: u64 = 0xffff_ffff_0000_1000;
 /// The stop of a program, and how many instructions it did, of a hundred at most.
 fn run(alloc: Global, first: u64, slots: &[u64]) -> Result<(Option<Stop>, u64), Fail> {
     let mut machine = machine_of(alloc, 100, [first, 0, 0, 0, 0], slots)?;
-    let mut store = PlainStore::new(alloc)?;
+    let mut store = objects(alloc)?;
     for _ in 0..101 {
-        let _ = machine.step(&mut store);
+        let _ = step(&mut machine, &mut store);
     }
     Ok((machine.stop(), 100 - machine.fuel().min(100)))
 }
 
 #[test]
 fn an_exit_is_answered_again(rt: HostRuntime) -> Result<(), Fail> {
-    let mut store = PlainStore::new(rt.alloc())?;
+    let mut store = objects(rt.alloc())?;
     let mut machine = machine_of(rt.alloc(), 10, [0; 5], &[0xb700_0000_0700_0000, EXIT])?;
     assert_eq!(rt; machine.number(), 1);
     assert_eq!(rt; machine.program().slots(), 2);
     assert_eq!(rt; machine.program().at(1), Some(Instr::Exit));
     assert_eq!(rt; machine.slot(), 0);
     assert_eq!(rt; machine.stop(), None);
-    assert_eq!(rt; machine.step(&mut store), Stepped::Ran(None));
+    assert_eq!(rt; step(&mut machine, &mut store), Stepped::Ran(None));
     assert_eq!(rt; (machine.slot(), machine.fuel()), (1, 9));
     for _ in 0..2 {
-        assert_eq!(rt; machine.step(&mut store), Stepped::Stopped(Stop::Exit(7)));
+        assert_eq!(rt;
+            step(&mut machine, &mut store),
+            Stepped::Stopped(Stop::Exit(7))
+        );
         assert_eq!(rt; (machine.slot(), machine.fuel()), (1, 8));
         assert_eq!(rt; machine.stop(), Some(Stop::Exit(7)));
     }
@@ -206,10 +208,10 @@ fn a_call_gives_its_registers_back(rt: HostRuntime) -> Result<(), Fail> {
         0xb705_0000_0500_0000,
         EXIT,
     ];
-    let mut store = PlainStore::new(rt.alloc())?;
+    let mut store = objects(rt.alloc())?;
     let mut machine = machine_of(rt.alloc(), 20, [3, 0, 0, 0, 0], &slots)?;
     for _ in 0..5 {
-        assert_eq!(rt; machine.step(&mut store), Stepped::Ran(None));
+        assert_eq!(rt; step(&mut machine, &mut store), Stepped::Ran(None));
     }
     let kept = Frame {
         slot: 2,
@@ -225,15 +227,18 @@ fn a_call_gives_its_registers_back(rt: HostRuntime) -> Result<(), Fail> {
         *machine.registers(),
         [0, 3, 0, 0, 0, 5, 34, 0, 0, lower, lower]
     );
-    assert_eq!(rt; machine.step(&mut store), Stepped::Ran(None));
+    assert_eq!(rt; step(&mut machine, &mut store), Stepped::Ran(None));
     assert_eq!(rt; (machine.slot(), machine.fuel()), (2, 14));
     assert!(rt; machine.frames().is_empty());
     assert_eq!(rt;
         *machine.registers(),
         [0, 3, 0, 0, 0, 5, 17, 0, 0, 0, STACK_TOP]
     );
-    assert_eq!(rt; machine.step(&mut store), Stepped::Ran(None));
-    assert_eq!(rt; machine.step(&mut store), Stepped::Stopped(Stop::Exit(17)));
+    assert_eq!(rt; step(&mut machine, &mut store), Stepped::Ran(None));
+    assert_eq!(rt;
+        step(&mut machine, &mut store),
+        Stepped::Stopped(Stop::Exit(17))
+    );
     assert_eq!(rt; machine.fuel(), 12);
     Ok(())
 }
@@ -241,14 +246,17 @@ fn a_call_gives_its_registers_back(rt: HostRuntime) -> Result<(), Fail> {
 #[test]
 fn the_ninth_call_stops(rt: HostRuntime) -> Result<(), Fail> {
     // call local -1
-    let mut store = PlainStore::new(rt.alloc())?;
+    let mut store = objects(rt.alloc())?;
     let mut machine = machine_of(rt.alloc(), 100, [0; 5], &[0x8510_0000_ffff_ffff, EXIT])?;
     for _ in 0..8 {
-        assert_eq!(rt; machine.step(&mut store), Stepped::Ran(None));
+        assert_eq!(rt; step(&mut machine, &mut store), Stepped::Ran(None));
         assert_eq!(rt; machine.slot(), 0);
     }
     for _ in 0..2 {
-        assert_eq!(rt; machine.step(&mut store), Stepped::Stopped(Stop::Depth));
+        assert_eq!(rt;
+            step(&mut machine, &mut store),
+            Stepped::Stopped(Stop::Depth)
+        );
         assert_eq!(rt; (machine.slot(), machine.fuel()), (0, 92));
         assert_eq!(rt; machine.registers()[10], 0xffff_ffff_0000_0000);
         assert_eq!(rt; machine.frames().len(), 8);
@@ -258,16 +266,22 @@ fn the_ninth_call_stops(rt: HostRuntime) -> Result<(), Fail> {
 
 #[test]
 fn fuel_runs_out(rt: HostRuntime) -> Result<(), Fail> {
-    let mut store = PlainStore::new(rt.alloc())?;
+    let mut store = objects(rt.alloc())?;
     let mut machine = machine_of(rt.alloc(), 0, [0; 5], &[EXIT])?;
-    assert_eq!(rt; machine.step(&mut store), Stepped::Stopped(Stop::Spent));
+    assert_eq!(rt;
+        step(&mut machine, &mut store),
+        Stepped::Stopped(Stop::Spent)
+    );
     // Before a call that would be the ninth, too: fuel comes first.
     let mut caller = machine_of(rt.alloc(), 8, [0; 5], &[0x8510_0000_ffff_ffff, EXIT])?;
     for _ in 0..8 {
-        assert_eq!(rt; caller.step(&mut store), Stepped::Ran(None));
+        assert_eq!(rt; step(&mut caller, &mut store), Stepped::Ran(None));
     }
     for _ in 0..2 {
-        assert_eq!(rt; caller.step(&mut store), Stepped::Stopped(Stop::Spent));
+        assert_eq!(rt;
+            step(&mut caller, &mut store),
+            Stepped::Stopped(Stop::Spent)
+        );
         assert_eq!(rt; (caller.slot(), caller.fuel()), (0, 0));
         assert_eq!(rt; caller.stop(), Some(Stop::Spent));
     }

@@ -1,4 +1,3 @@
 pub mod Replacing
-pub mod Standing
 pub mod Lengths
 pub mod Accesses

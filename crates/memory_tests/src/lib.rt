@@ -1,7 +1,5 @@
-//! Tests of objects and their accesses through public calls. Expected bytes are worked out by hand.
+//! Tests of accesses through public calls. Expected bytes are worked out by hand.
 #![tactic(auto)]
 
 #[cfg(test)]
 mod accesses;
-#[cfg(test)]
-mod objects;

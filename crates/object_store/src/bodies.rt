@@ -9,19 +9,11 @@ ghost use Rattle.object_store.specs.declared.places.Place.TheVariants as place;
 use crate::places::Place;
 use crate::words;
 use far_store::{FarStore, StoreFault};
-use memory::{Action, Op, act};
+use memory::{Action, Op, act, overwrite};
 use pointer_word::{Place as WordPlace, Word};
 use std::alloc::{AllocError, Global};
 use std::marker::Model;
 use std::mem;
-
-/// Writes bytes over those from an offset on.
-fn overwrite(bytes: &mut [u8], offset: usize, new: &[u8])
-    requires { offset + length new.now ≤ length bytes.old }
-    ensures { bytes.new ≡ replaced offset new.now bytes.old }
-{
-    bytes[offset..offset + new.len()].copy_from_slice(new);
-}
 
 /// One object. It is seen as its bytes, wherever they are, its place, and how many windows hold it.
 ///

@@ -4,6 +4,8 @@
 #[cfg(test)]
 mod moves;
 #[cfg(test)]
+mod objects;
+#[cfg(test)]
 mod parcels;
 #[cfg(test)]
 mod stores;
