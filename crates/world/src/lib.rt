@@ -3,7 +3,9 @@
 
 mod debuggee;
 mod events;
+mod laws;
 
 pub use debuggee::Debuggee;
 pub use debugger::{Bytes, LineText, Shown, State, Values};
 pub use events::{Event, ObjectLength, Reply};
+pub use laws::moving_changes_nothing;
