@@ -3,4 +3,7 @@
 
 mod replies;
 
-pub use replies::showing_changes_nothing;
+pub use replies::{
+    debugging_changes_debug_state_alone, faults_change_one_place, others_stay,
+    refusals_change_nothing, showing_changes_nothing,
+};

@@ -1,0 +1,60 @@
+-- Machines by number.
+use Rattle.std.proofs.Common.{◌≡◌, ◌≢◌, ℕ, zero, suc, ◌-◌, List, [], ◌∷◌, map, Option, Some, None, refl, sym, ap, subst, arith}
+use Rattle.std.specs.Prelude.{slice_get, slice_set}
+use Rattle.world.specs.declared.debuggee.Debuggee.{Debuggee}
+use Rattle.world.specs.WorldState.{machine_at, with_machine}
+
+pub not_zero : (ms : List Debuggee) (m : ℕ) (d : Debuggee) → machine_at ms m ≡ Some d → m ≢ 0
+not_zero ms zero d e = absurd (cc)
+not_zero ms (suc m) d e = λ z. absurd (omega (arith, z))
+
+pub found_once : (o : Option Debuggee) (x y : Debuggee) → o ≡ Some x → o ≡ Some y → x ≡ y
+found_once o x y p q = cc
+
+pub found_none : {P : Type 0} (o : Option Debuggee) (d : Debuggee) → o ≡ None → o ≡ Some d → P
+found_none o d a b = absurd (cc)
+
+-- ---- written back
+
+set_same : (xs : List Debuggee) (n : ℕ) (x : Debuggee) → slice_get xs n ≡ Some x → slice_set xs n x ≡ xs
+set_same [] n x e = refl
+set_same (y ∷ ys) zero x e = let f : y ≡ x = cc in ap (λ (z : Debuggee). z ∷ ys) (sym f)
+set_same (y ∷ ys) (suc n) x e = ap (λ (l : List Debuggee). y ∷ l) (set_same ys n x e)
+
+-- what was found changes nothing when it is written
+pub with_same : (ms : List Debuggee) (m : ℕ) (d : Debuggee) → machine_at ms m ≡ Some d → with_machine ms m d ≡ ms
+with_same ms zero d e = absurd (cc)
+with_same ms (suc n) d e =
+    let i : suc n - 1 ≡ n = omega arith in
+    subst (λ k. slice_set ms k d ≡ ms) (sym i) (set_same ms n d e)
+
+map_same : {B : Type 0} (f : Debuggee → B) (xs : List Debuggee) (n : ℕ) (x y : Debuggee) → slice_get xs n ≡ Some x → f y ≡ f x → map f (slice_set xs n y) ≡ map f xs
+map_same f [] n x y e h = refl
+map_same f (z ∷ zs) zero x y e h = let g : z ≡ x = cc in rw (g, h) refl
+map_same f (z ∷ zs) (suc n) x y e h = ap (λ l. f z ∷ l) (map_same f zs n x y e h)
+
+-- what is the same in the one that is written is the same in all
+pub with_map : {B : Type 0} (f : Debuggee → B) (ms : List Debuggee) (m : ℕ) (x y : Debuggee) → machine_at ms m ≡ Some x → f y ≡ f x → map f (with_machine ms m y) ≡ map f ms
+with_map f ms zero x y e h = absurd (cc)
+with_map f ms (suc n) x y e h =
+    let i : suc n - 1 ≡ n = omega arith in
+    subst (λ k. map f (slice_set ms k y) ≡ map f ms) (sym i) (map_same f ms n x y e h)
+
+-- ---- the others
+
+other_place : (xs : List Debuggee) (n k : ℕ) (x : Debuggee) → k ≢ n → slice_get (slice_set xs n x) k ≡ slice_get xs k
+other_place [] n k x h = refl
+other_place (y ∷ ys) zero zero x h = absurd (h refl)
+other_place (y ∷ ys) zero (suc k) x h = refl
+other_place (y ∷ ys) (suc n) zero x h = refl
+other_place (y ∷ ys) (suc n) (suc k) x h = other_place ys n k x (λ e. h (ap suc e))
+
+other_number : (ms : List Debuggee) (m k : ℕ) (d : Debuggee) → m ≢ 0 → k ≢ m → machine_at (with_machine ms m d) k ≡ machine_at ms k
+other_number ms m zero d z h = refl
+other_number ms zero (suc k) d z h = absurd (z refl)
+other_number ms (suc m) (suc k) d z h =
+    let e : suc m - 1 ≡ m = omega arith in
+    subst (λ n. slice_get (slice_set ms n d) k ≡ slice_get ms k) (sym e) (other_place ms m k d (λ q. h (ap suc q)))
+
+pub other_machine : (ms : List Debuggee) (m k : ℕ) (x y : Debuggee) → machine_at ms m ≡ Some x → k ≢ m → machine_at (with_machine ms m y) k ≡ machine_at ms k
+other_machine ms m k x y e h = other_number ms m k y (not_zero ms m x e) h

@@ -1,0 +1,5 @@
+use Rattle.world_laws.proofs.OtherMachines.{others_stay}
+use Rattle.world_laws.proofs.replies.others_stay.Goals as goal
+
+pub returns : goal.returns
+returns c = others_stay
