@@ -1,2 +1,4 @@
+pub mod Joined
+pub mod Lent
 pub mod Numbered
 pub mod Unmoved

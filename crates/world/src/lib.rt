@@ -2,10 +2,16 @@
 #![tactic(auto)]
 
 mod debuggee;
+mod debugging;
 mod events;
 mod laws;
+mod showing;
+mod stepping;
+mod world;
 
 pub use debuggee::Debuggee;
 pub use debugger::{Bytes, LineText, Shown, State, Values};
 pub use events::{Event, ObjectLength, Reply};
 pub use laws::moving_changes_nothing;
+pub use object_store::MACHINE_LIMIT;
+pub use world::World;

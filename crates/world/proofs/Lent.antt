@@ -1,0 +1,32 @@
+-- A store that is lent to a machine, seen as the store's state.
+use Rattle.std.proofs.Common.{◌≡◌, ℕ, true, [], refl, ap, ◌∙◌, subst}
+use Rattle.object_store.specs.Stores.{StoreState, Touches, lent_memory, store_memory, with_window}
+use Rattle.machine.specs.declared.state.Stepped.{Stepped}
+use Rattle.machine.specs.MachineState.{MachineState}
+use Rattle.machine.specs.TableStep.{TableStep}
+use Rattle.machine.specs.Carrying.{Carries}
+use Rattle.machine.proofs.Carried.{step_carries}
+
+-- the same loan, to the same machine
+pub record IsLent {M : Type 0} (loan who : M → ℕ) (first m : M) : Type 0 where
+  pub loan_is : loan m ≡ loan first
+  pub who_is : who m ≡ who first
+
+lent_carries : {M : Type 0} (store : M → StoreState) (loan who : M → ℕ) (first : M) → Carries true (lent_memory store loan who) (store_memory (who first)) store (IsLent loan who first)
+lent_carries store loan who first = record {
+  reached = λ before after n op r i _ h. (
+    subst (λ w. Touches w (store before) n op r (store after)) i.who_is h.0,
+    record { loan_is = h.1 ∙ i.loan_is; who_is = h.2 ∙ i.who_is },
+  );
+  closed = λ before after i h. (
+    h.0 ∙ ap (λ w. with_window (store before) w []) i.who_is,
+    record { loan_is = h.1 ∙ i.loan_is; who_is = h.2 ∙ i.who_is },
+  );
+  measured = λ before n. refl;
+}
+
+pub lent_step : {M : Type 0} (store : M → StoreState) (loan who : M → ℕ) (old new : MachineState) (before after : M) (a : Stepped)
+    → TableStep (lent_memory store loan who) old before a new after → TableStep (store_memory (who before)) old (store before) a new (store after) × IsLent loan who before after
+lent_step store loan who old new before after a t =
+    step_carries true (lent_memory store loan who) (store_memory (who before)) store (IsLent loan who before) (lent_carries store loan who before)
+    old new before after a (record { loan_is = refl; who_is = refl }) refl t

@@ -1,0 +1,109 @@
+//! Steps of a machine.
+ghost use Rattle.std.specs.Prelude.{◌≡◌, ◌≤◌, Bool, length, if◌then◌else◌};
+ghost use Rattle.object_store.specs.Stores.{IsMachine, store_memory};
+ghost use Rattle.machine.specs.TableStep.{TableStep};
+ghost use Rattle.world.specs.WorldState.{machine_limit};
+ghost use Rattle.world.specs.Steps.{AnswersStep, reply_to_step, debugged};
+ghost use Rattle.world.specs.Steps.Way.{ByStep, ByOne};
+
+use crate::debuggee::{Debuggee, index_of};
+use crate::events::Reply;
+use debugger::After;
+use far_store::FarStore;
+use machine::{Machine, Stepped};
+use object_store::{ObjectStore, StoreMemory};
+
+/// One step of a machine over the objects.
+#[inline]
+fn step_over<F: FarStore>(machine: &mut Machine, store: &mut ObjectStore<F>, who: usize) -> Stepped
+    requires { IsMachine who }
+    ensures { TableStep (store_memory who) machine.old store.old result machine.new store.new }
+{
+    let mut memory = StoreMemory { store, who };
+    machine.step(&mut memory)
+}
+
+/// The reply to a step that ran, after which the machine is at the slot.
+#[inline]
+fn reply_to_run(machine: usize, after: After, slot: usize) -> Reply
+    ensures { (hits : Bool) → after ≡ (if hits then After.Hit else After.Ran) → result ≡ (if hits then Reply.Hit machine slot else Reply.Ran machine slot) }
+{
+    match after {
+        After::Hit => Reply::Hit { machine, slot },
+        After::Ran => Reply::Ran { machine, slot },
+    }
+}
+
+impl Debuggee {
+    /// Notes what a step was answered, and replies to it.
+    #[inline]
+    fn reply_to_step(&mut self, machine: usize, answer: Stepped) -> Reply
+        ensures reply { result ≡ reply_to_step machine answer self.old.machine.slot self.old.debugger }
+        ensures new { self.new ≡ record self.old { debugger = debugged ByStep answer self.old.debugger } }
+    {
+        let slot = self.machine.slot();
+        match answer {
+            Stepped::Ran(written) => reply_to_run(machine, self.debugger.after(written), slot),
+            Stepped::Waiting(object) => Reply::Waiting { machine, object },
+            Stepped::Stopped(stop) => {
+                self.debugger.after_stop();
+                Reply::Stopped { machine, stop }
+            }
+        }
+    }
+
+    /// Notes what a step was answered that pauses after it, and replies to it.
+    fn reply_to_one(&mut self, machine: usize, answer: Stepped) -> Reply
+        ensures reply { result ≡ reply_to_step machine answer self.old.machine.slot self.old.debugger }
+        ensures new { self.new ≡ record self.old { debugger = debugged ByOne answer self.old.debugger } }
+    {
+        let slot = self.machine.slot();
+        match answer {
+            Stepped::Ran(written) => reply_to_run(machine, self.debugger.after_one(written), slot),
+            Stepped::Waiting(object) => Reply::Waiting { machine, object },
+            Stepped::Stopped(stop) => {
+                self.debugger.after_stop();
+                Reply::Stopped { machine, stop }
+            }
+        }
+    }
+}
+
+/// One step of a machine, unless it pauses.
+#[inline]
+pub(crate) fn step<F: FarStore>(
+    machines: &mut [Debuggee],
+    store: &mut ObjectStore<F>,
+    machine: usize,
+) -> Reply
+    requires { length machines.old ≤ machine_limit }
+    ensures { AnswersStep (store_memory machine) ByStep machines.old store.old machine result machines.new store.new }
+{
+    let Some(index) = index_of(machines, machine) else {
+        return Reply::Missing;
+    };
+    let stepping = &mut machines[index];
+    if stepping.pauses() {
+        let slot = stepping.machine.slot();
+        return Reply::Paused { machine, slot };
+    }
+    let answer = step_over(&mut stepping.machine, store, machine);
+    stepping.reply_to_step(machine, answer)
+}
+
+/// One step of a machine, paused or not.
+pub(crate) fn one<F: FarStore>(
+    machines: &mut [Debuggee],
+    store: &mut ObjectStore<F>,
+    machine: usize,
+) -> Reply
+    requires { length machines.old ≤ machine_limit }
+    ensures { AnswersStep (store_memory machine) ByOne machines.old store.old machine result machines.new store.new }
+{
+    let Some(index) = index_of(machines, machine) else {
+        return Reply::Missing;
+    };
+    let stepping = &mut machines[index];
+    let answer = step_over(&mut stepping.machine, store, machine);
+    stepping.reply_to_one(machine, answer)
+}
