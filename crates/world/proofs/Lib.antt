@@ -2,3 +2,5 @@ pub mod Joined
 pub mod Lent
 pub mod Numbered
 pub mod Unmoved
+pub mod Undebugged_machines
+pub mod Undebugged_runs
