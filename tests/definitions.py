@@ -2,7 +2,7 @@
 """Checks that docs/DEFINITIONS.md names every definition that a public clause depends on, and none that isn't there.
 
 With --list it prints these definitions, by crate and file, each with the comment above it; with --table as tables of the
-page, a row for each file.
+page, a row for each comment with the definitions below it.
 
 A public clause is one of a `pub fn`, of a method of a trait's impl, or of a `pub trait`, and what a public type says of
 itself (its Model, its ghost items). From the names in these clauses the script follows the imports: the `ghost use`
@@ -169,19 +169,45 @@ def not_there(own):
     return lost
 
 
+def modules_of(crate, found):
+    """The files of a crate that definitions are needed of, in the order of its specs/Lib.antt."""
+    needed = {m for c, m, _ in found if c == crate}
+    named = re.findall(r"(?m)^pub mod (\w+)", (ROOT / f"crates/{crate}/specs/Lib.antt").read_text())
+    return [m for m in named if m in needed] + sorted(needed - set(named))
+
+
+def rows(file, needed):
+    """The needed definitions of a file, in its order, those below one comment together, with the comment."""
+    groups = []
+    for name in file.definitions:
+        says = file.comments[name]
+        if says or not groups:
+            groups.append((says, []))
+        if name in needed:
+            groups[-1][1].append(name)
+    return [(says, names) for says, names in groups if names]
+
+
+def show_table(crate, modules, found, specs):
+    """Prints the tables of one crate."""
+    print(f"\n## `{crate}`\n\n| File | Definitions | They say |\n|---|---|---|")
+    for module in modules:
+        file = f"`{module}`"
+        for says, names in rows(specs[crate, module], {n for c, m, n in found if (c, m) == (crate, module)}):
+            print(f"| {file} | {', '.join(f'`{name}`' for name in names)} | {(says or specs[crate, module].says).rstrip('.')} |")
+            file = ""
+
+
 def show(own, found, specs, as_table):
     """Prints the definitions, by crate and file."""
     for crate in own:
-        modules = dict.fromkeys(m for c, m, _ in found if c == crate)
+        modules = modules_of(crate, found)
         if as_table and modules:
-            print(f"\n## `{crate}`\n\n| File | Definitions | They say |\n|---|---|---|")
+            show_table(crate, modules, found, specs)
+            continue
         for module in modules:
-            names = [n for c, m, n in found if (c, m) == (crate, module)]
-            if as_table:
-                print(f"| `{module}` | {', '.join(f'`{name}`' for name in names)} | {specs[crate, module].says} |")
-                continue
             print(f"## {crate} {module}")
-            for name in names:
+            for name in [n for c, m, n in found if (c, m) == (crate, module)]:
                 print(f"{name}: {specs[crate, module].comments[name]}")
 
 
