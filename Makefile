@@ -9,7 +9,7 @@ below = $(1) $(foreach it,$(shell sed -n 's/^$(1):  *//p' crates.txt),$(if $(wil
 CRATES := $(sort $(call below,bpfagent))
 SOURCES := crates.txt $(shell find $(CRATES:%=crates/%) -path '*/out' -prune -o \( -name '*.rt' -o -name '*.antt' \) -print)
 
-.PHONY: run program test vectors bench failed-allocations
+.PHONY: run program test vectors bench
 
 # A proved program that is up to date runs at once. Else the sources are built without a proof.
 run:
@@ -57,10 +57,3 @@ bench: $(PROGRAM)
 	@$(BENCH)/steps
 	@python3 bench/lines.py $(PROGRAM) $(BENCH)/lines
 	@python3 bench/assembly.py $(PROGRAM)
-
-# The program, and a run of commands, with each of their allocations failing in turn.
-failed-allocations: $(PROGRAM)
-	@mkdir -p $(BENCH)
-	@cd crates/refused_run && $(RT) run >/dev/null 2>&1
-	@$(CC) -O1 -shared -fPIC -o $(BENCH)/fail_allocation.so tests/fail_allocation.c -ldl
-	@python3 tests/failed_allocations.py $(BENCH)/fail_allocation.so $(PROGRAM) crates/refused_run/out/refused_run

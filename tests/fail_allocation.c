@@ -1,9 +1,17 @@
 /* For LD_PRELOAD: the allocation with the number in FAIL_AT fails, counted from 1. The count of all is written to
-   the file named in COUNT_IN, where there is one, as the program ends. */
-#define _GNU_SOURCE
-#include <dlfcn.h>
-#include <stdio.h>
-#include <stdlib.h>
+   the file named in COUNT_IN, where there is one, as the program ends. It is compiled without the C library's headers,
+   which the kit doesn't bring. */
+typedef unsigned long size_t;
+
+void *dlsym(void *, const char *);
+char *getenv(const char *);
+long atol(const char *);
+int open(const char *, int, ...);
+int dprintf(int, const char *, ...);
+int close(int);
+
+#define NEXT ((void *)-1L)
+#define WRITE_ONLY 1
 
 static unsigned long count;
 
@@ -20,22 +28,22 @@ static int fails(void)
 void *malloc(size_t size)
 {
     static void *(*next)(size_t);
-    if (!next) next = (void *(*)(size_t))dlsym(RTLD_NEXT, "malloc");
-    return fails() ? NULL : next(size);
+    if (!next) next = (void *(*)(size_t))dlsym(NEXT, "malloc");
+    return fails() ? 0 : next(size);
 }
 
 void *realloc(void *block, size_t size)
 {
     static void *(*next)(void *, size_t);
-    if (!next) next = (void *(*)(void *, size_t))dlsym(RTLD_NEXT, "realloc");
-    return fails() ? NULL : next(block, size);
+    if (!next) next = (void *(*)(void *, size_t))dlsym(NEXT, "realloc");
+    return fails() ? 0 : next(block, size);
 }
 
 __attribute__((destructor)) static void tell(void)
 {
     const char *name = getenv("COUNT_IN");
-    FILE *file = name ? fopen(name, "w") : NULL;
-    if (!file) return;
-    fprintf(file, "%lu\n", count);
-    fclose(file);
+    int file = name ? open(name, WRITE_ONLY) : -1;
+    if (file < 0) return;
+    dprintf(file, "%lu\n", count);
+    close(file);
 }

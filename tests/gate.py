@@ -2,8 +2,8 @@
 """The gate: gate.py RT
 
 First the scripts that compare documents and lists with the sources, which take seconds. Then `rt ci`, with a line on how
-far it is. Then tests/program.py over the program as `rt ci` has built it, by LLVM and by Rattle's own compiler. The last
-line is that of `rt ci`; what else fails is counted in it.
+far it is. Then tests/program.py over the program as `rt ci` has built it, by LLVM and by Rattle's own compiler, and
+tests/refusals.py, which makes its allocations fail. The last line is that of `rt ci`; what else fails is counted in it.
 """
 import re
 import subprocess
@@ -50,7 +50,7 @@ def main():
         sys.exit(1)
     status, last = run_ci(sys.argv[1])
     if status == 0:
-        failed = failures_of([["tests/program.py", program] for program in BUILT])
+        failed = failures_of([["tests/program.py", program] for program in BUILT] + [["tests/refusals.py", sys.argv[1]]])
     counts = re.fullmatch(r"(\d+) passed, (\d+) failed", last)
     if failed and counts:
         last = f"{counts[1]} passed, {int(counts[2]) + failed} failed"

@@ -89,19 +89,6 @@ def show_no_memory(program):
     want(gave_up > 0, "no limit of memory made the program give up")
 
 
-def conversations(text):
-    """For each agent that a script talks to the arguments of `run`, and the commands with their replies."""
-    talks, command = [([], [])], None
-    for line in text.splitlines():
-        if line.startswith("---"):
-            talks.append((line.split()[1:], []))
-        elif line.startswith("> "):
-            talks[-1][1].append((command, line[2:]))
-        elif line and not line.startswith("#"):
-            command = line
-    return [(arguments, talk) for arguments, talk in talks if talk]
-
-
 def reply_of(process):
     """The next line of the program, which has to come by itself."""
     line = b""
