@@ -8,7 +8,7 @@ import random
 import sys
 
 from interpreter import ARITHMETIC, ATOMIC, ATOMICS, CLASS_ALU64, CLASS_LDX, CLASS_ST, CLASS_STX, CMPXCHG, MEM, REGISTER, STACK
-from make_vectors import EXIT_SLOT, Script, access, agent_of, slot
+from make_vectors import EXIT_SLOT, Script, access, agent_of, slot, wide
 
 LOAD_BYTE = slot(access(CLASS_LDX, MEM, 1), 0, 1)
 CLOSE = slot(0x85, 0, 0, 0, 4)
@@ -55,9 +55,34 @@ def add_whole_budget(script):
         script.tell_all("make 65535", "make 1", "free 7", "make 1", "leave 9", "left 9", "return 9", "returned 9", "get 9 65535 1")
 
 
+def window_rows(chooser, count):
+    """Loads and compare-exchanges by R1 to R7, which are the addresses of objects, loads from the stack, and helper 4."""
+    rows, load = [], access(CLASS_LDX, MEM, 1)
+    for _ in range(count):
+        base = chooser.randrange(1, 8)
+        exchange = slot(access(CLASS_STX, ATOMIC, 8), base, 8, 0, CMPXCHG)
+        rows.append(chooser.choice([slot(load, 9, base)] * 4 + [exchange, exchange, slot(load, 9, 10, -1), CLOSE]))
+    return b"".join(rows)
+
+
+def add_windows(script):
+    script.note("one machine and seven objects: which of them may leave after each instruction")
+    chooser = random.Random(4)
+    for _ in range(12):
+        script.begin()
+        script.tell_all(*["make 8"] * 7)
+        code = wide(6, 6 << 32) + wide(7, 7 << 32) + slot(0xB7, 0, 0, 0, 1) + window_rows(chooser, 20) + EXIT_SLOT
+        machine = script.ship(code, [n << 32 for n in range(1, 6)])
+        for _ in range(24):
+            script.tell(f"step {machine}")
+            for n in chooser.sample(range(1, 8), 2):
+                if script.tell(f"leave {n}").startswith("leaving"):
+                    script.tell_all(f"left {n}", f"return {n}", f"returned {n}")
+
+
 def object_row(chooser, lengths):
     """An access by R1 to R5, which are the addresses of objects, or by R10; most of the time inside."""
-    base = chooser.choice([1, 1, 2, 2, 3, 3, 4, 5, 10])
+    base = chooser.choice([1, 1, 2, 2, 3, 3, 4, 4, 5, 5, 10])
     length = 24 if base == 10 else lengths[base - 1]
     size = chooser.choice([1, 2, 4, 8])
     kind, other = chooser.random(), chooser.choice([0, 0, 6, 7, 8, 9])
@@ -79,17 +104,18 @@ def object_row(chooser, lengths):
 
 def moving_program(chooser, lengths):
     """Accesses, most of the time in a loop."""
-    body = b""
-    for _ in range(chooser.randrange(3, 12)):
+    body, closes = b"", chooser.choice([0.01, 0.04, 0.1])
+    for _ in range(chooser.randrange(3, 14)):
         kind = chooser.random()
         if kind < 0.75:
             body += object_row(chooser, lengths)
-        elif kind < 0.85:
+        elif kind < 0.75 + closes:
             body += CLOSE
         elif kind < 0.9:
             body += slot(0x85, 0, 0, 0, chooser.choice([1, 2, 3]))
         else:
-            body += slot(chooser.choice(ARITHMETIC) << 4 | REGISTER | CLASS_ALU64, chooser.choice([0, 6, 7, 8, 9]), chooser.choice([0, 6, 7, 8, 9]))
+            dst, src = chooser.choices([0, 6, 7, 8, 9], k=2)
+            body += slot(chooser.choice(ARITHMETIC) << 4 | REGISTER | CLASS_ALU64, dst, src)
     return body + (EXIT_SLOT if chooser.random() < 0.4 else slot(0x05, offset=-1 - len(body) // 8))
 
 
@@ -98,7 +124,7 @@ class Chat:
 
     def __init__(self, script, chooser):
         self.script, self.chooser = script, chooser
-        self.lengths = [chooser.choice([8, 8, 16, 24]) for _ in range(chooser.randrange(1, 6))]
+        self.lengths = [chooser.choice([8, 8, 16, 24]) for _ in range(chooser.randrange(1, 8))]
         budget = sum(self.lengths) + chooser.choice([-1, 0, 0, 7, 8, 16])
         script.begin(chooser.choice([budget, budget, None]))
         for length in self.lengths:
@@ -109,7 +135,9 @@ class Chat:
             self.ship()
 
     def ship(self):
-        numbers = [self.chooser.randrange(len(self.lengths)) for _ in range(5)]
+        numbers = list(range(len(self.lengths)))
+        self.chooser.shuffle(numbers)
+        numbers = (numbers * 5)[:5]
         code = moving_program(self.chooser, [self.lengths[n] for n in numbers])
         self.script.ship(code, [(n + 1) << 32 for n in numbers], self.chooser.choice([2, 30, 100, 100, 100]))
         self.slots.append(len(code) // 8)
@@ -202,14 +230,14 @@ class Chat:
 def add_random(script):
     script.note("objects move while machines run, wait, and are paused")
     chooser = random.Random(2026)
-    for _ in range(70):
+    for _ in range(60):
         Chat(script, chooser).go(70)
 
 
 def main():
     script = Talk()
     script.lines += ["# Made by make_moves_vectors.py, as vectors.script is made by make_vectors.py; `make vectors` compares."]
-    for part in (add_holders, add_whole_budget, add_random):
+    for part in (add_holders, add_whole_budget, add_windows, add_random):
         part(script)
     sys.stdout.write("\n".join(script.lines) + "\n")
 
