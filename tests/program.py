@@ -6,8 +6,10 @@ line: each reply has to come before the next command is sent, so that a program 
 """
 import os
 import pathlib
+import re
 import resource
 import select
+import shlex
 import subprocess
 import sys
 
@@ -15,6 +17,7 @@ ROOT = pathlib.Path(__file__).resolve().parent.parent
 EXIT = bytes.fromhex("9500000000000000")
 ALL_ONES = bytes.fromhex("18000000ffffffff00000000ffffffff") + EXIT
 SECONDS = 20
+PROGRAM = "crates/bpfagent/out/bpfagent"
 
 
 class Failed(Exception):
@@ -101,6 +104,11 @@ def reply_of(process):
     return line[:-1].decode()
 
 
+def examples(pattern):
+    """Files of examples/ and of examples/c/."""
+    return sorted([*ROOT.glob(f"examples/{pattern}"), *ROOT.glob(f"examples/c/{pattern}")])
+
+
 def talk_to(program, arguments, talk):
     process = subprocess.Popen([program, "run", *arguments], stdin=subprocess.PIPE, stdout=subprocess.PIPE, stderr=subprocess.PIPE)
     try:
@@ -118,17 +126,28 @@ def talk_to(program, arguments, talk):
 def show_examples(program):
     """The scripts of examples/, and that their code is valid and is what they ship."""
     count = 0
-    for path in sorted((ROOT / "examples").glob("*.script")):
+    for path in examples("*.script"):
         text = path.read_text()
         for arguments, talk in conversations(text):
             talk_to(program, arguments, talk)
             count += len(talk)
-    for path in sorted((ROOT / "examples").glob("*.code")):
+    for path in examples("*.code"):
         code = path.read_bytes()
         is_done(program, ["check"], code, b"ok %d\n" % (len(code) // 8))
         script = path.with_name(path.stem.split(".")[0] + ".script")
         want(code.hex() in script.read_text(), f"{script.name} doesn't ship {path.name}")
     return count
+
+
+def show_guide(program):
+    """What docs/WRITING-PROGRAMS.md says that examples/c/ship.py prints."""
+    guide = (ROOT / "docs/WRITING-PROGRAMS.md").read_text()
+    shown = re.findall(r"^\$ python3 (examples/c/ship\.py (?:run|line) .*)\n((?:(?!\$ |```).*\n)*)", guide, re.M)
+    want(shown, "docs/WRITING-PROGRAMS.md shows no run")
+    for command, output in shown:
+        words = [program if word == PROGRAM else word for word in shlex.split(command)]
+        done = subprocess.run([sys.executable, *words], cwd=ROOT, stdout=subprocess.PIPE, text=True, timeout=SECONDS)
+        want(done.stdout == output, f"{command} printed {done.stdout}")
 
 
 def main():
@@ -138,6 +157,7 @@ def main():
         show_faults(program)
         show_no_memory(program)
         count = show_examples(program)
+        show_guide(program)
     except (Failed, OSError, subprocess.TimeoutExpired) as wrong:
         sys.exit(f"{sys.argv[1]}: {wrong}")
     print(f"{sys.argv[1]}: statuses and streams are right, and {count} replies to examples/ came line by line")

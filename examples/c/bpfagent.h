@@ -1,0 +1,61 @@
+// For programs in C that bpfagent runs. docs/WRITING-PROGRAMS.md leads through it.
+//
+// A program is one file. Its entry point is `program`, the one function that isn't static. It takes up to five numbers
+// or addresses, which are A1 to A5 of the `ship` line, and what it returns is V of `stopped m exit V`.
+//
+// The same file compiles natively, for tests: there an object is a buffer that is mapped at the object's own address.
+#ifndef BPFAGENT_H
+#define BPFAGENT_H
+
+#include <stdint.h>
+
+// Helpers.
+#ifdef __bpf__
+static uint64_t (*const object_length)(uint64_t object) = (void *)1;
+static uint64_t (*const machine_number)(void) = (void *)2;
+static uint64_t (*const emit)(uint64_t value) = (void *)3;
+static uint64_t (*const close_scopes)(void) = (void *)4;
+#else
+uint64_t object_length(uint64_t object); // in bytes; 0 where there is no such object
+uint64_t machine_number(void);           // this machine's own
+uint64_t emit(uint64_t value);           // keeps a value for `out`: 0, or 1 where 64 are kept, and then it is lost
+uint64_t close_scopes(void);             // no object that was touched so far is held in place any longer; always 0
+#endif
+
+// Addresses. An object's bytes are at its number times 2^32 and on, so an address is a pointer.
+static inline uint64_t object_of(const volatile void *address)
+{
+    return (uint64_t)address >> 32;
+}
+
+static inline uint64_t offset_of(const volatile void *address)
+{
+    return (uint32_t)(uint64_t)address;
+}
+
+static inline void *address_of(uint64_t object, uint64_t offset)
+{
+    return (void *)((object << 32) + offset);
+}
+
+// Atomic operations on uint32_t and uint64_t at a multiple of their size (else: stop misaligned). Each gives the old
+// value. A compare-exchange writes `value` where `wanted` stands, and only then the old value is `wanted`.
+#define atomic_add(place, value) __sync_fetch_and_add(place, value)
+#define atomic_or(place, value) __sync_fetch_and_or(place, value)
+#define atomic_and(place, value) __sync_fetch_and_and(place, value)
+#define atomic_xor(place, value) __sync_fetch_and_xor(place, value)
+#define atomic_exchange(place, value) __sync_lock_test_and_set(place, value)
+#define atomic_compare_exchange(place, wanted, value) __sync_val_compare_and_swap(place, wanted, value)
+
+// One load or store that the compiler neither leaves out, repeats nor moves past another one of these. Every access
+// is done whole.
+#define atomic_read(place) (*(const volatile __typeof__(*(place)) *)(place))
+#define atomic_write(place, value) (*(volatile __typeof__(*(place)) *)(place) = (value))
+
+// The compiler moves no access past this. Instructions are done in order, so nothing else is needed.
+#define compiler_barrier() __asm__ volatile("" ::: "memory")
+
+// A function that is called and not inlined. Eight such calls may be open, and each has 512 bytes of the stack.
+#define CALLED static __attribute__((noinline))
+
+#endif

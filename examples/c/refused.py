@@ -1,0 +1,88 @@
+#!/usr/bin/env python3
+"""Tries what programs in C can't have: refused.py [--write]
+
+The comments at the head of each file of refused/ say what comes of it, and this compares:
+  clang: PATTERN     clang's error
+  flags: FLAG ..     further arguments of clang
+  ship.py: TEXT      what `ship.py check` says of the object file
+  ship: REPLY        the reply to `ship` of the raw code
+  run A ..: REPLY    the reply at the program's end, with a first object of 16 bytes; of raw code that ship.py refuses,
+                     what would come of it
+The conversations of the last two are refused.script, which is written with --write.
+"""
+import pathlib
+import re
+import subprocess
+import sys
+
+from make_scripts import HERE, Script
+from ship import ship_line
+
+FLAGS = ["-target", "bpfel", "-mcpu=v3", "-O2", "-ffreestanding", "-Wall", "-Wextra", "-Werror"]
+HEAD = re.compile(r"^// (clang|flags|ship\.py|ship|run)((?: \S+)*): (.*)$", re.M)
+OUT = HERE / "out/refused"
+FUEL = "100"
+
+
+def want(is_so, path, found):
+    if not is_so:
+        sys.exit(f"{path.name}: {found}")
+
+
+def compile_it(path, flags):
+    """Clang's errors, and the object file."""
+    made = OUT / f"{path.stem}.o"
+    made.unlink(missing_ok=True)
+    arguments = [*FLAGS, "-fno-crash-diagnostics", *flags, "-c", path, "-o", made]
+    done = subprocess.run(["clang", *arguments], stderr=subprocess.PIPE, text=True)
+    return done.returncode, done.stderr, made
+
+
+def raw_code(made):
+    code = made.with_suffix(".code")
+    subprocess.run(["llvm-objcopy", "-O", "binary", "--only-section=.text", made, code], check=True)
+    return code.read_bytes()
+
+
+def converse(script, path, code, arguments, wanted):
+    """Ships the code to a fresh agent with one object, and steps it until it neither is refused nor runs."""
+    script.begin(f"# refused/{path.name}")
+    script.tell("make 16")
+    reply = script.tell(ship_line(code, FUEL, arguments))
+    while reply.startswith(("shipped ", "ran ")):
+        reply = script.tell("step 1")
+    want(reply == wanted, path, reply)
+
+
+def try_it(script, path):
+    said = [(kind, rest.split(), text) for kind, rest, text in HEAD.findall(path.read_text())]
+    flags = [flag for kind, _, text in said if kind == "flags" for flag in text.split()]
+    status, errors, made = compile_it(path, flags)
+    for kind, arguments, text in said:
+        if kind == "clang":
+            want(status and re.search(text, errors), path, errors)
+        elif kind != "flags":
+            want(status == 0, path, errors)
+            checked = subprocess.run([sys.executable, HERE / "ship.py", "check", made], stderr=subprocess.PIPE, text=True)
+            found = checked.stderr.strip().removeprefix(f"{made}: ")
+            if kind == "ship.py":
+                want(found == text, path, found)
+            else:
+                converse(script, path, raw_code(made), arguments, text)
+    return len(said)
+
+
+def main():
+    OUT.mkdir(parents=True, exist_ok=True)
+    script, stored = Script(), HERE / "refused.script"
+    sources = sorted((HERE / "refused").glob("*.c"))
+    for path in sources:
+        want(try_it(script, path), path, "nothing is said at its head")
+    made = "\n".join(script.lines) + "\n"
+    if sys.argv[1:] == ["--write"]:
+        stored.write_text(made)
+    want(stored.exists() and stored.read_text() == made, stored, "this isn't what refused/ gives")
+    print(f"refused: {len(sources)} programs, each as its head says")
+
+
+main()

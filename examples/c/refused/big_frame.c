@@ -1,0 +1,12 @@
+// More than 512 bytes of stack in one function.
+// clang: BPF stack limit of 512 bytes is exceeded
+#include "../bpfagent.h"
+
+uint64_t program(uint64_t number)
+{
+    volatile uint8_t buffer[600];
+
+    for (uint64_t i = 0; i < sizeof buffer; i++)
+        buffer[i] = number;
+    return buffer[number % sizeof buffer];
+}

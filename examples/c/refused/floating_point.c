@@ -1,0 +1,8 @@
+// Floating point.
+// clang: A call to built-in function '__muldf3' is not supported
+#include "../bpfagent.h"
+
+uint64_t program(uint64_t number)
+{
+    return (double)number * 1.5;
+}

@@ -1,0 +1,8 @@
+// A call of an address.
+// ship: refused 0 Opcode
+#include "../bpfagent.h"
+
+uint64_t program(uint64_t (*chosen)(void))
+{
+    return chosen() + 1;
+}

@@ -1,0 +1,8 @@
+// A place behind the object's last byte.
+// run 0x100000000: stopped 1 outside
+#include "../bpfagent.h"
+
+uint64_t program(uint64_t *numbers)
+{
+    return numbers[2];
+}

@@ -1,0 +1,10 @@
+// A helper that bpfagent hasn't.
+// ship: refused 0 Helper
+#include "../bpfagent.h"
+
+static uint64_t (*const fifth)(void) = (void *)5;
+
+uint64_t program(void)
+{
+    return fifth();
+}
