@@ -1,5 +1,5 @@
 #!/usr/bin/env python3
-"""Tries what programs in C can't have: refused.py [--write]
+"""Tries what programs in C can't have: refused.py [--write] CLANG FLAG ..
 
 The comments at the head of each file of refused/ say what comes of it, and this compares:
   clang: PATTERN     clang's error
@@ -16,9 +16,8 @@ import subprocess
 import sys
 
 from make_scripts import HERE, Script
-from ship import ship_line
+from ship import ObjectFile, code_section, ship_line
 
-FLAGS = ["-target", "bpfel", "-mcpu=v3", "-O2", "-ffreestanding", "-Wall", "-Wextra", "-Werror"]
 HEAD = re.compile(r"^// (clang|flags|ship\.py|ship|run)((?: \S+)*): (.*)$", re.M)
 OUT = HERE / "out/refused"
 FUEL = "100"
@@ -29,19 +28,16 @@ def want(is_so, path, found):
         sys.exit(f"{path.name}: {found}")
 
 
-def compile_it(path, flags):
-    """Clang's errors, and the object file."""
+def compile_it(clang, path):
+    """Clang's status and errors, and the object file."""
     made = OUT / f"{path.stem}.o"
-    made.unlink(missing_ok=True)
-    arguments = [*FLAGS, "-fno-crash-diagnostics", *flags, "-c", path, "-o", made]
-    done = subprocess.run(["clang", *arguments], stderr=subprocess.PIPE, text=True)
+    done = subprocess.run([*clang, "-fno-crash-diagnostics", "-c", path, "-o", made], stderr=subprocess.PIPE, text=True)
     return done.returncode, done.stderr, made
 
 
 def raw_code(made):
-    code = made.with_suffix(".code")
-    subprocess.run(["llvm-objcopy", "-O", "binary", "--only-section=.text", made, code], check=True)
-    return code.read_bytes()
+    found = ObjectFile(made.read_bytes())
+    return found.sections[code_section(found)[0]].bytes
 
 
 def converse(script, path, code, arguments, wanted):
@@ -54,10 +50,10 @@ def converse(script, path, code, arguments, wanted):
     want(reply == wanted, path, reply)
 
 
-def try_it(script, path):
+def try_it(clang, script, path):
     said = [(kind, rest.split(), text) for kind, rest, text in HEAD.findall(path.read_text())]
     flags = [flag for kind, _, text in said if kind == "flags" for flag in text.split()]
-    status, errors, made = compile_it(path, flags)
+    status, errors, made = compile_it([*clang, *flags], path)
     for kind, arguments, text in said:
         if kind == "clang":
             want(status and re.search(text, errors), path, errors)
@@ -73,13 +69,15 @@ def try_it(script, path):
 
 
 def main():
+    writes = sys.argv[1:2] == ["--write"]
+    clang = sys.argv[1 + writes :]
     OUT.mkdir(parents=True, exist_ok=True)
     script, stored = Script(), HERE / "refused.script"
     sources = sorted((HERE / "refused").glob("*.c"))
     for path in sources:
-        want(try_it(script, path), path, "nothing is said at its head")
+        want(try_it(clang, script, path), path, "nothing is said at its head")
     made = "\n".join(script.lines) + "\n"
-    if sys.argv[1:] == ["--write"]:
+    if writes:
         stored.write_text(made)
     want(stored.exists() and stored.read_text() == made, stored, "this isn't what refused/ gives")
     print(f"refused: {len(sources)} programs, each as its head says")
