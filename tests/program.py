@@ -1,8 +1,9 @@
 #!/usr/bin/env python3
 """Runs the program as a user would: program.py PROGRAM
 
-Each status and stream, what a closed or failing stream leaves, and the conversations of examples/ over pipes, line by
-line: each reply has to come before the next command is sent, so that a program that reads ahead is found out.
+Each status and stream, what a closed or failing stream leaves, what the guide for writers of programs shows, and the
+conversations of examples/ over pipes, line by line: each reply has to come before the next command is sent, so that a
+program that reads ahead is found out.
 """
 import os
 import pathlib
@@ -13,11 +14,14 @@ import shlex
 import subprocess
 import sys
 
+from scripts import conversations
+
 ROOT = pathlib.Path(__file__).resolve().parent.parent
 EXIT = bytes.fromhex("9500000000000000")
 ALL_ONES = bytes.fromhex("18000000ffffffff00000000ffffffff") + EXIT
 SECONDS = 20
 PROGRAM = "crates/bpfagent/out/bpfagent"
+COMPILERS = ("(cd examples/c && make ", "llvm-")
 
 
 class Failed(Exception):
@@ -140,13 +144,14 @@ def show_examples(program):
 
 
 def show_guide(program):
-    """What docs/WRITING-PROGRAMS.md says that examples/c/ship.py prints."""
+    """The commands of docs/WRITING-PROGRAMS.md that need no compiler print what stands there."""
     guide = (ROOT / "docs/WRITING-PROGRAMS.md").read_text()
-    shown = re.findall(r"^\$ python3 (examples/c/ship\.py (?:run|line) .*)\n((?:(?!\$ |```).*\n)*)", guide, re.M)
-    want(shown, "docs/WRITING-PROGRAMS.md shows no run")
-    for command, output in shown:
-        words = [program if word == PROGRAM else word for word in shlex.split(command)]
-        done = subprocess.run([sys.executable, *words], cwd=ROOT, stdout=subprocess.PIPE, text=True, timeout=SECONDS)
+    shown = re.findall(r"^\$ ((?:.*\\\n)*.*)\n((?:(?!\$ |```).*\n)*)", guide, re.M)
+    runs = [(command, output) for command, output in shown if not command.startswith(COMPILERS)]
+    want(runs, "docs/WRITING-PROGRAMS.md shows no run")
+    for command, output in runs:
+        command = command.replace(PROGRAM, shlex.quote(program))
+        done = subprocess.run(["sh", "-c", command], cwd=ROOT, stdout=subprocess.PIPE, stderr=subprocess.DEVNULL, text=True, timeout=SECONDS)
         want(done.stdout == output, f"{command} printed {done.stdout}")
 
 
