@@ -22,6 +22,7 @@ pub record Debugs (changes : MachineState → DebugState → DebugState → Type
   pub change : changes debuggee.machine debuggee.debugger debugger
   pub changed : new ≡ with_machine old m (record debuggee { debugger = debugger })
 
+-- `break`: an instruction begins at the slot, and there is room
 abbrev pub AnswersBreak : List Debuggee → ℕ → ℕ → Reply → List Debuggee → Type 0
 AnswersBreak old m slot Missing new = (machine_at old m ≡ None) × (new ≡ old)
 AnswersBreak old m slot Done new = Debugs (λ x d e. SetsBreak x.code slot d (Ok tt) e) old m new
@@ -29,12 +30,14 @@ AnswersBreak old m slot NoSlot new = Debugs (λ x d e. SetsBreak x.code slot d (
 AnswersBreak old m slot Full new = Debugs (λ x d e. SetsBreak x.code slot d (Err set_break_error.Full) e) old m new
 AnswersBreak old m slot _ new = ⊥
 
+-- `unbreak`: a breakpoint is set at the slot
 abbrev pub AnswersUnbreak : List Debuggee → ℕ → ℕ → Reply → List Debuggee → Type 0
 AnswersUnbreak old m slot Missing new = (machine_at old m ≡ None) × (new ≡ old)
 AnswersUnbreak old m slot Done new = Debugs (λ x d e. ClearsBreak slot d (Ok tt) e) old m new
 AnswersUnbreak old m slot NoSlot new = Debugs (λ x d e. ClearsBreak slot d (Err clear_break_error.NoSlot) e) old m new
 AnswersUnbreak old m slot _ new = ⊥
 
+-- `watch`: the range ends within the offsets of 32 bits, and there is room
 abbrev pub AnswersWatch : List Debuggee → ℕ → ℕ → ℕ → Reply → List Debuggee → Type 0
 AnswersWatch old m address size Missing new = (machine_at old m ≡ None) × (new ≡ old)
 AnswersWatch old m address size Done new = Debugs (λ x d e. SetsWatch (watch_at address size) d (Ok tt) e) old m new
@@ -42,12 +45,14 @@ AnswersWatch old m address size Outside new = Debugs (λ x d e. SetsWatch (watch
 AnswersWatch old m address size Full new = Debugs (λ x d e. SetsWatch (watch_at address size) d (Err set_watch_error.Full) e) old m new
 AnswersWatch old m address size _ new = ⊥
 
+-- `unwatch`: the range is set
 abbrev pub AnswersUnwatch : List Debuggee → ℕ → ℕ → ℕ → Reply → List Debuggee → Type 0
 AnswersUnwatch old m address size Missing new = (machine_at old m ≡ None) × (new ≡ old)
 AnswersUnwatch old m address size Done new = Debugs (λ x d e. ClearsWatch (watch_at address size) d (Ok tt) e) old m new
 AnswersUnwatch old m address size NoWatch new = Debugs (λ x d e. ClearsWatch (watch_at address size) d (Err clear_watch_error.NoWatch) e) old m new
 AnswersUnwatch old m address size _ new = ⊥
 
+-- `resume`: the machine is paused
 abbrev pub AnswersResume : List Debuggee → ℕ → Reply → List Debuggee → Type 0
 AnswersResume old m Missing new = (machine_at old m ≡ None) × (new ≡ old)
 AnswersResume old m Done new = Debugs (λ x d e. Resumes d (Ok tt) e) old m new

@@ -41,11 +41,13 @@ FreesPlain old n (Scoped k) new = (k ≡ n) × IsLive old n × (new ≡ old)
 FreesPlain old n (Freed k) new = (k ≡ n) × IsLive old n × (new ≡ with_bytes old n [])
 FreesPlain old n _ new = ⊥
 
+-- the bytes stand over those of the object from the offset on
 abbrev pub PutsPlain : List (List ℕ) → ℕ → ℕ → List ℕ → Reply → List (List ℕ) → Type 0
 PutsPlain old n offset bytes Outside new = (HasRange old n offset (length bytes) → ⊥) × (new ≡ old)
 PutsPlain old n offset bytes Done new = HasRange old n offset (length bytes) × (new ≡ with_range old n offset bytes)
 PutsPlain old n offset bytes _ new = ⊥
 
+-- the object's bytes from the offset on
 abbrev pub GetsPlain : List (List ℕ) → ℕ → ℕ → ℕ → Reply → Type 0
 GetsPlain objects n offset size Outside = HasRange objects n offset size → ⊥
 GetsPlain objects n offset size NoMemory = HasRange objects n offset size
@@ -54,9 +56,11 @@ GetsPlain objects n offset size _ = ⊥
 
 -- ---- commands
 
+-- the objects change so, and the machines stay as they are
 abbrev pub InObjects : (List (List ℕ) → List (List ℕ) → Type 0) → PlainState → PlainState → Type 0
 InObjects change old new = change old.objects new.objects × (new ≡ record old { objects = new.objects })
 
+-- the machines change so, and the objects stay as they are
 abbrev pub InPlainMachines : (List Debuggee → List Debuggee → Type 0) → PlainState → PlainState → Type 0
 InPlainMachines change old new = change old.machines new.machines × (new ≡ record old { machines = new.machines })
 
@@ -82,6 +86,7 @@ PlainAnswers old _ reply new = ⊥
 
 -- ---- what is left out
 
+-- a command that moves an object
 abbrev pub is_move : Command → Bool
 is_move (Leave n) = true
 is_move (Left n) = true
@@ -95,6 +100,7 @@ is_absence (Waiting m n) = true
 is_absence (Away n) = true
 is_absence _ = false
 
+-- a command of an agent whose objects never move, with its reply
 abbrev pub is_unmoved : Command → Reply → Bool
 is_unmoved c r = not (is_move c || is_absence r)
 
@@ -102,5 +108,6 @@ is_unmoved c r = not (is_move c || is_absence r)
 abbrev pub unmoved_commands : List Command → List Reply → List Command
 unmoved_commands cs rs = commands_kept is_unmoved cs rs
 
+-- its replies
 abbrev pub unmoved_replies : List Command → List Reply → List Reply
 unmoved_replies cs rs = replies_kept is_unmoved cs rs

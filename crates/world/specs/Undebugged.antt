@@ -11,6 +11,7 @@ use Rattle.world.specs.Commands.Command.{Step, One, Break, Unbreak, Watch, Unwat
 use Rattle.world.specs.WorldState.{WorldState}
 use Rattle.world.specs.Kept.{commands_kept, replies_kept}
 
+-- the machine with nothing set, and not paused
 abbrev pub undebugged_machine : Debuggee → Debuggee
 undebugged_machine d = record d { debugger = debug_start }
 
@@ -20,6 +21,7 @@ undebugged w = record w { machines = map undebugged_machine w.machines }
 
 -- ---- what is left out
 
+-- a command of the debugger
 abbrev pub is_debugging : Command → Bool
 is_debugging (Break m slot) = true
 is_debugging (Unbreak m slot) = true
@@ -33,15 +35,18 @@ abbrev pub is_pause : Reply → Bool
 is_pause (Paused m slot) = true
 is_pause _ = false
 
+-- a command of an agent that nobody debugs, with its reply
 abbrev pub is_undebugged : Command → Reply → Bool
 is_undebugged c r = not (is_debugging c || is_pause r)
 
 -- ---- other words
 
+-- `one` is `step`
 abbrev pub undebugged_command : Command → Command
 undebugged_command (One m) = Step m
 undebugged_command c = c
 
+-- a paused machine runs
 abbrev pub unpaused : State → State
 unpaused state.Paused = state.Running
 unpaused s = s
@@ -56,5 +61,6 @@ undebugged_reply r = r
 abbrev pub undebugged_commands : List Command → List Reply → List Command
 undebugged_commands cs rs = map undebugged_command (commands_kept is_undebugged cs rs)
 
+-- its replies
 abbrev pub undebugged_replies : List Command → List Reply → List Reply
 undebugged_replies cs rs = map undebugged_reply (replies_kept is_undebugged cs rs)
