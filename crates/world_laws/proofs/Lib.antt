@@ -5,3 +5,8 @@ pub mod Faults
 pub mod Showing
 pub mod Debugged
 pub mod OtherMachines
+pub mod Apart
+pub mod Puts
+pub mod KeptCode
+pub mod Shipped
+pub mod Numbers

@@ -1,14 +1,16 @@
 -- What replies tell of the state, and which replies there may be.
-use Rattle.std.specs.Prelude.{◌≡◌, ◌≢◌, ℕ, Bool, true, false, map, Option, Some, None}
+use Rattle.std.specs.Prelude.{◌≡◌, ◌≢◌, ℕ, zero, suc, Bool, true, false, List, [], ◌∷◌, length, map, Option, Some, None, ◌⊎◌}
+use Rattle.memory.specs.Objects.{bytes_of}
 use Rattle.object_store.specs.declared.places.Place.{Place}
 use Rattle.object_store.specs.Stores.{with_place, HasRisen}
 use Rattle.machine.specs.MachineState.{MachineState}
 use Rattle.world.specs.declared.debuggee.Debuggee.{Debuggee}
 use Rattle.world.specs.declared.events.Reply.{Reply}
-use Rattle.world.specs.declared.events.Reply.TheVariants.{NoMemory, Full, NoRoom, Outside, Away, Misplaced, Scoped, Faulted, NoSlot, NoWatch, NotPaused, Refused, Missing}
+use Rattle.world.specs.declared.events.Reply.TheVariants.{Made, Done, Bytes, Shipped, NoMemory, Full, NoRoom, Outside, Away, Misplaced, Scoped, Faulted, NoSlot, NoWatch, NotPaused, Refused, Missing}
 use Rattle.world.specs.Commands.{Command}
-use Rattle.world.specs.Commands.Command.{Get, Step, One, Regs, Out, Stack, Line, Break, Unbreak, Watch, Unwatch, Resume}
-use Rattle.world.specs.WorldState.{WorldState, machine_at}
+use Rattle.world.specs.Commands.Command.{Make, Free, Put, Get, Ship, Leave, Left, Return, Returned, Step, One, Regs, Out, Stack, Line, Break, Unbreak, Watch, Unwatch, Resume}
+use Rattle.world.specs.WorldState.{WorldState, world_start, machine_at}
+use Rattle.world.specs.Run.{Runs}
 use Rattle.world.specs.Answers.{Answers}
 
 -- ---- what changes nothing
@@ -81,3 +83,65 @@ steps _ = None
 abbrev pub OthersStay : Type 0
 OthersStay = (old new : WorldState) (command : Command) (reply : Reply) (m k : ℕ) → Answers old command reply new → steps command ≡ Some m → k ≢ m
     → machine_at new.machines k ≡ machine_at old.machines k
+
+-- the code of each command `ship` that was answered `shipped`, in order
+abbrev pub shipped_codes : List Command → List Reply → List (List ℕ)
+shipped_codes (Ship fuel arguments code ∷ commands) (Shipped m ∷ replies) = code ∷ shipped_codes commands replies
+shipped_codes (command ∷ commands) (reply ∷ replies) = shipped_codes commands replies
+shipped_codes _ _ = []
+
+abbrev pub code_of : Debuggee → List ℕ
+code_of d = d.machine.code
+
+-- Whatever was done, the programs are those that were shipped, byte for byte and in order.
+abbrev pub RunsWhatWasShipped : Type 0
+RunsWhatWasShipped = (budget faults : ℕ) (commands : List Command) (replies : List Reply) (new : WorldState) → Runs Answers (world_start budget faults) commands replies new
+    → map code_of new.machines ≡ shipped_codes commands replies
+
+-- ---- objects
+
+-- a command on objects alone
+abbrev pub is_on_objects : Command → Bool
+is_on_objects (Make size) = true
+is_on_objects (Free n) = true
+is_on_objects (Put n offset bytes) = true
+is_on_objects (Get n offset size) = true
+is_on_objects (Leave n) = true
+is_on_objects (Left n) = true
+is_on_objects (Return n) = true
+is_on_objects (Returned n) = true
+is_on_objects _ = false
+
+-- Commands on objects leave all machines and their debug states as they were.
+abbrev pub MachinesStay : Type 0
+MachinesStay = (old new : WorldState) (command : Command) (reply : Reply) → Answers old command reply new → is_on_objects command ≡ true → new.machines ≡ old.machines
+
+-- Commands on machines leave the objects as they were, but for steps.
+abbrev pub ObjectsStay : Type 0
+ObjectsStay = (old new : WorldState) (command : Command) (reply : Reply) → Answers old command reply new → is_on_objects command ≡ false → steps command ≡ None → new.store ≡ old.store
+
+-- Writing bytes into an object leaves every other object as it was.
+abbrev pub PutsStayApart : Type 0
+PutsStayApart = (old new : WorldState) (n offset k : ℕ) (bytes : List ℕ) (reply : Reply) → Answers old (Put n offset bytes) reply new → k ≢ n
+    → bytes_of new.store.objects k ≡ bytes_of old.store.objects k
+
+-- What was put is what is got.
+abbrev pub GetsWhatWasPut : Type 0
+GetsWhatWasPut = (old new : WorldState) (n offset : ℕ) (bytes : List ℕ) (reply : Reply)
+    → Runs Answers old (Put n offset bytes ∷ Get n offset (length bytes) ∷ []) (Done ∷ reply ∷ []) new → (reply ≡ Bytes bytes) ⊎ (reply ≡ NoMemory)
+
+-- the numbers of the replies `made`, in order
+abbrev pub made_numbers : List Reply → List ℕ
+made_numbers [] = []
+made_numbers (Made n ∷ replies) = n ∷ made_numbers replies
+made_numbers (reply ∷ replies) = made_numbers replies
+
+-- so many numbers, counting up from the first
+abbrev pub counted_from : ℕ → ℕ → List ℕ
+counted_from n zero = []
+counted_from n (suc count) = n ∷ counted_from (suc n) count
+
+-- Objects are numbered from 1, in the order in which they are made. So no number is used again, freed or not.
+abbrev pub NumbersCountUp : Type 0
+NumbersCountUp = (budget faults : ℕ) (commands : List Command) (replies : List Reply) (new : WorldState) → Runs Answers (world_start budget faults) commands replies new
+    → made_numbers replies ≡ counted_from 1 (length (made_numbers replies))

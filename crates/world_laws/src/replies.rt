@@ -1,6 +1,6 @@
 //! What replies tell of the state, and which replies there may be.
 
-ghost use Rattle.world_laws.specs.Replies.{RefusalsChangeNothing, FaultsChangeOnePlace, ShowingChangesNothing, DebuggingChangesDebugStateAlone, OthersStay};
+ghost use Rattle.world_laws.specs.Replies.{RefusalsChangeNothing, FaultsChangeOnePlace, ShowingChangesNothing, DebuggingChangesDebugStateAlone, OthersStay, RunsWhatWasShipped, MachinesStay, ObjectsStay, PutsStayApart, GetsWhatWasPut, NumbersCountUp};
 
 /// A refusal changes nothing.
 pub fn refusals_change_nothing()
@@ -25,4 +25,34 @@ pub fn debugging_changes_debug_state_alone()
 /// A step of one machine leaves every other machine, and its debug state, as they were.
 pub fn others_stay()
     ensures { OthersStay }
+{}
+
+/// Whatever was done, the programs are those that were shipped.
+pub fn runs_what_was_shipped()
+    ensures { RunsWhatWasShipped }
+{}
+
+/// Commands on objects leave the machines as they were.
+pub fn machines_stay()
+    ensures { MachinesStay }
+{}
+
+/// Commands on machines leave the objects as they were, but for steps.
+pub fn objects_stay()
+    ensures { ObjectsStay }
+{}
+
+/// Writing bytes into an object leaves every other object as it was.
+pub fn puts_stay_apart()
+    ensures { PutsStayApart }
+{}
+
+/// What was put is what is got.
+pub fn gets_what_was_put()
+    ensures { GetsWhatWasPut }
+{}
+
+/// Objects are numbered from 1, in the order in which they are made.
+pub fn numbers_count_up()
+    ensures { NumbersCountUp }
 {}

@@ -1,0 +1,61 @@
+-- A step keeps the machine's code.
+use Rattle.std.proofs.Common.{◌≡◌, ℕ, Bool, true, false, List, [], ◌∷◌, Option, Some, None, refl, ap, ◌∙◌, inl, inr}
+use Rattle.memory.specs.declared.access.Reach.TheVariants as reach
+use Rattle.memory.specs.Memories.{Memories}
+use Rattle.helpers.specs.declared.helper.Helper.{Helper}
+use Rattle.helpers.specs.Helpers.{helper_of}
+use Rattle.isa_table.specs.declared.instr.Instr.{Instr}
+use Rattle.isa_table.specs.declared.instr.Instr.TheVariants.{CallHelper, CallLocal, Exit}
+use Rattle.machine.specs.declared.state.Stepped.{Stepped}
+use Rattle.machine.specs.declared.state.Accessing.{Accessing}
+use Rattle.machine.specs.declared.state.Frame.{Frame}
+use Rattle.machine.specs.declared.state.Work.{Work}
+use Rattle.machine.specs.declared.state.Work.TheVariants.{Computes, Accesses, Measures}
+use Rattle.machine.specs.MachineState.{MachineState}
+use Rattle.machine.specs.Rows.{MemoryAnswer, Outcome, told_for, told_access, told_own, told_call, computed, exits, work_of}
+use Rattle.machine.specs.Rows.MemoryAnswer.{Reached, Measured}
+use Rattle.machine.specs.TableStep.{TableStep}
+use Rattle.machine.proofs.StepCases.{StepCase, step_case}
+
+abbrev KeepsCode : MachineState → Outcome → Type 0
+KeepsCode old o = o.machine.code ≡ old.code
+
+exits_keep : (frames : List Frame) (m : MachineState) → KeepsCode m (exits frames m)
+exits_keep [] m = refl
+exits_keep (f ∷ frames) m = refl
+
+call_keeps : (i : Instr) (h : Option Helper) (bytes : ℕ) (m : MachineState) → KeepsCode m (told_call i h bytes m)
+call_keeps i (Some h) bytes m = refl
+call_keeps i None bytes m = refl
+
+computed_keeps : (i : Instr) (m : MachineState) → KeepsCode m (computed i m)
+computed_keeps Exit m = exits_keep m.frames m
+computed_keeps (CallLocal o) m = refl
+computed_keeps (CallHelper id) m = call_keeps (CallHelper id) (helper_of id) 0 m
+computed_keeps _ m = refl
+
+own_keeps : (b : Bool) (i : Instr) (x : Accessing) (m : MachineState) → KeepsCode m (told_own b i x m)
+own_keeps true i x m = refl
+own_keeps false i x m = refl
+
+access_keeps : (i : Instr) (x : Accessing) (m : MachineState) (a : MemoryAnswer) → KeepsCode m (told_access i x m a)
+access_keeps i x m (Reached (reach.Done v)) = refl
+access_keeps i x m (Reached reach.Away) = refl
+access_keeps i x m (Reached reach.Busy) = refl
+access_keeps i x m (Reached reach.Outside) = refl
+access_keeps i x m (Reached reach.Worn) = refl
+access_keeps i x m _ = own_keeps _ i x m
+
+told_keeps : (w : Work) (i : Instr) (m : MachineState) (a : MemoryAnswer) → KeepsCode m (told_for w i m a)
+told_keeps Computes i m a = computed_keeps i m
+told_keeps (Accesses x) i m a = access_keeps i x m a
+told_keeps (Measures n) i m (Measured k) = refl
+told_keeps (Measures n) i m _ = refl
+
+case_keeps : {M : Type 0} (mem : Memories M) (old : MachineState) (before mid : M) (o : Outcome) → StepCase mem old before o mid → KeepsCode old o
+case_keeps mem old before mid o (inl d) = ap (λ (x : Outcome). x.machine.code) d.becomes
+case_keeps mem old before mid o (inr (inl d)) = ap (λ (x : Outcome). x.machine.code) d.becomes
+case_keeps mem old before mid o (inr (inr d)) = ap (λ (x : Outcome). x.machine.code) d.becomes ∙ told_keeps (work_of d.instr old.registers) d.instr old d.said
+
+pub step_keeps_code : {M : Type 0} (mem : Memories M) (old new : MachineState) (before after : M) (a : Stepped) → TableStep mem old before a new after → new.code ≡ old.code
+step_keeps_code mem old new before after a t = case_keeps mem old before t.mid _ (step_case mem old.stop old before _ t.mid refl t.steps)
