@@ -1,11 +1,31 @@
-/* Nanoseconds a step of the agent's machine beside the plain interpreter, on programs that compute, call, load and store. */
-#include "plain.h"
+/* Nanoseconds a step of the agent's machine, called once an instruction, beside a flat interpreter in C; and what the number of
+   objects, of machines and of scopes costs. Runs are interleaved, and of each the tenth percentile counts. */
+#include "flat.h"
 #include <stdio.h>
 #include <stdlib.h>
 #include <string.h>
 #include <time.h>
 
-uint64_t bpf_run(const uint8_t *code, size_t length, uint64_t fuel, uint64_t argument);
+/* The code in the last of so many machines, beside so many objects: the first of 65,536 bytes. Gives R0 as it stops. */
+uint64_t bpf_run(const uint8_t *code, size_t length, uint64_t fuel, uint64_t argument, uint32_t objects, size_t machines);
+
+#define RUNS 101
+#define STEPS 400000
+#define CODE_LIMIT 32768
+#define OBJECT_BYTES 65536
+#define OBJECT(n) ((uint64_t)(n) << 32)
+
+struct code {
+    uint8_t bytes[CODE_LIMIT];
+    size_t length;
+};
+
+/* What R1 is, and beside how many objects and machines the code runs. */
+struct setting {
+    uint64_t argument;
+    uint32_t objects;
+    size_t machines;
+};
 
 static double now(void)
 {
@@ -20,82 +40,240 @@ static int by_value(const void *a, const void *b)
     return (x > y) - (x < y);
 }
 
-#define RUNS 9
-
-#define OBJECT_BYTES 65536
-#define OBJECT 0x100000000
-static uint8_t object[OBJECT_BYTES];
-
-/* R1 is the address of object 1. */
-static void compare(const char *name, const uint8_t *bytes, size_t length, uint64_t fuel)
+static double tenth_percentile(double *times)
 {
-    const struct plain_object objects[2] = { { NULL, 0 }, { object, OBJECT_BYTES } };
-    size_t slots = length / 8;
-    struct plain_instr *code = calloc(slots, sizeof *code);
-    if (!code) exit(1);
-    plain_decode(code, bytes, slots);
-    double ours[RUNS], theirs[RUNS], ratios[RUNS];
+    qsort(times, RUNS, sizeof *times, by_value);
+    return times[RUNS / 10];
+}
+
+/* ---- both interpreters */
+
+/* The time of a run; that of loading the code and making the objects is taken off. */
+static double ours(const struct code *c, uint64_t fuel, const struct setting *s, uint64_t *result)
+{
+    double a = now();
+    bpf_run(c->bytes, c->length, 0, s->argument, s->objects, s->machines);
+    double b = now();
+    *result = bpf_run(c->bytes, c->length, fuel, s->argument, s->objects, s->machines);
+    return now() - b - (b - a);
+}
+
+/* The same; afterwards `fuel` is what was left. */
+static double theirs(const struct flat_instr *decoded, uint64_t *fuel, uint64_t *result)
+{
+    static uint8_t object[OBJECT_BYTES];
+    static struct flat_machine m;
+    memset(object, 0, sizeof object);
+    flat_start(&m, decoded, *fuel, OBJECT(1));
+    m.table[2] = (struct flat_object){ object, sizeof object };
+    double a = now();
+    flat_run(&m);
+    double b = now();
+    *fuel = m.fuel;
+    *result = m.registers[0];
+    return b - a;
+}
+
+/* The ratio of a program's time to that of C. */
+static double compare(const char *name, const struct code *c, uint64_t fuel)
+{
+    static const struct setting one = { OBJECT(1), 1, 1 };
+    static struct flat_instr decoded[CODE_LIMIT / 8];
+    double agent[RUNS], plain[RUNS];
+    uint64_t left = fuel;
+    flat_decode(decoded, c->bytes, c->length / 8);
     for (int k = 0; k < RUNS; k++) {
-        struct plain_machine m;
-        double a = now();
-        uint64_t x = bpf_run(bytes, length, fuel, OBJECT);
-        double b = now();
-        memset(object, 0, sizeof object);
-        plain_start(&m, code, fuel, OBJECT);
-        plain_objects(&m, objects, 2);
-        uint64_t y = plain_run(&m);
-        double c = now();
+        uint64_t x, y;
+        left = fuel;
+        agent[k] = ours(c, fuel, &one, &x);
+        plain[k] = theirs(decoded, &left, &y);
         if (x != y) {
             printf("%s: the results differ\n", name);
             exit(1);
         }
-        ours[k] = b - a;
-        theirs[k] = c - b;
-        ratios[k] = (b - a) / (c - b);
     }
-    qsort(ours, RUNS, sizeof *ours, by_value);
-    qsort(theirs, RUNS, sizeof *theirs, by_value);
-    qsort(ratios, RUNS, sizeof *ratios, by_value);
-    printf("%-22s agent %6.2f ns a step, plain C %6.2f, ratio %.2f\n", name, 1e9 * ours[0] / (double)fuel, 1e9 * theirs[0] / (double)fuel, ratios[RUNS / 2]);
-    free(code);
+    double a = tenth_percentile(agent), b = tenth_percentile(plain), steps = (double)(fuel - left);
+    printf("%-28s agent %6.2f ns a step, flat C %6.2f, ratio %.2f\n", name, 1e9 * a / steps, 1e9 * b / steps, a / b);
+    return a / b;
 }
 
-int main(void)
+/* The ratio of the agent's times of two programs in two settings. */
+static void scales(const char *name, const struct code *c, struct setting first, const struct code *d, struct setting second)
 {
-    /* r0 = 0; r0 += 1; if r0 != -1 goto -2; exit */
-    static const uint8_t loop[] = { 0xb7, 0, 0, 0, 0, 0, 0, 0, 0x07, 0, 0, 0, 1, 0, 0, 0, 0x55, 0, 0xfe, 0xff, 0xff, 0xff, 0xff, 0xff, 0x95, 0, 0, 0, 0, 0, 0, 0 };
-    /* r6 = 1; then r6 += 3, r6 *= r1, r6 ^= 5, r6 >>= 1, r6 |= r1, r6 -= 7, r6 += r1 (32 bits), goto -8 */
-    static const uint8_t straight[] = {
-        0xb7, 6, 0, 0, 1, 0, 0, 0, 0x07, 6, 0, 0, 3, 0, 0, 0, 0x2f, 0x16, 0, 0, 0, 0, 0, 0, 0xa7, 6, 0, 0, 5, 0, 0, 0,
-        0x77, 6, 0, 0, 1, 0, 0, 0, 0x4f, 0x16, 0, 0, 0, 0, 0, 0, 0x17, 6, 0, 0, 7, 0, 0, 0, 0x0c, 0x16, 0, 0, 0, 0, 0, 0,
-        0x05, 0, 0xf8, 0xff, 0, 0, 0, 0 };
-    /* call +1; goto -2; call +1; exit; r0 += 1; exit */
-    static const uint8_t calls[] = {
-        0x85, 0x10, 0, 0, 1, 0, 0, 0, 0x05, 0, 0xfe, 0xff, 0, 0, 0, 0, 0x85, 0x10, 0, 0, 1, 0, 0, 0, 0x95, 0, 0, 0, 0, 0, 0, 0,
-        0x07, 0, 0, 0, 1, 0, 0, 0, 0x95, 0, 0, 0, 0, 0, 0, 0 };
-    /* ldxdw r0, [r1+8]; ldxw r0, [r1+16]; ldxh r0, [r1+24]; ldxsb r0, [r1+32]; goto -5 */
-    static const uint8_t loads[] = {
-        0x79, 0x10, 8, 0, 0, 0, 0, 0, 0x61, 0x10, 16, 0, 0, 0, 0, 0, 0x69, 0x10, 24, 0, 0, 0, 0, 0, 0x91, 0x10, 32, 0, 0, 0, 0, 0,
-        0x05, 0, 0xfb, 0xff, 0, 0, 0, 0 };
-    /* stxdw [r1+8], r1; stw [r1+16], 7; stxh [r1+24], r1; stxb [r10-8], r1; goto -5 */
-    static const uint8_t stores[] = {
-        0x7b, 0x11, 8, 0, 0, 0, 0, 0, 0x62, 1, 16, 0, 7, 0, 0, 0, 0x6b, 0x11, 24, 0, 0, 0, 0, 0, 0x73, 0x1a, 0xf8, 0xff, 0, 0, 0, 0,
-        0x05, 0, 0xfb, 0xff, 0, 0, 0, 0 };
-    /* r2 = 3; then aadd [r1+8], r2; afadd32 [r1+16], r2; axchg [r1+24], r2; acmpxchg [r1+8], r2; goto -5 */
-    static const uint8_t atomics[] = {
-        0xb7, 2, 0, 0, 3, 0, 0, 0, 0xdb, 0x21, 8, 0, 0, 0, 0, 0, 0xc3, 0x21, 16, 0, 1, 0, 0, 0, 0xdb, 0x21, 24, 0, 0xe1, 0, 0, 0,
-        0xdb, 0x21, 8, 0, 0xf1, 0, 0, 0, 0x05, 0, 0xfb, 0xff, 0, 0, 0, 0 };
-    /* r2 = r1; r3 = r1; r3 += 65536; then r4 = [r2]; r0 += r4; [r2] = r0; aadd [r2], r4; r2 += 8; if r2 < r3 goto -6; goto -10 */
-    static const uint8_t walk[] = {
-        0xbf, 0x12, 0, 0, 0, 0, 0, 0, 0xbf, 0x13, 0, 0, 0, 0, 0, 0, 0x07, 3, 0, 0, 0, 0, 1, 0, 0x79, 0x24, 0, 0, 0, 0, 0, 0,
-        0x0f, 0x40, 0, 0, 0, 0, 0, 0, 0x7b, 2, 0, 0, 0, 0, 0, 0, 0xdb, 0x42, 0, 0, 0, 0, 0, 0, 0x07, 2, 0, 0, 8, 0, 0, 0,
-        0xad, 0x32, 0xfa, 0xff, 0, 0, 0, 0, 0x05, 0, 0xf6, 0xff, 0, 0, 0, 0 };
-    compare("counting loop", loop, sizeof loop, 20000000);
-    compare("straight arithmetic", straight, sizeof straight, 20000000);
-    compare("nested calls", calls, sizeof calls, 20000000);
-    compare("loads", loads, sizeof loads, 20000000);
-    compare("stores", stores, sizeof stores, 20000000);
-    compare("atomic operations", atomics, sizeof atomics, 20000000);
-    compare("over 64 KiB", walk, sizeof walk, 20000000);
+    double one[RUNS], other[RUNS];
+    for (int k = 0; k < RUNS; k++) {
+        uint64_t x;
+        one[k] = ours(c, STEPS, &first, &x);
+        other[k] = ours(d, STEPS, &second, &x);
+    }
+    double a = tenth_percentile(one), b = tenth_percentile(other);
+    printf("%-28s %6.2f and %6.2f ns a step, ratio %.2f\n", name, 1e9 * a / STEPS, 1e9 * b / STEPS, b / a);
+}
+
+/* ---- code */
+
+static void stored(const char *folder, const char *name, struct code *c)
+{
+    char path[512];
+    snprintf(path, sizeof path, "%s/%s.code", folder, name);
+    FILE *f = fopen(path, "rb");
+    if (!f) {
+        perror(path);
+        exit(1);
+    }
+    c->length = fread(c->bytes, 1, sizeof c->bytes, f);
+    fclose(f);
+}
+
+/* Appends a slot. */
+static void put(struct code *c, uint8_t opcode, int dst, int src, int16_t offset, int32_t imm)
+{
+    uint8_t *b = c->bytes + c->length;
+    b[0] = opcode;
+    b[1] = (uint8_t)(src << 4 | dst);
+    memcpy(b + 2, &offset, 2);
+    memcpy(b + 4, &imm, 4);
+    c->length += 8;
+}
+
+/* An unconditional jump back to a slot. */
+static void back_to(struct code *c, size_t slot)
+{
+    put(c, 0x05, 0, 0, (int16_t)(slot - c->length / 8 - 1), 0);
+}
+
+/* r0 += 1; if r0 != -1 goto -2 */
+static struct code counting(void)
+{
+    static struct code c;
+    put(&c, 0x07, 0, 0, 0, 1);
+    put(&c, 0x55, 0, 0, -2, -1);
+    put(&c, 0x95, 0, 0, 0, 0);
+    return c;
+}
+
+/* r6 += 3, r6 *= r1, r6 ^= 5, r6 >>= 1, r6 |= r1, r6 -= 7, r6 += r1 of 32 bits */
+static struct code straight(void)
+{
+    static struct code c;
+    put(&c, 0x07, 6, 0, 0, 3);
+    put(&c, 0x2f, 6, 1, 0, 0);
+    put(&c, 0xa7, 6, 0, 0, 5);
+    put(&c, 0x77, 6, 0, 0, 1);
+    put(&c, 0x4f, 6, 1, 0, 0);
+    put(&c, 0x17, 6, 0, 0, 7);
+    put(&c, 0x0c, 6, 1, 0, 0);
+    back_to(&c, 0);
+    return c;
+}
+
+/* A call of a function that calls one that adds. */
+static struct code calls(void)
+{
+    static struct code c;
+    put(&c, 0x85, 0, 1, 0, 1);
+    back_to(&c, 0);
+    put(&c, 0x85, 0, 1, 0, 1);
+    put(&c, 0x95, 0, 0, 0, 0);
+    put(&c, 0x07, 0, 0, 0, 1);
+    put(&c, 0x95, 0, 0, 0, 0);
+    return c;
+}
+
+static struct code loads(void)
+{
+    static struct code c;
+    put(&c, 0x79, 0, 1, 8, 0);
+    put(&c, 0x61, 0, 1, 16, 0);
+    put(&c, 0x69, 0, 1, 24, 0);
+    put(&c, 0x91, 0, 1, 32, 0);
+    back_to(&c, 0);
+    return c;
+}
+
+/* Three stores to the object, and one to the stack. */
+static struct code stores(void)
+{
+    static struct code c;
+    put(&c, 0x7b, 1, 1, 8, 0);
+    put(&c, 0x62, 1, 0, 16, 7);
+    put(&c, 0x6b, 1, 1, 24, 0);
+    put(&c, 0x73, 10, 1, -8, 0);
+    back_to(&c, 0);
+    return c;
+}
+
+/* An addition, one of 4 bytes with a fetch, an exchange, a comparison and exchange. */
+static struct code atomics(void)
+{
+    static struct code c;
+    put(&c, 0xdb, 1, 2, 8, 0x00);
+    put(&c, 0xc3, 1, 2, 16, 0x01);
+    put(&c, 0xdb, 1, 2, 24, 0xe1);
+    put(&c, 0xdb, 1, 2, 8, 0xf1);
+    back_to(&c, 0);
+    return c;
+}
+
+/* Loads from five objects in turn, whose addresses count up by `stride` objects. */
+static struct code loads_in_turn(int32_t stride)
+{
+    struct code c = { .length = 0 };
+    for (int k = 0; k < 5; k++) {
+        put(&c, 0x18, k + 2, 0, 0, 0);
+        put(&c, 0, 0, 0, 0, 1 + k * stride);
+    }
+    for (int k = 0; k < 5; k++) put(&c, 0x79, 0, k + 2, 8, 0);
+    back_to(&c, 10);
+    return c;
+}
+
+/* ---- what is measured */
+
+static void compiled(const char *folder)
+{
+    static const char *const names[] = { "checksum", "gcd", "sieve", "sort", "table" };
+    static struct code c;
+    double sum = 0;
+    for (size_t k = 0; k < 5; k++) {
+        stored(folder, names[k], &c);
+        sum += compare(names[k], &c, 1u << 30);
+    }
+    printf("%-28s ratio %.2f\n", "mean of the five", sum / 5);
+}
+
+static void rows(void)
+{
+    struct code c = counting();
+    compare("counting loop", &c, STEPS);
+    c = straight();
+    compare("straight arithmetic", &c, STEPS);
+    c = calls();
+    compare("nested calls", &c, STEPS);
+    c = loads();
+    compare("loads", &c, STEPS);
+    c = stores();
+    compare("stores", &c, STEPS);
+    c = atomics();
+    compare("atomic operations", &c, STEPS);
+}
+
+static void growth(void)
+{
+    const struct setting alone = { OBJECT(1), 1, 1 }, many_objects = { OBJECT(1024), 1024, 1 };
+    const struct setting many_machines = { OBJECT(1), 1, 48 }, five_objects = { OBJECT(1), 5, 1 };
+    const struct code c = loads(), same = loads_in_turn(0), other = loads_in_turn(1);
+    scales("loads, 1 and 1024 objects", &c, alone, &c, many_objects);
+    scales("loads, 1 and 48 machines", &c, alone, &c, many_machines);
+    scales("loads, open and new scope", &same, five_objects, &other, five_objects);
+}
+
+/* steps FOLDER: the folder has the code of the compiled programs. */
+int main(int count, char **words)
+{
+    if (count != 2) return 2;
+    compiled(words[1]);
+    rows();
+    growth();
     return 0;
 }

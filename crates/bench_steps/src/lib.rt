@@ -1,21 +1,37 @@
 //! Steps of a machine, for a program in C that measures them.
 #![tactic(auto)]
 
-ghost use Rattle.std.specs.Prelude.{◌≡◌};
+ghost use Rattle.std.specs.Prelude.{◌≡◌, ◌≤◌};
 ghost use Rattle.bench_steps.specs.Reached.{Reaches, IsEnd};
 
+use far_store::OwnStore;
 use loader::load;
 use machine::{Machine, Stepped};
-use memory::PlainStore;
+use memory::Memory;
+use object_store::{MACHINE_LIMIT, ObjectStore, StoreMemory};
 use std::alloc::Global;
 
-/// Steps the machine until it stops.
-fn run_to_end(machine: &mut Machine, store: &mut PlainStore) -> Stepped
-    ensures steps { Reaches machine.old store.old machine.new store.new }
+/// How many bytes may be here at a time.
+const BUDGET: u32 = 67_108_864;
+
+/// How many bytes the first object has.
+const FIRST_BYTES: u32 = 65_536;
+
+/// How many bytes each other object has.
+const OTHER_BYTES: u32 = 64;
+
+/// How many steps each other machine does.
+const OTHER_STEPS: u64 = 64;
+
+/// Steps the machine until it stops, or waits.
+fn run_to_end<M: Memory>(machine: &mut Machine, memory: &mut M) -> Stepped
+    requires ready { M.is_ready memory.old }
+    ensures ready { M.is_ready memory.new }
+    ensures steps { Reaches M.acts machine.old memory.old machine.new memory.new }
     ensures end { IsEnd result }
 {
     loop {
-        match machine.step(store) {
+        match machine.step(memory) {
             Stepped::Ran(_) => {}
             Stepped::Waiting(number) => return Stepped::Waiting(number),
             Stepped::Stopped(stop) => return Stepped::Stopped(stop),
@@ -23,17 +39,64 @@ fn run_to_end(machine: &mut Machine, store: &mut PlainStore) -> Stepped
     }
 }
 
-/// Runs the code with this fuel and with R1 as given, beside an object of 65,536 bytes with number 1, and gives R0 as the
-/// machine stops; 0 where the code isn't loaded.
+/// A store of so many objects.
+fn store_of(alloc: Global, objects: u32) -> Option<ObjectStore<OwnStore>> {
+    let mut store = ObjectStore::new(alloc, BUDGET, OwnStore::new(alloc)).ok()?;
+    for count in 0..objects {
+        let length = if count == 0 { FIRST_BYTES } else { OTHER_BYTES };
+        store.make(length).ok()?;
+    }
+    Some(store)
+}
+
+/// The machine of this number runs a little, so that what it reaches is in its scope.
+fn run_a_little(
+    alloc: Global,
+    code: &[u8],
+    store: &mut ObjectStore<OwnStore>,
+    who: usize,
+    argument: u64,
+)
+    requires { who ≤ 48 }
+{
+    let Ok(program) = load(alloc, code) else {
+        return;
+    };
+    let mut machine = Machine::new(program, who, u64::MAX, [argument, 0, 0, 0, 0]);
+    for _ in 0..OTHER_STEPS {
+        let mut memory = StoreMemory {
+            store: &mut *store,
+            who,
+        };
+        let _ = machine.step(&mut memory);
+    }
+}
+
+/// Runs the code in the last of so many machines, with this fuel and with R1 as given, beside so many objects: the first of
+/// 65,536 bytes, and each other of 64. Gives R0 as the machine stops; 0 where the code isn't loaded.
 #[unsafe(no_mangle)]
-pub extern "C" fn bpf_run(alloc: Global, code: &[u8], fuel: u64, argument: u64) -> u64 {
-    let (Ok(program), Ok(mut store)) = (load(alloc, code), PlainStore::new(alloc)) else {
+pub extern "C" fn bpf_run(
+    alloc: Global,
+    code: &[u8],
+    fuel: u64,
+    argument: u64,
+    objects: u32,
+    machines: usize,
+) -> u64 {
+    let (Ok(program), Some(mut store)) = (load(alloc, code), store_of(alloc, objects)) else {
         return 0;
     };
-    if store.make(65_536).is_err() {
+    if machines > MACHINE_LIMIT {
         return 0;
     }
-    let mut machine = Machine::new(program, 1, fuel, [argument, 0, 0, 0, 0]);
-    let _ = run_to_end(&mut machine, &mut store);
+    for who in 1..machines {
+        run_a_little(alloc, code, &mut store, who, argument);
+    }
+    let mut machine = Machine::new(program, machines, fuel, [argument, 0, 0, 0, 0]);
+    let mut memory = StoreMemory {
+        store: &mut store,
+        who: machines,
+    };
+    let _ = run_to_end(&mut machine, &mut memory);
     machine.registers()[0]
 }

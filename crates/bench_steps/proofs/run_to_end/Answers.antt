@@ -1,5 +1,4 @@
 use Rattle.std.proofs.Common.{arith, refl}
-use Rattle.memory.specs.Objects.{map_memory}
 use Rattle.machine.specs.TableStep.{TableStep}
 use Rattle.machine.specs.declared.state.Stepped.TheVariants.{Ran}
 use Rattle.machine.proofs.Fuel.{ran_paid}
@@ -7,18 +6,18 @@ use Rattle.bench_steps.specs.Reached.Reaches.{here, on}
 use Rattle.bench_steps.proofs.run_to_end.Goals as goal
 
 pub loop-number-init : goal.loop-number-init
-loop-number-init c = here _ _
+loop-number-init g c = (c.requires.ready, here _ _)
 
 pub returns-in-Stopped-clause-steps : goal.returns-in-Stopped-clause-steps
-returns-in-Stopped-clause-steps c = on _ _ _ _ _ _ _ c.loop-number.invariant c.step.ensures.step
+returns-in-Stopped-clause-steps g c = on _ _ _ _ _ _ _ c.loop-number.invariant.1 c.step.ensures.step
 
 pub returns-in-Waiting-clause-steps : goal.returns-in-Waiting-clause-steps
-returns-in-Waiting-clause-steps c = on _ _ _ _ _ _ _ c.loop-number.invariant c.step.ensures.step
+returns-in-Waiting-clause-steps g c = on _ _ _ _ _ _ _ c.loop-number.invariant.1 c.step.ensures.step
 
 pub loop-number-smaller : goal.loop-number-smaller
-loop-number-smaller c =
-    let paid = ran_paid map_memory _ _ _ _ _ _ refl (rw c.in-Ran.is at c.step.ensures.step) in
+loop-number-smaller g c =
+    let paid = ran_paid g.M.Memory.acts _ _ _ _ _ _ refl (rw c.in-Ran.is at c.step.ensures.step) in
     omega (arith, paid)
 
 pub loop-number-preserved : goal.loop-number-preserved
-loop-number-preserved c = on _ _ _ _ _ _ _ c.loop-number.invariant c.step.ensures.step
+loop-number-preserved g c = (c.step.ensures.ready, on _ _ _ _ _ _ _ c.loop-number.invariant.1 c.step.ensures.step)
