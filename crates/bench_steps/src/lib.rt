@@ -5,9 +5,10 @@ ghost use Rattle.std.specs.Prelude.{◌≡◌, ◌≤◌};
 ghost use Rattle.bench_steps.specs.Reached.{Reaches, IsEnd};
 
 use far_store::OwnStore;
+use isa_table::Size;
 use loader::load;
 use machine::{Machine, Stepped};
-use memory::Memory;
+use memory::{Action, Memory, Op};
 use object_store::{MACHINE_LIMIT, ObjectStore, StoreMemory};
 use std::alloc::Global;
 
@@ -20,8 +21,10 @@ const FIRST_BYTES: u32 = 65_536;
 /// How many bytes each other object has.
 const OTHER_BYTES: u32 = 64;
 
-/// How many steps each other machine does.
-const OTHER_STEPS: u64 = 64;
+const LOAD: Op = Op {
+    offset: 0,
+    action: Action::Load { size: Size::Byte },
+};
 
 /// Steps the machine until it stops, or waits.
 fn run_to_end<M: Memory>(machine: &mut Machine, memory: &mut M) -> Stepped
@@ -49,31 +52,16 @@ fn store_of(alloc: Global, objects: u32) -> Option<ObjectStore<OwnStore>> {
     Some(store)
 }
 
-/// The machine of this number runs a little, so that what it reaches is in its scope.
-fn run_a_little(
-    alloc: Global,
-    code: &[u8],
-    store: &mut ObjectStore<OwnStore>,
-    who: usize,
-    argument: u64,
-)
+/// Loads from the object, so that the machine of this number has it in its scope.
+fn hold(store: &mut ObjectStore<OwnStore>, who: usize, number: u32)
     requires { who ≤ 48 }
 {
-    let Ok(program) = load(alloc, code) else {
-        return;
-    };
-    let mut machine = Machine::new(program, who, u64::MAX, [argument, 0, 0, 0, 0]);
-    for _ in 0..OTHER_STEPS {
-        let mut memory = StoreMemory {
-            store: &mut *store,
-            who,
-        };
-        let _ = machine.step(&mut memory);
-    }
+    let _ = store.touch(who, number, &LOAD);
 }
 
-/// Runs the code in the last of so many machines, with this fuel and with R1 as given, beside so many objects: the first of
-/// 65,536 bytes, and each other of 64. Gives R0 as the machine stops; 0 where the code isn't loaded.
+/// Runs the code with this fuel and with R1 as given, beside so many objects: the first of 65,536 bytes, and each other of 64.
+/// Its machine has the number that is given, and each of a lower number has the last object in its scope. Gives R0 as the
+/// machine stops; 0 where the code isn't loaded.
 #[unsafe(no_mangle)]
 pub extern "C" fn bpf_run(
     alloc: Global,
@@ -90,7 +78,7 @@ pub extern "C" fn bpf_run(
         return 0;
     }
     for who in 1..machines {
-        run_a_little(alloc, code, &mut store, who, argument);
+        hold(&mut store, who, objects);
     }
     let mut machine = Machine::new(program, machines, fuel, [argument, 0, 0, 0, 0]);
     let mut memory = StoreMemory {

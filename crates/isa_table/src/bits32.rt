@@ -33,6 +33,7 @@ fn signed_remainder(d: u32, s: u32) -> u32
 }
 
 /// The operation on 32 bits.
+#[inline(always)]
 pub fn alu_of_32(op: AluOp, d: u32, s: u32) -> u32
     ensures { result ≡ alu_row 32 op d s }
 {
@@ -58,6 +59,7 @@ pub fn alu_of_32(op: AluOp, d: u32, s: u32) -> u32
 }
 
 /// Whether the condition holds of 32 bits.
+#[inline(always)]
 pub fn holds32(cond: Cond, d: u32, s: u32) -> bool
     ensures { result ≡ cond_row 32 cond d s }
 {
@@ -77,6 +79,7 @@ pub fn holds32(cond: Cond, d: u32, s: u32) -> bool
 }
 
 /// What the operation writes to memory of 32 bits in place of `old`; `None` where a compare-exchange writes nothing.
+#[inline(always)]
 pub fn atomic_of_32(op: AtomicOp, old: u32, src: u32, r0: u32) -> Option<u32>
     ensures { result ≡ atomic_row 32 op old src r0 }
 {

@@ -33,6 +33,7 @@ fn signed_remainder(d: u64, s: u64) -> u64
 }
 
 /// The operation on 64 bits (RFC 9669, section 4.1, class ALU64). A shift takes its count modulo 64.
+#[inline(always)]
 pub fn alu64(op: AluOp, d: u64, s: u64) -> u64
     ensures { result ≡ alu_row 64 op d s }
 {
@@ -58,6 +59,7 @@ pub fn alu64(op: AluOp, d: u64, s: u64) -> u64
 }
 
 /// Whether the condition holds of 64 bits.
+#[inline(always)]
 pub fn holds64(cond: Cond, d: u64, s: u64) -> bool
     ensures { result ≡ cond_row 64 cond d s }
 {
@@ -77,6 +79,7 @@ pub fn holds64(cond: Cond, d: u64, s: u64) -> bool
 }
 
 /// What the operation writes to memory of 64 bits in place of `old`; `None` where a compare-exchange writes nothing.
+#[inline(always)]
 pub fn atomic_of_64(op: AtomicOp, old: u64, src: u64, r0: u64) -> Option<u64>
     ensures { result ≡ atomic_row 64 op old src r0 }
 {

@@ -15,6 +15,7 @@ use crate::bits64::{atomic_of_64, holds64};
 use crate::instr::{AluOp, AtomicOp, Cond, Order, SwapWidth, Width};
 
 /// The operation on the low 32 bits (RFC 9669, section 4.1, class ALU); the upper half of the answer is zero.
+#[inline(always)]
 pub fn alu32(op: AluOp, d: u64, s: u64) -> u64
     ensures { result ≡ alu_row 32 op (unsigned 32 d) (unsigned 32 s) }
 {
@@ -22,6 +23,7 @@ pub fn alu32(op: AluOp, d: u64, s: u64) -> u64
 }
 
 /// The low 32 bits, sign-extended to 64 (RFC 9669, section 4.1).
+#[inline(always)]
 pub fn mov_sx32(s: u64) -> u64
     ensures { result ≡ mov_sx32_row s }
 {
@@ -43,6 +45,7 @@ pub fn swap(order: Order, width: SwapWidth, d: u64) -> u64
 }
 
 /// Whether the condition holds of the low bits (RFC 9669, section 4.3).
+#[inline(always)]
 pub fn holds(cond: Cond, width: Width, d: u64, s: u64) -> bool
     ensures { result
         ≡ cond_row (width_bits width) cond (unsigned (width_bits width) d) (
@@ -57,6 +60,7 @@ pub fn holds(cond: Cond, width: Width, d: u64, s: u64) -> bool
 
 /// What the operation writes to memory in place of `old`, from the low bits of the source register and of R0 (RFC 9669,
 /// section 5.3). `None` is a compare-exchange that finds another number than R0's, and writes nothing.
+#[inline(always)]
 pub fn atomic(op: AtomicOp, width: Width, old: u64, src: u64, r0: u64) -> Option<u64>
     requires { old < 2 ^ width_bits width }
     ensures { result

@@ -51,6 +51,7 @@ impl Action {
     ghost use Rattle.memory.specs.Access.{size_of, writes};
 
     /// How many bytes it reaches.
+    #[inline(always)]
     pub fn size(&self) -> Size
         ensures { result ≡ size_of self.now }
     {
@@ -62,6 +63,7 @@ impl Action {
     }
 
     /// Whether it wrote, where memory answered this: not a load, nor a compare-exchange whose comparison failed.
+    #[inline(always)]
     pub fn writes(&self, answer: u64) -> bool
         ensures { result ≡ writes self.now answer }
     {
@@ -89,6 +91,7 @@ impl Op {
     ghost use Rattle.memory.specs.Access.{IsInside, is_inside};
 
     /// Whether it ends within so many bytes.
+    #[inline(always)]
     pub fn is_inside(&self, count: usize) -> bool
         ensures value { result ≡ is_inside self.now count }
         ensures inside { IsTrue result ↔ IsInside self.now count }

@@ -8,6 +8,7 @@ use crate::access::{Action, Op};
 use byteorder::{ByteOrder, LittleEndian};
 use isa_table::{Size, atomic};
 
+#[inline(always)]
 fn read(bytes: &[u8], offset: usize, size: Size) -> u64
     requires { offset + size_bytes size ≤ length bytes.now }
     ensures value { result ≡ number_of (take (size_bytes size) (drop offset bytes.now)) }
@@ -21,6 +22,7 @@ fn read(bytes: &[u8], offset: usize, size: Size) -> u64
     }
 }
 
+#[inline(always)]
 fn write(bytes: &mut [u8], offset: usize, size: Size, value: u64)
     requires { offset + size_bytes size ≤ length bytes.old }
     ensures { bytes.new ≡ replaced offset (low_bytes (size_bytes size) value) bytes.old }
@@ -33,6 +35,7 @@ fn write(bytes: &mut [u8], offset: usize, size: Size, value: u64)
     }
 }
 
+#[inline(always)]
 fn write_if(bytes: &mut [u8], offset: usize, size: Size, value: Option<u64>)
     requires { offset + size_bytes size ≤ length bytes.old }
     ensures { bytes.new ≡ written offset (size_bytes size) value bytes.old }
@@ -51,6 +54,7 @@ pub fn overwrite(bytes: &mut [u8], offset: usize, new: &[u8])
 }
 
 /// Does an access on the bytes.
+#[inline(always)]
 pub fn act(bytes: &mut [u8], op: &Op) -> u64
     requires { IsInside op.now (length bytes.old) }
     ensures answer { result ≡ answer op.now bytes.old }

@@ -125,6 +125,7 @@ impl<F: FarStore> Body<F> {
     }
 
     /// How many bytes it has.
+    #[inline(always)]
     pub fn len(&self) -> usize
         ensures { result ≡ length self.now.bytes }
     {
@@ -132,6 +133,7 @@ impl<F: FarStore> Body<F> {
     }
 
     /// Where it is.
+    #[inline(always)]
     pub fn place(&self) -> Place
         ensures { result ≡ self.now.place }
     {
@@ -156,6 +158,7 @@ impl<F: FarStore> Body<F> {
     }
 
     /// Does an access.
+    #[inline(always)]
     pub fn act(&mut self, op: &Op) -> u64
         requires here { self.old.place ≡ place.Here }
         requires inside { IsInside op.now (length self.old.bytes) }

@@ -26,6 +26,7 @@ pub enum Standing {
 
 /// How many bytes a number has, wherever they are.
 #[tactic(auto, using(crate::proofs::Entries::at_steps))]
+#[inline(always)]
 pub fn length_at<F: FarStore>(bodies: &[Body<F>], number: usize) -> usize
     ensures value { result ≡ length (bytes_of (map bytes_in bodies.now) number) }
     ensures found { 0 < result → number < length bodies.now }
@@ -51,6 +52,7 @@ pub fn place_at<F: FarStore>(bodies: &[Body<F>], number: usize) -> Option<Place>
 
 /// Whether an access can be done.
 #[tactic(auto, using(crate::proofs::Entries::at_steps))]
+#[inline(always)]
 pub fn stand<F: FarStore>(bodies: &[Body<F>], number: usize, op: &Op) -> Standing
     ensures stands { Stands (map bytes_in bodies.now) (map place_in bodies.now) number op.now result }
     ensures found { result ≡ Standing.Here → number < length bodies.now }
@@ -87,6 +89,7 @@ pub fn stand_range<F: FarStore>(
 
 /// Does an access on an object.
 #[tactic(auto, using(crate::proofs::Entries::at_steps))]
+#[inline(always)]
 pub fn act_at<F: FarStore>(bodies: &mut [Body<F>], number: usize, op: &Op) -> u64
     requires found { number < length bodies.old }
     requires here { place_of (map place_in bodies.old) number ≡ place.Here }

@@ -156,6 +156,7 @@ impl<F: FarStore> ObjectStore<F> {
     }
 
     /// Does one access of an object by a machine, which then has it in scope. Takes no memory.
+    #[inline(always)]
     pub fn touch(&mut self, who: usize, number: u32, op: &Op) -> Reach
         requires { IsMachine who }
         ensures { Touches who self.old number op.now result self.new }
@@ -284,6 +285,7 @@ impl<'a, F: FarStore> Memory for StoreMemory<'a, F> {
         self.store.length(number)
     }
 
+    #[inline(always)]
     fn touch(&mut self, number: u32, op: &Op) -> Reach {
         self.store.touch(self.who, number, op)
     }
