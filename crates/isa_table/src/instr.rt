@@ -300,6 +300,7 @@ pub enum Instr {
 impl Instr {
     /// The register that the instruction writes; none where it writes none. What a local call and an exit do to the
     /// registers of the functions isn't counted.
+    #[inline(always)]
     pub fn destination(&self) -> Option<Reg>
         ensures { result ≡ destination self.now }
     {
