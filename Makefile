@@ -52,8 +52,8 @@ C_RUNTIME := $(dir $(realpath $(RT)))../c/liblibc_c.a
 bench: $(PROGRAM)
 	@mkdir -p $(BENCH)
 	@cd crates/bench_steps && $(RT) lib >/dev/null
-	@$(CC) -O2 -o $(BENCH)/steps bench/steps.c bench/plain.c crates/bench_steps/out/libbench_steps.a $(C_RUNTIME)
-	@$(CC) -O2 -o $(BENCH)/lines bench/lines.c bench/plain.c
-	@$(BENCH)/steps
+	@$(CC) -O2 -o $(BENCH)/steps bench/steps.c bench/flat.c crates/bench_steps/out/libbench_steps.a $(C_RUNTIME)
+	@$(CC) -O2 -o $(BENCH)/lines bench/lines.c bench/flat.c
+	@$(BENCH)/steps bench/programs
 	@python3 bench/lines.py $(PROGRAM) $(BENCH)/lines
 	@python3 bench/assembly.py $(PROGRAM)

@@ -1,6 +1,6 @@
-/* A plain line loop in C over the plain interpreter: `ship`, `step` and `regs`, each reply written before the next line is
-   looked at. It trusts its lines and the code: a measure of cost, no reference for the protocol. */
-#include "plain.h"
+/* A plain line loop in C over the flat interpreter: `make`, `get`, `ship` and `step`, each reply written before the next line
+   is looked at. It trusts its lines and the code: a measure of cost, no reference for the protocol. */
+#include "flat.h"
 #include <inttypes.h>
 #include <stdio.h>
 #include <stdlib.h>
@@ -9,9 +9,18 @@
 
 #define LINE_LIMIT 70000
 #define MACHINES 48
+#define OBJECTS 1024
 
-static struct plain_machine machines[MACHINES];
-static size_t count;
+struct line_machine {
+    struct flat_machine m;
+    uint64_t fuel;
+    int is_stopped;
+    enum flat_stop stop;
+};
+
+static struct line_machine machines[MACHINES];
+static struct flat_object objects[OBJECTS];
+static size_t machine_count, object_count;
 
 static void put(const char *text, size_t length)
 {
@@ -28,6 +37,33 @@ static int digit(char c)
     return c <= '9' ? c - '0' : (c | 32) - 'a' + 10;
 }
 
+static void make(char *words, char *reply)
+{
+    struct flat_object *object = &objects[object_count++];
+    object->length = strtoull(words, NULL, 0);
+    object->bytes = calloc(object->length, 1);
+    if (!object->bytes) exit(3);
+    for (size_t k = 0; k < machine_count; k++) machines[k].m.table[object_count + 1] = *object;
+    sprintf(reply, "made %zu\n", object_count);
+}
+
+static void get(char *words, char *reply)
+{
+    static const char digits[] = "0123456789abcdef";
+    size_t number = strtoull(words, &words, 0), offset = strtoull(words, &words, 0), count = strtoull(words, &words, 0);
+    if (number == 0 || number > object_count || offset + count > objects[number - 1].length) {
+        strcpy(reply, "outside\n");
+        return;
+    }
+    char *to = reply + sprintf(reply, "bytes ");
+    const uint8_t *from = objects[number - 1].bytes + offset;
+    for (size_t i = 0; i < count; i++) {
+        *to++ = digits[from[i] >> 4];
+        *to++ = digits[from[i] & 15];
+    }
+    strcpy(to, "\n");
+}
+
 static void ship(char *words, char *reply)
 {
     uint64_t fuel = strtoull(words, &words, 0), arguments[5];
@@ -35,41 +71,54 @@ static void ship(char *words, char *reply)
     char *hex = words + 1;
     size_t bytes = strlen(hex) / 2;
     uint8_t *raw = malloc(bytes);
-    struct plain_instr *code = calloc(bytes / 8, sizeof *code);
+    struct flat_instr *code = calloc(bytes / 8, sizeof *code);
     if (!raw || !code) exit(3);
     for (size_t i = 0; i < bytes; i++) raw[i] = (uint8_t)(digit(hex[2 * i]) << 4 | digit(hex[2 * i + 1]));
-    plain_decode(code, raw, bytes / 8);
+    flat_decode(code, raw, bytes / 8);
     free(raw);
-    plain_start(&machines[count], code, fuel, 0);
-    memcpy(&machines[count].registers[1], arguments, sizeof arguments);
-    sprintf(reply, "shipped %zu\n", ++count);
+    struct line_machine *m = &machines[machine_count++];
+    flat_start(&m->m, code, 1, 0);
+    memcpy(m->m.table + 2, objects, sizeof objects);
+    memcpy(&m->m.registers[1], arguments, sizeof arguments);
+    m->fuel = fuel;
+    sprintf(reply, "shipped %zu\n", machine_count);
 }
 
-static void reply_stop(size_t number, const struct plain_machine *m, char *reply)
+static void reply_stop(size_t number, const struct line_machine *m, char *reply)
 {
-    switch (m->stop) {
-    case PLAIN_EXIT: sprintf(reply, "stopped %zu exit %016" PRIx64 "\n", number, m->registers[0]); break;
-    case PLAIN_DEPTH: sprintf(reply, "stopped %zu depth\n", number); break;
-    default: sprintf(reply, "stopped %zu spent\n", number);
-    }
+    static const char *const names[] = { "exit", "outside", "misaligned", "depth", "spent" };
+    if (m->stop == FLAT_EXIT) sprintf(reply, "stopped %zu exit %016" PRIx64 "\n", number, m->m.registers[0]);
+    else sprintf(reply, "stopped %zu %s\n", number, names[m->stop]);
+}
+
+/* One instruction; the interpreter is given fuel for one. */
+static void do_one(struct line_machine *m)
+{
+    m->m.fuel = m->fuel > 0;
+    m->stop = flat_run(&m->m);
+    m->is_stopped = m->stop != FLAT_SPENT || m->fuel == 0;
+    if (m->stop == FLAT_EXIT || !m->is_stopped) m->fuel--;
 }
 
 static void step(char *words, char *reply)
 {
     size_t number = strtoull(words, NULL, 0);
-    if (number == 0 || number > count) {
+    if (number == 0 || number > machine_count) {
         strcpy(reply, "none\n");
         return;
     }
-    struct plain_machine *m = &machines[number - 1];
-    if (plain_step(m) == PLAIN_RUNS) sprintf(reply, "ran %zu %zu\n", number, m->slot);
-    else reply_stop(number, m, reply);
+    struct line_machine *m = &machines[number - 1];
+    if (!m->is_stopped) do_one(m);
+    if (m->is_stopped) reply_stop(number, m, reply);
+    else sprintf(reply, "ran %zu %" PRIu32 "\n", number, m->m.slot);
 }
 
 static void answer(char *line)
 {
-    char reply[320];
+    static char reply[LINE_LIMIT];
     if (!strncmp(line, "step ", 5)) step(line + 5, reply);
+    else if (!strncmp(line, "get ", 4)) get(line + 4, reply);
+    else if (!strncmp(line, "make ", 5)) make(line + 5, reply);
     else if (!strncmp(line, "ship ", 5)) ship(line + 5, reply);
     else strcpy(reply, "bad\n");
     put(reply, strlen(reply));
