@@ -1,13 +1,21 @@
 -- What is read from tokens.
-use Rattle.std.proofs.Common.{◌≡◌, ℕ, ◌<◌, ◌≤◌, List, [], ◌∷◌, drop, length, get_or, slice_index, Some, None, Result, Ok, Err, subst, sym, ◌∙◌, ap, arith}
+use Rattle.std.proofs.Common.{Bool, true, false, cond, ◌≡◌, ℕ, ◌<◌, ◌≤◌, List, [], ◌∷◌, drop, length, get_or, slice_index, Some, None, Result, Ok, Err, subst, sym, ◌∙◌, ap, arith}
 use Rattle.std.proofs.lemmas.List.{length-take}
 use Rattle.memory.specs.Objects.{bytes_of}
+use Rattle.object_store.specs.declared.places.Place.{Place}
+use Rattle.object_store.specs.declared.places.Place.TheVariants as place
+use Rattle.object_store.specs.declared.places.Moved.{Moved}
+use Rattle.object_store.specs.declared.places.Moved.TheVariants as moved
+use Rattle.machine.specs.declared.state.Stepped.{Stepped}
+use Rattle.machine.specs.declared.state.Stepped.TheVariants as stepped
+use Rattle.debugger.specs.DebugState.{DebugState, hits}
 use Rattle.world.specs.declared.events.Reply.{Reply}
 use Rattle.world.specs.declared.events.Reply.TheVariants as reply
 use Rattle.world.specs.WorldState.{WorldState}
-use Rattle.world.specs.Answers.{Answers}
+use Rattle.world.specs.Steps.{reply_to_step}
+use Rattle.world.specs.Answers.{Answers, reply_to_move}
 use Rattle.world.specs.Commands.{Command, command_of}
-use Rattle.world.specs.Commands.Command.{Get, Stack, Line}
+use Rattle.world.specs.Commands.Command.{Make, Free, Put, Get, Ship, Leave, Left, Return, Returned, Step, One, Regs, Out, Stack, Line, Break, Unbreak, Watch, Unwatch, Resume}
 use Rattle.world.specs.declared.events.Event.{Event}
 use Rattle.console.specs.Tokens.{tokens_of, within, IsWithin, AreBytes}
 use Rattle.console.specs.Replies.{IsShort}
@@ -67,10 +75,45 @@ said_short (name ∷ tokens) command s =
 pub asks_short : (line : List ℕ) (command : Command) → Spells line command → AsksShort command
 asks_short line command s = said_short (tokens_of line) command s.1
 
+-- ---- replies
+
+move_short : (told : Reply) (back : Place) (n : ℕ) (m : Moved) → IsShort told → IsShort (reply_to_move told back n m)
+move_short told back n moved.Done short = short
+move_short told back n moved.NoObject short = tt
+move_short told back n (moved.Misplaced p) short = tt
+move_short told back n moved.Scoped short = tt
+move_short told back n moved.NoRoom short = tt
+move_short told back n (moved.Fault f) short = tt
+
+ran_short : (hit : Bool) (m slot : ℕ) → IsShort (cond hit (reply.Hit m slot) (reply.Ran m slot))
+ran_short true m slot = tt
+ran_short false m slot = tt
+
+step_short : (m : ℕ) (answer : Stepped) (slot : ℕ) (d : DebugState) → IsShort (reply_to_step m answer slot d)
+step_short m (stepped.Ran wrote) slot d = ran_short (hits wrote d) m slot
+step_short m (stepped.Waiting n) slot d = tt
+step_short m (stepped.Stopped stop) slot d = tt
+
 -- so few bytes are answered as were asked for
-pub answers_short : (old new : WorldState) (command : Command) (reply : Reply) → Answers old command reply new → AsksShort command → IsShort reply
-answers_short old new (Get n offset size) (reply.Bytes shown) a short = let e = ap length a.1 in let l = length-take size (drop offset (bytes_of old.objects n)) in omega (arith, e, l, short)
-answers_short old new (Stack m offset size) (reply.Bytes shown) a short = let e = ap length a.0.2.1 in let l = length-take size (drop offset a.0.0.stack) in omega (arith, e, l, short)
-answers_short old new (Line m n) (reply.Bytes shown) a short = absurd a.0.2
-answers_short old new command (reply.Bytes shown) a short = absurd a
-answers_short old new command reply a short = tt
+pub answers_short : (old new : WorldState) (command : Command) (r : Reply) → Answers old command r new → AsksShort command → IsShort r
+answers_short old new (Get n offset size) (reply.Bytes shown) a short = let e = ap length a.0.2 in let l = length-take size (drop offset (bytes_of old.store.objects n)) in omega (arith, e, l, short)
+answers_short old new (Stack m offset size) (reply.Bytes shown) a short = let e = ap length a.0.2.1 in let l = length-take size (drop offset a.0.0.machine.stack) in omega (arith, e, l, short)
+answers_short old new (Free n) (reply.Bytes shown) a short = subst IsShort (sym a.told) (move_short (reply.Freed n) place.Here n a.moved tt)
+answers_short old new (Leave n) (reply.Bytes shown) a short = subst IsShort (sym a.told) (move_short (reply.Leaving n) place.Here n a.moved tt)
+answers_short old new (Left n) (reply.Bytes shown) a short = subst IsShort (sym a.told) (move_short (reply.Left n) place.Here n a.moved tt)
+answers_short old new (Return n) (reply.Bytes shown) a short = subst IsShort (sym a.told) (move_short (reply.Returning n) place.Far n a.moved tt)
+answers_short old new (Returned n) (reply.Bytes shown) a short = subst IsShort (sym a.told) (move_short (reply.Home n) place.Far n a.moved tt)
+answers_short old new (Step m) (reply.Bytes shown) a short = subst IsShort (sym a.told) (step_short m a.answer a.machine.slot a.debuggee.debugger)
+answers_short old new (One m) (reply.Bytes shown) a short = subst IsShort (sym a.told) (step_short m a.answer a.machine.slot a.debuggee.debugger)
+answers_short old new (Make size) (reply.Bytes shown) a short = absurd a
+answers_short old new (Put n offset bytes) (reply.Bytes shown) a short = absurd a
+answers_short old new (Ship fuel arguments code) (reply.Bytes shown) a short = absurd a.0
+answers_short old new (Regs m) (reply.Bytes shown) a short = absurd a.0
+answers_short old new (Out m) (reply.Bytes shown) a short = absurd a.0
+answers_short old new (Line m slot) (reply.Bytes shown) a short = absurd a.0
+answers_short old new (Break m slot) (reply.Bytes shown) a short = absurd a.0
+answers_short old new (Unbreak m slot) (reply.Bytes shown) a short = absurd a.0
+answers_short old new (Watch m address size) (reply.Bytes shown) a short = absurd a.0
+answers_short old new (Unwatch m address size) (reply.Bytes shown) a short = absurd a.0
+answers_short old new (Resume m) (reply.Bytes shown) a short = absurd a.0
+answers_short old new command r a short = tt

@@ -5,7 +5,7 @@ use Rattle.loader.specs.ValidCode.{code_limit}
 use Rattle.memory.specs.Objects.{object_limit, object_bytes}
 use Rattle.world.specs.declared.events.Event.{Event}
 use Rattle.world.specs.Commands.{Command, command_of}
-use Rattle.world.specs.Commands.Command.{Make, Free, Put, Get, Ship, Step, Regs, Out, Stack, Line}
+use Rattle.world.specs.Commands.Command.{Make, Free, Put, Get, Ship, Leave, Left, Return, Returned, Step, One, Regs, Out, Stack, Line, Break, Unbreak, Watch, Unwatch, Resume}
 use Rattle.world.specs.WorldState.{machine_limit}
 use Rattle.machine.specs.MachineState.{stack_size}
 use Rattle.console.specs.Lines.{line_limit}
@@ -26,11 +26,21 @@ kind_named name =
     (if bytes_eq name (codes "put") then Some kind.Put else
     (if bytes_eq name (codes "get") then Some kind.Get else
     (if bytes_eq name (codes "ship") then Some kind.Ship else
+    (if bytes_eq name (codes "leave") then Some kind.Leave else
+    (if bytes_eq name (codes "left") then Some kind.Left else
+    (if bytes_eq name (codes "return") then Some kind.Return else
+    (if bytes_eq name (codes "returned") then Some kind.Returned else
     (if bytes_eq name (codes "step") then Some kind.Step else
+    (if bytes_eq name (codes "one") then Some kind.One else
     (if bytes_eq name (codes "regs") then Some kind.Regs else
     (if bytes_eq name (codes "out") then Some kind.Out else
     (if bytes_eq name (codes "stack") then Some kind.Stack else
-    (if bytes_eq name (codes "line") then Some kind.Line else None)))))))))
+    (if bytes_eq name (codes "line") then Some kind.Line else
+    (if bytes_eq name (codes "break") then Some kind.Break else
+    (if bytes_eq name (codes "unbreak") then Some kind.Unbreak else
+    (if bytes_eq name (codes "watch") then Some kind.Watch else
+    (if bytes_eq name (codes "unwatch") then Some kind.Unwatch else
+    (if bytes_eq name (codes "resume") then Some kind.Resume else None)))))))))))))))))))
 
 -- any number of 64 bits
 abbrev pub any_number : Limits
@@ -60,7 +70,7 @@ code_slot = within 0 (code_limit / 8 - 1)
 abbrev pub range_limit : ℕ
 range_limit = 4096
 
--- how many bytes may be shown at once
+-- how many bytes may be shown at once, or watched as one range
 abbrev pub range_length : Limits
 range_length = within 1 range_limit
 
@@ -73,11 +83,22 @@ number_limits kind.Put = object_number ∷ object_offset ∷ []
 number_limits kind.Get = object_number ∷ object_offset ∷ range_length ∷ []
 -- fuel, and what R1 to R5 begin with
 number_limits kind.Ship = any_number ∷ any_number ∷ any_number ∷ any_number ∷ any_number ∷ any_number ∷ []
+number_limits kind.Leave = object_number ∷ []
+number_limits kind.Left = object_number ∷ []
+number_limits kind.Return = object_number ∷ []
+number_limits kind.Returned = object_number ∷ []
 number_limits kind.Step = machine_number ∷ []
+number_limits kind.One = machine_number ∷ []
 number_limits kind.Regs = machine_number ∷ []
 number_limits kind.Out = machine_number ∷ []
 number_limits kind.Stack = machine_number ∷ stack_offset ∷ range_length ∷ []
 number_limits kind.Line = machine_number ∷ code_slot ∷ []
+number_limits kind.Break = machine_number ∷ code_slot ∷ []
+number_limits kind.Unbreak = machine_number ∷ code_slot ∷ []
+-- a range begins at any address
+number_limits kind.Watch = machine_number ∷ any_number ∷ range_length ∷ []
+number_limits kind.Unwatch = machine_number ∷ any_number ∷ range_length ∷ []
+number_limits kind.Resume = machine_number ∷ []
 
 -- how many bytes may come after the numbers, in hex, where some have to
 abbrev pub most_bytes : Kind → Option ℕ
@@ -94,11 +115,21 @@ command_with kind.Put numbers bytes = Put (slice_index numbers 0) (slice_index n
 command_with kind.Get numbers bytes = Get (slice_index numbers 0) (slice_index numbers 1) (slice_index numbers 2)
 command_with kind.Ship numbers bytes = Ship (slice_index numbers 0)
     (slice_index numbers 1 ∷ slice_index numbers 2 ∷ slice_index numbers 3 ∷ slice_index numbers 4 ∷ slice_index numbers 5 ∷ []) bytes
+command_with kind.Leave numbers bytes = Leave (slice_index numbers 0)
+command_with kind.Left numbers bytes = Left (slice_index numbers 0)
+command_with kind.Return numbers bytes = Return (slice_index numbers 0)
+command_with kind.Returned numbers bytes = Returned (slice_index numbers 0)
 command_with kind.Step numbers bytes = Step (slice_index numbers 0)
+command_with kind.One numbers bytes = One (slice_index numbers 0)
 command_with kind.Regs numbers bytes = Regs (slice_index numbers 0)
 command_with kind.Out numbers bytes = Out (slice_index numbers 0)
 command_with kind.Stack numbers bytes = Stack (slice_index numbers 0) (slice_index numbers 1) (slice_index numbers 2)
 command_with kind.Line numbers bytes = Line (slice_index numbers 0) (slice_index numbers 1)
+command_with kind.Break numbers bytes = Break (slice_index numbers 0) (slice_index numbers 1)
+command_with kind.Unbreak numbers bytes = Unbreak (slice_index numbers 0) (slice_index numbers 1)
+command_with kind.Watch numbers bytes = Watch (slice_index numbers 0) (slice_index numbers 1) (slice_index numbers 2)
+command_with kind.Unwatch numbers bytes = Unwatch (slice_index numbers 0) (slice_index numbers 1) (slice_index numbers 2)
+command_with kind.Resume numbers bytes = Resume (slice_index numbers 0)
 
 -- ---- lines
 

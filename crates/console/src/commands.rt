@@ -1,5 +1,5 @@
 //! Tokens in, commands out.
-ghost use Rattle.std.specs.Prelude.{◌≡◌, ◌<◌, ℕ, List, length, take, get_or, slice_index, IfOk, IfErr};
+ghost use Rattle.std.specs.Prelude.{◌≡◌, ◌<◌, ◌^◌, ℕ, List, length, take, get_or, slice_index, IfOk, IfErr};
 ghost use Rattle.hex.specs.Hex.{decode_of};
 ghost use Rattle.world.specs.Commands.{command_of};
 ghost use Rattle.console.specs.Tokens.{tokens_left, within, IsWithin};
@@ -64,45 +64,70 @@ fn decode(alloc: Global, text: &[u8]) -> Result<Vec<u8>, LineFault>
     }
 }
 
+/// The number's low 32 bits: all of it, where it is so small.
+fn low_half(number: u64) -> u32
+    ensures { number < 2 ^ 32 → result ≡ number }
+{
+    (number & u32::MAX as u64) as u32
+}
+
 /// The command of this kind, with these numbers and bytes.
 fn event_with(kind: Kind, numbers: [u64; NUMBERS], bytes: Vec<u8>) -> Event
     requires { (i : ℕ) → i < length (number_limits kind) → IsWithin (get_or (number_limits kind) i (within 0 0)) (slice_index numbers i) }
     ensures { command_of result ≡ command_with kind (take (length (number_limits kind)) numbers) bytes.items }
 {
     let machine = numbers[0] as usize;
+    let object = low_half(numbers[0]);
+    let offset = low_half(numbers[1]);
+    let slot = low_half(numbers[1]);
+    let address = numbers[1];
+    let length = low_half(numbers[2]);
     match kind {
         Kind::Make => Event::Make {
             length: ObjectLength::new(numbers[0]).unwrap(),
         },
-        Kind::Free => Event::Free {
-            object: numbers[0] as u32,
-        },
+        Kind::Free => Event::Free { object },
         Kind::Put => Event::Put {
-            object: numbers[0] as u32,
-            offset: numbers[1] as u32,
+            object,
+            offset,
             bytes,
         },
         Kind::Get => Event::Get {
-            object: numbers[0] as u32,
-            offset: numbers[1] as u32,
-            length: numbers[2] as u32,
+            object,
+            offset,
+            length,
         },
         Kind::Ship => Event::Ship {
             fuel: numbers[0],
             arguments: [numbers[1], numbers[2], numbers[3], numbers[4], numbers[5]],
             code: bytes,
         },
+        Kind::Leave => Event::Leave { object },
+        Kind::Left => Event::Left { object },
+        Kind::Return => Event::Return { object },
+        Kind::Returned => Event::Returned { object },
         Kind::Step => Event::Step { machine },
+        Kind::One => Event::One { machine },
         Kind::Regs => Event::Regs { machine },
         Kind::Out => Event::Out { machine },
         Kind::Stack => Event::Stack {
             machine,
-            offset: numbers[1] as u32,
-            length: numbers[2] as u32,
+            offset,
+            length,
         },
-        Kind::Line => Event::Line {
+        Kind::Line => Event::Line { machine, slot },
+        Kind::Break => Event::Break { machine, slot },
+        Kind::Unbreak => Event::Unbreak { machine, slot },
+        Kind::Watch => Event::Watch {
             machine,
-            slot: numbers[1] as u32,
+            address,
+            length,
         },
+        Kind::Unwatch => Event::Unwatch {
+            machine,
+            address,
+            length,
+        },
+        Kind::Resume => Event::Resume { machine },
     }
 }

@@ -11,6 +11,7 @@ use crate::console::Console;
 use crate::fault::{DriveFault, LineFault};
 use crate::replies::{ReplyLine, print_fault, print_reply};
 use crate::writing::{WriteFault, put_all};
+use far_store::FarStore;
 use std::io::{Read, Write};
 use world::{Event, World};
 
@@ -18,7 +19,11 @@ use world::{Event, World};
 const PIECE: usize = 4096;
 
 /// Does what a line says, and makes the line of the reply.
-fn perform(world: &mut World, command: Result<Event, LineFault>, reply: &mut ReplyLine)
+fn perform<F: FarStore>(
+    world: &mut World<F>,
+    command: Result<Event, LineFault>,
+    reply: &mut ReplyLine,
+)
     requires { (line : List ℕ) × Reads (Spells line) command }
     ensures { (line : List ℕ) → IsLine line → Reads (Spells line) command → Answered agent world.old line reply.new.items world.new }
 {
@@ -29,10 +34,10 @@ fn perform(world: &mut World, command: Result<Event, LineFault>, reply: &mut Rep
 }
 
 /// Answers the line that waits, if one does.
-fn answer_waiting<W: Write>(
+fn answer_waiting<F: FarStore, W: Write>(
     writer: &mut W,
     console: &mut Console,
-    world: &mut World,
+    world: &mut World<F>,
     reply: &mut ReplyLine,
 ) -> Result<(), WriteFault>
     ensures ok { OnOk result ((line : List ℕ) → IsLine line → console.old.line ≡ clip line →
@@ -51,11 +56,11 @@ fn answer_waiting<W: Write>(
 }
 
 /// Answers what is said in this piece of the input.
-fn answer_piece<W: Write>(
+fn answer_piece<F: FarStore, W: Write>(
     piece: &[u8],
     writer: &mut W,
     console: &mut Console,
-    world: &mut World,
+    world: &mut World<F>,
     reply: &mut ReplyLine,
 ) -> Result<(), WriteFault>
     requires { IsFalse console.old.waits }
@@ -83,11 +88,11 @@ fn answer_piece<W: Write>(
 /// next line. After `DriveFault::Write` the last of the replies, or `cut`, is written in part or
 /// not at all, and the console holds nothing. Any error of the reader or the writer ends the
 /// conversation, an interrupted call too.
-pub fn drive<R: Read, W: Write>(
+pub fn drive<F: FarStore, R: Read, W: Write>(
     reader: &mut R,
     writer: &mut W,
     console: &mut Console,
-    world: &mut World,
+    world: &mut World<F>,
 ) -> Result<(), DriveFault>
     ensures ok { OnOk result (IfSome (R.remaining reader.old) (λ input.
         AnswersAll agent world.old (held_bytes console.old ++ input) (W.contents writer.old) (W.contents writer.new) world.new)) }

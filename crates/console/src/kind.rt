@@ -14,11 +14,21 @@ pub enum Kind {
     Put,
     Get,
     Ship,
+    Leave,
+    Left,
+    Return,
+    Returned,
     Step,
+    One,
     Regs,
     Out,
     Stack,
     Line,
+    Break,
+    Unbreak,
+    Watch,
+    Unwatch,
+    Resume,
 }
 
 /// What a number may be.
@@ -76,7 +86,7 @@ const SLOT: Limits = Limits {
     most: 4095,
 };
 
-/// How many bytes may be shown at once.
+/// How many bytes may be shown at once, or watched as one range.
 const RANGE_LENGTH: Limits = Limits {
     least: 1,
     most: 4096,
@@ -97,8 +107,18 @@ impl Kind {
             Some(Kind::Get)
         } else if name == b"ship".as_slice() {
             Some(Kind::Ship)
+        } else if name == b"leave".as_slice() {
+            Some(Kind::Leave)
+        } else if name == b"left".as_slice() {
+            Some(Kind::Left)
+        } else if name == b"return".as_slice() {
+            Some(Kind::Return)
+        } else if name == b"returned".as_slice() {
+            Some(Kind::Returned)
         } else if name == b"step".as_slice() {
             Some(Kind::Step)
+        } else if name == b"one".as_slice() {
+            Some(Kind::One)
         } else if name == b"regs".as_slice() {
             Some(Kind::Regs)
         } else if name == b"out".as_slice() {
@@ -107,6 +127,16 @@ impl Kind {
             Some(Kind::Stack)
         } else if name == b"line".as_slice() {
             Some(Kind::Line)
+        } else if name == b"break".as_slice() {
+            Some(Kind::Break)
+        } else if name == b"unbreak".as_slice() {
+            Some(Kind::Unbreak)
+        } else if name == b"watch".as_slice() {
+            Some(Kind::Watch)
+        } else if name == b"unwatch".as_slice() {
+            Some(Kind::Unwatch)
+        } else if name == b"resume".as_slice() {
+            Some(Kind::Resume)
         } else {
             None
         }
@@ -123,11 +153,21 @@ impl Kind {
             Kind::Put => &[OBJECT, OBJECT_OFFSET],
             Kind::Get => &[OBJECT, OBJECT_OFFSET, RANGE_LENGTH],
             Kind::Ship => &[ANY, ANY, ANY, ANY, ANY, ANY],
+            Kind::Leave => &[OBJECT],
+            Kind::Left => &[OBJECT],
+            Kind::Return => &[OBJECT],
+            Kind::Returned => &[OBJECT],
             Kind::Step => &[MACHINE],
+            Kind::One => &[MACHINE],
             Kind::Regs => &[MACHINE],
             Kind::Out => &[MACHINE],
             Kind::Stack => &[MACHINE, STACK_OFFSET, RANGE_LENGTH],
             Kind::Line => &[MACHINE, SLOT],
+            Kind::Break => &[MACHINE, SLOT],
+            Kind::Unbreak => &[MACHINE, SLOT],
+            Kind::Watch => &[MACHINE, ANY, RANGE_LENGTH],
+            Kind::Unwatch => &[MACHINE, ANY, RANGE_LENGTH],
+            Kind::Resume => &[MACHINE],
         }
     }
 

@@ -4,13 +4,15 @@ ghost use Rattle.arrayvec.specs.ArrayVec.{array_vec_len};
 ghost use Rattle.console.specs.Lines.{ended, bad_text, nomem_text};
 ghost use Rattle.hex.specs.Hex.{encode_lower};
 ghost use Rattle.loader.specs.Refusals.{why_name};
-ghost use Rattle.console.specs.Replies.{reply_text, number_text, value_text, stop_name, stop_value_text, state_name, IsShort};
+ghost use Rattle.console.specs.Replies.{reply_text, number_text, value_text, stop_name, stop_value_text, state_name, shown_text, place_name, IsShort};
 
 use crate::fault::LineFault;
 use arrayvec::ArrayVec;
+use debugger::{Shown, State};
 use loader::LoadError;
 use machine::Stop;
-use world::{Reply, Shown};
+use object_store::Place;
+use world::Reply;
 
 /// The most bytes of a reply, with its line end.
 pub const REPLY_LIMIT: usize = 8_200;
@@ -129,31 +131,53 @@ fn put_stop(line: &mut ReplyLine, stop: Stop)
     }
 }
 
-/// Adds whether a machine runs, or the name of its stop.
-fn put_state(line: &mut ReplyLine, stop: Option<Stop>)
+/// Adds whether a machine runs or is paused, or the name of its stop.
+fn put_state(line: &mut ReplyLine, state: State)
     requires { array_vec_len line.old + 11 ≤ REPLY_LIMIT }
-    ensures text { line.new.items ≡ line.old.items ++ codes " " ++ state_name stop }
+    ensures text { line.new.items ≡ line.old.items ++ codes " " ++ state_name state }
     ensures short { array_vec_len line.new ≤ array_vec_len line.old + 11 }
 {
     put(line, b" ");
-    match stop {
-        None => put(line, b"run"),
-        Some(stop) => put(line, name_of_stop(stop)),
+    match state {
+        State::Running => put(line, b"run"),
+        State::Paused => put(line, b"paused"),
+        State::Stopped(stop) => put(line, name_of_stop(stop)),
     }
 }
 
-/// Adds a machine as it is.
+/// Adds what is shown of a machine.
 fn put_shown(line: &mut ReplyLine, shown: &Shown)
-    requires { array_vec_len line.old + 261 ≤ REPLY_LIMIT }
-    ensures text { line.new.items ≡ line.old.items ++ number_text shown.now.machine ++ number_text shown.now.slot ++ number_text shown.now.fuel
-        ++ codes " " ++ state_name shown.now.stop ++ flat_map value_text shown.now.registers }
-    ensures short { array_vec_len line.new ≤ array_vec_len line.old + 261 }
+    requires { array_vec_len line.old + 240 ≤ REPLY_LIMIT }
+    ensures text { line.new.items ≡ line.old.items ++ shown_text shown.now }
+    ensures short { array_vec_len line.new ≤ array_vec_len line.old + 240 }
 {
-    put_number(line, shown.machine as u64);
     put_number(line, shown.slot as u64);
     put_number(line, shown.fuel);
-    put_state(line, shown.stop);
+    put_state(line, shown.state);
     put_values(line, &shown.registers);
+}
+
+/// The name of a place.
+fn name_of_place(place: Place) -> &'static [u8]
+    ensures name { result.now ≡ place_name place }
+    ensures short { length result.now ≤ 9 }
+{
+    match place {
+        Place::Here => b"here",
+        Place::Leaving => b"leaving",
+        Place::Far => b"far",
+        Place::Returning => b"returning",
+    }
+}
+
+/// Adds that an object stays, and why.
+fn put_kept(line: &mut ReplyLine, object: u32, why: &[u8])
+    requires { array_vec_len line.old + length why.now + 25 ≤ REPLY_LIMIT }
+    ensures text { line.new.items ≡ line.old.items ++ codes "kept" ++ number_text object ++ why.now }
+    ensures short { array_vec_len line.new ≤ array_vec_len line.old + length why.now + 25 }
+{
+    put_named(line, b"kept", object as u64);
+    put(line, why);
 }
 
 /// Adds where and why code is refused.
@@ -176,6 +200,10 @@ pub fn print_reply(reply: &Reply, line: &mut ReplyLine)
     match reply {
         Reply::Made { object } => put_named(line, b"made", *object as u64),
         Reply::Freed { object } => put_named(line, b"freed", *object as u64),
+        Reply::Leaving { object } => put_named(line, b"leaving", *object as u64),
+        Reply::Left { object } => put_named(line, b"left", *object as u64),
+        Reply::Returning { object } => put_named(line, b"returning", *object as u64),
+        Reply::Home { object } => put_named(line, b"home", *object as u64),
         Reply::Done => put(line, b"ok"),
         Reply::Bytes(bytes) => {
             put(line, b"bytes ");
@@ -183,15 +211,19 @@ pub fn print_reply(reply: &Reply, line: &mut ReplyLine)
         }
         Reply::Shipped { machine } => put_named(line, b"shipped", *machine as u64),
         Reply::Ran { machine, slot } => put_pair(line, b"ran", *machine as u64, *slot as u64),
+        Reply::Hit { machine, slot } => put_pair(line, b"hit", *machine as u64, *slot as u64),
         Reply::Waiting { machine, object } => {
             put_pair(line, b"waiting", *machine as u64, *object as u64);
+        }
+        Reply::Paused { machine, slot } => {
+            put_pair(line, b"paused", *machine as u64, *slot as u64);
         }
         Reply::Stopped { machine, stop } => {
             put_named(line, b"stopped", *machine as u64);
             put_stop(line, *stop);
         }
-        Reply::Registers(shown) => {
-            put(line, b"regs");
+        Reply::Registers { machine, shown } => {
+            put_named(line, b"regs", *machine as u64);
             put_shown(line, shown);
         }
         Reply::Emitted { machine, values } => {
@@ -209,8 +241,22 @@ pub fn print_reply(reply: &Reply, line: &mut ReplyLine)
         }
         Reply::NoMemory => put(line, b"nomem"),
         Reply::Full => put(line, b"full"),
+        Reply::NoRoom => put(line, b"noroom"),
         Reply::Outside => put(line, b"outside"),
+        Reply::Away { object } => put_named(line, b"away", *object as u64),
+        Reply::Misplaced { object, place } => {
+            put_named(line, b"place", *object as u64);
+            put(line, b" ");
+            put(line, name_of_place(*place));
+        }
+        Reply::Scoped { object } => put_kept(line, *object, b" scoped"),
+        Reply::Faulted { object, place } => {
+            put_kept(line, *object, b" fault ");
+            put(line, name_of_place(*place));
+        }
         Reply::NoSlot => put(line, b"noslot"),
+        Reply::NoWatch => put(line, b"nowatch"),
+        Reply::NotPaused => put(line, b"notpaused"),
         Reply::Refused(error) => put_refusal(line, error),
         Reply::Missing => put(line, b"none"),
     }

@@ -19,14 +19,14 @@ fault_answered s line bytes fault.Bad l r bad no_memory = (Bad line, refl, (l, r
 fault_answered s line bytes fault.NoMemory l r bad no_memory = (Unread line, refl, (l, r), refl, no_memory refl)
 
 pub print_reply-requires : goal.print_reply-requires
-print_reply-requires c =
+print_reply-requires g c =
     let s = subst (λ (x : Result Event LineFault). Reads (Spells c.requires.0) x) c.in-Ok.is c.requires.1 in
     answers_short _ _ _ _ c.apply.ensures (asks_short c.requires.0 (command_of c.in-Ok.event) s)
 
 pub returns-in-Ok : goal.returns-in-Ok
-returns-in-Ok c = λ line l r.
+returns-in-Ok g c = λ line l r.
     let s = subst (λ (x : Result Event LineFault). Reads (Spells line) x) c.in-Ok.is r in
     (Done line (command_of c.in-Ok.event) c.apply.result, refl, (l, s), (c.apply.new.self, c.apply.ensures, refl), c.print_reply.ensures)
 
 pub returns-in-Err : goal.returns-in-Err
-returns-in-Err c = λ line l r. fault_answered _ line _ c.in-Err.fault l (subst (λ (x : Result Event LineFault). Reads (Spells line) x) c.in-Err.is r) c.print_fault.ensures.bad c.print_fault.ensures.no_memory
+returns-in-Err g c = λ line l r. fault_answered _ line _ c.in-Err.fault l (subst (λ (x : Result Event LineFault). Reads (Spells line) x) c.in-Err.is r) c.print_fault.ensures.bad c.print_fault.ensures.no_memory
