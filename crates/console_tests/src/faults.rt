@@ -1,12 +1,11 @@
 //! Readers and writers that fail.
 
-use crate::talks::{INPUT, OUTPUT, count_done, count_lines, first_lines, seen_done};
+use crate::talks::{INPUT, OUTPUT, count_done, count_lines, first_lines, seen_done, world_of};
 use console::{Console, DriveFault, LineFault, WriteFault, drive, put_all};
 use std::alloc::Global;
 use std::io::ErrorKind;
 use std::test::Fail;
 use test_devices::{FailingReader, FailingWriter, Failure, Narrow, Pieces};
-use world::World;
 
 #[test]
 fn numbers_and_texts(rt: HostRuntime) -> Result<(), Fail> {
@@ -38,7 +37,7 @@ fn a_read_fails(rt: HostRuntime) -> Result<(), Fail> {
     for kind in [ErrorKind::BrokenPipe, ErrorKind::Interrupted] {
         // 101 bytes, seven at a time, and the end
         for reads in 0..16usize {
-            let mut world = World::new(rt.alloc())?;
+            let mut world = world_of(rt.alloc())?;
             let mut console = Console::new(rt.alloc())?;
             let mut out = Vec::new(rt.alloc());
             let mut reader = FailingReader::new(Pieces::new(INPUT, 7), reads);
@@ -67,7 +66,7 @@ fn a_write_fails(rt: HostRuntime) -> Result<(), Fail> {
         Failure::TakesNothing,
     ] {
         for writes in 0..7usize {
-            let mut world = World::new(rt.alloc())?;
+            let mut world = world_of(rt.alloc())?;
             let mut console = Console::new(rt.alloc())?;
             let mut writer = FailingWriter::new(rt.alloc(), writes, failure);
             let mut reader = Pieces::new(INPUT, 4096);
@@ -91,7 +90,7 @@ fn a_write_fails(rt: HostRuntime) -> Result<(), Fail> {
 
 /// What a world has done when a writer takes so many bytes, some at a time.
 fn done_with_room(alloc: Global, size: usize, room: usize) -> Result<usize, Fail> {
-    let mut world = World::new(alloc)?;
+    let mut world = world_of(alloc)?;
     let mut console = Console::new(alloc)?;
     let mut writer = Narrow::new(alloc, size, room);
     let mut reader = Pieces::new(INPUT, 4096);
@@ -122,7 +121,7 @@ fn a_writer_takes_no_more(rt: HostRuntime) -> Result<(), Fail> {
 
 #[test]
 fn each_reply_is_one_write(rt: HostRuntime) -> Result<(), Fail> {
-    let mut world = World::new(rt.alloc())?;
+    let mut world = world_of(rt.alloc())?;
     let mut console = Console::new(rt.alloc())?;
     let mut writer = Narrow::new(rt.alloc(), 10_000, 10_000);
     let mut reader = Pieces::new(INPUT, 4096);
@@ -133,7 +132,7 @@ fn each_reply_is_one_write(rt: HostRuntime) -> Result<(), Fail> {
 
 #[test]
 fn cut_is_not_written(rt: HostRuntime) -> Result<(), Fail> {
-    let mut world = World::new(rt.alloc())?;
+    let mut world = world_of(rt.alloc())?;
     let mut console = Console::new(rt.alloc())?;
     let mut writer = Narrow::new(rt.alloc(), 1, 2);
     let mut reader = Pieces::new(b"regs 1".as_slice(), 4096);

@@ -39,7 +39,7 @@ fn bytes_in_commands_out(rt: HostRuntime) -> Result<(), Fail> {
 }
 
 /// Lines, each with the command that it spells.
-const GOOD: [(&str, &str); 13] = [
+const GOOD: [(&str, &str); 36] = [
     ("make 1", "Make { length: ObjectLength { count: 1 } }"),
     (
         "make 65536",
@@ -59,8 +59,18 @@ const GOOD: [(&str, &str); 13] = [
         "ship 18446744073709551615 0xffffffffffffffff 0xFfFf 0 0 0x0000000000000001 00",
         "Ship { fuel: 18446744073709551615, arguments: [18446744073709551615, 65535, 0, 0, 1], code: [0] }",
     ),
+    ("leave 1", "Leave { object: 1 }"),
+    ("leave 1024", "Leave { object: 1024 }"),
+    ("left 1", "Left { object: 1 }"),
+    ("left 0x400", "Left { object: 1024 }"),
+    ("return 1", "Return { object: 1 }"),
+    ("return 1024", "Return { object: 1024 }"),
+    ("returned 1", "Returned { object: 1 }"),
+    ("returned 1024", "Returned { object: 1024 }"),
     ("step 48", "Step { machine: 48 }"),
     ("step 0x30", "Step { machine: 48 }"),
+    ("one 1", "One { machine: 1 }"),
+    ("one 48", "One { machine: 48 }"),
     ("regs 1", "Regs { machine: 1 }"),
     ("out 48", "Out { machine: 48 }"),
     (
@@ -68,6 +78,31 @@ const GOOD: [(&str, &str); 13] = [
         "Stack { machine: 48, offset: 4095, length: 4096 }",
     ),
     ("stack 1 0 1", "Stack { machine: 1, offset: 0, length: 1 }"),
+    ("line 1 0", "Line { machine: 1, slot: 0 }"),
+    ("line 48 4095", "Line { machine: 48, slot: 4095 }"),
+    ("break 1 0", "Break { machine: 1, slot: 0 }"),
+    ("break 48 0xfff", "Break { machine: 48, slot: 4095 }"),
+    ("unbreak 1 0", "Unbreak { machine: 1, slot: 0 }"),
+    ("unbreak 48 4095", "Unbreak { machine: 48, slot: 4095 }"),
+    ("watch 1 0 1", "Watch { machine: 1, address: 0, length: 1 }"),
+    (
+        "watch 48 18446744073709551615 4096",
+        "Watch { machine: 48, address: 18446744073709551615, length: 4096 }",
+    ),
+    (
+        "watch 2 0x100000008 8",
+        "Watch { machine: 2, address: 4294967304, length: 8 }",
+    ),
+    (
+        "unwatch 1 0 1",
+        "Unwatch { machine: 1, address: 0, length: 1 }",
+    ),
+    (
+        "unwatch 48 0xffffFFFFffffFFFF 0x1000",
+        "Unwatch { machine: 48, address: 18446744073709551615, length: 4096 }",
+    ),
+    ("resume 1", "Resume { machine: 1 }"),
+    ("resume 48", "Resume { machine: 48 }"),
 ];
 
 #[test]
@@ -83,7 +118,7 @@ fn good_lines(rt: HostRuntime) -> Result<(), Fail> {
 }
 
 /// Lines that spell no command.
-const BAD: [&str; 62] = [
+const BAD: [&str; 106] = [
     // names and spaces
     "",
     " ",
@@ -146,11 +181,56 @@ const BAD: [&str; 62] = [
     "ship 0 0 0 0 0 0 95 0",
     "ship 0 18446744073709551616 0 0 0 0 95",
     "ship 0 00 0 0 0 0 95",
-    // commands that are to come
-    "one 1",
-    "leave 1",
+    // moves
+    "leave",
+    "leave 0",
+    "leave 1025",
+    "leave 1 1",
+    "left 0",
+    "left 1025",
+    "Left 1",
+    "lefts 1",
+    "leaving 1",
+    "return 0",
+    "return 1025",
+    "returned 0",
+    "returned 1025",
+    "returned 01",
+    "home 1",
+    // debugging
+    "one",
+    "one 0",
+    "one 49",
+    "one 1 1",
     "line 1 4096",
-    "break 1 0",
+    "line 49 0",
+    "break 1",
+    "break 0 0",
+    "break 49 0",
+    "break 1 4096",
+    "break 1 0 0",
+    "unbreak 1",
+    "unbreak 0 0",
+    "unbreak 49 0",
+    "unbreak 1 4096",
+    "watch 1 0",
+    "watch 0 0 1",
+    "watch 49 0 1",
+    "watch 1 0 0",
+    "watch 1 0 4097",
+    "watch 1 0 1 1",
+    "watch 1 18446744073709551616 1",
+    "unwatch 1 0",
+    "unwatch 0 0 1",
+    "unwatch 49 0 1",
+    "unwatch 1 0 0",
+    "unwatch 1 0 4097",
+    "unwatch 1 0x10000000000000000 1",
+    "resume",
+    "resume 0",
+    "resume 49",
+    "resume 1 0",
+    "pause 1",
 ];
 
 #[test]

@@ -1,11 +1,10 @@
 //! Input in pieces, and the end of it.
 
-use crate::talks::{INPUT, OUTPUT, answers};
+use crate::talks::{INPUT, OUTPUT, answers, world_of};
 use console::{Console, drive};
 use std::cell::Cell;
 use std::test::Fail;
 use test_devices::{Pieces, PipeReader, PipeWriter};
-use world::World;
 
 #[test]
 fn any_pieces(rt: HostRuntime) -> Result<(), Fail> {
@@ -19,7 +18,7 @@ fn any_pieces(rt: HostRuntime) -> Result<(), Fail> {
 /// A client that waits for each reply before it says the next line is answered to the end.
 #[test]
 fn each_reply_comes_before_the_next_line(rt: HostRuntime) -> Result<(), Fail> {
-    let mut world = World::new(rt.alloc())?;
+    let mut world = world_of(rt.alloc())?;
     let mut console = Console::new(rt.alloc())?;
     let replies = Cell::new(0usize);
     let mut reader = PipeReader::new(INPUT, &replies);
@@ -34,7 +33,7 @@ fn each_reply_comes_before_the_next_line(rt: HostRuntime) -> Result<(), Fail> {
 #[test]
 fn the_end_is_read_once(rt: HostRuntime) -> Result<(), Fail> {
     for (input, calls) in [("", 1usize), ("step 1\n", 4), ("step 1\nstep", 5)] {
-        let mut world = World::new(rt.alloc())?;
+        let mut world = world_of(rt.alloc())?;
         let mut console = Console::new(rt.alloc())?;
         let mut out = Vec::new(rt.alloc());
         let mut reader = Pieces::new(input.as_bytes(), 3);
@@ -96,7 +95,7 @@ fn the_longest_reply(rt: HostRuntime) -> Result<(), Fail> {
 
 #[test]
 fn a_rest_is_cut_and_dropped(rt: HostRuntime) -> Result<(), Fail> {
-    let mut world = World::new(rt.alloc())?;
+    let mut world = world_of(rt.alloc())?;
     let mut console = Console::new(rt.alloc())?;
     let mut out = Vec::new(rt.alloc());
     for input in ["step 1\nst", "ep 1", "", "step 1\n"] {

@@ -2,18 +2,19 @@
 ghost use Rattle.console.specs.Replies.{IsShort};
 
 use console::{LineFault, ReplyLine, print_fault, print_reply};
+use debugger::{Bytes, Shown, State, Values};
 use loader::{LoadError, Why};
 use machine::Stop;
+use object_store::Place;
 use std::process::Abort;
 use std::test::Fail;
-use world::{Bytes, Reply, Shown, Values};
+use world::Reply;
 
 /// What is shown of a machine that stands thus.
 const SHOWN: Shown = Shown {
-    machine: 48,
     slot: 4095,
     fuel: u64::MAX,
-    stop: None,
+    state: State::Running,
     registers: [0, 1, 0xab, 0x1234567890abcdef, 4, 5, 6, 7, 8, 9, u64::MAX],
 };
 
@@ -53,15 +54,67 @@ fn each_reply(rt: HostRuntime) {
         },
         "waiting 2 1024\n",
     );
+    prints(
+        &rt,
+        Reply::Hit {
+            machine: 2,
+            slot: 0,
+        },
+        "hit 2 0\n",
+    );
+    prints(
+        &rt,
+        Reply::Paused {
+            machine: 48,
+            slot: 4095,
+        },
+        "paused 48 4095\n",
+    );
     prints(&rt, Reply::NoMemory, "nomem\n");
     prints(&rt, Reply::Full, "full\n");
     prints(&rt, Reply::Outside, "outside\n");
+    prints(&rt, Reply::NoSlot, "noslot\n");
+    prints(&rt, Reply::NoWatch, "nowatch\n");
+    prints(&rt, Reply::NotPaused, "notpaused\n");
     prints(&rt, Reply::Missing, "none\n");
     let refused = LoadError {
         slot: 7,
         why: Why::WritesR10,
     };
     prints(&rt, Reply::Refused(refused), "refused 7 WritesR10\n");
+}
+
+#[test]
+fn each_move(rt: HostRuntime) {
+    prints(&rt, Reply::Leaving { object: 1 }, "leaving 1\n");
+    prints(&rt, Reply::Left { object: 2 }, "left 2\n");
+    prints(&rt, Reply::Returning { object: 3 }, "returning 3\n");
+    prints(&rt, Reply::Home { object: 1024 }, "home 1024\n");
+    prints(&rt, Reply::Away { object: 5 }, "away 5\n");
+    prints(&rt, Reply::NoRoom, "noroom\n");
+    prints(&rt, Reply::Scoped { object: 6 }, "kept 6 scoped\n");
+}
+
+#[test]
+fn each_place(rt: HostRuntime) {
+    let cases = [
+        (Place::Here, "place 7 here\n", "kept 7 fault here\n"),
+        (
+            Place::Leaving,
+            "place 7 leaving\n",
+            "kept 7 fault leaving\n",
+        ),
+        (Place::Far, "place 7 far\n", "kept 7 fault far\n"),
+        (
+            Place::Returning,
+            "place 7 returning\n",
+            "kept 7 fault returning\n",
+        ),
+    ];
+    for (place, misplaced, faulted) in cases {
+        prints(&rt, Reply::Misplaced { object: 7, place }, misplaced);
+        prints(&rt, Reply::Faulted { object: 7, place }, faulted);
+    }
 }
 
 #[test]
@@ -93,18 +146,29 @@ fn bytes_and_values(rt: HostRuntime) -> Result<(), Fail> {
 
 #[test]
 fn registers(rt: HostRuntime) {
-    prints(
-        &rt,
-        Reply::Registers(SHOWN),
-        "regs 48 4095 18446744073709551615 run 0000000000000000 0000000000000001 00000000000000ab 1234567890abcdef 0000000000000004 0000000000000005 0000000000000006 0000000000000007 0000000000000008 0000000000000009 ffffffffffffffff\n",
-    );
-    let mut stopped = SHOWN;
-    stopped.stop = Some(Stop::Misaligned);
-    prints(
-        &rt,
-        Reply::Registers(stopped),
-        "regs 48 4095 18446744073709551615 misaligned 0000000000000000 0000000000000001 00000000000000ab 1234567890abcdef 0000000000000004 0000000000000005 0000000000000006 0000000000000007 0000000000000008 0000000000000009 ffffffffffffffff\n",
-    );
+    let cases = [
+        (
+            State::Running,
+            "regs 48 4095 18446744073709551615 run 0000000000000000 0000000000000001 00000000000000ab 1234567890abcdef 0000000000000004 0000000000000005 0000000000000006 0000000000000007 0000000000000008 0000000000000009 ffffffffffffffff\n",
+        ),
+        (
+            State::Paused,
+            "regs 48 4095 18446744073709551615 paused 0000000000000000 0000000000000001 00000000000000ab 1234567890abcdef 0000000000000004 0000000000000005 0000000000000006 0000000000000007 0000000000000008 0000000000000009 ffffffffffffffff\n",
+        ),
+        (
+            State::Stopped(Stop::Exit(7)),
+            "regs 48 4095 18446744073709551615 exit 0000000000000000 0000000000000001 00000000000000ab 1234567890abcdef 0000000000000004 0000000000000005 0000000000000006 0000000000000007 0000000000000008 0000000000000009 ffffffffffffffff\n",
+        ),
+        (
+            State::Stopped(Stop::Misaligned),
+            "regs 48 4095 18446744073709551615 misaligned 0000000000000000 0000000000000001 00000000000000ab 1234567890abcdef 0000000000000004 0000000000000005 0000000000000006 0000000000000007 0000000000000008 0000000000000009 ffffffffffffffff\n",
+        ),
+    ];
+    for (state, text) in cases {
+        let mut shown = SHOWN;
+        shown.state = state;
+        prints(&rt, Reply::Registers { machine: 48, shown }, text);
+    }
 }
 
 #[test]

@@ -1,6 +1,7 @@
 //! One conversation, and what is left of it when a device fails.
 
 use console::{Console, drive};
+use far_store::OwnStore;
 use std::alloc::Global;
 use std::test::Fail;
 use test_devices::Pieces;
@@ -13,6 +14,11 @@ pub const INPUT: &[u8] =
 /// What they are answered.
 pub const OUTPUT: &[u8] =
     b"made 1\nok\nbytes 000aff00\nshipped 1\nran 1 1\nstopped 1 exit 0000000000000007\nout 1\n";
+
+/// An agent without machines and objects, which keeps those that leave by itself.
+pub fn world_of(alloc: Global) -> Result<World<OwnStore>, Fail> {
+    Ok(World::new(alloc, 67_108_864, OwnStore::new(alloc))?)
+}
 
 /// The first lines of a text.
 pub fn first_lines(text: &[u8], lines: usize) -> &[u8] {
@@ -46,9 +52,9 @@ fn count_first_done(reply: &Reply) -> usize {
 }
 
 /// How many of the seven commands are done.
-pub fn count_done(world: &mut World) -> usize {
+pub fn count_done(world: &mut World<OwnStore>) -> usize {
     let fuel = match world.apply(Event::Regs { machine: 1 }) {
-        Reply::Registers(shown) => shown.fuel,
+        Reply::Registers { shown, .. } => shown.fuel,
         _ => 11,
     };
     match fuel {
@@ -74,7 +80,7 @@ pub fn seen_done(commands: usize) -> usize {
 
 /// What a fresh agent answers to this input, so many bytes at a time.
 pub fn answers(alloc: Global, input: &[u8], size: usize) -> Result<Vec<u8>, Fail> {
-    let mut world = World::new(alloc)?;
+    let mut world = world_of(alloc)?;
     let mut console = Console::new(alloc)?;
     let mut out = Vec::new(alloc);
     let mut reader = Pieces::new(input, size);
