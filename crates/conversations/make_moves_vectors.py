@@ -12,7 +12,7 @@ from make_vectors import EXIT_SLOT, Script, access, agent_of, slot, wide
 
 LOAD_BYTE = slot(access(CLASS_LDX, MEM, 1), 0, 1)
 CLOSE = slot(0x85, 0, 0, 0, 4)
-ALL = 67108864
+LONG, ALL = 65536, 67108864
 
 
 class Talk(Script):
@@ -46,13 +46,17 @@ def add_holders(script):
     script.tell_all("left 1", "return 1", "returned 1", "get 1 0 8")
 
 
-def add_whole_budget(script):
-    script.note("as many bytes as there can be, and a budget of one byte less")
-    for budget in (ALL, ALL - 1):
+def add_budgets(script):
+    script.note("budgets of four long objects, of a byte less, and of as many bytes as there can be")
+    for budget in (4 * LONG, 4 * LONG - 1, ALL - 1, ALL):
         script.begin(budget)
-        for _ in range(1024):
-            script.tell("make 65536")
-        script.tell_all("make 65535", "make 1", "free 7", "make 1", "leave 9", "left 9", "return 9", "returned 9", "get 9 65535 1")
+        script.tell_all(*[f"make {LONG}"] * 5)
+        script.tell_all(f"make {LONG - 1}", "make 1", "free 3", f"make {LONG}", "leave 1", f"make {LONG}", "left 1", f"make {LONG}")
+        script.tell_all("return 1", "free 2", "return 1", "make 1", "returned 1", f"get 1 {LONG - 1} 1", "put 1 0 01")
+    script.note("the last object that can be made, and no more of them, however much room there is")
+    script.begin(1023)
+    script.tell_all(*["make 1"] * 1024)
+    script.tell_all("free 7", "make 2", "make 1", "make 1", "free 8", "make 1", "leave 9", "left 9", "return 9", "returned 9")
 
 
 def window_rows(chooser, count):
@@ -237,7 +241,7 @@ def add_random(script):
 def main():
     script = Talk()
     script.lines += ["# Made by make_moves_vectors.py, as vectors.script is made by make_vectors.py; `make vectors` compares."]
-    for part in (add_holders, add_whole_budget, add_windows, add_random):
+    for part in (add_holders, add_budgets, add_windows, add_random):
         part(script)
     sys.stdout.write("\n".join(script.lines) + "\n")
 
