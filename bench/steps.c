@@ -74,27 +74,46 @@ static double theirs(const struct flat_instr *decoded, uint64_t *fuel, uint64_t 
     return b - a;
 }
 
-/* The ratio of a program's time to that of C. */
-static double compare(const char *name, const struct code *c, uint64_t fuel)
+/* A program, and the times of its runs. */
+struct timed {
+    const char *name;
+    struct code code;
+    struct flat_instr decoded[CODE_LIMIT / 8];
+    uint64_t fuel, steps;
+    double ours[RUNS], theirs[RUNS];
+};
+
+/* One run of both. */
+static void run_both(struct timed *t, int k)
 {
     static const struct setting one = { OBJECT(1), 1, 1 };
-    static struct flat_instr decoded[CODE_LIMIT / 8];
-    double agent[RUNS], plain[RUNS];
-    uint64_t left = fuel;
-    flat_decode(decoded, c->bytes, c->length / 8);
-    for (int k = 0; k < RUNS; k++) {
-        uint64_t x, y;
-        left = fuel;
-        agent[k] = ours(c, fuel, &one, &x);
-        plain[k] = theirs(decoded, &left, &y);
-        if (x != y) {
-            printf("%s: the results differ\n", name);
-            exit(1);
-        }
+    uint64_t x, y, left = t->fuel;
+    t->ours[k] = ours(&t->code, t->fuel, &one, &x);
+    t->theirs[k] = theirs(t->decoded, &left, &y);
+    t->steps = t->fuel - left;
+    if (x != y) {
+        printf("%s: the results differ\n", t->name);
+        exit(1);
     }
-    double a = tenth_percentile(agent), b = tenth_percentile(plain), steps = (double)(fuel - left);
-    printf("%-28s agent %6.2f ns a step, flat C %6.2f, ratio %.2f\n", name, 1e9 * a / steps, 1e9 * b / steps, a / b);
+}
+
+/* Tells the times of both, and gives their ratio. */
+static double tell(struct timed *t)
+{
+    double a = tenth_percentile(t->ours), b = tenth_percentile(t->theirs), steps = (double)t->steps;
+    printf("%-28s agent %6.2f ns a step, flat C %6.2f, ratio %.2f\n", t->name, 1e9 * a / steps, 1e9 * b / steps, a / b);
     return a / b;
+}
+
+/* Runs the programs in turn, many times, and gives the mean of their ratios. */
+static double compare(struct timed *programs, size_t count)
+{
+    double sum = 0;
+    for (size_t n = 0; n < count; n++) flat_decode(programs[n].decoded, programs[n].code.bytes, programs[n].code.length / 8);
+    for (int k = 0; k < RUNS; k++)
+        for (size_t n = 0; n < count; n++) run_both(&programs[n], k);
+    for (size_t n = 0; n < count; n++) sum += tell(&programs[n]);
+    return sum / (double)count;
 }
 
 /* The ratio of the agent's times of two programs in two settings. */
@@ -232,30 +251,30 @@ static struct code loads_in_turn(int32_t stride)
 
 static void compiled(const char *folder)
 {
-    static const char *const names[] = { "checksum", "gcd", "sieve", "sort", "table" };
-    static struct code c;
-    double sum = 0;
-    for (size_t k = 0; k < 5; k++) {
-        stored(folder, names[k], &c);
-        sum += compare(names[k], &c, 1u << 30);
+    static struct timed programs[5] = {
+        { .name = "checksum" }, { .name = "gcd" }, { .name = "sieve" }, { .name = "sort" }, { .name = "table" },
+    };
+    for (size_t n = 0; n < 5; n++) {
+        stored(folder, programs[n].name, &programs[n].code);
+        programs[n].fuel = 1u << 30;
     }
-    printf("%-28s ratio %.2f\n", "mean of the five", sum / 5);
+    double mean = compare(programs, 5);
+    printf("%-28s ratio %.2f\n", "mean of the five", mean);
 }
 
 static void rows(void)
 {
-    struct code c = counting();
-    compare("counting loop", &c, STEPS);
-    c = straight();
-    compare("straight arithmetic", &c, STEPS);
-    c = calls();
-    compare("nested calls", &c, STEPS);
-    c = loads();
-    compare("loads", &c, STEPS);
-    c = stores();
-    compare("stores", &c, STEPS);
-    c = atomics();
-    compare("atomic operations", &c, STEPS);
+    static struct timed programs[6] = {
+        { .name = "counting loop", .fuel = STEPS }, { .name = "straight arithmetic", .fuel = STEPS }, { .name = "nested calls", .fuel = STEPS },
+        { .name = "loads", .fuel = STEPS }, { .name = "stores", .fuel = STEPS }, { .name = "atomic operations", .fuel = STEPS },
+    };
+    programs[0].code = counting();
+    programs[1].code = straight();
+    programs[2].code = calls();
+    programs[3].code = loads();
+    programs[4].code = stores();
+    programs[5].code = atomics();
+    compare(programs, 6);
 }
 
 static void growth(void)
