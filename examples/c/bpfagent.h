@@ -55,7 +55,8 @@ static inline void *address_of(uint64_t object, uint64_t offset)
 // The compiler moves no access past this. Instructions are done in order, so nothing else is needed.
 #define compiler_barrier() __asm__ volatile("" ::: "memory")
 
-// A function that is called and not inlined. Eight such calls may be open, and each has 512 bytes of the stack.
+// A function that is called and not inlined. Eight such calls may be open. The stack has 512 bytes for `program` and for
+// each of seven nested calls; the eighth has none.
 #define CALLED static __attribute__((noinline))
 
 #endif

@@ -1,4 +1,5 @@
-// Moves an amount between two accounts, so many times, under a lock. Returns how often there was enough to move.
+// Moves an amount between two accounts, so many times, under a lock. Returns how often there was enough to move. The
+// object may be taken away whenever the machine isn't inside.
 #include "bpfagent.h"
 
 struct accounts {
@@ -12,13 +13,14 @@ uint64_t program(struct accounts *accounts, uint64_t from, uint64_t amount, uint
 
     for (uint64_t i = 0; i < times; i++) {
         while (atomic_compare_exchange(&accounts->lock, 0, own) != 0)
-            close_scopes(); // while it waits, the object may be moved
+            close_scopes();
         if (accounts->balance[from] >= amount) {
             accounts->balance[from] -= amount;
             accounts->balance[1 - from] += amount;
             moved++;
         }
         atomic_exchange(&accounts->lock, 0);
+        close_scopes();
     }
     return moved;
 }

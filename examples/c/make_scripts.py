@@ -1,11 +1,12 @@
 #!/usr/bin/env python3
 """Makes NAME.script from cases/NAME.case: make_scripts.py [--check]
 
-A case has commands of the protocol, and `run NAME A .. | NAME A ..`, which ships programs and steps them in turn until all
-have ended. What programs leave (their values, what they emit, the objects' bytes) comes from out/native, which runs the same
-sources as native code; the replies to steps come from the interpreter in Python of crates/conversations. Where both answer,
-they have to agree. Programs of one `run` are run natively one after the other, so a case asks only for what their order
-doesn't change. With --check the scripts are compared and not written.
+A case has commands of the protocol, and `run NAME A .. | NAME A ..`, which ships programs and steps them in turns until all
+have ended. `mover n` among them takes object n to the far store and back, whenever its turn comes. What programs leave
+(their values, what they emit, the objects' bytes) comes from out/native, which runs the same sources as native code; the
+other replies come from the agent in Python of crates/conversations. Where both answer, they have to agree. Natively the
+programs of one `run` run one after the other and nothing moves, so a case asks only for what this doesn't change. With
+--check the scripts are compared and not written.
 """
 import itertools
 import pathlib
@@ -22,13 +23,20 @@ FUEL = "10000"
 TURNS = (1, 3, 2, 5, 4, 1, 7)
 
 
+MOVES = ("leave", "left", "return", "returned")
+
+
 def parts_of(line):
-    """The programs of a `run`, each with its arguments."""
+    """The programs of a `run` with their arguments, and the movers."""
     return [part.split() for part in line.removeprefix("run ").split("|")]
 
 
+def programs_of(line):
+    return [part for part in parts_of(line) if part[0] != "mover"]
+
+
 def native_commands(line):
-    return [" ".join(["run", *part]) for part in parts_of(line)] if line.startswith("run ") else [line]
+    return [" ".join(["run", *part]) for part in programs_of(line)] if line.startswith("run ") else [line]
 
 
 def native_replies(commands):
@@ -37,7 +45,7 @@ def native_replies(commands):
 
 
 class Script:
-    """What is said, with the replies of the interpreter."""
+    """What is said, with the replies of the agent in Python."""
 
     def __init__(self):
         self.agent, self.lines = Agent(), []
@@ -52,32 +60,57 @@ class Script:
         self.lines += [command, f"> {reply}"]
         return reply
 
-    def ship(self, code, arguments):
-        """The machine's number."""
-        reply = self.tell(ship_line(code, FUEL, arguments))
-        return reply.removeprefix("shipped ")
 
-    def step_in_turn(self, machines):
-        """Steps them to their ends, and gives their last replies."""
-        ends, turns = {}, itertools.cycle(TURNS)
-        for machine in itertools.cycle(machines):
-            if len(ends) == len(machines):
-                break
-            for _ in range(next(turns)):
-                if machine not in ends:
-                    reply = self.tell(f"step {machine}")
-                    if not reply.startswith("ran "):
-                        ends[machine] = reply
-        return [ends[machine] for machine in machines]
+class Machine:
+    """A program that was shipped. `end` is the reply that it ended with."""
+
+    def __init__(self, script, name, *arguments):
+        code = (HERE / f"{name}.code").read_bytes()
+        self.script, self.end = script, None
+        self.number = script.tell(ship_line(code, FUEL, arguments)).removeprefix("shipped ")
+
+    def take_turn(self, steps):
+        for _ in range(steps):
+            if self.end is None:
+                reply = self.script.tell(f"step {self.number}")
+                self.end = None if reply.startswith(("ran ", "waiting ")) else reply
+
+
+class Mover:
+    """It takes an object to the far store and back, again and again, one move in a turn."""
+
+    def __init__(self, script, number):
+        self.script, self.number, self.at = script, number, 0
+
+    def take_turn(self, _):
+        reply = self.script.tell(f"{MOVES[self.at]} {self.number}")
+        if not reply.startswith("kept "):
+            self.at = (self.at + 1) % len(MOVES)
+
+    def bring_back(self):
+        while self.at:
+            self.take_turn(1)
+
+
+def take_turns(actors, machines):
+    """Until all machines have ended."""
+    turns = itertools.cycle(TURNS)
+    for actor in itertools.cycle(actors):
+        if all(machine.end for machine in machines):
+            break
+        actor.take_turn(next(turns))
 
 
 def run(script, line, wanted):
-    codes = [(HERE / f"{part[0]}.code").read_bytes() for part in parts_of(line)]
-    machines = [script.ship(code, part[1:]) for code, part in zip(codes, parts_of(line))]
-    ends = script.step_in_turn(machines)
-    for machine, end, exit_value in zip(machines, ends, wanted):
-        if end != f"stopped {machine} {exit_value}":
-            raise SystemExit(f"{line}: {end} here, and {exit_value} natively")
+    actors = [Mover(script, *rest) if name == "mover" else Machine(script, name, *rest) for name, *rest in parts_of(line)]
+    machines = [actor for actor in actors if isinstance(actor, Machine)]
+    take_turns(actors, machines)
+    for mover in actors:
+        if isinstance(mover, Mover):
+            mover.bring_back()
+    for machine, value in zip(machines, wanted):
+        if machine.end != f"stopped {machine.number} {value}":
+            raise SystemExit(f"{line}: {machine.end} here, and {value} natively")
 
 
 def script_of(case):

@@ -5,20 +5,22 @@ The comments at the head of each file of refused/ say what comes of it, and this
   clang: PATTERN     clang's error
   flags: FLAG ..     further arguments of clang
   ship.py: TEXT      what `ship.py check` says of the object file
+  check: TEXT        what `bpfagent check` says of the raw code
   ship: REPLY        the reply to `ship` of the raw code
   run A ..: REPLY    the reply at the program's end, with a first object of 16 bytes; of raw code that ship.py refuses,
                      what would come of it
-The conversations of the last two are refused.script, which is written with --write.
+The conversations of `ship` and `run` are refused.script, which is written with --write.
 """
 import pathlib
 import re
 import subprocess
 import sys
 
-from make_scripts import HERE, Script
+from make_scripts import HERE, Script  # this has to come first: it says where the interpreter is
+from interpreter import Fault, load
 from ship import ObjectFile, code_section, ship_line
 
-HEAD = re.compile(r"^// (clang|flags|ship\.py|ship|run)((?: \S+)*): (.*)$", re.M)
+HEAD = re.compile(r"^// (clang|flags|ship\.py|check|ship|run)((?: \S+)*): (.*)$", re.M)
 OUT = HERE / "out/refused"
 FUEL = "100"
 
@@ -38,6 +40,14 @@ def compile_it(clang, path):
 def raw_code(made):
     found = ObjectFile(made.read_bytes())
     return found.sections[code_section(found)[0]].bytes
+
+
+def fault_of(code):
+    try:
+        load(code)
+    except Fault as fault:
+        return f"slot {fault.slot}: {fault.name}"
+    return None
 
 
 def converse(script, path, code, arguments, wanted):
@@ -63,6 +73,8 @@ def try_it(clang, script, path):
             found = checked.stderr.strip().removeprefix(f"{made}: ")
             if kind == "ship.py":
                 want(found == text, path, found)
+            elif kind == "check":
+                want(fault_of(raw_code(made)) == text, path, fault_of(raw_code(made)))
             else:
                 converse(script, path, raw_code(made), arguments, text)
     return len(said)

@@ -1,0 +1,13 @@
+// More than 4096 slots.
+// check: slot 0: TooLong
+#include "../bpfagent.h"
+
+uint64_t program(const uint64_t *numbers)
+{
+    uint64_t hash = 0;
+
+#pragma clang loop unroll(full)
+    for (int i = 0; i < 1500; i++)
+        hash = (hash ^ numbers[i]) * 31;
+    return hash;
+}
