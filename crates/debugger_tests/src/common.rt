@@ -59,12 +59,8 @@ pub fn session_of(
 }
 
 /// One step over the objects.
-fn step_over(session: &mut Session) -> Stepped {
-    let mut memory = StoreMemory {
-        store: &mut session.store,
-        who: 1,
-    };
-    session.machine.step(&mut memory)
+fn step_over(machine: &mut Machine, store: &mut ObjectStore<OwnStore>) -> Stepped {
+    machine.step(&mut StoreMemory { store, who: 1 })
 }
 
 /// `step`: a stop comes first, then a pause.
@@ -76,7 +72,7 @@ pub fn step(session: &mut Session) -> Answer {
     if session.debugger.before(slot) == Before::Pause {
         return Answer::Paused(slot);
     }
-    match step_over(session) {
+    match step_over(&mut session.machine, &mut session.store) {
         Stepped::Ran(written) => {
             let after = session.debugger.after(written);
             answer_of(after, session.machine.slot())
@@ -91,7 +87,7 @@ pub fn step(session: &mut Session) -> Answer {
 
 /// `one`: without a look at pauses.
 pub fn one(session: &mut Session) -> Answer {
-    match step_over(session) {
+    match step_over(&mut session.machine, &mut session.store) {
         Stepped::Ran(written) => {
             let after = session.debugger.after_one(written);
             answer_of(after, session.machine.slot())
