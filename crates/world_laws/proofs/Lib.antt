@@ -10,3 +10,9 @@ pub mod Puts
 pub mod KeptCode
 pub mod Shipped
 pub mod Numbers
+pub mod ObjectsOneWay
+pub mod MachinesOneWay
+pub mod DebuggingOneWay
+pub mod StepsOneWay
+pub mod Unfaulted
+pub mod OneWay

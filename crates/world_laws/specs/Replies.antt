@@ -145,3 +145,31 @@ counted_from n (suc count) = n ∷ counted_from (suc n) count
 abbrev pub NumbersCountUp : Type 0
 NumbersCountUp = (budget faults : ℕ) (commands : List Command) (replies : List Reply) (new : WorldState) → Runs Answers (world_start budget faults) commands replies new
     → made_numbers replies ≡ counted_from 1 (length (made_numbers replies))
+
+-- ---- one way
+
+-- a reply that comes neither of memory that ran out nor of a far store that failed
+abbrev pub is_settled : Reply → Bool
+is_settled NoMemory = false
+is_settled (Faulted n p) = false
+is_settled _ = true
+
+-- the state but for the count of faults of the far store
+abbrev pub without_faults : WorldState → WorldState
+without_faults w = record w { store = record w.store { faults = 0 } }
+
+-- But for such replies, a command has one reply and leads to one state, from states and up to states that differ in the
+-- count of faults alone.
+abbrev pub AnswersOneWay : Type 0
+AnswersOneWay = (old aside new other : WorldState) (command : Command) (a b : Reply) → without_faults old ≡ without_faults aside
+    → Answers old command a new → Answers aside command b other → is_settled a ≡ true → is_settled b ≡ true → (a ≡ b) × (without_faults new ≡ without_faults other)
+
+abbrev pub AreSettled : List Reply → Type 0
+AreSettled [] = Unit {0}
+AreSettled (reply ∷ replies) = (is_settled reply ≡ true) × AreSettled replies
+
+-- So commands have one run: their replies are determined, and so is the state to which they lead.
+abbrev pub RunsOneWay : Type 0
+RunsOneWay = (old aside new other : WorldState) (commands : List Command) (as' bs : List Reply) → without_faults old ≡ without_faults aside
+    → Runs Answers old commands as' new → Runs Answers aside commands bs other → AreSettled as' → AreSettled bs
+    → (as' ≡ bs) × (without_faults new ≡ without_faults other)

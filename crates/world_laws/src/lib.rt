@@ -4,7 +4,7 @@
 mod replies;
 
 pub use replies::{
-    debugging_changes_debug_state_alone, faults_change_one_place, gets_what_was_put, machines_stay,
-    numbers_count_up, objects_stay, others_stay, puts_stay_apart, refusals_change_nothing,
-    runs_what_was_shipped, showing_changes_nothing,
+    answers_one_way, debugging_changes_debug_state_alone, faults_change_one_place,
+    gets_what_was_put, machines_stay, numbers_count_up, objects_stay, others_stay, puts_stay_apart,
+    refusals_change_nothing, runs_one_way, runs_what_was_shipped, showing_changes_nothing,
 };

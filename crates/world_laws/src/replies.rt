@@ -1,6 +1,6 @@
 //! What replies tell of the state, and which replies there may be.
 
-ghost use Rattle.world_laws.specs.Replies.{RefusalsChangeNothing, FaultsChangeOnePlace, ShowingChangesNothing, DebuggingChangesDebugStateAlone, OthersStay, RunsWhatWasShipped, MachinesStay, ObjectsStay, PutsStayApart, GetsWhatWasPut, NumbersCountUp};
+ghost use Rattle.world_laws.specs.Replies.{RefusalsChangeNothing, FaultsChangeOnePlace, ShowingChangesNothing, DebuggingChangesDebugStateAlone, OthersStay, RunsWhatWasShipped, MachinesStay, ObjectsStay, PutsStayApart, GetsWhatWasPut, NumbersCountUp, AnswersOneWay, RunsOneWay};
 
 /// A refusal changes nothing.
 pub fn refusals_change_nothing()
@@ -55,4 +55,14 @@ pub fn gets_what_was_put()
 /// Objects are numbered from 1, in the order in which they are made.
 pub fn numbers_count_up()
     ensures { NumbersCountUp }
+{}
+
+/// Unless memory runs out or the far store fails, a command has one reply and one effect.
+pub fn answers_one_way()
+    ensures { AnswersOneWay }
+{}
+
+/// Unless memory runs out or the far store fails, commands have one run.
+pub fn runs_one_way()
+    ensures { RunsOneWay }
 {}

@@ -1,0 +1,97 @@
+-- A step has one answer.
+use Rattle.std.proofs.Common.{◌≡◌, ℕ, true, false, List, Option, Some, refl, ap, sym, subst, ◌∙◌, inl, inr}
+use Rattle.std.specs.Prelude.{◌⊎◌}
+use Rattle.memory.specs.declared.access.Op.{Op}
+use Rattle.memory.specs.declared.access.Reach.{Reach}
+use Rattle.memory.specs.declared.access.Reach.TheVariants as reach
+use Rattle.object_store.specs.Stores.{StoreState, store_memory, Touches}
+use Rattle.machine.specs.MachineState.{MachineState}
+use Rattle.machine.specs.TableStep.{TableStep}
+use Rattle.machine.specs.Laws.{IsDetermined}
+use Rattle.machine.specs.declared.state.Stepped.{Stepped}
+use Rattle.machine.proofs.OneWay.{steps_one_way}
+use Rattle.debugger.specs.Steps.{before}
+use Rattle.world.specs.declared.debuggee.Debuggee.{Debuggee}
+use Rattle.world.specs.declared.events.Reply.{Reply}
+use Rattle.world.specs.declared.events.Reply.TheVariants.{Paused}
+use Rattle.world.specs.WorldState.{machine_at, with_machine}
+use Rattle.world.specs.Steps.{Way, Steps, AnswersStep, holds_back, debugged, reply_to_step}
+use Rattle.world_laws.proofs.Machines.{found_once, found_none}
+use Rattle.world_laws.proofs.Replying.{Misses, Waits, step_cases}
+
+-- ---- one access
+
+reached : (who : ℕ) (old a b : StoreState) (n : ℕ) (op : Op) (r s : Reach) → Touches who old n op r a → Touches who old n op s b → (r ≡ s) × (a ≡ b)
+reached who old a b n op (reach.Done x) (reach.Done y) g h = (ap reach.Done (g.2 ∙ sym h.2), g.3 ∙ sym h.3)
+reached who old a b n op reach.Outside reach.Outside g h = (refl, g.1 ∙ sym h.1)
+reached who old a b n op reach.Away reach.Away g h = (refl, g.2 ∙ sym h.2)
+reached who old a b n op (reach.Done x) reach.Outside g h = absurd (h.0 g.0)
+reached who old a b n op (reach.Done x) reach.Away g h = absurd (h.1 g.1)
+reached who old a b n op reach.Outside (reach.Done y) g h = absurd (g.0 h.0)
+reached who old a b n op reach.Outside reach.Away g h = absurd (g.0 h.0)
+reached who old a b n op reach.Away (reach.Done y) g h = absurd (g.1 h.1)
+reached who old a b n op reach.Away reach.Outside g h = absurd (h.0 g.0)
+reached who old a b n op (reach.Done x) _ g h = absurd h
+reached who old a b n op reach.Outside _ g h = absurd h
+reached who old a b n op reach.Away _ g h = absurd h
+reached who old a b n op _ _ g h = absurd g
+
+determined : (who : ℕ) → IsDetermined (store_memory who)
+determined who = record { reached = reached who; closed = λ old a b g h. g ∙ sym h }
+
+-- ---- one step
+
+abbrev Cases : ℕ → Way → List Debuggee → StoreState → Reply → List Debuggee → StoreState → Type 0
+Cases who way old s reply new t = Misses old s who reply new t ⊎ Waits way old s who reply new t ⊎ Steps (store_memory who) way old s who reply new t
+
+abbrev Same : List Debuggee → List Debuggee → StoreState → StoreState → Reply → Reply → Type 0
+Same new other t u a b = (a ≡ b) × (new ≡ other) × (t ≡ u)
+
+waits_same : (who : ℕ) (way : Way) (old new other : List Debuggee) (s t u : StoreState) (a b : Reply) → Waits way old s who a new t → Waits way old s who b other u → Same new other t u a b
+waits_same who way old new other s t u a b d e =
+    let x = found_once (machine_at old who) d.pauses.debuggee e.pauses.debuggee d.pauses.found e.pauses.found in
+    let slot : d.slot ≡ e.slot = d.pauses.slot_is ∙ ap (λ (y : Debuggee). y.machine.slot) x ∙ sym e.pauses.slot_is in (
+      d.told ∙ ap (Paused who) slot ∙ sym e.told,
+      d.pauses.changed ∙ ap (λ n. with_machine old who (record d.pauses.debuggee { debugger = before n d.pauses.debuggee.debugger })) slot
+          ∙ ap (λ (y : Debuggee). with_machine old who (record y { debugger = before e.slot y.debugger })) x ∙ sym e.pauses.changed,
+      d.pauses.same ∙ sym e.pauses.same,
+    )
+
+steps_same : (who : ℕ) (way : Way) (old new other : List Debuggee) (s t u : StoreState) (a b : Reply) → Steps (store_memory who) way old s who a new t
+    → Steps (store_memory who) way old s who b other u → Same new other t u a b
+steps_same who way old new other s t u a b d e =
+    let x = found_once (machine_at old who) d.debuggee e.debuggee d.found e.found in
+    let step : TableStep (store_memory who) e.debuggee.machine s d.answer d.machine t = subst (λ (y : Debuggee). TableStep (store_memory who) y.machine s d.answer d.machine t) x d.step in
+    let y = steps_one_way (store_memory who) (determined who) e.debuggee.machine d.machine e.machine s t u d.answer e.answer step e.step in (
+      d.told ∙ ap (λ (r : Stepped). reply_to_step who r d.machine.slot d.debuggee.debugger) y.0
+          ∙ ap (λ (m : MachineState). reply_to_step who e.answer m.slot d.debuggee.debugger) y.1
+          ∙ ap (λ (z : Debuggee). reply_to_step who e.answer e.machine.slot z.debugger) x ∙ sym e.told,
+      d.changed ∙ ap (λ (r : Stepped). with_machine old who (record { machine = d.machine; debugger = debugged way r d.debuggee.debugger })) y.0
+          ∙ ap (λ (m : MachineState). with_machine old who (record { machine = m; debugger = debugged way e.answer d.debuggee.debugger })) y.1
+          ∙ ap (λ (z : Debuggee). with_machine old who (record { machine = e.machine; debugger = debugged way e.answer z.debugger })) x ∙ sym e.changed,
+      y.2,
+    )
+
+-- a machine is held back or it isn't
+not_both : {X : Type 0} (way : Way) (o : Option Debuggee) (d e : Debuggee) → o ≡ Some d → o ≡ Some e → holds_back way d ≡ true → holds_back way e ≡ false → X
+not_both way o d e f g h k =
+    let x : holds_back way d ≡ holds_back way e = ap (holds_back way) (found_once o d e f g) in
+    absurd (cc)
+
+cases_same : (who : ℕ) (way : Way) (old new other : List Debuggee) (s t u : StoreState) (a b : Reply) → Cases who way old s a new t → Cases who way old s b other u → Same new other t u a b
+cases_same who way old new other s t u a b (inl d) (inl e) = (d.told ∙ sym e.told, d.changed ∙ sym e.changed, d.same ∙ sym e.same)
+cases_same who way old new other s t u a b (inl d) (inr (inl e)) = found_none (machine_at old who) e.pauses.debuggee d.missing e.pauses.found
+cases_same who way old new other s t u a b (inl d) (inr (inr e)) = found_none (machine_at old who) e.debuggee d.missing e.found
+cases_same who way old new other s t u a b (inr (inl d)) (inl e) = found_none (machine_at old who) d.pauses.debuggee e.missing d.pauses.found
+cases_same who way old new other s t u a b (inr (inr d)) (inl e) = found_none (machine_at old who) d.debuggee e.missing d.found
+cases_same who way old new other s t u a b (inr (inl d)) (inr (inl e)) = waits_same who way old new other s t u a b d e
+cases_same who way old new other s t u a b (inr (inr d)) (inr (inr e)) = steps_same who way old new other s t u a b d e
+cases_same who way old new other s t u a b (inr (inl d)) (inr (inr e)) =
+    not_both way (machine_at old who) d.pauses.debuggee e.debuggee d.pauses.found e.found d.pauses.held e.goes
+cases_same who way old new other s t u a b (inr (inr d)) (inr (inl e)) =
+    not_both way (machine_at old who) e.pauses.debuggee d.debuggee e.pauses.found d.found e.pauses.held d.goes
+
+pub step_same : (who : ℕ) (way : Way) (old new other : List Debuggee) (s t u : StoreState) (a b : Reply) → AnswersStep (store_memory who) way old s who a new t
+    → AnswersStep (store_memory who) way old s who b other u → (a ≡ b) × (new ≡ other) × (t ≡ u)
+step_same who way old new other s t u a b g h =
+    cases_same who way old new other s t u a b (step_cases (store_memory who) way old s who a new t g) (step_cases (store_memory who) way old s who b other u h)
