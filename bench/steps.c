@@ -6,8 +6,9 @@
 #include <string.h>
 #include <time.h>
 
-/* The code in the last of so many machines, beside so many objects: the first of 65,536 bytes. Gives R0 as it stops. */
-uint64_t bpf_run(const uint8_t *code, size_t length, uint64_t fuel, uint64_t argument, uint32_t objects, size_t machines);
+/* The code in the last of so many machines, beside so many objects: the first of 65,536 bytes. Gives R0 as it stops, and how
+   many instructions ran. */
+uint64_t bpf_run(const uint8_t *code, size_t length, uint64_t fuel, uint64_t argument, uint32_t objects, size_t machines, uint64_t *steps);
 
 #define RUNS 101
 #define STEPS 400000
@@ -25,6 +26,11 @@ struct setting {
     uint64_t argument;
     uint32_t objects;
     size_t machines;
+};
+
+/* R0 at the end, and how many instructions ran before the stop. */
+struct outcome {
+    uint64_t result, steps;
 };
 
 static double now(void)
@@ -49,28 +55,28 @@ static double tenth_percentile(double *times)
 /* ---- both interpreters */
 
 /* The time of a run; that of loading the code and making the objects is taken off. */
-static double ours(const struct code *c, uint64_t fuel, const struct setting *s, uint64_t *result)
+static double ours(const struct code *c, uint64_t fuel, const struct setting *s, struct outcome *o)
 {
     double a = now();
-    bpf_run(c->bytes, c->length, 0, s->argument, s->objects, s->machines);
+    bpf_run(c->bytes, c->length, 0, s->argument, s->objects, s->machines, &o->steps);
     double b = now();
-    *result = bpf_run(c->bytes, c->length, fuel, s->argument, s->objects, s->machines);
+    o->result = bpf_run(c->bytes, c->length, fuel, s->argument, s->objects, s->machines, &o->steps);
     return now() - b - (b - a);
 }
 
-/* The same; afterwards `fuel` is what was left. */
-static double theirs(const struct flat_instr *decoded, uint64_t *fuel, uint64_t *result)
+static double theirs(const struct flat_instr *decoded, uint64_t fuel, struct outcome *o)
 {
     static uint8_t object[OBJECT_BYTES];
     static struct flat_machine m;
     memset(object, 0, sizeof object);
-    flat_start(&m, decoded, *fuel, OBJECT(1));
+    flat_start(&m, decoded, fuel, OBJECT(1));
     m.table[2] = (struct flat_object){ object, sizeof object };
     double a = now();
-    flat_run(&m);
+    enum flat_stop stop = flat_run(&m);
     double b = now();
-    *fuel = m.fuel;
-    *result = m.registers[0];
+    /* EXIT takes fuel too. */
+    o->steps = fuel - m.fuel - (stop == FLAT_EXIT);
+    o->result = m.registers[0];
     return b - a;
 }
 
@@ -79,7 +85,8 @@ struct timed {
     const char *name;
     struct code code;
     struct flat_instr decoded[CODE_LIMIT / 8];
-    uint64_t fuel, steps;
+    uint64_t fuel;
+    struct outcome outcome;
     double ours[RUNS], theirs[RUNS];
 };
 
@@ -87,11 +94,10 @@ struct timed {
 static void run_both(struct timed *t, int k)
 {
     static const struct setting one = { OBJECT(1), 1, 1 };
-    uint64_t x, y, left = t->fuel;
-    t->ours[k] = ours(&t->code, t->fuel, &one, &x);
-    t->theirs[k] = theirs(t->decoded, &left, &y);
-    t->steps = t->fuel - left;
-    if (x != y) {
+    struct outcome other;
+    t->ours[k] = ours(&t->code, t->fuel, &one, &t->outcome);
+    t->theirs[k] = theirs(t->decoded, t->fuel, &other);
+    if (t->outcome.result != other.result || t->outcome.steps != other.steps) {
         printf("%s: the results differ\n", t->name);
         exit(1);
     }
@@ -100,7 +106,7 @@ static void run_both(struct timed *t, int k)
 /* Tells the times of both, and gives their ratio. */
 static double tell(struct timed *t)
 {
-    double a = tenth_percentile(t->ours), b = tenth_percentile(t->theirs), steps = (double)t->steps;
+    double a = tenth_percentile(t->ours), b = tenth_percentile(t->theirs), steps = (double)t->outcome.steps;
     printf("%-28s agent %6.2f ns a step, flat C %6.2f, ratio %.2f\n", t->name, 1e9 * a / steps, 1e9 * b / steps, a / b);
     return a / b;
 }
@@ -121,9 +127,9 @@ static void scales(const char *name, const struct code *c, struct setting first,
 {
     double one[RUNS], other[RUNS];
     for (int k = 0; k < RUNS; k++) {
-        uint64_t x;
-        one[k] = ours(c, STEPS, &first, &x);
-        other[k] = ours(d, STEPS, &second, &x);
+        struct outcome o;
+        one[k] = ours(c, STEPS, &first, &o);
+        other[k] = ours(d, STEPS, &second, &o);
     }
     double a = tenth_percentile(one), b = tenth_percentile(other);
     printf("%-28s %6.2f and %6.2f ns a step, ratio %.2f\n", name, 1e9 * a / STEPS, 1e9 * b / STEPS, b / a);

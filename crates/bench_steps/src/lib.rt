@@ -26,18 +26,19 @@ const LOAD: Op = Op {
     action: Action::Load { size: Size::Byte },
 };
 
-/// Steps the machine until it stops, or waits.
-fn run_to_end<M: Memory>(machine: &mut Machine, memory: &mut M) -> Stepped
+/// Steps the machine until it stops, or waits, and counts the steps that ran.
+fn run_to_end<M: Memory>(machine: &mut Machine, memory: &mut M) -> (Stepped, u64)
     requires ready { M.is_ready memory.old }
     ensures ready { M.is_ready memory.new }
     ensures steps { Reaches M.acts machine.old memory.old machine.new memory.new }
-    ensures end { IsEnd result }
+    ensures end { IsEnd result.0 }
 {
+    let mut steps = 0u64;
     loop {
         match machine.step(memory) {
-            Stepped::Ran(_) => {}
-            Stepped::Waiting(number) => return Stepped::Waiting(number),
-            Stepped::Stopped(stop) => return Stepped::Stopped(stop),
+            Stepped::Ran(_) => steps = steps.wrapping_add(1),
+            Stepped::Waiting(number) => return (Stepped::Waiting(number), steps),
+            Stepped::Stopped(stop) => return (Stepped::Stopped(stop), steps),
         }
     }
 }
@@ -61,7 +62,7 @@ fn hold(store: &mut ObjectStore<OwnStore>, who: usize, number: u32)
 
 /// Runs the code with this fuel and with R1 as given, beside so many objects: the first of 65,536 bytes, and each other of 64.
 /// Its machine has the number that is given, and each of a lower number has the last object in its scope. Gives R0 as the
-/// machine stops; 0 where the code isn't loaded.
+/// machine stops, and how many instructions ran; 0 where the code isn't loaded.
 #[unsafe(no_mangle)]
 pub extern "C" fn bpf_run(
     alloc: Global,
@@ -70,6 +71,7 @@ pub extern "C" fn bpf_run(
     argument: u64,
     objects: u32,
     machines: usize,
+    steps: &mut u64,
 ) -> u64 {
     let (Ok(program), Some(mut store)) = (load(alloc, code), store_of(alloc, objects)) else {
         return 0;
@@ -85,6 +87,6 @@ pub extern "C" fn bpf_run(
         store: &mut store,
         who: machines,
     };
-    let _ = run_to_end(&mut machine, &mut memory);
+    *steps = run_to_end(&mut machine, &mut memory).1;
     machine.registers()[0]
 }
