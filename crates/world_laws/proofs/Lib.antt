@@ -10,6 +10,14 @@ pub mod Puts
 pub mod KeptCode
 pub mod Shipped
 pub mod Numbers
+pub mod StoreChanges
+pub mod Placed
+pub mod Moving
+pub mod Budgeted
+pub mod Scoping
+pub mod Numbered
+pub mod Answered
+pub mod Awaited
 pub mod ObjectsOneWay
 pub mod MachinesOneWay
 pub mod DebuggingOneWay

@@ -1,8 +1,10 @@
 //! What the definitions of the commands say, in the agent's own words.
 #![tactic(auto)]
 
+mod places;
 mod replies;
 
+pub use places::{budget_holds, moves_change_no_byte, places_are_read, scopes_stay, waits_exactly};
 pub use replies::{
     answers_one_way, debugging_changes_debug_state_alone, faults_change_one_place,
     gets_what_was_put, machines_stay, numbers_count_up, objects_stay, others_stay, puts_stay_apart,

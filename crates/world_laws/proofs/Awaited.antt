@@ -1,0 +1,160 @@
+-- A step waits exactly where its object isn't here.
+use Rattle.std.proofs.Common.{◌≡◌, ◌≢◌, ℕ, nat_eq, Bool, true, false, cond, List, Option, Some, None, refl, sym, ap, ◌∙◌, subst}
+use Rattle.isa_table.specs.declared.instr.Instr.{Instr}
+use Rattle.memory.specs.declared.access.Op.{Op}
+use Rattle.memory.specs.declared.access.Reach.{Reach}
+use Rattle.memory.specs.declared.access.Reach.TheVariants as reach
+use Rattle.memory.specs.Objects.{Reaches}
+use Rattle.object_store.specs.declared.places.Place.TheVariants.{Here}
+use Rattle.object_store.specs.Stores.{StoreState, store_memory, Touches, place_of}
+use Rattle.machine.specs.declared.state.Stepped.{Stepped}
+use Rattle.machine.specs.declared.state.Stepped.TheVariants as stepped
+use Rattle.machine.specs.declared.state.Work.{Work}
+use Rattle.machine.specs.declared.state.Work.TheVariants.{Computes, Accesses, Measures}
+use Rattle.machine.specs.MachineState.{MachineState, own_stack}
+use Rattle.machine.specs.Rows.{Request, MemoryAnswer, Outcome, asks, asks_for, told, told_for, waits, work_of}
+use Rattle.machine.specs.Rows.Request.{Nothing, Touch}
+use Rattle.machine.specs.Rows.MemoryAnswer.{Reached}
+use Rattle.machine.specs.TableStep as table
+use Rattle.machine.specs.TableStep.{TableStep, StepsFrom, Attempts}
+use Rattle.machine.specs.Laws.{IsDetermined, IsWaiting}
+use Rattle.machine.proofs.StepCases.{steps_told}
+use Rattle.machine.proofs.OneWay.{steps_one_way}
+use Rattle.machine.proofs.Stopping.{waits_in_place}
+use Rattle.debugger.specs.DebugState.{DebugState, hits}
+use Rattle.world.specs.declared.debuggee.Debuggee.{Debuggee}
+use Rattle.world.specs.declared.events.Reply.{Reply}
+use Rattle.world.specs.declared.events.Reply.TheVariants.{Ran, Hit, Waiting, Stopped, Missing, Paused}
+use Rattle.world.specs.WorldState.{WorldState, machine_at, with_machine}
+use Rattle.world.specs.Steps.{Way, Steps, AnswersStep, debugged, holds_back, reply_to_step}
+use Rattle.world.specs.Steps.Way.{ByStep, ByOne}
+use Rattle.world.specs.Answers.{Answers}
+use Rattle.world_laws.specs.Stepping.{stepping, Awaits, WaitsExactly}
+use Rattle.world_laws.proofs.Numbered.{found_once, found_none, set_found}
+use Rattle.world_laws.proofs.Answered.{StepAnswer, NoMachine, Pause, TableRow, parted}
+
+-- ---- a store is determined
+
+touched_once : (who : ℕ) (before a b : StoreState) (n : ℕ) (op : Op) (r s : Reach) → Touches who before n op r a → Touches who before n op s b → (r ≡ s) × (a ≡ b)
+touched_once who before a b n op (reach.Done v) (reach.Done w) g h = (ap reach.Done (g.2 ∙ sym h.2), g.3 ∙ sym h.3)
+touched_once who before a b n op (reach.Done v) reach.Away g h = absurd (h.1 g.1)
+touched_once who before a b n op (reach.Done v) reach.Outside g h = absurd (h.0 g.0)
+touched_once who before a b n op (reach.Done v) _ g h = absurd h
+touched_once who before a b n op reach.Away (reach.Done w) g h = absurd (g.1 h.1)
+touched_once who before a b n op reach.Away reach.Away g h = (refl, g.2 ∙ sym h.2)
+touched_once who before a b n op reach.Away reach.Outside g h = absurd (h.0 g.0)
+touched_once who before a b n op reach.Away _ g h = absurd h
+touched_once who before a b n op reach.Outside (reach.Done w) g h = absurd (g.0 h.0)
+touched_once who before a b n op reach.Outside reach.Away g h = absurd (g.0 h.0)
+touched_once who before a b n op reach.Outside reach.Outside g h = (refl, g.1 ∙ sym h.1)
+touched_once who before a b n op reach.Outside _ g h = absurd h
+touched_once who before a b n op _ _ g h = absurd g
+
+pub store_determined : (who : ℕ) → IsDetermined (store_memory who)
+store_determined who = record { reached = λ x a b n op r s g h. touched_once who x a b n op r s g h; closed = λ x a b g h. g ∙ sym h }
+
+-- ---- a step that waits
+
+touch_is : (a b : ℕ) (p q : Op) → Touch a p ≡ Touch b q → a ≡ b
+touch_is a b p q e = cc
+
+asked_number : (b : Bool) (k n : ℕ) (p q : Op) → cond b Nothing (Touch k p) ≡ Touch n q → k ≡ n
+asked_number true k n p q e = absurd (cc)
+asked_number false k n p q e = touch_is k n p q e
+
+away_waits : (w : Work) (i : Instr) (old : MachineState) (n : ℕ) (op : Op) → asks_for w ≡ Touch n op → told_for w i old (Reached reach.Away) ≡ waits n old
+away_waits Computes i old n op e = absurd (cc)
+away_waits (Measures k) i old n op e = absurd (cc)
+away_waits (Accesses x) i old n op e = ap (λ k. waits k old) (asked_number (nat_eq x.number own_stack) x.number n x.op op e)
+
+waiting_step : (who n : ℕ) (old : MachineState) (before : StoreState) (i : Instr) (op : Op) → Attempts old i → asks i old ≡ Touch n op → Reaches before.objects n op → place_of before.places n ≢ Here
+    → TableStep (store_memory who) old before (stepped.Waiting n) old before
+waiting_step who n old before i op t e g p =
+    let answers : table.Answers (store_memory who) (asks i old) before (Reached reach.Away) before =
+    subst (λ (q : Request). table.Answers (store_memory who) q before (Reached reach.Away) before) (sym e) (g, p, refl) in
+    record {
+      closes = false;
+      mid = before;
+      steps = subst (λ (o : Outcome). StepsFrom old.stop (store_memory who) old before o before) (away_waits (work_of i old.registers) i old n op e) (steps_told (store_memory who) i old before before (Reached reach.Away) t answers);
+      closed = refl;
+    }
+
+-- ---- the two directions
+
+waiting_tells : (m slot n : ℕ) (d : DebugState) (a : Stepped) (r : Reply) → a ≡ stepped.Waiting n → r ≡ reply_to_step m a slot d → r ≡ Waiting m n
+waiting_tells m slot n d a r e f = rw e at f
+
+abbrev StepsStore : Way → WorldState → ℕ → Reply → WorldState → Type 0
+StepsStore way old m r new = AnswersStep (store_memory m) way old.machines old.store m r new.machines new.store
+
+held_goes : {P : Type 0} (way : Way) (d e : Debuggee) → d ≡ e → holds_back way d ≡ true → holds_back way e ≡ false → P
+held_goes way d e s p q = let g = rw s at p in absurd (cc)
+
+back : (way : Way) (old new : WorldState) (m n : ℕ) (r : Reply) → Awaits way old m n → StepAnswer (store_memory m) way old.machines old.store m r new.machines new.store → r ≡ Waiting m n
+back way old new m n r w (NoMachine h) = found_none (machine_at old.machines m) w.debuggee h.none w.found
+back way old new m n r w (Pause h) =
+    held_goes way h.pauses.debuggee w.debuggee (found_once (machine_at old.machines m) h.pauses.debuggee w.debuggee h.pauses.found w.found) h.pauses.held w.goes
+back way old new m n r w (TableRow h) =
+    let same = found_once (machine_at old.machines m) h.debuggee w.debuggee h.found w.found in
+    let step = subst (λ (x : Debuggee). TableStep (store_memory m) x.machine old.store h.answer h.machine new.store) same h.step in
+    let wait = waiting_step m n w.debuggee.machine old.store w.instr w.op w.attempts w.access w.inside w.abroad in
+    let once = steps_one_way (store_memory m) (store_determined m) w.debuggee.machine h.machine w.debuggee.machine old.store new.store old.store h.answer (stepped.Waiting n) step wait in
+    waiting_tells m h.machine.slot n h.debuggee.debugger h.answer r once.0 h.told
+
+-- the answer that is told as waiting
+record IsWait (m k n : ℕ) (a : Stepped) : Type 0 where
+  number : k ≡ m
+  answer : a ≡ stepped.Waiting n
+
+ran_waits : {P : Type 0} (b : Bool) (k n m slot : ℕ) → Waiting k n ≡ cond b (Hit m slot) (Ran m slot) → P
+ran_waits true k n m slot e = absurd (cc)
+ran_waits false k n m slot e = absurd (cc)
+
+waiting_is : (k n m i : ℕ) → Waiting k n ≡ Waiting m i → (k ≡ m) × (i ≡ n)
+waiting_is k n m i e = (cc, cc)
+
+told_waiting : (m k n slot : ℕ) (a : Stepped) (d : DebugState) → Waiting k n ≡ reply_to_step m a slot d → IsWait m k n a
+told_waiting m k n slot (stepped.Ran w) d e = ran_waits (hits w d) k n m slot e
+told_waiting m k n slot (stepped.Stopped s) d e = absurd (cc)
+told_waiting m k n slot (stepped.Waiting i) d e = let g = waiting_is k n m i e in record { number = g.0; answer = ap stepped.Waiting g.1 }
+
+record Barred (who : ℕ) (before after : StoreState) (n : ℕ) (op : Op) : Type 0 where
+  inside : Reaches before.objects n op
+  away : place_of before.places n ≢ Here
+  same : after ≡ before
+
+barred : (who : ℕ) (before after : StoreState) (n : ℕ) (op : Op) (r : Reach) → IsWaiting r → Touches who before n op r after → Barred who before after n op
+barred who before after n op reach.Away w h = record { inside = h.0; away = h.1; same = h.2 }
+barred who before after n op reach.Busy w h = absurd h
+barred who before after n op _ w h = absurd w
+
+debugged_waiting : (way : Way) (n : ℕ) (d : DebugState) → debugged way (stepped.Waiting n) d ≡ d
+debugged_waiting ByStep n d = refl
+debugged_waiting ByOne n d = refl
+
+there : (way : Way) (old new : WorldState) (m k n : ℕ) → Steps (store_memory m) way old.machines old.store m (Waiting k n) new.machines new.store → (k ≡ m) × Awaits way old m n × (new ≡ old)
+there way old new m k n h =
+    let t = told_waiting m k n h.machine.slot h.answer h.debuggee.debugger h.told in
+    let step = subst (λ (a : Stepped). TableStep (store_memory m) h.debuggee.machine old.store a h.machine new.store) t.answer h.step in
+    let w = waits_in_place (store_memory m) h.debuggee.machine h.machine old.store new.store n step in
+    let b = barred m old.store new.store n w.1.1 w.1.2 w.1.6 w.1.5 in
+    let debugger : debugged way h.answer h.debuggee.debugger ≡ h.debuggee.debugger = ap (λ (a : Stepped). debugged way a h.debuggee.debugger) t.answer ∙ debugged_waiting way n h.debuggee.debugger in
+    let machines : new.machines ≡ old.machines =
+    h.changed ∙ ap (λ (x : MachineState). with_machine old.machines m (record { machine = x; debugger = debugged way h.answer h.debuggee.debugger })) w.0
+    ∙ ap (λ (x : DebugState). with_machine old.machines m (record { machine = h.debuggee.machine; debugger = x })) debugger
+    ∙ set_found old.machines m h.debuggee h.found in (
+      t.number,
+      record { debuggee = h.debuggee; found = h.found; goes = h.goes; instr = w.1.0; attempts = w.1.3; op = w.1.1; access = w.1.4; inside = b.inside; abroad = b.away },
+      ap (λ (x : List Debuggee). record { machines = x; store = new.store }) machines ∙ ap (λ (x : StoreState). record { machines = old.machines; store = x }) b.same,
+    )
+
+exactly : (way : Way) (old new : WorldState) (m n : ℕ) (r : Reply) → StepsStore way old m r new
+    → ((k : ℕ) → r ≡ Waiting k n → (k ≡ m) × Awaits way old m n × (new ≡ old)) × (Awaits way old m n → r ≡ Waiting m n)
+exactly way old new m n r h = (
+  λ k e. there way old new m k n (subst (λ (x : Reply). StepsStore way old m x new) e h),
+  λ w. back way old new m n r w (parted (store_memory m) way old.machines old.store m r new.machines new.store h),
+)
+
+pub waits_exactly : WaitsExactly
+waits_exactly old new ByStep m n r h = exactly ByStep old new m n r h
+waits_exactly old new ByOne m n r h = exactly ByOne old new m n r h

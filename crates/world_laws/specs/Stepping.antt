@@ -1,0 +1,92 @@
+-- Steps of machines: when they wait, what they write, and which may change places.
+use Rattle.std.specs.Prelude.{◌≡◌, ◌≢◌, ◌<◌, ◌≤◌, ℕ, ◌+◌, false, List, [], ◌∷◌, length, get_or, Some}
+use Rattle.isa_table.specs.Table.{size_bytes}
+use Rattle.isa_table.specs.declared.instr.Instr.{Instr}
+use Rattle.memory.specs.declared.access.Op.{Op}
+use Rattle.memory.specs.Objects.{Reaches, bytes_of}
+use Rattle.object_store.specs.declared.places.Place.TheVariants.{Here}
+use Rattle.object_store.specs.Stores.{store_memory, place_of, window_of}
+use Rattle.machine.specs.declared.state.Stop.{Stop}
+use Rattle.machine.specs.declared.state.Stepped.{Stepped}
+use Rattle.machine.specs.declared.state.Stepped.TheVariants as stepped
+use Rattle.machine.specs.Rows.{asks}
+use Rattle.machine.specs.Rows.Request.{Touch}
+use Rattle.machine.specs.TableStep.{Attempts}
+use Rattle.machine.specs.Laws.{Touches}
+use Rattle.world.specs.declared.debuggee.Debuggee.{Debuggee}
+use Rattle.world.specs.declared.events.Reply.{Reply}
+use Rattle.world.specs.declared.events.Reply.TheVariants.{Waiting}
+use Rattle.world.specs.Run.{Runs}
+use Rattle.world.specs.Commands.{Command}
+use Rattle.world.specs.Commands.Command.{Step, One}
+use Rattle.world.specs.WorldState.{WorldState, world_start, machine_at}
+use Rattle.world.specs.Steps.{Way, Steps, holds_back}
+use Rattle.world.specs.Steps.Way.{ByStep, ByOne}
+use Rattle.world.specs.Answers.{Answers}
+
+-- the command for a step
+abbrev pub stepping : Way → ℕ → Command
+stepping ByStep m = Step m
+stepping ByOne m = One m
+
+-- ---- waiting
+
+-- The command isn't held back, and machine m comes to an instruction that makes an access to object n, within its bytes,
+-- and the object isn't here.
+pub record Awaits (way : Way) (w : WorldState) (m n : ℕ) : Type 0 where
+  pub debuggee : Debuggee
+  pub found : machine_at w.machines m ≡ Some debuggee
+  pub goes : holds_back way debuggee ≡ false
+  pub instr : Instr
+  pub attempts : Attempts debuggee.machine instr
+  pub op : Op
+  pub access : asks instr debuggee.machine ≡ Touch n op
+  pub inside : Reaches w.store.objects n op
+  pub abroad : place_of w.store.places n ≢ Here
+
+-- A step waits exactly there, and then nothing changes.
+abbrev pub WaitsExactly : Type 0
+WaitsExactly = (old new : WorldState) (way : Way) (m n : ℕ) (reply : Reply) → Answers old (stepping way m) reply new
+    → ((k : ℕ) → reply ≡ Waiting k n → (k ≡ m) × Awaits way old m n × (new ≡ old)) × (Awaits way old m n → reply ≡ Waiting m n)
+
+-- ---- machines that are stopped
+
+-- A machine that is stopped isn't paused, and has no object in scope.
+pub record IsCalm (w : WorldState) (m : ℕ) (d : Debuggee) : Type 0 where
+  pub unpaused : d.debugger.paused ≡ false
+  pub unscoped : window_of w.store.windows m ≡ []
+
+abbrev pub StoppedMachinesAreCalm : Type 0
+StoppedMachinesAreCalm = (budget faults : ℕ) (commands : List Command) (replies : List Reply) (new : WorldState) → Runs Answers (world_start budget faults) commands replies new
+    → (m : ℕ) (d : Debuggee) (s : Stop) → machine_at new.machines m ≡ Some d → d.machine.stop ≡ Some s → IsCalm new m d
+
+-- ---- what is written
+
+-- byte i of object n is one of those that the step tells that it wrote
+abbrev pub IsTold : Stepped → ℕ → ℕ → Type 0
+IsTold (stepped.Ran (Some w)) n i = (n ≡ w.number) × (w.offset ≤ i) × (i < w.offset + size_bytes w.size)
+IsTold _ n i = ⊥
+
+-- no object's length changes, and no byte but those
+abbrev pub ChangesTold : Stepped → List (List ℕ) → List (List ℕ) → Type 0
+ChangesTold answer before after = (n : ℕ) → (length (bytes_of after n) ≡ length (bytes_of before n))
+    × ((i : ℕ) → (IsTold answer n i → ⊥) → get_or (bytes_of after n) i 0 ≡ get_or (bytes_of before n) i 0)
+
+-- A step writes one object at most, and of it the range at most that it tells.
+abbrev pub StepsTellWhatTheyWrite : Type 0
+StepsTellWhatTheyWrite = (old new : WorldState) (way : Way) (m : ℕ) (reply : Reply) (s : Steps (store_memory m) way old.machines old.store m reply new.machines new.store)
+    → ChangesTold s.answer old.store.objects new.store.objects
+
+-- ---- the order of steps
+
+-- The next step of machine m is an access to object n.
+pub record Comes (w : WorldState) (m n : ℕ) : Type 0 where
+  pub debuggee : Debuggee
+  pub found : machine_at w.machines m ≡ Some debuggee
+  pub touches : Touches debuggee.machine n
+
+-- Where two machines come to no common object, their steps may change places: the replies are the same, and so is the
+-- state after both.
+abbrev pub StepsChangePlaces : Type 0
+StepsChangePlaces = (old new : WorldState) (v w : Way) (m k : ℕ) (a b : Reply) → m ≢ k → ((n : ℕ) → Comes old m n → Comes old k n → ⊥)
+    → Runs Answers old (stepping v m ∷ stepping w k ∷ []) (a ∷ b ∷ []) new → Runs Answers old (stepping w k ∷ stepping v m ∷ []) (b ∷ a ∷ []) new
