@@ -101,8 +101,10 @@ static void run(const char *name, const uint64_t a[5])
     snprintf(path, sizeof path, "out/%.80s.so", name);
     void *library = dlopen(path, RTLD_NOW | RTLD_LOCAL);
     entry *program = library ? (entry *)dlsym(library, "program") : NULL;
-    if (program == NULL || ++machines > MACHINES)
+    if (program == NULL)
         give_up(dlerror());
+    if (++machines > MACHINES)
+        give_up("too many machines");
     printf("exit %016" PRIx64 "\n", program(a[0], a[1], a[2], a[3], a[4]));
 }
 

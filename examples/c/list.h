@@ -1,0 +1,7 @@
+// A list whose nodes stand anywhere in objects: a pointer that is kept in an object is an object's number and an offset.
+#include "bpfagent.h"
+
+struct node {
+    struct node *next;
+    uint64_t value;
+};
