@@ -60,24 +60,32 @@ def converse(script, path, code, arguments, wanted):
     want(reply == wanted, path, reply)
 
 
+def refusal_of(made):
+    """What ship.py says of an object file; nothing where it can be shipped."""
+    done = subprocess.run([sys.executable, HERE / "ship.py", "check", made], stderr=subprocess.PIPE, text=True)
+    return done.stderr.strip().removeprefix(f"{made}: ")
+
+
+def try_code(script, path, made, kind, arguments, text):
+    """What comes of an object file that clang has made."""
+    if kind == "check":
+        found = fault_of(raw_code(made))
+        want(found == text, path, found)
+    elif kind in ("ship", "run"):
+        converse(script, path, raw_code(made), arguments, text)
+
+
 def try_it(clang, script, path):
     said = [(kind, rest.split(), text) for kind, rest, text in HEAD.findall(path.read_text())]
-    flags = [flag for kind, _, text in said if kind == "flags" for flag in text.split()]
-    status, errors, made = compile_it([*clang, *flags], path)
+    texts = {kind: text for kind, _, text in said}
+    status, errors, made = compile_it([*clang, *texts.get("flags", "").split()], path)
+    want(said and bool(status) == ("clang" in texts), path, errors or "clang takes it")
+    if status:
+        want(re.search(texts["clang"], errors), path, errors)
+        return
+    want(refusal_of(made) == texts.get("ship.py", ""), path, refusal_of(made))
     for kind, arguments, text in said:
-        if kind == "clang":
-            want(status and re.search(text, errors), path, errors)
-        elif kind != "flags":
-            want(status == 0, path, errors)
-            checked = subprocess.run([sys.executable, HERE / "ship.py", "check", made], stderr=subprocess.PIPE, text=True)
-            found = checked.stderr.strip().removeprefix(f"{made}: ")
-            if kind == "ship.py":
-                want(found == text, path, found)
-            elif kind == "check":
-                want(fault_of(raw_code(made)) == text, path, fault_of(raw_code(made)))
-            else:
-                converse(script, path, raw_code(made), arguments, text)
-    return len(said)
+        try_code(script, path, made, kind, arguments, text)
 
 
 def main():
@@ -87,7 +95,7 @@ def main():
     script, stored = Script(), HERE / "refused.script"
     sources = sorted((HERE / "refused").glob("*.c"))
     for path in sources:
-        want(try_it(clang, script, path), path, "nothing is said at its head")
+        try_it(clang, script, path)
     made = "\n".join(script.lines) + "\n"
     if writes:
         stored.write_text(made)
