@@ -2,12 +2,16 @@
 //! gate; here all are granted.
 #![tactic(auto)]
 
+use far_store::OwnStore;
 use std::alloc::{AllocError, Global};
 use std::io;
 use world::{Event, ObjectLength, Reply, World};
 
 /// R0 = 7, then EXIT.
 const SEVEN: [u8; 16] = [0xb7, 0, 0, 0, 7, 0, 0, 0, 0x95, 0, 0, 0, 0, 0, 0, 0];
+
+/// As many bytes of objects may be here at a time.
+const BUDGET: u32 = 65_536;
 
 /// An object of eight bytes.
 fn make() -> Result<Event, AllocError> {
@@ -16,8 +20,8 @@ fn make() -> Result<Event, AllocError> {
 }
 
 /// A world with one object and one machine.
-fn with_machine(alloc: Global) -> Result<World, AllocError> {
-    let mut world = World::new(alloc)?;
+fn with_machine(alloc: Global) -> Result<World<OwnStore>, AllocError> {
+    let mut world = World::new(alloc, BUDGET, OwnStore::new(alloc))?;
     let _ = world.apply(make()?);
     let code = SEVEN.to_vec(alloc)?;
     let _ = world.apply(Event::Ship {
@@ -67,7 +71,7 @@ fn show(
     let ended = if ended.is_ok() { "done" } else { "refused" };
     let count = replies.len();
     match machine {
-        Reply::Registers(shown) => {
+        Reply::Registers { shown, .. } => {
             let slot = shown.slot;
             let fuel = shown.fuel;
             println!(rt; "{ended}, {count} replies, slot {slot}, fuel {fuel}")

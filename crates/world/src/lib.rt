@@ -13,5 +13,5 @@ pub use debuggee::Debuggee;
 pub use debugger::{Bytes, LineText, Shown, State, Values};
 pub use events::{Event, ObjectLength, Reply};
 pub use laws::{debugging_changes_nothing, moving_changes_nothing, neither_changes_anything};
-pub use object_store::MACHINE_LIMIT;
+pub use object_store::{MACHINE_LIMIT, Place};
 pub use world::World;

@@ -41,9 +41,11 @@ impl Debuggee {
         ensures reply { result ≡ reply_to_step machine answer self.old.machine.slot self.old.debugger }
         ensures new { self.new ≡ record self.old { debugger = debugged ByStep answer self.old.debugger } }
     {
-        let slot = self.machine.slot();
         match answer {
-            Stepped::Ran(written) => reply_to_run(machine, self.debugger.after(written), slot),
+            Stepped::Ran(written) => {
+                let after = self.debugger.after(written);
+                reply_to_run(machine, after, self.machine.slot())
+            }
             Stepped::Waiting(object) => Reply::Waiting { machine, object },
             Stepped::Stopped(stop) => {
                 self.debugger.after_stop();
@@ -57,14 +59,12 @@ impl Debuggee {
         ensures reply { result ≡ reply_to_step machine answer self.old.machine.slot self.old.debugger }
         ensures new { self.new ≡ record self.old { debugger = debugged ByOne answer self.old.debugger } }
     {
-        let slot = self.machine.slot();
         match answer {
-            Stepped::Ran(written) => reply_to_run(machine, self.debugger.after_one(written), slot),
-            Stepped::Waiting(object) => Reply::Waiting { machine, object },
-            Stepped::Stopped(stop) => {
-                self.debugger.after_stop();
-                Reply::Stopped { machine, stop }
+            Stepped::Ran(written) => {
+                let after = self.debugger.after_one(written);
+                reply_to_run(machine, after, self.machine.slot())
             }
+            Stepped::Waiting(_) | Stepped::Stopped(_) => self.reply_to_step(machine, answer),
         }
     }
 }

@@ -4,7 +4,15 @@
 #[cfg(test)]
 mod common;
 #[cfg(test)]
+mod counting;
+#[cfg(test)]
+mod debugging;
+#[cfg(test)]
+mod far;
+#[cfg(test)]
 mod machines;
+#[cfg(test)]
+mod moves;
 #[cfg(test)]
 mod objects;
 #[cfg(test)]

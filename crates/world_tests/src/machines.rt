@@ -1,11 +1,12 @@
 //! Machines: what they are answered, one command at a time and as a run.
 
+use crate::common::new_world;
 use bpf_codec::Fault;
 use loader::{LoadError, Why};
 use machine::Stop;
 use std::alloc::{AllocError, Global};
 use std::test::Fail;
-use world::{Event, Reply, Shown, World};
+use world::{Event, Reply, Shown, State};
 
 /// R0 = 7, then EXIT.
 const SEVEN: [u8; 16] = [0xb7, 0, 0, 0, 7, 0, 0, 0, 0x95, 0, 0, 0, 0, 0, 0, 0];
@@ -30,7 +31,7 @@ fn refused(slot: usize, why: Why) -> Reply {
 
 #[test]
 fn a_run_has_the_replies_of_its_commands(rt: HostRuntime) -> Result<(), Fail> {
-    let mut world = World::new(rt.alloc())?;
+    let mut world = new_world(rt.alloc())?;
     let mut replies = Vec::new(rt.alloc());
     let events = vec![in rt.alloc();
         ship(rt.alloc(), 10, &SEVEN)?,
@@ -44,13 +45,15 @@ fn a_run_has_the_replies_of_its_commands(rt: HostRuntime) -> Result<(), Fail> {
         machine: 1,
         stop: Stop::Exit(7),
     };
-    let shown = Reply::Registers(Shown {
+    let shown = Reply::Registers {
         machine: 1,
-        slot: 1,
-        fuel: 8,
-        stop: Some(Stop::Exit(7)),
-        registers: [7, 0, 0, 0, 0, 0, 0, 0, 0, 0, STACK_TOP],
-    });
+        shown: Shown {
+            slot: 1,
+            fuel: 8,
+            state: State::Stopped(Stop::Exit(7)),
+            registers: [7, 0, 0, 0, 0, 0, 0, 0, 0, 0, STACK_TOP],
+        },
+    };
     let expected = [
         Reply::Shipped { machine: 1 },
         Reply::Ran {
@@ -67,7 +70,7 @@ fn a_run_has_the_replies_of_its_commands(rt: HostRuntime) -> Result<(), Fail> {
 
 #[test]
 fn a_run_adds_to_the_replies(rt: HostRuntime) -> Result<(), Fail> {
-    let mut world = World::new(rt.alloc())?;
+    let mut world = new_world(rt.alloc())?;
     let mut replies = vec![in rt.alloc(); Reply::Full]?;
     let first = vec![in rt.alloc(); ship(rt.alloc(), 0, &EXIT)?]?;
     assert_eq!(rt; world.run(first, &mut replies), Ok(()));
@@ -84,7 +87,7 @@ fn a_run_adds_to_the_replies(rt: HostRuntime) -> Result<(), Fail> {
 
 #[test]
 fn the_forty_ninth_machine_is_refused(rt: HostRuntime) -> Result<(), Fail> {
-    let mut world = World::new(rt.alloc())?;
+    let mut world = new_world(rt.alloc())?;
     for machine in 1..49usize {
         let event = ship(rt.alloc(), 1, &EXIT)?;
         assert_eq!(rt; world.apply(event), Reply::Shipped { machine });
@@ -105,7 +108,7 @@ fn the_forty_ninth_machine_is_refused(rt: HostRuntime) -> Result<(), Fail> {
 
 #[test]
 fn refused_code_makes_no_machine(rt: HostRuntime) -> Result<(), Fail> {
-    let mut world = World::new(rt.alloc())?;
+    let mut world = new_world(rt.alloc())?;
     let long = vec![in rt.alloc(); 0u8; 32_769]?;
     let cases = [
         ([].as_slice(), refused(0, Why::Empty)),
@@ -125,7 +128,7 @@ fn refused_code_makes_no_machine(rt: HostRuntime) -> Result<(), Fail> {
 
 #[test]
 fn numbers_without_a_machine(rt: HostRuntime) -> Result<(), Fail> {
-    let mut world = World::new(rt.alloc())?;
+    let mut world = new_world(rt.alloc())?;
     let event = ship(rt.alloc(), 1, &EXIT)?;
     assert_eq!(rt; world.apply(event), Reply::Shipped { machine: 1 });
     for machine in [0, 2, 48, 49, usize::MAX] {
@@ -137,7 +140,7 @@ fn numbers_without_a_machine(rt: HostRuntime) -> Result<(), Fail> {
 
 #[test]
 fn machines_do_not_touch_each_other(rt: HostRuntime) -> Result<(), Fail> {
-    let mut world = World::new(rt.alloc())?;
+    let mut world = new_world(rt.alloc())?;
     for argument in [3, 5] {
         let event = Event::Ship {
             fuel: 2,
@@ -152,13 +155,15 @@ fn machines_do_not_touch_each_other(rt: HostRuntime) -> Result<(), Fail> {
         slot: 1,
     };
     assert_eq!(rt; world.apply(Event::Step { machine: 1 }), ran);
-    let shown = Reply::Registers(Shown {
+    let shown = Reply::Registers {
         machine: 2,
-        slot: 0,
-        fuel: 2,
-        stop: None,
-        registers: [0, 5, 0, 0, 0, 0, 0, 0, 0, 0, STACK_TOP],
-    });
+        shown: Shown {
+            slot: 0,
+            fuel: 2,
+            state: State::Running,
+            registers: [0, 5, 0, 0, 0, 0, 0, 0, 0, 0, STACK_TOP],
+        },
+    };
     assert_eq!(rt; before, shown);
     assert_eq!(rt; world.apply(Event::Regs { machine: 2 }), before);
     Ok(())

@@ -1,13 +1,13 @@
 //! Objects: their numbers, their ends, and what is free.
 
-use crate::common::{EXIT, FIRST, get, make, put, replies, ship, step};
+use crate::common::{EXIT, FIRST, get, make, new_world, put, replies, ship, step};
 use machine::Stop;
 use std::test::Fail;
-use world::{Event, Reply, World};
+use world::{Event, Reply};
 
 #[test]
 fn a_thousand_and_twenty_four_are_made_and_no_more(rt: HostRuntime) -> Result<(), Fail> {
-    let mut world = World::new(rt.alloc())?;
+    let mut world = new_world(rt.alloc())?;
     for object in 1..1025u32 {
         assert_eq!(rt; world.apply(make(1)), Reply::Made { object });
     }

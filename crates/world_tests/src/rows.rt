@@ -1,26 +1,9 @@
 //! Conversations with objects, each from a new world.
 
-use crate::common::{EXIT, FIRST, get, make, put, replies, ship, step};
+use crate::common::{EXIT, FIRST, bytes, get, made, make, put, ran, replies, ship, step, stopped};
 use machine::Stop;
-use std::alloc::{AllocError, Global};
 use std::test::Fail;
-use world::{Bytes, Event, Reply, Shown, Values};
-
-fn made(object: u32) -> Reply {
-    Reply::Made { object }
-}
-
-fn ran(machine: usize, slot: usize) -> Reply {
-    Reply::Ran { machine, slot }
-}
-
-fn stopped(machine: usize, stop: Stop) -> Reply {
-    Reply::Stopped { machine, stop }
-}
-
-fn bytes(alloc: Global, bytes: &[u8]) -> Result<Reply, AllocError> {
-    Ok(Reply::Bytes(Bytes::new(bytes.to_vec(alloc)?)))
-}
+use world::{Event, Reply, Shown, State, Values};
 
 #[test]
 fn a_load_over_the_last_byte_is_outside(rt: HostRuntime) -> Result<(), Fail> {
@@ -34,13 +17,15 @@ fn a_load_over_the_last_byte_is_outside(rt: HostRuntime) -> Result<(), Fail> {
         made(1),
         Reply::Shipped { machine: 1 },
         stopped(1, Stop::Outside),
-        Reply::Registers(Shown {
+        Reply::Registers {
             machine: 1,
-            slot: 0,
-            fuel: 10,
-            stop: Some(Stop::Outside),
-            registers: [0, FIRST, 0, 0, 0, 0, 0, 0, 0, 0, 0xffff_ffff_0000_1000],
-        }),
+            shown: Shown {
+                slot: 0,
+                fuel: 10,
+                state: State::Stopped(Stop::Outside),
+                registers: [0, FIRST, 0, 0, 0, 0, 0, 0, 0, 0, 0xffff_ffff_0000_1000],
+            },
+        },
     ];
     assert_eq!(rt;
         replies(rt.alloc(), events)?.as_slice(),
