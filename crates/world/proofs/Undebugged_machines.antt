@@ -88,8 +88,8 @@ steps_undebugged memory way old new before after m r h = record {
   step = h.step;
   told = ap undebugged_reply h.told ∙ told_undebugged m h.answer h.machine.slot h.debuggee.debugger;
   changed = ap undebugged_machines h.changed
-    ∙ with_undebugged old m (record { machine = h.machine; debugger = debugged way h.answer h.debuggee.debugger })
-    ∙ ap (λ (d : DebugState). with_machine (undebugged_machines old) m (record { machine = h.machine; debugger = d })) (sym (starts_stay h.answer));
+      ∙ with_undebugged old m (record { machine = h.machine; debugger = debugged way h.answer h.debuggee.debugger })
+      ∙ ap (λ (d : DebugState). with_machine (undebugged_machines old) m (record { machine = h.machine; debugger = d })) (sym (starts_stay h.answer));
 }
 
 pub answers_undebugged : {S : Type 0} (memory : Memories S) (way : Way) (old new : List Debuggee) (before after : S) (m : ℕ) (r : Reply) → is_pause r ≡ false

@@ -212,7 +212,7 @@ one_erased old new _ _ e h = absurd (cc)
 joined : (b : Bool) (old mid new : WorldState) (c : Command) (r : Reply) (cs : List Command) (rs : List Reply) → is_undebugged c r ≡ b → Answers old c r mid
     → Runs Answers (undebugged mid) (undebugged_commands cs rs) (undebugged_replies cs rs) (undebugged new)
     → Runs Answers (undebugged old) (map undebugged_command (cond b (c ∷ commands_kept is_undebugged cs rs) (commands_kept is_undebugged cs rs)))
-        (map undebugged_reply (cond b (r ∷ replies_kept is_undebugged cs rs) (replies_kept is_undebugged cs rs))) (undebugged new)
+    (map undebugged_reply (cond b (r ∷ replies_kept is_undebugged cs rs) (replies_kept is_undebugged cs rs))) (undebugged new)
 joined true old mid new c r cs rs e h g = (undebugged mid, one_kept old mid c r e h, g)
 joined false old mid new c r cs rs e h g = subst (λ (s : WorldState). Runs Answers s (undebugged_commands cs rs) (undebugged_replies cs rs) (undebugged new)) (one_erased old mid c r e h) g
 

@@ -9,6 +9,7 @@ ghost use Rattle.world.specs.WorldState.{world_start};
 ghost use Rattle.world.specs.Steps.{AnswersStep};
 ghost use Rattle.world.specs.Steps.Way.{ByStep, ByOne};
 ghost use Rattle.world.specs.Debugging.{AnswersBreak, AnswersUnbreak, AnswersWatch, AnswersUnwatch, AnswersResume};
+ghost use Rattle.world.specs.Unseen.{IsPlainRun};
 ghost use Rattle.world.specs.Answers.{Answers, AnswersMake, AnswersPut, AnswersMove, AnswersShip, ShowsObject, InMachines, reply_to_move};
 
 use crate::debuggee::Debuggee;
@@ -139,10 +140,12 @@ impl<F: FarStore> World<F> {
         }
     }
 
-    /// Does the commands in order, and adds their replies. An `Err` comes before the first, and changes nothing.
+    /// Does the commands in order, and adds their replies. Without what moves and debugs, the run is one of an agent whose
+    /// objects never move and that nobody debugs. An `Err` comes before the first command, and changes nothing.
     pub fn run(&mut self, events: Vec<Event>, replies: &mut Vec<Reply>) -> Result<(), AllocError>
         ensures ok { OnOk result ((given : List Reply) × (replies.new.items ≡ replies.old.items ++ given)
-            × Runs Answers self.old (map command_of events.items) given self.new) }
+            × Runs Answers self.old (map command_of events.items) given self.new
+            × IsPlainRun self.old (map command_of events.items) given self.new) }
         ensures err { OnErr result ((self.new ≡ self.old) × (replies.new.items ≡ replies.old.items)) }
     {
         replies.reserve(events.len())?;

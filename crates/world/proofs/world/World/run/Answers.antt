@@ -1,20 +1,25 @@
 use Rattle.std.proofs.Common.{List, [], ◌∷◌, ◌++◌, map, ap, ◌∙◌, refl, append_assoc, arith}
 use Rattle.std.proofs.lemmas.List.{map-append}
+use Rattle.world.specs.Run.{Runs}
 use Rattle.world.specs.Commands.{command_of}
 use Rattle.world.specs.Answers.{Answers}
 use Rattle.world.specs.declared.events.Reply.{Reply}
 use Rattle.world.proofs.Joined.{Runs-append}
+use Rattle.world.proofs.Undebugged_runs.{neither_changes_anything}
 use Rattle.world.proofs.world.World.run.Goals as goal
 
 pub loop-event-preserved : goal.loop-event-preserved
 loop-event-preserved g c =
     let i = c.loop-event.invariant in
     let s = rw c.in-Some.is at c.next.ensures.steps in
+    let run : Runs Answers c.args.self.now (map command_of (c.loop-event.yielded ++ c.in-Some.event ∷ [])) (i.run.0 ++ c.apply.result ∷ []) c.apply.new.self =
+    rw map-append (Runs-append Answers c.args.self.now c.loop-event.self c.apply.new.self (map command_of c.loop-event.yielded) i.run.0 (command_of c.in-Some.event ∷ []) (c.apply.result ∷ []) i.run.2 (c.apply.new.self, c.apply.ensures, refl)) in
     record {
       run = (
         i.run.0 ++ c.apply.result ∷ [],
         rw c.push_reserved.ensures.items (ap (λ (l : List Reply). l ++ c.apply.result ∷ []) i.run.1 ∙ append_assoc _ i.run.0 (c.apply.result ∷ [])),
-        rw map-append (Runs-append Answers c.args.self.now c.loop-event.self c.apply.new.self (map command_of c.loop-event.yielded) i.run.0 (command_of c.in-Some.event ∷ []) (c.apply.result ∷ []) i.run.2 (c.apply.new.self, c.apply.ensures, refl)),
+        run,
+        neither_changes_anything _ _ _ _ run,
       );
       room = omega (arith, s.1);
     }
