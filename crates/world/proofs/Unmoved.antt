@@ -115,12 +115,11 @@ waited : (m : ℕ) (way : Way) (old new : List Debuggee) (before after : StoreSt
 waited m way old new before after r e h =
     let k = told_waits m h.answer h.machine.slot h.debuggee.debugger (subst (λ (x : Reply). is_absence x ≡ true) h.told e) in
     let w = waits_in_place (store_memory m) h.debuggee.machine h.machine before after k.0 (subst (λ (a : Stepped). TableStep (store_memory m) h.debuggee.machine before a h.machine after) k.1 h.step) in
-    let d : debugged way h.answer h.debuggee.debugger ≡ h.debuggee.debugger = ap (λ (a : Stepped). debugged way a h.debuggee.debugger) k.1 ∙ debugger_waits way k.0 h.debuggee.debugger in
-    (
+    let d : debugged way h.answer h.debuggee.debugger ≡ h.debuggee.debugger = ap (λ (a : Stepped). debugged way a h.debuggee.debugger) k.1 ∙ debugger_waits way k.0 h.debuggee.debugger in (
       h.changed
-      ∙ ap (λ (x : MachineState). with_machine old m (record { machine = x; debugger = debugged way h.answer h.debuggee.debugger })) w.0
-      ∙ ap (λ (x : DebugState). with_machine old m (record { machine = h.debuggee.machine; debugger = x })) d
-      ∙ with_same old m h.debuggee h.found,
+          ∙ ap (λ (x : MachineState). with_machine old m (record { machine = x; debugger = debugged way h.answer h.debuggee.debugger })) w.0
+          ∙ ap (λ (x : DebugState). with_machine old m (record { machine = h.debuggee.machine; debugger = x })) d
+          ∙ with_same old m h.debuggee h.found,
       waited_away m before after k.0 w.1.1 w.1.2 w.1.6 w.1.5,
     )
 
