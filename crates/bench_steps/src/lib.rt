@@ -34,7 +34,7 @@ fn run_to_end<M: Memory>(machine: &mut Machine, memory: &mut M) -> (Stepped, u64
     ensures end { IsEnd result.0 }
 {
     let mut steps = 0u64;
-    loop {
+    'run: loop {
         match machine.step(memory) {
             Stepped::Ran(_) => steps = steps.wrapping_add(1),
             Stepped::Waiting(number) => return (Stepped::Waiting(number), steps),
