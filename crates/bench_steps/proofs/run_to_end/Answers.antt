@@ -1,6 +1,4 @@
 use Rattle.std.proofs.Common.{arith, refl}
-use Rattle.machine.specs.TableStep.{TableStep}
-use Rattle.machine.specs.declared.state.Stepped.TheVariants.{Ran}
 use Rattle.machine.proofs.Fuel.{ran_paid}
 use Rattle.bench_steps.specs.Reached.Reaches.{here, on}
 use Rattle.bench_steps.proofs.run_to_end.Goals as goal
