@@ -6,6 +6,7 @@ use Rattle.clap.specs.Simple.{new_shape}
 use Rattle.agent.specs.declared.arguments.Task.{Task}
 use Rattle.agent.specs.declared.arguments.Task.TheVariants.{Run, Check, Assemble, Disassemble}
 
+-- the subcommand of a task, without options
 abbrev pub subcommand : Task → Shape
 subcommand Run = new_shape (codes "run")
 subcommand Check = new_shape (codes "check")
@@ -24,6 +25,7 @@ command_line = with_subcommand (with_subcommand (with_subcommand (with_subcomman
 abbrev pub faults_of : List Text → Kinds
 faults_of arguments = fault_of command_line arguments
 
+-- the task that the name of a subcommand asks for
 abbrev pub task_named : Option Text → Option Task
 task_named None = None
 task_named (Some name) = if bytes_eq name (codes "run") then Some Run else (if bytes_eq name (codes "check") then Some Check

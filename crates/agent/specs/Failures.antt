@@ -14,6 +14,7 @@ status_number Refused = 1
 status_number InvalidArguments = 2
 status_number Failed = 3
 
+-- the status of a failure: code and text that are refused, else streams and memory that fail
 abbrev pub status_of : Failure → Status
 status_of (failure.Refused error) = Refused
 status_of (failure.WrongLine error) = Refused

@@ -3,10 +3,10 @@ use Rattle.std.specs.Prelude.{◌≡◌, ℕ, ◌≤◌, ◌-◌, ◌/◌, ◌^�
 use Rattle.std.specs.Str.{bytes_eq}
 use Rattle.loader.specs.ValidCode.{code_limit}
 use Rattle.memory.specs.Objects.{object_limit, object_bytes}
+use Rattle.object_store.specs.Stores.{machine_limit}
 use Rattle.world.specs.declared.events.Event.{Event}
 use Rattle.world.specs.Commands.{Command, command_of}
 use Rattle.world.specs.Commands.Command.{Make, Free, Put, Get, Ship, Leave, Left, Return, Returned, Step, One, Regs, Out, Stack, Line, Break, Unbreak, Watch, Unwatch, Resume}
-use Rattle.world.specs.WorldState.{machine_limit}
 use Rattle.machine.specs.MachineState.{stack_size}
 use Rattle.console.specs.Lines.{line_limit}
 use Rattle.console.specs.Tokens.{tokens_of, within, AreNumbers, AreBytes}

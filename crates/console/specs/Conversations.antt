@@ -20,6 +20,7 @@ pub data Turn (p : Protocol) : Type 0 where
   Unread : List ℕ → Turn p
   Bad : List ℕ → Turn p
 
+-- the line
 abbrev pub turn_line : (p : Protocol) → Turn p → List ℕ
 turn_line p (Done line command reply) = line
 turn_line p (Unread line) = line
@@ -37,6 +38,7 @@ turn_commands p (Done line command reply) = command ∷ []
 turn_commands p (Unread line) = []
 turn_commands p (Bad line) = []
 
+-- the reply to it
 abbrev pub turn_replies : (p : Protocol) → Turn p → List p.Reply
 turn_replies p (Done line command reply) = reply ∷ []
 turn_replies p (Unread line) = []

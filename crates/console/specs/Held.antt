@@ -11,6 +11,7 @@ pub record Held : Type 0 where
   pub line : List ℕ
   pub waits : Bool
 
+-- a line that begins
 abbrev pub nothing_held : Held
 nothing_held = record { line = []; waits = false }
 

@@ -17,9 +17,11 @@ IsNumber token n = (n < 2 ^ 64)
     × ((IsNumeral 10 token × (get_or token 0 0 ≡ 48 → length token ≡ 1) × (digits_value 10 token ≡ n))
     ⊎ ((digits : List ℕ) × (token ≡ codes "0x" ++ digits) × IsNumeral 16 digits × (length digits ≤ 16) × (digits_value 16 digits ≡ n)))
 
+-- from the one to the other, both included
 abbrev pub within : ℕ → ℕ → Limits
 within least most = record { least = least; most = most }
 
+-- the number is within the limits
 abbrev pub IsWithin : Limits → ℕ → Type 0
 IsWithin limits n = (limits.least ≤ n) × (n ≤ limits.most)
 

@@ -22,6 +22,7 @@ use Rattle.debugger.specs.DebugState.{DebugState, has_break, takes_break, ends_w
 abbrev pub with_break : ℕ → DebugState → DebugState
 with_break slot d = cond (has_break slot d) d (record d { breakpoints = d.breakpoints ++ slot ∷ [] })
 
+-- the breakpoint at the slot is set no more
 abbrev pub without_break : ℕ → DebugState → DebugState
 without_break slot d = record d { breakpoints = filter (λ other. not (nat_eq slot other)) d.breakpoints }
 
@@ -42,6 +43,7 @@ ClearsBreak slot old (Err clear_break_error.NoSlot) new = (has_break slot old �
 abbrev pub with_watch : Watch → DebugState → DebugState
 with_watch r d = cond (has_watch r d) d (record d { watches = d.watches ++ r ∷ [] })
 
+-- the range is set no more
 abbrev pub without_watch : Watch → DebugState → DebugState
 without_watch r d = record d { watches = filter (λ other. not (is_same_watch r other)) d.watches }
 

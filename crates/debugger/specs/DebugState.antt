@@ -26,9 +26,11 @@ AreDistinct same (x ∷ xs) = (list_any (same x) xs ≡ false) × AreDistinct sa
 
 -- ---- breakpoints
 
+-- how many breakpoints a machine has at most
 abbrev pub break_limit : ℕ
 break_limit = 16
 
+-- a breakpoint is set at the slot
 abbrev pub has_break : ℕ → DebugState → Bool
 has_break slot d = list_any (nat_eq slot) d.breakpoints
 
@@ -38,6 +40,7 @@ takes_break slot d = has_break slot d || nat_lt (length d.breakpoints) break_lim
 
 -- ---- watched ranges
 
+-- how many watched ranges a machine has at most
 abbrev pub watch_limit : ℕ
 watch_limit = 8
 
@@ -53,6 +56,7 @@ ends_within r = nat_le (r.offset + r.length) (2 ^ 32)
 abbrev pub is_same_watch : Watch → Watch → Bool
 is_same_watch r s = nat_eq r.number s.number && (nat_eq r.offset s.offset && nat_eq r.length s.length)
 
+-- the range is set
 abbrev pub has_watch : Watch → DebugState → Bool
 has_watch r d = list_any (is_same_watch r) d.watches
 

@@ -30,10 +30,11 @@ abbrev pub ClearedBreaksAreClear : Type 0
 ClearedBreaksAreClear = (slot : ℕ) (d : DebugState)
     → (has_break slot (without_break slot d) ≡ false) × ((other : ℕ) → other ≢ slot → has_break other (without_break slot d) ≡ has_break other d)
 
--- Where each breakpoint is at an instruction of the code, setting one keeps that.
+-- each breakpoint is at an instruction of the code
 abbrev pub BreaksBegin : List ℕ → DebugState → Type 0
 BreaksBegin code d = (slot : ℕ) → has_break slot d ≡ true → IsAt code slot
 
+-- Where each breakpoint is at an instruction of the code, setting one keeps that.
 abbrev pub BreaksStayAtInstructions : Type 0
 BreaksStayAtInstructions = (code : List ℕ) (slot : ℕ) (old new : DebugState) (answer : Result Unit SetBreakError)
     → SetsBreak code slot old answer new → BreaksBegin code old → BreaksBegin code new

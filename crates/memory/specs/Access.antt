@@ -10,6 +10,7 @@ use Rattle.memory.specs.declared.access.Op.{Op}
 
 -- ---- where it is
 
+-- how much an action reads or writes
 abbrev pub size_of : Action → Size
 size_of (Load size) = size
 size_of (Store size value) = size
@@ -39,6 +40,7 @@ puts (Load size) old = None
 puts (Store size value) old = Some value
 puts (Atomic width op src r0) old = atomic_row (width_bits width) op old (unsigned (width_bits width) src) (unsigned (width_bits width) r0)
 
+-- what is answered, where the old number is at the place
 abbrev pub answers : Action → ℕ → ℕ
 answers (Load size) old = old
 answers (Store size value) old = 0

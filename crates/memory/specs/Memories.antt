@@ -21,5 +21,6 @@ Promises n op Outside = IsInside op n → ⊥
 Promises n op (Done x) = IsInside op n × ((bytes : List ℕ) × (length bytes ≡ n) × (x ≡ answer op bytes))
 Promises n op _ = IsInside op n
 
+-- a memory keeps the promises, whatever access is made
 abbrev pub KeepsPromises : {M : Type 0} → Memories M → Type 0
 KeepsPromises {M} mem = (old new : M) (n : ℕ) (op : Op) (r : Reach) → mem.reaches old n op r new → Promises (mem.length_of old n) op r

@@ -6,14 +6,17 @@ use Rattle.memory.specs.declared.access.Reach.TheVariants.{Done, Away, Busy, Out
 use Rattle.memory.specs.Access.{IsInside, answer, after, replaced}
 use Rattle.memory.specs.Memories.{Memories, Promises}
 
+-- the bytes of object n
 abbrev pub bytes_of : List (List ℕ) → ℕ → List ℕ
 bytes_of objects n = get_or objects n []
 
+-- the objects, with these bytes as object n
 abbrev pub with_bytes : List (List ℕ) → ℕ → List ℕ → List (List ℕ)
 with_bytes objects n bytes = set objects n bytes
 
 -- ---- accesses
 
+-- the access is inside the object's bytes
 abbrev pub Reaches : List (List ℕ) → ℕ → Op → Type 0
 Reaches objects n op = IsInside op (length (bytes_of objects n))
 
@@ -49,6 +52,7 @@ IsLive objects n = 0 < length (bytes_of objects n)
 abbrev pub HasRange : List (List ℕ) → ℕ → ℕ → ℕ → Type 0
 HasRange objects n offset count = IsLive objects n × (offset + count ≤ length (bytes_of objects n))
 
+-- so many bytes of the object, from an offset on
 abbrev pub range_of : List (List ℕ) → ℕ → ℕ → ℕ → List ℕ
 range_of objects n offset count = take count (drop offset (bytes_of objects n))
 

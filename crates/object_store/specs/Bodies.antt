@@ -10,6 +10,7 @@ use Rattle.object_store.specs.Stores.{holders, near_bytes}
 
 -- ---- one object
 
+-- what is kept of one object
 pub record Kept : Type 0 where
   -- wherever they are
   pub bytes : List ℕ
@@ -55,6 +56,7 @@ abbrev pub ReturnsTo : Bool → Kept → Kept → Type 0
 ReturnsTo true old new = new ≡ record old { place = Here }
 ReturnsTo false old new = (length new.bytes ≡ length old.bytes) × (new ≡ record old { bytes = new.bytes; place = Here })
 
+-- its bytes, its place, and its count
 abbrev pub bytes_in : Kept → List ℕ
 bytes_in k = k.bytes
 

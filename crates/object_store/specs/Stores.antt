@@ -26,9 +26,11 @@ pub record StoreState : Type 0 where
 
 -- ---- places
 
+-- the place of object n
 abbrev pub place_of : List Place → ℕ → Place
 place_of places n = get_or places n Here
 
+-- the store, with object n in this place
 abbrev pub with_place : StoreState → ℕ → Place → StoreState
 with_place s n p = record s { places = set s.places n p }
 
@@ -42,12 +44,15 @@ StandsAt p s n = IsLive s.objects n × (place_of s.places n ≡ p)
 abbrev pub machine_limit : ℕ
 machine_limit = 48
 
+-- a window stands at this number
 abbrev pub IsMachine : ℕ → Type 0
 IsMachine who = who ≤ machine_limit
 
+-- the window of a machine
 abbrev pub window_of : List (List ℕ) → ℕ → List ℕ
 window_of windows who = get_or windows who []
 
+-- the store, with this window as that of the machine
 abbrev pub with_window : StoreState → ℕ → List ℕ → StoreState
 with_window s who w = record s { windows = set s.windows who w }
 

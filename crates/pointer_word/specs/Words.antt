@@ -15,11 +15,13 @@ pub record WordRecord : Type 0 where
   -- of the last entry of its history
   pub stamp : ℕ
 
+-- places by number
 abbrev pub place_number : Place → ℕ
 place_number Local = 0
 place_number Moving = 1
 place_number Far = 2
 
+-- a mark by number
 abbrev pub bit : Bool → ℕ
 bit true = 1
 bit false = 0
@@ -28,6 +30,7 @@ bit false = 0
 abbrev pub word_number : WordRecord → ℕ
 word_number w = place_number w.place + 4 * bit w.turn + 8 * bit w.hot + 256 * w.count + 65536 * w.stamp
 
+-- the greatest stamp
 abbrev pub stamp_limit : ℕ
 stamp_limit = 2 ^ 48 - 1
 
@@ -35,9 +38,11 @@ stamp_limit = 2 ^ 48 - 1
 abbrev pub HasFields : WordRecord → Type 0
 HasFields w = (w.count < 256) × (w.stamp < 2 ^ 48)
 
+-- the word of a new object
 abbrev pub new_word : WordRecord
 new_word = record { place = Local; turn = false; hot = false; count = 0; stamp = 0 }
 
+-- whether the place is this one
 abbrev pub is_local : Place → Bool
 is_local Local = true
 is_local _ = false
@@ -54,26 +59,34 @@ is_far _ = false
 abbrev pub where_it_applies : Bool → WordRecord → Option WordRecord
 where_it_applies applies w = cond applies (Some w) None
 
+-- a scope is opened, where the count has room
 abbrev pub opened : WordRecord → Option WordRecord
 opened w = where_it_applies (nat_lt w.count 255) (record w { count = w.count + 1 })
 
+-- a scope is closed, where one is open
 abbrev pub closed : WordRecord → Option WordRecord
 closed w = where_it_applies (nat_lt 0 w.count) (record w { count = w.count - 1 })
 
+-- an actor takes the turn, where the object is here and nobody has it
 abbrev pub taken : WordRecord → Option WordRecord
 taken w = where_it_applies (is_local w.place && not w.turn) (record w { turn = true })
 
+-- the turn is given back, with a stamp that is no less
 abbrev pub given : WordRecord → ℕ → Option WordRecord
 given w s = where_it_applies (w.turn && nat_le w.stamp s && nat_le s stamp_limit) (record w { turn = false; stamp = s })
 
+-- the object begins to leave, where no scope is open and nobody has the turn
 abbrev pub leaving : WordRecord → Option WordRecord
 leaving w = where_it_applies (is_local w.place && nat_eq w.count 0 && not w.turn) (record w { place = Moving })
 
+-- it is far
 abbrev pub left : WordRecord → Option WordRecord
 left w = where_it_applies (is_moving w.place) (record w { place = Far })
 
+-- the object begins to return
 abbrev pub returning : WordRecord → Option WordRecord
 returning w = where_it_applies (is_far w.place) (record w { place = Moving })
 
+-- it is here
 abbrev pub home : WordRecord → Option WordRecord
 home w = where_it_applies (is_moving w.place) (record w { place = Local })

@@ -7,10 +7,12 @@ use Rattle.std.specs.Prelude.{◌≡◌, ℕ, ◌≤◌, nat_eq, nat_le, Bool, f
 abbrev pub holds : ℕ → List ℕ → Bool
 holds n w = list_any (nat_eq n) w
 
+-- no number is there twice
 abbrev pub AreDistinct : List ℕ → Type 0
 AreDistinct [] = Unit {0}
 AreDistinct (x ∷ xs) = (holds x xs ≡ false) × AreDistinct xs
 
+-- how many numbers a window holds at most
 abbrev pub window_limit : ℕ
 window_limit = 4
 
@@ -24,6 +26,7 @@ abbrev pub without_oldest : List ℕ → List ℕ
 without_oldest [] = []
 without_oldest (x ∷ xs) = cond (nat_le window_limit (length (x ∷ xs))) xs (x ∷ xs)
 
+-- the number that is pushed out then
 abbrev pub oldest_out : List ℕ → Option ℕ
 oldest_out [] = None
 oldest_out (x ∷ xs) = cond (nat_le window_limit (length (x ∷ xs))) (Some x) None

@@ -7,6 +7,7 @@ use Rattle.object_store.specs.declared.places.Moved.{Moved}
 use Rattle.object_store.specs.declared.places.Moved.TheVariants as moved
 use Rattle.object_store.specs.Stores.{StoreState, store_memory}
 use Rattle.object_store.specs.Calls.{Frees, BeginsLeave, EndsLeave, BeginsReturn, EndsReturn}
+use Rattle.object_store.specs.Stores.{machine_limit}
 use Rattle.machine.specs.MachineState.{start}
 use Rattle.debugger.specs.DebugState.{debug_start}
 use Rattle.world.specs.declared.debuggee.Debuggee.{Debuggee}
@@ -15,7 +16,7 @@ use Rattle.world.specs.declared.events.Reply.TheVariants as reply
 use Rattle.world.specs.Run.{Runs}
 use Rattle.world.specs.Commands.{Command}
 use Rattle.world.specs.Commands.Command.{Make, Free, Put, Get, Ship, Leave, Left, Return, Returned, Step, One, Regs, Out, Stack, Line, Break, Unbreak, Watch, Unwatch, Resume}
-use Rattle.world.specs.WorldState.{WorldState, AreAllShipped, machine_limit}
+use Rattle.world.specs.WorldState.{WorldState, AreAllShipped}
 use Rattle.world.specs.Steps.{Way, AnswersStep}
 use Rattle.world.specs.Steps.Way.{ByStep, ByOne}
 use Rattle.world.specs.Showing.{ShowsRegs, ShowsOut, ShowsStack, ShowsLine}

@@ -1,4 +1,4 @@
--- Commands.
+-- Commands: what is asked of the agent.
 use Rattle.std.specs.Prelude.{ℕ, List}
 use Rattle.world.specs.declared.events.Event.{Event}
 use Rattle.world.specs.declared.events.Event.TheVariants as event

@@ -15,6 +15,7 @@ placed n p (Home k) = cond (nat_eq k n) place.Here p
 placed n p (Faulted k q) = cond (nat_eq k n) q p
 placed n p _ = p
 
+-- the same after these replies, one after the other
 abbrev pub place_from : ℕ → Place → List Reply → Place
 place_from n p [] = p
 place_from n p (r ∷ rs) = place_from n (placed n p r) rs

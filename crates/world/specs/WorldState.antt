@@ -1,6 +1,6 @@
 -- The machines that were shipped, each with its debug state, and the store of the objects that were made.
 use Rattle.std.specs.Prelude.{◌≤◌, ℕ, zero, suc, ◌-◌, List, [], length, slice_get, slice_set, Option, None}
-use Rattle.object_store.specs.Stores.{StoreState, store_start}
+use Rattle.object_store.specs.Stores.{StoreState, machine_limit, store_start}
 use Rattle.world.specs.declared.debuggee.Debuggee.{Debuggee}
 
 pub record WorldState : Type 0 where
@@ -14,11 +14,7 @@ world_start budget faults = record { machines = []; store = store_start budget f
 
 -- ---- machines
 
--- at most so many machines are ever shipped
-abbrev pub machine_limit : ℕ
-machine_limit = 48
-
--- as many were shipped
+-- as many machines were shipped as there may be
 abbrev pub AreAllShipped : List Debuggee → Type 0
 AreAllShipped machines = machine_limit ≤ length machines
 
@@ -27,5 +23,6 @@ abbrev pub machine_at : List Debuggee → ℕ → Option Debuggee
 machine_at machines zero = None
 machine_at machines (suc n) = slice_get machines n
 
+-- the machines, with this one as machine m
 abbrev pub with_machine : List Debuggee → ℕ → Debuggee → List Debuggee
 with_machine machines m d = slice_set machines (m - 1) d

@@ -1,8 +1,7 @@
 //! Steps of a machine.
 ghost use Rattle.std.specs.Prelude.{◌≡◌, ◌≤◌, Bool, length, if◌then◌else◌};
-ghost use Rattle.object_store.specs.Stores.{IsMachine, store_memory};
+ghost use Rattle.object_store.specs.Stores.{IsMachine, machine_limit, store_memory};
 ghost use Rattle.machine.specs.TableStep.{TableStep};
-ghost use Rattle.world.specs.WorldState.{machine_limit};
 ghost use Rattle.world.specs.Steps.{AnswersStep, reply_to_step, debugged};
 ghost use Rattle.world.specs.Steps.Way.{ByStep, ByOne};
 

@@ -35,7 +35,8 @@ pub struct World<F: FarStore> {
 
 impl<F: FarStore> Model for World<F> {
     ghost use Rattle.std.specs.Prelude.{◌≡◌, ◌≤◌, true, length, vec_capacity};
-    ghost use Rattle.world.specs.WorldState.{WorldState, machine_limit};
+    ghost use Rattle.object_store.specs.Stores.{machine_limit};
+    ghost use Rattle.world.specs.WorldState.{WorldState};
 
     ghost Value = { WorldState };
 

@@ -30,6 +30,7 @@ pub record MovesOnly (old : WorldState) (n : ℕ) (new : WorldState) : Type 0 wh
   pub store : new.store ≡ record old.store { places = new.store.places; faults = new.store.faults }
   pub others : (k : ℕ) → k ≢ n → place_of new.store.places k ≡ place_of old.store.places k
 
+-- A move, or its end, changes no more than that, whatever it is answered.
 abbrev pub MovesChangeNoByte : Type 0
 MovesChangeNoByte = (old new : WorldState) (n : ℕ) (command : Command) (reply : Reply) → MovesObject command n → Answers old command reply new → MovesOnly old n new
 

@@ -55,6 +55,7 @@ ShowingChangesNothing = (old new : WorldState) (command : Command) (reply : Repl
 
 -- ---- one machine
 
+-- the machine apart from its debug state
 abbrev pub machine_in : Debuggee → MachineState
 machine_in d = d.machine
 
@@ -90,6 +91,7 @@ shipped_codes (Ship fuel arguments code ∷ commands) (Shipped m ∷ replies) = 
 shipped_codes (command ∷ commands) (reply ∷ replies) = shipped_codes commands replies
 shipped_codes _ _ = []
 
+-- the code of a machine
 abbrev pub code_of : Debuggee → List ℕ
 code_of d = d.machine.code
 
@@ -164,6 +166,7 @@ abbrev pub AnswersOneWay : Type 0
 AnswersOneWay = (old aside new other : WorldState) (command : Command) (a b : Reply) → without_faults old ≡ without_faults aside
     → Answers old command a new → Answers aside command b other → is_settled a ≡ true → is_settled b ≡ true → (a ≡ b) × (without_faults new ≡ without_faults other)
 
+-- each of these replies is such a one
 abbrev pub AreSettled : List Reply → Type 0
 AreSettled [] = Unit {0}
 AreSettled (reply ∷ replies) = (is_settled reply ≡ true) × AreSettled replies
