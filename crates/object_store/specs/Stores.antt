@@ -86,7 +86,7 @@ HasRoom s count = near_bytes s.objects s.places + count ≤ s.budget
 
 -- ---- stores
 
--- without objects
+-- a store without objects, with this budget, over a far store that had so many faults
 abbrev pub store_start : ℕ → ℕ → StoreState
 store_start budget faults = record { objects = [] ∷ []; places = Here ∷ []; windows = replicate 49 []; budget = budget; faults = faults }
 

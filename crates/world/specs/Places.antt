@@ -5,7 +5,7 @@ use Rattle.object_store.specs.declared.places.Place.TheVariants as place
 use Rattle.world.specs.declared.events.Reply.{Reply}
 use Rattle.world.specs.declared.events.Reply.TheVariants.{Made, Leaving, Left, Returning, Home, Faulted}
 
--- where object n is after a reply, if it was at p
+-- where object n is after a reply, if its place was p
 abbrev pub placed : ℕ → Place → Reply → Place
 placed n p (Made k) = cond (nat_eq k n) place.Here p
 placed n p (Leaving k) = cond (nat_eq k n) place.Leaving p
@@ -20,6 +20,6 @@ abbrev pub place_from : ℕ → Place → List Reply → Place
 place_from n p [] = p
 place_from n p (r ∷ rs) = place_from n (placed n p r) rs
 
--- the last reply that tells it decides
+-- where object n is after these replies: the last one that tells it decides
 abbrev pub place_after : ℕ → List Reply → Place
 place_after n rs = place_from n place.Here rs

@@ -22,14 +22,14 @@ IsUndebuggedRun old cs rs new = Runs Answers (undebugged old) (undebugged_comman
 abbrev pub IsPlainRun : WorldState → List Command → List Reply → WorldState → Type 0
 IsPlainRun old cs rs new = IsUnmovedRun (undebugged old) (undebugged_commands cs rs) (undebugged_replies cs rs) (undebugged new)
 
--- So moving changes nothing,
+-- Moving changes nothing: what is left of a run is such a run.
 abbrev pub MovingChangesNothing : Type 0
 MovingChangesNothing = (old new : WorldState) (cs : List Command) (rs : List Reply) → Runs Answers old cs rs new → IsUnmovedRun old cs rs new
 
--- debugging changes nothing,
+-- Debugging changes nothing: what is left of a run is such a run.
 abbrev pub DebuggingChangesNothing : Type 0
 DebuggingChangesNothing = (old new : WorldState) (cs : List Command) (rs : List Reply) → Runs Answers old cs rs new → IsUndebuggedRun old cs rs new
 
--- and both together change nothing.
+-- Both together change nothing: what is left of a run is such a run.
 abbrev pub NeitherChangesAnything : Type 0
 NeitherChangesAnything = (old new : WorldState) (cs : List Command) (rs : List Reply) → Runs Answers old cs rs new → IsPlainRun old cs rs new
