@@ -4,4 +4,7 @@ pub mod WholeInput
 pub mod Encoded
 pub mod OutOfMemory
 pub mod ErrorShown
+pub mod Budgets
+pub mod ReadBudget
+pub mod Started
 pub mod Subcommands

@@ -1,18 +1,17 @@
 -- Right arguments name a subcommand, since one is required.
-use Rattle.std.proofs.Common.{◌≡◌, Bool, true, false, not, ◌&&◌, List, [], ◌∷◌, Option, None, Some, is_some, IsSome, refl, option_map, cond}
-use Rattle.std.specs.List.{find, list_any}
+use Rattle.std.proofs.Common.{◌≡◌, ◌≢◌, ℕ, Bool, true, false, not, ◌&&◌, List, [], ◌∷◌, Option, None, Some, is_some, IsSome, refl, sym, ap, ◌∙◌, option_map, cond, codes, slice_index, arith}
+use Rattle.std.specs.Prelude.{option_and_then}
+use Rattle.std.specs.List.{list_any}
+use Rattle.std.specs.Option.{option_map_or}
 use Rattle.clap.specs.Facts.{explicit_source}
 use Rattle.clap.specs.Kinds.{Kinds, check_kinds, or_else}
-use Rattle.clap.specs.Faults.{built_fault, check_fault, defaults_fault, entered_fault, settle_fault, walk_fault}
-use Rattle.clap.specs.Simple.{App, Shape, built, entered, label_of, names_of, rows_at}
+use Rattle.clap.specs.Faults.{built_fault, check_fault, defaults_fault, entered_fault, level_fault, settle_fault, walk_fault}
+use Rattle.clap.specs.Simple.{App, Shape, built, entered, names_of, new_shape, rows_at, subcommand_of}
 use Rattle.clap.specs.Takes.{is_given}
-use Rattle.clap.specs.Walk.{Held, Row, Text, answers_to, finished, nothing_held, settled, walk, walk_from}
+use Rattle.clap.specs.Walk.{Held, Row, Text, answers_to, finished, nothing_held, rows_after, settled, walk, walk_from}
 use Rattle.clap.proofs.OnLiterals.{clap_on_literals}
-use Rattle.agent.specs.CommandLine.{command_line, faults_of, task_named, task_of}
-
-rest_empty : (first next : Kinds) → or_else first next ≡ [] → next ≡ []
-rest_empty [] next right = right
-rest_empty (k ∷ ks) next right = absurd (cc)
+use Rattle.agent.specs.CommandLine.{HasBudget, command_line, faults_of, task_named, task_of}
+use Rattle.agent.proofs.Budgets.{first_empty, rest_empty, help, rules, run_built, run_has_budget}
 
 last_empty : (first second third fourth last : Kinds) → or_else first (or_else second (or_else third (or_else fourth last))) ≡ [] → last ≡ []
 last_empty first second third fourth last right =
@@ -42,31 +41,52 @@ subcommand_entered app held words required right =
     (last_empty (walk_fault s (names_of app) (walk_from held) words) (entered_fault app stop) (settle_fault s.rules s.args_override_self end)
     (defaults_fault (settled s.rules end).rows s.rules) (check_fault s rows has) right)
 
-found_here : (is : Bool) (sub : Shape) (rest : Option Shape) (words : List Text) → IsSome (task_named (Some sub.name))
-    → (is_some (option_map (λ s. rows_at s words) rest) ≡ true → IsSome (task_named (option_map (λ p. p.0) (option_map (λ s. rows_at s words) rest))))
-    → is_some (option_map (λ s. rows_at s words) (cond is (Some sub) rest)) ≡ true
-    → IsSome (task_named (option_map (λ p. p.0) (option_map (λ s. rows_at s words) (cond is (Some sub) rest))))
-found_here true sub rest words named others entered = named
-found_here false sub rest words named others entered = others entered
+-- what is entered has a task, and `run` has its budget
+abbrev pub IsEntered : Option (Text × List Row) → Type 0
+IsEntered None = Unit {0}
+IsEntered (Some p) = IsSome (task_named p.0 p.1) × (p.0 ≡ codes "run" → HasBudget p.1)
 
--- each of these subcommands has the name of a task
-abbrev NameTasks : List Shape → Type 0
-NameTasks [] = Unit {0}
-NameTasks (sub ∷ subs) = IsSome (task_named (Some sub.name)) × NameTasks subs
+abbrev other_built : Text → Shape
+other_built name = record (new_shape name) { rules = help ∷ []; no_binary_name = true; disable_help_subcommand = true; is_built = true }
 
--- so one that is found has
-found_named : (subs : List Shape) (test : Shape → Bool) (words : List Text) → NameTasks subs
-    → is_some (option_map (λ s. rows_at s words) (find test subs)) ≡ true
-    → IsSome (task_named (option_map (λ p. p.0) (option_map (λ s. rows_at s words) (find test subs))))
-found_named [] test words named entered = absurd (cc)
-found_named (sub ∷ subs) test words named entered = found_here (test sub) sub (find test subs) words named.0 (found_named subs test words named.1) entered
+module _ (P : Option Shape → Type 0) where
+  among_at : (x y z w : Bool) → P None → P (Some run_built) → P (Some (other_built (codes "check"))) → P (Some (other_built (codes "asm"))) → P (Some (other_built (codes "dis")))
+      → P (cond x (Some run_built) (cond y (Some (other_built (codes "check"))) (cond z (Some (other_built (codes "asm"))) (cond w (Some (other_built (codes "dis"))) None))))
+  among_at true y z w none run check asm dis = run
+  among_at false true z w none run check asm dis = check
+  among_at false false true w none run check asm dis = asm
+  among_at false false false true none run check asm dis = dis
+  among_at false false false false none run check asm dis = none
 
-entered_named : (stop : Option (Text × List Text)) → is_some (entered (built command_line) stop) ≡ true
-    → IsSome (task_named (option_map (λ p. p.0) (entered (built command_line) stop)))
+not_run : (name : Text) (n : ℕ) → slice_index name 0 ≡ n → n ≢ 114 → name ≡ codes "run" → ⊥
+not_run name n first other e = other (sym first ∙ ap (λ l. slice_index l 0) e)
+
+run_named : (rows : List Row) → HasBudget rows → IsSome (task_named (codes "run") rows)
+run_named rows b = rw b.2 refl
+
+run_entered : (words : List Text) → level_fault run_built [] nothing_held words false [] ≡ [] → IsEntered (Some (rows_at run_built words))
+run_entered words f = let b = run_has_budget words f in (run_named (rows_after rules [] words) b, λ _. b)
+
+entered_good : (stop : Option (Text × List Text)) → entered_fault (built command_line) stop ≡ [] → IsEntered (entered (built command_line) stop)
 unfolding clap_on_literals
-entered_named None some = absurd (cc)
-entered_named (Some p) some = found_named (built command_line).subs (λ s. answers_to p.0 (label_of s)) p.1 (refl, (refl, (refl, (refl, tt)))) some
+entered_good None f = tt
+entered_good (Some p) f =
+    among_at (λ o. option_map_or (λ s. level_fault s [] nothing_held p.1 false []) o [] ≡ [] → IsEntered (option_map (λ s. rows_at s p.1) o))
+    (answers_to p.0 (codes "run", [])) (answers_to p.0 (codes "check", [])) (answers_to p.0 (codes "asm", [])) (answers_to p.0 (codes "dis", []))
+    (λ _. tt) (run_entered p.1) (λ _. (refl, λ e. absurd (not_run (codes "check") 99 refl (omega arith) e))) (λ _. (refl, λ e. absurd (not_run (codes "asm") 97 refl (omega arith) e)))
+    (λ _. (refl, λ e. absurd (not_run (codes "dis") 100 refl (omega arith) e))) f
+
+-- right arguments enter a subcommand
+pub right_enters : (arguments : List Text) → faults_of arguments ≡ [] → (is_some (subcommand_of command_line arguments) ≡ true) × IsEntered (subcommand_of command_line arguments)
+unfolding clap_on_literals
+right_enters arguments right = (
+  subcommand_entered (built command_line) nothing_held arguments refl right,
+  entered_good (walk (built command_line).top.rules (names_of (built command_line)) nothing_held arguments).stopped (first_empty _ _ (rest_empty _ _ right)),
+)
+
+entered_named : (o : Option (Text × List Row)) → is_some o ≡ true → IsEntered o → IsSome (option_and_then (λ p. task_named p.0 p.1) o)
+entered_named None some e = absurd (cc)
+entered_named (Some p) some e = e.0
 
 pub right_names_a_task : (arguments : List Text) → faults_of arguments ≡ [] → IsSome (task_of arguments)
-unfolding clap_on_literals
-right_names_a_task arguments right = entered_named (walk (built command_line).top.rules (names_of (built command_line)) nothing_held arguments).stopped (subcommand_entered (built command_line) nothing_held arguments refl right)
+right_names_a_task arguments right = let e = right_enters arguments right in entered_named _ e.0 e.1

@@ -1,17 +1,25 @@
 -- What the arguments of the command line ask for, as `clap` reads them.
-use Rattle.std.specs.Prelude.{true, if◌then◌else◌, List, [], Option, Some, None, codes, option_map}
+use Rattle.std.specs.Prelude.{◌≡◌, ℕ, false, true, pos, if◌then◌else◌, List, [], ◌∷◌, Option, Some, None, codes, option_map, option_and_then}
 use Rattle.std.specs.Str.{bytes_eq}
-use Rattle.clap.specs.Words.{App, Kinds, Shape, Text, fault_of, subcommand_of, with_subcommand}
+use Rattle.std.specs.Str.Parse.{digits_value, without_leading_plus}
+use Rattle.clap.specs.Words.{Accepts, App, Kinds, Row, Rule, Shape, Text, fault_of, new_rule, one_of, subcommand_of, with_subcommand, without_minus}
 use Rattle.clap.specs.Simple.{new_shape}
+use Rattle.clap.specs.declared.builder.value_parser.ValueParser.{ValueParser}
+use Rattle.clap.specs.declared.builder.value_parser.ValueParser.TheVariants.{Signed}
 use Rattle.agent.specs.declared.arguments.Task.{Task}
 use Rattle.agent.specs.declared.arguments.Task.TheVariants.{Run, Check, Assemble, Disassemble}
 
--- the subcommand of a task, without options
-abbrev pub subcommand : Task → Shape
-subcommand Run = new_shape (codes "run")
-subcommand Check = new_shape (codes "check")
-subcommand Assemble = new_shape (codes "asm")
-subcommand Disassemble = new_shape (codes "dis")
+-- a number from 0 to 64 MiB
+abbrev pub budget_parser : ValueParser
+budget_parser = Signed (pos 0) (pos 67108864)
+
+-- `--budget N`, which is 64 MiB where it is left out
+abbrev pub budget_rule : Rule
+budget_rule = record (new_rule (codes "budget")) { long = Some (codes "budget"); value_names = 1; defaults = codes "67108864" ∷ []; parser = Some budget_parser }
+
+-- `run`, with its option
+abbrev pub run_shape : Shape
+run_shape = record (new_shape (codes "run")) { rules = budget_rule ∷ [] }
 
 -- `bpfagent` with no subcommand yet: the arguments are those after the program's name, one of the subcommands is wanted, and none is `help`
 abbrev pub bare : App
@@ -19,18 +27,25 @@ bare = record { top = record (new_shape (codes "bpfagent")) { no_binary_name = t
 
 -- the command line, as `clap` reads it
 abbrev pub command_line : App
-command_line = with_subcommand (with_subcommand (with_subcommand (with_subcommand bare (subcommand Run)) (subcommand Check)) (subcommand Assemble)) (subcommand Disassemble)
+command_line = with_subcommand (with_subcommand (with_subcommand (with_subcommand bare run_shape) (new_shape (codes "check"))) (new_shape (codes "asm"))) (new_shape (codes "dis"))
 
 -- the kinds of error that these arguments may give: none, where they are right
 abbrev pub faults_of : List Text → Kinds
 faults_of arguments = fault_of command_line arguments
 
--- the task that the name of a subcommand asks for
-abbrev pub task_named : Option Text → Option Task
-task_named None = None
-task_named (Some name) = if bytes_eq name (codes "run") then Some Run else (if bytes_eq name (codes "check") then Some Check
+-- the matches of `run` have a budget that its parser takes
+abbrev pub HasBudget : List Row → Type 0
+HasBudget rows = (text : Text) × Accepts false budget_parser text × (one_of (codes "budget") rows ≡ Some (without_minus text))
+
+-- the number that the matches of `run` give
+abbrev pub budget_in : List Row → Option ℕ
+budget_in rows = option_map (λ text. digits_value 10 (without_leading_plus text)) (one_of (codes "budget") rows)
+
+-- the task of this name, with these matches
+abbrev pub task_named : Text → List Row → Option Task
+task_named name rows = if bytes_eq name (codes "run") then option_map Run (budget_in rows) else (if bytes_eq name (codes "check") then Some Check
     else (if bytes_eq name (codes "asm") then Some Assemble else (if bytes_eq name (codes "dis") then Some Disassemble else None)))
 
 -- what right arguments ask for: the subcommand that they name
 abbrev pub task_of : List Text → Option Task
-task_of arguments = task_named (option_map (λ p. p.0) (subcommand_of command_line arguments))
+task_of arguments = option_and_then (λ p. task_named p.0 p.1) (subcommand_of command_line arguments)

@@ -1,17 +1,17 @@
 //! The arguments of the command line.
-ghost use Rattle.std.specs.Prelude.{◌≡◌, [], Some, map, option_map, IfOk, IfErr};
-ghost use Rattle.clap.specs.Words.{app_of, HasKind};
-ghost use Rattle.agent.specs.CommandLine.{command_line, faults_of, task_named, task_of};
+ghost use Rattle.std.specs.Prelude.{◌≡◌, [], Some, map, codes, IfOk, IfErr};
+ghost use Rattle.clap.specs.Words.{app_of, found_of, rows_of, rule_of, HasKind};
+ghost use Rattle.agent.specs.CommandLine.{HasBudget, budget_in, budget_rule, command_line, faults_of, task_named, task_of};
 
-use clap::{Command, Error};
+use clap::{Arg, ArgMatches, Command, Error, value_parser};
 use std::alloc::{AllocError, Global};
 use std::convert::AsStr;
 
 /// What the program can be asked for.
 #[derive(Clone, Copy, Debug, PartialEq, Eq)]
 pub enum Task {
-    /// To do commands.
-    Run,
+    /// To do commands, with at most so many bytes of objects here at a time.
+    Run { budget: u32 },
     /// To check raw code.
     Check,
     /// To turn assembly into raw code.
@@ -20,11 +20,25 @@ pub enum Task {
     Disassemble,
 }
 
+/// `--budget N`: the most bytes of objects that may be here at a time.
+fn make_budget<'a>(alloc: Global) -> Arg<'a>
+    ensures { rule_of result ≡ budget_rule }
+{
+    Arg::new(alloc, "budget")
+        .long("budget")
+        .value_name("N")
+        .value_parser(value_parser!(u32).range(0..=67_108_864))
+        .default_value("67108864")
+        .help("The most bytes of objects that may be here at a time")
+}
+
 /// The command line of the program.
 fn make_command<'a>(alloc: Global) -> Result<Command<'a>, AllocError>
     ensures { IfOk result (λ c. app_of c ≡ command_line) }
 {
-    let run = Command::new(alloc, "run").about("Do the commands of standard input, one a line");
+    let run = Command::new(alloc, "run")
+        .about("Do the commands of standard input, one a line")
+        .arg(make_budget(alloc))?;
     let check = Command::new(alloc, "check").about("Check the raw code of standard input");
     let asm = Command::new(alloc, "asm").about("Turn the assembly of standard input into raw code");
     let dis = Command::new(alloc, "dis").about("Show the raw code of standard input as assembly");
@@ -40,12 +54,26 @@ fn make_command<'a>(alloc: Global) -> Result<Command<'a>, AllocError>
         .subcommand(dis)
 }
 
-/// The task of this name.
-fn task_called(name: Option<&str>) -> Option<Task>
-    ensures { result ≡ task_named (option_map (λ s. s.now) name.entry) }
+/// The budget that the matches of `run` give.
+fn read_budget<'a>(matches: &ArgMatches<'a>) -> u32
+    requires { HasBudget (rows_of (found_of matches.now)) }
+    ensures { budget_in (rows_of (found_of matches.now)) ≡ Some result }
 {
-    match name? {
-        "run" => Some(Task::Run),
+    let Some(budget) = matches.get_one::<u32>("budget") else {
+        unreachable!()
+    };
+    budget
+}
+
+/// The task of this name, with these matches.
+fn task_called<'a>(name: &str, matches: &ArgMatches<'a>) -> Option<Task>
+    requires { name.now ≡ codes "run" → HasBudget (rows_of (found_of matches.now)) }
+    ensures { result ≡ task_named name.now (rows_of (found_of matches.now)) }
+{
+    match name {
+        "run" => Some(Task::Run {
+            budget: read_budget(matches),
+        }),
         "check" => Some(Task::Check),
         "asm" => Some(Task::Assemble),
         "dis" => Some(Task::Disassemble),
@@ -59,7 +87,10 @@ pub(crate) fn read_arguments<'a, S: AsStr>(alloc: Global, arguments: &'a [S]) ->
     ensures err { IfErr result (HasKind (faults_of (map S.text arguments.entry.now))) }
 {
     let matches = make_command(alloc)?.try_get_matches_from(arguments)?;
-    let Some(task) = task_called(matches.subcommand_name()) else {
+    let Some((name, inner)) = matches.subcommand() else {
+        unreachable!()
+    };
+    let Some(task) = task_called(name, inner) else {
         unreachable!()
     };
     Ok(task)

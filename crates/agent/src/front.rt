@@ -1,5 +1,5 @@
 //! The whole program over its arguments and streams.
-ghost use Rattle.std.specs.Prelude.{◌≡◌, ◌≢◌, [], map, Some, IfSome};
+ghost use Rattle.std.specs.Prelude.{◌≡◌, ◌≢◌, ℕ, [], map, Some, IfSome};
 ghost use Rattle.std.specs.Io.KnownBytes.{Keeps};
 ghost use Rattle.clap.specs.Words.{kind_of};
 ghost use Rattle.agent.specs.AsmLeaves.{AsmLeaves, asm_limit};
@@ -83,8 +83,8 @@ pub fn tool<'a, S: AsStr, R: Read, W: Write, E: Write>(
     writer: &mut W,
     errors: &mut E,
 ) -> u8
-    ensures run { faults_of (map S.text arguments.entry.now) ≡ [] → task_of (map S.text arguments.entry.now) ≡ Some Task.Run
-        → IfSome (R.remaining reader.old) (λ input. ReportsOutcome (RunLeaves input (W.contents writer.old) (W.contents writer.new) (R.remaining reader.new))
+    ensures run { (budget : ℕ) → faults_of (map S.text arguments.entry.now) ≡ [] → task_of (map S.text arguments.entry.now) ≡ Some (Task.Run budget)
+        → IfSome (R.remaining reader.old) (λ input. ReportsOutcome (RunLeaves budget input (W.contents writer.old) (W.contents writer.new) (R.remaining reader.new))
         (E.contents errors.old) (E.contents errors.new) result) }
     ensures check { faults_of (map S.text arguments.entry.now) ≡ [] → task_of (map S.text arguments.entry.now) ≡ Some Task.Check
         → IfSome (R.remaining reader.old) (λ input. ReportsOutcome (CheckLeaves input (W.contents writer.old) (W.contents writer.new))
@@ -104,7 +104,7 @@ pub fn tool<'a, S: AsStr, R: Read, W: Write, E: Write>(
     ensures unread { faults_of (map S.text arguments.entry.now) ≢ [] → Keeps (R.remaining reader.old) (R.remaining reader.new) }
 {
     match read_arguments(alloc, arguments) {
-        Ok(Task::Run) => report(run(alloc, reader, writer), errors).number(),
+        Ok(Task::Run { budget }) => report(run(alloc, budget, reader, writer), errors).number(),
         Ok(Task::Check) => report(check(alloc, reader, writer), errors).number(),
         Ok(Task::Assemble) => report(asm(alloc, reader, writer), errors).number(),
         Ok(Task::Disassemble) => report(dis(alloc, reader, writer), errors).number(),

@@ -9,20 +9,37 @@ use clap::error::ErrorKind;
 /// `run`, `check`, `asm` and `dis` alone are right arguments, and ask for what they are called; `--help` asks for
 /// help.
 pub fn right_arguments()
-    ensures run { (faults_of (codes "run" ∷ []) ≡ []) × (task_of (codes "run" ∷ []) ≡ Some Task.Run) }
+    ensures run { (faults_of (codes "run" ∷ []) ≡ []) × (task_of (codes "run" ∷ []) ≡ Some (Task.Run 67108864)) }
     ensures check { (faults_of (codes "check" ∷ []) ≡ []) × (task_of (codes "check" ∷ []) ≡ Some Task.Check) }
     ensures asm { (faults_of (codes "asm" ∷ []) ≡ []) × (task_of (codes "asm" ∷ []) ≡ Some Task.Assemble) }
     ensures dis { (faults_of (codes "dis" ∷ []) ≡ []) × (task_of (codes "dis" ∷ []) ≡ Some Task.Disassemble) }
     ensures help { faults_of (codes "--help" ∷ []) ≡ ErrorKind.DisplayHelp ∷ [] }
 {}
 
-/// No argument at all, another one, `help`, a second one and an option are invalid.
+/// `--budget` gives `run` its budget, as a second word or after an equals sign.
+pub fn right_budgets()
+    ensures word { (faults_of (codes "run" ∷ codes "--budget" ∷ codes "8" ∷ []) ≡ [])
+        × (task_of (codes "run" ∷ codes "--budget" ∷ codes "8" ∷ []) ≡ Some (Task.Run 8)) }
+    ensures equals { (faults_of (codes "run" ∷ codes "--budget=0" ∷ []) ≡ []) × (task_of (codes "run" ∷ codes "--budget=0" ∷ []) ≡ Some (Task.Run 0)) }
+    ensures most { (faults_of (codes "run" ∷ codes "--budget" ∷ codes "67108864" ∷ []) ≡ [])
+        × (task_of (codes "run" ∷ codes "--budget" ∷ codes "67108864" ∷ []) ≡ Some (Task.Run 67108864)) }
+{}
+
+/// No argument at all, another one, `help`, a second one and an option of another subcommand are invalid.
 pub fn invalid_arguments()
     ensures none { faults_of [] ≢ [] }
     ensures other { faults_of (codes "serve" ∷ []) ≢ [] }
     ensures help { faults_of (codes "help" ∷ []) ≢ [] }
     ensures second { faults_of (codes "run" ∷ codes "check" ∷ []) ≢ [] }
-    ensures option { faults_of (codes "run" ∷ codes "--budget" ∷ codes "8" ∷ []) ≢ [] }
+    ensures option { faults_of (codes "check" ∷ codes "--budget" ∷ codes "8" ∷ []) ≢ [] }
+{}
+
+/// A budget that is too great, or no number, or missing, or given twice, is invalid.
+pub fn invalid_budgets()
+    ensures great { faults_of (codes "run" ∷ codes "--budget" ∷ codes "67108865" ∷ []) ≢ [] }
+    ensures text { faults_of (codes "run" ∷ codes "--budget" ∷ codes "x" ∷ []) ≢ [] }
+    ensures missing { faults_of (codes "run" ∷ codes "--budget" ∷ []) ≢ [] }
+    ensures twice { faults_of (codes "run" ∷ codes "--budget" ∷ codes "8" ∷ codes "--budget" ∷ codes "8" ∷ []) ≢ [] }
 {}
 
 /// Whatever the arguments: where nothing is wrong with them, they name a task.

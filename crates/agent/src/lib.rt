@@ -18,6 +18,8 @@ pub use checking::check;
 pub use disassembling::dis;
 pub use failure::{Failure, Status};
 pub use front::tool;
-pub use laws::{invalid_arguments, right_arguments, right_arguments_name_a_task};
+pub use laws::{
+    invalid_arguments, invalid_budgets, right_arguments, right_arguments_name_a_task, right_budgets,
+};
 pub use reporting::refuse_arguments;
 pub use running::run;

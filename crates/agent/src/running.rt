@@ -1,19 +1,34 @@
 //! `run`: commands in, replies out.
-ghost use Rattle.std.specs.Prelude.{IfSome};
+ghost use Rattle.std.specs.Prelude.{◌≡◌, IfOk, IfSome};
+ghost use Rattle.world.specs.WorldState.{world_start};
 ghost use Rattle.agent.specs.RunLeaves.{RunLeaves};
 
 use crate::failure::Failure;
 use console::{Console, DriveFault, drive};
-use std::alloc::Global;
+use far_store::OwnStore;
+use std::alloc::{AllocError, Global};
 use std::io::{Read, Write};
 use world::World;
 
-/// Does the commands that the reader has, from a world with no machine and no object, and writes
-/// their replies. Out of memory before the first line reads no input.
-pub fn run<R: Read, W: Write>(alloc: Global, reader: &mut R, writer: &mut W) -> Result<(), Failure>
-    ensures { IfSome (R.remaining reader.old) (λ input. RunLeaves input (W.contents writer.old) (W.contents writer.new) (R.remaining reader.new) result) }
+/// A world with no machine and no object, which keeps what leaves by itself.
+fn make_world(alloc: Global, budget: u32) -> Result<World<OwnStore>, AllocError>
+    ensures { IfOk result (λ w. w ≡ world_start budget 0) }
 {
-    let Ok(mut world) = World::new(alloc) else {
+    World::new(alloc, budget, OwnStore::new(alloc))
+}
+
+/// Does the commands that the reader has, from a world with no machine and no object, and writes
+/// their replies. At most `budget` bytes of objects are here at a time. Out of memory before the
+/// first line reads no input.
+pub fn run<R: Read, W: Write>(
+    alloc: Global,
+    budget: u32,
+    reader: &mut R,
+    writer: &mut W,
+) -> Result<(), Failure>
+    ensures { IfSome (R.remaining reader.old) (λ input. RunLeaves budget input (W.contents writer.old) (W.contents writer.new) (R.remaining reader.new) result) }
+{
+    let Ok(mut world) = make_world(alloc, budget) else {
         return Err(Failure::NoMemory);
     };
     let Ok(mut console) = Console::new(alloc) else {

@@ -27,6 +27,15 @@ Options:
   -h, --help  Print help
 ";
 
+const RUN_HELP: &str = "Do the commands of standard input, one a line
+
+Usage: bpfagent run [OPTIONS]
+
+Options:
+      --budget <N>  The most bytes of objects that may be here at a time [default: 67108864]
+  -h, --help        Print help
+";
+
 const NO_SUBCOMMAND: &str = "error: 'bpfagent' requires a subcommand but one was not provided
   [subcommands: run, check, asm, dis]
 
@@ -51,18 +60,52 @@ For more information, try '--help'.
 
 const OPTION: &str = "error: unexpected argument '--budget' found
 
-Usage: bpfagent run
+Usage: bpfagent check
+
+For more information, try '--help'.
+";
+
+const TOO_GREAT: &str =
+    "error: invalid value '67108865' for '--budget <N>': 67108865 is not in 0..=67108864
+
+For more information, try '--help'.
+";
+
+const NO_NUMBER: &str = "error: invalid value 'x' for '--budget <N>': invalid digit found in string
+
+For more information, try '--help'.
+";
+
+const NO_TEXT: &str =
+    "error: invalid value '' for '--budget <N>': cannot parse integer from empty string
+
+For more information, try '--help'.
+";
+
+const NO_VALUE: &str = "error: a value is required for '--budget <N>' but none was supplied
+
+For more information, try '--help'.
+";
+
+const TWICE: &str = "error: the argument '--budget <N>' cannot be used multiple times
+
+Usage: bpfagent run [OPTIONS]
 
 For more information, try '--help'.
 ";
 
 #[test]
 fn invalid_arguments_are_named(rt: HostRuntime) {
-    let cases: [(&[&str], &str); 4] = [
+    let cases: [(&[&str], &str); 9] = [
         (&[], NO_SUBCOMMAND),
         (&["serve"], UNKNOWN),
         (&["help"], HELP_SUBCOMMAND),
-        (&["run", "--budget", "8"], OPTION),
+        (&["check", "--budget", "8"], OPTION),
+        (&["run", "--budget", "67108865"], TOO_GREAT),
+        (&["run", "--budget", "x"], NO_NUMBER),
+        (&["run", "--budget="], NO_TEXT),
+        (&["run", "--budget"], NO_VALUE),
+        (&["run", "--budget", "8", "--budget", "8"], TWICE),
     ];
     for (arguments, text) in cases {
         let outcome = outcome_of(rt.alloc(), arguments, b"step 1\n");
@@ -74,10 +117,12 @@ fn invalid_arguments_are_named(rt: HostRuntime) {
 
 #[test]
 fn help_goes_to_the_output(rt: HostRuntime) {
-    let cases: [(&[&str], &str); 3] = [
+    let cases: [(&[&str], &str); 5] = [
         (&["--help"], HELP),
         (&["-h"], HELP),
         (&["check", "--help"], CHECK_HELP),
+        (&["run", "--help"], RUN_HELP),
+        (&["run", "--budget", "8", "-h"], RUN_HELP),
     ];
     for (arguments, text) in cases {
         let outcome = outcome_of(rt.alloc(), arguments, b"step 1\n");

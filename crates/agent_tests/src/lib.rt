@@ -6,7 +6,11 @@ mod arguments;
 #[cfg(test)]
 mod assembly;
 #[cfg(test)]
+mod budgets;
+#[cfg(test)]
 mod checking;
+#[cfg(test)]
+mod moving;
 #[cfg(test)]
 mod outcome;
 #[cfg(test)]

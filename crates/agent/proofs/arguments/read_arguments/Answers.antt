@@ -1,13 +1,21 @@
-use Rattle.std.proofs.Common.{◌≡◌, [], IsSome, subst, ◌∙◌, ap, refl, sym, true, false, map, Option, None, Some, option_map}
+use Rattle.std.proofs.Common.{◌≡◌, [], IsSome, subst, ◌∙◌, ap, ap₂, refl, sym, true, false, is_some, map, Option, None, Some, option_map}
+use Rattle.std.specs.Prelude.{option_and_then}
 use Rattle.clap.specs.Words.{App, fault_of, is_simple, is_simple_and_free, subcommand_of}
 use Rattle.clap.proofs.OnLiterals.{clap_on_literals}
-use Rattle.agent.specs.CommandLine.{command_line, faults_of, task_named, task_of}
-use Rattle.agent.proofs.Subcommands.{right_names_a_task}
+use Rattle.agent.specs.CommandLine.{command_line, faults_of, task_named}
+use Rattle.agent.proofs.Subcommands.{IsEntered, right_enters}
 use Rattle.agent.proofs.arguments.read_arguments.Goals as goal
 
-firsts : {A B C : Type 0} (f : A → B) (g : A → C) (o : Option A) → option_map f o ≡ option_map (λ (p : B × C). p.0) (option_map (λ x. (f x, g x)) o)
-firsts f g None = refl
-firsts f g (Some x) = refl
+module _ {X A B : Type 0} (f : X → A) (g : X → B) where
+  firsts : (o : Option X) → option_map f o ≡ option_map (λ (p : A × B). p.0) (option_map (λ x. (f x, g x)) o)
+  firsts None = refl
+  firsts (Some x) = refl
+
+  joined : (o : Option X) (p : Option (A × B)) → option_map f o ≡ option_map (λ q. q.0) p → option_map g o ≡ option_map (λ q. q.1) p → option_map (λ x. (f x, g x)) o ≡ p
+  joined None None e h = refl
+  joined None (Some q) e h = absurd (cc)
+  joined (Some x) None e h = absurd (cc)
+  joined (Some x) (Some q) e h = let a : f x ≡ q.0 = cc in let b : g x ≡ q.1 = cc in ap₂ (λ u v. Some (u, v)) a b
 
 simple : is_simple command_line ≡ true
 unfolding clap_on_literals
@@ -23,10 +31,34 @@ unreachable-requires g c =
     let line_is = c.in_ok-make_command.ensures in
     let parsed = c.in_ok-matches.ensures in
     let right : faults_of words ≡ [] = ap (λ (a : App). fault_of a words) (sym line_is) ∙ parsed.kinds (ap is_simple_and_free line_is ∙ free) in
-    let met = parsed.matches (ap is_simple line_is ∙ simple) in
-    let task : c.task_called.result ≡ task_of words = c.task_called.ensures ∙ ap task_named (c.subcommand_name.ensures ∙ firsts _ _ _ ∙ ap (option_map (λ p. p.0)) met.1
-    ∙ ap (λ (a : App). option_map (λ p. p.0) (subcommand_of a words)) line_is) in
-    let none : false ≡ true = subst (λ o. IsSome o) c.in_default.is (subst (λ o. IsSome o) (sym task) (right_names_a_task words right)) in
+    let met = (parsed.matches (ap is_simple line_is ∙ simple)).1 ∙ ap (λ (a : App). subcommand_of a words) line_is in
+    let seen = joined _ _ _ _ (c.subcommand.ensures.name ∙ firsts _ _ _) c.subcommand.ensures.rows ∙ met in
+    let some = ap is_some seen ∙ (right_enters words right).0 in
+    let none : false ≡ true = rw c.in_default.is at some in
+    cc none
+
+pub task_called-requires : goal.task_called-requires
+task_called-requires g c =
+    let words = map g.S.AsStr.text c.args.arguments.now in
+    let line_is = c.in_ok-make_command.ensures in
+    let parsed = c.in_ok-matches.ensures in
+    let right : faults_of words ≡ [] = ap (λ (a : App). fault_of a words) (sym line_is) ∙ parsed.kinds (ap is_simple_and_free line_is ∙ free) in
+    let met = (parsed.matches (ap is_simple line_is ∙ simple)).1 ∙ ap (λ (a : App). subcommand_of a words) line_is in
+    let seen = joined _ _ _ _ (c.subcommand.ensures.name ∙ firsts _ _ _) c.subcommand.ensures.rows ∙ met in
+    let pair = rw c.in-Some.is at seen in
+    (subst IsEntered (sym pair) (right_enters words right).1).1
+
+pub unreachable-requires-in_default-task_called : goal.unreachable-requires-in_default-task_called
+unreachable-requires-in_default-task_called g c =
+    let words = map g.S.AsStr.text c.args.arguments.now in
+    let line_is = c.in_ok-make_command.ensures in
+    let parsed = c.in_ok-matches.ensures in
+    let right : faults_of words ≡ [] = ap (λ (a : App). fault_of a words) (sym line_is) ∙ parsed.kinds (ap is_simple_and_free line_is ∙ free) in
+    let met = (parsed.matches (ap is_simple line_is ∙ simple)).1 ∙ ap (λ (a : App). subcommand_of a words) line_is in
+    let seen = joined _ _ _ _ (c.subcommand.ensures.name ∙ firsts _ _ _) c.subcommand.ensures.rows ∙ met in
+    let pair = rw c.in-Some.is at seen in
+    let some = (subst IsEntered (sym pair) (right_enters words right).1).0 in
+    let none : false ≡ true = subst (λ o. IsSome o) (sym c.task_called.ensures ∙ c.in_default-task_called.is) some in
     cc none
 
 pub returns-clause-ok : goal.returns-clause-ok
@@ -34,9 +66,8 @@ returns-clause-ok g c =
     let words = map g.S.AsStr.text c.args.arguments.now in
     let line_is = c.in_ok-make_command.ensures in
     let parsed = c.in_ok-matches.ensures in
-    let right = parsed.kinds (ap is_simple_and_free line_is ∙ free) in
-    let met = parsed.matches (ap is_simple line_is ∙ simple) in (
-      ap (λ (a : App). fault_of a words) (sym line_is) ∙ right,
-      sym (c.task_called.ensures ∙ ap task_named (c.subcommand_name.ensures ∙ firsts _ _ _ ∙ ap (option_map (λ p. p.0)) met.1
-          ∙ ap (λ (a : App). option_map (λ p. p.0) (subcommand_of a words)) line_is)) ∙ c.in-Some.is,
-    )
+    let right : faults_of words ≡ [] = ap (λ (a : App). fault_of a words) (sym line_is) ∙ parsed.kinds (ap is_simple_and_free line_is ∙ free) in
+    let met = (parsed.matches (ap is_simple line_is ∙ simple)).1 ∙ ap (λ (a : App). subcommand_of a words) line_is in
+    let seen = joined _ _ _ _ (c.subcommand.ensures.name ∙ firsts _ _ _) c.subcommand.ensures.rows ∙ met in
+    let pair = rw c.in-Some.is at seen in
+    (right, ap (option_and_then (λ p. task_named p.0 p.1)) (sym pair) ∙ sym c.task_called.ensures ∙ c.in-Some-task_called.is)

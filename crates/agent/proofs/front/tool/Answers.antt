@@ -1,3 +1,10 @@
+use Rattle.std.proofs.Common.{◌≡◌, ℕ, List, Option, None, Some, Result, IfSome, sym, ◌∙◌}
+use Rattle.std.specs.Prelude.{⊤}
+use Rattle.agent.specs.Failures.{status_number}
+use Rattle.agent.specs.Reports.{Reports, ReportsOutcome}
+use Rattle.agent.specs.declared.failure.Failure.{Failure}
+use Rattle.agent.specs.declared.failure.Status.{Status}
+use Rattle.agent.specs.declared.arguments.Task.TheVariants.{Run}
 use Rattle.agent.specs.AsmLeaves.{AsmLeaves, asm_limit}
 use Rattle.agent.specs.CheckLeaves.{CheckLeaves, check_limit}
 use Rattle.agent.specs.DisLeaves.{DisLeaves}
@@ -6,9 +13,9 @@ use Rattle.agent.proofs.OutOfMemory.{reads_nothing, reported_over}
 use Rattle.agent.proofs.front.tool.Goals as goal
 
 pub returns-in-Err-clause-run : goal.returns-in-Err-clause-run
-returns-in-Err-clause-run g c right asked =
+returns-in-Err-clause-run g c budget right asked =
     reported_over (g.R.Read.remaining c.args.reader.now) _ c.in-Err.error _ _ _ _ c.show.result _ right c.in-Err.ensures.err c.show.ensures c.number-in-Err.ensures
-    (λ input. RunLeaves input (g.W.Write.contents c.args.writer.now) (g.W.Write.contents c.show.new.writer) (g.R.Read.remaining c.args.reader.now)) (λ input unread kept. (kept, unread))
+    (λ input. RunLeaves budget input (g.W.Write.contents c.args.writer.now) (g.W.Write.contents c.show.new.writer) (g.R.Read.remaining c.args.reader.now)) (λ input unread kept. (kept, unread))
 
 pub returns-in-Err-clause-check : goal.returns-in-Err-clause-check
 returns-in-Err-clause-check g c right asked =
@@ -33,3 +40,17 @@ returns-in-Err-clause-consumed_by_asm g c asked = reads_nothing asm_limit (g.R.R
 
 pub returns-in-Err-clause-consumed_by_dis : goal.returns-in-Err-clause-consumed_by_dis
 returns-in-Err-clause-consumed_by_dis g c asked = reads_nothing check_limit (g.R.Read.remaining c.args.reader.now)
+
+reported_run : (given : Option (List ℕ)) (work : List ℕ → Result ⊤ Failure → Type 0) (before after : Option (List ℕ)) (outcome : Result ⊤ Failure) (status : Status) (number : ℕ)
+    → IfSome given (λ input. work input outcome) → Reports before after outcome status → number ≡ status_number status
+    → IfSome given (λ input. ReportsOutcome (work input) before after number)
+reported_run None work before after outcome status number done says is = tt
+reported_run (Some input) work before after outcome status number done says is = (outcome, status, done, says, is)
+
+pub returns-in-Ok-Run-clause-run : goal.returns-in-Ok-Run-clause-run
+returns-in-Ok-Run-clause-run g c budget right asked =
+    let told : Some c.in-Ok-Run.field-0 ≡ Some (Run budget) = sym c.in-Ok-Run.ensures.ok.1 ∙ asked in
+    let is : c.in-Ok-Run.field-0 ≡ Run c.in-Ok-Run.budget = c.in-Ok-Run.field-0-is in
+    let same : budget ≡ c.in-Ok-Run.budget = cc in
+    reported_run _ (λ input. RunLeaves budget input (g.W.Write.contents c.args.writer.now) (g.W.Write.contents c.run.new.writer) (g.R.Read.remaining c.run.new.reader)) _ _ _ _ _
+    (rw same c.run.ensures) c.report.ensures c.number.ensures

@@ -1,0 +1,36 @@
+-- A conversation from the start, with a console that holds nothing.
+use Rattle.std.proofs.Common.{◌≡◌, ◌++◌, ℕ, List, Option, None, Some, IfSome, subst}
+use Rattle.world.specs.WorldState.{WorldState}
+use Rattle.console.specs.Agent.{agent}
+use Rattle.console.specs.Held.{Held, held_bytes, nothing_held}
+use Rattle.console.specs.Conversations.{AnswersAll, StopsReading, StopsWriting}
+
+module _ (P : WorldState → List ℕ → Type 0) (old start : WorldState) (held : Held) (same : old ≡ start) (none : held ≡ nothing_held) where
+  started : (o : Option (List ℕ)) → IfSome o (λ input. P old (held_bytes held ++ input)) → IfSome o (λ input. P start input)
+  started None h = tt
+  started (Some input) h = subst (λ (k : Held). P start (held_bytes k ++ input)) none (subst (λ (s : WorldState). P s (held_bytes held ++ input)) same h)
+
+module _ (old start end : WorldState) (before after : Option (List ℕ)) (held : Held) (same : old ≡ start) (none : held ≡ nothing_held) (o : Option (List ℕ)) where
+  pub answers_all : IfSome o (λ input. AnswersAll agent old (held_bytes held ++ input) before after end) → IfSome o (λ input. (e : WorldState) × AnswersAll agent start input before after e)
+  answers_all h = ending o (started (λ s input. AnswersAll agent s input before after end) old start held same none o h)
+    where
+      ending : (p : Option (List ℕ)) → IfSome p (λ input. AnswersAll agent start input before after end) → IfSome p (λ input. (e : WorldState) × AnswersAll agent start input before after e)
+      ending None h = tt
+      ending (Some input) h = (end, h)
+
+  pub stops_reading : (kept : Held) (unread : Option (List ℕ)) → IfSome o (λ input. StopsReading agent old (held_bytes held ++ input) before after end kept unread)
+      → IfSome o (λ input. (e : WorldState) × (k : Held) × StopsReading agent start input before after e k unread)
+  stops_reading kept unread h = ending o (started (λ s input. StopsReading agent s input before after end kept unread) old start held same none o h)
+    where
+      ending : (p : Option (List ℕ)) → IfSome p (λ input. StopsReading agent start input before after end kept unread)
+          → IfSome p (λ input. (e : WorldState) × (k : Held) × StopsReading agent start input before after e k unread)
+      ending None h = tt
+      ending (Some input) h = (end, kept, h)
+
+  pub stops_writing : (unread : Option (List ℕ)) → IfSome o (λ input. StopsWriting agent old (held_bytes held ++ input) before after end unread)
+      → IfSome o (λ input. (e : WorldState) × StopsWriting agent start input before after e unread)
+  stops_writing unread h = ending o (started (λ s input. StopsWriting agent s input before after end unread) old start held same none o h)
+    where
+      ending : (p : Option (List ℕ)) → IfSome p (λ input. StopsWriting agent start input before after end unread) → IfSome p (λ input. (e : WorldState) × StopsWriting agent start input before after e unread)
+      ending None h = tt
+      ending (Some input) h = (end, h)
