@@ -12,13 +12,15 @@ use Rattle.object_store.proofs.Counting.{uncounted_more, counts_at_first, none_h
 
 -- ---- the budget
 
-near_placed : (objects : List (List ℕ)) (places : List Place) (n : ℕ) (p : Place) → n < length objects → length places ≡ length objects
+-- where one place changes
+pub near_placed : (objects : List (List ℕ)) (places : List Place) (n : ℕ) (p : Place) → n < length objects → length places ≡ length objects
     → near_bytes objects (set places n p) + near_length (place_of places n) (bytes_of objects n) ≡ near_bytes objects places + near_length p (bytes_of objects n)
 near_placed [] places n p h e = absurd (omega arith)
 near_placed (o ∷ os) [] n p h e = absurd (omega arith)
 near_placed (o ∷ os) (q ∷ ps) zero p h e = omega arith
 near_placed (o ∷ os) (q ∷ ps) (suc n) p h e = let g = near_placed os ps n p (omega arith) (omega arith) in omega (arith, g)
 
+-- where the bytes of one object change
 near_filled : (objects : List (List ℕ)) (places : List Place) (n : ℕ) (b : List ℕ) → n < length objects → length places ≡ length objects
     → near_bytes (with_bytes objects n b) places + near_length (place_of places n) (bytes_of objects n) ≡ near_bytes objects places + near_length (place_of places n) b
 near_filled [] places n b h e = absurd (omega arith)
@@ -26,7 +28,8 @@ near_filled (o ∷ os) [] n b h e = absurd (omega arith)
 near_filled (o ∷ os) (q ∷ ps) zero b h e = omega arith
 near_filled (o ∷ os) (q ∷ ps) (suc n) b h e = let g = near_filled os ps n b (omega arith) (omega arith) in omega (arith, g)
 
-near_made : (objects : List (List ℕ)) (places : List Place) (b : List ℕ) → length places ≡ length objects
+-- where an object is made
+pub near_made : (objects : List (List ℕ)) (places : List Place) (b : List ℕ) → length places ≡ length objects
     → near_bytes (objects ++ b ∷ []) (places ++ Here ∷ []) ≡ near_bytes objects places + length b
 near_made [] [] b e = omega arith
 near_made [] (q ∷ ps) b e = absurd (omega arith)

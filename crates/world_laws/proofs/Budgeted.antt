@@ -10,6 +10,7 @@ use Rattle.memory.proofs.Lengths.{length-after}
 use Rattle.object_store.specs.declared.places.Place.{Place}
 use Rattle.object_store.specs.declared.places.Place.TheVariants.{Here, Leaving, Far, Returning}
 use Rattle.object_store.specs.Stores.{StoreState, Touches, place_of, near_length, near_bytes}
+use Rattle.object_store.proofs.Keeping.{near_placed, near_made}
 use Rattle.world.specs.declared.events.Reply.{Reply}
 use Rattle.world.specs.Commands.{Command}
 use Rattle.world.specs.WorldState.{WorldState, world_start}
@@ -32,20 +33,6 @@ near_filled (o ∷ os) [] zero b h = omega arith
 near_filled (o ∷ os) [] (suc n) b h = omega arith
 near_filled (o ∷ os) (q ∷ ps) zero b h = let g = no_more q o b h in omega (arith, g)
 near_filled (o ∷ os) (q ∷ ps) (suc n) b h = let g = near_filled os ps n b h in omega (arith, g)
-
-near_placed : (objects : List (List ℕ)) (places : List Place) (n : ℕ) (p : Place) → n < length objects → length places ≡ length objects
-    → near_bytes objects (set places n p) + near_length (place_of places n) (bytes_of objects n) ≡ near_bytes objects places + near_length p (bytes_of objects n)
-near_placed [] places n p h e = absurd (omega arith)
-near_placed (o ∷ os) [] n p h e = absurd (omega arith)
-near_placed (o ∷ os) (q ∷ ps) zero p h e = omega arith
-near_placed (o ∷ os) (q ∷ ps) (suc n) p h e = let g = near_placed os ps n p (omega arith) (omega arith) in omega (arith, g)
-
-near_made : (objects : List (List ℕ)) (places : List Place) (b : List ℕ) → length places ≡ length objects
-    → near_bytes (objects ++ b ∷ []) (places ++ Here ∷ []) ≡ near_bytes objects places + length b
-near_made [] [] b e = omega arith
-near_made [] (q ∷ ps) b e = absurd (omega arith)
-near_made (o ∷ os) [] b e = absurd (omega arith)
-near_made (o ∷ os) (q ∷ ps) b e = let g = near_made os ps b (omega arith) in omega (arith, g)
 
 -- ---- one change
 
