@@ -51,10 +51,10 @@ touch_fits budget who before next n op reach.Away f h = subst (Fits budget) (sym
 touch_fits budget who before next n op reach.Outside f h = subst (Fits budget) (sym h.1) f
 touch_fits budget who before next n op _ f h = absurd h
 
-fits_kept : (budget : ℕ) → Kept (Fits budget)
-fits_kept budget = record {
-  touched = λ who x y n op r f h. touch_fits budget who x y n op r f h;
-  closed = λ who x f. record { same = f.same; fits = f.fits };
+fits_kept : (budget who : ℕ) → Kept who (Fits budget)
+fits_kept budget who = record {
+  touched = λ x y n op r f h. touch_fits budget who x y n op r f h;
+  closed = λ x f. record { same = f.same; fits = f.fits };
 }
 
 changed_fits : (budget : ℕ) (old new : StoreState) (r : Reply) → HasPlaces old → Fits budget old → StoreChange old r new → Fits budget new
@@ -71,7 +71,7 @@ changed_fits budget old new r p f (Placed n a b faults q m e) =
     let i = below old.objects n m.stands.0 in
     let g = rw m.stands.1 at (near_placed old.objects old.places n b i p) in
     subst (Fits budget) (sym e) (record { same = f.same; fits = let k = m.fits f.fits in omega (arith, g, k) })
-changed_fits budget old new r p f (Walked m before next a q t) = step_keeps (Fits budget) (fits_kept budget) m before next old new a f t
+changed_fits budget old new r p f (Walked m before next a q t) = step_keeps (Fits budget) m (fits_kept budget m) before next old new a f t
 
 -- ---- a run
 

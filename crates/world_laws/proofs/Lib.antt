@@ -24,3 +24,8 @@ pub mod DebuggingOneWay
 pub mod StepsOneWay
 pub mod Unfaulted
 pub mod OneWay
+pub mod Telling
+pub mod Stopping
+pub mod Calm
+pub mod StepsOfTwo
+pub mod Turned

@@ -24,16 +24,16 @@ use Rattle.world_laws.proofs.StoreChanges.{IsQuiet, Tells, StoreChange, Unchange
 
 -- ---- what each access and the closing of scopes keep, a step keeps
 
-pub record Kept (Holds : StoreState → Type 0) : Type 0 where
-  pub touched : (who : ℕ) (before after : StoreState) (n : ℕ) (op : Op) (r : Reach) → Holds before → Touches who before n op r after → Holds after
-  pub closed : (who : ℕ) (before : StoreState) → Holds before → Holds (with_window before who [])
+pub record Kept (who : ℕ) (Holds : StoreState → Type 0) : Type 0 where
+  pub touched : (before after : StoreState) (n : ℕ) (op : Op) (r : Reach) → Holds before → Touches who before n op r after → Holds after
+  pub closed : (before : StoreState) → Holds before → Holds (with_window before who [])
 
-pub step_keeps : (Holds : StoreState → Type 0) → Kept Holds → (who : ℕ) (old new : MachineState) (before after : StoreState) (a : Stepped)
+pub step_keeps : (Holds : StoreState → Type 0) (who : ℕ) → Kept who Holds → (old new : MachineState) (before after : StoreState) (a : Stepped)
     → Holds before → TableStep (store_memory who) old before a new after → Holds after
-step_keeps Holds k who old new before after a h t =
+step_keeps Holds who k old new before after a h t =
     (step_carries true (store_memory who) (store_memory who) (λ (s : StoreState). s) Holds (record {
-      reached = λ x y n op r b _ g. (g, k.touched who x y n op r b g);
-      closed = λ x y b g. (g, subst Holds (sym g) (k.closed who x b));
+      reached = λ x y n op r b _ g. (g, k.touched x y n op r b g);
+      closed = λ x y b g. (g, subst Holds (sym g) (k.closed x b));
       measured = λ x n. refl;
     }) old new before after a h refl t).1
 
@@ -61,19 +61,19 @@ touch_unmoved places count who before after n op reach.Away u h = subst (λ (s :
 touch_unmoved places count who before after n op reach.Outside u h = subst (λ (s : StoreState). Unmoved places count s) (sym h.1) u
 touch_unmoved places count who before after n op _ u h = absurd h
 
-unmoved_kept : (places : List Place) (count : ℕ) → Kept (Unmoved places count)
-unmoved_kept places count = record {
-  touched = λ who x y n op r u h. touch_unmoved places count who x y n op r u h;
-  closed = λ who x u. record { same = u.same; length_is = u.length_is };
+unmoved_kept : (places : List Place) (count who : ℕ) → Kept who (Unmoved places count)
+unmoved_kept places count who = record {
+  touched = λ x y n op r u h. touch_unmoved places count who x y n op r u h;
+  closed = λ x u. record { same = u.same; length_is = u.length_is };
 }
 
 pub step_places : (who : ℕ) (old new : MachineState) (before after : StoreState) (a : Stepped) → TableStep (store_memory who) old before a new after → after.places ≡ before.places
 step_places who old new before after a t =
-    (step_keeps (Unmoved before.places (length before.objects)) (unmoved_kept before.places (length before.objects)) who old new before after a (record { same = refl; length_is = refl }) t).same
+    (step_keeps (Unmoved before.places (length before.objects)) who (unmoved_kept before.places (length before.objects) who) old new before after a (record { same = refl; length_is = refl }) t).same
 
 step_count : (who : ℕ) (old new : MachineState) (before after : StoreState) (a : Stepped) → TableStep (store_memory who) old before a new after → length after.objects ≡ length before.objects
 step_count who old new before after a t =
-    (step_keeps (Unmoved before.places (length before.objects)) (unmoved_kept before.places (length before.objects)) who old new before after a (record { same = refl; length_is = refl }) t).length_is
+    (step_keeps (Unmoved before.places (length before.objects)) who (unmoved_kept before.places (length before.objects) who) old new before after a (record { same = refl; length_is = refl }) t).length_is
 
 -- a new object is here
 pub at_end : (places : List Place) (k : ℕ) → place_of (places ++ Here ∷ []) k ≡ place_of places k

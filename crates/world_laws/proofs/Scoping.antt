@@ -82,10 +82,10 @@ touch_here who before after n op reach.Away f h = subst HasScopesHere (sym h.2) 
 touch_here who before after n op reach.Outside f h = subst HasScopesHere (sym h.1) f
 touch_here who before after n op _ f h = absurd h
 
-here_kept : Kept HasScopesHere
-here_kept = record {
-  touched = λ who x y n op r f h. touch_here who x y n op r f h;
-  closed = λ who x f k c. f k (let g = fewer x.windows who k [] (weight_none k (window_of x.windows who)) in omega (arith, g, c));
+here_kept : (who : ℕ) → Kept who HasScopesHere
+here_kept who = record {
+  touched = λ x y n op r f h. touch_here who x y n op r f h;
+  closed = λ x f k c. f k (let g = fewer x.windows who k [] (weight_none k (window_of x.windows who)) in omega (arith, g, c));
 }
 
 -- what isn't in scope isn't asked for
@@ -100,7 +100,7 @@ changed_here old new r f (Filled n bytes faults q l z e) = subst HasScopesHere (
 changed_here old new r f (Placed n a b faults q m e) =
     subst HasScopesHere (sym e) (λ k c. moved_here (nat_eq k n) old.places n k b refl
     (λ i. let s = subst (λ (j : ℕ). IsScoped old j) i c in m.unscoped (sym m.stands.1 ∙ f n s) s) (f k c))
-changed_here old new r f (Walked m before after a q t) = step_keeps HasScopesHere here_kept m before after old new a f t
+changed_here old new r f (Walked m before after a q t) = step_keeps HasScopesHere m (here_kept m) before after old new a f t
 
 -- ---- a run
 

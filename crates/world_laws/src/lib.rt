@@ -4,7 +4,10 @@
 mod places;
 mod replies;
 
-pub use places::{budget_holds, moves_change_no_byte, places_are_read, scopes_stay, waits_exactly};
+pub use places::{
+    budget_holds, moves_change_no_byte, places_are_read, scopes_stay, steps_change_places,
+    steps_tell_what_they_write, stopped_machines_are_calm, waits_exactly,
+};
 pub use replies::{
     answers_one_way, debugging_changes_debug_state_alone, faults_change_one_place,
     gets_what_was_put, machines_stay, numbers_count_up, objects_stay, others_stay, puts_stay_apart,

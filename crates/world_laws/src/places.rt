@@ -1,7 +1,7 @@
 //! Where objects are, and how machines step over them.
 
 ghost use Rattle.world_laws.specs.Moves.{PlacesAreRead, MovesChangeNoByte, BudgetHolds, ScopesStay};
-ghost use Rattle.world_laws.specs.Stepping.{WaitsExactly};
+ghost use Rattle.world_laws.specs.Stepping.{WaitsExactly, StoppedMachinesAreCalm, StepsTellWhatTheyWrite, StepsChangePlaces};
 
 /// A step waits exactly where its object isn't here.
 pub fn waits_exactly()
@@ -26,4 +26,19 @@ pub fn budget_holds()
 /// An object that a machine has in scope is here.
 pub fn scopes_stay()
     ensures { ScopesStay }
+{}
+
+/// A machine that is stopped isn't paused, and has no object in scope.
+pub fn stopped_machines_are_calm()
+    ensures { StoppedMachinesAreCalm }
+{}
+
+/// A step writes one object at most, and of it the range at most that it tells.
+pub fn steps_tell_what_they_write()
+    ensures { StepsTellWhatTheyWrite }
+{}
+
+/// Steps of two machines that come to no common object may change places.
+pub fn steps_change_places()
+    ensures { StepsChangePlaces }
 {}
