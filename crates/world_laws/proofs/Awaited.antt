@@ -30,7 +30,8 @@ use Rattle.world.specs.Steps.{Way, Steps, AnswersStep, debugged, holds_back, rep
 use Rattle.world.specs.Steps.Way.{ByStep, ByOne}
 use Rattle.world.specs.Answers.{Answers}
 use Rattle.world_laws.specs.Stepping.{stepping, Awaits, WaitsExactly}
-use Rattle.world_laws.proofs.Numbered.{found_once, found_none, set_found}
+use Rattle.world.proofs.Numbered.{with_same}
+use Rattle.world_laws.proofs.Machines.{found_once, found_none}
 use Rattle.world_laws.proofs.Answered.{StepAnswer, NoMachine, Pause, TableRow, parted}
 
 -- ---- a store is determined
@@ -142,7 +143,7 @@ there way old new m k n h =
     let machines : new.machines ≡ old.machines =
     h.changed ∙ ap (λ (x : MachineState). with_machine old.machines m (record { machine = x; debugger = debugged way h.answer h.debuggee.debugger })) w.0
     ∙ ap (λ (x : DebugState). with_machine old.machines m (record { machine = h.debuggee.machine; debugger = x })) debugger
-    ∙ set_found old.machines m h.debuggee h.found in (
+    ∙ with_same old.machines m h.debuggee h.found in (
       t.number,
       record { debuggee = h.debuggee; found = h.found; goes = h.goes; instr = w.1.0; attempts = w.1.3; op = w.1.1; access = w.1.4; inside = b.inside; abroad = b.away },
       ap (λ (x : List Debuggee). record { machines = x; store = new.store }) machines ∙ ap (λ (x : StoreState). record { machines = old.machines; store = x }) b.same,

@@ -27,7 +27,7 @@ use Rattle.world_laws.specs.Moves.{MovesObject}
 use Rattle.world_laws.specs.Stepping.{IsCalm, StoppedMachinesAreCalm}
 use Rattle.world_laws.proofs.StoreChanges.{run_keeps}
 use Rattle.world_laws.proofs.Moving.{moves_change_no_byte}
-use Rattle.world_laws.proofs.Numbered.{not_zero, found_once, found_set, found_other}
+use Rattle.world_laws.proofs.Machines.{not_zero, found_once, found_set, other_number}
 use Rattle.world_laws.proofs.Answered.{StepAnswer, NoMachine, Pause, TableRow, parted}
 use Rattle.world_laws.proofs.Stopping.{ends_stopped, other_window}
 
@@ -97,7 +97,7 @@ set_cases true xs m k x e d t f h =
     inl (record { number = same; same = found_once (machine_at (with_machine xs m e) m) d e (subst (λ i. machine_at (with_machine xs m e) i ≡ Some d) same h) (found_set xs m x e f) })
 set_cases false xs m k x e d t f h =
     let other : k ≢ m = grind (arith, nat_tests) in
-    inr (record { number = other; found = sym (found_other xs m k e (not_zero xs m x f) other) ∙ h })
+    inr (record { number = other; found = sym (other_number xs m k e (not_zero xs m x f) other) ∙ h })
 
 -- the one that is set is calm where it is stopped, and the others keep their windows
 by_cases : (old new : WorldState) (m k : ℕ) (e d : Debuggee) (s : Stop) → ((t : Stop) → e.machine.stop ≡ Some t → IsCalm new m e) → ((j : ℕ) → j ≢ m → window_of new.store.windows j ≡ window_of old.store.windows j)

@@ -15,7 +15,6 @@ pub mod Placed
 pub mod Moving
 pub mod Budgeted
 pub mod Scoping
-pub mod Numbered
 pub mod Answered
 pub mod Awaited
 pub mod ObjectsOneWay

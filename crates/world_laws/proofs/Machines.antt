@@ -16,18 +16,6 @@ found_none o d a b = absurd (cc)
 
 -- ---- written back
 
-set_same : (xs : List Debuggee) (n : ℕ) (x : Debuggee) → slice_get xs n ≡ Some x → slice_set xs n x ≡ xs
-set_same [] n x e = refl
-set_same (y ∷ ys) zero x e = let f : y ≡ x = cc in ap (λ (z : Debuggee). z ∷ ys) (sym f)
-set_same (y ∷ ys) (suc n) x e = ap (λ (l : List Debuggee). y ∷ l) (set_same ys n x e)
-
--- what was found changes nothing when it is written
-pub with_same : (ms : List Debuggee) (m : ℕ) (d : Debuggee) → machine_at ms m ≡ Some d → with_machine ms m d ≡ ms
-with_same ms zero d e = absurd (cc)
-with_same ms (suc n) d e =
-    let i : suc n - 1 ≡ n = omega arith in
-    subst (λ k. slice_set ms k d ≡ ms) (sym i) (set_same ms n d e)
-
 map_same : {B : Type 0} (f : Debuggee → B) (xs : List Debuggee) (n : ℕ) (x y : Debuggee) → slice_get xs n ≡ Some x → f y ≡ f x → map f (slice_set xs n y) ≡ map f xs
 map_same f [] n x y e h = refl
 map_same f (z ∷ zs) zero x y e h = let g : z ≡ x = cc in rw (g, h) refl
@@ -49,7 +37,8 @@ other_place (y ∷ ys) zero (suc k) x h = refl
 other_place (y ∷ ys) (suc n) zero x h = refl
 other_place (y ∷ ys) (suc n) (suc k) x h = other_place ys n k x (λ e. h (ap suc e))
 
-other_number : (ms : List Debuggee) (m k : ℕ) (d : Debuggee) → m ≢ 0 → k ≢ m → machine_at (with_machine ms m d) k ≡ machine_at ms k
+-- any number but that
+pub other_number : (ms : List Debuggee) (m k : ℕ) (d : Debuggee) → m ≢ 0 → k ≢ m → machine_at (with_machine ms m d) k ≡ machine_at ms k
 other_number ms m zero d z h = refl
 other_number ms zero (suc k) d z h = absurd (z refl)
 other_number ms (suc m) (suc k) d z h =
@@ -58,3 +47,27 @@ other_number ms (suc m) (suc k) d z h =
 
 pub other_machine : (ms : List Debuggee) (m k : ℕ) (x y : Debuggee) → machine_at ms m ≡ Some x → k ≢ m → machine_at (with_machine ms m y) k ≡ machine_at ms k
 other_machine ms m k x y e h = other_number ms m k y (not_zero ms m x e) h
+
+-- ---- what was written
+
+-- the machine itself
+set_place : (xs : List Debuggee) (n : ℕ) (d e : Debuggee) → slice_get xs n ≡ Some d → slice_get (slice_set xs n e) n ≡ Some e
+set_place [] n d e h = absurd (cc)
+set_place (x ∷ xs) zero d e h = refl
+set_place (x ∷ xs) (suc n) d e h = set_place xs n d e h
+
+pub found_set : (xs : List Debuggee) (m : ℕ) (d e : Debuggee) → machine_at xs m ≡ Some d → machine_at (with_machine xs m e) m ≡ Some e
+found_set xs zero d e h = absurd (cc)
+found_set xs (suc n) d e h = let i : suc n - 1 ≡ n = omega arith in subst (λ k. slice_get (slice_set xs k e) n ≡ Some e) (sym i) (set_place xs n d e h)
+
+-- two that were set
+places_swap : (xs : List Debuggee) (n k : ℕ) (x y : Debuggee) → n ≢ k → slice_set (slice_set xs n x) k y ≡ slice_set (slice_set xs k y) n x
+places_swap [] n k x y h = refl
+places_swap (z ∷ zs) zero zero x y h = absurd (h refl)
+places_swap (z ∷ zs) zero (suc k) x y h = refl
+places_swap (z ∷ zs) (suc n) zero x y h = refl
+places_swap (z ∷ zs) (suc n) (suc k) x y h = ap (λ (l : List Debuggee). z ∷ l) (places_swap zs n k x y (λ e. h (ap suc e)))
+
+pub machines_swap : (xs : List Debuggee) (m k : ℕ) (x y : Debuggee) → m ≢ 0 → k ≢ 0 → m ≢ k
+    → with_machine (with_machine xs m x) k y ≡ with_machine (with_machine xs k y) m x
+machines_swap xs m k x y a b h = places_swap xs (m - 1) (k - 1) x y (λ e. h (omega (arith, a, b, e)))

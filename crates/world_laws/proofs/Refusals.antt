@@ -21,7 +21,7 @@ use Rattle.world.specs.Steps.Way.{ByStep, ByOne}
 use Rattle.world.specs.Debugging.{Debugs}
 use Rattle.world.specs.Answers.{AnswersMove, reply_to_move}
 use Rattle.world_laws.specs.Replies.{is_refusal, RefusalsChangeNothing}
-use Rattle.world_laws.proofs.Machines.{with_same}
+use Rattle.world.proofs.Numbered.{with_same}
 use Rattle.world_laws.proofs.Replying.{Misses, Waits, step_replies, step_cases}
 
 in_store : (old new : WorldState) → new.store ≡ old.store → new ≡ record old { store = new.store } → new ≡ old

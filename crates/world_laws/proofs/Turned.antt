@@ -13,7 +13,7 @@ use Rattle.world.specs.Steps.{Way, Steps, Pauses, AnswersStep, debugged}
 use Rattle.world.specs.Steps.Way.{ByStep, ByOne}
 use Rattle.world.specs.Answers.{Answers}
 use Rattle.world_laws.specs.Stepping.{stepping, Comes, StepsChangePlaces}
-use Rattle.world_laws.proofs.Numbered.{not_zero, found_other, machines_swap}
+use Rattle.world_laws.proofs.Machines.{not_zero, other_number, machines_swap}
 use Rattle.world_laws.proofs.Answered.{Lacks, Halts, StepAnswer, NoMachine, Pause, TableRow, parted, stepped_so, lacking, halting}
 use Rattle.world_laws.proofs.StepsOfTwo.{store_steps_commute}
 
@@ -114,7 +114,7 @@ local_case way m r old new before after (TableRow h) = local_row way m r old new
 
 put_other : (xs : List Debuggee) (m k : ℕ) (p : Option Debuggee) → IfPut p (m ≢ 0) → k ≢ m → machine_at (put_in xs m p) k ≡ machine_at xs k
 put_other xs m k None z d = refl
-put_other xs m k (Some e) z d = found_other xs m k e z d
+put_other xs m k (Some e) z d = other_number xs m k e z d
 
 puts_swap : (xs : List Debuggee) (m k : ℕ) (p q : Option Debuggee) → IfPut p (m ≢ 0) → IfPut q (k ≢ 0) → m ≢ k → put_in (put_in xs m p) k q ≡ put_in (put_in xs k q) m p
 puts_swap xs m k None None y z d = refl

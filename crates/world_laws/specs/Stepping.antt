@@ -56,6 +56,7 @@ pub record IsCalm (w : WorldState) (m : ℕ) (d : Debuggee) : Type 0 where
   pub unpaused : d.debugger.paused ≡ false
   pub unscoped : window_of w.store.windows m ≡ []
 
+-- So is every machine that is stopped, in each run from the start.
 abbrev pub StoppedMachinesAreCalm : Type 0
 StoppedMachinesAreCalm = (budget faults : ℕ) (commands : List Command) (replies : List Reply) (new : WorldState) → Runs Answers (world_start budget faults) commands replies new
     → (m : ℕ) (d : Debuggee) (s : Stop) → machine_at new.machines m ≡ Some d → d.machine.stop ≡ Some s → IsCalm new m d
