@@ -40,13 +40,15 @@ FitsWord out Local = out ≡ false
 FitsWord out Moving = Unit {0}
 FitsWord out WordFar = out ≡ true
 
--- An object as it is always kept. The mark that it is clean says that its parcel stands for its bytes as they are. What
--- was freed keeps no parcel.
-pub record IsKept {P : Type 0} (stands_for : P → List ℕ) (word : WordRecord) (count : ℕ) (bytes : List ℕ) (parcel : Option P) (out clean : Bool) : Type 0 where
+-- An object as it is always kept, and for how many bytes memory is taken here. The mark that it is clean says that its
+-- parcel stands for its bytes as they are. What is out takes no memory, and what was freed takes none and keeps no parcel.
+pub record IsKept {P : Type 0} (stands_for : P → List ℕ) (word : WordRecord) (count : ℕ) (bytes : List ℕ) (memory : ℕ) (parcel : Option P) (out clean : Bool) : Type 0 where
   pub fits : FitsWord out word.place
   pub no_turn : word.turn ≡ false
   pub length_is : length (contents stands_for out bytes parcel) ≡ count
   pub freed : count ≡ 0 → is_some parcel ≡ false
+  pub gone : count ≡ 0 → memory ≡ 0
+  pub away : out ≡ true → memory ≡ 0
   pub sent_out : out ≡ true → is_some parcel ≡ true
   pub kept_clean : clean ≡ true → is_some parcel ≡ true
   pub same_clean : clean ≡ true → sent stands_for parcel ≡ contents stands_for out bytes parcel

@@ -1,5 +1,5 @@
 //! What is kept of one object: its word, its bytes, and the parcel that stands for them in the far store.
-ghost use Rattle.std.specs.Prelude.{◌≡◌, ◌<◌, ◌≤◌, ◌+◌, ◌-◌, [], true, false, is_some, replicate, length, IfOk, OnOk, OnErr, take, drop};
+ghost use Rattle.std.specs.Prelude.{◌≡◌, ◌<◌, ◌≤◌, ◌+◌, ◌-◌, [], true, false, is_some, replicate, length, IfOk, OnOk, OnErr, take, drop, vec_capacity};
 ghost use Rattle.memory.specs.Access.{IsInside, answer, after, replaced};
 ghost use Rattle.object_store.specs.Stores.{HasRisen};
 ghost use Rattle.object_store.specs.Calls.{FailsToReturn};
@@ -19,7 +19,8 @@ use std::mem;
 ///
 /// Its parcel stays with it after it has come back, and the mark that it is clean says that the parcel still stands for
 /// its bytes: then it leaves again without being sent. An access that can write takes the mark away. Over a store that
-/// doesn't promise to return what was put the mark is never set (this project's choice).
+/// doesn't promise to return what was put the mark is never set (this project's choice). What is out takes no memory for
+/// bytes here.
 #[derive(Drop)]
 pub struct Body<F: FarStore> {
     word: Word,
@@ -34,13 +35,14 @@ pub struct Body<F: FarStore> {
 }
 
 impl<F: FarStore> Model for Body<F> {
+    ghost use Rattle.std.specs.Prelude.{vec_capacity};
     ghost use Rattle.object_store.specs.Bodies.{Kept, IsKept, contents, place_by};
 
     ghost Value = { Kept };
 
     ghost view = { λ b. record { bytes = contents F.bytes_in b.out b.bytes.items b.parcel; place = place_by b.out b.word.place; scopes = b.word.count } };
 
-    ghost invariant = { λ b. IsKept F.bytes_in b.word b.length b.bytes.items b.parcel b.out b.clean };
+    ghost invariant = { λ b. IsKept F.bytes_in b.word b.length b.bytes.items (vec_capacity b.bytes) b.parcel b.out b.clean };
 }
 
 /// Lets go of a parcel, if there is one.
@@ -61,6 +63,7 @@ fn send<F: FarStore>(
     bytes: &mut Vec<u8>,
 ) -> Result<(), StoreFault>
     ensures sent { OnOk result ((is_some parcel.new ≡ true) × (sent F.bytes_in parcel.new ≡ bytes.old.items)) }
+    ensures gone { OnOk result (vec_capacity bytes.new ≡ 0) }
     ensures back { OnErr result (bytes.new.items ≡ bytes.old.items) }
     ensures faults { OnOk result (F.faults_of store.old ≤ F.faults_of store.new) }
     ensures fault { OnErr result (HasRisen (F.faults_of store.old) (F.faults_of store.new)) }
@@ -107,11 +110,19 @@ impl<F: FarStore> Body<F> {
     pub fn none(alloc: Global) -> Self
         ensures { result ≡ record { bytes = []; place = place.Here; scopes = 0 } }
     {
-        Body::with_bytes(Vec::new(alloc))
+        Body {
+            word: Word::new(),
+            length: 0,
+            bytes: Vec::new(alloc),
+            parcel: None,
+            out: false,
+            clean: false,
+        }
     }
 
     /// An object of these bytes.
     pub fn with_bytes(bytes: Vec<u8>) -> Self
+        requires { 0 < length bytes.items }
         ensures { result ≡ record { bytes = bytes.items; place = place.Here; scopes = 0 } }
     {
         Body {
