@@ -1,6 +1,6 @@
 //! A store that fails once, for tests.
-ghost use Rattle.std.specs.Prelude.{◌≡◌, ◌+◌, true, false};
-ghost use Rattle.far_store.specs.Stores.{capped};
+ghost use Rattle.std.specs.Prelude.{◌≡◌, ◌≢◌, ◌+◌, ◌-◌, nat_eq, true, false, IfOk, IfErr, OnOk, OnErr, IsErr};
+ghost use Rattle.far_store.specs.Stores.{capped, Rises};
 
 use crate::fault::StoreFault;
 use crate::store::FarStore;
@@ -28,6 +28,8 @@ impl<S: FarStore> Failing<S> {
 
     /// Whether this call of `put` or `get` is the one that fails.
     fn fails_now(&mut self) -> bool
+        ensures now { result ≡ nat_eq self.old.left 1 }
+        ensures left { self.new.left ≡ self.old.left - 1 }
         ensures store { self.new.store ≡ self.old.store }
         ensures calm { result ≡ false → self.new.refused ≡ self.old.refused }
         ensures refused { result ≡ true → self.new.refused ≡ capped (self.old.refused + 1) }
@@ -52,14 +54,29 @@ impl<S: FarStore + Drop> FarStore for Failing<S> {
 
     ghost faults_of = { λ f. capped (S.faults_of f.store + f.refused) };
 
-    fn put(&mut self, bytes: Vec<u8>) -> Result<S::Parcel, (StoreFault, Vec<u8>)> {
+    fn put(&mut self, bytes: Vec<u8>) -> Result<S::Parcel, (StoreFault, Vec<u8>)>
+        ensures parcel { IfOk result (λ p. S.bytes_in p ≡ bytes.items) }
+        ensures calm { OnOk result (capped (S.faults_of self.new.store + self.new.refused) ≡ capped (S.faults_of self.old.store + self.old.refused)) }
+        ensures back { IfErr result (λ e. e.1.items ≡ bytes.items) }
+        ensures fault { OnErr result (Rises (capped (S.faults_of self.old.store + self.old.refused)) (capped (S.faults_of self.new.store + self.new.refused))) }
+        ensures fails { self.old.left ≡ 1 → IsErr result }
+        ensures once { self.old.left ≢ 1 → self.new.refused ≡ self.old.refused }
+        ensures left { self.new.left ≡ self.old.left - 1 }
+    {
         if self.fails_now() {
             return Err((StoreFault::Refused, bytes));
         }
         self.store.put(bytes)
     }
 
-    fn get(&mut self, parcel: &S::Parcel) -> Result<Vec<u8>, StoreFault> {
+    fn get(&mut self, parcel: &S::Parcel) -> Result<Vec<u8>, StoreFault>
+        ensures bytes { IfOk result (λ v. S.RETURNS ≡ true → v.items ≡ S.bytes_in parcel.now) }
+        ensures calm { OnOk result (capped (S.faults_of self.new.store + self.new.refused) ≡ capped (S.faults_of self.old.store + self.old.refused)) }
+        ensures fault { OnErr result (Rises (capped (S.faults_of self.old.store + self.old.refused)) (capped (S.faults_of self.new.store + self.new.refused))) }
+        ensures fails { self.old.left ≡ 1 → IsErr result }
+        ensures once { self.old.left ≢ 1 → self.new.refused ≡ self.old.refused }
+        ensures left { self.new.left ≡ self.old.left - 1 }
+    {
         if self.fails_now() {
             return Err(StoreFault::Refused);
         }
