@@ -141,7 +141,7 @@ none_sized (suc k) = omega arith
 objects_first : AreObjects ([] ∷ [])
 objects_first = record { none_at_zero = refl; place_of_zero = omega arith; limit = omega arith; sizes = λ k. none_sized k }
 
-pub first_store : (bodies : List Kept) (windows : List (List ℕ)) (budget : ℕ) → bodies ≡ record { bytes = []; place = Here; scopes = 0 } ∷ [] → windows ≡ replicate 49 [] → IsKeptStore bodies windows budget budget
+pub first_store : (bodies : List Kept) (windows : List (List ℕ)) (budget : ℕ) → bodies ≡ record { bytes = []; place = Here; scopes = 0; clean = false } ∷ [] → windows ≡ replicate 49 [] → IsKeptStore bodies windows budget budget
 first_store bodies windows budget b w = rw (b, w) (record {
   objects = objects_first;
   counts = counts_at_first (replicate 49 []) (λ k. none_held 49 k);

@@ -5,6 +5,8 @@ use Rattle.pointer_word.specs.declared.word.Place.TheVariants.{Local, Moving, Fa
 use Rattle.pointer_word.specs.Words.{WordRecord}
 use Rattle.object_store.specs.declared.places.Place.{Place}
 use Rattle.object_store.specs.declared.places.Place.TheVariants.{Here, Leaving, Far, Returning}
+use Rattle.memory.specs.declared.access.Action.{Action}
+use Rattle.memory.specs.declared.access.Action.TheVariants.{Load}
 use Rattle.memory.specs.Objects.{AreObjects, bytes_of, with_bytes}
 use Rattle.object_store.specs.Stores.{holders, near_bytes}
 
@@ -17,6 +19,8 @@ pub record Kept : Type 0 where
   pub place : Place
   -- how many windows hold it
   pub scopes : ℕ
+  -- its parcel stands for its bytes, so that it need not be sent again
+  pub clean : Bool
 
 -- for which bytes a parcel stands
 abbrev pub sent : {P : Type 0} → (P → List ℕ) → Option P → List ℕ
@@ -53,10 +57,15 @@ pub record IsKept {P : Type 0} (stands_for : P → List ℕ) (word : WordRecord)
   pub kept_clean : clean ≡ true → is_some parcel ≡ true
   pub same_clean : clean ≡ true → sent stands_for parcel ≡ contents stands_for out bytes parcel
 
--- What it is once its bytes came back: the same, or, where the store doesn't promise that, as many.
+-- what an access leaves of the mark that it is clean
+abbrev pub clean_after : Action → Bool → Bool
+clean_after (Load size) clean = clean
+clean_after _ clean = false
+
+-- What it is once its bytes came back: the same, and clean, or, where the store doesn't promise that, as many.
 abbrev pub ReturnsTo : Bool → Kept → Kept → Type 0
-ReturnsTo true old new = new ≡ record old { place = Here }
-ReturnsTo false old new = (length new.bytes ≡ length old.bytes) × (new ≡ record old { bytes = new.bytes; place = Here })
+ReturnsTo true old new = new ≡ record old { place = Here; clean = true }
+ReturnsTo false old new = (length new.bytes ≡ length old.bytes) × (new ≡ record old { bytes = new.bytes; place = Here; clean = false })
 
 -- its bytes, its place, and its count
 abbrev pub bytes_in : Kept → List ℕ

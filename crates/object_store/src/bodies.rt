@@ -1,9 +1,9 @@
 //! What is kept of one object: its word, its bytes, and the parcel that stands for them in the far store.
-ghost use Rattle.std.specs.Prelude.{◌≡◌, ◌<◌, ◌≤◌, ◌+◌, ◌-◌, [], true, false, is_some, replicate, length, IfOk, OnOk, OnErr, take, drop, vec_capacity};
+ghost use Rattle.std.specs.Prelude.{◌≡◌, ◌<◌, ◌≤◌, ◌+◌, ◌-◌, [], true, false, is_some, replicate, length, IfOk, OnOk, OnErr, IsOk, take, drop, vec_capacity};
 ghost use Rattle.memory.specs.Access.{IsInside, answer, after, replaced};
 ghost use Rattle.object_store.specs.Stores.{HasRisen};
 ghost use Rattle.object_store.specs.Calls.{FailsToReturn};
-ghost use Rattle.object_store.specs.Bodies.{sent, ReturnsTo};
+ghost use Rattle.object_store.specs.Bodies.{sent, clean_after, ReturnsTo};
 ghost use Rattle.object_store.specs.declared.places.Place.TheVariants as place;
 
 use crate::places::Place;
@@ -15,7 +15,7 @@ use std::alloc::{AllocError, Global};
 use std::marker::Model;
 use std::mem;
 
-/// One object. It is seen as its bytes, wherever they are, its place, and how many windows hold it.
+/// One object. It is seen as its bytes, wherever they are, its place, how many windows hold it, and whether it is clean.
 ///
 /// Its parcel stays with it after it has come back, and the mark that it is clean says that the parcel still stands for
 /// its bytes: then it leaves again without being sent. An access that can write takes the mark away. Over a store that
@@ -40,7 +40,7 @@ impl<F: FarStore> Model for Body<F> {
 
     ghost Value = { Kept };
 
-    ghost view = { λ b. record { bytes = contents F.bytes_in b.out b.bytes.items b.parcel; place = place_by b.out b.word.place; scopes = b.word.count } };
+    ghost view = { λ b. record { bytes = contents F.bytes_in b.out b.bytes.items b.parcel; place = place_by b.out b.word.place; scopes = b.word.count; clean = b.clean } };
 
     ghost invariant = { λ b. IsKept F.bytes_in b.word b.length b.bytes.items (vec_capacity b.bytes) b.parcel b.out b.clean };
 }
@@ -108,7 +108,7 @@ fn fetch<F: FarStore>(
 impl<F: FarStore> Body<F> {
     /// No object.
     pub fn none(alloc: Global) -> Self
-        ensures { result ≡ record { bytes = []; place = place.Here; scopes = 0 } }
+        ensures { result ≡ record { bytes = []; place = place.Here; scopes = 0; clean = false } }
     {
         Body {
             word: Word::new(),
@@ -123,7 +123,7 @@ impl<F: FarStore> Body<F> {
     /// An object of these bytes.
     pub fn with_bytes(bytes: Vec<u8>) -> Self
         requires { 0 < length bytes.items }
-        ensures { result ≡ record { bytes = bytes.items; place = place.Here; scopes = 0 } }
+        ensures { result ≡ record { bytes = bytes.items; place = place.Here; scopes = 0; clean = false } }
     {
         Body {
             word: Word::new(),
@@ -174,7 +174,7 @@ impl<F: FarStore> Body<F> {
         requires here { self.old.place ≡ place.Here }
         requires inside { IsInside op.now (length self.old.bytes) }
         ensures answer { result ≡ answer op.now self.old.bytes }
-        ensures new { self.new ≡ record self.old { bytes = after op.now self.old.bytes } }
+        ensures new { self.new ≡ record self.old { bytes = after op.now self.old.bytes; clean = clean_after op.now.action self.old.clean } }
     {
         // A compare-exchange can write, whatever it finds.
         self.clean = self.clean && matches!(&op.action, Action::Load { .. });
@@ -194,7 +194,7 @@ impl<F: FarStore> Body<F> {
     pub fn write(&mut self, offset: usize, bytes: &[u8])
         requires here { self.old.place ≡ place.Here }
         requires inside { offset + length bytes.now ≤ length self.old.bytes }
-        ensures { self.new ≡ record self.old { bytes = replaced offset bytes.now self.old.bytes } }
+        ensures { self.new ≡ record self.old { bytes = replaced offset bytes.now self.old.bytes; clean = false } }
     {
         self.clean = false;
         overwrite(self.bytes.as_mut_slice(), offset, bytes);
@@ -219,7 +219,7 @@ impl<F: FarStore> Body<F> {
     /// It is no object any more.
     pub fn free(&mut self, alloc: Global, store: &mut F)
         requires here { self.old.place ≡ place.Here }
-        ensures new { self.new ≡ record self.old { bytes = [] } }
+        ensures new { self.new ≡ record self.old { bytes = []; clean = false } }
         ensures faults { F.faults_of store.old ≤ F.faults_of store.new }
     {
         forget_kept(store, &mut self.parcel);
@@ -242,6 +242,7 @@ impl<F: FarStore> Body<F> {
         requires leaving { self.old.place ≡ place.Leaving }
         requires live { 0 < length self.old.bytes }
         ensures done { OnOk result (self.new ≡ record self.old { place = place.Far }) }
+        ensures kept { self.old.clean ≡ true → IsOk result × (store.new ≡ store.old) }
         ensures failed { OnErr result (self.new ≡ record self.old { place = place.Here }) }
         ensures faults { OnOk result (F.faults_of store.old ≤ F.faults_of store.new) }
         ensures fault { OnErr result (HasRisen (F.faults_of store.old) (F.faults_of store.new)) }
