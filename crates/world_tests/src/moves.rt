@@ -12,7 +12,7 @@ use world::{Event, Place, Reply, World};
 /// `aadd [r1], r2`
 const ADD: u64 = 0xdb21_0000_0000_0000;
 
-/// `ldxb r1, [r1]`; other registers have other upper halves.
+/// `ldxb r0, [r1]`
 const LOAD: u64 = 0x7110_0000_0000_0000;
 
 /// `call 4`, which closes the machine's scopes.
