@@ -1,12 +1,12 @@
 -- The three answers to a step: there is no such machine, it is paused, or it makes a step of the table.
-use Rattle.std.proofs.Common.{◌≡◌, ℕ, Bool, true, false, cond, List, None, refl, sym, ap, ◌∙◌, subst}
+use Rattle.std.proofs.Common.{◌≡◌, ℕ, Bool, true, false, cond, List, None, refl, sym, ap, subst}
 use Rattle.memory.specs.Memories.{Memories}
 use Rattle.machine.specs.declared.state.Stepped.{Stepped}
 use Rattle.machine.specs.declared.state.Stepped.TheVariants as stepped
 use Rattle.debugger.specs.DebugState.{DebugState, hits}
 use Rattle.world.specs.declared.debuggee.Debuggee.{Debuggee}
 use Rattle.world.specs.declared.events.Reply.{Reply}
-use Rattle.world.specs.declared.events.Reply.TheVariants.{Ran, Hit, Waiting, Stopped, Missing, Paused}
+use Rattle.world.specs.declared.events.Reply.TheVariants.{Ran, Hit, Missing, Paused}
 use Rattle.world.specs.WorldState.{machine_at}
 use Rattle.world.specs.Steps.{Way, Steps, Pauses, AnswersStep, reply_to_step}
 

@@ -1,5 +1,5 @@
 -- A step waits exactly where its object isn't here.
-use Rattle.std.proofs.Common.{◌≡◌, ◌≢◌, ℕ, nat_eq, Bool, true, false, cond, List, Option, Some, None, refl, sym, ap, ◌∙◌, subst}
+use Rattle.std.proofs.Common.{◌≡◌, ◌≢◌, ℕ, nat_eq, Bool, true, false, cond, List, refl, sym, ap, ◌∙◌, subst}
 use Rattle.isa_table.specs.declared.instr.Instr.{Instr}
 use Rattle.memory.specs.declared.access.Op.{Op}
 use Rattle.memory.specs.declared.access.Reach.{Reach}
@@ -12,7 +12,7 @@ use Rattle.machine.specs.declared.state.Stepped.TheVariants as stepped
 use Rattle.machine.specs.declared.state.Work.{Work}
 use Rattle.machine.specs.declared.state.Work.TheVariants.{Computes, Accesses, Measures}
 use Rattle.machine.specs.MachineState.{MachineState, own_stack}
-use Rattle.machine.specs.Rows.{Request, MemoryAnswer, Outcome, asks, asks_for, told, told_for, waits, work_of}
+use Rattle.machine.specs.Rows.{Request, Outcome, asks, asks_for, told_for, waits, work_of}
 use Rattle.machine.specs.Rows.Request.{Nothing, Touch}
 use Rattle.machine.specs.Rows.MemoryAnswer.{Reached}
 use Rattle.machine.specs.TableStep as table
@@ -24,12 +24,11 @@ use Rattle.machine.proofs.Stopping.{waits_in_place}
 use Rattle.debugger.specs.DebugState.{DebugState, hits}
 use Rattle.world.specs.declared.debuggee.Debuggee.{Debuggee}
 use Rattle.world.specs.declared.events.Reply.{Reply}
-use Rattle.world.specs.declared.events.Reply.TheVariants.{Ran, Hit, Waiting, Stopped, Missing, Paused}
+use Rattle.world.specs.declared.events.Reply.TheVariants.{Ran, Hit, Waiting}
 use Rattle.world.specs.WorldState.{WorldState, machine_at, with_machine}
 use Rattle.world.specs.Steps.{Way, Steps, AnswersStep, debugged, holds_back, reply_to_step}
 use Rattle.world.specs.Steps.Way.{ByStep, ByOne}
-use Rattle.world.specs.Answers.{Answers}
-use Rattle.world_laws.specs.Stepping.{stepping, Awaits, WaitsExactly}
+use Rattle.world_laws.specs.Stepping.{Awaits, WaitsExactly}
 use Rattle.world.proofs.Numbered.{with_same}
 use Rattle.world_laws.proofs.Machines.{found_once, found_none}
 use Rattle.world_laws.proofs.Answered.{StepAnswer, NoMachine, Pause, TableRow, parted}

@@ -1,5 +1,5 @@
 -- What isn't far fits into the budget.
-use Rattle.std.proofs.Common.{◌≡◌, ◌+◌, ◌≤◌, ◌<◌, ℕ, zero, suc, List, [], ◌∷◌, ◌++◌, length, replicate, get_or, set, refl, sym, ap, ◌∙◌, subst, arith}
+use Rattle.std.proofs.Common.{◌≡◌, ◌≤◌, ℕ, zero, suc, List, [], ◌∷◌, length, replicate, refl, sym, subst, arith}
 use Rattle.std.proofs.lemmas.List.{length-replicate}
 use Rattle.memory.specs.declared.access.Op.{Op}
 use Rattle.memory.specs.declared.access.Reach.{Reach}
@@ -9,7 +9,7 @@ use Rattle.memory.specs.Access.{after}
 use Rattle.memory.proofs.Lengths.{length-after}
 use Rattle.object_store.specs.declared.places.Place.{Place}
 use Rattle.object_store.specs.declared.places.Place.TheVariants.{Here, Leaving, Far, Returning}
-use Rattle.object_store.specs.Stores.{StoreState, Touches, place_of, near_length, near_bytes}
+use Rattle.object_store.specs.Stores.{StoreState, Touches, near_length, near_bytes}
 use Rattle.object_store.proofs.Keeping.{near_placed, near_made}
 use Rattle.world.specs.declared.events.Reply.{Reply}
 use Rattle.world.specs.Commands.{Command}

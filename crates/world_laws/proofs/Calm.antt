@@ -1,10 +1,9 @@
 -- Machines that are stopped are calm.
-use Rattle.std.proofs.Common.{◌≡◌, ◌≢◌, ℕ, zero, suc, nat_eq, Bool, true, false, cond, ◌&&◌, List, [], ◌∷◌, ◌++◌, Option, Some, None, Result, Ok, Err, refl, sym, ap, ◌∙◌, subst, ◌⊎◌, inl, inr, arith}
-use Rattle.std.specs.Prelude.{slice_get, is_none}
+use Rattle.std.proofs.Common.{◌≡◌, ◌≢◌, ℕ, zero, suc, nat_eq, Bool, true, false, cond, List, [], ◌∷◌, ◌++◌, Some, None, refl, sym, ap, ◌∙◌, subst, ◌⊎◌, inl, inr, arith}
+use Rattle.std.specs.Prelude.{slice_get}
 use Rattle.std.proofs.lemmas.Bool.Decides.{nat_tests}
 use Rattle.object_store.specs.declared.places.Moved.{Moved}
 use Rattle.object_store.specs.declared.places.Moved.TheVariants as moved
-use Rattle.object_store.specs.declared.places.Place.TheVariants.{Here}
 use Rattle.object_store.specs.Stores.{StoreState, store_memory, window_of}
 use Rattle.object_store.specs.Calls.{Frees}
 use Rattle.machine.specs.declared.state.Stop.{Stop}
@@ -132,8 +131,8 @@ row_calm : (way : Way) (old new : WorldState) (m : ℕ) (r : Reply) → Steps (s
 row_calm way old new m r h c =
     one_calm old new m h.debuggee (record { machine = h.machine; debugger = debugged way h.answer h.debuggee.debugger }) h.found h.changed
     (λ t e.
-      let g = ends_stopped m h.debuggee.machine h.machine old.store new.store h.answer t h.step e (λ u f. (c m h.debuggee u h.found f).unscoped) in
-      record { unpaused = ap (λ (a : Stepped). (debugged way a h.debuggee.debugger).paused) g.answer ∙ stopped_unpaused way g.stop h.debuggee.debugger; unscoped = g.window })
+    let g = ends_stopped m h.debuggee.machine h.machine old.store new.store h.answer t h.step e (λ u f. (c m h.debuggee u h.found f).unscoped) in
+    record { unpaused = ap (λ (a : Stepped). (debugged way a h.debuggee.debugger).paused) g.answer ∙ stopped_unpaused way g.stop h.debuggee.debugger; unscoped = g.window })
     (λ j d. other_window m j h.debuggee.machine h.machine old.store new.store h.answer d h.step) c
 
 step_calm : (way : Way) (old new : WorldState) (m : ℕ) (r : Reply) → StepAnswer (store_memory m) way old.machines old.store m r new.machines new.store → AllCalm old → AllCalm new
@@ -155,8 +154,8 @@ debug_calm changes old new m k h e c =
     let store : new.store ≡ old.store = ap (λ (w : WorldState). w.store) e in
     one_calm old new m h.debuggee (record h.debuggee { debugger = h.debugger }) h.found h.changed
     (λ t f.
-      let g = c m h.debuggee t h.found f in
-      record { unpaused = k h.debuggee.machine h.debuggee.debugger h.debugger h.change g.unpaused; unscoped = ap (λ (x : StoreState). window_of x.windows m) store ∙ g.unscoped })
+    let g = c m h.debuggee t h.found f in
+    record { unpaused = k h.debuggee.machine h.debuggee.debugger h.debugger h.change g.unpaused; unscoped = ap (λ (x : StoreState). window_of x.windows m) store ∙ g.unscoped })
     (λ j d. ap (λ (x : StoreState). window_of x.windows j) store) c
 
 missing_calm : (old new : WorldState) → new.machines ≡ old.machines → new ≡ record old { machines = new.machines } → AllCalm old → AllCalm new

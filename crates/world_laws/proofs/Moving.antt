@@ -1,5 +1,5 @@
 -- Moves change where an object is, and nothing else.
-use Rattle.std.proofs.Common.{◌≡◌, ◌≢◌, ◌≤◌, ℕ, true, set, refl, sym, ap, subst, arith, ◌∙◌}
+use Rattle.std.proofs.Common.{◌≡◌, ◌≢◌, ℕ, true, refl, sym, ap, subst}
 use Rattle.std.proofs.lemmas.List.{get_or-set_other}
 use Rattle.object_store.specs.declared.places.Place.{Place}
 use Rattle.object_store.specs.declared.places.Place.TheVariants.{Here, Leaving, Far, Returning}
@@ -7,12 +7,9 @@ use Rattle.object_store.specs.declared.places.Moved.{Moved}
 use Rattle.object_store.specs.declared.places.Moved.TheVariants as moved
 use Rattle.object_store.specs.Stores.{StoreState, place_of, with_place}
 use Rattle.object_store.specs.Calls.{Refuses, BeginsLeave, EndsLeave, BeginsReturn, EndsReturn}
-use Rattle.world.specs.declared.events.Reply.{Reply}
-use Rattle.world.specs.Commands.{Command}
 use Rattle.world.specs.Commands.Command.{Leave, Left, Return, Returned}
 use Rattle.world.specs.WorldState.{WorldState}
-use Rattle.world.specs.Answers.{Answers}
-use Rattle.world_laws.specs.Moves.{MovesObject, MovesOnly, MovesChangeNoByte}
+use Rattle.world_laws.specs.Moves.{MovesOnly, MovesChangeNoByte}
 
 record StoreMoves (old : StoreState) (n : ℕ) (new : StoreState) : Type 0 where
   same : new ≡ record old { places = new.places; faults = new.faults }

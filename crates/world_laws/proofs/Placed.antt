@@ -1,5 +1,5 @@
 -- The replies tell where each object is.
-use Rattle.std.proofs.Common.{◌≡◌, ◌≢◌, ◌<◌, ℕ, zero, suc, nat_eq, Bool, true, false, cond, List, [], ◌∷◌, ◌++◌, length, length-append, length-set, replicate, ◌+◌, set, get_or, refl, sym, ap, ◌∙◌, subst, arith}
+use Rattle.std.proofs.Common.{◌≡◌, ◌≢◌, ◌<◌, ℕ, zero, suc, nat_eq, Bool, true, false, cond, List, [], ◌∷◌, ◌++◌, length, length-append, length-set, replicate, ◌+◌, set, refl, sym, ap, ◌∙◌, subst, arith}
 use Rattle.std.proofs.lemmas.List.{get_or-set_same, get_or-set_other}
 use Rattle.std.proofs.lemmas.Bool.Decides.{nat_tests}
 use Rattle.memory.specs.declared.access.Op.{Op}
@@ -20,7 +20,7 @@ use Rattle.world.specs.WorldState.{WorldState, world_start}
 use Rattle.world.specs.Answers.{Answers}
 use Rattle.world.specs.Places.{placed, place_from}
 use Rattle.world_laws.specs.Moves.{PlacesAreRead}
-use Rattle.world_laws.proofs.StoreChanges.{IsQuiet, Tells, StoreChange, Unchanged, Grown, Filled, Placed, Walked, store_changes}
+use Rattle.world_laws.proofs.StoreChanges.{StoreChange, Unchanged, Grown, Filled, Placed, Walked, store_changes}
 
 -- ---- what each access and the closing of scopes keep, a step keeps
 

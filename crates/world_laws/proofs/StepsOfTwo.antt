@@ -217,8 +217,8 @@ turned m k q r a c b d x y z e p h f g i =
     record {
       second = here;
       first = says_stays x (acted k r c d x) q a (acted_places k r c d x)
-      (λ n op j. ap (λ (o : List (List ℕ)). bytes_of o n) (acted_objects k r c d x) ∙ effect_bytes k r c x n (λ other l. p n op other j l))
-      (λ n. ap (λ (o : List (List ℕ)). length (bytes_of o n)) (acted_objects k r c d x) ∙ effect_lengths k r c x n here) h;
+          (λ n op j. ap (λ (o : List (List ℕ)). bytes_of o n) (acted_objects k r c d x) ∙ effect_bytes k r c x n (λ other l. p n op other j l))
+          (λ n. ap (λ (o : List (List ℕ)). length (bytes_of o n)) (acted_objects k r c d x) ∙ effect_lengths k r c x n here) h;
       ends = i ∙ (ap (acted k r c d) f ∙ acted_commute m k q r a c b d x e p);
     }
 

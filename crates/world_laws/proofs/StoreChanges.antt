@@ -1,6 +1,6 @@
 -- What a command does to the store: one of five changes.
-use Rattle.std.proofs.Common.{◌≡◌, ◌+◌, ◌<◌, ◌≤◌, ℕ, zero, suc, nat_eq, Bool, true, false, cond, List, [], ◌∷◌, ◌++◌, length, replicate, refl, sym, ap, ◌∙◌, subst, arith}
-use Rattle.memory.specs.Objects.{IsLive, HasRange, bytes_of, with_bytes}
+use Rattle.std.proofs.Common.{◌≡◌, ◌+◌, ◌≤◌, ℕ, nat_eq, Bool, true, false, cond, List, [], ◌∷◌, ◌++◌, length, replicate, refl, sym, ap, subst, arith}
+use Rattle.memory.specs.Objects.{IsLive, bytes_of, with_bytes}
 use Rattle.memory.specs.Access.{replaced}
 use Rattle.memory.proofs.Lengths.{length-replaced}
 use Rattle.object_store.specs.declared.places.Place.{Place}
@@ -66,9 +66,6 @@ freed old new n moved.Done h = Filled n [] new.faults (λ k p. refl) h.0.0 (omeg
 freed old new n moved.Scoped h = Unchanged (λ k p. refl) h.2
 freed old new n m h = refused place.Here old new n m (reply.Freed n) place.Here h
 
-left_place : {P : Type 0} → place.Leaving ≡ place.Here → P
-left_place e = absurd (cc)
-
 begun_leave : (old new : StoreState) (n : ℕ) (m : Moved) → BeginsLeave old n m new → StoreChange old (reply_to_move (reply.Leaving n) place.Here n m) new
 begun_leave old new n moved.Done h = Placed n place.Here place.Leaving old.faults (λ k p. refl) (record { stands = h.0; fits = λ g. omega (arith, g); unscoped = λ e. h.1 }) h.2
 begun_leave old new n moved.Scoped h = Unchanged (λ k p. refl) h.2
@@ -111,9 +108,6 @@ by_step way old new m (reply.Paused k slot) h = Unchanged (λ k p. refl) h.1.sam
 by_step way old new m r h = Walked m h.debuggee.machine h.machine h.answer (subst IsQuiet (sym h.told) (quiet_step m h.machine.slot h.answer h.debuggee.debugger)) h.step
 
 -- ---- commands
-
-quietly : (old new : StoreState) (r : Reply) → IsQuiet r → new ≡ old → StoreChange old r new
-quietly old new r q e = Unchanged q e
 
 same_store : (old new : WorldState) → new ≡ old → new.store ≡ old.store
 same_store old new e = ap (λ (w : WorldState). w.store) e

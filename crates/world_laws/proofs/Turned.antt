@@ -9,7 +9,7 @@ use Rattle.debugger.specs.Steps as debugging
 use Rattle.world.specs.declared.debuggee.Debuggee.{Debuggee}
 use Rattle.world.specs.declared.events.Reply.{Reply}
 use Rattle.world.specs.WorldState.{WorldState, machine_at, with_machine}
-use Rattle.world.specs.Steps.{Way, Steps, Pauses, AnswersStep, debugged}
+use Rattle.world.specs.Steps.{Way, Steps, AnswersStep, debugged}
 use Rattle.world.specs.Steps.Way.{ByStep, ByOne}
 use Rattle.world.specs.Answers.{Answers}
 use Rattle.world_laws.specs.Stepping.{stepping, Comes, StepsChangePlaces}
@@ -151,9 +151,9 @@ turned : (old mid new : WorldState) (v w : Way) (m k : ℕ) (a b : Reply) → m 
 turned old mid new v w m k a b d apart g h =
     let there : machine_at mid.machines k ≡ machine_at old.machines k = ap (λ (xs : List Debuggee). machine_at xs k) g.changed ∙ put_other old.machines m k g.put g.number (λ e. d (sym e)) in
     let o = does_turned m k g.kind h.kind old.store mid.store new.store d (λ n s t.
-      let x = g.goes n s in
-      let y = h.goes n t in
-      apart n (record { debuggee = x.debuggee; found = x.found; touches = x.touches }) (record { debuggee = y.debuggee; found = sym there ∙ y.found; touches = y.touches })) g.does h.does in
+    let x = g.goes n s in
+    let y = h.goes n t in
+    apart n (record { debuggee = x.debuggee; found = x.found; touches = x.touches }) (record { debuggee = y.debuggee; found = sym there ∙ y.found; touches = y.touches })) g.does h.does in
     let side : WorldState = record { machines = put_in old.machines k h.put; store = o.0 } in
     let machines : new.machines ≡ put_in side.machines m g.put =
     h.changed ∙ ap (λ (xs : List Debuggee). put_in xs k h.put) g.changed ∙ puts_swap old.machines m k g.put h.put g.number h.number d in
@@ -161,7 +161,7 @@ turned old mid new v w m k a b d apart g h =
       side = side;
       second = h.again old.machines old.store o.0 (sym there) o.1;
       first = subst (λ (xs : List Debuggee). AnswersStep (store_memory m) v side.machines o.0 m a xs new.store) (sym machines)
-      (g.again side.machines o.0 new.store (put_other old.machines k m h.put h.number d) o.2);
+          (g.again side.machines o.0 new.store (put_other old.machines k m h.put h.number d) o.2);
     }
 
 pub steps_change_places : StepsChangePlaces
