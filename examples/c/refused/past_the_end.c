@@ -1,4 +1,4 @@
-// A place behind the object's last byte.
+// A place past the object's last byte.
 // run 0x100000000: stopped 1 outside
 #include "../bpfagent.h"
 
