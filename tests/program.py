@@ -66,7 +66,7 @@ def show_statuses(program):
     for arguments in (["--help"], ["-h"], ["run", "--help"], ["check", "--help"]):
         status, output, errors = call(program, arguments)
         want((status, errors) == (0, b"") and b"Usage: bpfagent" in output, f"{arguments} ended with {status}, {output}, {errors}")
-    for arguments in ([], ["help"], ["serve"], ["run", "check"], ["run", "--budget", "8"], ["check", "x"], [b"\xff"]):
+    for arguments in ([], ["help"], ["serve"], ["run", "check"], ["run", "--budget", "67108865"], ["check", "x"], [b"\xff"]):
         status, output, errors = call(program, arguments, b"step 1\n")
         want((status, output) == (2, b"") and errors.startswith(b"error: ") and errors.endswith(b"\n"), f"{arguments} ended with {status}, {output}, {errors}")
 

@@ -3,8 +3,8 @@
 
 Where an allocation of `run` fails before the first line, the program ends with `no memory` and status 3, and nothing is
 replied. Where a later one fails, one command is answered `nomem`, or `kept n fault far` where it is `returned`, and the
-conversation goes on as if the command hadn't come: the other replies are those of the same commands without it. This is
-tried on each conversation of the worked examples. `check`, `asm` and `dis` end with `no memory`, and no output.
+conversation goes on as if the command hadn't come: the other replies are those of the same commands without it, or with
+an object that returned and left again. This is tried on each conversation of the worked examples. `check`, `asm` and `dis` end with `no memory`, and no output.
 
 `refused_run` does a list of commands in one call: where an allocation fails there is no reply, and the world is as before.
 
@@ -68,13 +68,10 @@ class Failing:
         return status, output.decode().splitlines(), errors
 
 
-def without(lines, replies, k):
-    """The lines that were done where line k was refused: the others, but for a return that never ended."""
-    gone = {k}
-    if replies[k] != "nomem":
-        number = lines[k].split()[1]
-        gone.add(max(j for j in range(k) if replies[j] == f"returning {number}"))
-    return [j for j in range(len(lines)) if j not in gone]
+def in_place_of(line, reply):
+    """What leaves the same state as a refused command does: nothing, or a return that is taken back."""
+    number = line.split()[1]
+    return [] if reply == "nomem" else [f"returned {number}", f"leave {number}", f"left {number}"]
 
 
 def is_refusal(line, reply):
@@ -95,10 +92,12 @@ def one_failure(failing, arguments, lines, whole, at):
         if replies != whole:
             raise Failed(f"allocation {at}: other replies without a refusal")
         return "without an effect"
-    kept = without(lines, replies, refused[0])
-    if [replies[k] for k in kept] != failing.talk(arguments, [lines[k] for k in kept])[1]:
-        raise Failed(f"allocation {at}: after {lines[refused[0]][:40]} the run didn't go on as if it hadn't come")
-    return lines[refused[0]].split()[0]
+    k = refused[0]
+    instead = in_place_of(lines[k], replies[k])
+    others = failing.talk(arguments, lines[:k] + instead + lines[k + 1 :])[1]
+    if replies[:k] + replies[k + 1 :] != others[:k] + others[k + len(instead) :]:
+        raise Failed(f"allocation {at}: after {lines[k][:40]} the run didn't go on as if it hadn't come")
+    return lines[k].split()[0]
 
 
 def refused_growth(failing, arguments, talk):
