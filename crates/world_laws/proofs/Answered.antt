@@ -1,5 +1,5 @@
 -- The three answers to a step: there is no such machine, it is paused, or it makes a step of the table.
-use Rattle.std.proofs.Common.{◌≡◌, ℕ, Bool, true, false, cond, List, None, refl, sym, ap, subst}
+use Rattle.std.proofs.Common.{◌≡◌, ℕ, Bool, true, false, cond, List, refl, sym, ap, subst}
 use Rattle.memory.specs.Memories.{Memories}
 use Rattle.machine.specs.declared.state.Stepped.{Stepped}
 use Rattle.machine.specs.declared.state.Stepped.TheVariants as stepped
@@ -7,28 +7,17 @@ use Rattle.debugger.specs.DebugState.{DebugState, hits}
 use Rattle.world.specs.declared.debuggee.Debuggee.{Debuggee}
 use Rattle.world.specs.declared.events.Reply.{Reply}
 use Rattle.world.specs.declared.events.Reply.TheVariants.{Ran, Hit, Missing, Paused}
-use Rattle.world.specs.WorldState.{machine_at}
-use Rattle.world.specs.Steps.{Way, Steps, Pauses, AnswersStep, reply_to_step}
-
-pub record Lacks {S : Type 0} (old : List Debuggee) (before : S) (m : ℕ) (r : Reply) (new : List Debuggee) (after : S) : Type 0 where
-  pub told : r ≡ Missing
-  pub none : machine_at old m ≡ None
-  pub same : new ≡ old
-  pub store : after ≡ before
-
-pub record Halts {S : Type 0} (way : Way) (old : List Debuggee) (before : S) (m : ℕ) (r : Reply) (new : List Debuggee) (after : S) : Type 0 where
-  pub slot : ℕ
-  pub told : r ≡ Paused m slot
-  pub pauses : Pauses way old before m slot new after
+use Rattle.world.specs.Steps.{Way, Steps, AnswersStep, reply_to_step}
+use Rattle.world_laws.proofs.Replying.{Misses, Halts}
 
 pub data StepAnswer {S : Type 0} (memory : Memories S) (way : Way) (old : List Debuggee) (before : S) (m : ℕ) (r : Reply) (new : List Debuggee) (after : S) : Type 0 where
-  NoMachine : Lacks old before m r new after → StepAnswer memory way old before m r new after
+  NoMachine : Misses old before m r new after → StepAnswer memory way old before m r new after
   Pause : Halts way old before m r new after → StepAnswer memory way old before m r new after
   TableRow : Steps memory way old before m r new after → StepAnswer memory way old before m r new after
 
 pub parted : {S : Type 0} (memory : Memories S) (way : Way) (old : List Debuggee) (before : S) (m : ℕ) (r : Reply) (new : List Debuggee) (after : S)
     → AnswersStep memory way old before m r new after → StepAnswer memory way old before m r new after
-parted memory way old before m Missing new after h = NoMachine (record { told = refl; none = h.0; same = h.1; store = h.2 })
+parted memory way old before m Missing new after h = NoMachine (record { told = refl; missing = h.0; changed = h.1; same = h.2 })
 parted memory way old before m (Paused k slot) new after h = Pause (record { slot = slot; told = ap (λ i. Paused i slot) h.0; pauses = h.1 })
 parted memory way old before m r new after h = TableRow h
 
@@ -56,8 +45,8 @@ stepped_so memory way old before m (Paused k slot) new after h = never_paused k 
 stepped_so memory way old before m r new after h = h
 
 pub lacking : {S : Type 0} (memory : Memories S) (way : Way) (old : List Debuggee) (before : S) (m : ℕ) (r : Reply) (new : List Debuggee) (after : S)
-    → Lacks old before m r new after → AnswersStep memory way old before m r new after
-lacking memory way old before m r new after h = subst (λ (x : Reply). AnswersStep memory way old before m x new after) (sym h.told) (h.none, h.same, h.store)
+    → Misses old before m r new after → AnswersStep memory way old before m r new after
+lacking memory way old before m r new after h = subst (λ (x : Reply). AnswersStep memory way old before m x new after) (sym h.told) (h.missing, h.changed, h.same)
 
 pub halting : {S : Type 0} (memory : Memories S) (way : Way) (old : List Debuggee) (before : S) (m : ℕ) (r : Reply) (new : List Debuggee) (after : S)
     → Halts way old before m r new after → AnswersStep memory way old before m r new after

@@ -91,7 +91,7 @@ held_goes : {P : Type 0} (way : Way) (d e : Debuggee) → d ≡ e → holds_back
 held_goes way d e s p q = let g = rw s at p in absurd (cc)
 
 back : (way : Way) (old new : WorldState) (m n : ℕ) (r : Reply) → Awaits way old m n → StepAnswer (store_memory m) way old.machines old.store m r new.machines new.store → r ≡ Waiting m n
-back way old new m n r w (NoMachine h) = found_none (machine_at old.machines m) w.debuggee h.none w.found
+back way old new m n r w (NoMachine h) = found_none (machine_at old.machines m) w.debuggee h.missing w.found
 back way old new m n r w (Pause h) =
     held_goes way h.pauses.debuggee w.debuggee (found_once (machine_at old.machines m) h.pauses.debuggee w.debuggee h.pauses.found w.found) h.pauses.held w.goes
 back way old new m n r w (TableRow h) =

@@ -136,7 +136,7 @@ row_calm way old new m r h c =
     (λ j d. other_window m j h.debuggee.machine h.machine old.store new.store h.answer d h.step) c
 
 step_calm : (way : Way) (old new : WorldState) (m : ℕ) (r : Reply) → StepAnswer (store_memory m) way old.machines old.store m r new.machines new.store → AllCalm old → AllCalm new
-step_calm way old new m r (NoMachine h) c = calm_same old new h.same (ap (λ (x : StoreState). x.windows) h.store) c
+step_calm way old new m r (NoMachine h) c = calm_same old new h.changed (ap (λ (x : StoreState). x.windows) h.same) c
 step_calm way old new m r (Pause h) c = pause_calm way old new m h.slot h.pauses c
 step_calm way old new m r (TableRow h) c = row_calm way old new m r h c
 

@@ -26,7 +26,7 @@ use Rattle.world.specs.Steps.{Way, Steps, AnswersStep, reply_to_step}
 use Rattle.world.specs.Steps.Way.{ByStep, ByOne}
 use Rattle.world.specs.Answers.{Answers, reply_to_move}
 use Rattle.world_laws.specs.Replies.{steps, is_on_objects, made_numbers, counted_from, NumbersCountUp}
-use Rattle.world_laws.proofs.Replying.{Misses, Waits, step_cases, step_replies, move_replies}
+use Rattle.world_laws.proofs.Replying.{Misses, Halts, step_cases, step_replies, move_replies}
 use Rattle.world_laws.proofs.Apart.{objects_stay}
 
 abbrev count : StoreState → ℕ
@@ -55,7 +55,7 @@ carries_count who k = record {
 }
 
 case_counts : (m : ℕ) (way : Way) (old new : List Debuggee) (before after : StoreState) (reply : Reply)
-    → Misses old before m reply new after ⊎ Waits way old before m reply new after ⊎ Steps (store_memory m) way old before m reply new after → count after ≡ count before
+    → Misses old before m reply new after ⊎ Halts way old before m reply new after ⊎ Steps (store_memory m) way old before m reply new after → count after ≡ count before
 case_counts m way old new before after reply (inl d) = ap count d.same
 case_counts m way old new before after reply (inr (inl d)) = ap count d.pauses.same
 case_counts m way old new before after reply (inr (inr d)) =

@@ -11,10 +11,10 @@ use Rattle.world.specs.Steps.{Way, Steps, AnswersStep}
 use Rattle.world.specs.Steps.Way.{ByStep, ByOne}
 use Rattle.world_laws.specs.Replies.{OthersStay}
 use Rattle.world_laws.proofs.Machines.{other_machine}
-use Rattle.world_laws.proofs.Replying.{Misses, Waits, step_cases}
+use Rattle.world_laws.proofs.Replying.{Misses, Halts, step_cases}
 
 case_stays : {S : Type 0} (memory : Memories S) (way : Way) (old new : List Debuggee) (before after : S) (m k : ℕ) (reply : Reply)
-    → Misses old before m reply new after ⊎ Waits way old before m reply new after ⊎ Steps memory way old before m reply new after
+    → Misses old before m reply new after ⊎ Halts way old before m reply new after ⊎ Steps memory way old before m reply new after
     → k ≢ m → machine_at new k ≡ machine_at old k
 case_stays memory way old new before after m k reply (inl d) n = ap (λ (ms : List Debuggee). machine_at ms k) d.changed
 case_stays memory way old new before after m k reply (inr (inl d)) n =

@@ -22,7 +22,7 @@ use Rattle.world.specs.Debugging.{Debugs}
 use Rattle.world.specs.Answers.{AnswersMove, reply_to_move}
 use Rattle.world_laws.specs.Replies.{is_refusal, RefusalsChangeNothing}
 use Rattle.world.proofs.Numbered.{with_same}
-use Rattle.world_laws.proofs.Replying.{Misses, Waits, step_replies, step_cases}
+use Rattle.world_laws.proofs.Replying.{Misses, Halts, step_replies, step_cases}
 
 in_store : (old new : WorldState) → new.store ≡ old.store → new ≡ record old { store = new.store } → new ≡ old
 in_store old new e h = h ∙ ap (λ (s : StoreState). record old { store = s }) e
@@ -94,7 +94,7 @@ move_keeps moves told back old new n reply k d h t =
 -- ---- steps and debugging
 
 abbrev StepCases : ℕ → Way → WorldState → Reply → WorldState → Type 0
-StepCases m way old reply new = Misses old.machines old.store m reply new.machines new.store ⊎ Waits way old.machines old.store m reply new.machines new.store
+StepCases m way old reply new = Misses old.machines old.store m reply new.machines new.store ⊎ Halts way old.machines old.store m reply new.machines new.store
     ⊎ Steps (store_memory m) way old.machines old.store m reply new.machines new.store
 
 no_refusal : (m : ℕ) (a : Stepped) (slot : ℕ) (d : DebugState) → is_refusal (reply_to_step m a slot d) ≡ false

@@ -34,7 +34,8 @@ pub record Misses {S : Type 0} (old : List Debuggee) (before : S) (m : ℕ) (rep
   pub changed : new ≡ old
   pub same : after ≡ before
 
-pub record Waits {S : Type 0} (way : Way) (old : List Debuggee) (before : S) (m : ℕ) (reply : Reply) (new : List Debuggee) (after : S) : Type 0 where
+-- the machine is paused
+pub record Halts {S : Type 0} (way : Way) (old : List Debuggee) (before : S) (m : ℕ) (reply : Reply) (new : List Debuggee) (after : S) : Type 0 where
   pub slot : ℕ
   pub told : reply ≡ Paused m slot
   pub pauses : Pauses way old before m slot new after
@@ -42,7 +43,7 @@ pub record Waits {S : Type 0} (way : Way) (old : List Debuggee) (before : S) (m 
 -- the three answers to a step
 pub step_cases : {S : Type 0} (memory : Memories S) (way : Way) (old : List Debuggee) (before : S) (m : ℕ) (reply : Reply) (new : List Debuggee) (after : S)
     → AnswersStep memory way old before m reply new after
-    → Misses old before m reply new after ⊎ Waits way old before m reply new after ⊎ Steps memory way old before m reply new after
+    → Misses old before m reply new after ⊎ Halts way old before m reply new after ⊎ Steps memory way old before m reply new after
 step_cases memory way old before m Missing new after h = inl (record { told = refl; missing = h.0; changed = h.1; same = h.2 })
 step_cases memory way old before m (Paused k slot) new after h = inr (inl (record { slot = slot; told = ap (λ n. Paused n slot) h.0; pauses = h.1 }))
 step_cases memory way old before m _ new after h = inr (inr h)

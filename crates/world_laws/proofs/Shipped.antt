@@ -18,7 +18,7 @@ use Rattle.world.specs.Answers.{Answers}
 use Rattle.world_laws.specs.Replies.{machine_in, debugs, is_on_objects, is_showing, shipped_codes, code_of, RunsWhatWasShipped}
 use Rattle.world_laws.proofs.KeptCode.{step_keeps_code}
 use Rattle.world_laws.proofs.Machines.{with_map}
-use Rattle.world_laws.proofs.Replying.{Misses, Waits, step_cases}
+use Rattle.world_laws.proofs.Replying.{Misses, Halts, step_cases}
 use Rattle.world_laws.proofs.Debugged.{debugging_keeps}
 use Rattle.world_laws.proofs.Apart.{machines_stay}
 use Rattle.world_laws.proofs.Showing.{showing_keeps}
@@ -35,7 +35,7 @@ unchanged old new e = e ∙ sym (append-nil (codes old.machines))
 -- ---- steps
 
 case_codes : (m : ℕ) (way : Way) (old new : List Debuggee) (before after : StoreState) (reply : Reply)
-    → Misses old before m reply new after ⊎ Waits way old before m reply new after ⊎ Steps (store_memory m) way old before m reply new after → codes new ≡ codes old
+    → Misses old before m reply new after ⊎ Halts way old before m reply new after ⊎ Steps (store_memory m) way old before m reply new after → codes new ≡ codes old
 case_codes m way old new before after reply (inl d) = ap codes d.changed
 case_codes m way old new before after reply (inr (inl d)) =
     ap codes d.pauses.changed ∙ with_map code_of old m d.pauses.debuggee _ d.pauses.found refl

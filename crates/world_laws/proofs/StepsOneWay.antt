@@ -17,7 +17,7 @@ use Rattle.world.specs.declared.events.Reply.TheVariants.{Paused}
 use Rattle.world.specs.WorldState.{machine_at, with_machine}
 use Rattle.world.specs.Steps.{Way, Steps, AnswersStep, holds_back, debugged, reply_to_step}
 use Rattle.world_laws.proofs.Machines.{found_once, found_none}
-use Rattle.world_laws.proofs.Replying.{Misses, Waits, step_cases}
+use Rattle.world_laws.proofs.Replying.{Misses, Halts, step_cases}
 
 -- ---- one access
 
@@ -42,12 +42,12 @@ determined who = record { reached = reached who; closed = λ old a b g h. g ∙ 
 -- ---- one step
 
 abbrev Cases : ℕ → Way → List Debuggee → StoreState → Reply → List Debuggee → StoreState → Type 0
-Cases who way old s reply new t = Misses old s who reply new t ⊎ Waits way old s who reply new t ⊎ Steps (store_memory who) way old s who reply new t
+Cases who way old s reply new t = Misses old s who reply new t ⊎ Halts way old s who reply new t ⊎ Steps (store_memory who) way old s who reply new t
 
 abbrev Same : List Debuggee → List Debuggee → StoreState → StoreState → Reply → Reply → Type 0
 Same new other t u a b = (a ≡ b) × (new ≡ other) × (t ≡ u)
 
-waits_same : (who : ℕ) (way : Way) (old new other : List Debuggee) (s t u : StoreState) (a b : Reply) → Waits way old s who a new t → Waits way old s who b other u → Same new other t u a b
+waits_same : (who : ℕ) (way : Way) (old new other : List Debuggee) (s t u : StoreState) (a b : Reply) → Halts way old s who a new t → Halts way old s who b other u → Same new other t u a b
 waits_same who way old new other s t u a b d e =
     let x = found_once (machine_at old who) d.pauses.debuggee e.pauses.debuggee d.pauses.found e.pauses.found in
     let slot : d.slot ≡ e.slot = d.pauses.slot_is ∙ ap (λ (y : Debuggee). y.machine.slot) x ∙ sym e.pauses.slot_is in (

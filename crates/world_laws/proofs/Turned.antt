@@ -14,7 +14,8 @@ use Rattle.world.specs.Steps.Way.{ByStep, ByOne}
 use Rattle.world.specs.Answers.{Answers}
 use Rattle.world_laws.specs.Stepping.{stepping, Comes, StepsChangePlaces}
 use Rattle.world_laws.proofs.Machines.{not_zero, other_number, machines_swap}
-use Rattle.world_laws.proofs.Answered.{Lacks, Halts, StepAnswer, NoMachine, Pause, TableRow, parted, stepped_so, lacking, halting}
+use Rattle.world_laws.proofs.Replying.{Misses, Halts}
+use Rattle.world_laws.proofs.Answered.{StepAnswer, NoMachine, Pause, TableRow, parted, stepped_so, lacking, halting}
 use Rattle.world_laws.proofs.StepsOfTwo.{store_steps_commute}
 
 -- ---- what a command does to its machine, and to the store
@@ -56,15 +57,15 @@ record Local (way : Way) (m : ℕ) (r : Reply) (old : List Debuggee) (before : S
   -- among any machines, if this one is the same
   again : (xs : List Debuggee) (x y : StoreState) → machine_at xs m ≡ machine_at old m → Does m kind x y → AnswersStep (store_memory m) way xs x m r (put_in xs m put) y
 
-local_none : (way : Way) (m : ℕ) (r : Reply) (old new : List Debuggee) (before after : StoreState) → Lacks old before m r new after → Local way m r old before new after
+local_none : (way : Way) (m : ℕ) (r : Reply) (old new : List Debuggee) (before after : StoreState) → Misses old before m r new after → Local way m r old before new after
 local_none way m r old new before after h = record {
   kind = Idle;
   put = None;
-  does = h.store;
-  changed = h.same;
+  does = h.same;
+  changed = h.changed;
   number = tt;
   goes = λ n e. absurd e;
-  again = λ xs x y e d. lacking (store_memory m) way xs x m r xs y (record { told = h.told; none = e ∙ h.none; same = refl; store = d });
+  again = λ xs x y e d. lacking (store_memory m) way xs x m r xs y (record { told = h.told; missing = e ∙ h.missing; changed = refl; same = d });
 }
 
 local_pause : (way : Way) (m : ℕ) (r : Reply) (old new : List Debuggee) (before after : StoreState) → Halts way old before m r new after → Local way m r old before new after
