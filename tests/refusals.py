@@ -21,7 +21,7 @@ from sources import ROOT
 
 PROGRAM = ROOT / "crates/bpfagent/out/bpfagent"
 RUN = ROOT / "crates/refused_run/out/refused_run"
-SCRIPTS = ["crates/conversations/data/worked.script", "crates/conversations/data/moves.script"]
+SCRIPTS = [f"crates/conversations/data/{name}.script" for name in ("worked", "moves", "debugging", "protocol")]
 MAY_LACK_MEMORY = ("make ", "put ", "get ", "ship ", "stack ", "line ")
 WIDE = bytes.fromhex("18000000ffffffff00000000ffffffff9500000000000000")
 TEXT = b"mov r0, 0\nagain: add r0, 1\njlt r0, 3, again\nexit\n"
