@@ -6,7 +6,7 @@ use Rattle.isa_table.specs.declared.instr.Reg.TheVariants.{R0, R1, R2, R3, R4, R
 use Rattle.asm_table.specs.declared.mnemonic.Mnemonic.{Mnemonic}
 use Rattle.asm_table.specs.declared.mnemonic.Mnemonic.TheVariants.{CallLocal, Exit}
 use Rattle.asm_table.specs.declared.named.TheConstants.{BY_NAME}
-use Rattle.asm_table.specs.declared.register.TheConstants.{REGISTERS}
+use Rattle.isa_table.specs.declared.instr.TheConstants.{REGISTERS}
 use Rattle.asm_table.specs.Mnemonics.{name}
 
 abbrev pub named_in : List Mnemonic → List ℕ → Option Mnemonic

@@ -13,7 +13,7 @@ use Rattle.isa_table.specs.declared.instr.Reg.{Reg}
 use Rattle.isa_table.specs.declared.instr.Reg.TheVariants.{R0}
 use Rattle.bpf_codec.specs.declared.layout.Field.{Field}
 use Rattle.bpf_codec.specs.declared.layout.Field.TheVariants.{Register, Offset, Imm, Wide, Only}
-use Rattle.bpf_codec.specs.declared.building.TheConstants.{REGISTERS}
+use Rattle.isa_table.specs.declared.instr.TheConstants.{REGISTERS}
 use Rattle.bpf_codec.specs.Slots.{number_in, FitsField}
 use Rattle.bpf_codec.specs.Faults.{is_register, may_hold}
 use Rattle.bpf_codec.specs.Decoding.{register}

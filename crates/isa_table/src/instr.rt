@@ -30,6 +30,21 @@ impl Reg {
     }
 }
 
+/// The registers, each at the place of its number.
+pub const REGISTERS: [Reg; 11] = [
+    Reg::R0,
+    Reg::R1,
+    Reg::R2,
+    Reg::R3,
+    Reg::R4,
+    Reg::R5,
+    Reg::R6,
+    Reg::R7,
+    Reg::R8,
+    Reg::R9,
+    Reg::R10,
+];
+
 /// An arithmetic operation with a destination and a second operand, in both widths (RFC 9669, section 4.1). Those that
 /// begin with `S` are signed.
 #[derive(Clone, Copy, Drop, Debug, PartialEq, Eq)]

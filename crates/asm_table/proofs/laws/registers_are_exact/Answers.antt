@@ -1,5 +1,5 @@
 use Rattle.std.proofs.Common.{ap, ◌∙◌}
-use Rattle.asm_table.specs.declared.register.TheConstants.{REGISTERS}
+use Rattle.isa_table.specs.declared.instr.TheConstants.{REGISTERS}
 use Rattle.asm_table.specs.Names.{register_named}
 use Rattle.asm_table.proofs.Lookups.{register_again, register_is}
 use Rattle.asm_table.proofs.laws.registers_are_exact.Goals as goal

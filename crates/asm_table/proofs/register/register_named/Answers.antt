@@ -1,7 +1,7 @@
 use Rattle.std.proofs.Common.{◌≡◌, sym, ◌∙◌, ap, false, get_or}
 use Rattle.std.specs.Str.{bytes_eq}
 use Rattle.isa_table.specs.declared.instr.Reg.TheVariants.{R0}
-use Rattle.asm_table.specs.declared.register.TheConstants.{REGISTERS}
+use Rattle.isa_table.specs.declared.instr.TheConstants.{REGISTERS}
 use Rattle.asm_table.specs.Names.{register_name}
 use Rattle.asm_table.proofs.Searched.{register_next}
 use Rattle.asm_table.proofs.register.register_named.Goals as goal
