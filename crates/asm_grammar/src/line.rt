@@ -1,6 +1,6 @@
 //! What a line says.
 ghost use Rattle.std.specs.Prelude.{◌≡◌, ◌≤◌, ◌∷◌, List, [], option_map, MatchOption, Some, None};
-ghost use Rattle.asm_text.specs.Tokens.{lexemes_left, tokens, lexeme_seen as token_seen};
+ghost use Rattle.asm_text.specs.Tokens.{lexemes_left, tokens, lexeme_seen};
 ghost use Rattle.asm_grammar.specs.Reading.{said, finished, body, line_says, label_of, after_label, has_stray, body_slots, mnemonic_at, after_call};
 ghost use Rattle.asm_grammar.specs.Views.{gathered_seen, look_in, AllBelow, label_seen};
 
@@ -52,7 +52,7 @@ fn read_called<'a>(tokens: &mut Tokens<'a>) -> Mnemonic
 
 /// The mnemonic of which this token is the first.
 fn read_mnemonic<'a>(first: Token<'a>, tokens: &mut Tokens<'a>) -> Option<Mnemonic>
-    ensures { MatchOption result (mnemonic_at (token_seen first.entry ∷ lexemes_left tokens.old) ≡ None) (λ m. mnemonic_at (token_seen first.entry ∷ lexemes_left tokens.old) ≡ Some (m, lexemes_left tokens.new)) }
+    ensures { MatchOption result (mnemonic_at (lexeme_seen first.entry ∷ lexemes_left tokens.old) ≡ None) (λ m. mnemonic_at (lexeme_seen first.entry ∷ lexemes_left tokens.old) ≡ Some (m, lexemes_left tokens.new)) }
 {
     match first {
         Token::Name(word) => match Mnemonic::named(word) {

@@ -48,6 +48,7 @@ text_of (i ∷ is) = line_text i ++ 10 ∷ text_of is
 
 -- ---- the numbers of an instruction are those of its types
 
+-- at least minus the limit, and below the limit
 abbrev pub IsSignedWithin : ℕ → ℤ → Type 0
 IsSignedWithin limit (pos n) = n < limit
 IsSignedWithin limit (negsuc n) = suc n ≤ limit
