@@ -5,6 +5,7 @@ use Rattle.std.proofs.lemmas.Fmt.{decimal_is_IsNumeral, digits_is_IsNumeral}
 use Rattle.std.specs.Fmt.{digits}
 use Rattle.asm_text.specs.Tokens.{Lexeme, tokens, run, is_letter, is_name_byte}
 use Rattle.asm_text.specs.Tokens.Lexeme.{Name, Number, Comma, Open, Close, Plus, Minus}
+use Rattle.asm_text.proofs.Digits.{and_both}
 use Rattle.asm_text.proofs.Spelled.{name_front, number_front, hex_front, comma_front, open_front, close_front, plus_front, minus_front}
 use Rattle.isa_table.specs.declared.instr.Instr.{Instr}
 use Rattle.isa_table.specs.declared.instr.Instr.TheVariants as instr
@@ -101,10 +102,6 @@ is_word : List ℕ → Bool
 is_word [] = false
 is_word (b ∷ bs) = is_letter b && (run is_name_byte bs == length bs)
 
-word_parts : (a b : Bool) → (a && b) ≡ true → (a ≡ true) × (b ≡ true)
-word_parts true b e = (refl, e)
-word_parts false b e = absurd (cc e)
-
 same_number : (a b : ℕ) → (a == b) ≡ true → a ≡ b
 same_number a b e = grind (arith, nat_tests)
 
@@ -112,7 +109,7 @@ word_front : (w rest : List ℕ) → is_word w ≡ true → run is_name_byte res
 unfolding is_word
 word_front [] rest h end = absurd (cc h)
 word_front (b ∷ bs) rest h end =
-    let p = word_parts (is_letter b) (run is_name_byte bs == length bs) h in
+    let p = and_both (is_letter b) (run is_name_byte bs == length bs) h in
     name_front b bs rest p.0 (same_number (run is_name_byte bs) (length bs) p.1) end
 
 has_word : Mnemonic → Bool

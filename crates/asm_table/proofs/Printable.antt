@@ -8,6 +8,7 @@ use Rattle.std.specs.Str.Parse.{AllDigits}
 use Rattle.isa_table.specs.declared.instr.Instr.{Instr}
 use Rattle.isa_table.specs.declared.instr.Reg.{Reg}
 use Rattle.isa_table.specs.declared.instr.Reg.TheVariants.{R0, R1, R2, R3, R4, R5, R6, R7, R8, R9, R10}
+use Rattle.isa_table.proofs.Listed.{and_true}
 use Rattle.asm_table.specs.declared.mnemonic.Mnemonic.{Mnemonic}
 use Rattle.asm_table.specs.declared.mnemonic.Mnemonic.TheVariants as mnemonic
 use Rattle.asm_table.specs.declared.named.TheConstants.{BY_NAME}
@@ -31,14 +32,10 @@ printable (b ∷ bs) = is_plain b && printable bs
 pub both : (a b : Bool) → a ≡ true → b ≡ true → (a && b) ≡ true
 both a b e f = rw (e, f) refl
 
-pub parts : (a b : Bool) → (a && b) ≡ true → (a ≡ true) × (b ≡ true)
-parts true b e = (refl, e)
-parts false b e = absurd (cc e)
-
 pub printable_append : (xs ys : List ℕ) → printable xs ≡ true → printable ys ≡ true → printable (xs ++ ys) ≡ true
 unfolding printable is_plain
 printable_append [] ys h k = k
-printable_append (x ∷ xs) ys h k = let p = parts (is_plain x) (printable xs) h in both (is_plain x) (printable (xs ++ ys)) p.0 (printable_append xs ys p.1 k)
+printable_append (x ∷ xs) ys h k = let p = and_true (is_plain x) (printable xs) h in both (is_plain x) (printable (xs ++ ys)) p.0 (printable_append xs ys p.1 k)
 
 digit_printable : (radix c : ℕ) → radix ≤ 16 → digit_value c < radix → is_plain c ≡ true
 unfolding is_plain

@@ -39,7 +39,7 @@ second (b ∷ bs) = second_at b bs (is_ascii_digit b) refl
 decimal_word : (b : ℕ) (bs : List ℕ) → is_ascii_digit b ≡ true → IsToken (b ∷ take (run is_ascii_digit bs) bs)
 decimal_word b bs d = (omega arith, λ _. (λ x. absurd (let f : true ≡ false = sym x ∙ second bs in cc f), λ _. (omega arith, (decimal_digit b d, run_digits 10 is_ascii_digit decimal_digit bs))))
 
-and_both : (a b : Bool) → (a && b) ≡ true → (a ≡ true) × (b ≡ true)
+pub and_both : (a b : Bool) → (a && b) ≡ true → (a ≡ true) × (b ≡ true)
 and_both true b e = (refl, e)
 and_both false b e = absurd (cc e)
 

@@ -12,7 +12,8 @@ use Rattle.asm_table.specs.Mnemonics.{name, slots_of}
 use Rattle.asm_table.specs.Names.{has_two_words}
 use Rattle.asm_table.specs.Parts.{mnemonic_of, operands_of}
 use Rattle.asm_table.specs.Canonical.{line_text, text_of, FitsParts, AllFitParts, parts_slot_count}
-use Rattle.asm_table.proofs.Printable.{is_plain, printable, parts, printable_line}
+use Rattle.isa_table.proofs.Listed.{and_true}
+use Rattle.asm_table.proofs.Printable.{is_plain, printable, printable_line}
 use Rattle.asm_grammar.specs.declared.written.Sign.TheVariants as sign
 use Rattle.asm_grammar.specs.declared.why.Why.{Why}
 use Rattle.asm_grammar.specs.declared.why.Why.TheVariants as why
@@ -29,7 +30,7 @@ use Rattle.assembler.proofs.Parted.{lines_at}
 
 above : (b : ℕ) → is_plain b ≡ true → 31 < b
 unfolding is_plain
-above b h = let l : nat_lt 31 b ≡ true = (parts (nat_lt 31 b) (nat_lt b 127) h).0 in grind (arith, nat_tests)
+above b h = let l : nat_lt 31 b ≡ true = (and_true (nat_lt 31 b) (nat_lt b 127) h).0 in grind (arith, nat_tests)
 
 no_lf : (b : ℕ) → is_plain b ≡ true → b ≢ 10
 no_lf b h e = absurd (let k = above b h in omega arith)
@@ -37,13 +38,13 @@ no_lf b h e = absurd (let k = above b h in omega arith)
 whole : (bs : List ℕ) → printable bs ≡ true → All (λ b. b ≢ 10) bs
 unfolding printable
 whole [] h = All-nil (λ b. b ≢ 10)
-whole (b ∷ bs) h = let p = parts (is_plain b) (printable bs) h in All-cons (λ b. b ≢ 10) b bs (no_lf b p.0) (whole bs p.1)
+whole (b ∷ bs) h = let p = and_true (is_plain b) (printable bs) h in All-cons (λ b. b ≢ 10) b bs (no_lf b p.0) (whole bs p.1)
 
 no_cr : (bs : List ℕ) (k : ℕ) → printable bs ≡ true → (get_or bs k 0 == 13) ≡ false
 unfolding printable
 no_cr [] k h = refl
-no_cr (b ∷ bs) zero h = let p = above b (parts (is_plain b) (printable bs) h).0 in grind (arith, nat_tests)
-no_cr (b ∷ bs) (suc k) h = no_cr bs k (parts (is_plain b) (printable bs) h).1
+no_cr (b ∷ bs) zero h = let p = above b (and_true (is_plain b) (printable bs) h).0 in grind (arith, nat_tests)
+no_cr (b ∷ bs) (suc k) h = no_cr bs k (and_true (is_plain b) (printable bs) h).1
 
 unstripped : (bs : List ℕ) → printable bs ≡ true → strip_carriage_return bs ≡ bs
 unstripped bs h = rw (no_cr bs (length bs - 1) h) refl

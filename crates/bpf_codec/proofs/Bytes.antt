@@ -10,7 +10,7 @@ use Rattle.bpf_codec.specs.declared.slot.Slot.{Slot}
 use Rattle.bpf_codec.specs.Slots.{layout, first, fields, slot_bytes, second, Begins}
 use Rattle.bpf_codec.specs.Faults.{has_first, has_second, has_reserved_bits}
 use Rattle.bpf_codec.specs.Decoding.{reserved_are_zero}
-use Rattle.bpf_codec.proofs.Lists.{and_true}
+use Rattle.isa_table.proofs.Listed.{and_true}
 use Rattle.bpf_codec.proofs.Fields.{small_below, offset_below, imm_below}
 use Rattle.bpf_codec.proofs.Rows.{IsPlaced}
 use Rattle.bpf_codec.proofs.Built.{InRange}

@@ -27,8 +27,8 @@ below_first : (xs : List ℕ) → Below xs 1
 below_first xs fault.Opcode h = absurd (omega (arith, h))
 below_first xs _ h = absurd (omega (arith, h))
 
-fault_of : ℕ → Fault
-fault_of n =
+pub fault_numbered : ℕ → Fault
+fault_numbered n =
     cond (n == 1) fault.Opcode
     (cond (n == 2) fault.Register
     (cond (n == 3) fault.Field
@@ -36,8 +36,8 @@ fault_of n =
     (cond (n == 5) fault.Packet
     (cond (n == 6) fault.Platform fault.Short)))))
 
-fault_back : (f : Fault) → fault_of (fault_number f) ≡ f
-unfolding fault_of
+pub fault_back : (f : Fault) → fault_numbered (fault_number f) ≡ f
+unfolding fault_numbered
 fault_back fault.Opcode = refl
 fault_back _ = refl
 
@@ -49,7 +49,7 @@ next xs f b a g h = go (cases_lt (fault_number g) (fault_number f))
     go (inl k) = b g k
     go (inr k) =
         let e : fault_number g ≡ fault_number f = omega (arith, h, k) in
-        let s : g ≡ f = sym (fault_back g) ∙ ap fault_of e ∙ fault_back f in
+        let s : g ≡ f = sym (fault_back g) ∙ ap fault_numbered e ∙ fault_back f in
         rw s a
 
 least : (xs : List ℕ) (f : Fault) → Below xs (fault_number f) → has_fault f xs ≡ true → IsLeastFault f xs

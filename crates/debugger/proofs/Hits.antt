@@ -14,7 +14,7 @@ use Rattle.debugger.specs.DebugState.{DebugState, overlaps, hits}
 use Rattle.debugger.specs.Laws.{SharesByte}
 use Rattle.debugger.specs.Laws as laws
 
-both : (a b : Bool) → (a && b) ≡ true → (a ≡ true) × (b ≡ true)
+pub both : (a b : Bool) → (a && b) ≡ true → (a ≡ true) × (b ≡ true)
 both true b h = (refl, h)
 both false b h = absurd (cc)
 

@@ -22,7 +22,7 @@ record Asked (m : MachineState) (o : Outcome) (before mid : List (List ℕ)) : T
   touches : (n : ℕ) (op : Op) → request ≡ Touch n op → AccessesNext m n
   again : (x y : List (List ℕ)) → AnswersRequest map_memory request x said y → StepsFrom m.stop map_memory m x o y
 
-no_touch : {P : Type 0} (n : ℕ) (op : Op) → Nothing ≡ Touch n op → P
+pub no_touch : {P : Type 0} (n : ℕ) (op : Op) → Nothing ≡ Touch n op → P
 no_touch n op e = absurd (cc)
 
 over : (m : MachineState) (o p : Outcome) (x y : List (List ℕ)) → o ≡ p → y ≡ x → StepsFrom m.stop map_memory m x p x → StepsFrom m.stop map_memory m x o y

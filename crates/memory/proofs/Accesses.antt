@@ -116,7 +116,7 @@ set_same_at [] n b h = absurd (omega arith)
 set_same_at (x ∷ xs) zero b h = refl
 set_same_at (x ∷ xs) (suc n) b h = set_same_at xs n b h
 
-set_commutes : {A : Type 0} (xs : List A) (n m : ℕ) (a b : A) → n ≢ m → set (set xs n a) m b ≡ set (set xs m b) n a
+pub set_commutes : {A : Type 0} (xs : List A) (n m : ℕ) (a b : A) → n ≢ m → set (set xs n a) m b ≡ set (set xs m b) n a
 set_commutes {A = A} [] n m a b h = refl
 set_commutes {A = A} (x ∷ xs) zero zero a b h = absurd (h refl)
 set_commutes {A = A} (x ∷ xs) zero (suc m) a b h = refl

@@ -1,11 +1,9 @@
 -- Accesses keep lengths.
-use Rattle.std.proofs.Common.{◌≡◌, ℕ, ◌+◌, ◌≤◌, zero, suc, List, [], ◌∷◌, ◌++◌, length, take, drop, get_or, set, Option, Some, None, refl, length-append, length-take, length-drop, arith, map, ◌∙◌}
-use Rattle.std.proofs.lemmas.List.{get_or_append_left, length-map, map-append}
+use Rattle.std.proofs.Common.{◌≡◌, ℕ, ◌+◌, ◌≤◌, zero, suc, List, [], ◌∷◌, ◌++◌, length, take, drop, get_or, set, Option, Some, None, refl, length-append, length-take, length-drop, arith}
 use Rattle.byteorder.specs.Numbers.{length-bytes_low_first}
 use Rattle.isa_table.specs.Words.{low_bytes}
 use Rattle.memory.specs.declared.access.Op.{Op}
 use Rattle.memory.specs.Access.{IsInside, count_of, old_number, number_put, replaced, with_number, after}
-use Rattle.memory.specs.Objects.{AreObjects, bytes_of, with_bytes, with_range, object_limit, object_bytes}
 
 pub length-replaced : (o : ℕ) (new bytes : List ℕ) → o + length new ≤ length bytes → length (replaced o new bytes) ≡ length bytes
 length-replaced o new bytes h =

@@ -177,9 +177,9 @@ frees_plain old new n (moved.Fault f) h = absurd h
 
 -- ---- one command
 
-here : (b : Bool) → not (false || b) ≡ true → b ≡ false
-here true e = absurd (cc)
-here false e = refl
+pub not_second : (b : Bool) → not (false || b) ≡ true → b ≡ false
+not_second true e = absurd (cc)
+not_second false e = refl
 
 away : (b : Bool) → not (false || b) ≡ false → b ≡ true
 away true e = refl
@@ -207,8 +207,8 @@ one_kept old new (Leave n) r e h = absurd (cc)
 one_kept old new (Left n) r e h = absurd (cc)
 one_kept old new (Return n) r e h = absurd (cc)
 one_kept old new (Returned n) r e h = absurd (cc)
-one_kept old new (Step m) r e h = answers_plain m ByStep old.machines new.machines old.store new.store r (here (is_absence r) e) h
-one_kept old new (One m) r e h = answers_plain m ByOne old.machines new.machines old.store new.store r (here (is_absence r) e) h
+one_kept old new (Step m) r e h = answers_plain m ByStep old.machines new.machines old.store new.store r (not_second (is_absence r) e) h
+one_kept old new (One m) r e h = answers_plain m ByOne old.machines new.machines old.store new.store r (not_second (is_absence r) e) h
 one_kept old new (Regs m) r e h = (h.0, ap plain_of h.1)
 one_kept old new (Out m) r e h = (h.0, ap plain_of h.1)
 one_kept old new (Stack m offset size) r e h = (h.0, ap plain_of h.1)

@@ -1,5 +1,5 @@
 -- Steps of two machines over one store: what they do to it may change places.
-use Rattle.std.proofs.Common.{◌≡◌, ◌≢◌, ℕ, zero, suc, Bool, true, false, List, [], ◌∷◌, length, get_or, set, refl, sym, ap, ◌∙◌, subst, inl, inr}
+use Rattle.std.proofs.Common.{◌≡◌, ◌≢◌, ℕ, Bool, true, false, List, [], length, get_or, set, refl, sym, ap, ◌∙◌, subst, inl, inr}
 use Rattle.std.proofs.lemmas.List.{get_or-set_other}
 use Rattle.memory.specs.declared.access.Op.{Op}
 use Rattle.memory.specs.declared.access.Reach.{Reach}
@@ -7,6 +7,7 @@ use Rattle.memory.specs.declared.access.Reach.TheVariants as reach
 use Rattle.memory.specs.Access.{IsInside, answer, after}
 use Rattle.memory.specs.Memories.{Memories}
 use Rattle.memory.specs.Objects.{bytes_of, with_bytes}
+use Rattle.memory.proofs.Accesses.{set_commutes}
 use Rattle.memory.proofs.Lengths.{length-after, length-set_at}
 use Rattle.scopes.specs.Windows.{noted}
 use Rattle.object_store.specs.declared.places.Place.{Place}
@@ -20,6 +21,7 @@ use Rattle.machine.specs.Rows.MemoryAnswer.{NoAnswer, Reached, Measured}
 use Rattle.machine.specs.TableStep.{TableStep, AnswersRequest, Closes, StepsFrom}
 use Rattle.machine.specs.Laws.{AccessesNext}
 use Rattle.machine.proofs.StepCases.{StepCase, step_case, steps_told, steps_stayed}
+use Rattle.machine.proofs.Others.{no_touch}
 
 -- ---- a step as a request and its answer, which does it again over any other store
 
@@ -29,9 +31,6 @@ record Asked {M : Type 0} (mem : Memories M) (m : MachineState) (o : Outcome) (b
   answers : AnswersRequest mem request before said mid
   touches : (n : ℕ) (op : Op) → request ≡ Touch n op → AccessesNext m n
   again : (x y : M) → AnswersRequest mem request x said y → StepsFrom m.stop mem m x o y
-
-no_touch : {P : Type 0} (n : ℕ) (op : Op) → Nothing ≡ Touch n op → P
-no_touch n op e = absurd (cc)
 
 over : {M : Type 0} (mem : Memories M) (m : MachineState) (o p : Outcome) (x y : M) → o ≡ p → y ≡ x → StepsFrom m.stop mem m x p x → StepsFrom m.stop mem m x o y
 over mem m o p x y e f s = rw (e, f) s
@@ -118,13 +117,6 @@ so_closes true who x y h = h
 so_closes false who x y h = h
 
 -- ---- two that are done
-
-set_commutes : {A : Type 0} (xs : List A) (n m : ℕ) (a b : A) → n ≢ m → set (set xs n a) m b ≡ set (set xs m b) n a
-set_commutes {A = A} [] n m a b h = refl
-set_commutes {A = A} (x ∷ xs) zero zero a b h = absurd (h refl)
-set_commutes {A = A} (x ∷ xs) zero (suc m) a b h = refl
-set_commutes {A = A} (x ∷ xs) (suc n) zero a b h = refl
-set_commutes {A = A} (x ∷ xs) (suc n) (suc m) a b h = ap (λ (ys : List A). x ∷ ys) (set_commutes xs n m a b (λ e. h (ap suc e)))
 
 -- two that change by what they were
 changed_commute : (xs : List (List ℕ)) (n m : ℕ) (f g : List ℕ → List ℕ) → n ≢ m
