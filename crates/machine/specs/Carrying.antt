@@ -9,11 +9,13 @@ use Rattle.machine.specs.declared.state.Stepped.TheVariants.{Waiting}
 use Rattle.machine.specs.MachineState.{MachineState}
 use Rattle.machine.specs.TableStep.{TableStep}
 
+-- an answer on which no machine waits
 abbrev pub is_done : Reach → Bool
 is_done Away = false
 is_done Busy = false
 is_done _ = true
 
+-- the machine doesn't wait
 abbrev pub goes : Stepped → Bool
 goes (Waiting n) = false
 goes _ = true

@@ -12,6 +12,7 @@ use Rattle.memory.specs.Access.{answer, after}
 use Rattle.memory.specs.Memories.{Memories, Promises}
 use Rattle.memory.specs.Objects.{Reaches, IsLive, AreObjects, bytes_of, with_bytes}
 
+-- a store, as its callers see it: each object's bytes and place, the windows, the budget, and the far store's faults
 pub record StoreState : Type 0 where
   -- the bytes of each number, wherever they are
   pub objects : List (List ℕ)
