@@ -50,8 +50,8 @@ abbrev pub window_count : ℕ
 window_count = machine_limit + 1
 
 -- a window stands at this number
-abbrev pub IsMachine : ℕ → Type 0
-IsMachine who = who ≤ machine_limit
+abbrev pub HasWindow : ℕ → Type 0
+HasWindow who = who ≤ machine_limit
 
 -- the window of a machine
 abbrev pub window_of : List (List ℕ) → ℕ → List ℕ
