@@ -6,7 +6,7 @@ use Rattle.isa_table.specs.declared.instr.Reg.TheVariants.{R0, R1, R2, R3, R4, R
 use Rattle.asm_table.specs.declared.mnemonic.Mnemonic.{Mnemonic}
 use Rattle.asm_table.specs.declared.mnemonic.Mnemonic.TheVariants.{CallLocal, Exit}
 use Rattle.asm_table.specs.declared.named.TheConstants.{BY_NAME}
-use Rattle.isa_table.specs.declared.instr.TheConstants.{REGISTERS}
+use Rattle.isa_table.specs.Registers.{all_registers}
 use Rattle.asm_table.specs.Mnemonics.{name}
 
 abbrev pub named_in : List Mnemonic → List ℕ → Option Mnemonic
@@ -44,4 +44,4 @@ register_in [] word = None
 register_in (r ∷ rs) word = if bytes_eq (register_name r) word then Some r else register_in rs word
 
 abbrev pub register_named : List ℕ → Option Reg
-register_named word = register_in REGISTERS word
+register_named word = register_in all_registers word
