@@ -6,7 +6,7 @@ use Rattle.isa_table.specs.declared.instr.Reg.TheVariants.{R0, R1, R2, R3, R4, R
 use Rattle.asm_table.specs.declared.mnemonic.Mnemonic.{Mnemonic}
 use Rattle.asm_table.specs.declared.mnemonic.Mnemonic.TheVariants.{CallLocal, Exit}
 use Rattle.asm_table.specs.declared.named.TheConstants.{BY_NAME}
-use Rattle.isa_table.specs.declared.instr.TheConstants.{REGISTERS}
+use Rattle.isa_table.specs.Registers.{all_registers}
 use Rattle.asm_table.specs.Mnemonics.{name}
 
 -- the first of these mnemonics that has this name
@@ -48,4 +48,4 @@ register_in (r ∷ rs) word = if bytes_eq (register_name r) word then Some r els
 
 -- the register that has this name
 abbrev pub register_named : List ℕ → Option Reg
-register_named word = register_in REGISTERS word
+register_named word = register_in all_registers word

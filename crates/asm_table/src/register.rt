@@ -2,7 +2,7 @@
 ghost use Rattle.std.specs.Prelude.{◌≡◌, ◌≤◌, length};
 ghost use Rattle.asm_table.specs.Names.{register_name, register_named};
 
-use isa_table::{REGISTERS, Reg};
+use isa_table::{Reg, registers};
 
 /// `r0` to `r10`.
 pub fn register_name(r: Reg) -> &'static [u8]
@@ -28,7 +28,7 @@ pub fn register_name(r: Reg) -> &'static [u8]
 pub fn register_named(word: &[u8]) -> Option<Reg>
     ensures { result ≡ register_named word.now }
 {
-    for r in &REGISTERS {
+    for r in registers() {
         if register_name(*r) == word {
             return Some(*r);
         }

@@ -1,16 +1,9 @@
 //! Puts what a slot holds into the instruction of a row.
 ghost use Rattle.std.specs.Prelude.{◌≡◌};
 ghost use Rattle.bpf_codec.specs.Decoding.{register, operands, built_operand, built};
-ghost use Rattle.isa_table.specs.declared.instr.TheConstants.{REGISTERS};
 
 use crate::slot::Slot;
-use isa_table::{Instr, Operand, REGISTERS, Reg};
-
-fn registers() -> &'static [Reg]
-    ensures { result.now ≡ REGISTERS }
-{
-    &REGISTERS
-}
+use isa_table::{Instr, Operand, Reg, registers};
 
 /// The register of the number, or R0 where there is none.
 #[tactic(auto, unfolding(crate::specs::Decoding::register))]
