@@ -56,7 +56,7 @@ class Specs:
         comment, name = [], None
         for line in text.split("\n"):
             if line.startswith("--"):
-                comment.append(line.lstrip("- "))
+                comment = [] if line.startswith("-- ----") else comment + [line.lstrip("- ")]
                 continue
             started = DEFINITION.match(line)
             if started and started[1] not in self.definitions and not line.startswith(("use ", "pub use ")):
