@@ -1,5 +1,5 @@
 //! A store that fails once, for tests.
-ghost use Rattle.std.specs.Prelude.{◌≡◌, ◌≢◌, ◌+◌, ◌-◌, nat_eq, true, false, IfOk, IfErr, OnOk, OnErr, IsErr};
+ghost use Rattle.std.specs.Prelude.{◌≡◌, ◌≢◌, ◌≤◌, ◌+◌, ◌-◌, nat_eq, true, false, IfOk, IfErr, OnOk, OnErr, IsErr};
 ghost use Rattle.far_store.specs.Stores.{capped, Rises};
 
 use crate::fault::StoreFault;
@@ -83,7 +83,11 @@ impl<S: FarStore + Drop> FarStore for Failing<S> {
         self.store.get(parcel)
     }
 
-    fn forget(&mut self, parcel: S::Parcel) {
+    fn forget(&mut self, parcel: S::Parcel)
+        ensures faults { capped (S.faults_of self.old.store + self.old.refused) ≤ capped (S.faults_of self.new.store + self.new.refused) }
+        ensures left { self.new.left ≡ self.old.left }
+        ensures refused { self.new.refused ≡ self.old.refused }
+    {
         self.store.forget(parcel);
     }
 
