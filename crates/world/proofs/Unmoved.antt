@@ -24,7 +24,7 @@ use Rattle.world.specs.declared.events.Reply.{Reply}
 use Rattle.world.specs.declared.events.Reply.TheVariants as reply
 use Rattle.world.specs.Run.{Runs}
 use Rattle.world.specs.Commands.{Command}
-use Rattle.world.specs.Commands.Command.{Make, Free, Put, Get, Ship, Leave, Left, Return, Returned, Step, One, Regs, Out, Stack, Line, Break, Unbreak, Watch, Unwatch, Resume}
+use Rattle.world.specs.Commands.Command.{Make, Free, Put, Get, Leave, Left, Return, Returned, Step, One}
 use Rattle.world.specs.WorldState.{WorldState, with_machine}
 use Rattle.world.specs.Steps.{Way, Steps, Pauses, AnswersStep, debugged, reply_to_step}
 use Rattle.world.specs.Steps.Way.{ByStep, ByOne}
@@ -185,6 +185,7 @@ away : (b : Bool) → not (false || b) ≡ false → b ≡ true
 away true e = refl
 away false e = absurd (cc)
 
+-- the other commands are on machines alone, and mean the same
 one_kept : (old new : WorldState) (c : Command) (r : Reply) → is_unmoved c r ≡ true → Answers old c r new → PlainAnswers (plain_of old) c r (plain_of new)
 one_kept old new (Make size) reply.Full e h = ((h.0.0, ap (λ (s : StoreState). s.objects) h.0.1), ap plain_of h.1)
 one_kept old new (Make size) reply.NoRoom e h = ((h.0.0, ap (λ (s : StoreState). s.objects) h.0.2), ap plain_of h.1)
@@ -202,22 +203,13 @@ one_kept old new (Get n offset size) reply.NoMemory e h = (h.0.0, ap plain_of h.
 one_kept old new (Get n offset size) (reply.Bytes shown) e h = ((h.0.0, h.0.2), ap plain_of h.1)
 one_kept old new (Get n offset size) (reply.Away k) e h = absurd (cc)
 one_kept old new (Get n offset size) _ e h = absurd h.0
-one_kept old new (Ship fuel arguments code) r e h = (h.0, ap plain_of h.1)
 one_kept old new (Leave n) r e h = absurd (cc)
 one_kept old new (Left n) r e h = absurd (cc)
 one_kept old new (Return n) r e h = absurd (cc)
 one_kept old new (Returned n) r e h = absurd (cc)
 one_kept old new (Step m) r e h = answers_plain m ByStep old.machines new.machines old.store new.store r (here (is_absence r) e) h
 one_kept old new (One m) r e h = answers_plain m ByOne old.machines new.machines old.store new.store r (here (is_absence r) e) h
-one_kept old new (Regs m) r e h = (h.0, ap plain_of h.1)
-one_kept old new (Out m) r e h = (h.0, ap plain_of h.1)
-one_kept old new (Stack m offset size) r e h = (h.0, ap plain_of h.1)
-one_kept old new (Line m slot) r e h = (h.0, ap plain_of h.1)
-one_kept old new (Break m slot) r e h = (h.0, ap plain_of h.1)
-one_kept old new (Unbreak m slot) r e h = (h.0, ap plain_of h.1)
-one_kept old new (Watch m address size) r e h = (h.0, ap plain_of h.1)
-one_kept old new (Unwatch m address size) r e h = (h.0, ap plain_of h.1)
-one_kept old new (Resume m) r e h = (h.0, ap plain_of h.1)
+one_kept old new _ r e h = (h.0, ap plain_of h.1)
 
 free_told : {P : Type 0} (r : Reply) (n : ℕ) (m : Moved) → r ≡ reply_to_move (reply.Freed n) place.Here n m → is_absence r ≡ true → P
 free_told r n moved.Done e h = absurd (cc)

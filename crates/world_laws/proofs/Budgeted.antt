@@ -16,7 +16,8 @@ use Rattle.world.specs.Commands.{Command}
 use Rattle.world.specs.WorldState.{WorldState, world_start}
 use Rattle.world.specs.Answers.{Answers}
 use Rattle.world_laws.specs.Moves.{BudgetHolds}
-use Rattle.world_laws.proofs.StoreChanges.{StoreChange, Unchanged, Grown, Filled, Placed, Walked, store_changes, run_keeps}
+use Rattle.world_laws.proofs.StoreCalls.{Grown, Filled, Placed}
+use Rattle.world_laws.proofs.StoreChanges.{StoreChange, Unchanged, Called, Walked, store_changes, run_keeps}
 use Rattle.world_laws.proofs.Placed.{Kept, step_keeps, HasPlaces, below, changed_places}
 
 -- ---- the sum
@@ -59,15 +60,15 @@ fits_kept budget who = record {
 
 changed_fits : (budget : ℕ) (old new : StoreState) (r : Reply) → HasPlaces old → Fits budget old → StoreChange old r new → Fits budget new
 changed_fits budget old new r p f (Unchanged q e) = subst (Fits budget) (sym e) f
-changed_fits budget old new r p f (Grown count room q e) =
+changed_fits budget old new r p f (Called (Grown count room q e)) =
     let g = near_made old.objects old.places (replicate count 0) p in
     let zeros : List ℕ = replicate count 0 in
     let l : length zeros ≡ count = length-replicate count 0 in
     subst (Fits budget) (sym e) (record { same = f.same; fits = omega (arith, g, l, room) })
-changed_fits budget old new r p f (Filled n bytes faults q l z e) =
+changed_fits budget old new r p f (Called (Filled n bytes faults q l z e)) =
     let g = near_filled old.objects old.places n bytes z in
     subst (Fits budget) (sym e) (record { same = f.same; fits = omega (arith, g, f.fits) })
-changed_fits budget old new r p f (Placed n a b faults q m e) =
+changed_fits budget old new r p f (Called (Placed n a b faults m e)) =
     let i = below old.objects n m.stands.0 in
     let g = rw m.stands.1 at (near_placed old.objects old.places n b i p) in
     subst (Fits budget) (sym e) (record { same = f.same; fits = let k = m.fits f.fits in omega (arith, g, k) })

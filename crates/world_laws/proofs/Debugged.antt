@@ -1,58 +1,67 @@
--- What debugging leaves as it was.
-use Rattle.std.proofs.Common.{◌≡◌, ◌≢◌, ℕ, List, map, Some, refl, ap, subst, ◌∙◌}
-use Rattle.machine.specs.MachineState.{MachineState}
-use Rattle.debugger.specs.DebugState.{DebugState}
+-- What debugging leaves as it was, and what a step leaves of the other machines.
+use Rattle.std.proofs.Common.{◌≡◌, ◌≢◌, ℕ, List, map, Option, Some, refl, ap, subst, ◌∙◌}
 use Rattle.world.specs.declared.debuggee.Debuggee.{Debuggee}
-use Rattle.world.specs.declared.events.Reply.TheVariants.{Done, Full, Outside, NoSlot, NoWatch, NotPaused, Missing}
-use Rattle.world.specs.Commands.Command.{Break, Unbreak, Watch, Unwatch, Resume}
-use Rattle.world.specs.WorldState.{WorldState, machine_at}
-use Rattle.world.specs.Debugging.{Debugs}
-use Rattle.world_laws.specs.Replies.{machine_in, DebuggingChangesDebugStateAlone}
+use Rattle.world.specs.declared.events.Reply.{Reply}
+use Rattle.world.specs.Commands.{Command}
+use Rattle.world.specs.WorldState.{WorldState, machine_at, with_machine}
+use Rattle.world_laws.specs.Replies.{debugs, steps, machine_in, DebuggingChangesDebugStateAlone, OthersStay}
 use Rattle.world_laws.proofs.Machines.{with_map, other_machine}
+use Rattle.world_laws.proofs.Sorts.{Marks, Sets, Sort, Stays, Stores, Ships, Tunes, Pauses, Walks, none, sort_of}
 
-abbrev Alone : List Debuggee → List Debuggee → ℕ → Type 0
-Alone old new m = (map machine_in new ≡ map machine_in old) × ((k : ℕ) → k ≢ m → machine_at new k ≡ machine_at old k)
+abbrev debugged : Marks → Option ℕ
+debugged x = x.debugged
 
-unchanged : (old new : List Debuggee) (m : ℕ) → new ≡ old → Alone old new m
-unchanged old new m e = (ap (map machine_in) e, λ k n. ap (λ (ms : List Debuggee). machine_at ms k) e)
+abbrev stepped : Marks → Option ℕ
+stepped x = x.stepped
 
-alone : (changes : MachineState → DebugState → DebugState → Type 0) (old new : List Debuggee) (m : ℕ) → Debugs changes old m new → Alone old new m
-alone changes old new m h =
-    let next : Debuggee = record h.debuggee { debugger = h.debugger } in (
-      ap (map machine_in) h.changed ∙ with_map machine_in old m h.debuggee next h.found refl,
-      λ k n. ap (λ (ms : List Debuggee). machine_at ms k) h.changed ∙ other_machine old m k h.debuggee next h.found n,
-    )
+same_number : (o : Option ℕ) (k m : ℕ) → o ≡ Some k → o ≡ Some m → k ≡ m
+same_number o k m e f = cc
 
-abbrev All : WorldState → WorldState → ℕ → Type 0
-All old new m = (new.store ≡ old.store) × (map machine_in new.machines ≡ map machine_in old.machines)
-    × ((k : ℕ) → k ≢ m → machine_at new.machines k ≡ machine_at old.machines k)
+-- the other machines
+abbrev Others : List Debuggee → List Debuggee → ℕ → Type 0
+Others old new m = (k : ℕ) → k ≢ m → machine_at new k ≡ machine_at old k
 
-all : (old new : WorldState) (k m : ℕ) → Alone old.machines new.machines k → new ≡ record old { machines = new.machines } → Some k ≡ Some m → All old new m
-all old new k m a e s =
-    let n : k ≡ m = cc in
-    subst (λ j. All old new j) n (ap (λ (w : WorldState). w.store) e, a.0, a.1)
+equal : (old new : List Debuggee) (m : ℕ) → new ≡ old → Others old new m
+equal old new m e k n = ap (λ (ms : List Debuggee). machine_at ms k) e
+
+written : (old new : List Debuggee) (m : ℕ) (d e : Debuggee) → machine_at old m ≡ Some d → new ≡ with_machine old m e → Others old new m
+written old new m d e f h k n = ap (λ (ms : List Debuggee). machine_at ms k) h ∙ other_machine old m k d e f n
+
+-- ---- debugging
+
+abbrev Alone : WorldState → WorldState → ℕ → Type 0
+Alone old new m = (new.store ≡ old.store) × (map machine_in new.machines ≡ map machine_in old.machines) × Others old.machines new.machines m
+
+sets_alone : (old new : WorldState) (m : ℕ) → Sets old.machines m new.machines → new ≡ record old { machines = new.machines } → Alone old new m
+sets_alone old new m s e = (
+  ap (λ (w : WorldState). w.store) e,
+  ap (map machine_in) s.changed ∙ with_map machine_in old.machines m s.debuggee (record s.debuggee { debugger = s.debugger }) s.found refl,
+  written old.machines new.machines m s.debuggee (record s.debuggee { debugger = s.debugger }) s.found s.changed,
+)
+
+alone : (old new : WorldState) (c : Command) (r : Reply) (m : ℕ) → Sort old c r new → debugs c ≡ Some m → Alone old new m
+alone old new c r m (Stays q n e) t =
+    (ap (λ (w : WorldState). w.store) e, ap (λ (w : WorldState). map machine_in w.machines) e, equal old.machines new.machines m (ap (λ (w : WorldState). w.machines) e))
+alone old new c r m (Tunes j k q s e) t = subst (λ (i : ℕ). Alone old new i) (same_number (debugs c) j m (ap debugged k) t) (sets_alone old new j s e)
+alone old new c r m (Stores k s e) t = none (debugs c) m (ap debugged k) t
+alone old new c r m (Ships d k q n a e) t = none (debugs c) m (ap debugged k) t
+alone old new c r m (Pauses j k q s e) t = none (debugs c) m (ap debugged k) t
+alone old new c r m (Walks j way k q h) t = none (debugs c) m (ap debugged k) t
 
 pub debugging_keeps : DebuggingChangesDebugStateAlone
-debugging_keeps old new (Break k s) Missing m h t = all old new k m (unchanged old.machines new.machines k h.0.1) h.1 t
-debugging_keeps old new (Break k s) Done m h t = all old new k m (alone _ old.machines new.machines k h.0) h.1 t
-debugging_keeps old new (Break k s) NoSlot m h t = all old new k m (alone _ old.machines new.machines k h.0) h.1 t
-debugging_keeps old new (Break k s) Full m h t = all old new k m (alone _ old.machines new.machines k h.0) h.1 t
-debugging_keeps old new (Break k s) _ m h t = absurd h.0
-debugging_keeps old new (Unbreak k s) Missing m h t = all old new k m (unchanged old.machines new.machines k h.0.1) h.1 t
-debugging_keeps old new (Unbreak k s) Done m h t = all old new k m (alone _ old.machines new.machines k h.0) h.1 t
-debugging_keeps old new (Unbreak k s) NoSlot m h t = all old new k m (alone _ old.machines new.machines k h.0) h.1 t
-debugging_keeps old new (Unbreak k s) _ m h t = absurd h.0
-debugging_keeps old new (Watch k a z) Missing m h t = all old new k m (unchanged old.machines new.machines k h.0.1) h.1 t
-debugging_keeps old new (Watch k a z) Done m h t = all old new k m (alone _ old.machines new.machines k h.0) h.1 t
-debugging_keeps old new (Watch k a z) Outside m h t = all old new k m (alone _ old.machines new.machines k h.0) h.1 t
-debugging_keeps old new (Watch k a z) Full m h t = all old new k m (alone _ old.machines new.machines k h.0) h.1 t
-debugging_keeps old new (Watch k a z) _ m h t = absurd h.0
-debugging_keeps old new (Unwatch k a z) Missing m h t = all old new k m (unchanged old.machines new.machines k h.0.1) h.1 t
-debugging_keeps old new (Unwatch k a z) Done m h t = all old new k m (alone _ old.machines new.machines k h.0) h.1 t
-debugging_keeps old new (Unwatch k a z) NoWatch m h t = all old new k m (alone _ old.machines new.machines k h.0) h.1 t
-debugging_keeps old new (Unwatch k a z) _ m h t = absurd h.0
-debugging_keeps old new (Resume k) Missing m h t = all old new k m (unchanged old.machines new.machines k h.0.1) h.1 t
-debugging_keeps old new (Resume k) Done m h t = all old new k m (alone _ old.machines new.machines k h.0) h.1 t
-debugging_keeps old new (Resume k) NotPaused m h t = all old new k m (alone _ old.machines new.machines k h.0) h.1 t
-debugging_keeps old new (Resume k) _ m h t = absurd h.0
-debugging_keeps old new _ r m h t = absurd (cc)
+debugging_keeps old new c r m h t = alone old new c r m (sort_of old new c r h) t
+
+-- ---- steps
+
+others : (old new : WorldState) (c : Command) (r : Reply) (m : ℕ) → Sort old c r new → steps c ≡ Some m → Others old.machines new.machines m
+others old new c r m (Stays q n e) t = equal old.machines new.machines m (ap (λ (w : WorldState). w.machines) e)
+others old new c r m (Pauses j k q s e) t = subst (λ (i : ℕ). Others old.machines new.machines i) (same_number (steps c) j m (ap stepped k) t)
+    (written old.machines new.machines j s.debuggee (record s.debuggee { debugger = s.debugger }) s.found s.changed)
+others old new c r m (Walks j way k q h) t = subst (λ (i : ℕ). Others old.machines new.machines i) (same_number (steps c) j m (ap stepped k) t)
+    (written old.machines new.machines j h.debuggee _ h.found h.changed)
+others old new c r m (Stores k s e) t = none (steps c) m (ap stepped k) t
+others old new c r m (Ships d k q n a e) t = none (steps c) m (ap stepped k) t
+others old new c r m (Tunes j k q s e) t = none (steps c) m (ap stepped k) t
+
+pub others_stay : OthersStay
+others_stay old new c r m k h t n = others old new c r m (sort_of old new c r h) t k n

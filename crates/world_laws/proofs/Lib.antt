@@ -1,10 +1,11 @@
 pub mod Machines
 pub mod Replying
+pub mod Answered
+pub mod StoreCalls
+pub mod Sorts
 pub mod Refusals
 pub mod Faults
-pub mod Showing
 pub mod Debugged
-pub mod OtherMachines
 pub mod Apart
 pub mod Puts
 pub mod KeptCode
@@ -15,7 +16,6 @@ pub mod Placed
 pub mod Moving
 pub mod Budgeted
 pub mod Scoping
-pub mod Answered
 pub mod Awaited
 pub mod ObjectsOneWay
 pub mod MachinesOneWay

@@ -20,7 +20,8 @@ use Rattle.world.specs.WorldState.{WorldState, world_start}
 use Rattle.world.specs.Answers.{Answers}
 use Rattle.world.specs.Places.{placed, place_from}
 use Rattle.world_laws.specs.Moves.{PlacesAreRead}
-use Rattle.world_laws.proofs.StoreChanges.{StoreChange, Unchanged, Grown, Filled, Placed, Walked, store_changes}
+use Rattle.world_laws.proofs.StoreCalls.{Grown, Filled, Placed, quiet}
+use Rattle.world_laws.proofs.StoreChanges.{StoreChange, Unchanged, Called, Walked, store_changes}
 
 -- ---- what each access and the closing of scopes keep, a step keeps
 
@@ -71,7 +72,7 @@ pub step_places : (who : ℕ) (old new : MachineState) (before after : StoreStat
 step_places who old new before after a t =
     (step_keeps (Unmoved before.places (length before.objects)) who (unmoved_kept before.places (length before.objects) who) old new before after a (record { same = refl; length_is = refl }) t).same
 
-step_count : (who : ℕ) (old new : MachineState) (before after : StoreState) (a : Stepped) → TableStep (store_memory who) old before a new after → length after.objects ≡ length before.objects
+pub step_count : (who : ℕ) (old new : MachineState) (before after : StoreState) (a : Stepped) → TableStep (store_memory who) old before a new after → length after.objects ≡ length before.objects
 step_count who old new before after a t =
     (step_keeps (Unmoved before.places (length before.objects)) who (unmoved_kept before.places (length before.objects) who) old new before after a (record { same = refl; length_is = refl }) t).length_is
 
@@ -98,21 +99,21 @@ set_place false places n k p e h = let s : k ≢ n = grind (arith, nat_tests) in
 
 pub changed_places : (old new : StoreState) (r : Reply) → HasPlaces old → StoreChange old r new → HasPlaces new
 changed_places old new r p (Unchanged q e) = subst HasPlaces (sym e) p
-changed_places old new r p (Grown count room q e) =
+changed_places old new r p (Called (Grown count room t e)) =
     subst HasPlaces (sym e) (length-append old.places (Here ∷ []) ∙ (ap (λ n. n + 1) p ∙ sym (length-append old.objects (replicate count 0 ∷ []))))
-changed_places old new r p (Filled n bytes faults q l z e) = subst HasPlaces (sym e) (p ∙ sym (length-set old.objects n bytes))
-changed_places old new r p (Placed n a b faults q m e) = subst HasPlaces (sym e) (length-set old.places n b ∙ p)
+changed_places old new r p (Called (Filled n bytes faults q l z e)) = subst HasPlaces (sym e) (p ∙ sym (length-set old.objects n bytes))
+changed_places old new r p (Called (Placed n a b faults m e)) = subst HasPlaces (sym e) (length-set old.places n b ∙ p)
 changed_places old new r p (Walked m before after a q t) = ap (λ (ps : List Place). length ps) (step_places m before after old new a t) ∙ (p ∙ sym (step_count m before after old new a t))
 
 there : (k : ℕ) (old new : StoreState) (r : Reply) → HasPlaces old → StoreChange old r new → place_of new.places k ≡ placed k (place_of old.places k) r
-there k old new r p (Unchanged q e) = ap (λ (s : StoreState). place_of s.places k) e ∙ sym (q k _)
-there k old new r p (Grown count room q e) =
-    ap (λ (s : StoreState). place_of s.places k) e ∙ (grown_place (nat_eq (length old.objects) k) old.places (length old.objects) k refl (sym p) ∙ sym (q k (place_of old.places k)))
-there k old new r p (Filled n bytes faults q l z e) = ap (λ (s : StoreState). place_of s.places k) e ∙ sym (q k _)
-there k old new r p (Placed n a b faults q m e) =
+there k old new r p (Unchanged q e) = ap (λ (s : StoreState). place_of s.places k) e ∙ sym (quiet r k _ q)
+there k old new r p (Called (Grown count room t e)) =
+    ap (λ (s : StoreState). place_of s.places k) e ∙ (grown_place (nat_eq (length old.objects) k) old.places (length old.objects) k refl (sym p) ∙ sym (ap (placed k (place_of old.places k)) t))
+there k old new r p (Called (Filled n bytes faults q l z e)) = ap (λ (s : StoreState). place_of s.places k) e ∙ sym (quiet r k _ q)
+there k old new r p (Called (Placed n a b faults m e)) =
     ap (λ (s : StoreState). place_of s.places k) e
-    ∙ (set_place (nat_eq n k) old.places n k b refl (let i = below old.objects n m.stands.0 in omega (arith, i, p)) ∙ sym (q k (place_of old.places k)))
-there k old new r p (Walked m before after a q t) = ap (λ (ps : List Place). place_of ps k) (step_places m before after old new a t) ∙ sym (q k _)
+    ∙ (set_place (nat_eq n k) old.places n k b refl (let i = below old.objects n m.stands.0 in omega (arith, i, p)) ∙ sym (m.told k (place_of old.places k)))
+there k old new r p (Walked m before after a q t) = ap (λ (ps : List Place). place_of ps k) (step_places m before after old new a t) ∙ sym (quiet r k _ q)
 
 -- ---- a run
 

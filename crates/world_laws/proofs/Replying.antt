@@ -2,18 +2,14 @@
 use Rattle.std.proofs.Common.{◌≡◌, ℕ, Bool, true, false, List, None, refl, ap, inl, inr}
 use Rattle.std.specs.Prelude.{◌⊎◌, cond}
 use Rattle.memory.specs.Memories.{Memories}
-use Rattle.object_store.specs.declared.places.Place.{Place}
-use Rattle.object_store.specs.declared.places.Moved.{Moved}
-use Rattle.object_store.specs.declared.places.Moved.TheVariants as moved
 use Rattle.machine.specs.declared.state.Stop.{Stop}
 use Rattle.machine.specs.declared.state.Stepped.{Stepped}
 use Rattle.machine.specs.declared.state.Stepped.TheVariants as stepped
 use Rattle.debugger.specs.DebugState.{DebugState, hits}
 use Rattle.world.specs.declared.debuggee.Debuggee.{Debuggee}
 use Rattle.world.specs.declared.events.Reply.{Reply}
-use Rattle.world.specs.declared.events.Reply.TheVariants.{Ran, Hit, Waiting, Stopped, Paused, NoRoom, Misplaced, Scoped, Faulted, Missing}
+use Rattle.world.specs.declared.events.Reply.TheVariants.{Ran, Hit, Waiting, Stopped, Paused, Missing}
 use Rattle.world.specs.WorldState.{machine_at}
-use Rattle.world.specs.Answers.{reply_to_move}
 use Rattle.world.specs.Steps.{Way, Steps, Pauses, AnswersStep, reply_to_step}
 
 by_hit : (P : Reply → Type 0) (b : Bool) (m slot : ℕ) → P (Ran m slot) → P (Hit m slot) → P (cond b (Hit m slot) (Ran m slot))
@@ -47,13 +43,3 @@ pub step_cases : {S : Type 0} (memory : Memories S) (way : Way) (old : List Debu
 step_cases memory way old before m Missing new after h = inl (record { told = refl; missing = h.0; changed = h.1; same = h.2 })
 step_cases memory way old before m (Paused k slot) new after h = inr (inl (record { slot = slot; told = ap (λ n. Paused n slot) h.0; pauses = h.1 }))
 step_cases memory way old before m _ new after h = inr (inr h)
-
--- what is so of the replies to a move
-pub move_replies : (P : Reply → Type 0) (told : Reply) (back : Place) (n : ℕ) (m : Moved) → P told → P Missing → ((p : Place) → P (Misplaced n p)) → P (Scoped n)
-    → P NoRoom → P (Faulted n back) → P (reply_to_move told back n m)
-move_replies P told back n moved.Done a b c d e f = a
-move_replies P told back n moved.NoObject a b c d e f = b
-move_replies P told back n (moved.Misplaced p) a b c d e f = c p
-move_replies P told back n moved.Scoped a b c d e f = d
-move_replies P told back n moved.NoRoom a b c d e f = e
-move_replies P told back n (moved.Fault g) a b c d e f = f

@@ -17,7 +17,8 @@ use Rattle.world.specs.Commands.{Command}
 use Rattle.world.specs.WorldState.{WorldState, world_start}
 use Rattle.world.specs.Answers.{Answers}
 use Rattle.world_laws.specs.Moves.{ScopesStay}
-use Rattle.world_laws.proofs.StoreChanges.{StoreChange, Unchanged, Grown, Filled, Placed, Walked, store_changes, run_keeps}
+use Rattle.world_laws.proofs.StoreCalls.{Grown, Filled, Placed}
+use Rattle.world_laws.proofs.StoreChanges.{StoreChange, Unchanged, Called, Walked, store_changes, run_keeps}
 use Rattle.world_laws.proofs.Placed.{Kept, step_keeps, at_end}
 
 -- ---- counts
@@ -94,9 +95,9 @@ moved_here false places n k p e d h = get_or-set_other places n k p Here d ∙ h
 
 changed_here : (old new : StoreState) (r : Reply) → HasScopesHere old → StoreChange old r new → HasScopesHere new
 changed_here old new r f (Unchanged q e) = subst HasScopesHere (sym e) f
-changed_here old new r f (Grown count room q e) = subst HasScopesHere (sym e) (λ k c. at_end old.places k ∙ f k c)
-changed_here old new r f (Filled n bytes faults q l z e) = subst HasScopesHere (sym e) f
-changed_here old new r f (Placed n a b faults q m e) =
+changed_here old new r f (Called (Grown count room q e)) = subst HasScopesHere (sym e) (λ k c. at_end old.places k ∙ f k c)
+changed_here old new r f (Called (Filled n bytes faults q l z e)) = subst HasScopesHere (sym e) f
+changed_here old new r f (Called (Placed n a b faults m e)) =
     subst HasScopesHere (sym e) (λ k c. moved_here (nat_eq k n) old.places n k b refl
     (λ i. let s = subst (λ (j : ℕ). IsScoped old j) i c in m.unscoped (sym m.stands.1 ∙ f n s) s) (f k c))
 changed_here old new r f (Walked m before after a q t) = step_keeps HasScopesHere m (here_kept m) before after old new a f t

@@ -16,7 +16,7 @@ use Rattle.world.specs.declared.events.Reply.{Reply}
 use Rattle.world.specs.declared.events.Reply.TheVariants.{Made, Freed, Leaving, Returning, Home, Done, Bytes, Paused, NoMemory, Full, NoRoom, Outside, Away, Missing}
 use Rattle.world.specs.declared.events.Reply.TheVariants as answer
 use Rattle.world.specs.Commands.{Command}
-use Rattle.world.specs.Commands.Command.{Make, Free, Put, Get, Ship, Leave, Left, Return, Returned, Step, One, Regs, Out, Stack, Line, Break, Unbreak, Watch, Unwatch, Resume}
+use Rattle.world.specs.Commands.Command.{Make, Free, Put, Get, Leave, Left, Return, Returned, Step, One}
 use Rattle.world.specs.WorldState.{WorldState}
 use Rattle.world.specs.Steps.{Way, Steps, Pauses, AnswersStep}
 use Rattle.world.specs.Steps.Way.{ByStep, ByOne}
@@ -127,7 +127,7 @@ shows s n o z _ h = absurd h
 
 -- ---- all
 
--- what is answered would be answered whatever the count, but for a fault
+-- What is answered would be answered whatever the count, but for a fault. The other commands are on machines and don't look at the store.
 pub unfaulted : (old new : WorldState) (c : Command) (r : Reply) → Answers old c r new → is_settled r ≡ true → Answers (without_faults old) c r (without_faults new)
 unfaulted old new (Make z) Full h t = ((h.0.0, ap cleared h.0.1), ap without_faults h.1)
 unfaulted old new (Make z) NoRoom h t = ((h.0.0, h.0.1, ap cleared h.0.2), ap without_faults h.1)
@@ -146,13 +146,4 @@ unfaulted old new (Return n) r h t = move BeginsReturn (Returning n) place.Far o
 unfaulted old new (Returned n) r h t = move (EndsReturn true) (Home n) place.Far old new n r ends_return h t
 unfaulted old new (Step m) r h t = step m ByStep old.machines new.machines old.store new.store r h
 unfaulted old new (One m) r h t = step m ByOne old.machines new.machines old.store new.store r h
-unfaulted old new (Ship f a c) r h t = (h.0, ap without_faults h.1)
-unfaulted old new (Regs m) r h t = (h.0, ap without_faults h.1)
-unfaulted old new (Out m) r h t = (h.0, ap without_faults h.1)
-unfaulted old new (Stack m o z) r h t = (h.0, ap without_faults h.1)
-unfaulted old new (Line m s) r h t = (h.0, ap without_faults h.1)
-unfaulted old new (Break m s) r h t = (h.0, ap without_faults h.1)
-unfaulted old new (Unbreak m s) r h t = (h.0, ap without_faults h.1)
-unfaulted old new (Watch m a z) r h t = (h.0, ap without_faults h.1)
-unfaulted old new (Unwatch m a z) r h t = (h.0, ap without_faults h.1)
-unfaulted old new (Resume m) r h t = (h.0, ap without_faults h.1)
+unfaulted old new _ r h t = (h.0, ap without_faults h.1)

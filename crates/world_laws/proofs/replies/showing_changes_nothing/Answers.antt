@@ -1,4 +1,4 @@
-use Rattle.world_laws.proofs.Showing.{showing_keeps}
+use Rattle.world_laws.proofs.Refusals.{showing_keeps}
 use Rattle.world_laws.proofs.replies.showing_changes_nothing.Goals as goal
 
 pub returns : goal.returns

@@ -1,0 +1,111 @@
+-- What a call does to the store where it does something, and what it does where it is a move.
+use Rattle.std.proofs.Common.{◌≡◌, ◌+◌, ◌≤◌, ℕ, nat_eq, Bool, true, false, cond, List, [], ◌∷◌, ◌++◌, length, replicate, refl, arith}
+use Rattle.memory.specs.Objects.{IsLive, bytes_of, with_bytes}
+use Rattle.object_store.specs.declared.places.Place.{Place}
+use Rattle.object_store.specs.declared.places.Place.TheVariants as place
+use Rattle.object_store.specs.declared.places.Moved.{Moved}
+use Rattle.object_store.specs.declared.places.Moved.TheVariants as moved
+use Rattle.object_store.specs.Stores.{StoreState, StandsAt, HasRoom, HasRisen, IsScoped, near_bytes, near_length, with_place}
+use Rattle.object_store.specs.Calls.{Refuses, BeginsLeave, EndsLeave, BeginsReturn, EndsReturn}
+use Rattle.world.specs.declared.events.Reply.{Reply}
+use Rattle.world.specs.declared.events.Reply.TheVariants as reply
+use Rattle.world.specs.Answers.{reply_to_move}
+use Rattle.world.specs.Places.{placed}
+use Rattle.world_laws.specs.Replies.{is_refusal}
+
+-- ---- what replies tell
+
+-- the reply tells where an object is
+abbrev pub is_placing : Reply → Bool
+is_placing (reply.Made n) = true
+is_placing (reply.Leaving n) = true
+is_placing (reply.Left n) = true
+is_placing (reply.Returning n) = true
+is_placing (reply.Home n) = true
+is_placing (reply.Faulted n p) = true
+is_placing _ = false
+
+abbrev pub is_made : Reply → Bool
+is_made (reply.Made n) = true
+is_made _ = false
+
+abbrev pub is_fault : Reply → Bool
+is_fault (reply.Faulted n p) = true
+is_fault _ = false
+
+pub quiet : (r : Reply) (n : ℕ) (p : Place) → is_placing r ≡ false → placed n p r ≡ p
+quiet (reply.Made k) n p e = absurd (cc)
+quiet (reply.Leaving k) n p e = absurd (cc)
+quiet (reply.Left k) n p e = absurd (cc)
+quiet (reply.Returning k) n p e = absurd (cc)
+quiet (reply.Home k) n p e = absurd (cc)
+quiet (reply.Faulted k q) n p e = absurd (cc)
+quiet _ n p e = refl
+
+pub unmade : (r : Reply) → is_placing r ≡ false → is_made r ≡ false
+unmade (reply.Made n) e = absurd (cc)
+unmade _ e = refl
+
+-- the reply tells that object n is at a place, and nothing else
+abbrev pub Tells : ℕ → Place → Reply → Type 0
+Tells n to r = (k : ℕ) (p : Place) → placed k p r ≡ cond (nat_eq n k) to p
+
+-- ---- calls
+
+-- a move from a place to another, and its reply
+pub record IsMove (old : StoreState) (n : ℕ) («from» to : Place) (faults : ℕ) (r : Reply) : Type 0 where
+  pub stands : StandsAt «from» old n
+  -- it keeps the budget
+  pub fits : near_bytes old.objects old.places ≤ old.budget
+      → near_bytes old.objects old.places + near_length to (bytes_of old.objects n) ≤ old.budget + near_length «from» (bytes_of old.objects n)
+  -- what is in scope isn't moved
+  pub unscoped : «from» ≡ place.Here → IsScoped old n → ⊥
+  pub done : is_refusal r ≡ false
+  pub told : Tells n to r
+  pub is_unmade : is_made r ≡ false
+  -- a fault tells the object and its place
+  pub fault : (k : ℕ) (p : Place) → r ≡ reply.Faulted k p → HasRisen old.faults faults × (k ≡ n) × (p ≡ to)
+
+pub data StoreCall (old : StoreState) (r : Reply) (new : StoreState) : Type 0 where
+  Grown : (count : ℕ) → HasRoom old count → r ≡ reply.Made (length old.objects)
+      → new ≡ record old { objects = old.objects ++ replicate count 0 ∷ []; places = old.places ++ place.Here ∷ [] } → StoreCall old r new
+  Filled : (n : ℕ) (bytes : List ℕ) (faults : ℕ) → is_placing r ≡ false → IsLive old.objects n → length bytes ≤ length (bytes_of old.objects n)
+      → new ≡ record old { objects = with_bytes old.objects n bytes; faults = faults } → StoreCall old r new
+  Placed : (n : ℕ) («from» to : Place) (faults : ℕ) → IsMove old n «from» to faults r → new ≡ record (with_place old n to) { faults = faults } → StoreCall old r new
+
+-- ---- moves
+
+pub data Move (old : StoreState) (n : ℕ) (r : Reply) (new : StoreState) : Type 0 where
+  Refused : is_placing r ≡ false → new ≡ old → Move old n r new
+  Moves : («from» to : Place) (faults : ℕ) → IsMove old n «from» to faults r → new ≡ record (with_place old n to) { faults = faults } → Move old n r new
+
+refused : (at : Place) (old new : StoreState) (n : ℕ) (m : Moved) (told : Reply) (back : Place) → Refuses at old n m new → Move old n (reply_to_move told back n m) new
+refused at old new n moved.NoObject told back h = Refused refl h.1
+refused at old new n (moved.Misplaced q) told back h = Refused refl h.2
+refused at old new n _ told back h = absurd h
+
+pub begun_leave : (old new : StoreState) (n : ℕ) (m : Moved) → BeginsLeave old n m new → Move old n (reply_to_move (reply.Leaving n) place.Here n m) new
+begun_leave old new n moved.Done h = Moves place.Here place.Leaving old.faults
+    (record { stands = h.0; fits = λ g. omega (arith, g); unscoped = λ e. h.1; done = refl; told = λ k p. refl; is_unmade = refl; fault = λ k p e. absurd (cc) }) h.2
+begun_leave old new n moved.Scoped h = Refused refl h.2
+begun_leave old new n m h = refused place.Here old new n m (reply.Leaving n) place.Here h
+
+pub ended_leave : (old new : StoreState) (n : ℕ) (m : Moved) → EndsLeave old n m new → Move old n (reply_to_move (reply.Left n) place.Here n m) new
+ended_leave old new n moved.Done h = Moves place.Leaving place.Far new.faults
+    (record { stands = h.0; fits = λ g. omega (arith, g); unscoped = λ e. absurd (cc); done = refl; told = λ k p. refl; is_unmade = refl; fault = λ k p e. absurd (cc) }) h.2
+ended_leave old new n (moved.Fault f) h = Moves place.Leaving place.Here new.faults
+    (record { stands = h.0; fits = λ g. omega (arith, g); unscoped = λ e. absurd (cc); done = refl; told = λ k p. refl; is_unmade = refl; fault = λ k p e. (h.1, cc, cc) }) h.2
+ended_leave old new n m h = refused place.Leaving old new n m (reply.Left n) place.Here h
+
+pub begun_return : (old new : StoreState) (n : ℕ) (m : Moved) → BeginsReturn old n m new → Move old n (reply_to_move (reply.Returning n) place.Far n m) new
+begun_return old new n moved.Done h = Moves place.Far place.Returning old.faults
+    (record { stands = h.0; fits = λ g. omega (arith, h.1); unscoped = λ e. absurd (cc); done = refl; told = λ k p. refl; is_unmade = refl; fault = λ k p e. absurd (cc) }) h.2
+begun_return old new n moved.NoRoom h = Refused refl h.2
+begun_return old new n m h = refused place.Far old new n m (reply.Returning n) place.Far h
+
+pub ended_return : (old new : StoreState) (n : ℕ) (m : Moved) → EndsReturn true old n m new → Move old n (reply_to_move (reply.Home n) place.Far n m) new
+ended_return old new n moved.Done h = Moves place.Returning place.Here old.faults
+    (record { stands = h.0; fits = λ g. omega (arith, g); unscoped = λ e. absurd (cc); done = refl; told = λ k p. refl; is_unmade = refl; fault = λ k p e. absurd (cc) }) h.1
+ended_return old new n (moved.Fault f) h = Moves place.Returning place.Far new.faults
+    (record { stands = h.0; fits = λ g. omega (arith, g); unscoped = λ e. absurd (cc); done = refl; told = λ k p. refl; is_unmade = refl; fault = λ k p e. (h.1, cc, cc) }) h.2
+ended_return old new n m h = refused place.Returning old new n m (reply.Home n) place.Far h
