@@ -1,7 +1,7 @@
 //! The objects of an agent.
 ghost use Rattle.std.specs.Prelude.{◌≡◌, ◌≤◌, [], IfOk, length};
 ghost use Rattle.memory.specs.Objects.{AreObjects, bytes_of, object_bytes};
-ghost use Rattle.object_store.specs.Stores.{StoreState, IsMachine, IsStore, Touches, store_start, with_window};
+ghost use Rattle.object_store.specs.Stores.{StoreState, HasWindow, IsStore, Touches, store_start, with_window};
 ghost use Rattle.object_store.specs.Calls.{Makes, Frees, Gets, Puts, BeginsLeave, EndsLeave, BeginsReturn, EndsReturn};
 
 use crate::bodies::Body;
@@ -159,7 +159,7 @@ impl<F: FarStore> ObjectStore<F> {
     /// Does one access of an object by a machine, which then has it in scope. Takes no memory.
     #[inline(always)]
     pub fn touch(&mut self, who: usize, number: u32, op: &Op) -> Reach
-        requires { IsMachine who }
+        requires { HasWindow who }
         ensures { Touches who self.old number op.now result self.new }
     {
         let index = number as usize;
@@ -177,7 +177,7 @@ impl<F: FarStore> ObjectStore<F> {
 
     /// Closes all scopes of a machine.
     pub fn close_scopes(&mut self, who: usize)
-        requires { IsMachine who }
+        requires { HasWindow who }
         ensures { self.new ≡ with_window self.old who [] }
     {
         close(self.bodies.as_mut_slice(), self.windows.as_mut_slice(), who);
@@ -274,9 +274,9 @@ pub struct StoreMemory<'a, F: FarStore> {
 }
 
 impl<'a, F: FarStore> Memory for StoreMemory<'a, F> {
-    ghost use Rattle.object_store.specs.Stores.{IsMachine, lent_memory, store_promises};
+    ghost use Rattle.object_store.specs.Stores.{HasWindow, lent_memory, store_promises};
 
-    ghost is_ready = { λ m. IsMachine m.who };
+    ghost is_ready = { λ m. HasWindow m.who };
 
     ghost acts = { lent_memory (λ m. m.store.now) (λ m. m.store.ghost_name) (λ m. m.who) };
 
