@@ -50,8 +50,8 @@ impl<F: FarStore> Model for ObjectStore<F> {
 }
 
 impl<F: FarStore + Drop> ObjectStore<F> {
-    /// A store without objects, over a far store. It takes the memory for all that can be made, their bytes apart. At most
-    /// `budget` bytes of objects are here at a time.
+    /// A store without objects, over a far store. It takes the memory for all that can be made, their bytes apart. The
+    /// objects that aren't far have at most `budget` bytes.
     pub fn new(alloc: Global, budget: u32, store: F) -> Result<Self, AllocError>
         ensures { IfOk result (λ s. s ≡ store_start budget (F.faults_of store)) }
     {
