@@ -14,7 +14,7 @@ use Rattle.asm_table.specs.declared.named.TheConstants.{BY_NAME}
 use Rattle.asm_table.specs.declared.operands.AsmOperand.{AsmOperand}
 use Rattle.asm_table.specs.declared.operands.AsmOperand.TheVariants as operand
 use Rattle.asm_table.specs.Mnemonics.{name}
-use Rattle.asm_table.specs.Names.{is_local, register_name}
+use Rattle.asm_table.specs.Names.{has_two_words, register_name}
 use Rattle.asm_table.specs.Parts.{mnemonic_of, operands_of}
 use Rattle.asm_table.specs.Canonical.{offset_text, operand_text, more_text, operands_text, line_text, FitsOperand, AllFitOperands, FitsParts}
 use Rattle.asm_table.proofs.Lookups.{all_pass, passing}
@@ -101,14 +101,14 @@ all_printable : all_pass has_printable BY_NAME.now ≡ true
 unfolding all_pass has_printable printable is_plain
 all_printable = refl
 
-name_at : (m : Mnemonic) (b : Bool) → is_local m ≡ b → printable (name m) ≡ true
+name_at : (m : Mnemonic) (b : Bool) → has_two_words m ≡ b → printable (name m) ≡ true
 unfolding has_printable printable is_plain
 name_at mnemonic.CallLocal b e = refl
 name_at m false e = passing has_printable m all_printable e
 name_at m true e = absurd (cc e)
 
 printable_name : (m : Mnemonic) → printable (name m) ≡ true
-printable_name m = name_at m (is_local m) refl
+printable_name m = name_at m (has_two_words m) refl
 
 pub printable_line : (i : Instr) → FitsParts i → printable (line_text i) ≡ true
 printable_line i f = printable_append (name (mnemonic_of i)) (operands_text (operands_of i)) (printable_name (mnemonic_of i)) (printable_operands (operands_of i) f)

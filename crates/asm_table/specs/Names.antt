@@ -22,9 +22,9 @@ unfoldable pub named : List ℕ → Option Mnemonic
 named word = named_in BY_NAME.now word
 
 -- the one mnemonic of two words
-abbrev pub is_local : Mnemonic → Bool
-is_local CallLocal = true
-is_local _ = false
+abbrev pub has_two_words : Mnemonic → Bool
+has_two_words CallLocal = true
+has_two_words _ = false
 
 abbrev pub register_name : Reg → List ℕ
 register_name R0 = codes "r0"

@@ -13,16 +13,16 @@ use Rattle.bpf_codec.specs.Slots.{Fits, slots}
 use Rattle.loader.specs.Instructions.{AllFit, slot_count as loaded_count}
 use Rattle.asm_table.specs.Mnemonics.{slots_of}
 use Rattle.asm_table.specs.Parts.{mnemonic_of}
-use Rattle.asm_table.specs.Canonical.{IsWithin, FitsParts, AllFitParts, slot_count, line_text, text_of}
+use Rattle.asm_table.specs.Canonical.{IsSignedWithin, FitsParts, AllFitParts, parts_slot_count, line_text, text_of}
 use Rattle.asm_table.proofs.Printable.{is_plain, printable, parts, printable_line}
 
 -- ---- numbers
 
-within16 : (z : ℤ) → FitsSigned w16 z → IsWithin (2 ^ 15) z
+within16 : (z : ℤ) → FitsSigned w16 z → IsSignedWithin (2 ^ 15) z
 within16 (pos n) h = omega (arith, h)
 within16 (negsuc n) h = omega (arith, h)
 
-within32 : (z : ℤ) → FitsSigned w32 z → IsWithin (2 ^ 31) z
+within32 : (z : ℤ) → FitsSigned w32 z → IsSignedWithin (2 ^ 31) z
 within32 (pos n) h = omega (arith, h)
 within32 (negsuc n) h = omega (arith, h)
 
@@ -59,12 +59,12 @@ same_slots (instr.Store z d (source.Imm k) o) = refl
 same_slots (instr.Store z d (source.Register s) o) = refl
 same_slots _ = refl
 
-pub same_count : (code : List Instr) → slot_count code ≡ loaded_count code
+pub same_count : (code : List Instr) → parts_slot_count code ≡ loaded_count code
 same_count [] = refl
 same_count (i ∷ is) =
     let a = same_slots i in
     let b = same_count is in
-    let c : slot_count (i ∷ is) ≡ slots_of (mnemonic_of i) + slot_count is = refl in
+    let c : parts_slot_count (i ∷ is) ≡ slots_of (mnemonic_of i) + parts_slot_count is = refl in
     let d : loaded_count (i ∷ is) ≡ slots i + loaded_count is = refl in
     omega (arith, a, b, c, d)
 

@@ -1,12 +1,12 @@
 -- Where the calls of a word apply.
 use Rattle.std.proofs.Common.{◌≡◌, false, Some, refl}
 use Rattle.pointer_word.specs.declared.word.Place.TheVariants.{Local, Moving, Far}
-use Rattle.pointer_word.specs.Words.{WordRecord, leaving, left, returning, home}
+use Rattle.pointer_word.specs.Words.{WordRecord, leaving, gone_far, returning, home}
 
 pub leaves : (w : WordRecord) → w.place ≡ Local → w.count ≡ 0 → w.turn ≡ false → leaving w ≡ Some (record w { place = Moving })
 leaves w p c t = rw (p, c, t) refl
 
-pub goes_far : (w : WordRecord) → w.place ≡ Moving → left w ≡ Some (record w { place = Far })
+pub goes_far : (w : WordRecord) → w.place ≡ Moving → gone_far w ≡ Some (record w { place = Far })
 goes_far w p = rw p refl
 
 pub returns_from : (w : WordRecord) → w.place ≡ Far → returning w ≡ Some (record w { place = Moving })

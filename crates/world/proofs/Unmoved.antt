@@ -9,7 +9,7 @@ use Rattle.object_store.specs.declared.places.Place.TheVariants as place
 use Rattle.object_store.specs.declared.places.Moved.{Moved}
 use Rattle.object_store.specs.declared.places.Moved.TheVariants as moved
 use Rattle.object_store.specs.Stores.{StoreState, store_memory, Touches}
-use Rattle.object_store.specs.Calls.{Refuses, Frees, BeginsLeave, EndsLeave, BeginsReturn, EndsReturn}
+use Rattle.object_store.specs.Calls.{RefusesMove, Frees, BeginsLeave, EndsLeave, BeginsReturn, EndsReturn}
 use Rattle.machine.specs.declared.state.Stepped.{Stepped}
 use Rattle.machine.specs.declared.state.Stepped.TheVariants as stepped
 use Rattle.machine.specs.MachineState.{MachineState}
@@ -137,7 +137,7 @@ step_erased m way old new r e h =
 
 -- ---- moves
 
-refuses_stay : (from : Place) (old new : StoreState) (n : ℕ) (m : Moved) → Refuses from old n m new → new.objects ≡ old.objects
+refuses_stay : (from : Place) (old new : StoreState) (n : ℕ) (m : Moved) → RefusesMove from old n m new → new.objects ≡ old.objects
 refuses_stay from old new n moved.NoObject h = ap (λ (s : StoreState). s.objects) h.1
 refuses_stay from old new n (moved.Misplaced p) h = ap (λ (s : StoreState). s.objects) h.2
 refuses_stay from old new n _ h = absurd h

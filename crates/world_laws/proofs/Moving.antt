@@ -6,7 +6,7 @@ use Rattle.object_store.specs.declared.places.Place.TheVariants.{Here, Leaving, 
 use Rattle.object_store.specs.declared.places.Moved.{Moved}
 use Rattle.object_store.specs.declared.places.Moved.TheVariants as moved
 use Rattle.object_store.specs.Stores.{StoreState, place_of, with_place}
-use Rattle.object_store.specs.Calls.{Refuses, BeginsLeave, EndsLeave, BeginsReturn, EndsReturn}
+use Rattle.object_store.specs.Calls.{RefusesMove, BeginsLeave, EndsLeave, BeginsReturn, EndsReturn}
 use Rattle.world.specs.Commands.Command.{Leave, Left, Return, Returned}
 use Rattle.world.specs.WorldState.{WorldState}
 use Rattle.world_laws.specs.Moves.{MovesOnly, MovesChangeNoByte}
@@ -21,7 +21,7 @@ stays old new n e = subst (λ (s : StoreState). StoreMoves old n s) (sym e) (rec
 moves : (old new : StoreState) (n faults : ℕ) (p : Place) → new ≡ record (with_place old n p) { faults = faults } → StoreMoves old n new
 moves old new n faults p e = subst (λ (s : StoreState). StoreMoves old n s) (sym e) (record { same = refl; others = λ k d. get_or-set_other old.places n k p Here d })
 
-refuses : (at : Place) (old new : StoreState) (n : ℕ) (m : Moved) → Refuses at old n m new → StoreMoves old n new
+refuses : (at : Place) (old new : StoreState) (n : ℕ) (m : Moved) → RefusesMove at old n m new → StoreMoves old n new
 refuses at old new n moved.NoObject h = stays old new n h.1
 refuses at old new n (moved.Misplaced p) h = stays old new n h.2
 refuses at old new n _ h = absurd h

@@ -25,7 +25,7 @@ use Rattle.world.specs.WorldState.{WorldState, world_start}
 use Rattle.world.specs.Steps.{Way, Steps, AnswersStep, reply_to_step}
 use Rattle.world.specs.Steps.Way.{ByStep, ByOne}
 use Rattle.world.specs.Answers.{Answers, reply_to_move}
-use Rattle.world_laws.specs.Replies.{steps, is_on_objects, made_numbers, counted_from, NumbersCountUp}
+use Rattle.world_laws.specs.Replies.{machine_stepped, is_on_objects, made_numbers, counted_from, NumbersCountUp}
 use Rattle.world_laws.proofs.Replying.{Misses, Halts, step_cases, step_replies, move_replies}
 use Rattle.world_laws.proofs.Apart.{objects_stay}
 
@@ -167,7 +167,7 @@ by_reply _ h = refl
 same : (old new : WorldState) (c : Command) (r : Reply) → Answers old c r new → is_make c ≡ false → count new.store ≡ count old.store → Adds old r new
 same old new c r h t e = same_count old new r (by_reply r (λ n f. only_make old new c n (subst (λ x. Answers old c x new) f h) t)) e
 
-elsewhere : (old new : WorldState) (c : Command) (r : Reply) → Answers old c r new → is_on_objects c ≡ false → steps c ≡ None → is_make c ≡ false → Adds old r new
+elsewhere : (old new : WorldState) (c : Command) (r : Reply) → Answers old c r new → is_on_objects c ≡ false → machine_stepped c ≡ None → is_make c ≡ false → Adds old r new
 elsewhere old new c r h t u v = same old new c r h v (ap count (objects_stay old new c r h t u))
 
 adds : (old new : WorldState) (c : Command) (r : Reply) → Answers old c r new → Adds old r new

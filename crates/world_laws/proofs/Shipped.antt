@@ -15,7 +15,7 @@ use Rattle.world.specs.WorldState.{WorldState, world_start}
 use Rattle.world.specs.Steps.{Way, Steps, AnswersStep}
 use Rattle.world.specs.Steps.Way.{ByStep, ByOne}
 use Rattle.world.specs.Answers.{Answers}
-use Rattle.world_laws.specs.Replies.{machine_in, debugs, is_on_objects, is_showing, shipped_codes, code_of, RunsWhatWasShipped}
+use Rattle.world_laws.specs.Replies.{machine_in, machine_debugged, is_on_objects, is_showing, shipped_codes, code_of, RunsWhatWasShipped}
 use Rattle.world_laws.proofs.KeptCode.{step_keeps_code}
 use Rattle.world_laws.proofs.Machines.{with_map}
 use Rattle.world_laws.proofs.Replying.{Misses, Halts, step_cases}
@@ -55,7 +55,7 @@ through : (ms : List Debuggee) → codes ms ≡ map code_in (map machine_in ms)
 through [] = refl
 through (d ∷ ms) = ap (λ (l : List (List ℕ)). code_of d ∷ l) (through ms)
 
-debugged : (old new : WorldState) (c : Command) (r : Reply) (m : ℕ) → Answers old c r new → debugs c ≡ Some m → SameCodes old new
+debugged : (old new : WorldState) (c : Command) (r : Reply) (m : ℕ) → Answers old c r new → machine_debugged c ≡ Some m → SameCodes old new
 debugged old new c r m h t =
     unchanged old new (through new.machines ∙ ap (map code_in) (debugging_keeps old new c r m h t).1 ∙ sym (through old.machines))
 

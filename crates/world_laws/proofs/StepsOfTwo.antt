@@ -17,8 +17,8 @@ use Rattle.machine.specs.MachineState.{MachineState}
 use Rattle.machine.specs.Rows.{Request, MemoryAnswer, Outcome, asks}
 use Rattle.machine.specs.Rows.Request.{Nothing, Touch, Measure}
 use Rattle.machine.specs.Rows.MemoryAnswer.{NoAnswer, Reached, Measured}
-use Rattle.machine.specs.TableStep.{TableStep, Answers, Closes, StepsFrom}
-use Rattle.machine.specs.Laws.{Touches}
+use Rattle.machine.specs.TableStep.{TableStep, AnswersRequest, Closes, StepsFrom}
+use Rattle.machine.specs.Laws.{AccessesNext}
 use Rattle.machine.proofs.StepCases.{StepCase, step_case, steps_told, steps_stayed}
 
 -- ---- a step as a request and its answer, which does it again over any other store
@@ -26,9 +26,9 @@ use Rattle.machine.proofs.StepCases.{StepCase, step_case, steps_told, steps_stay
 record Asked {M : Type 0} (mem : Memories M) (m : MachineState) (o : Outcome) (before mid : M) : Type 0 where
   request : Request
   said : MemoryAnswer
-  answers : Answers mem request before said mid
-  touches : (n : ℕ) (op : Op) → request ≡ Touch n op → Touches m n
-  again : (x y : M) → Answers mem request x said y → StepsFrom m.stop mem m x o y
+  answers : AnswersRequest mem request before said mid
+  touches : (n : ℕ) (op : Op) → request ≡ Touch n op → AccessesNext m n
+  again : (x y : M) → AnswersRequest mem request x said y → StepsFrom m.stop mem m x o y
 
 no_touch : {P : Type 0} (n : ℕ) (op : Op) → Nothing ≡ Touch n op → P
 no_touch n op e = absurd (cc)
@@ -85,7 +85,7 @@ Says s (Touch n op) (Reached r) = Allows op (bytes_of s.objects n) (place_of s.p
 Says s (Measure n) (Measured k) = k ≡ length (bytes_of s.objects n)
 Says s _ _ = ⊥
 
-split : (who : ℕ) (q : Request) (a : MemoryAnswer) (x y : StoreState) → Answers (store_memory who) q x a y → Says x q a × (y ≡ effect who q a x)
+split : (who : ℕ) (q : Request) (a : MemoryAnswer) (x y : StoreState) → AnswersRequest (store_memory who) q x a y → Says x q a × (y ≡ effect who q a x)
 split who Nothing NoAnswer x y h = (tt, h)
 split who Nothing _ x y h = absurd h
 split who (Touch n op) (Reached (reach.Done v)) x y h = ((h.0, h.1, h.2), h.3)
@@ -97,7 +97,7 @@ split who (Touch n op) _ x y h = absurd h
 split who (Measure n) (Measured k) x y h = (h.0, h.1)
 split who (Measure n) _ x y h = absurd h
 
-join : (who : ℕ) (q : Request) (a : MemoryAnswer) (x : StoreState) → Says x q a → Answers (store_memory who) q x a (effect who q a x)
+join : (who : ℕ) (q : Request) (a : MemoryAnswer) (x : StoreState) → Says x q a → AnswersRequest (store_memory who) q x a (effect who q a x)
 join who Nothing NoAnswer x h = refl
 join who Nothing _ x h = absurd h
 join who (Touch n op) (Reached (reach.Done v)) x h = (h.0, h.1, h.2, refl)
@@ -229,7 +229,7 @@ record Stepping (who : ℕ) (p : MachineState) (x : StoreState) (a : Stepped) (q
   closes : Bool
   says : Says x request said
   becomes : y ≡ acted who request said closes x
-  touches : (n : ℕ) (op : Op) → request ≡ Touch n op → Touches p n
+  touches : (n : ℕ) (op : Op) → request ≡ Touch n op → AccessesNext p n
   again : (s t : StoreState) → Says s request said → t ≡ acted who request said closes s → TableStep (store_memory who) p s a q t
 
 stepping_so : (who : ℕ) (p q : MachineState) (x y : StoreState) (a : Stepped) → TableStep (store_memory who) p x a q y → Stepping who p x a q y
@@ -252,7 +252,7 @@ stepping_so who p q x y a t =
       };
     }
 
-pub store_steps_commute : (m k : ℕ) (p q r s : MachineState) (before mid after : StoreState) (a b : Stepped) → m ≢ k → ((n : ℕ) → Touches p n → Touches q n → ⊥)
+pub store_steps_commute : (m k : ℕ) (p q r s : MachineState) (before mid after : StoreState) (a b : Stepped) → m ≢ k → ((n : ℕ) → AccessesNext p n → AccessesNext q n → ⊥)
     → TableStep (store_memory m) p before a r mid → TableStep (store_memory k) q mid b s after
     → (other : StoreState) × TableStep (store_memory k) q before b s other × TableStep (store_memory m) p other a r after
 store_steps_commute m k p q r s before mid after a b d apart t u =

@@ -8,7 +8,7 @@ use Rattle.object_store.specs.declared.places.Place.TheVariants as place
 use Rattle.object_store.specs.declared.places.Moved.{Moved}
 use Rattle.object_store.specs.declared.places.Moved.TheVariants as moved
 use Rattle.object_store.specs.Stores.{StoreState, StandsAt, HasRoom, IsScoped, near_bytes, near_length, store_memory, with_place}
-use Rattle.object_store.specs.Calls.{Refuses, Frees, BeginsLeave, EndsLeave, BeginsReturn, EndsReturn}
+use Rattle.object_store.specs.Calls.{RefusesMove, Frees, BeginsLeave, EndsLeave, BeginsReturn, EndsReturn}
 use Rattle.machine.specs.declared.state.Stepped.{Stepped}
 use Rattle.machine.specs.declared.state.Stepped.TheVariants as stepped
 use Rattle.machine.specs.MachineState.{MachineState}
@@ -56,7 +56,7 @@ pub data StoreChange (old : StoreState) (r : Reply) (new : StoreState) : Type 0 
 
 -- ---- moves
 
-refused : (at : Place) (old new : StoreState) (n : ℕ) (m : Moved) (told : Reply) (back : Place) → Refuses at old n m new → StoreChange old (reply_to_move told back n m) new
+refused : (at : Place) (old new : StoreState) (n : ℕ) (m : Moved) (told : Reply) (back : Place) → RefusesMove at old n m new → StoreChange old (reply_to_move told back n m) new
 refused at old new n moved.NoObject told back h = Unchanged (λ k p. refl) h.1
 refused at old new n (moved.Misplaced q) told back h = Unchanged (λ k p. refl) h.2
 refused at old new n _ told back h = absurd h
