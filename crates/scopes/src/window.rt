@@ -32,6 +32,16 @@ impl Model for Window {
     ghost invariant = { λ w. IsKeptWindow w.oldest w.third w.second w.newest };
 }
 
+impl Default for Window {
+    ghost use Rattle.std.specs.Prelude.{◌≡◌, []};
+
+    ghost is_default = { λ w. w ≡ [] };
+
+    fn default() -> Self {
+        Window::new()
+    }
+}
+
 impl Window {
     /// A window that holds nothing.
     pub fn new() -> Self
