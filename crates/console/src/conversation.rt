@@ -6,7 +6,7 @@ ghost use Rattle.world.specs.Answers.{Answers};
 ghost use Rattle.world.specs.declared.events.Reply.{Reply};
 ghost use Rattle.console.specs.Lines.{IsLine, ended};
 ghost use Rattle.console.specs.Replies.{reply_text};
-ghost use Rattle.console.specs.Commands.{Reads, Spells};
+ghost use Rattle.console.specs.Commands.{Reads, SpellsCommand};
 ghost use Rattle.console.specs.Held.{bytes_so_far, clip, held_bytes, nothing_held};
 ghost use Rattle.console.specs.Conversations.{Answered, AnswersSoFar, AnswersAll, FailsInReply, StopsReading, StopsWriting};
 ghost use Rattle.console.specs.Agent.{agent};
@@ -24,7 +24,7 @@ const PIECE: usize = 4096;
 
 /// Does a command that a line spells, and makes the line of the reply.
 fn perform_event<F: FarStore>(world: &mut World<F>, event: Event, reply: &mut ReplyLine)
-    requires { (line : List ℕ) × Reads (Spells line) (Ok event) }
+    requires { (line : List ℕ) × Reads (SpellsCommand line) (Ok event) }
     ensures { (told : Reply) × Answers world.old (command_of event) told world.new × (reply.new.items ≡ ended (reply_text told)) }
 {
     print_reply(&world.apply(event), reply);
@@ -36,8 +36,8 @@ fn perform<F: FarStore>(
     command: Result<Event, LineFault>,
     reply: &mut ReplyLine,
 )
-    requires { (line : List ℕ) × Reads (Spells line) command }
-    ensures { (line : List ℕ) → IsLine line → Reads (Spells line) command → Answered agent world.old line reply.new.items world.new }
+    requires { (line : List ℕ) × Reads (SpellsCommand line) command }
+    ensures { (line : List ℕ) → IsLine line → Reads (SpellsCommand line) command → Answered agent world.old line reply.new.items world.new }
 {
     match command {
         // a step's reply is small, and isn't moved as one that may be large
