@@ -20,7 +20,7 @@ pub record StoreState : Type 0 where
   pub places : List Place
   -- the window of each machine
   pub windows : List (List ℕ)
-  -- how many bytes may be here at a time
+  -- how many bytes the objects that aren't far may have
   pub budget : ℕ
   -- how many faults the far store had
   pub faults : ℕ
