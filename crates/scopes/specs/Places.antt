@@ -3,24 +3,24 @@ use Rattle.std.specs.Prelude.{◌≡◌, ℕ, nat_lt, Bool, true, cond, List, []
 use Rattle.scopes.specs.Windows.{IsWindow}
 
 -- whether a number of 32 bits stands at a place
-abbrev pub is_number : ℕ → Bool
-is_number n = nat_lt n 4294967296
+abbrev pub is_filled : ℕ → Bool
+is_filled n = nat_lt n 4294967296
 
 -- what stands at a place
 abbrev pub number_at : ℕ → Option ℕ
-number_at n = cond (is_number n) (Some n) None
+number_at n = cond (is_filled n) (Some n) None
 
 -- the number at a place, before others
-abbrev pub before : ℕ → List ℕ → List ℕ
-before n rest = cond (is_number n) (n ∷ rest) rest
+abbrev pub number_before : ℕ → List ℕ → List ℕ
+number_before n rest = cond (is_filled n) (n ∷ rest) rest
 
 -- the numbers at four places, the oldest first
 abbrev pub numbers_in : ℕ → ℕ → ℕ → ℕ → List ℕ
-numbers_in oldest third second newest = before oldest (before third (before second (before newest [])))
+numbers_in oldest third second newest = number_before oldest (number_before third (number_before second (number_before newest [])))
 
 -- A window as it is always kept: no place is empty before one that is filled.
 pub record IsKeptWindow (oldest third second newest : ℕ) : Type 0 where
   pub window : IsWindow (numbers_in oldest third second newest)
-  pub before_oldest : is_number oldest ≡ true → is_number third ≡ true
-  pub before_third : is_number third ≡ true → is_number second ≡ true
-  pub before_second : is_number second ≡ true → is_number newest ≡ true
+  pub before_oldest : is_filled oldest ≡ true → is_filled third ≡ true
+  pub before_third : is_filled third ≡ true → is_filled second ≡ true
+  pub before_second : is_filled second ≡ true → is_filled newest ≡ true
