@@ -188,19 +188,19 @@ case_replay mem lengths k start old es before o mid l r p (inr (inl d)) = record
   more = [];
   asked = ForNothing refl d.same;
   replays =
-    subst (λ (x : Outcome). ReplaysOn x.answer lengths k start (es ++ []) x.machine) (sym d.becomes)
-    (subst (λ (fs : List Entry). ReplaysOn (Stopped d.stop) lengths k start fs (record old { stop = Some d.stop })) (sym (append-nil es)) (halted d.stop lengths k start old es d.other r p));
+      subst (λ (x : Outcome). ReplaysOn x.answer lengths k start (es ++ []) x.machine) (sym d.becomes)
+      (subst (λ (fs : List Entry). ReplaysOn (Stopped d.stop) lengths k start fs (record old { stop = Some d.stop })) (sym (append-nil es)) (halted d.stop lengths k start old es d.other r p));
 }
 case_replay mem lengths k start old es before o mid l r p (inr (inr d)) =
     let w : Work = work_of d.instr old.registers in
     let f = feed mem lengths w d.instr old before mid d.said l d.answers in
     record {
-  more = f.more;
-  asked = f.asked;
-  replays =
-    subst (λ (x : Outcome). ReplaysOn x.answer lengths k start (es ++ f.more) x.machine) (sym d.becomes)
-    (on_replay (told d.instr old d.said).answer lengths k start old (told d.instr old d.said).machine es f.more d.instr d.attempts r (told_left w d.instr old d.said) p f.feeds);
-}
+      more = f.more;
+      asked = f.asked;
+      replays =
+          subst (λ (x : Outcome). ReplaysOn x.answer lengths k start (es ++ f.more) x.machine) (sym d.becomes)
+          (on_replay (told d.instr old d.said).answer lengths k start old (told d.instr old d.said).machine es f.more d.instr d.attempts r (told_left w d.instr old d.said) p f.feeds);
+    }
 
 pub stays_replay : {M : Type 0} (mem : Memories M) → StaysReplay mem
 stays_replay {M} mem lengths k start old new es before after a l r p t =
