@@ -40,9 +40,8 @@ vectors:
 	@python3 crates/conversations/make_vectors.py | cmp - $(SCRIPTS)/vectors.script
 	@python3 crates/conversations/make_moves_vectors.py | cmp - $(SCRIPTS)/moves_vectors.script
 	@python3 crates/conversations/make_vectors.py --check $(SCRIPTS)/*.script examples/*.script examples/c/*.script
-	@python3 crates/asm_tests/make_page.py docs/ASSEMBLY.md | cmp - crates/asm_tests/src/page_list.rt
-	@(cd crates/asm_tests && python3 make_forms.py) | cmp - crates/asm_tests/src/form_list.rt
-	@echo "vectors, forms of assembly and examples are what they are made from, and the replies of all scripts are those of the interpreter"
+	@python3 tests/generated.py
+	@echo "vectors and lists of tests are what they are made from, and the replies of all scripts are those of the interpreter"
 
 # Outside the gate. These need a C compiler and Python.
 

@@ -1,8 +1,9 @@
 #!/usr/bin/env python3
-"""Checks that docs/DEFINITIONS.md names every definition that a public clause depends on, and none that isn't there.
+"""Checks that docs/DEFINITIONS.md names every definition that a public clause depends on, and none that isn't there, and
+that each of them has a comment of its own.
 
 With --list it prints these definitions, by crate and file, each with the comment above it; with --table as tables of the
-page, a row for each comment with the definitions below it.
+page, a row for each.
 
 A public clause is one of a `pub fn`, of a method of a trait's impl, or of a `pub trait`, and what a public type says of
 itself (its Model, its ghost items). From the names in these clauses the script follows the imports: the `ghost use`
@@ -50,13 +51,12 @@ class Specs:
 
     def __init__(self, crate, module, own):
         text = (ROOT / f"crates/{crate}/specs/{module}.antt").read_text()
-        self.says = text.split("\n")[0].lstrip("- ").split(". ")[0].rstrip(".")
         self.imports = imports(text, USE, own)
         self.definitions, self.comments = {}, {}
         comment, name = [], None
         for line in text.split("\n"):
             if line.startswith("--"):
-                comment.append(line.lstrip("- "))
+                comment = [] if line.startswith("-- ----") else comment + [line.lstrip("- ")]
                 continue
             started = DEFINITION.match(line)
             if started and started[1] not in self.definitions and not line.startswith(("use ", "pub use ")):
@@ -176,26 +176,20 @@ def modules_of(crate, found):
     return [m for m in named if m in needed] + sorted(needed - set(named))
 
 
-def rows(file, needed):
-    """The needed definitions of a file, in its order, those below one comment together, with the comment."""
-    groups = []
-    for name in file.definitions:
-        says = file.comments[name]
-        if says or not groups:
-            groups.append((says, []))
-        if name in needed:
-            groups[-1][1].append(name)
-    return [(says, names) for says, names in groups if names]
+def cell(says):
+    """A comment as it stands in a table: without the capital and the stop of a sentence."""
+    return re.sub(r"^[A-Z](?=[a-z ])", lambda first: first[0].lower(), says.rstrip("."))
 
 
 def show_table(crate, modules, found, specs):
-    """Prints the tables of one crate."""
+    """Prints the table of one crate."""
     print(f"\n## `{crate}`\n\n| File | Definitions | They say |\n|---|---|---|")
     for module in modules:
         file = f"`{module}`"
-        for says, names in rows(specs[crate, module], {n for c, m, n in found if (c, m) == (crate, module)}):
-            print(f"| {file} | {', '.join(f'`{name}`' for name in names)} | {(says or specs[crate, module].says).rstrip('.')} |")
-            file = ""
+        for name, says in specs[crate, module].comments.items():
+            if (crate, module, name) in found:
+                print(f"| {file} | `{name}` | {cell(says)} |")
+                file = ""
 
 
 def show(own, found, specs, as_table):
@@ -220,13 +214,16 @@ def main():
     names = page_names()
     missing = [(c, m, n) for c, m, n in found if n not in names.get(c, set())]
     lost = not_there(own)
+    silent = [(c, m, n) for c, m, n in found if not specs[c, m].comments[n]]
     for crate, module, name in missing:
         print(f"{PAGE}: `{name}` of crates/{crate}/specs/{module}.antt is missing: a public clause depends on it")
     for crate, name in lost:
         print(f"{PAGE}: no file of crates/{crate}/specs defines `{name}`")
-    if missing or lost:
-        sys.exit(f"{len(missing)} definitions are missing on {PAGE}, and {len(lost)} are not there any more")
-    print(f"{PAGE} names the {len(found)} definitions that public clauses depend on")
+    for crate, module, name in silent:
+        print(f"crates/{crate}/specs/{module}.antt: `{name}` has no comment of its own, which {PAGE} would show")
+    if missing or lost or silent:
+        sys.exit(f"{len(missing)} definitions are missing on {PAGE}, {len(lost)} are not there any more, and {len(silent)} have no comment")
+    print(f"{PAGE} names the {len(found)} definitions that public clauses depend on, each with a comment of its own")
 
 
 if __name__ == "__main__":

@@ -12,7 +12,7 @@ import time
 
 from sources import ROOT, crates
 
-SCRIPTS = ["tests/protocol.py", "tests/definitions.py", "tests/failures.py"]
+SCRIPTS = ["tests/protocol.py", "tests/definitions.py", "tests/generated.py", "tests/failures.py"]
 BUILT = ["crates/bpfagent/out/bpfagent", "crates/bpfagent/out/bpfagent.by-rattle"]
 PROVED = re.compile(r"rt: \w+(: its tests are)? proved$")
 

@@ -139,6 +139,7 @@ def show_examples(program):
         code = path.read_bytes()
         is_done(program, ["check"], code, b"ok %d\n" % (len(code) // 8))
         script = path.with_name(path.stem.split(".")[0] + ".script")
+        want(script.exists(), f"{path.name} stands in no conversation: {script.name} is missing, which docs/WRITING-PROGRAMS.md says how to make")
         want(code.hex() in script.read_text(), f"{script.name} doesn't ship {path.name}")
     return count
 

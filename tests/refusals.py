@@ -1,10 +1,12 @@
 #!/usr/bin/env python3
-"""Runs the programs with each of their allocations failing in turn: refusals.py RT
+"""Runs the programs with their allocations failing in turn, up to 60 of each conversation: refusals.py RT
 
 Where an allocation of `run` fails before the first line, the program ends with `no memory` and status 3, and nothing is
 replied. Where a later one fails, one command is answered `nomem`, or `kept n fault far` where it is `returned`, and the
 conversation goes on as if the command hadn't come: the other replies are those of the same commands without it, or with
-an object that returned and left again. This is tried on each conversation of the worked examples. `check`, `asm` and `dis` end with `no memory`, and no output.
+an object that returned and left again. This is tried on each of the
+worked conversations, of those of moves and of debugging, and of the examples of README and the protocol. `check`, `asm` and
+`dis` end with `no memory`, and no output.
 
 `refused_run` does a list of commands in one call: where an allocation fails there is no reply, and the world is as before.
 

@@ -1,9 +1,12 @@
 #!/usr/bin/env python3
-"""Writes the tables of expected values in src/, computed on Python's integers from RFC 9669, sections 4.1 to
-4.3 and 5.3.
+"""Writes the tables of expected values, computed on Python's integers from RFC 9669, sections 4.1 to 4.3 and 5.3:
 
-Run it in this folder, and lay the files out with `rt fmt`.
+    python3 crates/isa_table_tests/vectors.py crates/isa_table_tests/src
+
+`rt fmt` lays the files out.
 """
+import pathlib
+import sys
 
 ALL64 = 2**64 - 1
 LEAST64, GREATEST64 = 2**63, 2**63 - 1
@@ -220,8 +223,7 @@ def main():
         ("atomics32", atomics(32)),
         ("single", single()),
     ]:
-        with open(f"src/{name}.rt", "w") as file:
-            file.write(text)
+        (pathlib.Path(sys.argv[1]) / f"{name}.rt").write_text(text)
 
 
 main()

@@ -3,7 +3,8 @@
 
 ship.py check OBJECT              says why a compiler's object file can't be shipped as raw code, if it can't
 ship.py line CODE FUEL [A ..]     prints the `ship` line of raw code, with up to five arguments
-ship.py run BPFAGENT CODE [A ..]  ships it to a new `bpfagent run`, steps it to its end and shows the objects
+ship.py run BPFAGENT CODE [A ..]  ships it to a new `bpfagent run` with a fuel of 1,000,000, steps it to its end and
+                                  shows the objects
 
 An argument is a number; for `run` it may also be an object, whose address is given: +N is one of N zero bytes, @FILE one
 of a file's bytes, =TEXT one of a text's.

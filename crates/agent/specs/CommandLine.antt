@@ -13,7 +13,7 @@ use Rattle.agent.specs.declared.arguments.Task.TheVariants.{Run, Check, Assemble
 abbrev pub budget_limit : ℕ
 budget_limit = 67108864
 
--- as a word
+-- the same, in decimal
 abbrev pub budget_limit_text : Text
 budget_limit_text = codes "67108864"
 

@@ -10,7 +10,7 @@ use std::convert::AsStr;
 /// What the program can be asked for.
 #[derive(Clone, Copy, Debug, PartialEq, Eq)]
 pub enum Task {
-    /// To do commands, with at most so many bytes of objects here at a time.
+    /// To do commands, where the objects that aren't far have at most so many bytes.
     Run { budget: u32 },
     /// To check raw code.
     Check,
@@ -20,7 +20,7 @@ pub enum Task {
     Disassemble,
 }
 
-/// `--budget N`: the most bytes of objects that may be here at a time.
+/// `--budget N`: the most bytes that the objects that aren't far may have.
 fn make_budget<'a>(alloc: Global) -> Arg<'a>
     ensures { rule_of result ≡ budget_rule }
 {
@@ -29,7 +29,7 @@ fn make_budget<'a>(alloc: Global) -> Arg<'a>
         .value_name("N")
         .value_parser(value_parser!(u32).range(0..=67_108_864))
         .default_value("67108864")
-        .help("The most bytes of objects that may be here at a time")
+        .help("The most bytes of objects that are not far")
 }
 
 /// The command line of the program.

@@ -18,7 +18,7 @@ fn make_world(alloc: Global, budget: u32) -> Result<World<OwnStore>, AllocError>
 }
 
 /// Does the commands that the reader has, from a world with no machine and no object, and writes
-/// their replies. At most `budget` bytes of objects are here at a time. Out of memory before the
+/// their replies. The objects that aren't far have at most `budget` bytes. Out of memory before the
 /// first line reads no input.
 pub fn run<R: Read, W: Write>(
     alloc: Global,

@@ -32,7 +32,7 @@ const RUN_HELP: &str = "Do the commands of standard input, one a line
 Usage: bpfagent run [OPTIONS]
 
 Options:
-      --budget <N>  The most bytes of objects that may be here at a time [default: 67108864]
+      --budget <N>  The most bytes of objects that are not far [default: 67108864]
   -h, --help        Print help
 ";
 

@@ -7,6 +7,7 @@ use Rattle.asm_grammar.specs.declared.written.Sign.TheVariants as sign
 use Rattle.asm_grammar.specs.Writing.{Written}
 use Rattle.asm_grammar.specs.Writing.Written.{Word, Bare, Signed, Memory, MemoryAt}
 
+-- an operand as the canonical spelling writes it
 abbrev pub canonical : AsmOperand → Written
 canonical (operand.Register r) = Word (register_name r)
 canonical (operand.Imm (pos n)) = Bare (Some n)

@@ -3,6 +3,7 @@ use Rattle.std.specs.Prelude.{ℕ, List, codes}
 use Rattle.asm_grammar.specs.declared.why.Why.{Why}
 use Rattle.asm_grammar.specs.declared.why.Why.TheVariants as why
 
+-- reasons by number
 abbrev pub why_number : Why → ℕ
 why_number why.Word = 1
 why_number why.Operand = 2
@@ -12,6 +13,7 @@ why_number why.TwiceLabel = 5
 why_number why.TooLong = 6
 why_number why.Memory = 7
 
+-- reasons by name
 abbrev pub why_name : Why → List ℕ
 why_name why.Word = codes "Word"
 why_name why.Operand = codes "Operand"

@@ -17,7 +17,7 @@ fitting limit s None = None
 fitting limit sign.Plus (Some k) = if nat_lt k limit then Some (pos k) else None
 fitting limit sign.Minus (Some k) = if nat_le k limit then Some (neg_ℤ (pos k)) else None
 
--- the same modulo 2^64, from -2^63 to 2^64 - 1
+-- a 64-bit immediate: the number after a sign, from -2^63 to 2^64 - 1, modulo 2^64
 abbrev pub imm64_of : Sign → Option ℕ → Option ℕ
 imm64_of s None = None
 imm64_of sign.Plus (Some k) = Some k
@@ -32,14 +32,18 @@ pub data Taken : Type 0 where
   To : List ℕ → Taken
   LongTo : List ℕ → Taken
 
+-- taken as the operand with this number, or as out of its range where there is none
 abbrev pub counted : {A : Type 0} → (A → AsmOperand) → Option A → Taken
 counted f None = Out
 counted f (Some z) = Is (f z)
 
+-- taken with this register, or not at all where there is none
 abbrev pub registered : (Reg → Taken) → Option Reg → Taken
 registered f None = No
 registered f (Some r) = f r
 
+-- How a written operand is taken where this sort is wanted: offsets are signed 16-bit, imm and the offset in imm signed
+-- 32-bit.
 abbrev pub operand_taken : Sort → Written → Taken
 operand_taken sort.Register (Word w) = registered (λ r. Is (operand.Register r)) (register_named w)
 operand_taken sort.RegisterOrImm (Word w) = registered (λ r. Is (operand.Register r)) (register_named w)
@@ -57,6 +61,6 @@ operand_taken sort.LongTarget (Word w) = LongTo w
 operand_taken sort.LongTarget (Signed s n) = counted (λ z. operand.LongOffset z) (fitting (2 ^ 31) s n)
 operand_taken _ _ = No
 
--- from the slot after slot n to this one
+-- the offset from the slot after slot n to this one
 abbrev pub distance : ℕ → ℕ → ℤ
 distance slot n = pos slot -ℤ pos (n + 1)

@@ -11,9 +11,11 @@ use Rattle.asm_grammar.specs.Sorts.{Taken}
 use Rattle.asm_grammar.specs.Sorts.Taken.{No, Out, Is, To, LongTo}
 use Rattle.asm_grammar.specs.Reading.{Gathered, Look}
 
+-- what the code has read so far
 abbrev pub gathered_seen : GatheredOfCode → Gathered
 gathered_seen g = record { operands = g.operands.items; out = g.out; unknown = g.unknown }
 
+-- which slot a label stands for, by the code's map of labels
 abbrev pub look_in : BTreeMap (Bor (List ℕ)) ℕ → Look
 look_in labels = λ name. get_by (λ k. slice_cmp nat_cmp name k.now) labels
 
@@ -21,10 +23,12 @@ look_in labels = λ name. get_by (λ k. slice_cmp nat_cmp name k.now) labels
 abbrev pub AllBelow : BTreeMap (Bor (List ℕ)) ℕ → Type 0
 AllBelow labels = (name : List ℕ) (slot : ℕ) → look_in labels name ≡ Some slot → slot ≤ 4096
 
+-- the label that the code has read, if there is one
 abbrev pub label_seen : Option (Bor (List ℕ)) → Option (List ℕ)
 label_seen None = None
 label_seen (Some w) = Some w.now
 
+-- how the code takes a written operand
 abbrev pub taken_by : TakenOfCode → Taken
 taken_by code.No = No
 taken_by code.Out = Out

@@ -16,11 +16,12 @@ pub data Written : Type 0 where
   Memory : List ℕ → Written
   MemoryAt : List ℕ → Sign → Option ℕ → Written
 
+-- the token of a sign
 abbrev pub sign_token : Sign → Lexeme
 sign_token sign.Plus = Plus
 sign_token sign.Minus = Minus
 
--- its tokens
+-- the tokens of a written operand
 abbrev pub lexemes_of : Written → List Lexeme
 lexemes_of (Word w) = Name w ∷ []
 lexemes_of (Bare n) = Number n ∷ []
@@ -28,11 +29,12 @@ lexemes_of (Signed s n) = sign_token s ∷ Number n ∷ []
 lexemes_of (Memory w) = Open ∷ Name w ∷ Close ∷ []
 lexemes_of (MemoryAt w s n) = Open ∷ Name w ∷ sign_token s ∷ Number n ∷ Close ∷ []
 
--- operands joined by commas; `more` are those after the first
+-- the tokens of operands after the first, each after a comma
 abbrev pub more : List Written → List Lexeme
 more [] = []
 more (w ∷ ws) = Comma ∷ (lexemes_of w ++ more ws)
 
+-- the tokens of operands joined by commas
 abbrev pub joined : List Written → List Lexeme
 joined [] = []
 joined (w ∷ ws) = lexemes_of w ++ more ws
@@ -47,28 +49,34 @@ written_seen (code.MemoryAt w s n) = MemoryAt w.now s n
 
 -- ---- the operand at the front, and the tokens after it
 
+-- after a sign: a number
 abbrev pub signed_at : Sign → List Lexeme → Option (Written × List Lexeme)
 signed_at s (Number n ∷ ts) = Some (Signed s n, ts)
 signed_at s _ = None
 
+-- at the end of an operand in brackets: `]`
 abbrev pub close_at : Written → List Lexeme → Option (Written × List Lexeme)
 close_at w (Close ∷ ts) = Some (w, ts)
 close_at w _ = None
 
+-- after a sign in brackets: a number and `]`
 abbrev pub offset_at : List ℕ → Sign → List Lexeme → Option (Written × List Lexeme)
 offset_at w s (Number n ∷ ts) = close_at (MemoryAt w s n) ts
 offset_at w s _ = None
 
+-- after the name in brackets: `]`, or a sign, a number and `]`
 abbrev pub base_at : List ℕ → List Lexeme → Option (Written × List Lexeme)
 base_at w (Close ∷ ts) = Some (Memory w, ts)
 base_at w (Plus ∷ ts) = offset_at w sign.Plus ts
 base_at w (Minus ∷ ts) = offset_at w sign.Minus ts
 base_at w _ = None
 
+-- after `[`: a name, and what stands after it up to `]`
 abbrev pub memory_at : List Lexeme → Option (Written × List Lexeme)
 memory_at (Name w ∷ ts) = base_at w ts
 memory_at _ = None
 
+-- the operand at the front, and the tokens after it; nothing where no operand is there
 abbrev pub operand_at : List Lexeme → Option (Written × List Lexeme)
 operand_at (Name w ∷ ts) = Some (Word w, ts)
 operand_at (Number n ∷ ts) = Some (Bare n, ts)

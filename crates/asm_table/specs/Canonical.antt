@@ -13,13 +13,13 @@ abbrev pub plus_text : ℤ → List ℕ
 plus_text (pos n) = 43 ∷ decimal n
 plus_text (negsuc n) = 45 ∷ decimal (suc n)
 
--- the same, and nothing for 0
+-- decimal with its sign, and nothing for 0
 abbrev pub offset_text : ℤ → List ℕ
 offset_text (pos zero) = []
 offset_text (pos (suc n)) = 43 ∷ decimal (suc n)
 offset_text (negsuc n) = 45 ∷ decimal (suc n)
 
--- `r1`; `-7`; `[r1+8]`, `[r1]`; `0x1f`; `+3`
+-- an operand: `r1`; `-7`; `[r1+8]`, `[r1]`; `0x1f`; `+3`
 abbrev pub operand_text : AsmOperand → List ℕ
 operand_text (operand.Register r) = register_name r
 operand_text (operand.Imm z) = signed_decimal z
@@ -28,20 +28,21 @@ operand_text (operand.Imm64 k) = 48 ∷ 120 ∷ digits 16 false k
 operand_text (operand.Offset z) = plus_text z
 operand_text (operand.LongOffset z) = plus_text z
 
--- the operands after the first
+-- the operands after the first, each after a comma and a space
 abbrev pub more_text : List AsmOperand → List ℕ
 more_text [] = []
 more_text (o ∷ os) = 44 ∷ 32 ∷ (operand_text o ++ more_text os)
 
+-- a space and the operands, joined by a comma and a space; nothing where there are none
 abbrev pub operands_text : List AsmOperand → List ℕ
 operands_text [] = []
 operands_text (o ∷ os) = 32 ∷ (operand_text o ++ more_text os)
 
--- mnemonic, a space, operands joined by a comma and a space
+-- an instruction: its mnemonic, and its operands
 abbrev pub line_text : Instr → List ℕ
 line_text i = name (mnemonic_of i) ++ operands_text (operands_of i)
 
--- each line ends with LF
+-- a line for each instruction; each line ends with LF
 abbrev pub text_of : List Instr → List ℕ
 text_of [] = []
 text_of (i ∷ is) = line_text i ++ 10 ∷ text_of is
@@ -53,6 +54,8 @@ abbrev pub IsSignedWithin : ℕ → ℤ → Type 0
 IsSignedWithin limit (pos n) = n < limit
 IsSignedWithin limit (negsuc n) = suc n ≤ limit
 
+-- The operand's number is one of its field: signed 16-bit offset, signed 32-bit imm, or a 64-bit immediate (RFC 9669,
+-- sections 3.1 and 5.4).
 abbrev pub FitsOperand : AsmOperand → Type 0
 FitsOperand (operand.Register r) = Unit {0}
 FitsOperand (operand.Imm z) = IsSignedWithin (2 ^ 31) z
@@ -61,13 +64,16 @@ FitsOperand (operand.Imm64 k) = k < 2 ^ 64
 FitsOperand (operand.Offset z) = IsSignedWithin (2 ^ 15) z
 FitsOperand (operand.LongOffset z) = IsSignedWithin (2 ^ 31) z
 
+-- each of the operands fits
 abbrev pub AllFitOperands : List AsmOperand → Type 0
 AllFitOperands [] = Unit {0}
 AllFitOperands (o ∷ os) = FitsOperand o × AllFitOperands os
 
+-- the operands of the instruction fit
 abbrev pub FitsParts : Instr → Type 0
 FitsParts i = AllFitOperands (operands_of i)
 
+-- the operands of each instruction fit
 abbrev pub AllFitParts : List Instr → Type 0
 AllFitParts [] = Unit {0}
 AllFitParts (i ∷ is) = FitsParts i × AllFitParts is

@@ -23,6 +23,7 @@ use Rattle.asm_table.specs.declared.mnemonic.Sort.TheVariants as sort
 
 -- ---- parts of names
 
+-- the mnemonic of an arithmetic operation of two operands on 64 bits (RFC 9669, section 4.1)
 abbrev pub binary_name : Binary → List ℕ
 binary_name binary.Add = codes "add"
 binary_name binary.Sub = codes "sub"
@@ -39,6 +40,7 @@ binary_name binary.Xor = codes "xor"
 binary_name binary.Mov = codes "mov"
 binary_name binary.Arsh = codes "arsh"
 
+-- the mnemonic of a conditional jump that compares 64 bits (section 4.3)
 abbrev pub condition_name : Cond → List ℕ
 condition_name condition.Eq = codes "jeq"
 condition_name condition.Gt = codes "jgt"
@@ -52,6 +54,7 @@ condition_name condition.Le = codes "jle"
 condition_name condition.SLt = codes "jslt"
 condition_name condition.SLe = codes "jsle"
 
+-- the mnemonic of an atomic operation on 64 bits (section 5.3)
 abbrev pub atomic_name : AtomicOp → List ℕ
 atomic_name atomic.Add = codes "aadd"
 atomic_name atomic.Or = codes "aor"
@@ -64,34 +67,39 @@ atomic_name atomic.FetchXor = codes "afxor"
 atomic_name atomic.Exchange = codes "axchg"
 atomic_name atomic.CompareExchange = codes "acmpxchg"
 
+-- the mnemonic of a byte swap, but for how many bits it swaps (section 4.2)
 abbrev pub order_name : Order → List ℕ
 order_name Little = codes "le"
 order_name Big = codes "be"
 order_name Swapped = codes "bswap"
 
+-- how many bits a byte swap swaps, at the end of its mnemonic (section 4.2)
 abbrev pub bits_name : SwapWidth → List ℕ
 bits_name swap.W16 = codes "16"
 bits_name swap.W32 = codes "32"
 bits_name swap.W64 = codes "64"
 
+-- the size of a load or a store, at the end of its mnemonic (section 5.1)
 abbrev pub size_name : Size → List ℕ
 size_name size.Byte = codes "b"
 size_name size.Half = codes "h"
 size_name size.Word = codes "w"
 size_name size.Double = codes "dw"
 
+-- the size of a sign-extension load, at the end of its mnemonic (section 5.2)
 abbrev pub signed_size_name : SignedSize → List ℕ
 signed_size_name signed_size.Byte = codes "b"
 signed_size_name signed_size.Half = codes "h"
 signed_size_name signed_size.Word = codes "w"
 
--- of 32 bits where it isn't of 64
+-- the mnemonic of the operation on 64 bits, and with `32` after it that of the operation on 32
 abbrev pub in_width : Width → List ℕ → List ℕ
 in_width width.W64 word = word
 in_width width.W32 word = word ++ codes "32"
 
 -- ---- the mnemonics
 
+-- the text of a mnemonic
 abbrev pub name : Mnemonic → List ℕ
 name (mnemonic.Alu w op) = in_width w (binary_name op)
 name (mnemonic.Neg w) = in_width w (codes "neg")
@@ -114,7 +122,7 @@ name (mnemonic.StoreRegister s) = codes "stx" ++ size_name s
 name (mnemonic.Atomic w op) = in_width w (atomic_name op)
 name mnemonic.LoadImm64 = codes "lddw"
 
--- which operands stand after it
+-- which operands stand after a mnemonic
 abbrev pub sorts : Mnemonic → List Sort
 sorts (mnemonic.Alu w op) = sort.Register ∷ sort.RegisterOrImm ∷ []
 sorts (mnemonic.Neg w) = sort.Register ∷ []
@@ -135,7 +143,7 @@ sorts (mnemonic.StoreRegister s) = sort.Memory ∷ sort.Register ∷ []
 sorts (mnemonic.Atomic w op) = sort.Memory ∷ sort.Register ∷ []
 sorts mnemonic.LoadImm64 = sort.Register ∷ sort.Imm64 ∷ []
 
--- how many slots its instruction takes
+-- how many slots the instruction of a mnemonic takes
 abbrev pub slots_of : Mnemonic → ℕ
 slots_of mnemonic.LoadImm64 = 2
 slots_of _ = 1

@@ -9,6 +9,7 @@ use Rattle.asm_table.specs.declared.named.TheConstants.{BY_NAME}
 use Rattle.isa_table.specs.Registers.{all_registers}
 use Rattle.asm_table.specs.Mnemonics.{name}
 
+-- the first of these mnemonics that has this name
 abbrev pub named_in : List Mnemonic → List ℕ → Option Mnemonic
 named_in [] word = None
 named_in (m ∷ ms) word = if bytes_eq (name m) word then Some m else named_in ms word
@@ -26,6 +27,7 @@ abbrev pub has_two_words : Mnemonic → Bool
 has_two_words CallLocal = true
 has_two_words _ = false
 
+-- the name of a register
 abbrev pub register_name : Reg → List ℕ
 register_name R0 = codes "r0"
 register_name R1 = codes "r1"
@@ -39,9 +41,11 @@ register_name R8 = codes "r8"
 register_name R9 = codes "r9"
 register_name R10 = codes "r10"
 
+-- the first of these registers that has this name
 abbrev pub register_in : List Reg → List ℕ → Option Reg
 register_in [] word = None
 register_in (r ∷ rs) word = if bytes_eq (register_name r) word then Some r else register_in rs word
 
+-- the register that has this name
 abbrev pub register_named : List ℕ → Option Reg
 register_named word = register_in all_registers word

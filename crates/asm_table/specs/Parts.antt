@@ -9,6 +9,7 @@ use Rattle.asm_table.specs.declared.mnemonic.Mnemonic.TheVariants as mnemonic
 use Rattle.asm_table.specs.declared.operands.AsmOperand.{AsmOperand}
 use Rattle.asm_table.specs.declared.operands.AsmOperand.TheVariants as operand
 
+-- the mnemonic of an instruction
 abbrev pub mnemonic_of : Instr → Mnemonic
 mnemonic_of (instr.Alu w op d s) = mnemonic.Alu w op
 mnemonic_of (instr.Neg w d) = mnemonic.Neg w
@@ -29,10 +30,12 @@ mnemonic_of (instr.Store z d (source.Register s) o) = mnemonic.StoreRegister z
 mnemonic_of (instr.Atomic w op d s o) = mnemonic.Atomic w op
 mnemonic_of (instr.LoadImm64 d v) = mnemonic.LoadImm64
 
+-- a second operand, as an operand of assembly: a number or a register
 abbrev pub second_operand : Operand → AsmOperand
 second_operand (source.Imm z) = operand.Imm z
 second_operand (source.Register r) = operand.Register r
 
+-- the operands of an instruction, in the order in which they are written
 abbrev pub operands_of : Instr → List AsmOperand
 operands_of (instr.Alu w op d s) = operand.Register d ∷ second_operand s ∷ []
 operands_of (instr.Neg w d) = operand.Register d ∷ []
@@ -52,7 +55,7 @@ operands_of (instr.Store z d s o) = operand.Memory d o ∷ second_operand s ∷ 
 operands_of (instr.Atomic w op d s o) = operand.Memory d o ∷ operand.Register s ∷ []
 operands_of (instr.LoadImm64 d v) = operand.Register d ∷ operand.Imm64 v ∷ []
 
--- the instruction that has these parts
+-- the instruction that has these parts, if there is one
 abbrev pub instr_of_parts : Mnemonic → List AsmOperand → Option Instr
 instr_of_parts (mnemonic.Alu w op) (operand.Register d ∷ operand.Register s ∷ []) = Some (instr.Alu w op d (source.Register s))
 instr_of_parts (mnemonic.Alu w op) (operand.Register d ∷ operand.Imm z ∷ []) = Some (instr.Alu w op d (source.Imm z))

@@ -14,6 +14,10 @@ pub const EXAMPLES: &[(&str, &str)] = &[
         "85100000010000009500000000000000b700000001000000b501040001000000bf16000000000000170100000100000085100000fbffffff2f600000000000009500000000000000",
     ),
     (
+        "# Fills r3 bytes, from r1 on, with r2. There is one at least.\n        mov r4, 0               # how many are filled\nnext:   stxb [r1], r2\n        add r1, 1\n        add r4, 1\n        jlt r4, r3, next\n        exit\n",
+        "b704000000000000732100000000000007010000010000000704000001000000ad34fcff000000009500000000000000",
+    ),
+    (
         "        mov r0, 7\n        exit\n",
         "b7000000070000009500000000000000",
     ),
@@ -28,6 +32,10 @@ pub const EXAMPLES: &[(&str, &str)] = &[
     (
         "# Looks a key up in a hash table: r1 is the table's address, r2 the key; r0 is the value, or 0.\n        lddw r4, 0x9e3779b97f4a7c15\n        mul r4, r2\n        rsh r4, 61\n        mov r5, 8\nlook:   mov r6, r4\n        lsh r6, 4\n        add r6, r1\n        ldxdw r0, [r6]\n        jeq r0, r2, found\n        jeq r0, 0, none\n        add r4, 1\n        and r4, 7\n        sub r5, 1\n        jne r5, 0, look\nnone:   mov r0, 0\n        exit\nfound:  ldxdw r0, [r6+8]\n        exit\n",
         "18040000157c4a7f00000000b979379e2f24000000000000770400003d000000b705000008000000bf4600000000000067060000040000000f1600000000000079600000000000001d2007000000000015000400000000000704000001000000570400000700000017050000010000005505f6ff00000000b700000000000000950000000000000079600800000000009500000000000000",
+    ),
+    (
+        "# The sum of a linked list. A node is an object: its value, and the address of the next node or 0.\n        mov r6, 0               # the sum\nnext:   ldxdw r2, [r1]          # the node's value\n        add r6, r2\n        ldxdw r1, [r1+8]        # the next node\n        call 4                  # done with this one: it may leave\n        jne r1, 0, next\n        mov r0, r6\n        exit\n",
+        "b70600000000000079120000000000000f26000000000000791108000000000085000000040000005501fbff00000000bf600000000000009500000000000000",
     ),
     (
         "# Puts numbers into a queue: r1 is its address, r2 the first number, r3 how many.\nagain:  ldxdw r4, [r1]          # how many were put in\n        ldxdw r5, [r1+8]        # how many were taken out\n        mov r0, r4\n        sub r0, r5\n        jge r0, 4, again        # full\n        mov r0, r4\n        and r0, 3\n        lsh r0, 3\n        add r0, r1\n        stxdw [r0+16], r2       # first the value,\n        mov r5, 1\n        aadd [r1], r5           # then the count that shows it\n        add r2, 1\n        sub r3, 1\n        jne r3, 0, again\n        exit\n",

@@ -31,21 +31,27 @@ fault_in _ = None
 
 -- ---- classes of bytes
 
+-- a space or a tab
 abbrev pub is_blank : ℕ → Bool
 is_blank b = b == 32 || b == 9
 
+-- an ASCII letter or `_`
 abbrev pub is_letter : ℕ → Bool
 is_letter b = is_ascii_alphabetic b || b == 95
 
+-- a letter or a decimal digit
 abbrev pub is_name_byte : ℕ → Bool
 is_name_byte b = is_letter b || is_ascii_digit b
 
+-- `#` or `;`
 abbrev pub begins_comment : ℕ → Bool
 begins_comment b = b == 35 || b == 59
 
+-- a byte below 128
 abbrev pub is_ascii : ℕ → Bool
 is_ascii b = nat_lt b 128
 
+-- the byte is of the class
 abbrev pub in_class : Class → ℕ → Bool
 in_class class.Blank b = is_blank b
 in_class class.NameByte b = is_name_byte b
@@ -75,13 +81,15 @@ word_length (b ∷ bs) =
     (if b == 48 && begins_hex bs then suc (suc (run is_ascii_hexdigit (drop 1 bs))) else
     (if is_ascii_digit b then suc (run is_ascii_digit bs) else 1))
 
+-- the number, or nothing where it is above 2^64 - 1
 abbrev pub bounded : ℕ → Option ℕ
 bounded n = if nat_lt n (2 ^ 64) then Some n else None
 
--- the value of digits, or of `0x` and hex digits
+-- the value of digits, or of `0x` and hex digits; nothing where it is above 2^64 - 1
 abbrev pub numeral_value : List ℕ → Option ℕ
 numeral_value word = if get_or word 1 0 == 120 then bounded (digits_value 16 (drop 2 word)) else bounded (digits_value 10 word)
 
+-- the token of one byte: one of `: , [ ] + -`, else a stray byte
 abbrev pub mark_of : ℕ → Lexeme
 mark_of b =
     if b == 58 then Colon else
@@ -117,6 +125,7 @@ tokens_past zero (b ∷ bs) =
     (if begins_comment b then comment_of bs else
     lexeme_of (take (word_length (b ∷ bs)) (b ∷ bs)) ∷ tokens_past (word_length (b ∷ bs) - 1) bs)
 
+-- the tokens of a line
 abbrev pub tokens : List ℕ → List Lexeme
 tokens line = tokens_past 0 line
 

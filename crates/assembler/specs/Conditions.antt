@@ -25,11 +25,12 @@ abbrev pub is_out : Option Gathered → Bool
 is_out None = false
 is_out (Some g) = g.out
 
--- the test holds of the operands after the mnemonic at the front
+-- the test holds of the operands that are read after a mnemonic, where there is one
 abbrev pub of_operands : (Option Gathered → Bool) → Option (Mnemonic × List Lexeme) → Bool
 of_operands test None = false
 of_operands test (Some x) = test (gather_operands nowhere 0 true nothing (sorts x.0) x.1)
 
+-- the test holds of the operands that are read after the mnemonic at the front
 abbrev pub of_body : (Option Gathered → Bool) → List Lexeme → Bool
 of_body test ts = of_operands test (mnemonic_at ts)
 
@@ -46,6 +47,7 @@ reason_holds before n ts _ = false
 abbrev pub reasons : List Why
 reasons = why.Word ∷ why.Operand ∷ why.Range ∷ why.TwiceLabel ∷ why.TooLong ∷ []
 
+-- the first of the reasons of which the test holds
 abbrev pub first_that : (Why → Bool) → List Why → Option Why
 first_that test [] = None
 first_that test (w ∷ ws) = if test w then Some w else first_that test ws

@@ -5,6 +5,7 @@ use Rattle.machine.specs.TableStep.{TableStep}
 use Rattle.machine.specs.declared.state.Stepped.{Stepped}
 use Rattle.machine.specs.declared.state.Stepped.TheVariants.{Ran}
 
+-- steps of the table lead from the first machine and memory to the other
 pub data RunsTo {M : Type 0} (mem : Memories M) : MachineState → M → MachineState → M → Type 0 where
   here : (m : MachineState) (memory : M) → RunsTo mem m memory m memory
   on : (old mid new : MachineState) (before between after : M) (answer : Stepped)

@@ -12,7 +12,7 @@ use memory::{Action, Memory, Op};
 use object_store::{MACHINE_LIMIT, ObjectStore, StoreMemory};
 use std::alloc::Global;
 
-/// How many bytes may be here at a time.
+/// How many bytes the objects that aren't far may have.
 const BUDGET: u32 = 67_108_864;
 
 /// How many bytes the first object has.

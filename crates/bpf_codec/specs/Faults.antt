@@ -22,6 +22,7 @@ fault_number fault.Packet = 5
 fault_number fault.Platform = 6
 fault_number fault.Short = 7
 
+-- faults by name
 abbrev pub fault_name : Fault → List ℕ
 fault_name fault.Opcode = codes "Opcode"
 fault_name fault.Register = codes "Register"
@@ -69,6 +70,7 @@ platform_layouts =
     map (λ source. row 0x18 (Register R0) (Only source) unused (Wide 0)) (1 ∷ 2 ∷ 3 ∷ 4 ∷ 5 ∷ 6 ∷ []) ++
     row 0x85 unused (Only 2) unused (Imm (pos 0)) ∷ []
 
+-- only a platform defines the slot
 abbrev pub is_of_platform : Slot → Bool
 is_of_platform f = list_any (is_of f) platform_layouts
 
@@ -78,6 +80,7 @@ is_packet n = list_any (λ m. n == m) (0x20 ∷ 0x28 ∷ 0x30 ∷ 0x40 ∷ 0x48 
 
 -- ---- the bytes at a slot
 
+-- the opcode of the bytes at a slot (section 3.1)
 abbrev pub opcode : List ℕ → ℕ
 opcode xs = (fields xs).opcode
 
@@ -105,7 +108,7 @@ has_reserved_bits xs = not ((slice_index xs 8 == 0) && (slice_index xs 9 == 0) &
 -- HalfWide: the opcode is that of the wide encoding, and the second slot is not there whole.
 -- Packet: the opcode is one of packet access.
 -- Platform: only a platform defines the slot.
--- Short: fewer than eight bytes are left. Of these nothing else is said.
+-- Short: fewer than eight bytes are left; such bytes have no other fault.
 unfoldable pub has_fault : Fault → List ℕ → Bool
 has_fault fault.Opcode xs = has_first xs && not (is_row (opcode xs)) && not (is_packet (opcode xs))
 has_fault fault.Register xs = has_first xs && is_row (opcode xs) && not (some_row (has_registers_of (fields xs)))

@@ -23,7 +23,7 @@ pub enum Fault {
     /// The opcode is one of legacy packet access, which is deprecated (section 5.5).
     #[error("Packet")]
     Packet = 5,
-    /// The source field names a value or a function of the platform (sections 4.3 and 5.4).
+    /// A form that needs a platform's maps, variables or functions (sections 4.3.1 and 5.4).
     #[error("Platform")]
     Platform = 6,
     /// Fewer than eight bytes are left.

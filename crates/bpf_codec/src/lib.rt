@@ -9,8 +9,6 @@ mod layout;
 mod places;
 mod reading;
 mod slot;
-#[cfg(test)]
-mod tests;
 mod writing;
 
 pub use fault::Fault;

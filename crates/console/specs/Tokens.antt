@@ -44,10 +44,11 @@ abbrev pub AreBytes : Option ℕ → List (List ℕ) → List ℕ → Type 0
 AreBytes (Some most) tokens bytes = (token : List ℕ) × (tokens ≡ token ∷ []) × IsHex token bytes × (length bytes ≤ most)
 AreBytes None tokens bytes = (tokens ≡ []) × (bytes ≡ [])
 
--- the tokens that are still to be read
+-- the tokens of the rest of a line; none where there is no rest
 abbrev pub left_of : Option (Bor (List ℕ)) → List (List ℕ)
 left_of None = []
 left_of (Some rest) = tokens_of rest.now
 
+-- the tokens that are still to be read
 abbrev pub tokens_left : Tokens → List (List ℕ)
 tokens_left tokens = left_of tokens.rest

@@ -14,6 +14,6 @@ mod writing;
 pub use console::Console;
 pub use conversation::drive;
 pub use fault::{DriveFault, LineFault};
-pub use laws::one_command;
+pub use laws::{conversations_are_plain, one_command};
 pub use replies::{REPLY_LIMIT, ReplyLine, print_fault, print_reply};
 pub use writing::{WriteFault, put_all};

@@ -50,7 +50,7 @@ fn difference(alloc: Global, conversation: &Conversation, size: usize) -> Result
     line_that_differs(alloc, output, conversation.replies.as_str())
 }
 
-/// Says of a script how many of its replies came, or which one did not. Each conversation is held
+/// Says of a script how many of its replies came, or which one did not. Each conversation is run
 /// twice: its commands come in one piece, and byte by byte.
 fn report(alloc: Global, text: &str) -> Result<String> {
     let mut count = 0usize;

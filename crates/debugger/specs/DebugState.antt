@@ -6,6 +6,7 @@ use Rattle.isa_table.specs.Table.{size_bytes}
 use Rattle.machine.specs.declared.state.Written.{Written}
 use Rattle.debugger.specs.declared.watch.Watch.{Watch}
 
+-- what the debugger keeps of one machine: breakpoints, watched ranges, and whether it is paused
 pub record DebugState : Type 0 where
   -- the slots where the machine pauses, in the order in which they were set
   pub breakpoints : List ℕ

@@ -55,6 +55,6 @@ pub enum ShowBytesError {
     #[error("outside the stack")]
     Outside,
     /// An allocation failed.
-    #[error("out of memory")]
+    #[error("no memory")]
     Memory,
 }

@@ -21,6 +21,7 @@ why_number why.Helper = 13
 why_number why.FallsOff = 14
 why_number why.Memory = 15
 
+-- reasons by name
 abbrev pub why_name : Why → List ℕ
 why_name (why.Decoder f) = fault_name f
 why_name why.Empty = codes "Empty"

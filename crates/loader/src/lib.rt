@@ -5,8 +5,6 @@ mod checks;
 mod laws;
 mod loading;
 mod program;
-#[cfg(test)]
-mod tests;
 
 pub use laws::{refused_for_one_reason, valid_code_is_taken};
 pub use loading::{CODE_LIMIT, LoadError, Why, load};

@@ -20,9 +20,10 @@ use Rattle.machine.specs.MachineState.{MachineState, own_stack, stack_size}
 use Rattle.machine.specs.Rows.{Request, MemoryAnswer, Outcome, asks, asks_for, told, told_for, told_own, told_access, told_call, exits, work_of}
 use Rattle.machine.specs.Rows.Request.{Nothing, Touch, Measure}
 use Rattle.machine.specs.Rows.MemoryAnswer.{NoAnswer, Reached, Measured}
-use Rattle.machine.specs.TableStep.{Attempts, AnswersRequest, Closes}
+use Rattle.machine.specs.TableStep.{Attempts, AnswersRequest}
 use Rattle.machine.specs.Laws.{is_exit}
-use Rattle.machine.specs.Replay.{Entry, Feeds, Replays, ReplaysOneWay, Keeps, ReplaysOn, StaysReplay}
+use Rattle.machine.specs.Replay.WasAsked.{ForNothing, ForAccess}
+use Rattle.machine.specs.Replay.{Entry, Feeds, Replays, ReplaysOneWay, entries_added, WasAsked, ReplaysOn, ReplaysWith, StaysReplay}
 use Rattle.machine.proofs.ValidRows.{same_next}
 use Rattle.machine.proofs.StepCases.{StepCase, step_case}
 
@@ -53,7 +54,7 @@ Replays-next lengths zero a b c es fs p q = rw p.0 (subst (λ (m : MachineState)
 Replays-next lengths (suc k) a b c es fs p q =
     (p.0, p.1, feeds_more lengths (asks p.0 a) es fs _ _ (λ s rest g. Replays-next lengths k (told p.0 a s).machine b c rest fs g q) p.2)
 
--- ---- a memory that keeps the entries
+-- ---- over a memory
 
 -- what took fuel, and what didn't
 abbrev is_done : Stepped → Bool
@@ -70,51 +71,48 @@ abbrev Fed : Bool → (ℕ → ℕ) → Request → List Entry → (MemoryAnswer
 Fed true lengths q more goes = Feeds lengths q more goes
 Fed false lengths q more goes = more ≡ []
 
-record Feeding {M : Type 0} (lengths : ℕ → ℕ) (entries : M → List Entry) (b : Bool) (q : Request) (before mid : M) (goes : MemoryAnswer → List Entry → Type 0) : Type 0 where
+record Feeding {M : Type 0} (mem : Memories M) (lengths : ℕ → ℕ) (b : Bool) (q : Request) (before mid : M) (goes : MemoryAnswer → List Entry → Type 0) : Type 0 where
   more : List Entry
-  kept : entries mid ≡ entries before ++ more
+  asked : WasAsked mem before mid more
   feeds : Fed b lengths q more goes
 
-kept_none : {M : Type 0} (entries : M → List Entry) (before mid : M) → mid ≡ before → entries mid ≡ entries before ++ []
-kept_none entries before mid e = ap entries e ∙ sym (append-nil (entries before))
+fed_quietly : {M : Type 0} (mem : Memories M) (lengths : ℕ → ℕ) (b : Bool) (before mid : M) (goes : MemoryAnswer → List Entry → Type 0) → mid ≡ before → goes NoAnswer [] → Feeding mem lengths b Nothing before mid goes
+fed_quietly mem lengths true before mid goes e g = record { more = []; asked = ForNothing refl e; feeds = g }
+fed_quietly mem lengths false before mid goes e g = record { more = []; asked = ForNothing refl e; feeds = refl }
 
-fed_quietly : {M : Type 0} (lengths : ℕ → ℕ) (entries : M → List Entry) (b : Bool) (before mid : M) (goes : MemoryAnswer → List Entry → Type 0) → mid ≡ before → goes NoAnswer [] → Feeding lengths entries b Nothing before mid goes
-fed_quietly lengths entries true before mid goes e g = record { more = []; kept = kept_none entries before mid e; feeds = g }
-fed_quietly lengths entries false before mid goes e g = record { more = []; kept = kept_none entries before mid e; feeds = refl }
-
-feed_reach : {M : Type 0} (mem : Memories M) (lengths : ℕ → ℕ) (entries : M → List Entry) → Keeps mem lengths entries → (x : Accessing) (i : Instr) (old : MachineState) (before mid : M) (r : Reach)
+feed_reach : {M : Type 0} (mem : Memories M) (lengths : ℕ → ℕ) (x : Accessing) (i : Instr) (old : MachineState) (before mid : M) (r : Reach)
     → mem.reaches before x.number x.op r mid
-    → Feeding lengths entries (is_done (told_access i x old (Reached r)).answer) (Touch x.number x.op) before mid (Becomes (Accesses x) i old (told_access i x old (Reached r)).machine)
-feed_reach mem lengths entries k x i old before mid (reach.Done v) h = record {
+    → Feeding mem lengths (is_done (told_access i x old (Reached r)).answer) (Touch x.number x.op) before mid (Becomes (Accesses x) i old (told_access i x old (Reached r)).machine)
+feed_reach mem lengths x i old before mid (reach.Done v) h = record {
   more = record { number = x.number; op = x.op; answer = v } ∷ [];
-  kept = k.reached before mid x.number x.op (reach.Done v) h;
+  asked = ForAccess x.number x.op (reach.Done v) refl h;
   feeds = (refl, refl, (refl, refl));
 }
-feed_reach mem lengths entries k x i old before mid reach.Away h = record { more = []; kept = k.reached before mid x.number x.op reach.Away h; feeds = refl }
-feed_reach mem lengths entries k x i old before mid reach.Busy h = record { more = []; kept = k.reached before mid x.number x.op reach.Busy h; feeds = refl }
-feed_reach mem lengths entries k x i old before mid reach.Outside h = record { more = []; kept = k.reached before mid x.number x.op reach.Outside h; feeds = refl }
-feed_reach mem lengths entries k x i old before mid reach.Worn h = record { more = []; kept = k.reached before mid x.number x.op reach.Worn h; feeds = refl }
+feed_reach mem lengths x i old before mid reach.Away h = record { more = []; asked = ForAccess x.number x.op reach.Away refl h; feeds = refl }
+feed_reach mem lengths x i old before mid reach.Busy h = record { more = []; asked = ForAccess x.number x.op reach.Busy refl h; feeds = refl }
+feed_reach mem lengths x i old before mid reach.Outside h = record { more = []; asked = ForAccess x.number x.op reach.Outside refl h; feeds = refl }
+feed_reach mem lengths x i old before mid reach.Worn h = record { more = []; asked = ForAccess x.number x.op reach.Worn refl h; feeds = refl }
 
-feed_access : {M : Type 0} (mem : Memories M) (lengths : ℕ → ℕ) (entries : M → List Entry) → Keeps mem lengths entries → (own : Bool) (x : Accessing) (i : Instr) (old : MachineState) (before mid : M) (said : MemoryAnswer)
+feed_access : {M : Type 0} (mem : Memories M) (lengths : ℕ → ℕ) (own : Bool) (x : Accessing) (i : Instr) (old : MachineState) (before mid : M) (said : MemoryAnswer)
     → AnswersRequest mem (cond own Nothing (Touch x.number x.op)) before said mid
-    → Feeding lengths entries (is_done (told_access i x old said).answer) (cond own Nothing (Touch x.number x.op)) before mid (Becomes (Accesses x) i old (told_access i x old said).machine)
-feed_access mem lengths entries k true x i old before mid NoAnswer h = fed_quietly lengths entries _ before mid _ h (refl, refl)
-feed_access mem lengths entries k true x i old before mid _ h = absurd h
-feed_access mem lengths entries k false x i old before mid (Reached r) h = feed_reach mem lengths entries k x i old before mid r h
-feed_access mem lengths entries k false x i old before mid _ h = absurd h
+    → Feeding mem lengths (is_done (told_access i x old said).answer) (cond own Nothing (Touch x.number x.op)) before mid (Becomes (Accesses x) i old (told_access i x old said).machine)
+feed_access mem lengths true x i old before mid NoAnswer h = fed_quietly mem lengths _ before mid _ h (refl, refl)
+feed_access mem lengths true x i old before mid _ h = absurd h
+feed_access mem lengths false x i old before mid (Reached r) h = feed_reach mem lengths x i old before mid r h
+feed_access mem lengths false x i old before mid _ h = absurd h
 
-feed : {M : Type 0} (mem : Memories M) (lengths : ℕ → ℕ) (entries : M → List Entry) → Keeps mem lengths entries → (v : Work) (i : Instr) (old : MachineState) (before mid : M) (said : MemoryAnswer)
+feed : {M : Type 0} (mem : Memories M) (lengths : ℕ → ℕ) (v : Work) (i : Instr) (old : MachineState) (before mid : M) (said : MemoryAnswer) → ((n : ℕ) → mem.length_of before n ≡ lengths n)
     → AnswersRequest mem (asks_for v) before said mid
-    → Feeding lengths entries (is_done (told_for v i old said).answer) (asks_for v) before mid (Becomes v i old (told_for v i old said).machine)
-feed mem lengths entries k Computes i old before mid NoAnswer h = fed_quietly lengths entries _ before mid _ h (refl, refl)
-feed mem lengths entries k Computes i old before mid _ h = absurd h
-feed mem lengths entries k (Measures n) i old before mid (Measured l) h = record {
+    → Feeding mem lengths (is_done (told_for v i old said).answer) (asks_for v) before mid (Becomes v i old (told_for v i old said).machine)
+feed mem lengths Computes i old before mid NoAnswer m h = fed_quietly mem lengths _ before mid _ h (refl, refl)
+feed mem lengths Computes i old before mid _ m h = absurd h
+feed mem lengths (Measures n) i old before mid (Measured l) m h = record {
   more = [];
-  kept = kept_none entries before mid h.1;
-  feeds = (refl, ap (λ m. (told_for (Measures n) i old (Measured m)).machine) (h.0 ∙ k.measured before n));
+  asked = ForNothing refl h.1;
+  feeds = (refl, ap (λ x. (told_for (Measures n) i old (Measured x)).machine) (h.0 ∙ m n));
 }
-feed mem lengths entries k (Measures n) i old before mid _ h = absurd h
-feed mem lengths entries k (Accesses x) i old before mid said h = feed_access mem lengths entries k (nat_eq x.number own_stack) x i old before mid said h
+feed mem lengths (Measures n) i old before mid _ m h = absurd h
+feed mem lengths (Accesses x) i old before mid said m h = feed_access mem lengths (nat_eq x.number own_stack) x i old before mid said h
 
 -- ---- an outcome that isn't done leaves the machine, a stop apart
 
@@ -174,24 +172,37 @@ on_replay (Stopped stop.Depth) lengths k start old new es fs i t r l p f = rw (f
 on_replay (Stopped stop.Spent) lengths k start old new es fs i t r l p f = rw (f, append-nil es, l, running old r) p
 on_replay (Stopped stop.Worn) lengths k start old new es fs i t r l p f = rw (f, append-nil es, l, running old r) p
 
-case_replay : {M : Type 0} (mem : Memories M) (lengths : ℕ → ℕ) (entries : M → List Entry) → Keeps mem lengths entries → (k : ℕ) (start old : MachineState) (before : M) (o : Outcome) (mid : M)
-    → old.stop ≡ None → Replays lengths k start (entries before) old → StepCase mem old before o mid → ReplaysOn o.answer lengths k start (entries mid) o.machine
-case_replay mem lengths entries keeps k start old before o mid r p (inl d) = let e : Some d.stop ≡ None = sym d.stopped ∙ r in absurd (cc)
-case_replay mem lengths entries keeps k start old before o mid r p (inr (inl d)) =
-    let there = subst (λ (es : List Entry). Replays lengths k start es old) (ap entries (sym d.same)) p in
-    subst (λ (x : Outcome). ReplaysOn x.answer lengths k start (entries mid) x.machine) (sym d.becomes) (halted d.stop lengths k start old (entries mid) d.other r there)
-case_replay mem lengths entries keeps k start old before o mid r p (inr (inr d)) =
-    let w : Work = work_of d.instr old.registers in
-    let f = feed mem lengths entries keeps w d.instr old before mid d.said d.answers in
-    let on = on_replay (told d.instr old d.said).answer lengths k start old (told d.instr old d.said).machine (entries before) f.more d.instr d.attempts r (told_left w d.instr old d.said) p f.feeds in
-    subst (λ (x : Outcome). ReplaysOn x.answer lengths k start (entries mid) x.machine) (sym d.becomes)
-    (subst (λ (es : List Entry). ReplaysOn (told d.instr old d.said).answer lengths k start es (told d.instr old d.said).machine) (sym f.kept) on)
+abbrev HasLengths : {M : Type 0} → Memories M → M → (ℕ → ℕ) → Type 0
+HasLengths mem before lengths = (n : ℕ) → mem.length_of before n ≡ lengths n
 
-closed_keeps : {M : Type 0} (mem : Memories M) (lengths : ℕ → ℕ) (entries : M → List Entry) → Keeps mem lengths entries → (b : Bool) (mid after : M) → Closes b mem mid after → entries after ≡ entries mid
-closed_keeps mem lengths entries k true mid after h = k.closed mid after h
-closed_keeps mem lengths entries k false mid after h = ap entries h
+-- the entries of a step, which come before its scopes close
+record Entered {M : Type 0} (mem : Memories M) (lengths : ℕ → ℕ) (k : ℕ) (start : MachineState) (es : List Entry) (before : M) (o : Outcome) (mid : M) : Type 0 where
+  more : List Entry
+  asked : WasAsked mem before mid more
+  replays : ReplaysOn o.answer lengths k start (es ++ more) o.machine
+
+case_replay : {M : Type 0} (mem : Memories M) (lengths : ℕ → ℕ) (k : ℕ) (start old : MachineState) (es : List Entry) (before : M) (o : Outcome) (mid : M)
+    → HasLengths mem before lengths → old.stop ≡ None → Replays lengths k start es old → StepCase mem old before o mid → Entered mem lengths k start es before o mid
+case_replay mem lengths k start old es before o mid l r p (inl d) = let e : Some d.stop ≡ None = sym d.stopped ∙ r in absurd (cc)
+case_replay mem lengths k start old es before o mid l r p (inr (inl d)) = record {
+  more = [];
+  asked = ForNothing refl d.same;
+  replays =
+    subst (λ (x : Outcome). ReplaysOn x.answer lengths k start (es ++ []) x.machine) (sym d.becomes)
+    (subst (λ (fs : List Entry). ReplaysOn (Stopped d.stop) lengths k start fs (record old { stop = Some d.stop })) (sym (append-nil es)) (halted d.stop lengths k start old es d.other r p));
+}
+case_replay mem lengths k start old es before o mid l r p (inr (inr d)) =
+    let w : Work = work_of d.instr old.registers in
+    let f = feed mem lengths w d.instr old before mid d.said l d.answers in
+    record {
+  more = f.more;
+  asked = f.asked;
+  replays =
+    subst (λ (x : Outcome). ReplaysOn x.answer lengths k start (es ++ f.more) x.machine) (sym d.becomes)
+    (on_replay (told d.instr old d.said).answer lengths k start old (told d.instr old d.said).machine es f.more d.instr d.attempts r (told_left w d.instr old d.said) p f.feeds);
+}
 
 pub stays_replay : {M : Type 0} (mem : Memories M) → StaysReplay mem
-stays_replay {M} mem lengths entries keeps k start old new before after a r p t =
-    subst (λ (es : List Entry). ReplaysOn a lengths k start es new) (sym (closed_keeps mem lengths entries keeps t.closes t.mid after t.closed))
-    (case_replay mem lengths entries keeps k start old before _ t.mid r p (step_case mem old.stop old before _ t.mid refl t.steps))
+stays_replay {M} mem lengths k start old new es before after a l r p t =
+    let e = case_replay mem lengths k start old es before _ t.mid l r p (step_case mem old.stop old before _ t.mid refl t.steps) in
+    record { more = e.more; mid = t.mid; closes = t.closes; asked = e.asked; closed = t.closed; replays = e.replays }

@@ -1,5 +1,5 @@
 -- A machine is its start, done again with the answers that its accesses were given. No memory is needed to say it.
-use Rattle.std.specs.Prelude.{◌≡◌, ℕ, zero, suc, List, [], ◌∷◌, ◌++◌, None}
+use Rattle.std.specs.Prelude.{◌≡◌, ℕ, Bool, zero, suc, List, [], ◌∷◌, ◌++◌, None}
 use Rattle.isa_table.specs.declared.instr.Instr.{Instr}
 use Rattle.memory.specs.declared.access.Op.{Op}
 use Rattle.memory.specs.declared.access.Reach.{Reach}
@@ -12,7 +12,7 @@ use Rattle.machine.specs.MachineState.{MachineState}
 use Rattle.machine.specs.Rows.{Request, MemoryAnswer, asks, told}
 use Rattle.machine.specs.Rows.Request.{Nothing, Touch, Measure}
 use Rattle.machine.specs.Rows.MemoryAnswer.{NoAnswer, Reached, Measured}
-use Rattle.machine.specs.TableStep.{TableStep, Attempts}
+use Rattle.machine.specs.TableStep.{TableStep, Attempts, Closes}
 
 -- an access of an object that was done
 pub record Entry : Type 0 where
@@ -36,17 +36,17 @@ Replays lengths (suc k) old es new = (i : Instr) × Attempts old i × Feeds leng
 abbrev pub ReplaysOneWay : Type 0
 ReplaysOneWay = (lengths : ℕ → ℕ) (k : ℕ) (old new other : MachineState) (es : List Entry) → Replays lengths k old es new → Replays lengths k old es other → new ≡ other
 
--- ---- a memory that keeps the entries
+-- ---- over a memory
 
 -- what is added to a machine's entries by an access
 abbrev pub entries_added : ℕ → Op → Reach → List Entry
 entries_added n op (Done v) = record { number = n; op = op; answer = v } ∷ []
 entries_added n op _ = []
 
-pub record Keeps {M : Type 0} (mem : Memories M) (lengths : ℕ → ℕ) (entries : M → List Entry) : Type 0 where
-  pub reached : (before after : M) (n : ℕ) (op : Op) (r : Reach) → mem.reaches before n op r after → entries after ≡ entries before ++ entries_added n op r
-  pub closed : (before after : M) → mem.closes before after → entries after ≡ entries before
-  pub measured : (before : M) (n : ℕ) → mem.length_of before n ≡ lengths n
+-- Memory was asked for nothing, or for one access: for the entry that is, where the access was done.
+pub data WasAsked {M : Type 0} (mem : Memories M) (before mid : M) (es : List Entry) : Type 0 where
+  ForNothing : es ≡ [] → mid ≡ before → WasAsked mem before mid es
+  ForAccess : (n : ℕ) (op : Op) (r : Reach) → es ≡ entries_added n op r → mem.reaches before n op r mid → WasAsked mem before mid es
 
 -- after a step that answered so: one instruction more where it took fuel, else the same replay, a stop apart
 abbrev pub ReplaysOn : Stepped → (ℕ → ℕ) → ℕ → MachineState → List Entry → MachineState → Type 0
@@ -55,8 +55,17 @@ ReplaysOn (Waiting n) lengths k start es new = Replays lengths k start es new
 ReplaysOn (Stopped (stop.Exit v)) lengths k start es new = Replays lengths (suc k) start es new
 ReplaysOn (Stopped s) lengths k start es new = Replays lengths k start es (record new { stop = None })
 
--- A machine stays the replay of the entries that its memory keeps.
+-- The machine is the replay of the entries es, and of those that memory was asked for since.
+pub record ReplaysWith {M : Type 0} (mem : Memories M) (lengths : ℕ → ℕ) (k : ℕ) (start : MachineState) (es : List Entry) (before : M) (a : Stepped) (new : MachineState) (after : M) : Type 0 where
+  pub more : List Entry
+  pub mid : M
+  pub closes : Bool
+  pub asked : WasAsked mem before mid more
+  pub closed : Closes closes mem mid after
+  pub replays : ReplaysOn a lengths k start (es ++ more) new
+
+-- A step over any memory leaves a machine the replay of its accesses, where the objects have these lengths.
 abbrev pub StaysReplay : {M : Type 0} → Memories M → Type 0
-StaysReplay {M} mem = (lengths : ℕ → ℕ) (entries : M → List Entry) → Keeps mem lengths entries
-    → (k : ℕ) (start old new : MachineState) (before after : M) (a : Stepped) → old.stop ≡ None
-    → Replays lengths k start (entries before) old → TableStep mem old before a new after → ReplaysOn a lengths k start (entries after) new
+StaysReplay {M} mem = (lengths : ℕ → ℕ) (k : ℕ) (start old new : MachineState) (es : List Entry) (before after : M) (a : Stepped)
+    → ((n : ℕ) → mem.length_of before n ≡ lengths n) → old.stop ≡ None → Replays lengths k start es old
+    → TableStep mem old before a new after → ReplaysWith mem lengths k start es before a new after

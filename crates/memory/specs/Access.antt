@@ -25,6 +25,7 @@ count_of op = size_bytes (size_of op.action)
 abbrev pub IsInside : Op → ℕ → Type 0
 IsInside op n = op.offset + count_of op ≤ n
 
+-- whether an access is inside so many bytes
 abbrev pub is_inside : Op → ℕ → Bool
 is_inside op n = nat_le (op.offset + count_of op) n
 

@@ -1,4 +1,4 @@
-//! What a machine asks of memory: accesses to objects, which are rows of bytes with a number.
+//! What a machine asks of memory: accesses to objects, which are numbered arrays of bytes.
 //!
 //! An access is data ([`Op`]), and what it answers and which bytes stand after it are functions of the bytes before
 //! (`specs/Access`). A machine sees memory by the trait [`Memory`] alone.

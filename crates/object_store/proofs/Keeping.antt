@@ -1,5 +1,5 @@
 -- A store stays as it is always kept.
-use Rattle.std.proofs.Common.{◌≡◌, ℕ, ◌+◌, ◌<◌, ◌≤◌, zero, suc, Bool, true, false, List, [], ◌∷◌, ◌++◌, length, map, set, take, drop, replicate, refl, sym, ap, ◌∙◌, arith}
+use Rattle.std.proofs.Common.{◌≡◌, ℕ, ◌+◌, ◌<◌, ◌≤◌, zero, suc, Bool, true, false, List, [], ◌∷◌, ◌++◌, length, slice_index_or, map, set, take, drop, replicate, refl, sym, ap, ◌∙◌, arith}
 use Rattle.std.proofs.lemmas.List.{length-map, map-append}
 use Rattle.std.proofs.Math.Seq.{take-append_seam}
 use Rattle.object_store.specs.declared.places.Place.{Place}
@@ -133,6 +133,16 @@ pub all_new : {X : Type 0} (n : ℕ) (xs ws : List X) → length ws ≡ n → ta
 all_new n xs ws e = rw (sym e) (take-append_seam ws (drop (length ws) xs))
 
 -- ---- at first
+
+-- a list of one value
+pub all_same : {X : Type 0} (n : ℕ) (x : X) (xs : List X) → length xs ≡ n → ((k : ℕ) (d : X) → k < n → slice_index_or xs k d ≡ x) → xs ≡ replicate n x
+all_same zero x [] e h = refl
+all_same zero x (y ∷ ys) e h = absurd (omega arith)
+all_same (suc n) x [] e h = absurd (omega arith)
+all_same (suc n) x (y ∷ ys) e h =
+    let first : y ≡ x = h 0 y (omega arith) in
+    let rest : ys ≡ replicate n x = all_same n x ys (omega arith) (λ k d l. h (suc k) d (omega arith)) in
+    rw (first, rest) refl
 
 none_sized : (k : ℕ) → length (bytes_of ([] ∷ []) k) ≤ object_bytes
 none_sized zero = omega arith

@@ -1,5 +1,5 @@
 -- What a far store gives back, and how it fails.
-use Rattle.std.proofs.Common.{◌≡◌, ℕ, ◌+◌, ◌<◌, ◌≤◌, Bool, true, false, List, [], length, map, set, get_or, sym, ap, ◌∙◌, arith}
+use Rattle.std.proofs.Common.{◌≡◌, ℕ, ◌+◌, ◌<◌, ◌≤◌, Bool, true, false, List, [], length, map, set, get_or, sym, ap, ◌∙◌, arith, inl}
 use Rattle.std.proofs.lemmas.Bool.Decides.{nat_tests}
 use Rattle.std.proofs.lemmas.List.{map-set, set-get_or, get_or-set_same, length-map}
 use Rattle.far_store.specs.Stores.{capped, Rises}
@@ -16,7 +16,7 @@ risen a b c h r = rw r (capped_rises a b h)
 
 pub fails : (returns : Bool) (a b : ℕ) → Rises a b → FailsToReturn returns a b
 fails true a b r = risen a a b (omega arith) r
-fails false a b r = λ n. absurd (n (risen a a b (omega arith) r))
+fails false a b r = inl (risen a a b (omega arith) r)
 
 -- of an object, and so of all
 pub back_in : (returns : Bool) (bodies : List Kept) (n : ℕ) (old new : Kept) → n < length bodies → old.bytes ≡ bytes_of (map bytes_in bodies) n

@@ -67,17 +67,20 @@ abbrev pub ReturnsTo : Bool → Kept → Kept → Type 0
 ReturnsTo true old new = new ≡ record old { place = Here; clean = true }
 ReturnsTo false old new = (length new.bytes ≡ length old.bytes) × (new ≡ record old { bytes = new.bytes; place = Here; clean = false })
 
--- its bytes, its place, and its count
+-- its bytes, wherever they are
 abbrev pub bytes_in : Kept → List ℕ
 bytes_in k = k.bytes
 
+-- its place
 abbrev pub place_in : Kept → Place
 place_in k = k.place
 
+-- how many windows hold it
 abbrev pub scopes_in : Kept → ℕ
 scopes_in k = k.scopes
 
--- the same of all objects
+-- The bytes of all objects once those of object n came back: the same, or, where the store doesn't promise that, as
+-- many.
 abbrev pub BytesBack : Bool → List (List ℕ) → ℕ → List (List ℕ) → Type 0
 BytesBack true old n new = new ≡ old
 BytesBack false old n new = (length (bytes_of new n) ≡ length (bytes_of old n)) × (new ≡ with_bytes old n (bytes_of new n))

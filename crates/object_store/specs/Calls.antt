@@ -1,6 +1,6 @@
 -- What the calls of a store do: the state before, the answer, and the state after. A refusal changes nothing; refusals are
 -- tested in the order in which they stand.
-use Rattle.std.specs.Prelude.{◌≡◌, ℕ, ◌≤◌, Bool, true, false, List, [], ◌∷◌, ◌++◌, length, replicate, Result, Ok, Err, Vec}
+use Rattle.std.specs.Prelude.{◌≡◌, ◌⊎◌, ℕ, ◌≤◌, Bool, true, false, List, [], ◌∷◌, ◌++◌, length, replicate, Result, Ok, Err, Vec}
 use Rattle.std.specs.declared.alloc.Global.{Global}
 use Rattle.object_store.specs.declared.places.Place.{Place}
 use Rattle.object_store.specs.declared.places.Place.TheVariants.{Here, Leaving, Far, Returning}
@@ -85,7 +85,7 @@ ComesBack false old n new = (length (bytes_of new.objects n) ≡ length (bytes_o
 -- too many bytes or too few, and its faults stay then.
 abbrev pub FailsToReturn : Bool → ℕ → ℕ → Type 0
 FailsToReturn true old new = HasRisen old new
-FailsToReturn false old new = (HasRisen old new → ⊥) → new ≡ old
+FailsToReturn false old new = HasRisen old new ⊎ (new ≡ old)
 
 -- An object that returns is here, over a store that returns the bytes that were put or over one that doesn't promise it;
 -- where the far store fails, it is far again.

@@ -12,6 +12,7 @@ use Rattle.memory.specs.Access.{answer, after}
 use Rattle.memory.specs.Memories.{Memories, Promises}
 use Rattle.memory.specs.Objects.{Reaches, IsLive, AreObjects, bytes_of, with_bytes}
 
+-- a store, as its callers see it: each object's bytes and place, the windows, the budget, and the far store's faults
 pub record StoreState : Type 0 where
   -- the bytes of each number, wherever they are
   pub objects : List (List ℕ)
@@ -19,7 +20,7 @@ pub record StoreState : Type 0 where
   pub places : List Place
   -- the window of each machine
   pub windows : List (List ℕ)
-  -- how many bytes may be here at a time
+  -- how many bytes the objects that aren't far may have
   pub budget : ℕ
   -- how many faults the far store had
   pub faults : ℕ
@@ -49,8 +50,8 @@ abbrev pub window_count : ℕ
 window_count = machine_limit + 1
 
 -- a window stands at this number
-abbrev pub IsMachine : ℕ → Type 0
-IsMachine who = who ≤ machine_limit
+abbrev pub HasWindow : ℕ → Type 0
+HasWindow who = who ≤ machine_limit
 
 -- the window of a machine
 abbrev pub window_of : List (List ℕ) → ℕ → List ℕ

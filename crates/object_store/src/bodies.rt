@@ -161,6 +161,15 @@ impl<F: FarStore> Body<F> {
         }
     }
 
+    /// Whether it may be reached.
+    #[inline(always)]
+    pub fn is_here(&self) -> bool
+        ensures here { result ≡ true → self.now.place ≡ place.Here }
+        ensures away { result ≡ false → self.now.place ≡ place.Here → ⊥ }
+    {
+        self.word.is_local()
+    }
+
     /// How many windows hold it.
     pub fn scopes(&self) -> u8
         ensures { result ≡ self.now.scopes }
@@ -201,19 +210,21 @@ impl<F: FarStore> Body<F> {
     }
 
     /// One window more holds it.
+    #[inline(always)]
     pub fn open_scope(&mut self)
         requires { self.old.scopes < 255 }
         ensures { self.new ≡ record self.old { scopes = self.old.scopes + 1 } }
     {
-        words::open_scope(&mut self.word);
+        self.word.open_scope();
     }
 
     /// One window fewer holds it.
+    #[inline(always)]
     pub fn close_scope(&mut self)
         requires { 0 < self.old.scopes }
         ensures { self.new ≡ record self.old { scopes = self.old.scopes - 1 } }
     {
-        words::close_scope(&mut self.word);
+        self.word.close_scope();
     }
 
     /// It is no object any more.

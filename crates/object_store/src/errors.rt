@@ -12,7 +12,7 @@ pub enum MakeError {
     #[error("the budget has no room for the object")]
     NoRoom,
     /// An allocation failed.
-    #[error("out of memory")]
+    #[error("no memory")]
     Memory,
 }
 
@@ -26,7 +26,7 @@ pub enum GetError {
     #[error("the object isn't here")]
     Away,
     /// An allocation failed.
-    #[error("out of memory")]
+    #[error("no memory")]
     Memory,
 }
 

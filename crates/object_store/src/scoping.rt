@@ -9,6 +9,7 @@ use far_store::FarStore;
 use scopes::Window;
 
 #[tactic(auto, using(crate::proofs::Counting::body_steps))]
+#[inline(always)]
 fn open_scope<F: FarStore>(bodies: &mut [Body<F>], number: usize)
     requires object { number < length bodies.old }
     requires fits { get_or (map scopes_in bodies.old) number 0 < 255 }
@@ -20,6 +21,7 @@ fn open_scope<F: FarStore>(bodies: &mut [Body<F>], number: usize)
 }
 
 #[tactic(auto, using(crate::proofs::Counting::body_steps))]
+#[inline(always)]
 fn end_scope<F: FarStore>(bodies: &mut [Body<F>], number: usize)
     requires held { 0 < get_or (map scopes_in bodies.old) number 0 }
     ensures counts { map scopes_in bodies.new ≡ set (map scopes_in bodies.old) number (get_or (map scopes_in bodies.old) number 0 - 1) }
@@ -29,6 +31,7 @@ fn end_scope<F: FarStore>(bodies: &mut [Body<F>], number: usize)
     bodies[number].close_scope();
 }
 
+#[inline(always)]
 fn end_pushed<F: FarStore>(bodies: &mut [Body<F>], out: Option<u32>)
     requires held { IfSome out (λ n. 0 < get_or (map scopes_in bodies.old) n 0) }
     ensures counts { map scopes_in bodies.new ≡ lessened out (map scopes_in bodies.old) }
@@ -41,6 +44,7 @@ fn end_pushed<F: FarStore>(bodies: &mut [Body<F>], out: Option<u32>)
 }
 
 /// Notes a number in the window of a machine.
+#[inline(always)]
 pub fn note<F: FarStore>(bodies: &mut [Body<F>], windows: &mut [Window], who: usize, number: u32)
     requires machine { (who < length windows.old) × (length windows.old ≤ window_count) }
     requires object { number < length bodies.old }

@@ -57,12 +57,17 @@ pub fn stand<F: FarStore>(bodies: &[Body<F>], number: usize, op: &Op) -> Standin
     ensures stands { Stands (map bytes_in bodies.now) (map place_in bodies.now) number op.now result }
     ensures found { result ≡ Standing.Here → number < length bodies.now }
 {
-    if !op.is_inside(length_at(bodies, number)) {
+    if number >= bodies.len() {
         return Standing::Outside;
     }
-    match bodies[number].place() {
-        Place::Here => Standing::Here,
-        _ => Standing::Away,
+    let body = &bodies[number];
+    if !op.is_inside(body.len()) {
+        return Standing::Outside;
+    }
+    if body.is_here() {
+        Standing::Here
+    } else {
+        Standing::Away
     }
 }
 

@@ -1,7 +1,7 @@
 //! The objects of an agent.
 ghost use Rattle.std.specs.Prelude.{◌≡◌, ◌≤◌, [], IfOk, length};
 ghost use Rattle.memory.specs.Objects.{AreObjects, bytes_of, object_bytes};
-ghost use Rattle.object_store.specs.Stores.{StoreState, IsMachine, IsStore, Touches, store_start, with_window};
+ghost use Rattle.object_store.specs.Stores.{StoreState, HasWindow, IsStore, Touches, store_start, with_window};
 ghost use Rattle.object_store.specs.Calls.{Makes, Frees, Gets, Puts, BeginsLeave, EndsLeave, BeginsReturn, EndsReturn};
 
 use crate::bodies::Body;
@@ -29,7 +29,7 @@ pub struct ObjectStore<F: FarStore> {
     alloc: Global,
     bodies: Vec<Body<F>>,
     // by the number of the machine
-    windows: Vec<Window>,
+    windows: [Window; MACHINE_LIMIT + 1],
     budget: u32,
     // what the objects that aren't far leave of it
     spare: u32,
@@ -44,27 +44,23 @@ impl<F: FarStore> Model for ObjectStore<F> {
 
     ghost Value = { StoreState };
 
-    ghost view = { λ s. record { objects = map bytes_in s.bodies.items; places = map place_in s.bodies.items; windows = s.windows.items; budget = s.budget; faults = F.faults_of s.store } };
+    ghost view = { λ s. record { objects = map bytes_in s.bodies.items; places = map place_in s.bodies.items; windows = s.windows; budget = s.budget; faults = F.faults_of s.store } };
 
-    ghost invariant = { λ s. IsKeptStore s.bodies.items s.windows.items s.budget s.spare × (number_count ≤ vec_capacity s.bodies) };
+    ghost invariant = { λ s. IsKeptStore s.bodies.items s.windows s.budget s.spare × (number_count ≤ vec_capacity s.bodies) };
 }
 
 impl<F: FarStore + Drop> ObjectStore<F> {
-    /// A store without objects, over a far store. It takes the memory for all that can be made, their bytes apart. At most
-    /// `budget` bytes of objects are here at a time.
+    /// A store without objects, over a far store. It takes the memory for all that can be made, their bytes apart. The
+    /// objects that aren't far have at most `budget` bytes.
     pub fn new(alloc: Global, budget: u32, store: F) -> Result<Self, AllocError>
         ensures { IfOk result (λ s. s ≡ store_start budget (F.faults_of store)) }
     {
         let mut bodies = Vec::with_capacity(alloc, OBJECT_LIMIT + 1)?;
         bodies.push_reserved(Body::none(alloc));
-        let mut windows = Vec::with_capacity(alloc, MACHINE_LIMIT + 1)?;
-        for _ in 0..MACHINE_LIMIT + 1 {
-            windows.push_reserved(Window::new());
-        }
         Ok(ObjectStore {
             alloc,
             bodies,
-            windows,
+            windows: Default::default(),
             budget,
             spare: budget,
             store,
@@ -159,7 +155,7 @@ impl<F: FarStore> ObjectStore<F> {
     /// Does one access of an object by a machine, which then has it in scope. Takes no memory.
     #[inline(always)]
     pub fn touch(&mut self, who: usize, number: u32, op: &Op) -> Reach
-        requires { IsMachine who }
+        requires { HasWindow who }
         ensures { Touches who self.old number op.now result self.new }
     {
         let index = number as usize;
@@ -169,7 +165,7 @@ impl<F: FarStore> ObjectStore<F> {
             Standing::Here => {
                 let answer = act_at(self.bodies.as_mut_slice(), index, op);
                 let bodies = self.bodies.as_mut_slice();
-                note(bodies, self.windows.as_mut_slice(), who, number);
+                note(bodies, &mut self.windows, who, number);
                 Reach::Done(answer)
             }
         }
@@ -177,10 +173,10 @@ impl<F: FarStore> ObjectStore<F> {
 
     /// Closes all scopes of a machine.
     pub fn close_scopes(&mut self, who: usize)
-        requires { IsMachine who }
+        requires { HasWindow who }
         ensures { self.new ≡ with_window self.old who [] }
     {
-        close(self.bodies.as_mut_slice(), self.windows.as_mut_slice(), who);
+        close(self.bodies.as_mut_slice(), &mut self.windows, who);
     }
 
     /// An object that is here and in no scope begins to leave.
@@ -274,9 +270,9 @@ pub struct StoreMemory<'a, F: FarStore> {
 }
 
 impl<'a, F: FarStore> Memory for StoreMemory<'a, F> {
-    ghost use Rattle.object_store.specs.Stores.{IsMachine, lent_memory, store_promises};
+    ghost use Rattle.object_store.specs.Stores.{HasWindow, lent_memory, store_promises};
 
-    ghost is_ready = { λ m. IsMachine m.who };
+    ghost is_ready = { λ m. HasWindow m.who };
 
     ghost acts = { lent_memory (λ m. m.store.now) (λ m. m.store.ghost_name) (λ m. m.who) };
 

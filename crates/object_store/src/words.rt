@@ -1,32 +1,8 @@
 //! The words of objects, changed where they can be.
-ghost use Rattle.std.specs.Prelude.{◌≡◌, ◌+◌, ◌-◌, ◌<◌, false};
+ghost use Rattle.std.specs.Prelude.{◌≡◌, false};
 ghost use Rattle.pointer_word.specs.declared.word.Place.TheVariants.{Local, Moving, Far};
 
 use pointer_word::Word;
-
-/// One scope more.
-#[tactic(auto, using(crate::proofs::Wording::word_steps))]
-pub fn open_scope(word: &mut Word)
-    requires { word.old.count < 255 }
-    ensures { word.new ≡ record word.old { count = word.old.count + 1 } }
-{
-    match word.opened() {
-        Some(next) => *word = next,
-        None => unreachable!(),
-    }
-}
-
-/// One scope fewer.
-#[tactic(auto, using(crate::proofs::Wording::word_steps))]
-pub fn close_scope(word: &mut Word)
-    requires { 0 < word.old.count }
-    ensures { word.new ≡ record word.old { count = word.old.count - 1 } }
-{
-    match word.closed() {
-        Some(next) => *word = next,
-        None => unreachable!(),
-    }
-}
 
 /// From here on its way.
 #[tactic(auto, using(crate::proofs::Wording::word_steps))]

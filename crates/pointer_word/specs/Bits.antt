@@ -4,6 +4,7 @@ use Rattle.pointer_word.specs.declared.word.Place.{Place}
 use Rattle.pointer_word.specs.declared.word.Place.TheVariants.{Local, Moving, Far}
 use Rattle.pointer_word.specs.Words.{WordRecord}
 
+-- the place of this number; any above 1 is far
 abbrev pub place_at : ℕ → Place
 place_at n = cond (nat_eq n 0) Local (cond (nat_eq n 1) Moving Far)
 

@@ -3,6 +3,7 @@ use Rattle.std.specs.Prelude.{ℕ, ◌+◌, ◌-◌, ◌*◌, ◌<◌, ◌^◌, 
 use Rattle.pointer_word.specs.declared.word.Place.{Place}
 use Rattle.pointer_word.specs.declared.word.Place.TheVariants.{Local, Moving, Far}
 
+-- what the word of an object says: its place, two marks and two counts
 pub record WordRecord : Type 0 where
   -- where the object is
   pub place : Place
@@ -42,15 +43,17 @@ HasFields w = (w.count < 256) × (w.stamp < 2 ^ 48)
 abbrev pub new_word : WordRecord
 new_word = record { place = Local; turn = false; hot = false; count = 0; stamp = 0 }
 
--- whether the place is this one
+-- whether the place is local: the object is here
 abbrev pub is_local : Place → Bool
 is_local Local = true
 is_local _ = false
 
+-- whether the object is moving, one way or the other
 abbrev pub is_moving : Place → Bool
 is_moving Moving = true
 is_moving _ = false
 
+-- whether the object is far
 abbrev pub is_far : Place → Bool
 is_far Far = true
 is_far _ = false
@@ -79,7 +82,7 @@ turn_given w s = where_it_applies (w.turn && nat_le w.stamp s && nat_le s stamp_
 abbrev pub leaving : WordRecord → Option WordRecord
 leaving w = where_it_applies (is_local w.place && nat_eq w.count 0 && not w.turn) (record w { place = Moving })
 
--- it is far
+-- a move ends, and the object is far
 abbrev pub gone_far : WordRecord → Option WordRecord
 gone_far w = where_it_applies (is_moving w.place) (record w { place = Far })
 
@@ -87,6 +90,6 @@ gone_far w = where_it_applies (is_moving w.place) (record w { place = Far })
 abbrev pub returning : WordRecord → Option WordRecord
 returning w = where_it_applies (is_far w.place) (record w { place = Moving })
 
--- it is here
+-- a move ends, and the object is here
 abbrev pub home : WordRecord → Option WordRecord
 home w = where_it_applies (is_moving w.place) (record w { place = Local })

@@ -53,6 +53,35 @@ fn numbers_that_are_no_words(rt: HostRuntime) {
     assert!(rt; Word::of(0x80).is_none());
 }
 
+#[test]
+fn scopes_are_counted(rt: HostRuntime) {
+    let mut word = Word::new();
+    word.open_scope();
+    word.open_scope();
+    assert_eq!(rt; word.number(), 0x200);
+    word.close_scope();
+    assert_eq!(rt; word.number(), 0x100);
+}
+
+/// Whether an object is here before it leaves, on its way, far, and on its way back.
+fn places() -> Option<[bool; 4]> {
+    let word = Word::new();
+    let leaving = word.leaving()?;
+    let far = leaving.left()?;
+    let returning = far.returning()?;
+    Some([
+        word.is_local(),
+        leaving.is_local(),
+        far.is_local(),
+        returning.is_local(),
+    ])
+}
+
+#[test]
+fn an_object_is_here_until_it_leaves(rt: HostRuntime) {
+    assert_eq!(rt; places(), Some([true, false, false, false]));
+}
+
 /// Whether a stamp above the greatest, or below the old one, is taken.
 fn wrong_stamps() -> Option<bool> {
     let word = Word::of(0x5_0004)?;

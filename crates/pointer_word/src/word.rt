@@ -1,6 +1,6 @@
 //! Words.
-ghost use Rattle.std.specs.Prelude.{◌≡◌, None, IfSome};
-ghost use Rattle.pointer_word.specs.Words.{WordRecord, HasFields, word_number, new_word, opened, closed, turn_taken, turn_given, leaving, gone_far, returning, home};
+ghost use Rattle.std.specs.Prelude.{◌≡◌, ◌+◌, ◌-◌, ◌<◌, None, IfSome};
+ghost use Rattle.pointer_word.specs.Words.{WordRecord, HasFields, word_number, new_word, is_local, opened, closed, turn_taken, turn_given, leaving, gone_far, returning, home};
 
 use std::marker::Model;
 
@@ -81,6 +81,14 @@ impl Word {
         }
     }
 
+    /// Whether the object is here.
+    #[inline(always)]
+    pub fn is_local(&self) -> bool
+        ensures { result ≡ is_local self.now.place }
+    {
+        self.bits & PLACE == 0
+    }
+
     /// How many scopes are open on the object.
     pub fn scopes(&self) -> u8
         ensures { result ≡ self.now.count }
@@ -126,6 +134,24 @@ impl Word {
         } else {
             None
         }
+    }
+
+    /// Opens one more scope. Whoever knows that there is room needs no test.
+    #[inline(always)]
+    pub fn open_scope(&mut self)
+        requires { self.old.count < 255 }
+        ensures { self.new ≡ record self.old { count = self.old.count + 1 } }
+    {
+        self.bits += SCOPE;
+    }
+
+    /// Closes a scope. Whoever knows that one is open needs no test.
+    #[inline(always)]
+    pub fn close_scope(&mut self)
+        requires { 0 < self.old.count }
+        ensures { self.new ≡ record self.old { count = self.old.count - 1 } }
+    {
+        self.bits -= SCOPE;
     }
 
     /// The turn is taken, where the object is here and nobody has it.

@@ -1,5 +1,5 @@
-//! A run of commands, and what the world is afterwards. It is run with each of its allocations refused in turn, outside the
-//! gate; here all are granted.
+//! A run of commands, and what the world is afterwards. `tests/refusals.py` runs it with each of its allocations
+//! failing in turn; here all are granted.
 #![tactic(auto)]
 
 use far_store::OwnStore;
@@ -10,7 +10,7 @@ use world::{Event, ObjectLength, Reply, World};
 /// R0 = 7, then EXIT.
 const SEVEN: [u8; 16] = [0xb7, 0, 0, 0, 7, 0, 0, 0, 0x95, 0, 0, 0, 0, 0, 0, 0];
 
-/// As many bytes of objects may be here at a time.
+/// How many bytes the objects that aren't far may have.
 const BUDGET: u32 = 65_536;
 
 /// An object of eight bytes.

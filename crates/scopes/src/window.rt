@@ -1,29 +1,45 @@
 //! Windows.
 ghost use Rattle.std.specs.Prelude.{◌≡◌, [], ◌∷◌, None, IfSome};
 ghost use Rattle.scopes.specs.Windows.{IsWindow, holds, noted, pushed_out};
+ghost use Rattle.scopes.specs.Places.{number_at};
 
-use arrayvec::ArrayVec;
 use std::marker::Model;
+use std::mem;
 
-/// How many numbers a window holds.
-pub const WINDOW_LIMIT: usize = 4;
+/// What stands at a place without a number. It is no number of 32 bits.
+const NO_NUMBER: u64 = 0x1_0000_0000;
 
 /// The numbers of the objects that a machine reached last: at most four distinct ones, the oldest first. An object whose
 /// number is held is in scope, so it stays where it is. Takes no memory.
+///
+/// The four stand at places of their own, those of the newest first, so that no loop looks for one.
 #[derive(Drop)]
 pub struct Window {
-    numbers: ArrayVec<u32, WINDOW_LIMIT>,
+    newest: u64,
+    second: u64,
+    third: u64,
+    oldest: u64,
 }
 
 impl Model for Window {
     ghost use Rattle.std.specs.Prelude.{ℕ, List};
-    ghost use Rattle.scopes.specs.Windows.{IsWindow};
+    ghost use Rattle.scopes.specs.Places.{IsKeptWindow, numbers_in};
 
     ghost Value = { List ℕ };
 
-    ghost view = { λ w. w.numbers.items };
+    ghost view = { λ w. numbers_in w.oldest w.third w.second w.newest };
 
-    ghost invariant = { λ w. IsWindow w.numbers.items };
+    ghost invariant = { λ w. IsKeptWindow w.oldest w.third w.second w.newest };
+}
+
+impl Default for Window {
+    ghost use Rattle.std.specs.Prelude.{◌≡◌, []};
+
+    ghost is_default = { λ w. w ≡ [] };
+
+    fn default() -> Self {
+        Window::new()
+    }
 }
 
 impl Window {
@@ -32,34 +48,42 @@ impl Window {
         ensures { result ≡ [] }
     {
         Window {
-            numbers: ArrayVec::new(),
+            newest: NO_NUMBER,
+            second: NO_NUMBER,
+            third: NO_NUMBER,
+            oldest: NO_NUMBER,
         }
     }
 
     /// Whether it holds the number.
+    #[inline(always)]
     pub fn holds(&self, number: u32) -> bool
         ensures value { result ≡ holds number self.now }
         ensures window { IsWindow self.now }
     {
-        holds_number(self.numbers.as_slice(), number)
+        let number = number as u64;
+        number == self.newest
+            || number == self.second
+            || number == self.third
+            || number == self.oldest
     }
 
     /// Notes a number, and answers the one that it pushes out: the oldest, where four others are held. A number that is
     /// held already changes nothing, and isn't made the newest.
+    #[inline(always)]
     pub fn note(&mut self, number: u32) -> Option<u32>
         ensures window { IsWindow self.old }
         ensures new { self.new ≡ noted number self.old }
         ensures out { result ≡ pushed_out number self.old }
     {
-        if holds_number(self.numbers.as_slice(), number) {
+        if self.holds(number) {
             return None;
         }
-        let out = if self.numbers.is_full() {
-            Some(self.numbers.remove(0))
-        } else {
-            None
-        };
-        self.numbers.push(number);
+        let out = number_of(self.oldest);
+        self.oldest = self.third;
+        self.third = self.second;
+        self.second = self.newest;
+        self.newest = number as u64;
         out
     }
 
@@ -69,20 +93,27 @@ impl Window {
         ensures some { IfSome result (λ n. self.old ≡ n ∷ self.new) }
         ensures window { IsWindow self.old }
     {
-        if self.numbers.is_empty() {
-            return None;
-        }
-        Some(self.numbers.remove(0))
+        let out = if self.oldest < NO_NUMBER {
+            mem::replace(&mut self.oldest, NO_NUMBER)
+        } else if self.third < NO_NUMBER {
+            mem::replace(&mut self.third, NO_NUMBER)
+        } else if self.second < NO_NUMBER {
+            mem::replace(&mut self.second, NO_NUMBER)
+        } else {
+            mem::replace(&mut self.newest, NO_NUMBER)
+        };
+        number_of(out)
     }
 }
 
-fn holds_number(numbers: &[u32], number: u32) -> bool
-    ensures { result ≡ holds number numbers.now }
+/// The number that stands at a place, if there is one.
+#[inline(always)]
+fn number_of(place: u64) -> Option<u32>
+    ensures { result ≡ number_at place }
 {
-    for n in numbers {
-        if number == *n {
-            return true;
-        }
+    if place < NO_NUMBER {
+        Some(place as u32)
+    } else {
+        None
     }
-    false
 }

@@ -3,6 +3,7 @@ use Rattle.std.specs.Prelude.{ℕ, List}
 use Rattle.world.specs.declared.events.Event.{Event}
 use Rattle.world.specs.declared.events.Event.TheVariants as event
 
+-- what is asked of the agent: a command, with its numbers and bytes
 pub data Command : Type 0 where
   -- length
   Make : ℕ → Command

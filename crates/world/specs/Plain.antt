@@ -14,6 +14,7 @@ use Rattle.world.specs.Debugging.{AnswersBreak, AnswersUnbreak, AnswersWatch, An
 use Rattle.world.specs.Answers.{AnswersShip}
 use Rattle.world.specs.Kept.{commands_kept, replies_kept}
 
+-- an agent whose objects never move: machines over one map of objects
 pub record PlainState : Type 0 where
   pub machines : List Debuggee
   -- the bytes of each number

@@ -21,12 +21,12 @@ pub data Way : Type 0 where
   ByOne : Way
 
 -- the machine isn't stopped, and it is paused or comes to a breakpoint that isn't to be passed
-abbrev pub is_held : Debuggee → Bool
-is_held d = is_none d.machine.stop && is_to_pause d.machine.slot d.debugger
+abbrev pub pauses_now : Debuggee → Bool
+pauses_now d = is_none d.machine.stop && is_to_pause d.machine.slot d.debugger
 
 -- the command pauses in place of a step
 abbrev pub holds_back : Way → Debuggee → Bool
-holds_back ByStep d = is_held d
+holds_back ByStep d = pauses_now d
 holds_back ByOne d = false
 
 -- the debug state that a step leaves

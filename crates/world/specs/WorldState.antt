@@ -3,6 +3,7 @@ use Rattle.std.specs.Prelude.{◌≤◌, ℕ, zero, suc, ◌-◌, List, [], leng
 use Rattle.object_store.specs.Stores.{StoreState, machine_limit, store_start}
 use Rattle.world.specs.declared.debuggee.Debuggee.{Debuggee}
 
+-- the machines that were shipped, each with its debug state, and the store of the objects that were made
 pub record WorldState : Type 0 where
   -- in the order in which they were shipped
   pub machines : List Debuggee

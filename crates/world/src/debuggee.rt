@@ -1,7 +1,7 @@
 //! A machine and its debugger.
 ghost use Rattle.std.specs.Prelude.{◌≡◌, ◌<◌, suc, None, length, IfSome, IfNone, if◌then◌else◌};
 ghost use Rattle.debugger.specs.Steps.{before};
-ghost use Rattle.world.specs.Steps.{is_held};
+ghost use Rattle.world.specs.Steps.{pauses_now};
 ghost use Rattle.world.specs.WorldState.{machine_at};
 
 use debugger::{Before, Debugger};
@@ -18,7 +18,7 @@ impl Debuggee {
     /// Whether the machine pauses in place of a step, which it then notes. One that is stopped doesn't.
     #[inline]
     pub(crate) fn pauses(&mut self) -> bool
-        ensures held { result ≡ is_held self.old }
+        ensures answer { result ≡ pauses_now self.old }
         ensures new { self.new ≡ (if result then record self.old { debugger = before self.old.machine.slot self.old.debugger } else self.old) }
     {
         if self.machine.stop().is_some() {

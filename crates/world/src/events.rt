@@ -251,7 +251,7 @@ pub enum Reply {
     Scoped {
         object: u32,
     },
-    /// The far store failed, and the object is in the place where it was.
+    /// The far store failed, and the object is in the place where it was before the move began.
     Faulted {
         object: u32,
         place: Place,

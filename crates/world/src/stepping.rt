@@ -1,6 +1,6 @@
 //! Steps of a machine.
 ghost use Rattle.std.specs.Prelude.{◌≡◌, ◌≤◌, ℕ, Bool, length, if◌then◌else◌};
-ghost use Rattle.object_store.specs.Stores.{IsMachine, machine_limit, store_memory};
+ghost use Rattle.object_store.specs.Stores.{HasWindow, machine_limit, store_memory};
 ghost use Rattle.machine.specs.TableStep.{TableStep};
 ghost use Rattle.world.specs.Steps.{AnswersStep, reply_of, reply_to_step, debugged};
 ghost use Rattle.world.specs.Steps.Way.{ByStep, ByOne};
@@ -15,7 +15,7 @@ use object_store::{ObjectStore, StoreMemory};
 /// One step of a machine over the objects.
 #[inline]
 fn step_over<F: FarStore>(machine: &mut Machine, store: &mut ObjectStore<F>, who: usize) -> Stepped
-    requires { IsMachine who }
+    requires { HasWindow who }
     ensures { TableStep (store_memory who) machine.old store.old result machine.new store.new }
 {
     let mut memory = StoreMemory { store, who };

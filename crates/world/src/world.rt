@@ -65,7 +65,7 @@ fn reply_to_move(done: Reply, back: Place, object: u32, moved: Moved) -> Reply
 
 impl<F: FarStore + Drop> World<F> {
     /// A world without machines and objects. It takes the memory for all that can be shipped and made, but for code and
-    /// bytes. At most `budget` bytes of objects are here at a time; the others are in the store.
+    /// bytes. The objects that aren't far have at most `budget` bytes; the bytes of the others are in the far store.
     pub fn new(alloc: Global, budget: u32, store: F) -> Result<Self, AllocError>
         requires { F.RETURNS ≡ true }
         ensures { IfOk result (λ w. w ≡ world_start budget (F.faults_of store)) }

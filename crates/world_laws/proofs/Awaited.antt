@@ -97,7 +97,7 @@ back way old new m n r w (Pause h) =
 back way old new m n r w (TableRow h) =
     let same = found_once (machine_at old.machines m) h.debuggee w.debuggee h.found w.found in
     let step = subst (λ (x : Debuggee). TableStep (store_memory m) x.machine old.store h.answer h.machine new.store) same h.step in
-    let wait = waiting_step m n w.debuggee.machine old.store w.instr w.op w.attempts w.access w.inside w.abroad in
+    let wait = waiting_step m n w.debuggee.machine old.store w.instr w.op w.attempts w.access w.inside w.not_here in
     let once = steps_one_way (store_memory m) (store_determined m) w.debuggee.machine h.machine w.debuggee.machine old.store new.store old.store h.answer (stepped.Waiting n) step wait in
     waiting_tells m h.machine.slot n h.debuggee.debugger h.answer r once.0 h.told
 
@@ -144,7 +144,7 @@ there way old new m k n h =
     ∙ ap (λ (x : DebugState). with_machine old.machines m (record { machine = h.debuggee.machine; debugger = x })) debugger
     ∙ with_same old.machines m h.debuggee h.found in (
       t.number,
-      record { debuggee = h.debuggee; found = h.found; goes = h.goes; instr = w.1.0; attempts = w.1.3; op = w.1.1; access = w.1.4; inside = b.inside; abroad = b.away },
+      record { debuggee = h.debuggee; found = h.found; goes = h.goes; instr = w.1.0; attempts = w.1.3; op = w.1.1; access = w.1.4; inside = b.inside; not_here = b.away },
       ap (λ (x : List Debuggee). record { machines = x; store = new.store }) machines ∙ ap (λ (x : StoreState). record { machines = old.machines; store = x }) b.same,
     )
 

@@ -42,7 +42,7 @@ pub record Awaits (way : Way) (w : WorldState) (m n : ℕ) : Type 0 where
   pub op : Op
   pub access : asks instr debuggee.machine ≡ Touch n op
   pub inside : Reaches w.store.objects n op
-  pub abroad : place_of w.store.places n ≢ Here
+  pub not_here : place_of w.store.places n ≢ Here
 
 -- A step waits exactly there, and then nothing changes.
 abbrev pub WaitsExactly : Type 0

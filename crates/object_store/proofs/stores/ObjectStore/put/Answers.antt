@@ -17,7 +17,7 @@ invariant_of-self g c =
     let from : place_of (map place_in c.self.inside.bodies.items) c.args.number ≡ Here = search rules in
     let inside : HasRange (map bytes_in c.self.inside.bodies.items) c.args.number c.args.offset (length c.args.bytes.now) = search rules in
     rw whole (
-      filled c.self.inside.bodies.items c.write_range.new.bodies _ c.self.inside.windows.items _ _ c.args.number
+      filled c.self.inside.bodies.items c.write_range.new.bodies _ c.self.inside.windows _ _ c.args.number
           (replaced c.args.offset c.args.bytes.now (bytes_of (map bytes_in c.self.inside.bodies.items) c.args.number)) c.self.invariant.0 found
           (length-replaced _ _ _ inside.1) (rw value at c.write_range.ensures.bytes) (rw value at c.write_range.ensures.places)
           (rw (c.write_range.ensures.counts, value) c.self.invariant.0.counts) c.self.invariant.0.windows_are from,

@@ -16,15 +16,14 @@ invariant_of-self g c =
     let again = c.as_mut_slice-bodies.ensures.value ∙ first in
     let second = all_new c.self.inside.bodies.len (take c.self.inside.bodies.len (c.act_at-answer.new.bodies ++ drop (length c.act_at-answer.new.bodies) c.self.inside.bodies.items)) c.note.new.bodies
     (omega (arith, c.note.auto.bodies, c.as_mut_slice-bodies.ensures.len)) in
-    let windows = with_items_is c.self.inside.windows c.note.new.windows (omega (arith, c.note.auto.windows, c.as_mut_slice-in-Here.ensures.len)) in
     let found : c.args.number < length c.self.inside.bodies.items = search rules in
     let from : place_of (map place_in c.self.inside.bodies.items) c.args.number ≡ Here = search rules in
     let inside : Reaches (map bytes_in c.self.inside.bodies.items) c.args.number c.args.op.now = search rules in
-    rw (second, windows) (
+    rw second (
       filled c.self.inside.bodies.items c.note.new.bodies _ c.note.new.windows _ _ c.args.number
           (after c.args.op.now (bytes_of (map bytes_in c.self.inside.bodies.items) c.args.number)) c.self.invariant.0 found
           (length-after c.args.op.now _ inside) (rw again at c.note.ensures.bytes ∙ rw value at c.act_at-answer.ensures.bytes)
           (rw again at c.note.ensures.places ∙ rw value at c.act_at-answer.ensures.places)
-          c.note.ensures.counts (omega (arith, c.note.auto.windows, c.as_mut_slice-in-Here.ensures.len, c.self.invariant.0.windows_are)) from,
+          c.note.ensures.counts (omega (arith, c.note.auto.windows, c.self.invariant.0.windows_are)) from,
       c.self.invariant.1,
     )

@@ -1,5 +1,5 @@
 //! Encodings by the tables of RFC 9669, by hand.
-use crate::{Fault, decode_at, encode, slots_of};
+use bpf_codec::{Fault, decode_at, encode, slots_of};
 use isa_table::{
     AtomicOp, Binary, Cond, Instr, Operand, Order, Reg, SignedSize, Size, SwapWidth, Width,
 };

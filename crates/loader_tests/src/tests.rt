@@ -1,7 +1,7 @@
 //! Code by hand. A slot is written as its bytes, first to last.
-use crate::{CODE_LIMIT, LoadError, Why, load};
 use bpf_codec::Fault;
 use isa_table::{Binary, Instr, Operand, Reg, Width};
+use loader::{CODE_LIMIT, LoadError, Why, load};
 use std::alloc::{AllocError, Global};
 use std::test::Fail;
 

@@ -1,0 +1,5 @@
+//! Tests of the loader: code that is valid, and code that is refused.
+#![tactic(auto)]
+
+#[cfg(test)]
+mod tests;
