@@ -6,6 +6,7 @@ use Rattle.world.specs.Commands.{Command}
 use Rattle.world.specs.WorldState.{WorldState, machine_at, with_machine}
 use Rattle.world_laws.specs.Replies.{machine_debugged, machine_stepped, machine_in, DebuggingChangesDebugStateAlone, OthersStay}
 use Rattle.world_laws.proofs.Machines.{with_map, other_machine}
+use Rattle.world_laws.proofs.OtherScopes.{other_scopes}
 use Rattle.world_laws.proofs.Sorts.{Marks, Sets, Sort, Stays, Stores, Ships, Tunes, Pauses, Walks, none, sort_of}
 
 abbrev debugged : Marks → Option ℕ
@@ -64,4 +65,4 @@ others old new c r m (Ships d k q n a e) t = none (machine_stepped c) m (ap step
 others old new c r m (Tunes j k q s e) t = none (machine_stepped c) m (ap stepped k) t
 
 pub others_stay : OthersStay
-others_stay old new c r m k h t n = others old new c r m (sort_of old new c r h) t k n
+others_stay old new c r m k h t n = (others old new c r m (sort_of old new c r h) t k n, other_scopes old new c r m k (sort_of old new c r h) t n)

@@ -28,3 +28,4 @@ pub mod Stopping
 pub mod Calm
 pub mod StepsOfTwo
 pub mod Turned
+pub mod OtherScopes

@@ -2,7 +2,7 @@
 use Rattle.std.specs.Prelude.{◌≡◌, ◌≢◌, ℕ, zero, suc, Bool, true, false, List, [], ◌∷◌, length, map, Option, Some, None, ◌⊎◌}
 use Rattle.memory.specs.Objects.{bytes_of}
 use Rattle.object_store.specs.declared.places.Place.{Place}
-use Rattle.object_store.specs.Stores.{with_place, HasRisen}
+use Rattle.object_store.specs.Stores.{with_place, window_of, HasRisen}
 use Rattle.machine.specs.MachineState.{MachineState}
 use Rattle.world.specs.declared.debuggee.Debuggee.{Debuggee}
 use Rattle.world.specs.declared.events.Reply.{Reply}
@@ -80,10 +80,10 @@ machine_stepped (Step m) = Some m
 machine_stepped (One m) = Some m
 machine_stepped _ = None
 
--- A step of one machine leaves every other machine, and its debug state, as they were.
+-- A step of one machine leaves every other machine, its debug state and what it has in scope, as they were.
 abbrev pub OthersStay : Type 0
 OthersStay = (old new : WorldState) (command : Command) (reply : Reply) (m k : ℕ) → Answers old command reply new → machine_stepped command ≡ Some m → k ≢ m
-    → machine_at new.machines k ≡ machine_at old.machines k
+    → (machine_at new.machines k ≡ machine_at old.machines k) × (window_of new.store.windows k ≡ window_of old.store.windows k)
 
 -- the code of each command `ship` that was answered `shipped`, in order
 abbrev pub shipped_codes : List Command → List Reply → List (List ℕ)
