@@ -20,7 +20,7 @@ use Rattle.clap.specs.declared.parser.matches.ValueSource.TheVariants.{CommandLi
 use Rattle.clap.specs.declared.error.kind.ErrorKind.{ErrorKind}
 use Rattle.clap.specs.declared.error.kind.ErrorKind.TheVariants as kind
 use Rattle.clap.proofs.ValueTestLemmas.{accepts-Accepts}
-use Rattle.agent.specs.CommandLine.{HasBudget, budget_parser, budget_rule}
+use Rattle.agent.specs.CommandLine.{HasBudget, budget_limit_text, budget_parser, budget_rule}
 
 -- ---- first faults
 
@@ -265,12 +265,12 @@ same_either : (b : Bool) (rows : List Row) → cond b rows rows ≡ rows
 same_either true rows = refl
 same_either false rows = refl
 
-budget_there : (b : Bool) (rows : List Row) → has_row (codes "budget") rows ≡ b → Good rows → HasBudget (cond b rows (default_rows (codes "budget") WithoutMinus (codes "67108864" ∷ []) rows))
+budget_there : (b : Bool) (rows : List Row) → has_row (codes "budget") rows ≡ b → Good rows → HasBudget (cond b rows (default_rows (codes "budget") WithoutMinus (budget_limit_text ∷ []) rows))
 budget_there true rows has g = found_text _ g (has_found rows has)
 budget_there false rows none g =
-    let e = appended (more_values DefaultValue (codes "67108864" ∷ [])) (new_row DefaultValue (codes "67108864")) refl rows none in
-    let a : accepts false budget_parser (codes "67108864") ≡ true = refl in
-    (codes "67108864", accepts-Accepts false budget_parser (codes "67108864") a, rw e refl)
+    let e = appended (more_values DefaultValue (budget_limit_text ∷ [])) (new_row DefaultValue budget_limit_text) refl rows none in
+    let a : accepts false budget_parser budget_limit_text ≡ true = refl in
+    (budget_limit_text, accepts-Accepts false budget_parser budget_limit_text a, rw e refl)
 
 pub run_has_budget : (words : List Text) → level_fault run_built [] nothing_held words false [] ≡ [] → HasBudget (rows_after rules [] words)
 run_has_budget words f =

@@ -9,13 +9,21 @@ use Rattle.clap.specs.declared.builder.value_parser.ValueParser.TheVariants.{Sig
 use Rattle.agent.specs.declared.arguments.Task.{Task}
 use Rattle.agent.specs.declared.arguments.Task.TheVariants.{Run, Check, Assemble, Disassemble}
 
--- a number from 0 to 64 MiB
-abbrev pub budget_parser : ValueParser
-budget_parser = Signed (pos 0) (pos 67108864)
+-- the greatest budget: 64 MiB
+abbrev pub budget_limit : ℕ
+budget_limit = 67108864
 
--- `--budget N`, which is 64 MiB where it is left out
+-- as a word
+abbrev pub budget_limit_text : Text
+budget_limit_text = codes "67108864"
+
+-- a number from 0 to that
+abbrev pub budget_parser : ValueParser
+budget_parser = Signed (pos 0) (pos budget_limit)
+
+-- `--budget N`, which is the greatest where it is left out
 abbrev pub budget_rule : Rule
-budget_rule = record (new_rule (codes "budget")) { long = Some (codes "budget"); value_names = 1; defaults = codes "67108864" ∷ []; parser = Some budget_parser }
+budget_rule = record (new_rule (codes "budget")) { long = Some (codes "budget"); value_names = 1; defaults = budget_limit_text ∷ []; parser = Some budget_parser }
 
 -- `run`, with its option
 abbrev pub run_shape : Shape

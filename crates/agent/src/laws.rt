@@ -1,6 +1,6 @@
 //! What the command line takes, apart from any call.
 ghost use Rattle.std.specs.Prelude.{◌≡◌, ◌≢◌, [], ◌∷◌, Some, codes};
-ghost use Rattle.agent.specs.CommandLine.{faults_of, task_of};
+ghost use Rattle.agent.specs.CommandLine.{budget_limit, budget_limit_text, faults_of, task_of};
 ghost use Rattle.agent.specs.Laws.{RightArgumentsNameATask};
 
 use crate::arguments::Task;
@@ -9,7 +9,7 @@ use clap::error::ErrorKind;
 /// `run`, `check`, `asm` and `dis` alone are right arguments, and ask for what they are called; `--help` asks for
 /// help.
 pub fn right_arguments()
-    ensures run { (faults_of (codes "run" ∷ []) ≡ []) × (task_of (codes "run" ∷ []) ≡ Some (Task.Run 67108864)) }
+    ensures run { (faults_of (codes "run" ∷ []) ≡ []) × (task_of (codes "run" ∷ []) ≡ Some (Task.Run budget_limit)) }
     ensures check { (faults_of (codes "check" ∷ []) ≡ []) × (task_of (codes "check" ∷ []) ≡ Some Task.Check) }
     ensures asm { (faults_of (codes "asm" ∷ []) ≡ []) × (task_of (codes "asm" ∷ []) ≡ Some Task.Assemble) }
     ensures dis { (faults_of (codes "dis" ∷ []) ≡ []) × (task_of (codes "dis" ∷ []) ≡ Some Task.Disassemble) }
@@ -21,8 +21,8 @@ pub fn right_budgets()
     ensures word { (faults_of (codes "run" ∷ codes "--budget" ∷ codes "8" ∷ []) ≡ [])
         × (task_of (codes "run" ∷ codes "--budget" ∷ codes "8" ∷ []) ≡ Some (Task.Run 8)) }
     ensures equals { (faults_of (codes "run" ∷ codes "--budget=0" ∷ []) ≡ []) × (task_of (codes "run" ∷ codes "--budget=0" ∷ []) ≡ Some (Task.Run 0)) }
-    ensures most { (faults_of (codes "run" ∷ codes "--budget" ∷ codes "67108864" ∷ []) ≡ [])
-        × (task_of (codes "run" ∷ codes "--budget" ∷ codes "67108864" ∷ []) ≡ Some (Task.Run 67108864)) }
+    ensures most { (faults_of (codes "run" ∷ codes "--budget" ∷ budget_limit_text ∷ []) ≡ [])
+        × (task_of (codes "run" ∷ codes "--budget" ∷ budget_limit_text ∷ []) ≡ Some (Task.Run budget_limit)) }
 {}
 
 /// No argument at all, another one, `help`, a second one and an option of another subcommand are invalid.

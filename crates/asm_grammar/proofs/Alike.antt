@@ -8,12 +8,12 @@ use Rattle.asm_table.specs.declared.mnemonic.Sort.{Sort}
 use Rattle.asm_table.specs.declared.operands.AsmOperand.{AsmOperand}
 use Rattle.asm_table.specs.declared.operands.AsmOperand.TheVariants as operand
 use Rattle.asm_table.specs.Mnemonics.{sorts}
-use Rattle.asm_table.specs.Parts.{built}
+use Rattle.asm_table.specs.Parts.{instr_of_parts}
 use Rattle.asm_grammar.specs.declared.why.Why.TheVariants as why
 use Rattle.asm_grammar.specs.Writing.{Written}
-use Rattle.asm_grammar.specs.Sorts.{Taken, taken, distance}
+use Rattle.asm_grammar.specs.Sorts.{Taken, operand_taken, distance}
 use Rattle.asm_grammar.specs.Sorts.Taken.{No, Out, Is, To, LongTo}
-use Rattle.asm_grammar.specs.Reading.{Look, Gathered, nothing, gathered, step, added, aimed, next_operand, mnemonic_at, finished, judged, said, body, by_mnemonic, has_stray, after_label, line_says, fault_of}
+use Rattle.asm_grammar.specs.Reading.{Look, Gathered, nothing, gather_operands, step, added, aimed, next_operand, mnemonic_at, finished, judged, said, body, by_mnemonic, has_stray, after_label, line_says, fault_of}
 
 -- an operand with no regard to where a label stands
 kind : AsmOperand → AsmOperand
@@ -30,7 +30,7 @@ unfolding kinds
 kinds-append [] ps = refl
 kinds-append (o ∷ os) ps = ap (λ l. kind o ∷ l) (kinds-append os ps)
 
-built_kinds : (m : Mnemonic) (os : List AsmOperand) → is_some (built m (kinds os)) ≡ is_some (built m os)
+built_kinds : (m : Mnemonic) (os : List AsmOperand) → is_some (instr_of_parts m (kinds os)) ≡ is_some (instr_of_parts m os)
 unfolding kinds kind
 built_kinds (mnemonic.Alu w op) (operand.Register d ∷ operand.Register s ∷ []) = refl
 built_kinds (mnemonic.Alu w op) (operand.Register d ∷ operand.Imm z ∷ []) = refl
@@ -90,23 +90,23 @@ module _ (look look2 : Look) (m n : ℕ) where
   added_alike g h (To w) a = aimed_alike (λ z. operand.Offset z) offsets_alike m n g h (look w) (look2 w) a
   added_alike g h (LongTo w) a = aimed_alike (λ z. operand.LongOffset z) long_offsets_alike m n g h (look w) (look2 w) a
 
-  then_alike : (x y : Option Gathered) (ss : List Sort) (rest : List Lexeme) → AreAlike x y → ((g h : Gathered) → Alike g h → AreAlike (gathered look m false g ss rest) (gathered look2 n false h ss rest))
-      → AreAlike (option_and_then (λ (p : Gathered × List Lexeme). gathered look m false p.0 ss p.1) (option_and_then (λ (g : Gathered). Some (g, rest)) x))
-      (option_and_then (λ (p : Gathered × List Lexeme). gathered look2 n false p.0 ss p.1) (option_and_then (λ (g : Gathered). Some (g, rest)) y))
+  then_alike : (x y : Option Gathered) (ss : List Sort) (rest : List Lexeme) → AreAlike x y → ((g h : Gathered) → Alike g h → AreAlike (gather_operands look m false g ss rest) (gather_operands look2 n false h ss rest))
+      → AreAlike (option_and_then (λ (p : Gathered × List Lexeme). gather_operands look m false p.0 ss p.1) (option_and_then (λ (g : Gathered). Some (g, rest)) x))
+      (option_and_then (λ (p : Gathered × List Lexeme). gather_operands look2 n false p.0 ss p.1) (option_and_then (λ (g : Gathered). Some (g, rest)) y))
   unfolding AreAlike
   then_alike None None ss rest a f = tt
   then_alike (Some g) (Some h) ss rest a f = f g h a
   then_alike None (Some h) ss rest a f = absurd a
   then_alike (Some g) None ss rest a f = absurd a
 
-  operand_alike : (g h : Gathered) (s : Sort) (ss : List Sort) (o : Option (Written × List Lexeme)) → Alike g h → ((rest : List Lexeme) (g h : Gathered) → Alike g h → AreAlike (gathered look m false g ss rest) (gathered look2 n false h ss rest))
-      → AreAlike (option_and_then (λ (p : Gathered × List Lexeme). gathered look m false p.0 ss p.1) (option_and_then (λ (x : Written × List Lexeme). option_and_then (λ (k : Gathered). Some (k, x.1)) (added look m g (taken s x.0))) o))
-      (option_and_then (λ (p : Gathered × List Lexeme). gathered look2 n false p.0 ss p.1) (option_and_then (λ (x : Written × List Lexeme). option_and_then (λ (k : Gathered). Some (k, x.1)) (added look2 n h (taken s x.0))) o))
+  operand_alike : (g h : Gathered) (s : Sort) (ss : List Sort) (o : Option (Written × List Lexeme)) → Alike g h → ((rest : List Lexeme) (g h : Gathered) → Alike g h → AreAlike (gather_operands look m false g ss rest) (gather_operands look2 n false h ss rest))
+      → AreAlike (option_and_then (λ (p : Gathered × List Lexeme). gather_operands look m false p.0 ss p.1) (option_and_then (λ (x : Written × List Lexeme). option_and_then (λ (k : Gathered). Some (k, x.1)) (added look m g (operand_taken s x.0))) o))
+      (option_and_then (λ (p : Gathered × List Lexeme). gather_operands look2 n false p.0 ss p.1) (option_and_then (λ (x : Written × List Lexeme). option_and_then (λ (k : Gathered). Some (k, x.1)) (added look2 n h (operand_taken s x.0))) o))
   unfolding AreAlike
   operand_alike g h s ss None a f = tt
-  operand_alike g h s ss (Some p) a f = then_alike (added look m g (taken s p.0)) (added look2 n h (taken s p.0)) ss p.1 (added_alike g h (taken s p.0) a) (λ g h a. f p.1 g h a)
+  operand_alike g h s ss (Some p) a f = then_alike (added look m g (operand_taken s p.0)) (added look2 n h (operand_taken s p.0)) ss p.1 (added_alike g h (operand_taken s p.0) a) (λ g h a. f p.1 g h a)
 
-  gathered_alike : (first : Bool) (g h : Gathered) (ss : List Sort) (ts : List Lexeme) → Alike g h → AreAlike (gathered look m first g ss ts) (gathered look2 n first h ss ts)
+  gathered_alike : (first : Bool) (g h : Gathered) (ss : List Sort) (ts : List Lexeme) → Alike g h → AreAlike (gather_operands look m first g ss ts) (gather_operands look2 n first h ss ts)
   unfolding AreAlike step
   gathered_alike first g h [] [] a = a
   gathered_alike first g h [] (t ∷ ts) a = tt
@@ -126,8 +126,8 @@ module _ (look look2 : Look) (m n : ℕ) where
   unfolding AreAlike
   finished_alike k None None a = refl
   finished_alike k (Some g) (Some h) a =
-      ap (λ t. fault_of (said (cond t (Err why.Range) (judged g.unknown (built k g.operands))))) a.out
-      ∙ judged_alike h.out g.unknown h.unknown (built k g.operands) (built k h.operands) (sym (built_kinds k g.operands) ∙ ap (λ os. is_some (built k os)) a.operands ∙ built_kinds k h.operands)
+      ap (λ t. fault_of (said (cond t (Err why.Range) (judged g.unknown (instr_of_parts k g.operands))))) a.out
+      ∙ judged_alike h.out g.unknown h.unknown (instr_of_parts k g.operands) (instr_of_parts k h.operands) (sym (built_kinds k g.operands) ∙ ap (λ os. is_some (instr_of_parts k os)) a.operands ∙ built_kinds k h.operands)
   finished_alike k None (Some h) a = absurd a
   finished_alike k (Some g) None a = absurd a
 

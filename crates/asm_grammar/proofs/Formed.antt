@@ -10,13 +10,13 @@ use Rattle.asm_table.specs.declared.operands.AsmOperand.{AsmOperand}
 use Rattle.asm_table.specs.declared.operands.AsmOperand.TheVariants as operand
 use Rattle.asm_table.specs.Mnemonics.{sorts}
 use Rattle.asm_table.specs.Names.{register_named}
-use Rattle.asm_table.specs.Parts.{built}
+use Rattle.asm_table.specs.Parts.{instr_of_parts}
 use Rattle.asm_grammar.specs.declared.written.Sign.TheVariants as sign
 use Rattle.asm_grammar.specs.Writing.{Written}
 use Rattle.asm_grammar.specs.Writing.Written.{Word, Bare, Signed, Memory, MemoryAt}
-use Rattle.asm_grammar.specs.Sorts.{Taken, taken, counted, registered, fitting, imm64_of, distance}
+use Rattle.asm_grammar.specs.Sorts.{Taken, operand_taken, counted, registered, fitting, imm64_of, distance}
 use Rattle.asm_grammar.specs.Sorts.Taken.{No, Out, Is, To, LongTo}
-use Rattle.asm_grammar.specs.Reading.{Look, Gathered, nothing, gathered, step, added, aimed}
+use Rattle.asm_grammar.specs.Reading.{Look, Gathered, nothing, gather_operands, step, added, aimed}
 use Rattle.asm_grammar.proofs.Meant.{having}
 use Rattle.asm_grammar.proofs.Found.{and_then_some, step_is}
 
@@ -36,7 +36,7 @@ of_sorts [] [] = true
 of_sorts (s ∷ ss) (o ∷ os) = of_sort s o && of_sorts ss os
 of_sorts _ _ = false
 
-built_some : (m : Mnemonic) (os : List AsmOperand) → of_sorts (sorts m) os ≡ true → is_some (built m os) ≡ true
+built_some : (m : Mnemonic) (os : List AsmOperand) → of_sorts (sorts m) os ≡ true → is_some (instr_of_parts m os) ≡ true
 unfolding of_sorts of_sort
 built_some (mnemonic.Alu w op) (operand.Register d ∷ operand.Register s ∷ []) h = refl
 built_some (mnemonic.Alu w op) (operand.Register d ∷ operand.Imm z ∷ []) h = refl
@@ -83,7 +83,7 @@ unfolding fits of_sort
 memory_fits z None = refl
 memory_fits z (Some r) = counted_fits (λ z. operand.Memory r z) sort.Memory (λ z. refl) z
 
-taken_fits : (s : Sort) (w : Written) → fits s (taken s w) ≡ true
+taken_fits : (s : Sort) (w : Written) → fits s (operand_taken s w) ≡ true
 unfolding fits of_sort
 taken_fits sort.Register (Word w) = registered_fits (λ r. operand.Register r) sort.Register (λ r. refl) (register_named w)
 taken_fits sort.RegisterOrImm (Word w) = registered_fits (λ r. operand.Register r) sort.RegisterOrImm (λ r. refl) (register_named w)
@@ -148,7 +148,7 @@ module _ (look : Look) (n : ℕ) where
   both : (a b : Bool) → a ≡ true → b ≡ true → (a && b) ≡ true
   both a b e f = rw (e, f) refl
 
-  gathered_sorts : (first : Bool) (g h : Gathered) (ss : List Sort) (ts : List Lexeme) → gathered look n first g ss ts ≡ Some h → h.out ≡ false → Sorted g h ss
+  gathered_sorts : (first : Bool) (g h : Gathered) (ss : List Sort) (ts : List Lexeme) → gather_operands look n first g ss ts ≡ Some h → h.out ≡ false → Sorted g h ss
   unfolding of_sorts
   gathered_sorts first g h [] [] e q =
       let j : g ≡ h = cc e in
@@ -158,7 +158,7 @@ module _ (look : Look) (n : ℕ) where
       let a = and_then_some _ (step look n first g s ts) h e in
       let k = step_is look n first g s ts a.0 a.1 in
       let r = gathered_sorts false a.0.0 h ss a.0.1 a.2 q in
-      let d = added_more g a.0.0 s (taken s k.0) (taken_fits s k.0) k.2 r.in_range in
+      let d = added_more g a.0.0 s (operand_taken s k.0) (taken_fits s k.0) k.2 r.in_range in
       record {
         os = d.o ∷ r.os;
         operands = r.operands ∙ ap (λ x. x ++ r.os) d.operands ∙ append_assoc g.operands (d.o ∷ []) r.os;
@@ -167,7 +167,7 @@ module _ (look : Look) (n : ℕ) where
       }
 
   -- operands that were gathered, with no number out of its range, are those of an instruction
-  pub built_gathered : (m : Mnemonic) (ts : List Lexeme) (g : Gathered) → gathered look n true nothing (sorts m) ts ≡ Some g → g.out ≡ false → is_some (built m g.operands) ≡ true
+  pub built_gathered : (m : Mnemonic) (ts : List Lexeme) (g : Gathered) → gather_operands look n true nothing (sorts m) ts ≡ Some g → g.out ≡ false → is_some (instr_of_parts m g.operands) ≡ true
   built_gathered m ts g e q =
       let r = gathered_sorts true nothing g (sorts m) ts e q in
-      ap (λ os. is_some (built m os)) r.operands ∙ built_some m r.os r.sorted
+      ap (λ os. is_some (instr_of_parts m os)) r.operands ∙ built_some m r.os r.sorted

@@ -11,15 +11,15 @@ use Rattle.asm_table.specs.declared.mnemonic.Sort.{Sort}
 use Rattle.asm_table.specs.declared.operands.AsmOperand.{AsmOperand}
 use Rattle.asm_table.specs.declared.operands.AsmOperand.TheVariants as operand
 use Rattle.asm_table.specs.Mnemonics.{name, sorts}
-use Rattle.asm_table.specs.Names.{named, is_local}
-use Rattle.asm_table.specs.Parts.{mnemonic_of, operands_of, built}
+use Rattle.asm_table.specs.Names.{named, has_two_words}
+use Rattle.asm_table.specs.Parts.{mnemonic_of, operands_of, instr_of_parts}
 use Rattle.asm_table.proofs.Built.{built_is}
 use Rattle.asm_table.proofs.Lookups.{named_is, named_local}
 use Rattle.asm_grammar.specs.declared.why.Why.TheVariants as why
-use Rattle.asm_grammar.specs.Writing.{Written, tokens_of, joined, more}
-use Rattle.asm_grammar.specs.Sorts.{Taken, taken, distance}
+use Rattle.asm_grammar.specs.Writing.{Written, lexemes_of, joined, more}
+use Rattle.asm_grammar.specs.Sorts.{Taken, operand_taken, distance}
 use Rattle.asm_grammar.specs.Sorts.Taken.{No, Out, Is, To, LongTo}
-use Rattle.asm_grammar.specs.Reading.{Look, Gathered, nothing, gathered, step, added, aimed, next_operand, StandsFor, Stand, Means, head, called, headed, mnemonic_at, finished, judged, said, body, by_mnemonic}
+use Rattle.asm_grammar.specs.Reading.{Look, Gathered, nothing, gather_operands, step, added, aimed, next_operand, StandsFor, Stand, Means, head, after_call, headed, mnemonic_at, finished, judged, said, body, by_mnemonic}
 use Rattle.asm_grammar.proofs.Meant.{having, operand_found, same_pair, head_one}
 
 pub and_then_some : {A B : Type 0} (f : A → Option B) (o : Option A) (y : B) → option_and_then f o ≡ Some y → (x : A) × (o ≡ Some x) × (f x ≡ Some y)
@@ -46,7 +46,7 @@ helper_found ts m rest e =
     let k = same_pair mnemonic.CallHelper m ts rest (ap (λ (x : Mnemonic × List Lexeme). Some x) e) in
     ap (λ r. Name (codes "call") ∷ r) k.1 ∙ ap (λ x. head x ++ rest) k.0
 
-called_found : (ts : List Lexeme) (m : Mnemonic) (rest : List Lexeme) → called ts ≡ (m, rest) → Name (codes "call") ∷ ts ≡ head m ++ rest
+called_found : (ts : List Lexeme) (m : Mnemonic) (rest : List Lexeme) → after_call ts ≡ (m, rest) → Name (codes "call") ∷ ts ≡ head m ++ rest
 called_found (Name w ∷ ts) m rest e = local_found w ts m rest (bytes_eq w (codes "local")) refl e
 called_found [] m rest e = helper_found [] m rest e
 called_found (t ∷ ts) m rest e = helper_found (t ∷ ts) m rest e
@@ -56,9 +56,9 @@ other_found k ts m rest h e =
     let p = same_pair k m ts rest e in
     ap (λ x. x ++ ts) (sym h) ∙ ap (λ r. head k ++ r) p.1 ∙ ap (λ x. head x ++ rest) p.0
 
-headed_found : (k : Mnemonic) (ts : List Lexeme) (m : Mnemonic) (rest : List Lexeme) → is_local k ≡ false → headed (Some k) ts ≡ Some (m, rest) → Name (name k) ∷ ts ≡ head m ++ rest
+headed_found : (k : Mnemonic) (ts : List Lexeme) (m : Mnemonic) (rest : List Lexeme) → has_two_words k ≡ false → headed (Some k) ts ≡ Some (m, rest) → Name (name k) ∷ ts ≡ head m ++ rest
 headed_found mnemonic.CallLocal ts m rest l e = absurd (cc l)
-headed_found mnemonic.CallHelper ts m rest l e = let k : ◌≡◌ {A = Mnemonic × List Lexeme} (called ts) (m, rest) = cc e in called_found ts m rest k
+headed_found mnemonic.CallHelper ts m rest l e = let k : ◌≡◌ {A = Mnemonic × List Lexeme} (after_call ts) (m, rest) = cc e in called_found ts m rest k
 headed_found k ts m rest l e = other_found k ts m rest (head_one k l) e
 
 named_found : (w : List ℕ) (ts : List Lexeme) (m : Mnemonic) (rest : List Lexeme) (o : Option Mnemonic) → named w ≡ o → headed o ts ≡ Some (m, rest) → Name w ∷ ts ≡ head m ++ rest
@@ -79,8 +79,8 @@ from_none true = refl
 from_none false = refl
 
 from_next : (first : Bool) (ts : List Lexeme) (w : Written) (rest : List Lexeme) (ws : List Written) → next_operand first ts ≡ Some (w, rest) → rest ≡ more ws → ts ≡ from first (w ∷ ws)
-from_next true ts w rest ws e f = operand_found ts w rest e ∙ ap (λ x. tokens_of w ++ x) f
-from_next false (Comma ∷ ts) w rest ws e f = ap (λ x. Comma ∷ x) (operand_found ts w rest e ∙ ap (λ x. tokens_of w ++ x) f)
+from_next true ts w rest ws e f = operand_found ts w rest e ∙ ap (λ x. lexemes_of w ++ x) f
+from_next false (Comma ∷ ts) w rest ws e f = ap (λ x. Comma ∷ x) (operand_found ts w rest e ∙ ap (λ x. lexemes_of w ++ x) f)
 from_next false _ w rest ws e f = absurd (cc e)
 
 module _ (look : Look) (n : ℕ) where
@@ -131,18 +131,18 @@ module _ (look : Look) (n : ℕ) where
     pub in_range : g.out ≡ false
     pub known : g.unknown ≡ false
 
-  pub step_is : (first : Bool) (g : Gathered) (s : Sort) (ts : List Lexeme) (x : Gathered × List Lexeme) → step look n first g s ts ≡ Some x → (w : Written) × (next_operand first ts ≡ Some (w, x.1)) × (added look n g (taken s w) ≡ Some x.0)
+  pub step_is : (first : Bool) (g : Gathered) (s : Sort) (ts : List Lexeme) (x : Gathered × List Lexeme) → step look n first g s ts ≡ Some x → (w : Written) × (next_operand first ts ≡ Some (w, x.1)) × (added look n g (operand_taken s w) ≡ Some x.0)
   unfolding step
   step_is first g s ts x e =
       let a = and_then_some _ (next_operand first ts) x e in
-      let b = and_then_some _ (added look n g (taken s a.0.0)) x a.2 in
+      let b = and_then_some _ (added look n g (operand_taken s a.0.0)) x a.2 in
       let p : ◌≡◌ {A = Gathered × List Lexeme} (b.0, a.0.1) x = cc b.2 in (
         a.0.0,
         a.1 ∙ ap (λ (r : List Lexeme). Some (a.0.0, r)) (ap (λ (y : Gathered × List Lexeme). y.1) p),
         b.1 ∙ ap (λ (r : Gathered). Some r) (ap (λ (y : Gathered × List Lexeme). y.0) p),
       )
 
-  pub gathered_is : (first : Bool) (g h : Gathered) (ss : List Sort) (ts : List Lexeme) → gathered look n first g ss ts ≡ Some h → h.out ≡ false → h.unknown ≡ false → Read first g h ss ts
+  pub gathered_is : (first : Bool) (g h : Gathered) (ss : List Sort) (ts : List Lexeme) → gather_operands look n first g ss ts ≡ Some h → h.out ≡ false → h.unknown ≡ false → Read first g h ss ts
   gathered_is first g h [] [] e f u =
       let j : g ≡ h = cc e in
       record { ws = []; os = []; tokens = sym (from_none first); stand = tt; operands = sym (ap (λ (x : Gathered). x.operands) j) ∙ sym (append-nil g.operands); in_range = ap (λ (x : Gathered). x.out) j ∙ f; known = ap (λ (x : Gathered). x.unknown) j ∙ u }
@@ -151,7 +151,7 @@ module _ (look : Look) (n : ℕ) where
       let a = and_then_some _ (step look n first g s ts) h e in
       let k = step_is first g s ts a.0 a.1 in
       let r = gathered_is false a.0.0 h ss a.0.1 a.2 f u in
-      let d = added_is g a.0.0 (taken s k.0) k.2 r.in_range r.known in
+      let d = added_is g a.0.0 (operand_taken s k.0) k.2 r.in_range r.known in
       record {
         ws = k.0 ∷ r.ws;
         os = d.o ∷ r.os;
@@ -162,13 +162,13 @@ module _ (look : Look) (n : ℕ) where
         known = d.known;
       }
 
-  finished_is : (m : Mnemonic) (g : Gathered) (i : Instr) (o : Bool) → g.out ≡ o → said (finished m (Some g)) ≡ Ok (Some i) → (g.out ≡ false) × (g.unknown ≡ false) × (built m g.operands ≡ Some i)
-  finished_is m g i true a e = absurd (let k : Err why.Range ≡ Ok (Some i) = sym (ap (λ t. said (cond t (Err why.Range) (judged g.unknown (built m g.operands)))) a) ∙ e in cc k)
+  finished_is : (m : Mnemonic) (g : Gathered) (i : Instr) (o : Bool) → g.out ≡ o → said (finished m (Some g)) ≡ Ok (Some i) → (g.out ≡ false) × (g.unknown ≡ false) × (instr_of_parts m g.operands ≡ Some i)
+  finished_is m g i true a e = absurd (let k : Err why.Range ≡ Ok (Some i) = sym (ap (λ t. said (cond t (Err why.Range) (judged g.unknown (instr_of_parts m g.operands)))) a) ∙ e in cc k)
   finished_is m g i false a e =
-      let k = judged_is g.unknown (built m g.operands) i (sym (ap (λ t. said (cond t (Err why.Range) (judged g.unknown (built m g.operands)))) a) ∙ e) in
+      let k = judged_is g.unknown (instr_of_parts m g.operands) i (sym (ap (λ t. said (cond t (Err why.Range) (judged g.unknown (instr_of_parts m g.operands)))) a) ∙ e) in
       (a, k.0, k.1)
 
-  means_at : (ts rest : List Lexeme) (i : Instr) (m : Mnemonic) (og : Option Gathered) → ts ≡ head m ++ rest → gathered look n true nothing (sorts m) rest ≡ og → said (finished m og) ≡ Ok (Some i) → Means look n ts i
+  means_at : (ts rest : List Lexeme) (i : Instr) (m : Mnemonic) (og : Option Gathered) → ts ≡ head m ++ rest → gather_operands look n true nothing (sorts m) rest ≡ og → said (finished m og) ≡ Ok (Some i) → Means look n ts i
   means_at ts rest i m None e f h = absurd (cc h)
   means_at ts rest i m (Some g) e f h =
       let k = finished_is m g i g.out refl h in
@@ -182,7 +182,7 @@ module _ (look : Look) (n : ℕ) where
 
   means_named : (ts : List Lexeme) (i : Instr) (o : Option (Mnemonic × List Lexeme)) → mnemonic_at ts ≡ o → by_mnemonic look n o ≡ Ok (Some i) → Means look n ts i
   means_named ts i None e h = absurd (cc h)
-  means_named ts i (Some x) e h = means_at ts x.1 i x.0 (gathered look n true nothing (sorts x.0) x.1) (mnemonic_found ts x.0 x.1 e) refl h
+  means_named ts i (Some x) e h = means_at ts x.1 i x.0 (gather_operands look n true nothing (sorts x.0) x.1) (mnemonic_found ts x.0 x.1 e) refl h
 
   -- what is read as an instruction means it
   pub says_means : (ts : List Lexeme) (i : Instr) → body look n ts ≡ Ok (Some i) → Means look n ts i

@@ -10,22 +10,22 @@ use Rattle.asm_table.specs.declared.mnemonic.Sort.TheVariants as sort
 use Rattle.asm_table.specs.declared.operands.AsmOperand.{AsmOperand}
 use Rattle.asm_table.specs.declared.operands.AsmOperand.TheVariants as operand
 use Rattle.asm_table.specs.Mnemonics.{name, sorts, slots_of}
-use Rattle.asm_table.specs.Names.{is_local}
+use Rattle.asm_table.specs.Names.{has_two_words}
 use Rattle.asm_table.specs.Parts.{mnemonic_of, operands_of}
 use Rattle.asm_table.proofs.Built.{built_again}
 use Rattle.asm_table.proofs.Lookups.{named_name}
 use Rattle.asm_grammar.specs.declared.written.Sign.{Sign}
 use Rattle.asm_grammar.specs.declared.written.Sign.TheVariants as sign
-use Rattle.asm_grammar.specs.Writing.{Written, tokens_of, sign_token, joined, more, operand_at, signed_at, memory_at, base_at, offset_at, close_at}
+use Rattle.asm_grammar.specs.Writing.{Written, lexemes_of, sign_token, joined, more, operand_at, signed_at, memory_at, base_at, offset_at, close_at}
 use Rattle.asm_grammar.specs.Writing.Written.{Word, Bare, Signed, Memory, MemoryAt}
-use Rattle.asm_grammar.specs.Sorts.{Taken, taken}
+use Rattle.asm_grammar.specs.Sorts.{Taken, operand_taken}
 use Rattle.asm_grammar.specs.Sorts.Taken.{No, Out, Is, To, LongTo}
-use Rattle.asm_grammar.specs.Reading.{Look, Gathered, nothing, gathered, added, aimed, StandsFor, Stand, Means, head, called, headed, mnemonic_at, finished, judged, said, body, by_mnemonic, mnemonic_slots, body_slots}
+use Rattle.asm_grammar.specs.Reading.{Look, Gathered, nothing, gather_operands, added, aimed, StandsFor, Stand, Means, head, after_call, headed, mnemonic_at, finished, judged, said, body, by_mnemonic, mnemonic_slots, body_slots}
 use Rattle.asm_grammar.proofs.Gathers.{step_some}
 
 -- ---- one operand, both ways
 
-pub operand_again : (w : Written) (rest : List Lexeme) → operand_at (tokens_of w ++ rest) ≡ Some (w, rest)
+pub operand_again : (w : Written) (rest : List Lexeme) → operand_at (lexemes_of w ++ rest) ≡ Some (w, rest)
 operand_again (Word w) rest = refl
 operand_again (Bare n) rest = refl
 operand_again (Signed sign.Plus n) rest = refl
@@ -38,32 +38,32 @@ pub same_pair : {A B : Type 0} (a c : A) (b d : B) → ◌≡◌ {A = Option (A 
 same_pair {A} {B} a c b d e = let k : ◌≡◌ {A = A × B} (a, b) (c, d) = cc e in (ap (λ (x : A × B). x.0) k, ap (λ (x : A × B). x.1) k)
 
 -- what was read, in the place of what was found
-put : (v w : Written) (ts rest : List Lexeme) → ◌≡◌ {A = Option (Written × List Lexeme)} (Some (v, ts)) (Some (w, rest)) → tokens_of v ++ ts ≡ tokens_of w ++ rest
-put v w ts rest e = let k = same_pair v w ts rest e in ap (λ x. tokens_of v ++ x) k.1 ∙ ap (λ x. tokens_of x ++ rest) k.0
+put : (v w : Written) (ts rest : List Lexeme) → ◌≡◌ {A = Option (Written × List Lexeme)} (Some (v, ts)) (Some (w, rest)) → lexemes_of v ++ ts ≡ lexemes_of w ++ rest
+put v w ts rest e = let k = same_pair v w ts rest e in ap (λ x. lexemes_of v ++ x) k.1 ∙ ap (λ x. lexemes_of x ++ rest) k.0
 
-signed_found : (s : Sign) (ts : List Lexeme) (w : Written) (rest : List Lexeme) → signed_at s ts ≡ Some (w, rest) → sign_token s ∷ ts ≡ tokens_of w ++ rest
+signed_found : (s : Sign) (ts : List Lexeme) (w : Written) (rest : List Lexeme) → signed_at s ts ≡ Some (w, rest) → sign_token s ∷ ts ≡ lexemes_of w ++ rest
 signed_found s (Number n ∷ ts) w rest e = put (Signed s n) w ts rest e
 signed_found s _ w rest e = absurd (cc e)
 
-close_found : (v : Written) (front ts : List Lexeme) (w : Written) (rest : List Lexeme) → ((xs : List Lexeme) → front ++ Close ∷ xs ≡ tokens_of v ++ xs) → close_at v ts ≡ Some (w, rest) → front ++ ts ≡ tokens_of w ++ rest
+close_found : (v : Written) (front ts : List Lexeme) (w : Written) (rest : List Lexeme) → ((xs : List Lexeme) → front ++ Close ∷ xs ≡ lexemes_of v ++ xs) → close_at v ts ≡ Some (w, rest) → front ++ ts ≡ lexemes_of w ++ rest
 close_found v front (Close ∷ ts) w rest h e = h ts ∙ put v w ts rest e
 close_found v front _ w rest h e = absurd (cc e)
 
-offset_found : (name : List ℕ) (s : Sign) (ts : List Lexeme) (w : Written) (rest : List Lexeme) → offset_at name s ts ≡ Some (w, rest) → Open ∷ Name name ∷ sign_token s ∷ ts ≡ tokens_of w ++ rest
+offset_found : (name : List ℕ) (s : Sign) (ts : List Lexeme) (w : Written) (rest : List Lexeme) → offset_at name s ts ≡ Some (w, rest) → Open ∷ Name name ∷ sign_token s ∷ ts ≡ lexemes_of w ++ rest
 offset_found name s (Number n ∷ ts) w rest e = close_found (MemoryAt name s n) (Open ∷ Name name ∷ sign_token s ∷ Number n ∷ []) ts w rest (λ xs. refl) e
 offset_found name s _ w rest e = absurd (cc e)
 
-base_found : (name : List ℕ) (ts : List Lexeme) (w : Written) (rest : List Lexeme) → base_at name ts ≡ Some (w, rest) → Open ∷ Name name ∷ ts ≡ tokens_of w ++ rest
+base_found : (name : List ℕ) (ts : List Lexeme) (w : Written) (rest : List Lexeme) → base_at name ts ≡ Some (w, rest) → Open ∷ Name name ∷ ts ≡ lexemes_of w ++ rest
 base_found name (Close ∷ ts) w rest e = put (Memory name) w ts rest e
 base_found name (Plus ∷ ts) w rest e = offset_found name sign.Plus ts w rest e
 base_found name (Minus ∷ ts) w rest e = offset_found name sign.Minus ts w rest e
 base_found name _ w rest e = absurd (cc e)
 
-memory_found : (ts : List Lexeme) (w : Written) (rest : List Lexeme) → memory_at ts ≡ Some (w, rest) → Open ∷ ts ≡ tokens_of w ++ rest
+memory_found : (ts : List Lexeme) (w : Written) (rest : List Lexeme) → memory_at ts ≡ Some (w, rest) → Open ∷ ts ≡ lexemes_of w ++ rest
 memory_found (Name name ∷ ts) w rest e = base_found name ts w rest e
 memory_found _ w rest e = absurd (cc e)
 
-pub operand_found : (ts : List Lexeme) (w : Written) (rest : List Lexeme) → operand_at ts ≡ Some (w, rest) → ts ≡ tokens_of w ++ rest
+pub operand_found : (ts : List Lexeme) (w : Written) (rest : List Lexeme) → operand_at ts ≡ Some (w, rest) → ts ≡ lexemes_of w ++ rest
 operand_found (Name name ∷ ts) w rest e = put (Word name) w ts rest e
 operand_found (Number n ∷ ts) w rest e = put (Bare n) w ts rest e
 operand_found (Plus ∷ ts) w rest e = signed_found sign.Plus ts w rest e
@@ -82,7 +82,7 @@ NoName : List Lexeme → Type 0
 NoName (Name w ∷ ts) = ⊥
 NoName ts = Unit {0}
 
-called_none : (ts : List Lexeme) → NoName ts → called ts ≡ (mnemonic.CallHelper, ts)
+called_none : (ts : List Lexeme) → NoName ts → after_call ts ≡ (mnemonic.CallHelper, ts)
 unfolding NoName
 called_none (Name w ∷ ts) h = absurd h
 called_none _ h = refl
@@ -92,27 +92,27 @@ unfolding is_helper
 headed_other mnemonic.CallHelper ts h = absurd (cc h)
 headed_other _ ts h = refl
 
-pub head_one : (m : Mnemonic) → is_local m ≡ false → head m ≡ Name (name m) ∷ []
+pub head_one : (m : Mnemonic) → has_two_words m ≡ false → head m ≡ Name (name m) ∷ []
 head_one mnemonic.CallLocal h = absurd (cc h)
 head_one _ h = refl
 
-headed_named : (m : Mnemonic) (ts : List Lexeme) → is_local m ≡ false → (is_helper m ≡ true → NoName ts) → (b : Bool) → is_helper m ≡ b → headed (Some m) ts ≡ Some (m, ts)
+headed_named : (m : Mnemonic) (ts : List Lexeme) → has_two_words m ≡ false → (is_helper m ≡ true → NoName ts) → (b : Bool) → is_helper m ≡ b → headed (Some m) ts ≡ Some (m, ts)
 unfolding is_helper
 headed_named mnemonic.CallHelper ts l h b e = ap (λ (x : Mnemonic × List Lexeme). Some x) (called_none ts (h refl))
 headed_named m ts l h false e = headed_other m ts e
 headed_named m ts l h true e = absurd (cc e)
 
-mnemonic_named : (m : Mnemonic) (ts : List Lexeme) → is_local m ≡ false → (is_helper m ≡ true → NoName ts) → mnemonic_at (head m ++ ts) ≡ Some (m, ts)
+mnemonic_named : (m : Mnemonic) (ts : List Lexeme) → has_two_words m ≡ false → (is_helper m ≡ true → NoName ts) → mnemonic_at (head m ++ ts) ≡ Some (m, ts)
 mnemonic_named m ts l h =
     ap (λ x. mnemonic_at (x ++ ts)) (head_one m l) ∙ ap (λ o. headed o ts) (named_name m l) ∙ headed_named m ts l h (is_helper m) refl
 
-mnemonic_again_at : (m : Mnemonic) (ts : List Lexeme) (b : Bool) → is_local m ≡ b → (is_helper m ≡ true → NoName ts) → mnemonic_at (head m ++ ts) ≡ Some (m, ts)
+mnemonic_again_at : (m : Mnemonic) (ts : List Lexeme) (b : Bool) → has_two_words m ≡ b → (is_helper m ≡ true → NoName ts) → mnemonic_at (head m ++ ts) ≡ Some (m, ts)
 mnemonic_again_at mnemonic.CallLocal ts b e h = ap (λ o. headed o (Name (codes "local") ∷ ts)) (named_name mnemonic.CallHelper refl)
 mnemonic_again_at m ts false e h = mnemonic_named m ts e h
 mnemonic_again_at m ts true e h = absurd (cc e)
 
 mnemonic_again : (m : Mnemonic) (ts : List Lexeme) → (is_helper m ≡ true → NoName ts) → mnemonic_at (head m ++ ts) ≡ Some (m, ts)
-mnemonic_again m ts h = mnemonic_again_at m ts (is_local m) refl h
+mnemonic_again m ts h = mnemonic_again_at m ts (has_two_words m) refl h
 
 -- ---- all operands, both ways
 
@@ -130,19 +130,19 @@ module _ (look : Look) (n : ℕ) where
   regrouped : (g : Gathered) (o : AsmOperand) (os : List AsmOperand) → Some (having ((g.operands ++ o ∷ []) ++ os) g.out g.unknown) ≡ Some (having (g.operands ++ (o ∷ os)) g.out g.unknown)
   regrouped g o os = ap (λ x. Some (having (x) g.out g.unknown)) (append_assoc g.operands (o ∷ []) os)
 
-  more_stand : (g : Gathered) (ss : List Sort) (ws : List Written) (os : List AsmOperand) → Stand look n ss ws os → gathered look n false g ss (more ws) ≡ Some (having (g.operands ++ os) g.out g.unknown)
+  more_stand : (g : Gathered) (ss : List Sort) (ws : List Written) (os : List AsmOperand) → Stand look n ss ws os → gather_operands look n false g ss (more ws) ≡ Some (having (g.operands ++ os) g.out g.unknown)
   more_stand g [] [] [] h = ap (λ x. Some (having (x) g.out g.unknown)) (sym (append-nil g.operands))
   more_stand g (s ∷ ss) (w ∷ ws) (o ∷ os) h =
       let g2 = having (g.operands ++ o ∷ []) g.out g.unknown in
-      ap (option_and_then (λ (x : Gathered × List Lexeme). gathered look n false x.0 ss x.1)) (step_some look n false g g2 s w (Comma ∷ (tokens_of w ++ more ws)) (more ws) (operand_again w (more ws)) (added_stands g (taken s w) o h.0))
+      ap (option_and_then (λ (x : Gathered × List Lexeme). gather_operands look n false x.0 ss x.1)) (step_some look n false g g2 s w (Comma ∷ (lexemes_of w ++ more ws)) (more ws) (operand_again w (more ws)) (added_stands g (operand_taken s w) o h.0))
       ∙ more_stand g2 ss ws os h.1 ∙ regrouped g o os
   more_stand g _ _ _ h = absurd h
 
-  pub joined_stand : (ss : List Sort) (ws : List Written) (os : List AsmOperand) → Stand look n ss ws os → gathered look n true nothing ss (joined ws) ≡ Some (having (os) false false)
+  pub joined_stand : (ss : List Sort) (ws : List Written) (os : List AsmOperand) → Stand look n ss ws os → gather_operands look n true nothing ss (joined ws) ≡ Some (having (os) false false)
   joined_stand [] [] [] h = refl
   joined_stand (s ∷ ss) (w ∷ ws) (o ∷ os) h =
       let g2 = having (o ∷ []) false false in
-      ap (option_and_then (λ (x : Gathered × List Lexeme). gathered look n false x.0 ss x.1)) (step_some look n true nothing g2 s w (tokens_of w ++ more ws) (more ws) (operand_again w (more ws)) (added_stands nothing (taken s w) o h.0))
+      ap (option_and_then (λ (x : Gathered × List Lexeme). gather_operands look n false x.0 ss x.1)) (step_some look n true nothing g2 s w (lexemes_of w ++ more ws) (more ws) (operand_again w (more ws)) (added_stands nothing (operand_taken s w) o h.0))
       ∙ more_stand g2 ss ws os h.1
   joined_stand _ _ _ h = absurd h
 

@@ -5,6 +5,7 @@ use Rattle.std.proofs.lemmas.Fmt.{decimal_is_IsNumeral, digits_is_IsNumeral}
 use Rattle.std.specs.Fmt.{digits}
 use Rattle.asm_text.specs.Tokens.{Lexeme, tokens, run, is_letter, is_name_byte}
 use Rattle.asm_text.specs.Tokens.Lexeme.{Name, Number, Comma, Open, Close, Plus, Minus}
+use Rattle.asm_text.proofs.Digits.{and_both}
 use Rattle.asm_text.proofs.Spelled.{name_front, number_front, hex_front, comma_front, open_front, close_front, plus_front, minus_front}
 use Rattle.isa_table.specs.declared.instr.Instr.{Instr}
 use Rattle.isa_table.specs.declared.instr.Instr.TheVariants as instr
@@ -18,15 +19,15 @@ use Rattle.asm_table.specs.declared.named.TheConstants.{BY_NAME}
 use Rattle.asm_table.specs.declared.operands.AsmOperand.{AsmOperand}
 use Rattle.asm_table.specs.declared.operands.AsmOperand.TheVariants as operand
 use Rattle.asm_table.specs.Mnemonics.{name, sorts}
-use Rattle.asm_table.specs.Names.{is_local, register_name}
+use Rattle.asm_table.specs.Names.{has_two_words, register_name}
 use Rattle.asm_table.specs.Parts.{mnemonic_of, operands_of}
-use Rattle.asm_table.specs.Canonical.{offset_text, operand_text, more_text, operands_text, line_text, IsWithin, FitsOperand, AllFitOperands, FitsParts}
+use Rattle.asm_table.specs.Canonical.{offset_text, operand_text, more_text, operands_text, line_text, IsSignedWithin, FitsOperand, AllFitOperands, FitsParts}
 use Rattle.asm_table.proofs.Lookups.{all_pass, passing, register_again}
 use Rattle.asm_grammar.specs.declared.written.Sign.{Sign}
 use Rattle.asm_grammar.specs.declared.written.Sign.TheVariants as sign
-use Rattle.asm_grammar.specs.Writing.{tokens_of, joined, more}
+use Rattle.asm_grammar.specs.Writing.{lexemes_of, joined, more}
 use Rattle.asm_grammar.specs.Writing.Written.{MemoryAt}
-use Rattle.asm_grammar.specs.Sorts.{Taken, taken, counted, registered, fitting}
+use Rattle.asm_grammar.specs.Sorts.{Taken, operand_taken, counted, registered, fitting}
 use Rattle.asm_grammar.specs.Sorts.Taken.{Is}
 use Rattle.asm_grammar.specs.Reading.{Look, StandsFor, Stand, Means, head}
 use Rattle.asm_grammar.specs.Canonical.{canonical}
@@ -62,7 +63,7 @@ memory_shape r z rest = ap (λ l. 91 ∷ l) (append_assoc (register_name r) (off
 base_front : (r : Reg) (rest : List ℕ) (ts : List Lexeme) → run is_name_byte rest ≡ 0 → tokens rest ≡ ts → tokens (91 ∷ (register_name r ++ rest)) ≡ Open ∷ Name (register_name r) ∷ ts
 base_front r rest ts end e = open_front (register_name r ++ rest) ∙ ap (λ l. Open ∷ l) (register_front r rest end ∙ ap (λ l. Name (register_name r) ∷ l) e)
 
-operand_front : (o : AsmOperand) (rest : List ℕ) → FitsOperand o → run is_name_byte rest ≡ 0 → tokens (operand_text o ++ rest) ≡ tokens_of (canonical o) ++ tokens rest
+operand_front : (o : AsmOperand) (rest : List ℕ) → FitsOperand o → run is_name_byte rest ≡ 0 → tokens (operand_text o ++ rest) ≡ lexemes_of (canonical o) ++ tokens rest
 operand_front (operand.Register r) rest f end = register_front r rest end
 operand_front (operand.Imm (pos n)) rest f end = decimal_front n rest (omega arith) end
 operand_front (operand.Imm (negsuc n)) rest f end = minus_decimal (suc n) rest (omega arith) end
@@ -86,7 +87,7 @@ more_ends (o ∷ os) = refl
 more_tokens : (os : List AsmOperand) → AllFitOperands os → tokens (more_text os) ≡ more (map canonical os)
 more_tokens [] f = refl
 more_tokens (o ∷ os) f =
-    comma_front (32 ∷ (operand_text o ++ more_text os)) ∙ ap (λ l. Comma ∷ l) (operand_front o (more_text os) f.0 (more_ends os) ∙ ap (λ l. tokens_of (canonical o) ++ l) (more_tokens os f.1))
+    comma_front (32 ∷ (operand_text o ++ more_text os)) ∙ ap (λ l. Comma ∷ l) (operand_front o (more_text os) f.0 (more_ends os) ∙ ap (λ l. lexemes_of (canonical o) ++ l) (more_tokens os f.1))
 
 operands_ends : (os : List AsmOperand) → run is_name_byte (operands_text os) ≡ 0
 operands_ends [] = refl
@@ -94,16 +95,12 @@ operands_ends (o ∷ os) = refl
 
 operands_tokens : (os : List AsmOperand) → AllFitOperands os → tokens (operands_text os) ≡ joined (map canonical os)
 operands_tokens [] f = refl
-operands_tokens (o ∷ os) f = operand_front o (more_text os) f.0 (more_ends os) ∙ ap (λ l. tokens_of (canonical o) ++ l) (more_tokens os f.1)
+operands_tokens (o ∷ os) f = operand_front o (more_text os) f.0 (more_ends os) ∙ ap (λ l. lexemes_of (canonical o) ++ l) (more_tokens os f.1)
 
 -- the bytes are a name
 is_word : List ℕ → Bool
 is_word [] = false
 is_word (b ∷ bs) = is_letter b && (run is_name_byte bs == length bs)
-
-word_parts : (a b : Bool) → (a && b) ≡ true → (a ≡ true) × (b ≡ true)
-word_parts true b e = (refl, e)
-word_parts false b e = absurd (cc e)
 
 same_number : (a b : ℕ) → (a == b) ≡ true → a ≡ b
 same_number a b e = grind (arith, nat_tests)
@@ -112,7 +109,7 @@ word_front : (w rest : List ℕ) → is_word w ≡ true → run is_name_byte res
 unfolding is_word
 word_front [] rest h end = absurd (cc h)
 word_front (b ∷ bs) rest h end =
-    let p = word_parts (is_letter b) (run is_name_byte bs == length bs) h in
+    let p = and_both (is_letter b) (run is_name_byte bs == length bs) h in
     name_front b bs rest p.0 (same_number (run is_name_byte bs) (length bs) p.1) end
 
 has_word : Mnemonic → Bool
@@ -122,18 +119,18 @@ all_words : all_pass has_word BY_NAME.now ≡ true
 unfolding all_pass has_word is_word
 all_words = refl
 
-name_is_word : (m : Mnemonic) → is_local m ≡ false → is_word (name m) ≡ true
+name_is_word : (m : Mnemonic) → has_two_words m ≡ false → is_word (name m) ≡ true
 unfolding has_word
 name_is_word m h = passing has_word m all_words h
 
-head_at : (m : Mnemonic) (rest : List ℕ) (b : Bool) → is_local m ≡ b → run is_name_byte rest ≡ 0 → tokens (name m ++ rest) ≡ head m ++ tokens rest
+head_at : (m : Mnemonic) (rest : List ℕ) (b : Bool) → has_two_words m ≡ b → run is_name_byte rest ≡ 0 → tokens (name m ++ rest) ≡ head m ++ tokens rest
 head_at mnemonic.CallLocal rest b e end =
     name_front 99 (97 ∷ 108 ∷ 108 ∷ []) (32 ∷ 108 ∷ 111 ∷ 99 ∷ 97 ∷ 108 ∷ rest) refl refl refl ∙ ap (λ l. Name (codes "call") ∷ l) (name_front 108 (111 ∷ 99 ∷ 97 ∷ 108 ∷ []) rest refl refl end)
 head_at m rest false e end = word_front (name m) rest (name_is_word m e) end ∙ ap (λ l. l ++ tokens rest) (sym (head_one m e))
 head_at m rest true e end = absurd (cc e)
 
 head_front : (m : Mnemonic) (rest : List ℕ) → run is_name_byte rest ≡ 0 → tokens (name m ++ rest) ≡ head m ++ tokens rest
-head_front m rest end = head_at m rest (is_local m) refl end
+head_front m rest end = head_at m rest (has_two_words m) refl end
 
 -- the canonical line, token by token
 pub line_tokens : (i : Instr) → FitsParts i → tokens (line_text i) ≡ head (mnemonic_of i) ++ joined (map canonical (operands_of i))
@@ -154,32 +151,32 @@ fit_pos limit n h = ap (λ b. cond b (Some (pos n)) None) (below n limit h)
 fit_neg : (limit n : ℕ) → suc n ≤ limit → fitting limit sign.Minus (Some (suc n)) ≡ Some (negsuc n)
 fit_neg limit n h = ap (λ b. cond b (Some (negsuc n)) None) (at_most (suc n) limit h)
 
-taken_register : (r : Reg) → taken sort.Register (canonical (operand.Register r)) ≡ Is (operand.Register r)
+taken_register : (r : Reg) → operand_taken sort.Register (canonical (operand.Register r)) ≡ Is (operand.Register r)
 taken_register r = ap (registered (λ r. Is (operand.Register r))) (register_again r)
 
-taken_imm : (z : ℤ) → IsWithin (2 ^ 31) z → taken sort.Imm (canonical (operand.Imm z)) ≡ Is (operand.Imm z)
+taken_imm : (z : ℤ) → IsSignedWithin (2 ^ 31) z → operand_taken sort.Imm (canonical (operand.Imm z)) ≡ Is (operand.Imm z)
 taken_imm (pos n) f = ap (counted (λ z. operand.Imm z)) (fit_pos (2 ^ 31) n f)
 taken_imm (negsuc n) f = ap (counted (λ z. operand.Imm z)) (fit_neg (2 ^ 31) n f)
 
-taken_at : (r : Reg) (s : Sign) (n : Option ℕ) (z : ℤ) → fitting (2 ^ 15) s n ≡ Some z → taken sort.Memory (MemoryAt (register_name r) s n) ≡ Is (operand.Memory r z)
+taken_at : (r : Reg) (s : Sign) (n : Option ℕ) (z : ℤ) → fitting (2 ^ 15) s n ≡ Some z → operand_taken sort.Memory (MemoryAt (register_name r) s n) ≡ Is (operand.Memory r z)
 taken_at r s n z e =
     ap (registered (λ r. counted (λ z. operand.Memory r z) (fitting (2 ^ 15) s n))) (register_again r) ∙ ap (counted (λ z. operand.Memory r z)) e
 
-taken_memory : (r : Reg) (z : ℤ) → IsWithin (2 ^ 15) z → taken sort.Memory (canonical (operand.Memory r z)) ≡ Is (operand.Memory r z)
+taken_memory : (r : Reg) (z : ℤ) → IsSignedWithin (2 ^ 15) z → operand_taken sort.Memory (canonical (operand.Memory r z)) ≡ Is (operand.Memory r z)
 taken_memory r (pos zero) f = ap (registered (λ r. Is (operand.Memory r (pos 0)))) (register_again r)
 taken_memory r (pos (suc n)) f = taken_at r sign.Plus (Some (suc n)) (pos (suc n)) (fit_pos (2 ^ 15) (suc n) f)
 taken_memory r (negsuc n) f = taken_at r sign.Minus (Some (suc n)) (negsuc n) (fit_neg (2 ^ 15) n f)
 
-taken_offset : (z : ℤ) → IsWithin (2 ^ 15) z → taken sort.Target (canonical (operand.Offset z)) ≡ Is (operand.Offset z)
+taken_offset : (z : ℤ) → IsSignedWithin (2 ^ 15) z → operand_taken sort.Target (canonical (operand.Offset z)) ≡ Is (operand.Offset z)
 taken_offset (pos n) f = ap (counted (λ z. operand.Offset z)) (fit_pos (2 ^ 15) n f)
 taken_offset (negsuc n) f = ap (counted (λ z. operand.Offset z)) (fit_neg (2 ^ 15) n f)
 
-taken_long_offset : (z : ℤ) → IsWithin (2 ^ 31) z → taken sort.LongTarget (canonical (operand.LongOffset z)) ≡ Is (operand.LongOffset z)
+taken_long_offset : (z : ℤ) → IsSignedWithin (2 ^ 31) z → operand_taken sort.LongTarget (canonical (operand.LongOffset z)) ≡ Is (operand.LongOffset z)
 taken_long_offset (pos n) f = ap (counted (λ z. operand.LongOffset z)) (fit_pos (2 ^ 31) n f)
 taken_long_offset (negsuc n) f = ap (counted (λ z. operand.LongOffset z)) (fit_neg (2 ^ 31) n f)
 
 -- a number is taken in the same way where a register may stand
-taken_second : (z : ℤ) → IsWithin (2 ^ 31) z → taken sort.RegisterOrImm (canonical (operand.Imm z)) ≡ Is (operand.Imm z)
+taken_second : (z : ℤ) → IsSignedWithin (2 ^ 31) z → operand_taken sort.RegisterOrImm (canonical (operand.Imm z)) ≡ Is (operand.Imm z)
 taken_second (pos n) f = taken_imm (pos n) f
 taken_second (negsuc n) f = taken_imm (negsuc n) f
 
@@ -187,19 +184,19 @@ is_stands : (look : Look) (n : ℕ) (t : Taken) (o : AsmOperand) → t ≡ Is o 
 is_stands look n t o e = subst (λ x. StandsFor look n x o) (sym e) refl
 
 module _ (look : Look) (n : ℕ) where
-  register_stands : (d : Reg) → StandsFor look n (taken sort.Register (canonical (operand.Register d))) (operand.Register d)
+  register_stands : (d : Reg) → StandsFor look n (operand_taken sort.Register (canonical (operand.Register d))) (operand.Register d)
   register_stands d = is_stands look n _ _ (taken_register d)
 
-  memory_stands : (r : Reg) (z : ℤ) → IsWithin (2 ^ 15) z → StandsFor look n (taken sort.Memory (canonical (operand.Memory r z))) (operand.Memory r z)
+  memory_stands : (r : Reg) (z : ℤ) → IsSignedWithin (2 ^ 15) z → StandsFor look n (operand_taken sort.Memory (canonical (operand.Memory r z))) (operand.Memory r z)
   memory_stands r z f = is_stands look n _ _ (taken_memory r z f)
 
-  imm_stands : (z : ℤ) → IsWithin (2 ^ 31) z → StandsFor look n (taken sort.RegisterOrImm (canonical (operand.Imm z))) (operand.Imm z)
+  imm_stands : (z : ℤ) → IsSignedWithin (2 ^ 31) z → StandsFor look n (operand_taken sort.RegisterOrImm (canonical (operand.Imm z))) (operand.Imm z)
   imm_stands z f = is_stands look n _ _ (taken_second z f)
 
-  offset_stands : (z : ℤ) → IsWithin (2 ^ 15) z → StandsFor look n (taken sort.Target (canonical (operand.Offset z))) (operand.Offset z)
+  offset_stands : (z : ℤ) → IsSignedWithin (2 ^ 15) z → StandsFor look n (operand_taken sort.Target (canonical (operand.Offset z))) (operand.Offset z)
   offset_stands z f = is_stands look n _ _ (taken_offset z f)
 
-  long_offset_stands : (z : ℤ) → IsWithin (2 ^ 31) z → StandsFor look n (taken sort.LongTarget (canonical (operand.LongOffset z))) (operand.LongOffset z)
+  long_offset_stands : (z : ℤ) → IsSignedWithin (2 ^ 31) z → StandsFor look n (operand_taken sort.LongTarget (canonical (operand.LongOffset z))) (operand.LongOffset z)
   long_offset_stands z f = is_stands look n _ _ (taken_long_offset z f)
 
   pub canonical_stands : (i : Instr) → FitsParts i → Stand look n (sorts (mnemonic_of i)) (map canonical (operands_of i)) (operands_of i)

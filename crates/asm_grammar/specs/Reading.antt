@@ -11,11 +11,11 @@ use Rattle.asm_table.specs.declared.operands.AsmOperand.{AsmOperand}
 use Rattle.asm_table.specs.declared.operands.AsmOperand.TheVariants as operand
 use Rattle.asm_table.specs.Mnemonics.{name, sorts, slots_of}
 use Rattle.asm_table.specs.Names.{named}
-use Rattle.asm_table.specs.Parts.{mnemonic_of, operands_of, built}
+use Rattle.asm_table.specs.Parts.{mnemonic_of, operands_of, instr_of_parts}
 use Rattle.asm_grammar.specs.declared.why.Why.{Why}
 use Rattle.asm_grammar.specs.declared.why.Why.TheVariants as why
 use Rattle.asm_grammar.specs.Writing.{Written, joined, operand_at}
-use Rattle.asm_grammar.specs.Sorts.{Taken, taken, distance}
+use Rattle.asm_grammar.specs.Sorts.{Taken, operand_taken, distance}
 use Rattle.asm_grammar.specs.Sorts.Taken.{No, Out, Is, To, LongTo}
 
 -- ---- the grammar
@@ -33,7 +33,7 @@ StandsFor look n _ o = ⊥
 -- written operands, one for each sort, stand for these operands
 abbrev pub Stand : Look → ℕ → List Sort → List Written → List AsmOperand → Type 0
 Stand look n [] [] [] = Unit {0}
-Stand look n (s ∷ ss) (w ∷ ws) (o ∷ os) = StandsFor look n (taken s w) o × Stand look n ss ws os
+Stand look n (s ∷ ss) (w ∷ ws) (o ∷ os) = StandsFor look n (operand_taken s w) o × Stand look n ss ws os
 Stand look n _ _ _ = ⊥
 
 -- the tokens of a mnemonic
@@ -76,12 +76,12 @@ next_operand false _ = None
 
 -- what one more operand adds, and the tokens after it
 unfoldable pub step : Look → ℕ → Bool → Gathered → Sort → List Lexeme → Option (Gathered × List Lexeme)
-step look n first g s ts = option_and_then (λ (x : Written × List Lexeme). option_and_then (λ (h : Gathered). Some (h, x.1)) (added look n g (taken s x.0))) (next_operand first ts)
+step look n first g s ts = option_and_then (λ (x : Written × List Lexeme). option_and_then (λ (h : Gathered). Some (h, x.1)) (added look n g (operand_taken s x.0))) (next_operand first ts)
 
-abbrev pub gathered : Look → ℕ → Bool → Gathered → List Sort → List Lexeme → Option Gathered
-gathered look n first g [] [] = Some g
-gathered look n first g [] (t ∷ ts) = None
-gathered look n first g (s ∷ ss) ts = option_and_then (λ (x : Gathered × List Lexeme). gathered look n false x.0 ss x.1) (step look n first g s ts)
+abbrev pub gather_operands : Look → ℕ → Bool → Gathered → List Sort → List Lexeme → Option Gathered
+gather_operands look n first g [] [] = Some g
+gather_operands look n first g [] (t ∷ ts) = None
+gather_operands look n first g (s ∷ ss) ts = option_and_then (λ (x : Gathered × List Lexeme). gather_operands look n false x.0 ss x.1) (step look n first g s ts)
 
 abbrev pub judged : Bool → Option Instr → Result Instr Why
 judged unknown None = Err why.Operand
@@ -91,18 +91,18 @@ judged false (Some i) = Ok i
 -- the least reason against what was gathered, or the instruction
 abbrev pub finished : Mnemonic → Option Gathered → Result Instr Why
 finished m None = Err why.Operand
-finished m (Some g) = if g.out then Err why.Range else judged g.unknown (built m g.operands)
+finished m (Some g) = if g.out then Err why.Range else judged g.unknown (instr_of_parts m g.operands)
 
 -- ---- the mnemonic at the front, and the tokens after it
 
 -- after `call`
-abbrev pub called : List Lexeme → Mnemonic × List Lexeme
-called (Name w ∷ ts) = if bytes_eq w (codes "local") then (mnemonic.CallLocal, ts) else (mnemonic.CallHelper, Name w ∷ ts)
-called ts = (mnemonic.CallHelper, ts)
+abbrev pub after_call : List Lexeme → Mnemonic × List Lexeme
+after_call (Name w ∷ ts) = if bytes_eq w (codes "local") then (mnemonic.CallLocal, ts) else (mnemonic.CallHelper, Name w ∷ ts)
+after_call ts = (mnemonic.CallHelper, ts)
 
 abbrev pub headed : Option Mnemonic → List Lexeme → Option (Mnemonic × List Lexeme)
 headed None ts = None
-headed (Some mnemonic.CallHelper) ts = Some (called ts)
+headed (Some mnemonic.CallHelper) ts = Some (after_call ts)
 headed (Some m) ts = Some (m, ts)
 
 abbrev pub mnemonic_at : List Lexeme → Option (Mnemonic × List Lexeme)
@@ -118,7 +118,7 @@ said (Err w) = Err w
 -- what the tokens after a line's label say at slot n, if anything
 abbrev pub by_mnemonic : Look → ℕ → Option (Mnemonic × List Lexeme) → Result (Option Instr) Why
 by_mnemonic look n None = Err why.Word
-by_mnemonic look n (Some x) = said (finished x.0 (gathered look n true nothing (sorts x.0) x.1))
+by_mnemonic look n (Some x) = said (finished x.0 (gather_operands look n true nothing (sorts x.0) x.1))
 
 abbrev pub body : Look → ℕ → List Lexeme → Result (Option Instr) Why
 body look n [] = Ok None

@@ -40,22 +40,22 @@ abbrev pub registered : (Reg → Taken) → Option Reg → Taken
 registered f None = No
 registered f (Some r) = f r
 
-abbrev pub taken : Sort → Written → Taken
-taken sort.Register (Word w) = registered (λ r. Is (operand.Register r)) (register_named w)
-taken sort.RegisterOrImm (Word w) = registered (λ r. Is (operand.Register r)) (register_named w)
-taken sort.RegisterOrImm (Bare n) = counted (λ z. operand.Imm z) (fitting (2 ^ 31) sign.Plus n)
-taken sort.RegisterOrImm (Signed s n) = counted (λ z. operand.Imm z) (fitting (2 ^ 31) s n)
-taken sort.Imm (Bare n) = counted (λ z. operand.Imm z) (fitting (2 ^ 31) sign.Plus n)
-taken sort.Imm (Signed s n) = counted (λ z. operand.Imm z) (fitting (2 ^ 31) s n)
-taken sort.Memory (Memory w) = registered (λ r. Is (operand.Memory r (pos 0))) (register_named w)
-taken sort.Memory (MemoryAt w s n) = registered (λ r. counted (λ z. operand.Memory r z) (fitting (2 ^ 15) s n)) (register_named w)
-taken sort.Imm64 (Bare n) = counted (λ k. operand.Imm64 k) n
-taken sort.Imm64 (Signed s n) = counted (λ k. operand.Imm64 k) (imm64_of s n)
-taken sort.Target (Word w) = To w
-taken sort.Target (Signed s n) = counted (λ z. operand.Offset z) (fitting (2 ^ 15) s n)
-taken sort.LongTarget (Word w) = LongTo w
-taken sort.LongTarget (Signed s n) = counted (λ z. operand.LongOffset z) (fitting (2 ^ 31) s n)
-taken _ _ = No
+abbrev pub operand_taken : Sort → Written → Taken
+operand_taken sort.Register (Word w) = registered (λ r. Is (operand.Register r)) (register_named w)
+operand_taken sort.RegisterOrImm (Word w) = registered (λ r. Is (operand.Register r)) (register_named w)
+operand_taken sort.RegisterOrImm (Bare n) = counted (λ z. operand.Imm z) (fitting (2 ^ 31) sign.Plus n)
+operand_taken sort.RegisterOrImm (Signed s n) = counted (λ z. operand.Imm z) (fitting (2 ^ 31) s n)
+operand_taken sort.Imm (Bare n) = counted (λ z. operand.Imm z) (fitting (2 ^ 31) sign.Plus n)
+operand_taken sort.Imm (Signed s n) = counted (λ z. operand.Imm z) (fitting (2 ^ 31) s n)
+operand_taken sort.Memory (Memory w) = registered (λ r. Is (operand.Memory r (pos 0))) (register_named w)
+operand_taken sort.Memory (MemoryAt w s n) = registered (λ r. counted (λ z. operand.Memory r z) (fitting (2 ^ 15) s n)) (register_named w)
+operand_taken sort.Imm64 (Bare n) = counted (λ k. operand.Imm64 k) n
+operand_taken sort.Imm64 (Signed s n) = counted (λ k. operand.Imm64 k) (imm64_of s n)
+operand_taken sort.Target (Word w) = To w
+operand_taken sort.Target (Signed s n) = counted (λ z. operand.Offset z) (fitting (2 ^ 15) s n)
+operand_taken sort.LongTarget (Word w) = LongTo w
+operand_taken sort.LongTarget (Signed s n) = counted (λ z. operand.LongOffset z) (fitting (2 ^ 31) s n)
+operand_taken _ _ = No
 
 -- from the slot after slot n to this one
 abbrev pub distance : ℕ → ℕ → ℤ

@@ -11,8 +11,8 @@ use Rattle.asm_grammar.specs.Sorts.{Taken}
 use Rattle.asm_grammar.specs.Sorts.Taken.{No, Out, Is, To, LongTo}
 use Rattle.asm_grammar.specs.Reading.{Gathered, Look}
 
-abbrev pub seen : GatheredOfCode → Gathered
-seen g = record { operands = g.operands.items; out = g.out; unknown = g.unknown }
+abbrev pub gathered_seen : GatheredOfCode → Gathered
+gathered_seen g = record { operands = g.operands.items; out = g.out; unknown = g.unknown }
 
 abbrev pub look_in : BTreeMap (Bor (List ℕ)) ℕ → Look
 look_in labels = λ name. get_by (λ k. slice_cmp nat_cmp name k.now) labels

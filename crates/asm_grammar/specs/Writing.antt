@@ -21,29 +21,29 @@ sign_token sign.Plus = Plus
 sign_token sign.Minus = Minus
 
 -- its tokens
-abbrev pub tokens_of : Written → List Lexeme
-tokens_of (Word w) = Name w ∷ []
-tokens_of (Bare n) = Number n ∷ []
-tokens_of (Signed s n) = sign_token s ∷ Number n ∷ []
-tokens_of (Memory w) = Open ∷ Name w ∷ Close ∷ []
-tokens_of (MemoryAt w s n) = Open ∷ Name w ∷ sign_token s ∷ Number n ∷ Close ∷ []
+abbrev pub lexemes_of : Written → List Lexeme
+lexemes_of (Word w) = Name w ∷ []
+lexemes_of (Bare n) = Number n ∷ []
+lexemes_of (Signed s n) = sign_token s ∷ Number n ∷ []
+lexemes_of (Memory w) = Open ∷ Name w ∷ Close ∷ []
+lexemes_of (MemoryAt w s n) = Open ∷ Name w ∷ sign_token s ∷ Number n ∷ Close ∷ []
 
 -- operands joined by commas; `more` are those after the first
 abbrev pub more : List Written → List Lexeme
 more [] = []
-more (w ∷ ws) = Comma ∷ (tokens_of w ++ more ws)
+more (w ∷ ws) = Comma ∷ (lexemes_of w ++ more ws)
 
 abbrev pub joined : List Written → List Lexeme
 joined [] = []
-joined (w ∷ ws) = tokens_of w ++ more ws
+joined (w ∷ ws) = lexemes_of w ++ more ws
 
 -- what a written operand of the code is
-abbrev pub written : WrittenOfCode → Written
-written (code.Word w) = Word w.now
-written (code.Bare n) = Bare n
-written (code.Signed s n) = Signed s n
-written (code.Memory w) = Memory w.now
-written (code.MemoryAt w s n) = MemoryAt w.now s n
+abbrev pub written_seen : WrittenOfCode → Written
+written_seen (code.Word w) = Word w.now
+written_seen (code.Bare n) = Bare n
+written_seen (code.Signed s n) = Signed s n
+written_seen (code.Memory w) = Memory w.now
+written_seen (code.MemoryAt w s n) = MemoryAt w.now s n
 
 -- ---- the operand at the front, and the tokens after it
 

@@ -1,11 +1,11 @@
 //! All operands of an instruction.
 ghost use Rattle.std.specs.Prelude.{◌≡◌, ◌≤◌, ◌<◌, ◌+◌, ◌-ℤ◌, pos, ℕ, Some, None, true, if◌then◌else◌, MatchOption, length};
 ghost use Rattle.arrayvec.specs.ArrayVec.{array_vec_len};
-ghost use Rattle.asm_text.specs.Tokens.{left};
-ghost use Rattle.asm_grammar.specs.Writing.{written};
-ghost use Rattle.asm_grammar.specs.Sorts.{taken, distance};
-ghost use Rattle.asm_grammar.specs.Reading.{added, gathered, nothing};
-ghost use Rattle.asm_grammar.specs.Views.{seen, look_in, AllBelow};
+ghost use Rattle.asm_text.specs.Tokens.{lexemes_left};
+ghost use Rattle.asm_grammar.specs.Writing.{written_seen};
+ghost use Rattle.asm_grammar.specs.Sorts.{operand_taken, distance};
+ghost use Rattle.asm_grammar.specs.Reading.{added, gather_operands, nothing};
+ghost use Rattle.asm_grammar.specs.Views.{gathered_seen, look_in, AllBelow};
 
 use crate::reading::next_operand;
 use crate::taking::{Taken, take};
@@ -36,7 +36,7 @@ fn distance(to: usize, n: usize) -> i16
 
 impl Gathered {
     pub fn new() -> Gathered
-        ensures { seen result ≡ nothing }
+        ensures { gathered_seen result ≡ nothing }
     {
         Gathered {
             operands: Operands::new(),
@@ -50,7 +50,7 @@ impl Gathered {
         requires room { array_vec_len self.old.operands < 3 }
         requires slots { AllBelow labels.now }
         requires n { n ≤ 4096 }
-        ensures added { added (look_in labels.now) n (seen self.old) (taken sort (written w.entry)) ≡ (if result then Some (seen self.new) else None) }
+        ensures added { added (look_in labels.now) n (gathered_seen self.old) (operand_taken sort (written_seen w.entry)) ≡ (if result then Some (gathered_seen self.new) else None) }
         ensures len { array_vec_len self.new.operands ≤ array_vec_len self.old.operands + 1 }
     {
         match take(sort, w) {
@@ -99,8 +99,8 @@ pub fn gather<'a>(
     requires few { length sorts.now ≤ 3 }
     requires slots { AllBelow labels.now }
     requires n { n ≤ 4096 }
-    ensures { MatchOption result (gathered (look_in labels.now) n true nothing sorts.now (left tokens.old) ≡ None)
-        (λ g. gathered (look_in labels.now) n true nothing sorts.now (left tokens.old) ≡ Some (seen g)) }
+    ensures { MatchOption result (gather_operands (look_in labels.now) n true nothing sorts.now (lexemes_left tokens.old) ≡ None)
+        (λ g. gather_operands (look_in labels.now) n true nothing sorts.now (lexemes_left tokens.old) ≡ Some (gathered_seen g)) }
 {
     let mut g = Gathered::new();
     for i in 0..sorts.len() {

@@ -1,8 +1,8 @@
 //! What a line says.
 ghost use Rattle.std.specs.Prelude.{◌≡◌, ◌≤◌, ◌∷◌, List, [], option_map, MatchOption, Some, None};
-ghost use Rattle.asm_text.specs.Tokens.{left, tokens, seen as token_seen};
-ghost use Rattle.asm_grammar.specs.Reading.{said, finished, body, line_says, label_of, after_label, has_stray, body_slots, mnemonic_at, called};
-ghost use Rattle.asm_grammar.specs.Views.{seen, look_in, AllBelow, label_seen};
+ghost use Rattle.asm_text.specs.Tokens.{lexemes_left, tokens, lexeme_seen};
+ghost use Rattle.asm_grammar.specs.Reading.{said, finished, body, line_says, label_of, after_label, has_stray, body_slots, mnemonic_at, after_call};
+ghost use Rattle.asm_grammar.specs.Views.{gathered_seen, look_in, AllBelow, label_seen};
 
 use crate::gather::{Gathered, Labels, gather};
 use crate::why::Why;
@@ -12,7 +12,7 @@ use isa_table::Instr;
 
 /// The instruction, or the least reason against what was gathered.
 fn finish(m: Mnemonic, gathered: Option<Gathered>) -> Result<Option<Instr>, Why>
-    ensures { result ≡ said (finished m (option_map (λ g. seen g) gathered)) }
+    ensures { result ≡ said (finished m (option_map (λ g. gathered_seen g) gathered)) }
 {
     match gathered {
         None => Err(Why::Operand),
@@ -36,7 +36,7 @@ fn finish(m: Mnemonic, gathered: Option<Gathered>) -> Result<Option<Instr>, Why>
 
 /// After `call`: with the word `local` it is `call local`.
 fn read_called<'a>(tokens: &mut Tokens<'a>) -> Mnemonic
-    ensures { called (left tokens.old) ≡ (result, left tokens.new) }
+    ensures { after_call (lexemes_left tokens.old) ≡ (result, lexemes_left tokens.new) }
 {
     let mut ahead = *tokens;
     if let Some(found) = ahead.next() {
@@ -52,7 +52,7 @@ fn read_called<'a>(tokens: &mut Tokens<'a>) -> Mnemonic
 
 /// The mnemonic of which this token is the first.
 fn read_mnemonic<'a>(first: Token<'a>, tokens: &mut Tokens<'a>) -> Option<Mnemonic>
-    ensures { MatchOption result (mnemonic_at (token_seen first.entry ∷ left tokens.old) ≡ None) (λ m. mnemonic_at (token_seen first.entry ∷ left tokens.old) ≡ Some (m, left tokens.new)) }
+    ensures { MatchOption result (mnemonic_at (lexeme_seen first.entry ∷ lexemes_left tokens.old) ≡ None) (λ m. mnemonic_at (lexeme_seen first.entry ∷ lexemes_left tokens.old) ≡ Some (m, lexemes_left tokens.new)) }
 {
     match first {
         Token::Name(word) => match Mnemonic::named(word) {
@@ -71,7 +71,7 @@ fn read_body<'a>(
 ) -> Result<Option<Instr>, Why>
     requires slots { AllBelow labels.now }
     requires n { n ≤ 4096 }
-    ensures { result ≡ body (look_in labels.now) n (left tokens.old) }
+    ensures { result ≡ body (look_in labels.now) n (lexemes_left tokens.old) }
 {
     match tokens.next() {
         None => Ok(None),
@@ -85,7 +85,7 @@ fn read_body<'a>(
 /// A line's label, and the tokens after it.
 fn split<'a>(line: &'a [u8]) -> (Option<&'a [u8]>, Tokens<'a>)
     ensures label { label_seen result.0 ≡ label_of (tokens line.now) }
-    ensures rest { left result.1 ≡ after_label (tokens line.now) }
+    ensures rest { lexemes_left result.1 ≡ after_label (tokens line.now) }
 {
     let mut rest = Tokens::new(line);
     match rest.next() {
@@ -118,7 +118,7 @@ fn has_stray(line: &[u8]) -> bool
 
 /// How many slots the instruction after a line's label takes.
 fn slots<'a>(tokens: &mut Tokens<'a>) -> usize
-    ensures { result ≡ body_slots (left tokens.old) }
+    ensures { result ≡ body_slots (lexemes_left tokens.old) }
 {
     match tokens.next() {
         None => 0,

@@ -1,16 +1,16 @@
 //! Reading operands.
 ghost use Rattle.std.specs.Prelude.{◌≡◌, ◌∷◌, ◌≤◌, ◌<◌, ◌+◌, ◌-◌, ◌++◌, List, [], length, MatchOption, Some, None, Bool, true, false};
-ghost use Rattle.asm_text.specs.Tokens.{left, seen};
+ghost use Rattle.asm_text.specs.Tokens.{lexemes_left, lexeme_seen};
 ghost use Rattle.asm_text.specs.Tokens.Lexeme.{Comma};
 ghost use Rattle.asm_grammar.specs.Reading.{next_operand};
-ghost use Rattle.asm_grammar.specs.Writing.{operand_at, written, signed_at, close_at, offset_at, base_at, memory_at};
+ghost use Rattle.asm_grammar.specs.Writing.{operand_at, written_seen, signed_at, close_at, offset_at, base_at, memory_at};
 
 use crate::written::{Sign, Written};
 use asm_text::{Token, Tokens};
 
 /// The number after a sign.
 fn signed<'a>(tokens: &mut Tokens<'a>, sign: Sign) -> Option<Written<'a>>
-    ensures { MatchOption result (signed_at sign (left tokens.old) ≡ None) (λ w. signed_at sign (left tokens.old) ≡ Some (written w, left tokens.new)) }
+    ensures { MatchOption result (signed_at sign (lexemes_left tokens.old) ≡ None) (λ w. signed_at sign (lexemes_left tokens.old) ≡ Some (written_seen w, lexemes_left tokens.new)) }
 {
     match tokens.next() {
         Some(found) => match found.token {
@@ -23,7 +23,7 @@ fn signed<'a>(tokens: &mut Tokens<'a>, sign: Sign) -> Option<Written<'a>>
 
 /// A closing bracket after an operand.
 fn close<'a>(tokens: &mut Tokens<'a>, w: Written<'a>) -> Option<Written<'a>>
-    ensures { MatchOption result (close_at (written w.entry) (left tokens.old) ≡ None) (λ v. close_at (written w.entry) (left tokens.old) ≡ Some (written v, left tokens.new)) }
+    ensures { MatchOption result (close_at (written_seen w.entry) (lexemes_left tokens.old) ≡ None) (λ v. close_at (written_seen w.entry) (lexemes_left tokens.old) ≡ Some (written_seen v, lexemes_left tokens.new)) }
 {
     match tokens.next() {
         Some(found) => match found.token {
@@ -36,7 +36,7 @@ fn close<'a>(tokens: &mut Tokens<'a>, w: Written<'a>) -> Option<Written<'a>>
 
 /// A number and a closing bracket.
 fn offset<'a>(tokens: &mut Tokens<'a>, name: &'a [u8], sign: Sign) -> Option<Written<'a>>
-    ensures { MatchOption result (offset_at name.now sign (left tokens.old) ≡ None) (λ v. offset_at name.now sign (left tokens.old) ≡ Some (written v, left tokens.new)) }
+    ensures { MatchOption result (offset_at name.now sign (lexemes_left tokens.old) ≡ None) (λ v. offset_at name.now sign (lexemes_left tokens.old) ≡ Some (written_seen v, lexemes_left tokens.new)) }
 {
     match tokens.next() {
         Some(found) => match found.token {
@@ -49,7 +49,7 @@ fn offset<'a>(tokens: &mut Tokens<'a>, name: &'a [u8], sign: Sign) -> Option<Wri
 
 /// What stands after the register in brackets.
 fn base<'a>(tokens: &mut Tokens<'a>, name: &'a [u8]) -> Option<Written<'a>>
-    ensures { MatchOption result (base_at name.now (left tokens.old) ≡ None) (λ v. base_at name.now (left tokens.old) ≡ Some (written v, left tokens.new)) }
+    ensures { MatchOption result (base_at name.now (lexemes_left tokens.old) ≡ None) (λ v. base_at name.now (lexemes_left tokens.old) ≡ Some (written_seen v, lexemes_left tokens.new)) }
 {
     match tokens.next() {
         Some(found) => match found.token {
@@ -64,7 +64,7 @@ fn base<'a>(tokens: &mut Tokens<'a>, name: &'a [u8]) -> Option<Written<'a>>
 
 /// What stands after an opening bracket.
 fn memory<'a>(tokens: &mut Tokens<'a>) -> Option<Written<'a>>
-    ensures { MatchOption result (memory_at (left tokens.old) ≡ None) (λ v. memory_at (left tokens.old) ≡ Some (written v, left tokens.new)) }
+    ensures { MatchOption result (memory_at (lexemes_left tokens.old) ≡ None) (λ v. memory_at (lexemes_left tokens.old) ≡ Some (written_seen v, lexemes_left tokens.new)) }
 {
     match tokens.next() {
         Some(found) => match found.token {
@@ -77,7 +77,7 @@ fn memory<'a>(tokens: &mut Tokens<'a>) -> Option<Written<'a>>
 
 /// The operand at the front.
 fn operand<'a>(tokens: &mut Tokens<'a>) -> Option<Written<'a>>
-    ensures { MatchOption result (operand_at (left tokens.old) ≡ None) (λ v. operand_at (left tokens.old) ≡ Some (written v, left tokens.new)) }
+    ensures { MatchOption result (operand_at (lexemes_left tokens.old) ≡ None) (λ v. operand_at (lexemes_left tokens.old) ≡ Some (written_seen v, lexemes_left tokens.new)) }
 {
     match tokens.next() {
         Some(found) => match found.token {
@@ -94,7 +94,7 @@ fn operand<'a>(tokens: &mut Tokens<'a>) -> Option<Written<'a>>
 
 /// The operand at the front, after a comma unless it is the first.
 pub fn next_operand<'a>(tokens: &mut Tokens<'a>, first: bool) -> Option<Written<'a>>
-    ensures { MatchOption result (next_operand first (left tokens.old) ≡ None) (λ v. next_operand first (left tokens.old) ≡ Some (written v, left tokens.new)) }
+    ensures { MatchOption result (next_operand first (lexemes_left tokens.old) ≡ None) (λ v. next_operand first (lexemes_left tokens.old) ≡ Some (written_seen v, lexemes_left tokens.new)) }
 {
     if first {
         return operand(tokens);

@@ -1,8 +1,8 @@
 //! What a written operand stands for.
 ghost use Rattle.std.specs.Prelude.{◌≡◌, ◌≤◌, ◌<◌, ◌^◌, ℤ, pos, ◌≤ℤ◌, ◌<ℤ◌, neg_ℤ, IfSome, Some, None};
-ghost use Rattle.asm_grammar.specs.Writing.{written};
+ghost use Rattle.asm_grammar.specs.Writing.{written_seen};
 ghost use Rattle.asm_grammar.specs.Writing.Written.{Word, Bare, Signed, Memory, MemoryAt};
-ghost use Rattle.asm_grammar.specs.Sorts.{fitting, imm64_of, taken};
+ghost use Rattle.asm_grammar.specs.Sorts.{fitting, imm64_of, operand_taken};
 ghost use Rattle.asm_grammar.specs.Views.{taken_by};
 
 use crate::written::{Sign, Written};
@@ -76,7 +76,7 @@ fn fit64(sign: Sign, n: Option<u64>) -> Option<u64>
 }
 
 fn take_register<'a>(name: &[u8]) -> Taken<'a>
-    ensures { taken_by result ≡ taken Sort.Register (Word name.now) }
+    ensures { taken_by result ≡ operand_taken Sort.Register (Word name.now) }
 {
     match register_named(name) {
         Some(r) => Taken::Is(AsmOperand::Register(r)),
@@ -85,7 +85,7 @@ fn take_register<'a>(name: &[u8]) -> Taken<'a>
 }
 
 fn take_imm<'a>(sign: Sign, n: Option<u64>) -> Taken<'a>
-    ensures { taken_by result ≡ taken Sort.Imm (Signed sign n) }
+    ensures { taken_by result ≡ operand_taken Sort.Imm (Signed sign n) }
 {
     match fit32(sign, n) {
         Some(z) => Taken::Is(AsmOperand::Imm(z)),
@@ -94,7 +94,7 @@ fn take_imm<'a>(sign: Sign, n: Option<u64>) -> Taken<'a>
 }
 
 fn take_memory<'a>(name: &[u8], sign: Sign, n: Option<u64>) -> Taken<'a>
-    ensures { taken_by result ≡ taken Sort.Memory (MemoryAt name.now sign n) }
+    ensures { taken_by result ≡ operand_taken Sort.Memory (MemoryAt name.now sign n) }
 {
     match register_named(name) {
         Some(r) => match fit16(sign, n) {
@@ -106,7 +106,7 @@ fn take_memory<'a>(name: &[u8], sign: Sign, n: Option<u64>) -> Taken<'a>
 }
 
 fn take_base<'a>(name: &[u8]) -> Taken<'a>
-    ensures { taken_by result ≡ taken Sort.Memory (Memory name.now) }
+    ensures { taken_by result ≡ operand_taken Sort.Memory (Memory name.now) }
 {
     match register_named(name) {
         Some(r) => Taken::Is(AsmOperand::Memory(r, 0)),
@@ -115,7 +115,7 @@ fn take_base<'a>(name: &[u8]) -> Taken<'a>
 }
 
 fn take_imm64<'a>(sign: Sign, n: Option<u64>) -> Taken<'a>
-    ensures { taken_by result ≡ taken Sort.Imm64 (Signed sign n) }
+    ensures { taken_by result ≡ operand_taken Sort.Imm64 (Signed sign n) }
 {
     match fit64(sign, n) {
         Some(k) => Taken::Is(AsmOperand::Imm64(k)),
@@ -124,7 +124,7 @@ fn take_imm64<'a>(sign: Sign, n: Option<u64>) -> Taken<'a>
 }
 
 fn take_offset<'a>(sign: Sign, n: Option<u64>) -> Taken<'a>
-    ensures { taken_by result ≡ taken Sort.Target (Signed sign n) }
+    ensures { taken_by result ≡ operand_taken Sort.Target (Signed sign n) }
 {
     match fit16(sign, n) {
         Some(z) => Taken::Is(AsmOperand::Offset(z)),
@@ -133,7 +133,7 @@ fn take_offset<'a>(sign: Sign, n: Option<u64>) -> Taken<'a>
 }
 
 fn take_long_offset<'a>(sign: Sign, n: Option<u64>) -> Taken<'a>
-    ensures { taken_by result ≡ taken Sort.LongTarget (Signed sign n) }
+    ensures { taken_by result ≡ operand_taken Sort.LongTarget (Signed sign n) }
 {
     match fit32(sign, n) {
         Some(z) => Taken::Is(AsmOperand::LongOffset(z)),
@@ -143,7 +143,7 @@ fn take_long_offset<'a>(sign: Sign, n: Option<u64>) -> Taken<'a>
 
 /// What is taken where this sort is wanted.
 pub fn take<'a>(sort: Sort, w: Written<'a>) -> Taken<'a>
-    ensures { taken_by result ≡ taken sort (written w.entry) }
+    ensures { taken_by result ≡ operand_taken sort (written_seen w.entry) }
 {
     match (sort, w) {
         (Sort::Register, Written::Word(name)) => take_register(name),

@@ -7,9 +7,9 @@ use Rattle.asm_table.specs.declared.mnemonic.Mnemonic.{Mnemonic}
 use Rattle.asm_table.specs.declared.mnemonic.Mnemonic.TheVariants as mnemonic
 use Rattle.asm_table.specs.declared.operands.AsmOperand.{AsmOperand}
 use Rattle.asm_table.specs.declared.operands.AsmOperand.TheVariants as operand
-use Rattle.asm_table.specs.Parts.{mnemonic_of, operands_of, built}
+use Rattle.asm_table.specs.Parts.{mnemonic_of, operands_of, instr_of_parts}
 
-pub built_again : (i : Instr) → built (mnemonic_of i) (operands_of i) ≡ Some i
+pub built_again : (i : Instr) → instr_of_parts (mnemonic_of i) (operands_of i) ≡ Some i
 built_again (instr.Alu w op d (source.Register s)) = refl
 built_again (instr.Alu w op d (source.Imm z)) = refl
 built_again (instr.Neg w d) = refl
@@ -34,7 +34,7 @@ built_again (instr.LoadImm64 d v) = refl
 built_from : (m : Mnemonic) (os : List AsmOperand) (i j : Instr) → Some j ≡ Some i → (mnemonic_of j ≡ m) × (operands_of j ≡ os) → (mnemonic_of i ≡ m) × (operands_of i ≡ os)
 built_from m os i j e h = let k : j ≡ i = cc e in subst (λ (x : Instr). (mnemonic_of x ≡ m) × (operands_of x ≡ os)) k h
 
-pub built_is : (m : Mnemonic) (os : List AsmOperand) (i : Instr) → built m os ≡ Some i → (mnemonic_of i ≡ m) × (operands_of i ≡ os)
+pub built_is : (m : Mnemonic) (os : List AsmOperand) (i : Instr) → instr_of_parts m os ≡ Some i → (mnemonic_of i ≡ m) × (operands_of i ≡ os)
 built_is (mnemonic.Alu w op) (operand.Register d ∷ operand.Register s ∷ []) i e = built_from _ _ i (instr.Alu w op d (source.Register s)) e (refl, refl)
 built_is (mnemonic.Alu w op) (operand.Register d ∷ operand.Imm z ∷ []) i e = built_from _ _ i (instr.Alu w op d (source.Imm z)) e (refl, refl)
 built_is (mnemonic.Neg w) (operand.Register d ∷ []) i e = built_from _ _ i (instr.Neg w d) e (refl, refl)

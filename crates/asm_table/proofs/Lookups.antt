@@ -16,9 +16,9 @@ use Rattle.asm_table.specs.declared.mnemonic.Mnemonic.{Mnemonic}
 use Rattle.asm_table.specs.declared.mnemonic.Mnemonic.TheVariants as mnemonic
 use Rattle.asm_table.specs.declared.named.TheConstants.{BY_NAME}
 use Rattle.asm_table.specs.Mnemonics.{name}
-use Rattle.asm_table.specs.Names.{named, named_in, is_local, register_in, register_name, register_named}
+use Rattle.asm_table.specs.Names.{named, named_in, has_two_words, register_in, register_name, register_named}
 
-pub named_name : (m : Mnemonic) → is_local m ≡ false → named (name m) ≡ Some m
+pub named_name : (m : Mnemonic) → has_two_words m ≡ false → named (name m) ≡ Some m
 unfolding named
 named_name mnemonic.CallLocal h = absurd (cc h)
 named_name (mnemonic.Alu width.W64 binary.Add) h = refl
@@ -158,12 +158,12 @@ passes p [] w m a e = absurd (cc e)
 passes p (k ∷ ms) w m a e = passes_at p ms w m k (bytes_eq (name k) w) (p k) refl a (λ a e. passes p ms w m a e) e
 
 -- and so of each mnemonic of one word
-pub passing : (p : Mnemonic → Bool) (m : Mnemonic) → all_pass p BY_NAME.now ≡ true → is_local m ≡ false → p m ≡ true
+pub passing : (p : Mnemonic → Bool) (m : Mnemonic) → all_pass p BY_NAME.now ≡ true → has_two_words m ≡ false → p m ≡ true
 unfolding named
 passing p m a h = passes p BY_NAME.now (name m) m a (named_name m h)
 
 one_word : Mnemonic → Bool
-one_word m = cond (is_local m) false true
+one_word m = cond (has_two_words m) false true
 
 all_one_word : all_pass one_word BY_NAME.now ≡ true
 unfolding all_pass one_word
@@ -174,9 +174,9 @@ not_local true e = absurd (cc e)
 not_local false e = refl
 
 -- `call local` isn't found by one word
-pub named_local : (w : List ℕ) (m : Mnemonic) → named w ≡ Some m → is_local m ≡ false
+pub named_local : (w : List ℕ) (m : Mnemonic) → named w ≡ Some m → has_two_words m ≡ false
 unfolding named one_word
-named_local w m e = not_local (is_local m) (passes one_word BY_NAME.now w m all_one_word e)
+named_local w m e = not_local (has_two_words m) (passes one_word BY_NAME.now w m all_one_word e)
 
 pub register_again : (r : Reg) → register_named (register_name r) ≡ Some r
 register_again R0 = refl

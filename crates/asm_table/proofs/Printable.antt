@@ -8,13 +8,14 @@ use Rattle.std.specs.Str.Parse.{AllDigits}
 use Rattle.isa_table.specs.declared.instr.Instr.{Instr}
 use Rattle.isa_table.specs.declared.instr.Reg.{Reg}
 use Rattle.isa_table.specs.declared.instr.Reg.TheVariants.{R0, R1, R2, R3, R4, R5, R6, R7, R8, R9, R10}
+use Rattle.isa_table.proofs.Listed.{and_true}
 use Rattle.asm_table.specs.declared.mnemonic.Mnemonic.{Mnemonic}
 use Rattle.asm_table.specs.declared.mnemonic.Mnemonic.TheVariants as mnemonic
 use Rattle.asm_table.specs.declared.named.TheConstants.{BY_NAME}
 use Rattle.asm_table.specs.declared.operands.AsmOperand.{AsmOperand}
 use Rattle.asm_table.specs.declared.operands.AsmOperand.TheVariants as operand
 use Rattle.asm_table.specs.Mnemonics.{name}
-use Rattle.asm_table.specs.Names.{is_local, register_name}
+use Rattle.asm_table.specs.Names.{has_two_words, register_name}
 use Rattle.asm_table.specs.Parts.{mnemonic_of, operands_of}
 use Rattle.asm_table.specs.Canonical.{offset_text, operand_text, more_text, operands_text, line_text, FitsOperand, AllFitOperands, FitsParts}
 use Rattle.asm_table.proofs.Lookups.{all_pass, passing}
@@ -31,14 +32,10 @@ printable (b ∷ bs) = is_plain b && printable bs
 pub both : (a b : Bool) → a ≡ true → b ≡ true → (a && b) ≡ true
 both a b e f = rw (e, f) refl
 
-pub parts : (a b : Bool) → (a && b) ≡ true → (a ≡ true) × (b ≡ true)
-parts true b e = (refl, e)
-parts false b e = absurd (cc e)
-
 pub printable_append : (xs ys : List ℕ) → printable xs ≡ true → printable ys ≡ true → printable (xs ++ ys) ≡ true
 unfolding printable is_plain
 printable_append [] ys h k = k
-printable_append (x ∷ xs) ys h k = let p = parts (is_plain x) (printable xs) h in both (is_plain x) (printable (xs ++ ys)) p.0 (printable_append xs ys p.1 k)
+printable_append (x ∷ xs) ys h k = let p = and_true (is_plain x) (printable xs) h in both (is_plain x) (printable (xs ++ ys)) p.0 (printable_append xs ys p.1 k)
 
 digit_printable : (radix c : ℕ) → radix ≤ 16 → digit_value c < radix → is_plain c ≡ true
 unfolding is_plain
@@ -101,14 +98,14 @@ all_printable : all_pass has_printable BY_NAME.now ≡ true
 unfolding all_pass has_printable printable is_plain
 all_printable = refl
 
-name_at : (m : Mnemonic) (b : Bool) → is_local m ≡ b → printable (name m) ≡ true
+name_at : (m : Mnemonic) (b : Bool) → has_two_words m ≡ b → printable (name m) ≡ true
 unfolding has_printable printable is_plain
 name_at mnemonic.CallLocal b e = refl
 name_at m false e = passing has_printable m all_printable e
 name_at m true e = absurd (cc e)
 
 printable_name : (m : Mnemonic) → printable (name m) ≡ true
-printable_name m = name_at m (is_local m) refl
+printable_name m = name_at m (has_two_words m) refl
 
 pub printable_line : (i : Instr) → FitsParts i → printable (line_text i) ≡ true
 printable_line i f = printable_append (name (mnemonic_of i)) (operands_text (operands_of i)) (printable_name (mnemonic_of i)) (printable_operands (operands_of i) f)

@@ -10,6 +10,7 @@ use Rattle.std.specs.Cmp.Lexicographic.{slice_cmp}
 use Rattle.std.specs.Ordering.{nat_cmp, is_lt, is_eq, ordering_index}
 use Rattle.std.specs.Str.{bytes_eq}
 use Rattle.isa_table.specs.declared.instr.Reg.{Reg}
+use Rattle.isa_table.proofs.Listed.{and_true}
 use Rattle.asm_table.specs.declared.mnemonic.Mnemonic.{Mnemonic}
 use Rattle.asm_table.specs.Mnemonics.{name}
 use Rattle.asm_table.specs.Names.{named_in, register_in, register_name}
@@ -32,10 +33,6 @@ less_than Less e = refl
 less_than Equal e = absurd (cc e)
 less_than Greater e = absurd (cc e)
 
-parts : (a b : Bool) → (a && b) ≡ true → (a ≡ true) × (b ≡ true)
-parts true b e = (refl, e)
-parts false b e = absurd (cc e)
-
 -- the names rise
 unfoldable pub rises : List Mnemonic → Bool
 rises [] = true
@@ -45,14 +42,14 @@ rises (m ∷ k ∷ ms) = is_lt (slice_cmp nat_cmp (name m) (name k)) && rises (k
 tail_rises : (m : Mnemonic) (ms : List Mnemonic) → rises (m ∷ ms) ≡ true → rises ms ≡ true
 unfolding rises
 tail_rises m [] r = refl
-tail_rises m (k ∷ ms) r = (parts (is_lt (slice_cmp nat_cmp (name m) (name k))) (rises (k ∷ ms)) r).1
+tail_rises m (k ∷ ms) r = (and_true (is_lt (slice_cmp nat_cmp (name m) (name k))) (rises (k ∷ ms)) r).1
 
 first_below : (m : Mnemonic) (ms : List Mnemonic) → rises (m ∷ ms) ≡ true → (j : ℕ) (d : Mnemonic) → j < length ms → slice_cmp nat_cmp (name m) (name (get_or ms j d)) ≡ Less
 unfolding rises
 first_below m [] r j d h = absurd (omega arith)
-first_below m (k ∷ ms) r zero d h = less_than _ (parts (is_lt (slice_cmp nat_cmp (name m) (name k))) (rises (k ∷ ms)) r).0
+first_below m (k ∷ ms) r zero d h = less_than _ (and_true (is_lt (slice_cmp nat_cmp (name m) (name k))) (rises (k ∷ ms)) r).0
 first_below m (k ∷ ms) r (suc j) d h =
-    let p = parts (is_lt (slice_cmp nat_cmp (name m) (name k))) (rises (k ∷ ms)) r in
+    let p = and_true (is_lt (slice_cmp nat_cmp (name m) (name k))) (rises (k ∷ ms)) r in
     nat_list_cmp_total.trans (name m) (name k) (name (get_or ms j d)) (less_than _ p.0) (first_below k ms p.1 j d (omega arith))
 
 pairs : (ms : List Mnemonic) → rises ms ≡ true → (i j : ℕ) (d : Mnemonic) → i < j → j < length ms → slice_cmp nat_cmp (name (get_or ms i d)) (name (get_or ms j d)) ≡ Less

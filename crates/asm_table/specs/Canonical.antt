@@ -48,17 +48,18 @@ text_of (i ∷ is) = line_text i ++ 10 ∷ text_of is
 
 -- ---- the numbers of an instruction are those of its types
 
-abbrev pub IsWithin : ℕ → ℤ → Type 0
-IsWithin limit (pos n) = n < limit
-IsWithin limit (negsuc n) = suc n ≤ limit
+-- at least minus the limit, and below the limit
+abbrev pub IsSignedWithin : ℕ → ℤ → Type 0
+IsSignedWithin limit (pos n) = n < limit
+IsSignedWithin limit (negsuc n) = suc n ≤ limit
 
 abbrev pub FitsOperand : AsmOperand → Type 0
 FitsOperand (operand.Register r) = Unit {0}
-FitsOperand (operand.Imm z) = IsWithin (2 ^ 31) z
-FitsOperand (operand.Memory r z) = IsWithin (2 ^ 15) z
+FitsOperand (operand.Imm z) = IsSignedWithin (2 ^ 31) z
+FitsOperand (operand.Memory r z) = IsSignedWithin (2 ^ 15) z
 FitsOperand (operand.Imm64 k) = k < 2 ^ 64
-FitsOperand (operand.Offset z) = IsWithin (2 ^ 15) z
-FitsOperand (operand.LongOffset z) = IsWithin (2 ^ 31) z
+FitsOperand (operand.Offset z) = IsSignedWithin (2 ^ 15) z
+FitsOperand (operand.LongOffset z) = IsSignedWithin (2 ^ 31) z
 
 abbrev pub AllFitOperands : List AsmOperand → Type 0
 AllFitOperands [] = Unit {0}
@@ -72,6 +73,6 @@ AllFitParts [] = Unit {0}
 AllFitParts (i ∷ is) = FitsParts i × AllFitParts is
 
 -- how many slots the instructions take
-abbrev pub slot_count : List Instr → ℕ
-slot_count [] = 0
-slot_count (i ∷ is) = slots_of (mnemonic_of i) + slot_count is
+abbrev pub parts_slot_count : List Instr → ℕ
+parts_slot_count [] = 0
+parts_slot_count (i ∷ is) = slots_of (mnemonic_of i) + parts_slot_count is

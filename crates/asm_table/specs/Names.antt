@@ -6,7 +6,7 @@ use Rattle.isa_table.specs.declared.instr.Reg.TheVariants.{R0, R1, R2, R3, R4, R
 use Rattle.asm_table.specs.declared.mnemonic.Mnemonic.{Mnemonic}
 use Rattle.asm_table.specs.declared.mnemonic.Mnemonic.TheVariants.{CallLocal, Exit}
 use Rattle.asm_table.specs.declared.named.TheConstants.{BY_NAME}
-use Rattle.asm_table.specs.declared.register.TheConstants.{REGISTERS}
+use Rattle.isa_table.specs.Registers.{all_registers}
 use Rattle.asm_table.specs.Mnemonics.{name}
 
 abbrev pub named_in : List Mnemonic → List ℕ → Option Mnemonic
@@ -22,9 +22,9 @@ unfoldable pub named : List ℕ → Option Mnemonic
 named word = named_in BY_NAME.now word
 
 -- the one mnemonic of two words
-abbrev pub is_local : Mnemonic → Bool
-is_local CallLocal = true
-is_local _ = false
+abbrev pub has_two_words : Mnemonic → Bool
+has_two_words CallLocal = true
+has_two_words _ = false
 
 abbrev pub register_name : Reg → List ℕ
 register_name R0 = codes "r0"
@@ -44,4 +44,4 @@ register_in [] word = None
 register_in (r ∷ rs) word = if bytes_eq (register_name r) word then Some r else register_in rs word
 
 abbrev pub register_named : List ℕ → Option Reg
-register_named word = register_in REGISTERS word
+register_named word = register_in all_registers word

@@ -53,25 +53,25 @@ operands_of (instr.Atomic w op d s o) = operand.Memory d o ∷ operand.Register 
 operands_of (instr.LoadImm64 d v) = operand.Register d ∷ operand.Imm64 v ∷ []
 
 -- the instruction that has these parts
-abbrev pub built : Mnemonic → List AsmOperand → Option Instr
-built (mnemonic.Alu w op) (operand.Register d ∷ operand.Register s ∷ []) = Some (instr.Alu w op d (source.Register s))
-built (mnemonic.Alu w op) (operand.Register d ∷ operand.Imm z ∷ []) = Some (instr.Alu w op d (source.Imm z))
-built (mnemonic.Neg w) (operand.Register d ∷ []) = Some (instr.Neg w d)
-built (mnemonic.MovSx8 w) (operand.Register d ∷ operand.Register s ∷ []) = Some (instr.MovSx8 w d s)
-built (mnemonic.MovSx16 w) (operand.Register d ∷ operand.Register s ∷ []) = Some (instr.MovSx16 w d s)
-built mnemonic.MovSx32 (operand.Register d ∷ operand.Register s ∷ []) = Some (instr.MovSx32 d s)
-built (mnemonic.End o w) (operand.Register d ∷ []) = Some (instr.End o w d)
-built (mnemonic.Jump w c) (operand.Register d ∷ operand.Register s ∷ operand.Offset o ∷ []) = Some (instr.Jump w c d (source.Register s) o)
-built (mnemonic.Jump w c) (operand.Register d ∷ operand.Imm z ∷ operand.Offset o ∷ []) = Some (instr.Jump w c d (source.Imm z) o)
-built mnemonic.Ja (operand.Offset o ∷ []) = Some (instr.Ja o)
-built mnemonic.JaLong (operand.LongOffset o ∷ []) = Some (instr.JaLong o)
-built mnemonic.CallHelper (operand.Imm k ∷ []) = Some (instr.CallHelper k)
-built mnemonic.CallLocal (operand.LongOffset o ∷ []) = Some (instr.CallLocal o)
-built mnemonic.Exit [] = Some instr.Exit
-built (mnemonic.Load z) (operand.Register d ∷ operand.Memory s o ∷ []) = Some (instr.Load z d s o)
-built (mnemonic.LoadSigned z) (operand.Register d ∷ operand.Memory s o ∷ []) = Some (instr.LoadSigned z d s o)
-built (mnemonic.StoreImm z) (operand.Memory d o ∷ operand.Imm k ∷ []) = Some (instr.Store z d (source.Imm k) o)
-built (mnemonic.StoreRegister z) (operand.Memory d o ∷ operand.Register s ∷ []) = Some (instr.Store z d (source.Register s) o)
-built (mnemonic.Atomic w op) (operand.Memory d o ∷ operand.Register s ∷ []) = Some (instr.Atomic w op d s o)
-built mnemonic.LoadImm64 (operand.Register d ∷ operand.Imm64 v ∷ []) = Some (instr.LoadImm64 d v)
-built _ _ = None
+abbrev pub instr_of_parts : Mnemonic → List AsmOperand → Option Instr
+instr_of_parts (mnemonic.Alu w op) (operand.Register d ∷ operand.Register s ∷ []) = Some (instr.Alu w op d (source.Register s))
+instr_of_parts (mnemonic.Alu w op) (operand.Register d ∷ operand.Imm z ∷ []) = Some (instr.Alu w op d (source.Imm z))
+instr_of_parts (mnemonic.Neg w) (operand.Register d ∷ []) = Some (instr.Neg w d)
+instr_of_parts (mnemonic.MovSx8 w) (operand.Register d ∷ operand.Register s ∷ []) = Some (instr.MovSx8 w d s)
+instr_of_parts (mnemonic.MovSx16 w) (operand.Register d ∷ operand.Register s ∷ []) = Some (instr.MovSx16 w d s)
+instr_of_parts mnemonic.MovSx32 (operand.Register d ∷ operand.Register s ∷ []) = Some (instr.MovSx32 d s)
+instr_of_parts (mnemonic.End o w) (operand.Register d ∷ []) = Some (instr.End o w d)
+instr_of_parts (mnemonic.Jump w c) (operand.Register d ∷ operand.Register s ∷ operand.Offset o ∷ []) = Some (instr.Jump w c d (source.Register s) o)
+instr_of_parts (mnemonic.Jump w c) (operand.Register d ∷ operand.Imm z ∷ operand.Offset o ∷ []) = Some (instr.Jump w c d (source.Imm z) o)
+instr_of_parts mnemonic.Ja (operand.Offset o ∷ []) = Some (instr.Ja o)
+instr_of_parts mnemonic.JaLong (operand.LongOffset o ∷ []) = Some (instr.JaLong o)
+instr_of_parts mnemonic.CallHelper (operand.Imm k ∷ []) = Some (instr.CallHelper k)
+instr_of_parts mnemonic.CallLocal (operand.LongOffset o ∷ []) = Some (instr.CallLocal o)
+instr_of_parts mnemonic.Exit [] = Some instr.Exit
+instr_of_parts (mnemonic.Load z) (operand.Register d ∷ operand.Memory s o ∷ []) = Some (instr.Load z d s o)
+instr_of_parts (mnemonic.LoadSigned z) (operand.Register d ∷ operand.Memory s o ∷ []) = Some (instr.LoadSigned z d s o)
+instr_of_parts (mnemonic.StoreImm z) (operand.Memory d o ∷ operand.Imm k ∷ []) = Some (instr.Store z d (source.Imm k) o)
+instr_of_parts (mnemonic.StoreRegister z) (operand.Memory d o ∷ operand.Register s ∷ []) = Some (instr.Store z d (source.Register s) o)
+instr_of_parts (mnemonic.Atomic w op) (operand.Memory d o ∷ operand.Register s ∷ []) = Some (instr.Atomic w op d s o)
+instr_of_parts mnemonic.LoadImm64 (operand.Register d ∷ operand.Imm64 v ∷ []) = Some (instr.LoadImm64 d v)
+instr_of_parts _ _ = None

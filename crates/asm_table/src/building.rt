@@ -1,6 +1,6 @@
 //! The instruction that a mnemonic and operands are.
 ghost use Rattle.std.specs.Prelude.{◌≡◌};
-ghost use Rattle.asm_table.specs.Parts.{built};
+ghost use Rattle.asm_table.specs.Parts.{instr_of_parts};
 
 use crate::mnemonic::Mnemonic;
 use crate::operands::AsmOperand;
@@ -9,7 +9,7 @@ use isa_table::{
 };
 
 fn alu(width: Width, op: Binary, operands: &[AsmOperand]) -> Option<Instr>
-    ensures { result ≡ built (Mnemonic.Alu width op) operands.now }
+    ensures { result ≡ instr_of_parts (Mnemonic.Alu width op) operands.now }
 {
     match operands {
         [AsmOperand::Register(dst), AsmOperand::Register(src)] => Some(Instr::Alu {
@@ -29,7 +29,7 @@ fn alu(width: Width, op: Binary, operands: &[AsmOperand]) -> Option<Instr>
 }
 
 fn neg(width: Width, operands: &[AsmOperand]) -> Option<Instr>
-    ensures { result ≡ built (Mnemonic.Neg width) operands.now }
+    ensures { result ≡ instr_of_parts (Mnemonic.Neg width) operands.now }
 {
     match operands {
         [AsmOperand::Register(dst)] => Some(Instr::Neg { width, dst: *dst }),
@@ -38,7 +38,7 @@ fn neg(width: Width, operands: &[AsmOperand]) -> Option<Instr>
 }
 
 fn mov_sx8(width: Width, operands: &[AsmOperand]) -> Option<Instr>
-    ensures { result ≡ built (Mnemonic.MovSx8 width) operands.now }
+    ensures { result ≡ instr_of_parts (Mnemonic.MovSx8 width) operands.now }
 {
     match operands {
         [AsmOperand::Register(dst), AsmOperand::Register(src)] => Some(Instr::MovSx8 {
@@ -51,7 +51,7 @@ fn mov_sx8(width: Width, operands: &[AsmOperand]) -> Option<Instr>
 }
 
 fn mov_sx16(width: Width, operands: &[AsmOperand]) -> Option<Instr>
-    ensures { result ≡ built (Mnemonic.MovSx16 width) operands.now }
+    ensures { result ≡ instr_of_parts (Mnemonic.MovSx16 width) operands.now }
 {
     match operands {
         [AsmOperand::Register(dst), AsmOperand::Register(src)] => Some(Instr::MovSx16 {
@@ -64,7 +64,7 @@ fn mov_sx16(width: Width, operands: &[AsmOperand]) -> Option<Instr>
 }
 
 fn mov_sx32(operands: &[AsmOperand]) -> Option<Instr>
-    ensures { result ≡ built Mnemonic.MovSx32 operands.now }
+    ensures { result ≡ instr_of_parts Mnemonic.MovSx32 operands.now }
 {
     match operands {
         [AsmOperand::Register(dst), AsmOperand::Register(src)] => Some(Instr::MovSx32 {
@@ -76,7 +76,7 @@ fn mov_sx32(operands: &[AsmOperand]) -> Option<Instr>
 }
 
 fn end(order: Order, width: SwapWidth, operands: &[AsmOperand]) -> Option<Instr>
-    ensures { result ≡ built (Mnemonic.End order width) operands.now }
+    ensures { result ≡ instr_of_parts (Mnemonic.End order width) operands.now }
 {
     match operands {
         [AsmOperand::Register(dst)] => Some(Instr::End {
@@ -89,7 +89,7 @@ fn end(order: Order, width: SwapWidth, operands: &[AsmOperand]) -> Option<Instr>
 }
 
 fn jump(width: Width, cond: Cond, operands: &[AsmOperand]) -> Option<Instr>
-    ensures { result ≡ built (Mnemonic.Jump width cond) operands.now }
+    ensures { result ≡ instr_of_parts (Mnemonic.Jump width cond) operands.now }
 {
     match operands {
         [
@@ -119,7 +119,7 @@ fn jump(width: Width, cond: Cond, operands: &[AsmOperand]) -> Option<Instr>
 }
 
 fn ja(operands: &[AsmOperand]) -> Option<Instr>
-    ensures { result ≡ built Mnemonic.Ja operands.now }
+    ensures { result ≡ instr_of_parts Mnemonic.Ja operands.now }
 {
     match operands {
         [AsmOperand::Offset(offset)] => Some(Instr::Ja { offset: *offset }),
@@ -128,7 +128,7 @@ fn ja(operands: &[AsmOperand]) -> Option<Instr>
 }
 
 fn ja_long(operands: &[AsmOperand]) -> Option<Instr>
-    ensures { result ≡ built Mnemonic.JaLong operands.now }
+    ensures { result ≡ instr_of_parts Mnemonic.JaLong operands.now }
 {
     match operands {
         [AsmOperand::LongOffset(offset)] => Some(Instr::JaLong { offset: *offset }),
@@ -137,7 +137,7 @@ fn ja_long(operands: &[AsmOperand]) -> Option<Instr>
 }
 
 fn call_helper(operands: &[AsmOperand]) -> Option<Instr>
-    ensures { result ≡ built Mnemonic.CallHelper operands.now }
+    ensures { result ≡ instr_of_parts Mnemonic.CallHelper operands.now }
 {
     match operands {
         [AsmOperand::Imm(id)] => Some(Instr::CallHelper { id: *id }),
@@ -146,7 +146,7 @@ fn call_helper(operands: &[AsmOperand]) -> Option<Instr>
 }
 
 fn call_local(operands: &[AsmOperand]) -> Option<Instr>
-    ensures { result ≡ built Mnemonic.CallLocal operands.now }
+    ensures { result ≡ instr_of_parts Mnemonic.CallLocal operands.now }
 {
     match operands {
         [AsmOperand::LongOffset(offset)] => Some(Instr::CallLocal { offset: *offset }),
@@ -155,7 +155,7 @@ fn call_local(operands: &[AsmOperand]) -> Option<Instr>
 }
 
 fn exit(operands: &[AsmOperand]) -> Option<Instr>
-    ensures { result ≡ built Mnemonic.Exit operands.now }
+    ensures { result ≡ instr_of_parts Mnemonic.Exit operands.now }
 {
     match operands {
         [] => Some(Instr::Exit),
@@ -164,7 +164,7 @@ fn exit(operands: &[AsmOperand]) -> Option<Instr>
 }
 
 fn load(size: Size, operands: &[AsmOperand]) -> Option<Instr>
-    ensures { result ≡ built (Mnemonic.Load size) operands.now }
+    ensures { result ≡ instr_of_parts (Mnemonic.Load size) operands.now }
 {
     match operands {
         [AsmOperand::Register(dst), AsmOperand::Memory(src, offset)] => Some(Instr::Load {
@@ -178,7 +178,7 @@ fn load(size: Size, operands: &[AsmOperand]) -> Option<Instr>
 }
 
 fn load_signed(size: SignedSize, operands: &[AsmOperand]) -> Option<Instr>
-    ensures { result ≡ built (Mnemonic.LoadSigned size) operands.now }
+    ensures { result ≡ instr_of_parts (Mnemonic.LoadSigned size) operands.now }
 {
     match operands {
         [AsmOperand::Register(dst), AsmOperand::Memory(src, offset)] => Some(Instr::LoadSigned {
@@ -192,7 +192,7 @@ fn load_signed(size: SignedSize, operands: &[AsmOperand]) -> Option<Instr>
 }
 
 fn store_imm(size: Size, operands: &[AsmOperand]) -> Option<Instr>
-    ensures { result ≡ built (Mnemonic.StoreImm size) operands.now }
+    ensures { result ≡ instr_of_parts (Mnemonic.StoreImm size) operands.now }
 {
     match operands {
         [AsmOperand::Memory(dst, offset), AsmOperand::Imm(z)] => Some(Instr::Store {
@@ -206,7 +206,7 @@ fn store_imm(size: Size, operands: &[AsmOperand]) -> Option<Instr>
 }
 
 fn store_register(size: Size, operands: &[AsmOperand]) -> Option<Instr>
-    ensures { result ≡ built (Mnemonic.StoreRegister size) operands.now }
+    ensures { result ≡ instr_of_parts (Mnemonic.StoreRegister size) operands.now }
 {
     match operands {
         [AsmOperand::Memory(dst, offset), AsmOperand::Register(src)] => Some(Instr::Store {
@@ -220,7 +220,7 @@ fn store_register(size: Size, operands: &[AsmOperand]) -> Option<Instr>
 }
 
 fn atomic(width: Width, op: AtomicOp, operands: &[AsmOperand]) -> Option<Instr>
-    ensures { result ≡ built (Mnemonic.Atomic width op) operands.now }
+    ensures { result ≡ instr_of_parts (Mnemonic.Atomic width op) operands.now }
 {
     match operands {
         [AsmOperand::Memory(dst, offset), AsmOperand::Register(src)] => Some(Instr::Atomic {
@@ -235,7 +235,7 @@ fn atomic(width: Width, op: AtomicOp, operands: &[AsmOperand]) -> Option<Instr>
 }
 
 fn load_imm64(operands: &[AsmOperand]) -> Option<Instr>
-    ensures { result ≡ built Mnemonic.LoadImm64 operands.now }
+    ensures { result ≡ instr_of_parts Mnemonic.LoadImm64 operands.now }
 {
     match operands {
         [AsmOperand::Register(dst), AsmOperand::Imm64(value)] => Some(Instr::LoadImm64 {
@@ -248,7 +248,7 @@ fn load_imm64(operands: &[AsmOperand]) -> Option<Instr>
 
 /// The instruction of this mnemonic that has these operands.
 pub fn build(m: Mnemonic, operands: &[AsmOperand]) -> Option<Instr>
-    ensures { result ≡ built m operands.now }
+    ensures { result ≡ instr_of_parts m operands.now }
 {
     match m {
         Mnemonic::Alu(width, op) => alu(width, op, operands),

@@ -2,21 +2,7 @@
 ghost use Rattle.std.specs.Prelude.{◌≡◌, ◌≤◌, length};
 ghost use Rattle.asm_table.specs.Names.{register_name, register_named};
 
-use isa_table::Reg;
-
-const REGISTERS: [Reg; 11] = [
-    Reg::R0,
-    Reg::R1,
-    Reg::R2,
-    Reg::R3,
-    Reg::R4,
-    Reg::R5,
-    Reg::R6,
-    Reg::R7,
-    Reg::R8,
-    Reg::R9,
-    Reg::R10,
-];
+use isa_table::{Reg, registers};
 
 /// `r0` to `r10`.
 pub fn register_name(r: Reg) -> &'static [u8]
@@ -42,7 +28,7 @@ pub fn register_name(r: Reg) -> &'static [u8]
 pub fn register_named(word: &[u8]) -> Option<Reg>
     ensures { result ≡ register_named word.now }
 {
-    for r in &REGISTERS {
+    for r in registers() {
         if register_name(*r) == word {
             return Some(*r);
         }

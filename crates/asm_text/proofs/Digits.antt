@@ -2,7 +2,7 @@
 use Rattle.std.proofs.Common.{◌≡◌, ℕ, ◌<◌, ◌≤◌, ◌==◌, ◌&&◌, zero, suc, Bool, true, false, List, [], ◌∷◌, length, take, drop, get_or, refl, sym, ◌∙◌, arith, IsAscii, lit<}
 use Rattle.std.specs.Str.Parse.{AllDigits}
 use Rattle.std.specs.Char.{digit_value, is_ascii_digit, is_ascii_hexdigit}
-use Rattle.asm_text.specs.Tokens.{run, IsWord, word_length, is_letter, begins_hex}
+use Rattle.asm_text.specs.Tokens.{run, IsToken, word_length, is_letter, begins_hex}
 use Rattle.std.proofs.lemmas.Bool.Decides.{nat_tests}
 
 small_digit : (radix c : ℕ) → radix ≤ 36 → digit_value c < radix → c < 128
@@ -36,17 +36,17 @@ second : (bs : List ℕ) → (get_or (take (run is_ascii_digit bs) bs) 0 0 == 12
 second [] = refl
 second (b ∷ bs) = second_at b bs (is_ascii_digit b) refl
 
-decimal_word : (b : ℕ) (bs : List ℕ) → is_ascii_digit b ≡ true → IsWord (b ∷ take (run is_ascii_digit bs) bs)
+decimal_word : (b : ℕ) (bs : List ℕ) → is_ascii_digit b ≡ true → IsToken (b ∷ take (run is_ascii_digit bs) bs)
 decimal_word b bs d = (omega arith, λ _. (λ x. absurd (let f : true ≡ false = sym x ∙ second bs in cc f), λ _. (omega arith, (decimal_digit b d, run_digits 10 is_ascii_digit decimal_digit bs))))
 
-and_both : (a b : Bool) → (a && b) ≡ true → (a ≡ true) × (b ≡ true)
+pub and_both : (a b : Bool) → (a && b) ≡ true → (a ≡ true) × (b ≡ true)
 and_both true b e = (refl, e)
 and_both false b e = absurd (cc e)
 
 some_run : (d : ℕ) (bs : List ℕ) → is_ascii_hexdigit d ≡ true → 0 < length (take (run is_ascii_hexdigit (d ∷ bs)) (d ∷ bs))
 some_run d bs e = rw e (omega arith)
 
-hex_word : (b : ℕ) (bs : List ℕ) → begins_hex bs ≡ true → IsWord (b ∷ take (suc (run is_ascii_hexdigit (drop 1 bs))) bs)
+hex_word : (b : ℕ) (bs : List ℕ) → begins_hex bs ≡ true → IsToken (b ∷ take (suc (run is_ascii_hexdigit (drop 1 bs))) bs)
 hex_word b [] e = absurd (cc e)
 hex_word b (x ∷ []) e = absurd (cc e)
 hex_word b (x ∷ d ∷ bs) e =
@@ -58,13 +58,13 @@ letter_no_digit : (b : ℕ) → is_letter b ≡ true → is_ascii_digit b ≡ tr
 letter_no_digit b l d = grind (arith, nat_tests)
 
 -- the bytes of the token at the front
-word_of : (b : ℕ) (bs : List ℕ) (l h d : Bool) → is_letter b ≡ l → (b == 48 && begins_hex bs) ≡ h → is_ascii_digit b ≡ d → IsWord (take (word_length (b ∷ bs)) (b ∷ bs))
+word_of : (b : ℕ) (bs : List ℕ) (l h d : Bool) → is_letter b ≡ l → (b == 48 && begins_hex bs) ≡ h → is_ascii_digit b ≡ d → IsToken (take (word_length (b ∷ bs)) (b ∷ bs))
 unfolding word_length
 word_of b bs true h d e f g = rw e (omega arith, λ k. absurd (letter_no_digit b e k))
 word_of b bs false true d e f g = rw (e, f) (hex_word b bs (and_both (b == 48) (begins_hex bs) f).1)
 word_of b bs false false true e f g = rw (e, f, g) (decimal_word b bs g)
 word_of b bs false false false e f g = rw (e, f, g) (omega arith, λ k. absurd (let j : true ≡ false = sym k ∙ g in cc j))
 
-pub word_at : (bs : List ℕ) (n : ℕ) → 0 < length bs → n ≡ word_length bs → IsWord (take n bs)
+pub word_at : (bs : List ℕ) (n : ℕ) → 0 < length bs → n ≡ word_length bs → IsToken (take n bs)
 word_at [] n h e = absurd (omega arith)
 word_at (b ∷ bs) n h e = rw e (word_of b bs (is_letter b) (b == 48 && begins_hex bs) (is_ascii_digit b) refl refl refl)

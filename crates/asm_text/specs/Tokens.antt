@@ -79,8 +79,8 @@ abbrev pub bounded : ℕ → Option ℕ
 bounded n = if nat_lt n (2 ^ 64) then Some n else None
 
 -- the value of digits, or of `0x` and hex digits
-abbrev pub number_of : List ℕ → Option ℕ
-number_of word = if get_or word 1 0 == 120 then bounded (digits_value 16 (drop 2 word)) else bounded (digits_value 10 word)
+abbrev pub numeral_value : List ℕ → Option ℕ
+numeral_value word = if get_or word 1 0 == 120 then bounded (digits_value 16 (drop 2 word)) else bounded (digits_value 10 word)
 
 abbrev pub mark_of : ℕ → Lexeme
 mark_of b =
@@ -96,7 +96,7 @@ unfoldable pub lexeme_of : List ℕ → Lexeme
 lexeme_of [] = Stray
 lexeme_of (b ∷ bs) =
     if is_letter b then Name (b ∷ bs) else
-    (if is_ascii_digit b then Number (number_of (b ∷ bs)) else mark_of b)
+    (if is_ascii_digit b then Number (numeral_value (b ∷ bs)) else mark_of b)
 
 -- all bytes are ASCII
 abbrev pub is_clean : List ℕ → Bool
@@ -127,25 +127,25 @@ next_start at line = at + run is_blank (drop at line)
 -- ---- the code's values
 
 -- what a token of the code is
-abbrev pub seen : Token → Lexeme
-seen (token.Name w) = Name w.now
-seen (token.Number n) = Number n
-seen token.Colon = Colon
-seen token.Comma = Comma
-seen token.Open = Open
-seen token.Close = Close
-seen token.Plus = Plus
-seen token.Minus = Minus
-seen token.Stray = Stray
+abbrev pub lexeme_seen : Token → Lexeme
+lexeme_seen (token.Name w) = Name w.now
+lexeme_seen (token.Number n) = Number n
+lexeme_seen token.Colon = Colon
+lexeme_seen token.Comma = Comma
+lexeme_seen token.Open = Open
+lexeme_seen token.Close = Close
+lexeme_seen token.Plus = Plus
+lexeme_seen token.Minus = Minus
+lexeme_seen token.Stray = Stray
 
 -- the tokens that are still to be read
-abbrev pub left : Tokens → List Lexeme
-left t = tokens (drop t.at t.line.now)
+abbrev pub lexemes_left : Tokens → List Lexeme
+lexemes_left t = tokens (drop t.at t.line.now)
 
 -- the bytes of a number
-abbrev pub IsNumber : List ℕ → Type 0
-IsNumber word = ((get_or word 1 0 == 120) ≡ true → IsNumeral 16 (drop 2 word)) × ((get_or word 1 0 == 120) ≡ false → IsNumeral 10 word)
+abbrev pub IsNumberToken : List ℕ → Type 0
+IsNumberToken word = ((get_or word 1 0 == 120) ≡ true → IsNumeral 16 (drop 2 word)) × ((get_or word 1 0 == 120) ≡ false → IsNumeral 10 word)
 
 -- the bytes of a token
-abbrev pub IsWord : List ℕ → Type 0
-IsWord word = (0 < length word) × (is_ascii_digit (get_or word 0 0) ≡ true → IsNumber word)
+abbrev pub IsToken : List ℕ → Type 0
+IsToken word = (0 < length word) × (is_ascii_digit (get_or word 0 0) ≡ true → IsNumberToken word)

@@ -1,6 +1,6 @@
 //! Tokens and classes of bytes.
 ghost use Rattle.std.specs.Prelude.{◌≡◌};
-ghost use Rattle.asm_text.specs.Tokens.{in_class, mark_of, seen, is_letter, fault_in};
+ghost use Rattle.asm_text.specs.Tokens.{in_class, mark_of, lexeme_seen, is_letter, fault_in};
 
 /// A token of a line of assembly.
 #[derive(Clone, Copy, Drop, Debug)]
@@ -31,7 +31,7 @@ pub enum Fault {
 impl<'a> Token<'a> {
     /// What is wrong with the token, if anything.
     pub fn fault(self) -> Option<Fault>
-        ensures { result ≡ fault_in (seen self.entry) }
+        ensures { result ≡ fault_in (lexeme_seen self.entry) }
     {
         match self {
             Token::Stray => Some(Fault::Char),
@@ -73,7 +73,7 @@ pub fn is_letter(b: u8) -> bool
 
 /// The token of a byte that is no letter and no digit.
 pub fn mark<'a>(b: u8) -> Token<'a>
-    ensures { seen result ≡ mark_of b }
+    ensures { lexeme_seen result ≡ mark_of b }
 {
     match b {
         b':' => Token::Colon,

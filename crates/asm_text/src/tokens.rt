@@ -1,7 +1,7 @@
 //! Reads the tokens of a line.
 ghost use Rattle.std.specs.Prelude.{◌≡◌, ◌∷◌, ◌≤◌, ◌<◌, ◌+◌, ◌-◌, ◌⊎◌, List, [], length, drop, take, slice_range, IfSome, MatchOption, cond, IsTrue};
 ghost use Rattle.std.specs.Str.Parse.{IsNumeral, digits_value};
-ghost use Rattle.asm_text.specs.Tokens.{bounded, in_class, is_ascii, run, word_length, begins_hex, begins_comment, is_clean, lexeme_of, number_of, tokens, seen, left, next_start, IsNumber, IsWord};
+ghost use Rattle.asm_text.specs.Tokens.{bounded, in_class, is_ascii, run, word_length, begins_hex, begins_comment, is_clean, lexeme_of, numeral_value, tokens, lexeme_seen, lexemes_left, next_start, IsNumberToken, IsToken};
 ghost use Rattle.asm_text.specs.Tokens.Lexeme.{Stray};
 
 use crate::cursor::Tokens;
@@ -88,8 +88,8 @@ fn digits(radix: u32, text: &[u8]) -> Option<u64>
 
 /// The value of a word that begins with a digit.
 fn number(word: &[u8]) -> Option<u64>
-    requires { IsNumber word.now }
-    ensures { result ≡ number_of word.now }
+    requires { IsNumberToken word.now }
+    ensures { result ≡ numeral_value word.now }
 {
     if word.len() >= 2 && word[1] == b'x' {
         return digits(16, &word[2..]);
@@ -100,8 +100,8 @@ fn number(word: &[u8]) -> Option<u64>
 /// The token that the bytes of a token are.
 #[tactic(auto, unfolding(crate::specs::Tokens::lexeme_of))]
 fn token<'a>(word: &'a [u8]) -> Token<'a>
-    requires { IsWord word.now }
-    ensures { seen result ≡ lexeme_of word.now }
+    requires { IsToken word.now }
+    ensures { lexeme_seen result ≡ lexeme_of word.now }
 {
     let first = word[0];
     if is_letter(first) {
@@ -116,7 +116,7 @@ fn token<'a>(word: &'a [u8]) -> Token<'a>
 impl<'a> Tokens<'a> {
     /// All tokens of a line.
     pub fn new(line: &'a [u8]) -> Tokens<'a>
-        ensures { left result ≡ tokens line.now }
+        ensures { lexemes_left result ≡ tokens line.now }
     {
         Tokens { line, at: 0 }
     }
@@ -126,11 +126,11 @@ impl<'a> Tokens<'a> {
     #[tactic(auto, using(crate::proofs::Scanned::start_is))]
     pub fn next(&mut self) -> Option<Found<'a>>
         // the tokens in turn
-        ensures tokens { MatchOption result (left self.old ≡ []) (λ f. left self.old ≡ seen f.token ∷ left self.new) }
+        ensures tokens { MatchOption result (lexemes_left self.old ≡ []) (λ f. lexemes_left self.old ≡ lexeme_seen f.token ∷ lexemes_left self.new) }
         ensures start { IfSome result (λ f. f.start ≡ next_start self.old.at self.old.line.now) }
         ensures end { IfSome result (λ f. (f.start < f.end) × (f.end ≡ self.new.at) × (f.end ≤ length self.old.line.now)) }
         // a comment reaches to the line's end
-        ensures bytes { IfSome result (λ f. seen f.token ≡ lexeme_of (slice_range self.old.line.now f.start f.end) ⊎ ((seen f.token ≡ Stray) × (f.end ≡ length self.old.line.now))) }
+        ensures bytes { IfSome result (λ f. lexeme_seen f.token ≡ lexeme_of (slice_range self.old.line.now f.start f.end) ⊎ ((lexeme_seen f.token ≡ Stray) × (f.end ≡ length self.old.line.now))) }
         ensures line { self.new.line.now ≡ self.old.line.now }
     {
         let after = &self.line[self.at..];

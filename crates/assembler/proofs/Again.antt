@@ -9,14 +9,15 @@ use Rattle.isa_table.specs.declared.instr.Instr.{Instr}
 use Rattle.asm_table.specs.declared.mnemonic.Mnemonic.{Mnemonic}
 use Rattle.asm_table.specs.declared.mnemonic.Mnemonic.TheVariants as mnemonic
 use Rattle.asm_table.specs.Mnemonics.{name, slots_of}
-use Rattle.asm_table.specs.Names.{is_local}
+use Rattle.asm_table.specs.Names.{has_two_words}
 use Rattle.asm_table.specs.Parts.{mnemonic_of, operands_of}
-use Rattle.asm_table.specs.Canonical.{line_text, text_of, FitsParts, AllFitParts, slot_count}
-use Rattle.asm_table.proofs.Printable.{is_plain, printable, parts, printable_line}
+use Rattle.asm_table.specs.Canonical.{line_text, text_of, FitsParts, AllFitParts, parts_slot_count}
+use Rattle.isa_table.proofs.Listed.{and_true}
+use Rattle.asm_table.proofs.Printable.{is_plain, printable, printable_line}
 use Rattle.asm_grammar.specs.declared.written.Sign.TheVariants as sign
 use Rattle.asm_grammar.specs.declared.why.Why.{Why}
 use Rattle.asm_grammar.specs.declared.why.Why.TheVariants as why
-use Rattle.asm_grammar.specs.Writing.{Written, tokens_of, joined, more}
+use Rattle.asm_grammar.specs.Writing.{Written, lexemes_of, joined, more}
 use Rattle.asm_grammar.specs.Writing.Written.{Word, Bare, Signed, Memory, MemoryAt}
 use Rattle.asm_grammar.specs.Reading.{fault_of, Look, head, body, label_of, after_label, has_stray, line_says, body_slots}
 use Rattle.asm_grammar.specs.Canonical.{canonical}
@@ -29,7 +30,7 @@ use Rattle.assembler.proofs.Parted.{lines_at}
 
 above : (b : ℕ) → is_plain b ≡ true → 31 < b
 unfolding is_plain
-above b h = let l : nat_lt 31 b ≡ true = (parts (nat_lt 31 b) (nat_lt b 127) h).0 in grind (arith, nat_tests)
+above b h = let l : nat_lt 31 b ≡ true = (and_true (nat_lt 31 b) (nat_lt b 127) h).0 in grind (arith, nat_tests)
 
 no_lf : (b : ℕ) → is_plain b ≡ true → b ≢ 10
 no_lf b h e = absurd (let k = above b h in omega arith)
@@ -37,13 +38,13 @@ no_lf b h e = absurd (let k = above b h in omega arith)
 whole : (bs : List ℕ) → printable bs ≡ true → All (λ b. b ≢ 10) bs
 unfolding printable
 whole [] h = All-nil (λ b. b ≢ 10)
-whole (b ∷ bs) h = let p = parts (is_plain b) (printable bs) h in All-cons (λ b. b ≢ 10) b bs (no_lf b p.0) (whole bs p.1)
+whole (b ∷ bs) h = let p = and_true (is_plain b) (printable bs) h in All-cons (λ b. b ≢ 10) b bs (no_lf b p.0) (whole bs p.1)
 
 no_cr : (bs : List ℕ) (k : ℕ) → printable bs ≡ true → (get_or bs k 0 == 13) ≡ false
 unfolding printable
 no_cr [] k h = refl
-no_cr (b ∷ bs) zero h = let p = above b (parts (is_plain b) (printable bs) h).0 in grind (arith, nat_tests)
-no_cr (b ∷ bs) (suc k) h = no_cr bs k (parts (is_plain b) (printable bs) h).1
+no_cr (b ∷ bs) zero h = let p = above b (and_true (is_plain b) (printable bs) h).0 in grind (arith, nat_tests)
+no_cr (b ∷ bs) (suc k) h = no_cr bs k (and_true (is_plain b) (printable bs) h).1
 
 unstripped : (bs : List ℕ) → printable bs ≡ true → strip_carriage_return bs ≡ bs
 unstripped bs h = rw (no_cr bs (length bs - 1) h) refl
@@ -68,12 +69,12 @@ no_label w (MemoryAt x s n ∷ ws) = (refl, refl)
 no_label_one : (h : List Lexeme) (w : List ℕ) (ws : List Written) → h ≡ Name w ∷ [] → (label_of (h ++ joined ws) ≡ None) × (after_label (h ++ joined ws) ≡ h ++ joined ws)
 no_label_one h w ws e = rw e (no_label w ws)
 
-no_label_at : (m : Mnemonic) (ws : List Written) (b : Bool) → is_local m ≡ b → (label_of (head m ++ joined ws) ≡ None) × (after_label (head m ++ joined ws) ≡ head m ++ joined ws)
+no_label_at : (m : Mnemonic) (ws : List Written) (b : Bool) → has_two_words m ≡ b → (label_of (head m ++ joined ws) ≡ None) × (after_label (head m ++ joined ws) ≡ head m ++ joined ws)
 no_label_at mnemonic.CallLocal ws b e = (refl, refl)
 no_label_at m ws false e = no_label_one (head m) (name m) ws (head_one m e)
 no_label_at m ws true e = absurd (cc e)
 
-clean_operand : (w : Written) (ts : List Lexeme) → has_stray (tokens_of w ++ ts) ≡ has_stray ts
+clean_operand : (w : Written) (ts : List Lexeme) → has_stray (lexemes_of w ++ ts) ≡ has_stray ts
 clean_operand (Word x) ts = refl
 clean_operand (Bare n) ts = refl
 clean_operand (Signed sign.Plus n) ts = refl
@@ -93,7 +94,7 @@ clean_joined (v ∷ ws) = clean_operand v (more ws) ∙ clean_more ws
 clean_one : (h : List Lexeme) (w : List ℕ) (ws : List Written) → h ≡ Name w ∷ [] → has_stray (h ++ joined ws) ≡ false
 clean_one h w ws e = rw e (clean_joined ws)
 
-clean_at : (m : Mnemonic) (ws : List Written) (b : Bool) → is_local m ≡ b → has_stray (head m ++ joined ws) ≡ false
+clean_at : (m : Mnemonic) (ws : List Written) (b : Bool) → has_two_words m ≡ b → has_stray (head m ++ joined ws) ≡ false
 clean_at mnemonic.CallLocal ws b e = clean_joined ws
 clean_at m ws false e = clean_one (head m) (name m) ws (head_one m e)
 clean_at m ws true e = absurd (cc e)
@@ -106,8 +107,8 @@ module _ (i : Instr) (f : FitsParts i) where
   parts_of_line : (label_of spelled ≡ None) × (after_label spelled ≡ spelled) × (has_stray spelled ≡ false)
   unfolding spelled
   parts_of_line =
-      let n = no_label_at (mnemonic_of i) (map canonical (operands_of i)) (is_local (mnemonic_of i)) refl in
-      (n.0, n.1, clean_at (mnemonic_of i) (map canonical (operands_of i)) (is_local (mnemonic_of i)) refl)
+      let n = no_label_at (mnemonic_of i) (map canonical (operands_of i)) (has_two_words (mnemonic_of i)) refl in
+      (n.0, n.1, clean_at (mnemonic_of i) (map canonical (operands_of i)) (has_two_words (mnemonic_of i)) refl)
 
   line_is : tokens (line_text i) ≡ spelled
   unfolding spelled
@@ -135,7 +136,7 @@ module _ (i : Instr) (f : FitsParts i) where
 
 -- ---- both passes
 
-outlined_again : (k : ℕ) (look : Look) (n : ℕ) (code : List Instr) → AllFitParts code → n + slot_count code ≤ 4096 → outlined k look n (map line_text code) ≡ Ok look
+outlined_again : (k : ℕ) (look : Look) (n : ℕ) (code : List Instr) → AllFitParts code → n + parts_slot_count code ≤ 4096 → outlined k look n (map line_text code) ≡ Ok look
 outlined_again k look n [] f h = refl
 outlined_again k look n (i ∷ is) f h =
     let rest = map line_text is in
@@ -153,7 +154,7 @@ assembled_again k look n (i ∷ is) f =
     ap (λ r. with_said r k (assembled (k + 1) look (n + slots_in ts) rest)) (line_again i f.0 look n)
     ∙ ap (onto (λ l. i ∷ l)) (assembled_again (k + 1) look (n + slots_in ts) is f.1)
 
-pub canonical_spells : (code : List Instr) → AllFitParts code → slot_count code ≤ 4096 → meaning (text_of code) ≡ Ok code
+pub canonical_spells : (code : List Instr) → AllFitParts code → parts_slot_count code ≤ 4096 → meaning (text_of code) ≡ Ok code
 canonical_spells code f h =
     ap (λ l. under (outlined 1 nowhere 0 l) l) (canonical_lines code f)
     ∙ ap (λ r. under r (map line_text code)) (outlined_again 1 nowhere 0 code f (omega arith))

@@ -8,7 +8,7 @@ use Rattle.asm_table.specs.declared.mnemonic.Mnemonic.{Mnemonic}
 use Rattle.asm_grammar.specs.declared.why.Why.{Why}
 use Rattle.asm_grammar.specs.declared.why.Why.TheVariants as why
 use Rattle.asm_table.specs.Mnemonics.{sorts}
-use Rattle.asm_grammar.specs.Reading.{Look, mnemonic_at, body, by_mnemonic, said, finished, gathered, nothing, label_of, after_label, has_stray, line_says, fault_of}
+use Rattle.asm_grammar.specs.Reading.{Look, mnemonic_at, body, by_mnemonic, said, finished, gather_operands, nothing, label_of, after_label, has_stray, line_says, fault_of}
 use Rattle.asm_grammar.proofs.Meant.{means_says}
 use Rattle.asm_grammar.proofs.Found.{says_means}
 use Rattle.asm_grammar.proofs.Alike.{line_alike}
@@ -29,7 +29,7 @@ said_some (Err w) e = cc e
 
 named_some : (look : Look) (n : ℕ) (o : Option (Mnemonic × List Lexeme)) → by_mnemonic look n o ≡ Ok None → ⊥
 named_some look n None e = cc e
-named_some look n (Some x) e = said_some (finished x.0 (gathered look n true nothing (sorts x.0) x.1)) e
+named_some look n (Some x) e = said_some (finished x.0 (gather_operands look n true nothing (sorts x.0) x.1)) e
 
 body_none : (look : Look) (n : ℕ) (ts : List Lexeme) → body look n ts ≡ Ok None → ts ≡ []
 body_none look n [] e = refl

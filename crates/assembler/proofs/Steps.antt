@@ -16,7 +16,7 @@ use Rattle.asm_grammar.specs.declared.why.Why.TheVariants as why
 use Rattle.asm_grammar.specs.Reading.{fault_of, Look, line_says, label_of}
 use Rattle.asm_grammar.specs.Views.{look_in}
 use Rattle.assembler.specs.declared.error.AsmError.{AsmError}
-use Rattle.assembler.specs.Passes.{with_label, slots_in, is_twice, or_else, wrong, refused, unless_wrong, outlined, onto, with_said, assembled, kept}
+use Rattle.assembler.specs.Passes.{with_label, slots_in, is_twice, or_else, wrong, refused, unless_wrong, outlined, onto, with_said, assembled, with_instr}
 
 -- ---- labels
 
@@ -101,7 +101,7 @@ module _ (k : ℕ) (look : Look) (n s : ℕ) (all rest : List (List ℕ)) (line 
       onto_more front i (assembled (k + 1) look (n + s) rest)
       ∙ rw f (ap (λ x. onto (λ is. front ++ is) (with_said x k (assembled (k + 1) look (n + slots_in (tokens line)) rest))) h ∙ ap (λ l. onto (λ is. front ++ is) (assembled k look n l)) (sym e))
 
-  pub assembled_said : (said : Option Instr) → Ok said ≡ line_says look n (tokens line) → s ≡ slots_in (tokens line) → onto (λ is. kept said front ++ is) (assembled (k + 1) look (n + s) rest) ≡ onto (λ is. front ++ is) (assembled k look n all)
+  pub assembled_said : (said : Option Instr) → Ok said ≡ line_says look n (tokens line) → s ≡ slots_in (tokens line) → onto (λ is. with_instr said front ++ is) (assembled (k + 1) look (n + s) rest) ≡ onto (λ is. front ++ is) (assembled k look n all)
   assembled_said None h f = assembled_none h f
   assembled_said (Some i) h f = assembled_some i h f
 

@@ -6,7 +6,7 @@ use Rattle.asm_table.specs.declared.mnemonic.Mnemonic.{Mnemonic}
 use Rattle.asm_grammar.specs.declared.why.Why.{Why}
 use Rattle.asm_grammar.specs.declared.why.Why.TheVariants as why
 use Rattle.asm_table.specs.Mnemonics.{sorts}
-use Rattle.asm_grammar.specs.Reading.{Look, Gathered, gathered, nothing, mnemonic_at, label_of, after_label, has_stray}
+use Rattle.asm_grammar.specs.Reading.{Look, Gathered, gather_operands, nothing, mnemonic_at, label_of, after_label, has_stray}
 use Rattle.assembler.specs.declared.error.AsmError.{AsmError}
 use Rattle.assembler.specs.Passes.{nowhere, with_label, slots_in, is_twice, outlined}
 
@@ -28,19 +28,19 @@ is_out (Some g) = g.out
 -- the test holds of the operands after the mnemonic at the front
 abbrev pub of_operands : (Option Gathered → Bool) → Option (Mnemonic × List Lexeme) → Bool
 of_operands test None = false
-of_operands test (Some x) = test (gathered nowhere 0 true nothing (sorts x.0) x.1)
+of_operands test (Some x) = test (gather_operands nowhere 0 true nothing (sorts x.0) x.1)
 
 abbrev pub of_body : (Option Gathered → Bool) → List Lexeme → Bool
 of_body test ts = of_operands test (mnemonic_at ts)
 
 -- the reason holds against a line at slot n, before which these labels stand
-abbrev pub holds : Look → ℕ → List Lexeme → Why → Bool
-holds before n ts why.Word = has_stray ts || is_unnamed (after_label ts)
-holds before n ts why.Operand = of_body has_no_form (after_label ts)
-holds before n ts why.Range = of_body is_out (after_label ts)
-holds before n ts why.TwiceLabel = is_twice before (label_of ts)
-holds before n ts why.TooLong = nat_lt 4096 (n + slots_in ts)
-holds before n ts _ = false
+abbrev pub reason_holds : Look → ℕ → List Lexeme → Why → Bool
+reason_holds before n ts why.Word = has_stray ts || is_unnamed (after_label ts)
+reason_holds before n ts why.Operand = of_body has_no_form (after_label ts)
+reason_holds before n ts why.Range = of_body is_out (after_label ts)
+reason_holds before n ts why.TwiceLabel = is_twice before (label_of ts)
+reason_holds before n ts why.TooLong = nat_lt 4096 (n + slots_in ts)
+reason_holds before n ts _ = false
 
 -- the reasons against a line by itself, in the order of their numbers
 abbrev pub reasons : List Why
@@ -51,12 +51,12 @@ first_that test [] = None
 first_that test (w ∷ ws) = if test w then Some w else first_that test ws
 
 -- Line k is the first with something wrong, and this is the least of what is wrong there.
-abbrev pub IsFirstWrong : ℕ → Look → ℕ → List (List ℕ) → AsmError → Type 0
-IsFirstWrong k before n [] e = ⊥
-IsFirstWrong k before n (line ∷ lines) e =
-    ((e.line ≡ k) × (first_that (holds before n (tokens line)) reasons ≡ Some e.why)) ⊎
-    ((first_that (holds before n (tokens line)) reasons ≡ None) × IsFirstWrong (k + 1) (with_label before (label_of (tokens line)) n) (n + slots_in (tokens line)) lines e)
+abbrev pub IsFirstWrongLine : ℕ → Look → ℕ → List (List ℕ) → AsmError → Type 0
+IsFirstWrongLine k before n [] e = ⊥
+IsFirstWrongLine k before n (line ∷ lines) e =
+    ((e.line ≡ k) × (first_that (reason_holds before n (tokens line)) reasons ≡ Some e.why)) ⊎
+    ((first_that (reason_holds before n (tokens line)) reasons ≡ None) × IsFirstWrongLine (k + 1) (with_label before (label_of (tokens line)) n) (n + slots_in (tokens line)) lines e)
 
 -- The first pass refuses the first wrong line, for the least reason.
 abbrev pub LeastFirst : Type 0
-LeastFirst = (text : List ℕ) (e : AsmError) → (outlined 1 nowhere 0 (lines text) ≡ Err e) ↔ IsFirstWrong 1 nowhere 0 (lines text) e
+LeastFirst = (text : List ℕ) (e : AsmError) → (outlined 1 nowhere 0 (lines text) ≡ Err e) ↔ IsFirstWrongLine 1 nowhere 0 (lines text) e

@@ -3,13 +3,13 @@ use Rattle.std.specs.Prelude.{◌≡◌, ◌≤◌, ℕ, List, map, Ok}
 use Rattle.std.specs.Str.Lines.{lines}
 use Rattle.asm_text.specs.Tokens.{tokens}
 use Rattle.isa_table.specs.declared.instr.Instr.{Instr}
-use Rattle.asm_table.specs.Canonical.{FitsParts, AllFitParts, slot_count, text_of, line_text}
+use Rattle.asm_table.specs.Canonical.{FitsParts, AllFitParts, parts_slot_count, text_of, line_text}
 use Rattle.assembler.specs.Passes.{meaning}
 use Rattle.assembler.specs.Spelling.{Spells}
 
 -- The canonical text of instructions spells them, and since a text has one meaning, no others.
 abbrev pub CanonicalSpells : Type 0
-CanonicalSpells = (code : List Instr) → AllFitParts code → slot_count code ≤ 4096 → meaning (text_of code) ≡ Ok code
+CanonicalSpells = (code : List Instr) → AllFitParts code → parts_slot_count code ≤ 4096 → meaning (text_of code) ≡ Ok code
 
 -- Instructions with one canonical spelling are equal.
 abbrev pub OneSpelling : Type 0

@@ -59,9 +59,9 @@ with_said (Ok None) k r = r
 with_said (Ok (Some i)) k r = onto (λ is. i ∷ is) r
 with_said (Err w) k r = Err (refused k w)
 
-abbrev pub kept : Option Instr → List Instr → List Instr
-kept None code = code
-kept (Some i) code = code ++ i ∷ []
+abbrev pub with_instr : Option Instr → List Instr → List Instr
+with_instr None code = code
+with_instr (Some i) code = code ++ i ∷ []
 
 abbrev pub assembled : ℕ → Look → ℕ → List (List ℕ) → Result (List Instr) AsmError
 assembled k look n [] = Ok []

@@ -4,7 +4,7 @@ ghost use Rattle.std.specs.Str.Lines.{lines};
 ghost use Rattle.asm_text.specs.Tokens.{tokens};
 ghost use Rattle.asm_grammar.specs.Views.{look_in, label_seen, AllBelow};
 ghost use Rattle.asm_grammar.specs.Reading.{line_says};
-ghost use Rattle.assembler.specs.Passes.{wrong, refused, with_label, kept, nowhere, outlined, assembled, meaning, Gives};
+ghost use Rattle.assembler.specs.Passes.{wrong, refused, with_label, with_instr, nowhere, outlined, assembled, meaning, Gives};
 
 use crate::error::AsmError;
 use crate::lines::next_line;
@@ -82,7 +82,7 @@ fn outline_all<'a>(alloc: Global, text: &'a [u8]) -> Result<Labels<'a>, AsmError
 
 /// Adds the instruction of a line, if it has one.
 fn keep(code: &mut Vec<Instr>, said: Option<Instr>) -> Result<(), AsmError>
-    ensures kept { OnOk result (code.new.items ≡ kept said code.old.items) }
+    ensures kept { OnOk result (code.new.items ≡ with_instr said code.old.items) }
     ensures memory { IfErr result (λ e. e ≡ refused 0 Why.Memory) }
 {
     match said {

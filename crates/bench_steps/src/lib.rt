@@ -2,7 +2,7 @@
 #![tactic(auto)]
 
 ghost use Rattle.std.specs.Prelude.{◌≡◌, ◌≤◌};
-ghost use Rattle.bench_steps.specs.Reached.{Reaches, IsEnd};
+ghost use Rattle.bench_steps.specs.Reached.{RunsTo, IsEnd};
 
 use far_store::OwnStore;
 use isa_table::Size;
@@ -30,7 +30,7 @@ const LOAD: Op = Op {
 fn run_to_end<M: Memory>(machine: &mut Machine, memory: &mut M) -> (Stepped, u64)
     requires ready { M.is_ready memory.old }
     ensures ready { M.is_ready memory.new }
-    ensures steps { Reaches M.acts machine.old memory.old machine.new memory.new }
+    ensures steps { RunsTo M.acts machine.old memory.old machine.new memory.new }
     ensures end { IsEnd result.0 }
 {
     let mut steps = 0u64;

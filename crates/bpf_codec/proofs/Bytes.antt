@@ -8,9 +8,9 @@ use Rattle.isa_table.specs.Words.{low_bytes}
 use Rattle.isa_table.specs.declared.instr.Instr.{Instr}
 use Rattle.bpf_codec.specs.declared.slot.Slot.{Slot}
 use Rattle.bpf_codec.specs.Slots.{layout, first, fields, slot_bytes, second, Begins}
-use Rattle.bpf_codec.specs.Faults.{is_whole, has_second, has_reserved_bits}
+use Rattle.bpf_codec.specs.Faults.{has_first, has_second, has_reserved_bits}
 use Rattle.bpf_codec.specs.Decoding.{reserved_are_zero}
-use Rattle.bpf_codec.proofs.Lists.{and_true}
+use Rattle.isa_table.proofs.Listed.{and_true}
 use Rattle.bpf_codec.proofs.Fields.{small_below, offset_below, imm_below}
 use Rattle.bpf_codec.proofs.Rows.{IsPlaced}
 use Rattle.bpf_codec.proofs.Built.{InRange}
@@ -80,8 +80,8 @@ in_range xs bytes = record { opcode = bytes 0; offset = omega (arith, bytes 2, b
 
 -- ---- the second slot
 
-pub whole_is : (xs : List ℕ) → is_whole xs ≡ not (nat_lt (length xs) 8)
-unfolding is_whole
+pub whole_is : (xs : List ℕ) → has_first xs ≡ not (nat_lt (length xs) 8)
+unfolding has_first
 whole_is xs = grind (arith, nat_tests)
 
 pub second_there : (xs : List ℕ) → has_second xs ≡ not (nat_lt (length (drop 8 xs)) 8)

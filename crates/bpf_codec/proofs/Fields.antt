@@ -8,12 +8,11 @@ use Rattle.std.proofs.lemmas.Int.{ints}
 use Rattle.std.proofs.lemmas.Bool.{eqb-true}
 use Rattle.std.proofs.lemmas.Bool.Decides.{nat_tests}
 use Rattle.isa_table.specs.Words.{wrapped}
-use Rattle.isa_table.specs.Registers.{register_number}
+use Rattle.isa_table.specs.Registers.{all_registers, register_number}
 use Rattle.isa_table.specs.declared.instr.Reg.{Reg}
 use Rattle.isa_table.specs.declared.instr.Reg.TheVariants.{R0}
 use Rattle.bpf_codec.specs.declared.layout.Field.{Field}
 use Rattle.bpf_codec.specs.declared.layout.Field.TheVariants.{Register, Offset, Imm, Wide, Only}
-use Rattle.bpf_codec.specs.declared.building.TheConstants.{REGISTERS}
 use Rattle.bpf_codec.specs.Slots.{number_in, FitsField}
 use Rattle.bpf_codec.specs.Faults.{is_register, may_hold}
 use Rattle.bpf_codec.specs.Decoding.{register}
@@ -31,7 +30,7 @@ named n r = register_number r == n
 
 pub register_named : (n : ℕ) → nat_lt n 11 ≡ true → register_number (register n) ≡ n
 unfolding register named
-register_named n h = let e : 0 + n ≡ n = omega arith in rw e at (eqb-true _ _ (at_place named 0 REGISTERS refl n R0 (grind (arith, nat_tests, h))))
+register_named n h = let e : 0 + n ≡ n = omega arith in rw e at (eqb-true _ _ (at_place named 0 all_registers refl n R0 (grind (arith, nat_tests, h))))
 
 register_below : (r : Reg) → register_number r < 11
 register_below R0 = omega arith

@@ -8,7 +8,7 @@ use Rattle.bpf_codec.specs.declared.fault.Fault.{Fault}
 use Rattle.bpf_codec.specs.declared.fault.Fault.TheVariants as fault
 use Rattle.bpf_codec.specs.declared.slot.Slot.{Slot}
 use Rattle.bpf_codec.specs.Slots.{layout, first, fields, slot_bytes, second, Fits, Begins}
-use Rattle.bpf_codec.specs.Faults.{fault_number, has_registers_of, is_of, some_row, is_row, is_of_platform, is_packet, opcode, is_whole, is_wide, has_second, has_reserved_bits, has_fault, IsLeastFault}
+use Rattle.bpf_codec.specs.Faults.{fault_number, has_registers_of, is_of, some_row, is_row, is_of_platform, is_packet, opcode, has_first, is_wide, has_second, has_reserved_bits, has_fault, IsLeastFault}
 use Rattle.bpf_codec.specs.Decoding.{◌>>=◌, rows_of, row_for, have_registers, is_platform, checked_as, checked, reserved_are_zero, next_imm, operands, built, built_as, decoded_as, decoded}
 use Rattle.bpf_codec.proofs.Lists.{Has}
 use Rattle.bpf_codec.proofs.Fields.{is_wide_imm}
@@ -27,8 +27,8 @@ below_first : (xs : List ℕ) → Below xs 1
 below_first xs fault.Opcode h = absurd (omega (arith, h))
 below_first xs _ h = absurd (omega (arith, h))
 
-fault_of : ℕ → Fault
-fault_of n =
+pub fault_numbered : ℕ → Fault
+fault_numbered n =
     cond (n == 1) fault.Opcode
     (cond (n == 2) fault.Register
     (cond (n == 3) fault.Field
@@ -36,8 +36,8 @@ fault_of n =
     (cond (n == 5) fault.Packet
     (cond (n == 6) fault.Platform fault.Short)))))
 
-fault_back : (f : Fault) → fault_of (fault_number f) ≡ f
-unfolding fault_of
+pub fault_back : (f : Fault) → fault_numbered (fault_number f) ≡ f
+unfolding fault_numbered
 fault_back fault.Opcode = refl
 fault_back _ = refl
 
@@ -49,7 +49,7 @@ next xs f b a g h = go (cases_lt (fault_number g) (fault_number f))
     go (inl k) = b g k
     go (inr k) =
         let e : fault_number g ≡ fault_number f = omega (arith, h, k) in
-        let s : g ≡ f = sym (fault_back g) ∙ ap fault_of e ∙ fault_back f in
+        let s : g ≡ f = sym (fault_back g) ∙ ap fault_numbered e ∙ fault_back f in
         rw s a
 
 least : (xs : List ℕ) (f : Fault) → Below xs (fault_number f) → has_fault f xs ≡ true → IsLeastFault f xs
@@ -66,7 +66,7 @@ and_false : (a : Bool) → (a && false) ≡ false
 and_false true = refl
 and_false false = refl
 
-short_outcome : (xs : List ℕ) → is_whole xs ≡ false → IsLeastFault fault.Short xs
+short_outcome : (xs : List ℕ) → has_first xs ≡ false → IsLeastFault fault.Short xs
 unfolding IsLeastFault has_fault
 short_outcome xs w = (rw w refl, go)
   where
@@ -88,11 +88,11 @@ not_wide xs r = go (opcode xs == 0x18) refl
     go false e = e
     go true e = absurd (let s : opcode xs ≡ 0x18 = grind (arith, nat_tests, e) in let k : is_row (opcode xs) ≡ true = rw s wide_row in cc)
 
-opcode_outcome : (xs : List ℕ) → is_whole xs ≡ true → is_row (opcode xs) ≡ false → is_packet (opcode xs) ≡ false → IsLeastFault fault.Opcode xs
+opcode_outcome : (xs : List ℕ) → has_first xs ≡ true → is_row (opcode xs) ≡ false → is_packet (opcode xs) ≡ false → IsLeastFault fault.Opcode xs
 unfolding has_fault
 opcode_outcome xs w r p = least xs fault.Opcode (below_first xs) (rw (w, r, p) refl)
 
-packet_outcome : (xs : List ℕ) → is_whole xs ≡ true → is_row (opcode xs) ≡ false → is_packet (opcode xs) ≡ true → IsLeastFault fault.Packet xs
+packet_outcome : (xs : List ℕ) → has_first xs ≡ true → is_row (opcode xs) ≡ false → is_packet (opcode xs) ≡ true → IsLeastFault fault.Packet xs
 unfolding has_fault
 packet_outcome xs w r p =
     let o = next xs fault.Opcode (below_first xs) (rw (w, r, p) refl) in
@@ -105,7 +105,7 @@ packet_outcome xs w r p =
 
 -- the first slot is there, its opcode is in the table
 record IsTableSlot (xs : List ℕ) : Type 0 where
-  whole : is_whole xs ≡ true
+  whole : has_first xs ≡ true
   row : is_row (opcode xs) ≡ true
   packet : is_packet (opcode xs) ≡ false
 
@@ -259,7 +259,7 @@ by_row xs None true q b l t e f h =
 by_row xs None false true b l t e f h = field_outcome xs t (sym (registers_of_table (fields xs)) ∙ h) (none_of_table (fields xs) e) (sym (platform_is (fields xs)) ∙ f)
 by_row xs None false false b l t e f h = register_outcome xs t (sym (registers_of_table (fields xs)) ∙ h)
 
-by_rows : (xs : List ℕ) (rows : List Instr) → IsBytes xs → is_whole xs ≡ true → 8 ≤ length xs → rows_of (opcode xs) ≡ rows → Outcome xs (decoded_as rows xs)
+by_rows : (xs : List ℕ) (rows : List Instr) → IsBytes xs → has_first xs ≡ true → 8 ≤ length xs → rows_of (opcode xs) ≡ rows → Outcome xs (decoded_as rows xs)
 unfolding checked
 by_rows xs [] b w l e = go (is_packet (opcode xs)) refl
   where

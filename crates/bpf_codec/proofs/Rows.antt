@@ -9,6 +9,7 @@ use Rattle.isa_table.proofs.Listed.{rows_complete}
 use Rattle.isa_table.specs.declared.instr.Instr.{Instr}
 use Rattle.isa_table.specs.declared.instr.Instr.TheVariants.{Alu, Jump, Store}
 use Rattle.isa_table.specs.declared.instr.Operand.TheVariants as operand
+use Rattle.isa_table.proofs.Listed.{and_true}
 use Rattle.bpf_codec.specs.declared.layout.Field.{Field}
 use Rattle.bpf_codec.specs.declared.layout.Field.TheVariants.{Register, Only}
 use Rattle.bpf_codec.specs.declared.layout.Layout.{Layout}
@@ -16,7 +17,7 @@ use Rattle.bpf_codec.specs.declared.slot.Slot.{Slot}
 use Rattle.bpf_codec.specs.Slots.{row, layout, first}
 use Rattle.bpf_codec.specs.Faults.{is_register, may_hold, has_registers_of, is_of, some_row, is_row, platform_layouts, is_of_platform, is_packet}
 use Rattle.bpf_codec.specs.Decoding.{rows_of, row_for, have_registers}
-use Rattle.bpf_codec.proofs.Lists.{and_true, both, Has, has_contained, passes, has_filtered, filtered, any_filtered, any_has, any_found, found, not_found, some_found}
+use Rattle.bpf_codec.proofs.Lists.{both, Has, has_contained, passes, has_filtered, filtered, any_filtered, any_has, any_found, found, not_found, some_found}
 use Rattle.bpf_codec.proofs.Fields.{kind, kind_may_hold, holds_own, holds_register, is_small, is_offset, is_imm, is_wide_imm, kind_small, kind_offset, kind_imm, kind_wide}
 
 -- ---- an instruction's row

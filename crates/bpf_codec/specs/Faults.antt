@@ -82,8 +82,8 @@ abbrev pub opcode : List ℕ → ℕ
 opcode xs = (fields xs).opcode
 
 -- the first eight bytes are there
-unfoldable pub is_whole : List ℕ → Bool
-is_whole xs = nat_le 8 (length xs)
+unfoldable pub has_first : List ℕ → Bool
+has_first xs = nat_le 8 (length xs)
 
 -- the opcode of the wide encoding, which has a second slot (section 3.2)
 unfoldable pub is_wide : List ℕ → Bool
@@ -107,15 +107,15 @@ has_reserved_bits xs = not ((slice_index xs 8 == 0) && (slice_index xs 9 == 0) &
 -- Platform: only a platform defines the slot.
 -- Short: fewer than eight bytes are left. Of these nothing else is said.
 unfoldable pub has_fault : Fault → List ℕ → Bool
-has_fault fault.Opcode xs = is_whole xs && not (is_row (opcode xs)) && not (is_packet (opcode xs))
-has_fault fault.Register xs = is_whole xs && is_row (opcode xs) && not (some_row (has_registers_of (fields xs)))
-has_fault fault.Field xs = is_whole xs && is_row (opcode xs) && (
+has_fault fault.Opcode xs = has_first xs && not (is_row (opcode xs)) && not (is_packet (opcode xs))
+has_fault fault.Register xs = has_first xs && is_row (opcode xs) && not (some_row (has_registers_of (fields xs)))
+has_fault fault.Field xs = has_first xs && is_row (opcode xs) && (
     (not (some_row (is_of (fields xs))) && not (is_of_platform (fields xs))) ||
     (is_wide xs && has_second xs && has_reserved_bits xs))
-has_fault fault.HalfWide xs = is_whole xs && is_wide xs && not (has_second xs)
-has_fault fault.Packet xs = is_whole xs && is_packet (opcode xs)
-has_fault fault.Platform xs = is_whole xs && is_of_platform (fields xs)
-has_fault fault.Short xs = not (is_whole xs)
+has_fault fault.HalfWide xs = has_first xs && is_wide xs && not (has_second xs)
+has_fault fault.Packet xs = has_first xs && is_packet (opcode xs)
+has_fault fault.Platform xs = has_first xs && is_of_platform (fields xs)
+has_fault fault.Short xs = not (has_first xs)
 
 -- The bytes at a slot have the fault, and none of a lesser number.
 unfoldable pub IsLeastFault : Fault → List ℕ → Type 0

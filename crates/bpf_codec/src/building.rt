@@ -1,30 +1,9 @@
 //! Puts what a slot holds into the instruction of a row.
 ghost use Rattle.std.specs.Prelude.{◌≡◌};
 ghost use Rattle.bpf_codec.specs.Decoding.{register, operands, built_operand, built};
-ghost use Rattle.bpf_codec.specs.declared.building.TheConstants.{REGISTERS};
 
 use crate::slot::Slot;
-use isa_table::{Instr, Operand, Reg};
-
-const REGISTERS: [Reg; 11] = [
-    Reg::R0,
-    Reg::R1,
-    Reg::R2,
-    Reg::R3,
-    Reg::R4,
-    Reg::R5,
-    Reg::R6,
-    Reg::R7,
-    Reg::R8,
-    Reg::R9,
-    Reg::R10,
-];
-
-fn registers() -> &'static [Reg]
-    ensures { result.now ≡ REGISTERS }
-{
-    &REGISTERS
-}
+use isa_table::{Instr, Operand, Reg, registers};
 
 /// The register of the number, or R0 where there is none.
 #[tactic(auto, unfolding(crate::specs::Decoding::register))]

@@ -19,7 +19,7 @@ use Rattle.world.specs.Commands.Command.{Make, Free, Put, Get, Ship, Leave, Left
 use Rattle.world.specs.declared.events.Event.{Event}
 use Rattle.console.specs.Tokens.{tokens_of, within, IsWithin, AreBytes}
 use Rattle.console.specs.Replies.{IsShort}
-use Rattle.console.specs.Commands.{Reads, Says, SaysOfKind, Spells, kind_named, number_limits, most_bytes, command_with, range_limit, CarriesBytes}
+use Rattle.console.specs.Commands.{Reads, Says, SaysOfKind, SpellsCommand, kind_named, number_limits, most_bytes, command_with, range_limit, CarriesBytes}
 use Rattle.console.specs.declared.fault.LineFault.{LineFault}
 use Rattle.console.specs.declared.fault.LineFault.TheVariants.{Bad, NoMemory}
 use Rattle.console.specs.declared.kind.Kind.{Kind}
@@ -72,7 +72,7 @@ said_short (name ∷ tokens) command s =
     let t = s.2 in
     subst AsksShort (sym t.is_command) (kind_asks_short s.0 t.numbers t.bytes (numbers_within (number_limits s.0) tokens t.numbers t.left t.numbers_first))
 
-pub asks_short : (line : List ℕ) (command : Command) → Spells line command → AsksShort command
+pub asks_short : (line : List ℕ) (command : Command) → SpellsCommand line command → AsksShort command
 asks_short line command s = said_short (tokens_of line) command s.1
 
 -- ---- replies

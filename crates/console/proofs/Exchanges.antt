@@ -8,7 +8,7 @@ use Rattle.std.proofs.KnownBytes.{Appends-nil, Appends-trans}
 use Rattle.std.specs.Io.KnownBytes.{Appends}
 use Rattle.world.proofs.Joined.{Runs-append}
 use Rattle.console.specs.Lines.{IsLine, ended}
-use Rattle.console.specs.Held.{Held, clip, nothing_held, bytes_so_far, Feeds}
+use Rattle.console.specs.Held.{Held, clip, nothing_held, bytes_so_far, TakesBytes}
 use Rattle.console.specs.Conversations.{Protocol, IsTurn, turn_line, turn_text, turn_commands, turn_replies, heard_of, written_of, Answered, Exchange, AnswersSoFar, FailsInReply}
 use Rattle.console.proofs.Clips.{clip-append}
 
@@ -167,7 +167,7 @@ record Fed (rest taken : List ℕ) (held : Held) : Type 0 where
 take_through_end : (piece more : List ℕ) (n : ℕ) → n ≡ length piece + 1 → take n (piece ++ 10 ∷ more) ≡ piece ++ 10 ∷ []
 take_through_end piece more n e = rw e (take-append-add piece (10 ∷ more) 1)
 
-fed : (old rest bytes : List ℕ) (n : ℕ) (h : Held) → IsLine rest → old ≡ clip rest → Feeds old bytes n h → Fed rest (take n bytes) h
+fed : (old rest bytes : List ℕ) (n : ℕ) (h : Held) → IsLine rest → old ≡ clip rest → TakesBytes old bytes n h → Fed rest (take n bytes) h
 fed old rest bytes n h l e (inl f) = record {
   line = rest ++ bytes;
   is_line = All-append (λ b. b ≢ 10) rest bytes l f.0;
@@ -183,13 +183,13 @@ fed old rest bytes n h l e (inr f) = record {
 
 -- bytes are taken, and the line that then waits, if one does, is answered
 module _ (p : Protocol) (a b c : p.State) (i bytes : List ℕ) (u v w : Option (List ℕ)) (h k : Held) (n : ℕ) where
-  pub answers_fed : (new : Held) → AnswersSoFar p a i u v b h → Feeds h.line bytes n k
+  pub answers_fed : (new : Held) → AnswersSoFar p a i u v b h → TakesBytes h.line bytes n k
       → ((line : List ℕ) → IsLine line → k.line ≡ clip line → AnswersSoFar p b (bytes_so_far line k.waits) v w c new) → AnswersSoFar p a (i ++ take n bytes) u w c new
   answers_fed new x f answer =
       let l = fed h.line x.rest bytes n k x.is_open (ap (λ (y : Held). y.line) x.holds) f in
       answers_join p a b c i (take n bytes) u v w h new x (subst (λ j. AnswersSoFar p b j v w c new) (sym l.bytes) (answer l.line l.is_line l.clipped))
 
-  pub fails_fed : AnswersSoFar p a i u v b h → Feeds h.line bytes n k → ((line : List ℕ) → IsLine line → k.line ≡ clip line → FailsInReply p [] b (bytes_so_far line k.waits) v w c)
+  pub fails_fed : AnswersSoFar p a i u v b h → TakesBytes h.line bytes n k → ((line : List ℕ) → IsLine line → k.line ≡ clip line → FailsInReply p [] b (bytes_so_far line k.waits) v w c)
       → FailsInReply p [] a (i ++ take n bytes) u w c
   fails_fed x f answer =
       let l = fed h.line x.rest bytes n k x.is_open (ap (λ (y : Held). y.line) x.holds) f in

@@ -148,12 +148,12 @@ Says [] command = ⊥
 Says (name ∷ tokens) command = (kind : Kind) × (kind_named name ≡ Some kind) × SaysOfKind kind tokens command
 
 -- The line spells the command.
-abbrev pub Spells : List ℕ → Command → Type 0
-Spells line command = (length line ≤ line_limit) × Says (tokens_of line) command
+abbrev pub SpellsCommand : List ℕ → Command → Type 0
+SpellsCommand line command = (length line ≤ line_limit) × Says (tokens_of line) command
 
 -- The line spells no command.
 abbrev pub SpellsNone : List ℕ → Type 0
-SpellsNone line = (command : Command) → Spells line command → ⊥
+SpellsNone line = (command : Command) → SpellsCommand line command → ⊥
 
 -- the commands that carry bytes: reading them may be out of memory
 abbrev pub CarriesBytes : Command → Type 0

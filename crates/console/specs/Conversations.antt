@@ -4,7 +4,7 @@ use Rattle.std.specs.Io.KnownBytes.{Appends}
 use Rattle.world.specs.Commands.{Command}
 use Rattle.world.specs.Run.{Runs}
 use Rattle.console.specs.Lines.{IsLine, ended, bad_text, nomem_text, cut_of}
-use Rattle.console.specs.Commands.{Spells, SpellsNone, CarriesBytes}
+use Rattle.console.specs.Commands.{SpellsCommand, SpellsNone, CarriesBytes}
 use Rattle.console.specs.Held.{Held, open_line}
 
 -- Who answers the commands: the states, the replies with their texts, and which reply a command may have in a state, with the state that follows.
@@ -46,8 +46,8 @@ turn_replies p (Bad line) = []
 
 -- the line is a line, and spells what the turn says
 abbrev pub IsTurn : (p : Protocol) → Turn p → Type 0
-IsTurn p (Done line command reply) = IsLine line × Spells line command
-IsTurn p (Unread line) = IsLine line × ((command : Command) × Spells line command × CarriesBytes command)
+IsTurn p (Done line command reply) = IsLine line × SpellsCommand line command
+IsTurn p (Unread line) = IsLine line × ((command : Command) × SpellsCommand line command × CarriesBytes command)
 IsTurn p (Bad line) = IsLine line × SpellsNone line
 
 -- the lines, each with its end

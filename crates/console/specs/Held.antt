@@ -33,7 +33,7 @@ abbrev pub held_bytes : Held → List ℕ
 held_bytes held = bytes_so_far held.line held.waits
 
 -- a console whose line was as old has taken n of these bytes: all of them, or those up to and with the first LF
-abbrev pub Feeds : List ℕ → List ℕ → ℕ → Held → Type 0
-Feeds line bytes n new =
+abbrev pub TakesBytes : List ℕ → List ℕ → ℕ → Held → Type 0
+TakesBytes line bytes n new =
     (IsLine bytes × (n ≡ length bytes) × (new ≡ open_line (line ++ bytes)))
     ⊎ ((piece more : List ℕ) × (bytes ≡ piece ++ 10 ∷ more) × IsLine piece × (n ≡ length piece + 1) × (new ≡ whole_line (line ++ piece)))

@@ -3,7 +3,7 @@ ghost use Rattle.std.specs.Prelude.{◌≡◌, ◌<◌, ◌^◌, ℕ, List, leng
 ghost use Rattle.hex.specs.Hex.{decode_of};
 ghost use Rattle.world.specs.Commands.{command_of};
 ghost use Rattle.console.specs.Tokens.{tokens_left, within, IsWithin};
-ghost use Rattle.console.specs.Commands.{Reads, Says, SaysOfKind, Spells, command_with, number_limits};
+ghost use Rattle.console.specs.Commands.{Reads, Says, SaysOfKind, SpellsCommand, command_with, number_limits};
 
 use crate::fault::LineFault;
 use crate::kind::{Kind, NUMBERS};
@@ -16,7 +16,7 @@ pub const LINE_LIMIT: usize = 70_000;
 
 /// What a line says.
 pub fn read_line(alloc: Global, line: &[u8]) -> Result<Event, LineFault>
-    ensures { Reads (Spells line.now) result }
+    ensures { Reads (SpellsCommand line.now) result }
 {
     if line.len() > LINE_LIMIT {
         return Err(LineFault::Bad);

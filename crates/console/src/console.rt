@@ -1,8 +1,8 @@
 //! Bytes in, commands out.
 ghost use Rattle.std.specs.Prelude.{◌≡◌, ◌++◌, ◌<◌, ◌≤◌, length, IfSome, IfNone, IfOk, IsTrue, IsFalse, ◌↔◌};
 ghost use Rattle.console.specs.Lines.{IsLine};
-ghost use Rattle.console.specs.Commands.{Reads, Spells};
-ghost use Rattle.console.specs.Held.{Held, nothing_held, Feeds, clip};
+ghost use Rattle.console.specs.Commands.{Reads, SpellsCommand};
+ghost use Rattle.console.specs.Held.{Held, nothing_held, TakesBytes, clip};
 
 use crate::commands::{LINE_LIMIT, read_line};
 use crate::fault::LineFault;
@@ -48,7 +48,7 @@ impl Console {
         ensures waits { IsTrue self.old.waits → (result ≡ 0) × (self.new ≡ self.old) }
         ensures count { result ≤ length bytes.now }
         ensures progress { IsFalse self.old.waits → 0 < length bytes.now → 0 < result }
-        ensures feeds { IsFalse self.old.waits → Feeds self.old.line bytes.now result self.new }
+        ensures feeds { IsFalse self.old.waits → TakesBytes self.old.line bytes.now result self.new }
     {
         if self.waits {
             return 0;
@@ -79,7 +79,7 @@ impl Console {
 
     /// What the line that waits says, if one does. It waits no more.
     pub fn next_command(&mut self) -> Option<Result<Event, LineFault>>
-        ensures some { IfSome result (λ command. IsTrue self.old.waits × Reads (Spells self.old.line) command × (self.new ≡ nothing_held)) }
+        ensures some { IfSome result (λ command. IsTrue self.old.waits × Reads (SpellsCommand self.old.line) command × (self.new ≡ nothing_held)) }
         ensures none { IfNone result (IsFalse self.old.waits × (self.new ≡ self.old)) }
         ensures line { IsLine self.old.line × (clip self.old.line ≡ self.old.line) }
     {

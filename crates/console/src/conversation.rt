@@ -2,7 +2,7 @@
 ghost use Rattle.std.specs.Prelude.{◌≡◌, ◌++◌, ◌<◌, ◌≤◌, ℕ, List, [], length, IfSome, OnOk, OnErr, IsFalse};
 ghost use Rattle.std.specs.Result.{IsErrOf};
 ghost use Rattle.console.specs.Lines.{IsLine};
-ghost use Rattle.console.specs.Commands.{Reads, Spells};
+ghost use Rattle.console.specs.Commands.{Reads, SpellsCommand};
 ghost use Rattle.console.specs.Held.{bytes_so_far, clip, held_bytes, nothing_held};
 ghost use Rattle.console.specs.Conversations.{Answered, AnswersSoFar, AnswersAll, FailsInReply, StopsReading, StopsWriting};
 ghost use Rattle.console.specs.Agent.{agent};
@@ -24,8 +24,8 @@ fn perform<F: FarStore>(
     command: Result<Event, LineFault>,
     reply: &mut ReplyLine,
 )
-    requires { (line : List ℕ) × Reads (Spells line) command }
-    ensures { (line : List ℕ) → IsLine line → Reads (Spells line) command → Answered agent world.old line reply.new.items world.new }
+    requires { (line : List ℕ) × Reads (SpellsCommand line) command }
+    ensures { (line : List ℕ) → IsLine line → Reads (SpellsCommand line) command → Answered agent world.old line reply.new.items world.new }
 {
     match command {
         Ok(event) => print_reply(&world.apply(event), reply),

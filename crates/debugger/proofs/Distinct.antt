@@ -4,14 +4,14 @@ use Rattle.std.specs.List.{list_any, filter}
 use Rattle.std.proofs.lemmas.List.Folds.{list_any-append}
 use Rattle.std.proofs.lemmas.Bool.Decides.{nat_tests}
 use Rattle.debugger.specs.declared.watch.Watch.{Watch}
-use Rattle.debugger.specs.DebugState.{AreDistinct, is_same_watch}
+use Rattle.debugger.specs.DebugState.{AreDistinctBy, is_same_watch}
 
 pub neither : (a b : Bool) → (a || b) ≡ false → (a ≡ false) × (b ≡ false)
 neither true b h = absurd (cc)
 neither false b h = (refl, h)
 
 pub distinct_push : {X : Type 0} (same : X → X → Bool) (turn : (x y : X) → same x y ≡ same y x) (xs ys : List X) (n : X)
-    → AreDistinct same xs → list_any (same n) xs ≡ false → ys ≡ xs ++ n ∷ [] → AreDistinct same ys
+    → AreDistinctBy same xs → list_any (same n) xs ≡ false → ys ≡ xs ++ n ∷ [] → AreDistinctBy same ys
 distinct_push same turn [] ys n d h e = rw e (refl, tt)
 distinct_push same turn (x ∷ xs) ys n d h e =
     let g = neither (same n x) (list_any (same n) xs) h in
@@ -28,11 +28,11 @@ kept_out p q (x ∷ xs) h =
     by_test false one rest = rest
 
 pub distinct_filter : {X : Type 0} (same : X → X → Bool) (q : X → Bool) (xs ys : List X)
-    → AreDistinct same xs → ys ≡ filter q xs → AreDistinct same ys
+    → AreDistinctBy same xs → ys ≡ filter q xs → AreDistinctBy same ys
 distinct_filter same q [] ys d e = rw e tt
 distinct_filter same q (x ∷ xs) ys d e = rw e (by_test (q x) (kept_out (same x) q xs d.0) (distinct_filter same q xs (filter q xs) d.1 refl))
   where
-    by_test : (b : Bool) → list_any (same x) (filter q xs) ≡ false → AreDistinct same (filter q xs) → AreDistinct same (cond b (x ∷ filter q xs) (filter q xs))
+    by_test : (b : Bool) → list_any (same x) (filter q xs) ≡ false → AreDistinctBy same (filter q xs) → AreDistinctBy same (cond b (x ∷ filter q xs) (filter q xs))
     by_test true one rest = (one, rest)
     by_test false one rest = rest
 

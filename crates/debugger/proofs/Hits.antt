@@ -10,11 +10,11 @@ use Rattle.memory.specs.declared.access.Action.TheVariants.{Atomic}
 use Rattle.memory.specs.Access.{writes}
 use Rattle.machine.specs.declared.state.Written.{Written}
 use Rattle.debugger.specs.declared.watch.Watch.{Watch}
-use Rattle.debugger.specs.DebugState.{DebugState, reaches, hits}
+use Rattle.debugger.specs.DebugState.{DebugState, overlaps, hits}
 use Rattle.debugger.specs.Laws.{SharesByte}
 use Rattle.debugger.specs.Laws as laws
 
-both : (a b : Bool) → (a && b) ≡ true → (a ≡ true) × (b ≡ true)
+pub both : (a b : Bool) → (a && b) ≡ true → (a ≡ true) × (b ≡ true)
 both true b h = (refl, h)
 both false b h = absurd (cc)
 
@@ -24,7 +24,7 @@ below a b h = grind (arith, nat_tests)
 is_below : (a b : ℕ) → a < b → nat_lt a b ≡ true
 is_below a b h = grind (arith, nat_tests)
 
-shares : (w : Written) (r : Watch) → reaches w r ≡ true → SharesByte w r
+shares : (w : Written) (r : Watch) → overlaps w r ≡ true → SharesByte w r
 shares w r h =
     let p = both (nat_eq w.number r.number) (nat_lt (max w.offset r.offset) (min (w.offset + size_bytes w.size) (r.offset + r.length))) h in
     let lt : max w.offset r.offset < min (w.offset + size_bytes w.size) (r.offset + r.length) = below _ _ p.1 in (
@@ -34,14 +34,14 @@ shares w r h =
       record { number = eqb-true _ _ p.0; from = omega arith; to = omega arith },
     )
 
-reached : (w : Written) (r : Watch) → SharesByte w r → reaches w r ≡ true
+reached : (w : Written) (r : Watch) → SharesByte w r → overlaps w r ≡ true
 reached w r (n, i, byte, here) =
     rw (eq-eqb w.number r.number (cc), is_below (max w.offset r.offset) (min (w.offset + size_bytes w.size) (r.offset + r.length)) (omega arith)) refl
 
 pub hits_share : laws.HitsShareAByte
 hits_share w d = (
-  λ h. let any = Any-from_list_any (reaches w) d.watches h in (any.0, any.1, any.2, any.3, shares w any.1 any.4),
-  λ any. list_any-from_Any (reaches w) d.watches (any.0, any.1, any.2, any.3, reached w any.1 any.4),
+  λ h. let any = Any-from_list_any (overlaps w) d.watches h in (any.0, any.1, any.2, any.3, shares w any.1 any.4),
+  λ any. list_any-from_Any (overlaps w) d.watches (any.0, any.1, any.2, any.3, reached w any.1 any.4),
 )
 
 pub reads : laws.ReadsNeverHit

@@ -8,16 +8,13 @@ use Rattle.debugger.specs.declared.watch.Watch.{Watch}
 use Rattle.debugger.specs.declared.errors.SetBreakError.TheVariants as set_break_error
 use Rattle.debugger.specs.DebugState.{DebugState, has_break, has_watch, is_same_watch}
 use Rattle.debugger.specs.Laws as laws
+use Rattle.debugger.proofs.Hits.{both}
 
 -- ---- tests of two elements
 
 pub or_true : (b : Bool) → (b || true) ≡ true
 or_true true = refl
 or_true false = refl
-
-both : (a b : Bool) → (a && b) ≡ true → (a ≡ true) × (b ≡ true)
-both true b h = (refl, h)
-both false b h = absurd (cc)
 
 itself : (n : ℕ) → nat_eq n n ≡ true
 itself n = grind (arith, nat_tests)

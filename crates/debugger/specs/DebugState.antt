@@ -20,9 +20,9 @@ abbrev pub debug_start : DebugState
 debug_start = record { breakpoints = []; watches = []; paused = false; pass = false }
 
 -- no element is the same as a later one
-abbrev pub AreDistinct : {X : Type 0} → (X → X → Bool) → List X → Type 0
-AreDistinct same [] = Unit {0}
-AreDistinct same (x ∷ xs) = (list_any (same x) xs ≡ false) × AreDistinct same xs
+abbrev pub AreDistinctBy : {X : Type 0} → (X → X → Bool) → List X → Type 0
+AreDistinctBy same [] = Unit {0}
+AreDistinctBy same (x ∷ xs) = (list_any (same x) xs ≡ false) × AreDistinctBy same xs
 
 -- ---- breakpoints
 
@@ -65,10 +65,10 @@ abbrev pub takes_watch : Watch → DebugState → Bool
 takes_watch r d = has_watch r d || nat_lt (length d.watches) watch_limit
 
 -- The bytes written and the range share a byte: both are of one number, and the greater offset is before the lesser end.
-abbrev pub reaches : Written → Watch → Bool
-reaches w r = nat_eq w.number r.number && nat_lt (max w.offset r.offset) (min (w.offset + size_bytes w.size) (r.offset + r.length))
+abbrev pub overlaps : Written → Watch → Bool
+overlaps w r = nat_eq w.number r.number && nat_lt (max w.offset r.offset) (min (w.offset + size_bytes w.size) (r.offset + r.length))
 
 -- a write, if there was one, reaches a watched range
 abbrev pub hits : Option Written → DebugState → Bool
 hits None d = false
-hits (Some w) d = list_any (reaches w) d.watches
+hits (Some w) d = list_any (overlaps w) d.watches

@@ -16,7 +16,7 @@ use Rattle.debugger.specs.declared.errors.SetBreakError.{SetBreakError}
 use Rattle.debugger.specs.declared.watch.Watch.{Watch}
 use Rattle.debugger.specs.DebugState.{DebugState, has_break, has_watch, hits}
 use Rattle.debugger.specs.Changes.{with_break, without_break, SetsBreak, with_watch, without_watch, resumed}
-use Rattle.debugger.specs.Steps.{pauses, before, after_step, debugged_step, debugged_one}
+use Rattle.debugger.specs.Steps.{is_to_pause, before, after_step, debugged_step, debugged_one}
 
 -- ---- breakpoints
 
@@ -90,11 +90,11 @@ PausingStays = (slot : ℕ) (d : DebugState) → before slot (before slot d) ≡
 
 -- A step after `resume` does not pause, whatever is set.
 abbrev pub ResumingGoesOn : Type 0
-ResumingGoesOn = (slot : ℕ) (d : DebugState) → pauses slot (resumed d) ≡ false
+ResumingGoesOn = (slot : ℕ) (d : DebugState) → is_to_pause slot (resumed d) ≡ false
 
 -- After a step that ran the machine pauses at each breakpoint again.
 abbrev pub PassingEnds : Type 0
-PassingEnds = (slot : ℕ) (w : Option Written) (d : DebugState) → has_break slot d ≡ true → pauses slot (after_step w d) ≡ true
+PassingEnds = (slot : ℕ) (w : Option Written) (d : DebugState) → has_break slot d ≡ true → is_to_pause slot (after_step w d) ≡ true
 
 -- A machine that waits changes nothing, by `step` and by `one`.
 abbrev pub WaitingChangesNothing : Type 0
@@ -112,4 +112,4 @@ OnesPause = (w : Option Written) (d : DebugState) → debugged_one (Ran w) d ≡
 -- Where nothing is set, a machine that is not paused never pauses, and no write hits.
 abbrev pub NothingSetNothingPauses : Type 0
 NothingSetNothingPauses = (slot : ℕ) (w : Option Written) (d : DebugState)
-    → d.breakpoints ≡ [] → d.watches ≡ [] → d.paused ≡ false → (pauses slot d ≡ false) × (hits w d ≡ false)
+    → d.breakpoints ≡ [] → d.watches ≡ [] → d.paused ≡ false → (is_to_pause slot d ≡ false) × (hits w d ≡ false)

@@ -8,12 +8,12 @@ use Rattle.debugger.specs.DebugState.{DebugState, has_break, hits}
 
 -- A `step` of a machine at this slot pauses in place of running: the machine is paused already, or a breakpoint is set at
 -- the slot and is not to be passed.
-abbrev pub pauses : ℕ → DebugState → Bool
-pauses slot d = d.paused || (not d.pass && has_break slot d)
+abbrev pub is_to_pause : ℕ → DebugState → Bool
+is_to_pause slot d = d.paused || (not d.pass && has_break slot d)
 
 -- before a `step`: the machine is paused where it pauses, and nothing else changes
 abbrev pub before : ℕ → DebugState → DebugState
-before slot d = record d { paused = pauses slot d }
+before slot d = record d { paused = is_to_pause slot d }
 
 -- after a `step` that ran: a hit pauses, and no breakpoint is passed any more
 abbrev pub after_step : Option Written → DebugState → DebugState

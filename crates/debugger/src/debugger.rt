@@ -4,9 +4,9 @@ ghost use Rattle.std.specs.List.{list_any, filter};
 ghost use Rattle.loader.specs.ValidCode.{IsAt};
 ghost use Rattle.debugger.specs.declared.debugger.Before.TheVariants as before_answer;
 ghost use Rattle.debugger.specs.declared.debugger.After.TheVariants as after_answer;
-ghost use Rattle.debugger.specs.DebugState.{debug_start, AreDistinct, has_break, has_watch, is_same_watch, watch_at, reaches, hits, break_limit, watch_limit};
+ghost use Rattle.debugger.specs.DebugState.{debug_start, AreDistinctBy, has_break, has_watch, is_same_watch, watch_at, overlaps, hits, break_limit, watch_limit};
 ghost use Rattle.debugger.specs.Changes.{SetsBreak, ClearsBreak, SetsWatch, ClearsWatch, Resumes};
-ghost use Rattle.debugger.specs.Steps.{pauses, before, after_step, after_one, after_stop};
+ghost use Rattle.debugger.specs.Steps.{is_to_pause, before, after_step, after_one, after_stop};
 
 use crate::errors::{ClearBreakError, ClearWatchError, ResumeError, SetBreakError, SetWatchError};
 use crate::watch::Watch;
@@ -51,13 +51,13 @@ pub struct Debugger {
 
 impl Model for Debugger {
     ghost use Rattle.std.specs.Prelude.{nat_eq};
-    ghost use Rattle.debugger.specs.DebugState.{DebugState, AreDistinct, is_same_watch};
+    ghost use Rattle.debugger.specs.DebugState.{DebugState, AreDistinctBy, is_same_watch};
 
     ghost Value = { DebugState };
 
     ghost view = { λ d. record { breakpoints = d.breakpoints.items; watches = d.watches.items; paused = d.paused; pass = d.pass } };
 
-    ghost invariant = { λ d. AreDistinct nat_eq d.breakpoints.items × AreDistinct is_same_watch d.watches.items };
+    ghost invariant = { λ d. AreDistinctBy nat_eq d.breakpoints.items × AreDistinctBy is_same_watch d.watches.items };
 }
 
 impl Debugger {
@@ -78,7 +78,7 @@ impl Debugger {
     /// The slots where the machine pauses, in the order in which they were set.
     pub fn breakpoints(&self) -> &[usize]
         ensures value { result.now ≡ self.now.breakpoints }
-        ensures distinct { AreDistinct nat_eq self.now.breakpoints }
+        ensures distinct { AreDistinctBy nat_eq self.now.breakpoints }
         ensures count { length result.now ≤ break_limit }
     {
         self.breakpoints.as_slice()
@@ -87,7 +87,7 @@ impl Debugger {
     /// The watched ranges, in the order in which they were set.
     pub fn watches(&self) -> &[Watch]
         ensures value { result.now ≡ self.now.watches }
-        ensures distinct { AreDistinct is_same_watch self.now.watches }
+        ensures distinct { AreDistinctBy is_same_watch self.now.watches }
         ensures count { length result.now ≤ watch_limit }
     {
         self.watches.as_slice()
@@ -183,7 +183,7 @@ impl Debugger {
     /// Before a `step` of a machine at this slot that isn't stopped: whether it pauses there.
     #[inline]
     pub fn before(&mut self, slot: usize) -> Before
-        ensures answer { result ≡ (if pauses slot self.old then before_answer.Pause else before_answer.Go) }
+        ensures answer { result ≡ (if is_to_pause slot self.old then before_answer.Pause else before_answer.Go) }
         ensures new { self.new ≡ before slot self.old }
     {
         if self.paused {
@@ -275,7 +275,7 @@ fn has_range(watches: &[Watch], watch: &Watch) -> bool
 }
 
 fn reaches_any(watches: &[Watch], written: &Written) -> bool
-    ensures { result ≡ list_any (reaches written.now) watches.now }
+    ensures { result ≡ list_any (overlaps written.now) watches.now }
 {
     for w in watches {
         if w.is_reached(written) {

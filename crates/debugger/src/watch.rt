@@ -1,6 +1,6 @@
 //! Watched ranges.
 ghost use Rattle.std.specs.Prelude.{◌≡◌};
-ghost use Rattle.debugger.specs.DebugState.{watch_at, ends_within, is_same_watch, reaches};
+ghost use Rattle.debugger.specs.DebugState.{watch_at, ends_within, is_same_watch, overlaps};
 
 use machine::Written;
 
@@ -43,7 +43,7 @@ impl Watch {
 
     /// Whether a write reaches a byte of it.
     pub fn is_reached(&self, written: &Written) -> bool
-        ensures { result ≡ reaches written.now self.now }
+        ensures { result ≡ overlaps written.now self.now }
     {
         let written_end = written.offset as u64 + written.size.bytes() as u64;
         let end = self.offset as u64 + self.length as u64;

@@ -10,19 +10,20 @@ use Rattle.isa_table.specs.declared.instr.Instr.{Instr}
 use Rattle.isa_table.specs.declared.instr.Instr.TheVariants as instr
 use Rattle.isa_table.specs.declared.instr.Operand.TheVariants as source
 use Rattle.bpf_codec.specs.Slots.{Fits, slots}
-use Rattle.loader.specs.Instructions.{AllFit, slot_count as loaded_count}
+use Rattle.loader.specs.Instructions.{AllFit, slot_count}
 use Rattle.asm_table.specs.Mnemonics.{slots_of}
 use Rattle.asm_table.specs.Parts.{mnemonic_of}
-use Rattle.asm_table.specs.Canonical.{IsWithin, FitsParts, AllFitParts, slot_count, line_text, text_of}
-use Rattle.asm_table.proofs.Printable.{is_plain, printable, parts, printable_line}
+use Rattle.asm_table.specs.Canonical.{IsSignedWithin, FitsParts, AllFitParts, parts_slot_count, line_text, text_of}
+use Rattle.isa_table.proofs.Listed.{and_true}
+use Rattle.asm_table.proofs.Printable.{is_plain, printable, printable_line}
 
 -- ---- numbers
 
-within16 : (z : ℤ) → FitsSigned w16 z → IsWithin (2 ^ 15) z
+within16 : (z : ℤ) → FitsSigned w16 z → IsSignedWithin (2 ^ 15) z
 within16 (pos n) h = omega (arith, h)
 within16 (negsuc n) h = omega (arith, h)
 
-within32 : (z : ℤ) → FitsSigned w32 z → IsWithin (2 ^ 31) z
+within32 : (z : ℤ) → FitsSigned w32 z → IsSignedWithin (2 ^ 31) z
 within32 (pos n) h = omega (arith, h)
 within32 (negsuc n) h = omega (arith, h)
 
@@ -59,25 +60,25 @@ same_slots (instr.Store z d (source.Imm k) o) = refl
 same_slots (instr.Store z d (source.Register s) o) = refl
 same_slots _ = refl
 
-pub same_count : (code : List Instr) → slot_count code ≡ loaded_count code
+pub same_count : (code : List Instr) → parts_slot_count code ≡ slot_count code
 same_count [] = refl
 same_count (i ∷ is) =
     let a = same_slots i in
     let b = same_count is in
-    let c : slot_count (i ∷ is) ≡ slots_of (mnemonic_of i) + slot_count is = refl in
-    let d : loaded_count (i ∷ is) ≡ slots i + loaded_count is = refl in
+    let c : parts_slot_count (i ∷ is) ≡ slots_of (mnemonic_of i) + parts_slot_count is = refl in
+    let d : slot_count (i ∷ is) ≡ slots i + slot_count is = refl in
     omega (arith, a, b, c, d)
 
 -- ---- ASCII
 
 plain_ascii : (b : ℕ) → is_plain b ≡ true → b < 128
 unfolding is_plain
-plain_ascii b h = let l : nat_lt b 127 ≡ true = (parts (nat_lt 31 b) (nat_lt b 127) h).1 in grind (arith, nat_tests)
+plain_ascii b h = let l : nat_lt b 127 ≡ true = (and_true (nat_lt 31 b) (nat_lt b 127) h).1 in grind (arith, nat_tests)
 
 all_ascii : (bs : List ℕ) → printable bs ≡ true → All (λ b. b < 128) bs
 unfolding printable
 all_ascii [] h = All-nil (λ b. b < 128)
-all_ascii (b ∷ bs) h = let p = parts (is_plain b) (printable bs) h in All-cons (λ b. b < 128) b bs (plain_ascii b p.0) (all_ascii bs p.1)
+all_ascii (b ∷ bs) h = let p = and_true (is_plain b) (printable bs) h in All-cons (λ b. b < 128) b bs (plain_ascii b p.0) (all_ascii bs p.1)
 
 ascii_end : IsAscii (10 ∷ [])
 ascii_end = IsAscii-from_all (10 ∷ []) (All-cons (λ b. b < 128) 10 [] (omega arith) (All-nil (λ b. b < 128)))

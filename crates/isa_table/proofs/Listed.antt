@@ -225,7 +225,7 @@ abbrev pass_from : (ℕ → Instr → Bool) → ℕ → List Instr → Bool
 pass_from t k [] = true
 pass_from t k (x ∷ xs) = t k x && pass_from t (suc k) xs
 
-and_true : (a b : Bool) → (a && b) ≡ true → (a ≡ true) × (b ≡ true)
+pub and_true : (a b : Bool) → (a && b) ≡ true → (a ≡ true) × (b ≡ true)
 and_true true b h = (refl, h)
 and_true false b h = absurd (cc)
 

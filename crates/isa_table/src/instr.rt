@@ -1,7 +1,7 @@
 //! The instructions. A value of `Instr` is a row of the table with its operands, and nothing else is.
 ghost use Rattle.std.specs.Prelude.{◌≡◌, ◌<◌};
 ghost use Rattle.isa_table.specs.Destination.{destination, old_value_to};
-ghost use Rattle.isa_table.specs.Registers.{register_number};
+ghost use Rattle.isa_table.specs.Registers.{all_registers, register_number};
 ghost use Rattle.isa_table.specs.Table.{size_bytes, size_of_signed, size_of_width};
 
 /// A register, R0 to R10 (RFC 9669, section 3.1).
@@ -28,6 +28,27 @@ impl Reg {
     {
         self as u8
     }
+}
+
+const REGISTERS: [Reg; 11] = [
+    Reg::R0,
+    Reg::R1,
+    Reg::R2,
+    Reg::R3,
+    Reg::R4,
+    Reg::R5,
+    Reg::R6,
+    Reg::R7,
+    Reg::R8,
+    Reg::R9,
+    Reg::R10,
+];
+
+/// The registers, each at the place of its number.
+pub fn registers() -> &'static [Reg]
+    ensures { result.now ≡ all_registers }
+{
+    &REGISTERS
 }
 
 /// An arithmetic operation with a destination and a second operand, in both widths (RFC 9669, section 4.1). Those that

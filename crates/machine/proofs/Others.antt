@@ -9,8 +9,8 @@ use Rattle.machine.specs.MachineState.{MachineState}
 use Rattle.machine.specs.Rows.{Request, MemoryAnswer, Outcome, asks}
 use Rattle.machine.specs.Rows.Request.{Nothing, Touch, Measure}
 use Rattle.machine.specs.Rows.MemoryAnswer.{NoAnswer, Reached, Measured}
-use Rattle.machine.specs.TableStep.{TableStep, Answers, Closes, StepsFrom}
-use Rattle.machine.specs.Laws.{Touches, LeavesOthers, StepsCommute}
+use Rattle.machine.specs.TableStep.{TableStep, AnswersRequest, Closes, StepsFrom}
+use Rattle.machine.specs.Laws.{AccessesNext, LeavesOthers, StepsCommute}
 use Rattle.machine.proofs.StepCases.{StepCase, step_case, steps_told, steps_stayed}
 use Rattle.machine.proofs.Changes.{map_closes}
 
@@ -18,11 +18,11 @@ use Rattle.machine.proofs.Changes.{map_closes}
 record Asked (m : MachineState) (o : Outcome) (before mid : List (List ℕ)) : Type 0 where
   request : Request
   said : MemoryAnswer
-  answers : Answers map_memory request before said mid
-  touches : (n : ℕ) (op : Op) → request ≡ Touch n op → Touches m n
-  again : (x y : List (List ℕ)) → Answers map_memory request x said y → StepsFrom m.stop map_memory m x o y
+  answers : AnswersRequest map_memory request before said mid
+  touches : (n : ℕ) (op : Op) → request ≡ Touch n op → AccessesNext m n
+  again : (x y : List (List ℕ)) → AnswersRequest map_memory request x said y → StepsFrom m.stop map_memory m x o y
 
-no_touch : {P : Type 0} (n : ℕ) (op : Op) → Nothing ≡ Touch n op → P
+pub no_touch : {P : Type 0} (n : ℕ) (op : Op) → Nothing ≡ Touch n op → P
 no_touch n op e = absurd (cc)
 
 over : (m : MachineState) (o p : Outcome) (x y : List (List ℕ)) → o ≡ p → y ≡ x → StepsFrom m.stop map_memory m x p x → StepsFrom m.stop map_memory m x o y
@@ -63,7 +63,7 @@ closed_map false x = refl
 touch_leaves : (n k : ℕ) (op : Op) (r : Reach) (before mid : List (List ℕ)) → k ≢ n → map_memory.reaches before n op r mid → bytes_of mid k ≡ bytes_of before k
 touch_leaves n k op r before mid d h = accesses.others before mid n k op r h d
 
-answer_leaves : (q : Request) (k : ℕ) (before mid : List (List ℕ)) (a : MemoryAnswer) → ((n : ℕ) (op : Op) → q ≡ Touch n op → k ≢ n) → Answers map_memory q before a mid → bytes_of mid k ≡ bytes_of before k
+answer_leaves : (q : Request) (k : ℕ) (before mid : List (List ℕ)) (a : MemoryAnswer) → ((n : ℕ) (op : Op) → q ≡ Touch n op → k ≢ n) → AnswersRequest map_memory q before a mid → bytes_of mid k ≡ bytes_of before k
 answer_leaves Nothing k before mid NoAnswer d h = ap (λ (o : List (List ℕ)). bytes_of o k) h
 answer_leaves (Touch n op) k before mid (Reached r) d h = touch_leaves n k op r before mid (d n op refl) h
 answer_leaves (Measure n) k before mid (Measured l) d h = ap (λ (o : List (List ℕ)). bytes_of o k) h.1
@@ -71,12 +71,12 @@ answer_leaves Nothing k before mid _ d h = absurd h
 answer_leaves (Touch n op) k before mid _ d h = absurd h
 answer_leaves (Measure n) k before mid _ d h = absurd h
 
-step_leaves : (n : ℕ) (old new : MachineState) (before after : List (List ℕ)) (a : Stepped) → (Touches old n → ⊥) → TableStep map_memory old before a new after → bytes_of after n ≡ bytes_of before n
+step_leaves : (n : ℕ) (old new : MachineState) (before after : List (List ℕ)) (a : Stepped) → (AccessesNext old n → ⊥) → TableStep map_memory old before a new after → bytes_of after n ≡ bytes_of before n
 step_leaves n old new before after a d t =
     let s = asked old (record { machine = new; answer = a; closes = t.closes }) before t.mid t.steps in
     let same = map_closes t.closes t.mid after t.closed in
     ap (λ (o : List (List ℕ)). bytes_of o n) same ∙
-    answer_leaves s.request n before t.mid s.said (λ m op e k. d (subst (λ j. Touches old j) (sym k) (s.touches m op e))) s.answers
+    answer_leaves s.request n before t.mid s.said (λ m op e k. d (subst (λ j. AccessesNext old j) (sym k) (s.touches m op e))) s.answers
 
 pub leaves_others : LeavesOthers
 leaves_others n zero old new before after h = ap (λ (o : List (List ℕ)). bytes_of o n) h.1
@@ -87,10 +87,10 @@ leaves_others n (suc k) old new before after h =
 
 record Turned (q r : Request) (a b : MemoryAnswer) (before after : List (List ℕ)) : Type 0 where
   other : List (List ℕ)
-  first : Answers map_memory r before b other
-  then : Answers map_memory q other a after
+  first : AnswersRequest map_memory r before b other
+  then : AnswersRequest map_memory q other a after
 
-measured_after : (q : Request) (k l : ℕ) (before mid : List (List ℕ)) (a : MemoryAnswer) → Answers map_memory q before a mid → l ≡ length (bytes_of mid k) → l ≡ length (bytes_of before k)
+measured_after : (q : Request) (k l : ℕ) (before mid : List (List ℕ)) (a : MemoryAnswer) → AnswersRequest map_memory q before a mid → l ≡ length (bytes_of mid k) → l ≡ length (bytes_of before k)
 measured_after Nothing k l before mid NoAnswer h e = e ∙ ap (λ (o : List (List ℕ)). length (bytes_of o k)) h
 measured_after (Touch n op) k l before mid (Reached r) h e = e ∙ accesses.lengths before mid n k op r h
 measured_after (Measure n) k l before mid (Measured m) h e = e ∙ ap (λ (o : List (List ℕ)). length (bytes_of o k)) h.1
@@ -99,10 +99,10 @@ measured_after (Touch n op) k l before mid _ h e = absurd h
 measured_after (Measure n) k l before mid _ h e = absurd h
 
 turned : (q r : Request) (a b : MemoryAnswer) (before mid after : List (List ℕ)) → ((n m : ℕ) (op other : Op) → q ≡ Touch n op → r ≡ Touch m other → n ≢ m)
-    → Answers map_memory q before a mid → Answers map_memory r mid b after → Turned q r a b before after
-turned q Nothing a NoAnswer before mid after d h k = record { other = before; first = refl; then = subst (λ (o : List (List ℕ)). Answers map_memory q before a o) (sym k) h }
+    → AnswersRequest map_memory q before a mid → AnswersRequest map_memory r mid b after → Turned q r a b before after
+turned q Nothing a NoAnswer before mid after d h k = record { other = before; first = refl; then = subst (λ (o : List (List ℕ)). AnswersRequest map_memory q before a o) (sym k) h }
 turned q (Measure n) a (Measured l) before mid after d h k =
-    record { other = before; first = (measured_after q n l before mid a h k.0, refl); then = subst (λ (o : List (List ℕ)). Answers map_memory q before a o) (sym k.1) h }
+    record { other = before; first = (measured_after q n l before mid a h k.0, refl); then = subst (λ (o : List (List ℕ)). AnswersRequest map_memory q before a o) (sym k.1) h }
 turned Nothing (Touch m op) NoAnswer (Reached r) before mid after d h k =
     record { other = after; first = subst (λ (o : List (List ℕ)). map_memory.reaches o m op r after) h k; then = refl }
 turned (Measure n) (Touch m op) (Measured l) (Reached r) before mid after d h k =
@@ -124,9 +124,9 @@ steps_commute p q r s before mid after a b d t u =
     let y = asked q (record { machine = s; answer = b; closes = u.closes }) mid u.mid u.steps in
     let here = map_closes t.closes t.mid mid t.closed in
     let there = map_closes u.closes u.mid after u.closed in
-    let begun = subst (λ (o : List (List ℕ)). Answers map_memory y.request o y.said u.mid) here y.answers in
-    let c = turned x.request y.request x.said y.said before t.mid u.mid (λ n m op other e f k. d n (x.touches n op e) (subst (λ j. Touches q j) (sym k) (y.touches m other f))) x.answers begun in (
+    let begun = subst (λ (o : List (List ℕ)). AnswersRequest map_memory y.request o y.said u.mid) here y.answers in
+    let c = turned x.request y.request x.said y.said before t.mid u.mid (λ n m op other e f k. d n (x.touches n op e) (subst (λ j. AccessesNext q j) (sym k) (y.touches m other f))) x.answers begun in (
       c.other,
       record { closes = u.closes; mid = c.other; steps = y.again before c.other c.first; closed = closed_map u.closes c.other },
-      record { closes = t.closes; mid = after; steps = x.again c.other after (subst (λ (o : List (List ℕ)). Answers map_memory x.request c.other x.said o) (sym there) c.then); closed = closed_map t.closes after },
+      record { closes = t.closes; mid = after; steps = x.again c.other after (subst (λ (o : List (List ℕ)). AnswersRequest map_memory x.request c.other x.said o) (sym there) c.then); closed = closed_map t.closes after },
     )

@@ -20,7 +20,7 @@ use Rattle.machine.specs.MachineState.{MachineState, own_stack, stack_size}
 use Rattle.machine.specs.Rows.{Request, MemoryAnswer, Outcome, asks, asks_for, told, told_for, told_own, told_access, told_call, exits, work_of}
 use Rattle.machine.specs.Rows.Request.{Nothing, Touch, Measure}
 use Rattle.machine.specs.Rows.MemoryAnswer.{NoAnswer, Reached, Measured}
-use Rattle.machine.specs.TableStep.{Attempts, Answers, Closes}
+use Rattle.machine.specs.TableStep.{Attempts, AnswersRequest, Closes}
 use Rattle.machine.specs.Laws.{is_exit}
 use Rattle.machine.specs.Replay.{Entry, Feeds, Replays, ReplaysOneWay, Keeps, ReplaysOn, StaysReplay}
 use Rattle.machine.proofs.ValidRows.{same_next}
@@ -96,7 +96,7 @@ feed_reach mem lengths entries k x i old before mid reach.Outside h = record { m
 feed_reach mem lengths entries k x i old before mid reach.Worn h = record { more = []; kept = k.reached before mid x.number x.op reach.Worn h; feeds = refl }
 
 feed_access : {M : Type 0} (mem : Memories M) (lengths : ℕ → ℕ) (entries : M → List Entry) → Keeps mem lengths entries → (own : Bool) (x : Accessing) (i : Instr) (old : MachineState) (before mid : M) (said : MemoryAnswer)
-    → Answers mem (cond own Nothing (Touch x.number x.op)) before said mid
+    → AnswersRequest mem (cond own Nothing (Touch x.number x.op)) before said mid
     → Feeding lengths entries (is_done (told_access i x old said).answer) (cond own Nothing (Touch x.number x.op)) before mid (Becomes (Accesses x) i old (told_access i x old said).machine)
 feed_access mem lengths entries k true x i old before mid NoAnswer h = fed_quietly lengths entries _ before mid _ h (refl, refl)
 feed_access mem lengths entries k true x i old before mid _ h = absurd h
@@ -104,7 +104,7 @@ feed_access mem lengths entries k false x i old before mid (Reached r) h = feed_
 feed_access mem lengths entries k false x i old before mid _ h = absurd h
 
 feed : {M : Type 0} (mem : Memories M) (lengths : ℕ → ℕ) (entries : M → List Entry) → Keeps mem lengths entries → (v : Work) (i : Instr) (old : MachineState) (before mid : M) (said : MemoryAnswer)
-    → Answers mem (asks_for v) before said mid
+    → AnswersRequest mem (asks_for v) before said mid
     → Feeding lengths entries (is_done (told_for v i old said).answer) (asks_for v) before mid (Becomes v i old (told_for v i old said).machine)
 feed mem lengths entries k Computes i old before mid NoAnswer h = fed_quietly lengths entries _ before mid _ h (refl, refl)
 feed mem lengths entries k Computes i old before mid _ h = absurd h

@@ -39,12 +39,12 @@ ReplaysOneWay = (lengths : ℕ → ℕ) (k : ℕ) (old new other : MachineState)
 -- ---- a memory that keeps the entries
 
 -- what is added to a machine's entries by an access
-abbrev pub entries_of : ℕ → Op → Reach → List Entry
-entries_of n op (Done v) = record { number = n; op = op; answer = v } ∷ []
-entries_of n op _ = []
+abbrev pub entries_added : ℕ → Op → Reach → List Entry
+entries_added n op (Done v) = record { number = n; op = op; answer = v } ∷ []
+entries_added n op _ = []
 
 pub record Keeps {M : Type 0} (mem : Memories M) (lengths : ℕ → ℕ) (entries : M → List Entry) : Type 0 where
-  pub reached : (before after : M) (n : ℕ) (op : Op) (r : Reach) → mem.reaches before n op r after → entries after ≡ entries before ++ entries_of n op r
+  pub reached : (before after : M) (n : ℕ) (op : Op) (r : Reach) → mem.reaches before n op r after → entries after ≡ entries before ++ entries_added n op r
   pub closed : (before after : M) → mem.closes before after → entries after ≡ entries before
   pub measured : (before : M) (n : ℕ) → mem.length_of before n ≡ lengths n
 

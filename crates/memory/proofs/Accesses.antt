@@ -18,14 +18,14 @@ use Rattle.memory.specs.declared.access.Op.{Op}
 use Rattle.memory.specs.declared.access.Action.{Action}
 use Rattle.memory.specs.declared.access.Action.TheVariants.{Load, Store, Atomic}
 use Rattle.memory.specs.declared.access.Reach.TheVariants.{Done, Away, Busy, Outside, Worn}
-use Rattle.memory.specs.Access.{IsInside, writes, size_of, count_of, held, puts, answers, answer, replaced, written, after}
+use Rattle.memory.specs.Access.{IsInside, writes, size_of, count_of, old_number, number_put, action_answer, answer, replaced, with_number, after}
 use Rattle.memory.specs.Objects.{bytes_of, with_bytes}
 use Rattle.memory.specs.Laws as laws
 use Rattle.memory.proofs.Lengths.{length-after, length-set_at}
 
 -- ---- an access says by its answer whether it wrote
 
-pub written_as_answered : (a : Action) (old : ℕ) → writes a (answers a old) ≡ is_some (puts a old)
+pub written_as_answered : (a : Action) (old : ℕ) → writes a (action_answer a old) ≡ is_some (number_put a old)
 written_as_answered (Load size) old = refl
 written_as_answered (Store size value) old = refl
 written_as_answered (Atomic width op src r0) old = refl
@@ -36,13 +36,13 @@ some_is : (o : Option ℕ) → is_some o ≡ false → o ≡ None
 some_is None h = refl
 some_is (Some x) h = absurd (cc)
 
-written_none : (o n : ℕ) (v : Option ℕ) (bytes : List ℕ) → is_some v ≡ false → written o n v bytes ≡ bytes
+written_none : (o n : ℕ) (v : Option ℕ) (bytes : List ℕ) → is_some v ≡ false → with_number o n v bytes ≡ bytes
 written_none o n None bytes h = refl
 written_none o n (Some x) bytes h = absurd (cc)
 
 pub unwritten_after : (op : Op) (bytes : List ℕ) → writes op.action (answer op bytes) ≡ false → after op bytes ≡ bytes
 unwritten_after op bytes h =
-    written_none op.offset (count_of op) (puts op.action (held op bytes)) bytes (sym (written_as_answered op.action (held op bytes)) ∙ h)
+    written_none op.offset (count_of op) (number_put op.action (old_number op bytes)) bytes (sym (written_as_answered op.action (old_number op bytes)) ∙ h)
 
 replaced_before : (o : ℕ) (new bytes : List ℕ) (i : ℕ) → o + length new ≤ length bytes → i < o → get_or (replaced o new bytes) i 0 ≡ get_or bytes i 0
 replaced_before o new bytes i h k =
@@ -59,7 +59,7 @@ replaced_after o new bytes i h k =
     ∙ ap (λ (j : ℕ). get_or bytes j 0) past
 
 written_elsewhere : (o n : ℕ) (v : Option ℕ) (bytes : List ℕ) (i : ℕ) → o + n ≤ length bytes → (is_some v ≡ true → o ≤ i → i < o + n → ⊥)
-    → get_or (written o n v bytes) i 0 ≡ get_or bytes i 0
+    → get_or (with_number o n v bytes) i 0 ≡ get_or bytes i 0
 written_elsewhere o n None bytes i h k = refl
 written_elsewhere o n (Some x) bytes i h k =
     let count = length-bytes_low_first 0 n x in
@@ -116,7 +116,7 @@ set_same_at [] n b h = absurd (omega arith)
 set_same_at (x ∷ xs) zero b h = refl
 set_same_at (x ∷ xs) (suc n) b h = set_same_at xs n b h
 
-set_commutes : {A : Type 0} (xs : List A) (n m : ℕ) (a b : A) → n ≢ m → set (set xs n a) m b ≡ set (set xs m b) n a
+pub set_commutes : {A : Type 0} (xs : List A) (n m : ℕ) (a b : A) → n ≢ m → set (set xs n a) m b ≡ set (set xs m b) n a
 set_commutes {A = A} [] n m a b h = refl
 set_commutes {A = A} (x ∷ xs) zero zero a b h = absurd (h refl)
 set_commutes {A = A} (x ∷ xs) zero (suc m) a b h = refl
@@ -145,7 +145,7 @@ pub bytes_stay : laws.OtherBytesStay
 bytes_stay old new n op x i h w =
     let same = bytes_accessed old n op h.0 in
     let at = rw h.1 at (λ (p : IsTrue (writes op.action x)) (q : op.offset ≤ i) (s : i < op.offset + count_of op). w (record { wrote = p; «from» = q; to = s })) in
-    rw (h.2, same) (written_elsewhere op.offset (count_of op) (puts op.action (held op (bytes_of old n))) (bytes_of old n) i h.0 (λ p q s. at (written_as_answered op.action (held op (bytes_of old n)) ∙ p) q s))
+    rw (h.2, same) (written_elsewhere op.offset (count_of op) (number_put op.action (old_number op (bytes_of old n))) (bytes_of old n) i h.0 (λ p q s. at (written_as_answered op.action (old_number op (bytes_of old n)) ∙ p) q s))
 
 pub unwritten : laws.UnwrittenStays
 unwritten old new n op x h e =

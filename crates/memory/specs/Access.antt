@@ -31,46 +31,46 @@ is_inside op n = nat_le (op.offset + count_of op) n
 -- ---- what it does
 
 -- the number at its place, the lowest byte first
-abbrev pub held : Op → List ℕ → ℕ
-held op bytes = number_of (take (count_of op) (drop op.offset bytes))
+abbrev pub old_number : Op → List ℕ → ℕ
+old_number op bytes = number_of (take (count_of op) (drop op.offset bytes))
 
 -- The number that is put over an old one, if one is. A load puts none, nor does a compare-exchange whose comparison fails.
-abbrev pub puts : Action → ℕ → Option ℕ
-puts (Load size) old = None
-puts (Store size value) old = Some value
-puts (Atomic width op src r0) old = atomic_row (width_bits width) op old (unsigned (width_bits width) src) (unsigned (width_bits width) r0)
+abbrev pub number_put : Action → ℕ → Option ℕ
+number_put (Load size) old = None
+number_put (Store size value) old = Some value
+number_put (Atomic width op src r0) old = atomic_row (width_bits width) op old (unsigned (width_bits width) src) (unsigned (width_bits width) r0)
 
 -- what is answered, where the old number is at the place
-abbrev pub answers : Action → ℕ → ℕ
-answers (Load size) old = old
-answers (Store size value) old = 0
-answers (Atomic width op src r0) old = old
+abbrev pub action_answer : Action → ℕ → ℕ
+action_answer (Load size) old = old
+action_answer (Store size value) old = 0
+action_answer (Atomic width op src r0) old = old
 
 -- what is answered: the number loaded, the old one of an atomic operation, 0 for a store
 abbrev pub answer : Op → List ℕ → ℕ
-answer op bytes = answers op.action (held op bytes)
+answer op bytes = action_answer op.action (old_number op bytes)
 
 -- the bytes, with others over those from an offset on
 abbrev pub replaced : ℕ → List ℕ → List ℕ → List ℕ
 replaced offset new bytes = take offset bytes ++ (new ++ drop (offset + length new) bytes)
 
 -- the bytes, with the low bytes of a number over so many of them, if there is a number
-abbrev pub written : ℕ → ℕ → Option ℕ → List ℕ → List ℕ
-written offset count None bytes = bytes
-written offset count (Some x) bytes = replaced offset (low_bytes count x) bytes
+abbrev pub with_number : ℕ → ℕ → Option ℕ → List ℕ → List ℕ
+with_number offset count None bytes = bytes
+with_number offset count (Some x) bytes = replaced offset (low_bytes count x) bytes
 
 -- the bytes after it
 abbrev pub after : Op → List ℕ → List ℕ
-after op bytes = written op.offset (count_of op) (puts op.action (held op bytes)) bytes
+after op bytes = with_number op.offset (count_of op) (number_put op.action (old_number op bytes)) bytes
 
 -- ---- what it wrote, read off its answer
 
 -- Whether it wrote. The answer of an atomic operation is the old number, so that it decides the comparison.
 abbrev pub writes : Action → ℕ → Bool
-writes action answer = is_some (puts action answer)
+writes action answer = is_some (number_put action answer)
 
 -- It wrote the byte at i: all bytes of its place, or none.
-pub record Writes (op : Op) (answer i : ℕ) : Type 0 where
+pub record WritesAt (op : Op) (answer i : ℕ) : Type 0 where
   pub wrote : IsTrue (writes op.action answer)
   pub from : op.offset ≤ i
   pub to : i < op.offset + count_of op

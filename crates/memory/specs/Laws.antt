@@ -9,18 +9,18 @@ use Rattle.memory.specs.declared.access.Op.{Op}
 use Rattle.memory.specs.declared.access.Action.TheVariants.{Load, Store, Atomic}
 use Rattle.memory.specs.declared.access.Reach.{Reach}
 use Rattle.memory.specs.declared.access.Reach.TheVariants.{Done}
-use Rattle.memory.specs.Access.{Writes, writes}
+use Rattle.memory.specs.Access.{WritesAt, writes}
 use Rattle.memory.specs.Objects.{bytes_of, map_reaches}
 
 -- A byte that an access wrote is one of the object's.
 abbrev pub WritesAreInside : Type 0
 WritesAreInside = (old new : List (List ℕ)) (n : ℕ) (op : Op) (x i : ℕ)
-    → map_reaches old n op (Done x) new → Writes op x i → i < length (bytes_of old n)
+    → map_reaches old n op (Done x) new → WritesAt op x i → i < length (bytes_of old n)
 
 -- A byte that it didn't write is as it was.
 abbrev pub OtherBytesStay : Type 0
 OtherBytesStay = (old new : List (List ℕ)) (n : ℕ) (op : Op) (x i : ℕ)
-    → map_reaches old n op (Done x) new → (Writes op x i → ⊥) → get_or (bytes_of new n) i 0 ≡ get_or (bytes_of old n) i 0
+    → map_reaches old n op (Done x) new → (WritesAt op x i → ⊥) → get_or (bytes_of new n) i 0 ≡ get_or (bytes_of old n) i 0
 
 -- An access that wrote nothing changes nothing.
 abbrev pub UnwrittenStays : Type 0

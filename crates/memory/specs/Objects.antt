@@ -66,6 +66,10 @@ with_range objects n offset bytes = with_bytes objects n (replaced offset bytes 
 abbrev pub object_limit : ℕ
 object_limit = 1024
 
+-- how many numbers there are: those of the objects, and 0
+abbrev pub number_count : ℕ
+number_count = object_limit + 1
+
 -- how many bytes an object has at most
 abbrev pub object_bytes : ℕ
 object_bytes = 65536
@@ -78,5 +82,5 @@ IsFull objects = object_limit < length objects
 pub record AreObjects (objects : List (List ℕ)) : Type 0 where
   pub none_at_zero : bytes_of objects 0 ≡ []
   pub place_of_zero : 0 < length objects
-  pub limit : length objects ≤ object_limit + 1
+  pub limit : length objects ≤ number_count
   pub sizes : (n : ℕ) → length (bytes_of objects n) ≤ object_bytes

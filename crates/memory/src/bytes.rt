@@ -2,7 +2,7 @@
 ghost use Rattle.std.specs.Prelude.{◌≡◌, ◌+◌, ◌*◌, ◌^◌, ◌<◌, ◌≤◌, length, take, drop};
 ghost use Rattle.isa_table.specs.Words.{number_of, low_bytes};
 ghost use Rattle.isa_table.specs.Table.{size_bytes, width_bits, size_of_width};
-ghost use Rattle.memory.specs.Access.{IsInside, replaced, written, answer, after};
+ghost use Rattle.memory.specs.Access.{IsInside, replaced, with_number, answer, after};
 
 use crate::access::{Action, Op};
 use byteorder::{ByteOrder, LittleEndian};
@@ -38,7 +38,7 @@ fn write(bytes: &mut [u8], offset: usize, size: Size, value: u64)
 #[inline(always)]
 fn write_if(bytes: &mut [u8], offset: usize, size: Size, value: Option<u64>)
     requires { offset + size_bytes size ≤ length bytes.old }
-    ensures { bytes.new ≡ written offset (size_bytes size) value bytes.old }
+    ensures { bytes.new ≡ with_number offset (size_bytes size) value bytes.old }
 {
     if let Some(value) = value {
         write(bytes, offset, size, value);

@@ -5,7 +5,7 @@ use Rattle.std.proofs.Math.Seq.{take-append_seam}
 use Rattle.object_store.specs.declared.places.Place.{Place}
 use Rattle.object_store.specs.declared.places.Place.TheVariants.{Here, Far, Returning}
 use Rattle.memory.specs.Objects.{AreObjects, bytes_of, with_bytes, object_limit, object_bytes}
-use Rattle.object_store.specs.Stores.{place_of, near_length, near_bytes}
+use Rattle.object_store.specs.Stores.{window_count, place_of, near_length, near_bytes}
 use Rattle.object_store.specs.Bodies.{Kept, CountsHold, IsKeptStore, BytesBack, bytes_in, place_in, scopes_in}
 use Rattle.object_store.proofs.Objects_kept.{length_set, objects_stay, objects_made, objects_freed}
 use Rattle.object_store.proofs.Counting.{uncounted_more, counts_at_first, none_held}
@@ -69,7 +69,7 @@ placed old new windows budget spare left n from p k h f b q s e =
 -- with other bytes, as many
 pub filled : (old new : List Kept) (windows after : List (List ℕ)) (budget spare n : ℕ) (b : List ℕ) → IsKeptStore old windows budget spare → n < length old
     → length b ≡ length (bytes_of (map bytes_in old) n) → map bytes_in new ≡ with_bytes (map bytes_in old) n b → map place_in new ≡ map place_in old
-    → CountsHold (map scopes_in new) after → length after ≡ 49 → place_of (map place_in old) n ≡ Here → IsKeptStore new after budget spare
+    → CountsHold (map scopes_in new) after → length after ≡ window_count → place_of (map place_in old) n ≡ Here → IsKeptStore new after budget spare
 filled old new windows after budget spare n b k h l e q s w f =
     let g = rw f at (near_filled (map bytes_in old) (map place_in old) n b (in_bytes old n h) (same_length old)) in
     record {
@@ -141,10 +141,10 @@ none_sized (suc k) = omega arith
 objects_first : AreObjects ([] ∷ [])
 objects_first = record { none_at_zero = refl; place_of_zero = omega arith; limit = omega arith; sizes = λ k. none_sized k }
 
-pub first_store : (bodies : List Kept) (windows : List (List ℕ)) (budget : ℕ) → bodies ≡ record { bytes = []; place = Here; scopes = 0; clean = false } ∷ [] → windows ≡ replicate 49 [] → IsKeptStore bodies windows budget budget
+pub first_store : (bodies : List Kept) (windows : List (List ℕ)) (budget : ℕ) → bodies ≡ record { bytes = []; place = Here; scopes = 0; clean = false } ∷ [] → windows ≡ replicate window_count [] → IsKeptStore bodies windows budget budget
 first_store bodies windows budget b w = rw (b, w) (record {
   objects = objects_first;
-  counts = counts_at_first (replicate 49 []) (λ k. none_held 49 k);
+  counts = counts_at_first (replicate window_count []) (λ k. none_held window_count k);
   windows_are = refl;
   left = omega arith;
 })

@@ -8,7 +8,7 @@ use Rattle.object_store.specs.declared.places.Place.TheVariants.{Here, Leaving, 
 use Rattle.memory.specs.declared.access.Action.{Action}
 use Rattle.memory.specs.declared.access.Action.TheVariants.{Load}
 use Rattle.memory.specs.Objects.{AreObjects, bytes_of, with_bytes}
-use Rattle.object_store.specs.Stores.{holders, near_bytes}
+use Rattle.object_store.specs.Stores.{window_count, holders, near_bytes}
 
 -- ---- one object
 
@@ -103,5 +103,5 @@ grown n counts = set counts n (get_or counts n 0 + 1)
 pub record IsKeptStore (bodies : List Kept) (windows : List (List ℕ)) (budget spare : ℕ) : Type 0 where
   pub objects : AreObjects (map bytes_in bodies)
   pub counts : CountsHold (map scopes_in bodies) windows
-  pub windows_are : length windows ≡ 49
+  pub windows_are : length windows ≡ window_count
   pub left : spare + near_bytes (map bytes_in bodies) (map place_in bodies) ≡ budget

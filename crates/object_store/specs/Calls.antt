@@ -42,10 +42,10 @@ Puts old n offset bytes (Err put_error.Away) new = HasRange old.objects n offset
 -- ---- moves
 
 -- There is no such object, or it isn't in the place from which it would be moved.
-abbrev pub Refuses : Place → StoreState → ℕ → Moved → StoreState → Type 0
-Refuses from old n NoObject new = (IsLive old.objects n → ⊥) × (new ≡ old)
-Refuses from old n (Misplaced p) new = StandsAt p old n × (p ≡ from → ⊥) × (new ≡ old)
-Refuses from old n _ new = ⊥
+abbrev pub RefusesMove : Place → StoreState → ℕ → Moved → StoreState → Type 0
+RefusesMove from old n NoObject new = (IsLive old.objects n → ⊥) × (new ≡ old)
+RefusesMove from old n (Misplaced p) new = StandsAt p old n × (p ≡ from → ⊥) × (new ≡ old)
+RefusesMove from old n _ new = ⊥
 
 -- Freeing an object that is here, where no machine has it in scope: no bytes are left of it, and its place in the list
 -- stays. The far store may be told to forget it, and may fail at that.
@@ -53,13 +53,13 @@ abbrev pub Frees : StoreState → ℕ → Moved → StoreState → Type 0
 Frees old n Scoped new = StandsAt Here old n × IsScoped old n × (new ≡ old)
 Frees old n Done new = StandsAt Here old n × (IsScoped old n → ⊥) × (old.faults ≤ new.faults)
     × (new ≡ record old { objects = with_bytes old.objects n []; faults = new.faults })
-Frees old n m new = Refuses Here old n m new
+Frees old n m new = RefusesMove Here old n m new
 
 -- An object leaves where it is here and no machine has it in scope.
 abbrev pub BeginsLeave : StoreState → ℕ → Moved → StoreState → Type 0
 BeginsLeave old n Scoped new = StandsAt Here old n × IsScoped old n × (new ≡ old)
 BeginsLeave old n Done new = StandsAt Here old n × (IsScoped old n → ⊥) × (new ≡ with_place old n Leaving)
-BeginsLeave old n m new = Refuses Here old n m new
+BeginsLeave old n m new = RefusesMove Here old n m new
 
 -- An object that leaves is far; where the far store fails, it is here again.
 abbrev pub EndsLeave : StoreState → ℕ → Moved → StoreState → Type 0
@@ -67,13 +67,13 @@ EndsLeave old n (Fault f) new = StandsAt Leaving old n × HasRisen old.faults ne
     × (new ≡ record (with_place old n Here) { faults = new.faults })
 EndsLeave old n Done new = StandsAt Leaving old n × (old.faults ≤ new.faults)
     × (new ≡ record (with_place old n Far) { faults = new.faults })
-EndsLeave old n m new = Refuses Leaving old n m new
+EndsLeave old n m new = RefusesMove Leaving old n m new
 
 -- An object that is far returns where there is room for it.
 abbrev pub BeginsReturn : StoreState → ℕ → Moved → StoreState → Type 0
 BeginsReturn old n NoRoom new = StandsAt Far old n × (HasRoom old (length (bytes_of old.objects n)) → ⊥) × (new ≡ old)
 BeginsReturn old n Done new = StandsAt Far old n × HasRoom old (length (bytes_of old.objects n)) × (new ≡ with_place old n Returning)
-BeginsReturn old n m new = Refuses Far old n m new
+BeginsReturn old n m new = RefusesMove Far old n m new
 
 -- What a far store gives back: the bytes that were put, where it returns those; else any, but as many.
 abbrev pub ComesBack : Bool → StoreState → ℕ → StoreState → Type 0
@@ -93,4 +93,4 @@ abbrev pub EndsReturn : Bool → StoreState → ℕ → Moved → StoreState →
 EndsReturn returns old n (Fault f) new = StandsAt Returning old n × FailsToReturn returns old.faults new.faults
     × (new ≡ record (with_place old n Far) { faults = new.faults })
 EndsReturn returns old n Done new = StandsAt Returning old n × ComesBack returns old n new
-EndsReturn returns old n m new = Refuses Returning old n m new
+EndsReturn returns old n m new = RefusesMove Returning old n m new

@@ -44,6 +44,10 @@ StandsAt p s n = IsLive s.objects n × (place_of s.places n ≡ p)
 abbrev pub machine_limit : ℕ
 machine_limit = 48
 
+-- how many windows there are: those of the machines, and that at 0
+abbrev pub window_count : ℕ
+window_count = machine_limit + 1
+
 -- a window stands at this number
 abbrev pub IsMachine : ℕ → Type 0
 IsMachine who = who ≤ machine_limit
@@ -88,13 +92,13 @@ HasRoom s count = near_bytes s.objects s.places + count ≤ s.budget
 
 -- a store without objects, with this budget, over a far store that had so many faults
 abbrev pub store_start : ℕ → ℕ → StoreState
-store_start budget faults = record { objects = [] ∷ []; places = Here ∷ []; windows = replicate 49 []; budget = budget; faults = faults }
+store_start budget faults = record { objects = [] ∷ []; places = Here ∷ []; windows = replicate window_count []; budget = budget; faults = faults }
 
 -- A store as it always is.
 pub record IsStore (s : StoreState) : Type 0 where
   pub objects : AreObjects s.objects
   pub places : length s.places ≡ length s.objects
-  pub windows : length s.windows ≡ machine_limit + 1
+  pub windows : length s.windows ≡ window_count
   pub room : near_bytes s.objects s.places ≤ s.budget
 
 -- The far store's count of faults rose, or has long been at its greatest.

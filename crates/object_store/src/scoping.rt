@@ -1,7 +1,7 @@
 //! Which objects the windows hold.
 ghost use Rattle.std.specs.Prelude.{◌≡◌, ◌<◌, ◌≤◌, ◌+◌, ◌-◌, [], length, map, set, get_or, IfSome};
 ghost use Rattle.scopes.specs.Windows.{noted};
-ghost use Rattle.object_store.specs.Stores.{window_of};
+ghost use Rattle.object_store.specs.Stores.{window_count, window_of};
 ghost use Rattle.object_store.specs.Bodies.{CountsHold, lessened, bytes_in, place_in, scopes_in};
 
 use crate::bodies::Body;
@@ -42,7 +42,7 @@ fn end_pushed<F: FarStore>(bodies: &mut [Body<F>], out: Option<u32>)
 
 /// Notes a number in the window of a machine.
 pub fn note<F: FarStore>(bodies: &mut [Body<F>], windows: &mut [Window], who: usize, number: u32)
-    requires machine { (who < length windows.old) × (length windows.old ≤ 49) }
+    requires machine { (who < length windows.old) × (length windows.old ≤ window_count) }
     requires object { number < length bodies.old }
     requires counts { CountsHold (map scopes_in bodies.old) windows.old }
     ensures counts { CountsHold (map scopes_in bodies.new) windows.new }

@@ -38,6 +38,7 @@ pub struct ObjectStore<F: FarStore> {
 
 impl<F: FarStore> Model for ObjectStore<F> {
     ghost use Rattle.std.specs.Prelude.{map, ◌≤◌, vec_capacity};
+    ghost use Rattle.memory.specs.Objects.{number_count};
     ghost use Rattle.object_store.specs.Stores.{StoreState};
     ghost use Rattle.object_store.specs.Bodies.{IsKeptStore, bytes_in, place_in};
 
@@ -45,7 +46,7 @@ impl<F: FarStore> Model for ObjectStore<F> {
 
     ghost view = { λ s. record { objects = map bytes_in s.bodies.items; places = map place_in s.bodies.items; windows = s.windows.items; budget = s.budget; faults = F.faults_of s.store } };
 
-    ghost invariant = { λ s. IsKeptStore s.bodies.items s.windows.items s.budget s.spare × (1025 ≤ vec_capacity s.bodies) };
+    ghost invariant = { λ s. IsKeptStore s.bodies.items s.windows.items s.budget s.spare × (number_count ≤ vec_capacity s.bodies) };
 }
 
 impl<F: FarStore + Drop> ObjectStore<F> {

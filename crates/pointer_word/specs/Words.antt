@@ -68,20 +68,20 @@ abbrev pub closed : WordRecord → Option WordRecord
 closed w = where_it_applies (nat_lt 0 w.count) (record w { count = w.count - 1 })
 
 -- an actor takes the turn, where the object is here and nobody has it
-abbrev pub taken : WordRecord → Option WordRecord
-taken w = where_it_applies (is_local w.place && not w.turn) (record w { turn = true })
+abbrev pub turn_taken : WordRecord → Option WordRecord
+turn_taken w = where_it_applies (is_local w.place && not w.turn) (record w { turn = true })
 
 -- the turn is given back, with a stamp that is no less
-abbrev pub given : WordRecord → ℕ → Option WordRecord
-given w s = where_it_applies (w.turn && nat_le w.stamp s && nat_le s stamp_limit) (record w { turn = false; stamp = s })
+abbrev pub turn_given : WordRecord → ℕ → Option WordRecord
+turn_given w s = where_it_applies (w.turn && nat_le w.stamp s && nat_le s stamp_limit) (record w { turn = false; stamp = s })
 
 -- the object begins to leave, where no scope is open and nobody has the turn
 abbrev pub leaving : WordRecord → Option WordRecord
 leaving w = where_it_applies (is_local w.place && nat_eq w.count 0 && not w.turn) (record w { place = Moving })
 
 -- it is far
-abbrev pub left : WordRecord → Option WordRecord
-left w = where_it_applies (is_moving w.place) (record w { place = Far })
+abbrev pub gone_far : WordRecord → Option WordRecord
+gone_far w = where_it_applies (is_moving w.place) (record w { place = Far })
 
 -- the object begins to return
 abbrev pub returning : WordRecord → Option WordRecord

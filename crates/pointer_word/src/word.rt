@@ -1,6 +1,6 @@
 //! Words.
 ghost use Rattle.std.specs.Prelude.{◌≡◌, None, IfSome};
-ghost use Rattle.pointer_word.specs.Words.{WordRecord, HasFields, word_number, new_word, opened, closed, taken, given, leaving, left, returning, home};
+ghost use Rattle.pointer_word.specs.Words.{WordRecord, HasFields, word_number, new_word, opened, closed, turn_taken, turn_given, leaving, gone_far, returning, home};
 
 use std::marker::Model;
 
@@ -130,7 +130,7 @@ impl Word {
 
     /// The turn is taken, where the object is here and nobody has it.
     pub fn taken(&self) -> Option<Self>
-        ensures { result ≡ taken self.now }
+        ensures { result ≡ turn_taken self.now }
     {
         if self.bits & PLACE == 0 && !self.has_turn() {
             Some(Word {
@@ -143,7 +143,7 @@ impl Word {
 
     /// The turn is given back with a stamp, which is at least the old one and at most [`STAMP_LIMIT`].
     pub fn given(&self, stamp: u64) -> Option<Self>
-        ensures { result ≡ given self.now stamp }
+        ensures { result ≡ turn_given self.now stamp }
     {
         if self.has_turn() && stamp >= self.stamp() && stamp <= STAMP_LIMIT {
             Some(Word {
@@ -169,7 +169,7 @@ impl Word {
 
     /// The object that was moving is far.
     pub fn left(&self) -> Option<Self>
-        ensures { result ≡ left self.now }
+        ensures { result ≡ gone_far self.now }
     {
         if self.bits & PLACE == 1 {
             Some(Word {

@@ -10,7 +10,7 @@ use Rattle.machine.specs.declared.state.Stepped.{Stepped}
 use Rattle.machine.specs.declared.state.Stepped.TheVariants as stepped
 use Rattle.machine.specs.MachineState.{MachineState}
 use Rattle.debugger.specs.DebugState.{DebugState, debug_start, hits}
-use Rattle.debugger.specs.Steps.{pauses}
+use Rattle.debugger.specs.Steps.{is_to_pause}
 use Rattle.debugger.specs.Showing.{state_of, shown_of}
 use Rattle.debugger.specs.declared.shown.State.{State}
 use Rattle.debugger.specs.declared.shown.Shown.{Shown}
@@ -58,7 +58,7 @@ no_hit : (w : Option Written) → hits w debug_start ≡ false
 no_hit None = refl
 no_hit (Some w) = refl
 
-never_held : (s : Option Stop) (slot : ℕ) → (is_none s && pauses slot debug_start) ≡ false
+never_held : (s : Option Stop) (slot : ℕ) → (is_none s && is_to_pause slot debug_start) ≡ false
 never_held None slot = refl
 never_held (Some s) slot = refl
 

@@ -26,7 +26,7 @@ use Rattle.world.specs.Kept.{commands_kept, replies_kept}
 use Rattle.world.specs.Undebugged.{undebugged, undebugged_machine, undebugged_command, undebugged_reply, undebugged_commands, undebugged_replies, is_pause, is_undebugged}
 use Rattle.world.specs.Unseen.{DebuggingChangesNothing, NeitherChangesAnything}
 use Rattle.world.proofs.Undebugged_machines.{undebugged_machines, found_undebugged, missing_undebugged, debugs_unseen, answers_undebugged, pauses_unseen, shown_undebugged}
-use Rattle.world.proofs.Unmoved.{moving_changes_nothing}
+use Rattle.world.proofs.Unmoved.{moving_changes_nothing, not_second}
 
 -- ---- what is done to the store
 
@@ -151,10 +151,6 @@ in_machines_unseen old new same e = ap undebugged e ∙ ap (λ (x : List Debugge
 
 -- ---- one command
 
-runs_on : (b : Bool) → not (false || b) ≡ true → b ≡ false
-runs_on true e = absurd (cc)
-runs_on false e = refl
-
 one_kept : (old new : WorldState) (c : Command) (r : Reply) → is_undebugged c r ≡ true → Answers old c r new
     → Answers (undebugged old) (undebugged_command c) (undebugged_reply r) (undebugged new)
 one_kept old new (Make size) r e h = make_kept old new size r h
@@ -166,8 +162,8 @@ one_kept old new (Leave n) r e h = move_kept BeginsLeave (reply.Leaving n) place
 one_kept old new (Left n) r e h = move_kept EndsLeave (reply.Left n) place.Here old new n r refl h
 one_kept old new (Return n) r e h = move_kept BeginsReturn (reply.Returning n) place.Far old new n r refl h
 one_kept old new (Returned n) r e h = move_kept (EndsReturn true) (reply.Home n) place.Far old new n r refl h
-one_kept old new (Step m) r e h = answers_undebugged (store_memory m) ByStep old.machines new.machines old.store new.store m r (runs_on (is_pause r) e) h
-one_kept old new (One m) r e h = answers_undebugged (store_memory m) ByOne old.machines new.machines old.store new.store m r (runs_on (is_pause r) e) h
+one_kept old new (Step m) r e h = answers_undebugged (store_memory m) ByStep old.machines new.machines old.store new.store m r (not_second (is_pause r) e) h
+one_kept old new (One m) r e h = answers_undebugged (store_memory m) ByOne old.machines new.machines old.store new.store m r (not_second (is_pause r) e) h
 one_kept old new (Regs m) r e h = (regs_kept old.machines m r h.0, ap undebugged h.1)
 one_kept old new (Out m) r e h = (out_kept old.machines m r h.0, ap undebugged h.1)
 one_kept old new (Stack m offset size) r e h = (stack_kept old.machines m offset size r h.0, ap undebugged h.1)

@@ -9,7 +9,7 @@ use Rattle.object_store.specs.declared.places.Place.TheVariants as place
 use Rattle.object_store.specs.declared.places.Moved.{Moved}
 use Rattle.object_store.specs.declared.places.Moved.TheVariants as moved
 use Rattle.object_store.specs.Stores.{StoreState, store_memory, Touches}
-use Rattle.object_store.specs.Calls.{Refuses, Frees, BeginsLeave, EndsLeave, BeginsReturn, EndsReturn}
+use Rattle.object_store.specs.Calls.{RefusesMove, Frees, BeginsLeave, EndsLeave, BeginsReturn, EndsReturn}
 use Rattle.machine.specs.declared.state.Stepped.{Stepped}
 use Rattle.machine.specs.declared.state.Stepped.TheVariants as stepped
 use Rattle.machine.specs.MachineState.{MachineState}
@@ -137,7 +137,7 @@ step_erased m way old new r e h =
 
 -- ---- moves
 
-refuses_stay : (from : Place) (old new : StoreState) (n : ℕ) (m : Moved) → Refuses from old n m new → new.objects ≡ old.objects
+refuses_stay : (from : Place) (old new : StoreState) (n : ℕ) (m : Moved) → RefusesMove from old n m new → new.objects ≡ old.objects
 refuses_stay from old new n moved.NoObject h = ap (λ (s : StoreState). s.objects) h.1
 refuses_stay from old new n (moved.Misplaced p) h = ap (λ (s : StoreState). s.objects) h.2
 refuses_stay from old new n _ h = absurd h
@@ -177,9 +177,9 @@ frees_plain old new n (moved.Fault f) h = absurd h
 
 -- ---- one command
 
-here : (b : Bool) → not (false || b) ≡ true → b ≡ false
-here true e = absurd (cc)
-here false e = refl
+pub not_second : (b : Bool) → not (false || b) ≡ true → b ≡ false
+not_second true e = absurd (cc)
+not_second false e = refl
 
 away : (b : Bool) → not (false || b) ≡ false → b ≡ true
 away true e = refl
@@ -207,8 +207,8 @@ one_kept old new (Leave n) r e h = absurd (cc)
 one_kept old new (Left n) r e h = absurd (cc)
 one_kept old new (Return n) r e h = absurd (cc)
 one_kept old new (Returned n) r e h = absurd (cc)
-one_kept old new (Step m) r e h = answers_plain m ByStep old.machines new.machines old.store new.store r (here (is_absence r) e) h
-one_kept old new (One m) r e h = answers_plain m ByOne old.machines new.machines old.store new.store r (here (is_absence r) e) h
+one_kept old new (Step m) r e h = answers_plain m ByStep old.machines new.machines old.store new.store r (not_second (is_absence r) e) h
+one_kept old new (One m) r e h = answers_plain m ByOne old.machines new.machines old.store new.store r (not_second (is_absence r) e) h
 one_kept old new _ r e h = (h.0, ap plain_of h.1)
 
 free_told : {P : Type 0} (r : Reply) (n : ℕ) (m : Moved) → r ≡ reply_to_move (reply.Freed n) place.Here n m → is_absence r ≡ true → P

@@ -7,7 +7,7 @@ use Rattle.machine.specs.MachineState.{MachineState}
 use Rattle.machine.specs.declared.state.Stepped.{Stepped}
 use Rattle.machine.specs.declared.state.Stepped.TheVariants as stepped
 use Rattle.debugger.specs.DebugState.{DebugState, hits}
-use Rattle.debugger.specs.Steps.{pauses, before, debugged_step, debugged_one}
+use Rattle.debugger.specs.Steps.{is_to_pause, before, debugged_step, debugged_one}
 use Rattle.world.specs.declared.debuggee.Debuggee.{Debuggee}
 use Rattle.world.specs.declared.events.Reply.{Reply}
 use Rattle.world.specs.declared.events.Reply.TheVariants.{Ran, Hit, Waiting, Stopped, Paused, Missing}
@@ -20,7 +20,7 @@ pub data Way : Type 0 where
 
 -- the machine isn't stopped, and it is paused or comes to a breakpoint that isn't to be passed
 abbrev pub is_held : Debuggee → Bool
-is_held d = is_none d.machine.stop && pauses d.machine.slot d.debugger
+is_held d = is_none d.machine.stop && is_to_pause d.machine.slot d.debugger
 
 -- the command pauses in place of a step
 abbrev pub holds_back : Way → Debuggee → Bool

@@ -70,8 +70,8 @@ away_waits (Accesses x) i old n op e = ap (λ k. waits k old) (asked_number (nat
 waiting_step : (who n : ℕ) (old : MachineState) (before : StoreState) (i : Instr) (op : Op) → Attempts old i → asks i old ≡ Touch n op → Reaches before.objects n op → place_of before.places n ≢ Here
     → TableStep (store_memory who) old before (stepped.Waiting n) old before
 waiting_step who n old before i op t e g p =
-    let answers : table.Answers (store_memory who) (asks i old) before (Reached reach.Away) before =
-    subst (λ (q : Request). table.Answers (store_memory who) q before (Reached reach.Away) before) (sym e) (g, p, refl) in
+    let answers : table.AnswersRequest (store_memory who) (asks i old) before (Reached reach.Away) before =
+    subst (λ (q : Request). table.AnswersRequest (store_memory who) q before (Reached reach.Away) before) (sym e) (g, p, refl) in
     record {
       closes = false;
       mid = before;

@@ -1,7 +1,7 @@
 -- Commands on objects have one answer.
 use Rattle.std.proofs.Common.{◌≡◌, ℕ, Bool, true, false, List, [], refl, ap, sym, ◌∙◌}
 use Rattle.object_store.specs.Stores.{StoreState, StandsAt, with_place}
-use Rattle.object_store.specs.Calls.{Refuses, Frees, BeginsLeave, EndsLeave, BeginsReturn, EndsReturn}
+use Rattle.object_store.specs.Calls.{RefusesMove, Frees, BeginsLeave, EndsLeave, BeginsReturn, EndsReturn}
 use Rattle.object_store.specs.declared.places.Place.{Place}
 use Rattle.object_store.specs.declared.places.Place.TheVariants as place
 use Rattle.object_store.specs.declared.places.Moved.{Moved}
@@ -92,12 +92,12 @@ settles told back n _ e = refl
 abbrev MovesOneWay : (StoreState → ℕ → Moved → StoreState → Type 0) → Type 0
 MovesOneWay moves = (old s t : StoreState) (n : ℕ) (m k : Moved) → moves old n m s → moves old n k t → s.faults ≡ t.faults → is_faulty m ≡ false → is_faulty k ≡ false → (m ≡ k) × (s ≡ t)
 
-stands : {X : Type 0} (from : Place) (old s : StoreState) (n : ℕ) (m : Moved) → Refuses from old n m s → StandsAt from old n → X
+stands : {X : Type 0} (from : Place) (old s : StoreState) (n : ℕ) (m : Moved) → RefusesMove from old n m s → StandsAt from old n → X
 stands from old s n moved.NoObject g h = absurd (g.0 h.0)
 stands from old s n (moved.Misplaced p) g h = absurd (g.1 (sym g.0.1 ∙ h.1))
 stands from old s n _ g h = absurd g
 
-refuses : (from : Place) (old s t : StoreState) (n : ℕ) (m k : Moved) → Refuses from old n m s → Refuses from old n k t → (m ≡ k) × (s ≡ t)
+refuses : (from : Place) (old s t : StoreState) (n : ℕ) (m k : Moved) → RefusesMove from old n m s → RefusesMove from old n k t → (m ≡ k) × (s ≡ t)
 refuses from old s t n moved.NoObject moved.NoObject g h = (refl, g.1 ∙ sym h.1)
 refuses from old s t n (moved.Misplaced p) (moved.Misplaced q) g h = (ap moved.Misplaced (sym g.0.1 ∙ h.0.1), g.2 ∙ sym h.2)
 refuses from old s t n moved.NoObject (moved.Misplaced q) g h = absurd (g.0 h.0.0)

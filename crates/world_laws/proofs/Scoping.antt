@@ -10,7 +10,7 @@ use Rattle.memory.specs.declared.access.Reach.TheVariants as reach
 use Rattle.scopes.specs.Windows.{holds, noted, without_oldest}
 use Rattle.object_store.specs.declared.places.Place.{Place}
 use Rattle.object_store.specs.declared.places.Place.TheVariants.{Here}
-use Rattle.object_store.specs.Stores.{StoreState, IsScoped, Touches, holders, place_of, weight, window_of}
+use Rattle.object_store.specs.Stores.{StoreState, window_count, IsScoped, Touches, holders, place_of, weight, window_of}
 use Rattle.object_store.proofs.Counting.{none_held}
 use Rattle.world.specs.declared.events.Reply.{Reply}
 use Rattle.world.specs.Commands.{Command}
@@ -111,7 +111,7 @@ one : (old new : WorldState) (c : Command) (r : Reply) → Holds old → Answers
 one old new c r o h = changed_here old.store new.store r o (store_changes old new c r h)
 
 first : (budget faults : ℕ) → Holds (world_start budget faults)
-first budget faults n s = let z = none_held 49 n in absurd (omega (arith, s, z))
+first budget faults n s = let z = none_held window_count n in absurd (omega (arith, s, z))
 
 pub scopes_stay : ScopesStay
 scopes_stay budget faults cs rs new h = run_keeps Holds (λ x y c r k g. one x y c r k g) (world_start budget faults) new cs rs (first budget faults) h

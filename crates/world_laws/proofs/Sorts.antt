@@ -24,7 +24,7 @@ use Rattle.world.specs.Steps.{Way, Steps, AnswersStep, holds_back}
 use Rattle.world.specs.Steps.Way.{ByStep, ByOne}
 use Rattle.world.specs.Debugging.{Debugs}
 use Rattle.world.specs.Answers.{Answers, AnswersMove, reply_to_move}
-use Rattle.world_laws.specs.Replies.{is_refusal, is_showing, is_on_objects, debugs, steps, shipped_codes, code_of}
+use Rattle.world_laws.specs.Replies.{is_refusal, is_showing, is_on_objects, machine_debugged, machine_stepped, shipped_codes, code_of}
 use Rattle.world_laws.specs.Moves.{MovesObject}
 use Rattle.world.proofs.Numbered.{with_same}
 use Rattle.world_laws.proofs.Replying.{Misses, Halts, step_replies}
@@ -42,7 +42,7 @@ pub record Marks : Type 0 where
   pub codes : List (List ℕ)
 
 abbrev pub marks_of : Command → Reply → Marks
-marks_of c r = record { showing = is_showing c; refused = is_refusal r; on_objects = is_on_objects c; debugged = debugs c; stepped = steps c; codes = shipped_codes (c ∷ []) (r ∷ []) }
+marks_of c r = record { showing = is_showing c; refused = is_refusal r; on_objects = is_on_objects c; debugged = machine_debugged c; stepped = machine_stepped c; codes = shipped_codes (c ∷ []) (r ∷ []) }
 
 abbrev pub object_marks : Bool → Marks
 object_marks b = record { showing = false; refused = b; on_objects = true; debugged = None; stepped = None; codes = [] }

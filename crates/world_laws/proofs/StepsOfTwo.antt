@@ -1,5 +1,5 @@
 -- Steps of two machines over one store: what they do to it may change places.
-use Rattle.std.proofs.Common.{◌≡◌, ◌≢◌, ℕ, zero, suc, Bool, true, false, List, [], ◌∷◌, length, get_or, set, refl, sym, ap, ◌∙◌, subst, inl, inr}
+use Rattle.std.proofs.Common.{◌≡◌, ◌≢◌, ℕ, Bool, true, false, List, [], length, get_or, set, refl, sym, ap, ◌∙◌, subst, inl, inr}
 use Rattle.std.proofs.lemmas.List.{get_or-set_other}
 use Rattle.memory.specs.declared.access.Op.{Op}
 use Rattle.memory.specs.declared.access.Reach.{Reach}
@@ -7,6 +7,7 @@ use Rattle.memory.specs.declared.access.Reach.TheVariants as reach
 use Rattle.memory.specs.Access.{IsInside, answer, after}
 use Rattle.memory.specs.Memories.{Memories}
 use Rattle.memory.specs.Objects.{bytes_of, with_bytes}
+use Rattle.memory.proofs.Accesses.{set_commutes}
 use Rattle.memory.proofs.Lengths.{length-after, length-set_at}
 use Rattle.scopes.specs.Windows.{noted}
 use Rattle.object_store.specs.declared.places.Place.{Place}
@@ -17,21 +18,19 @@ use Rattle.machine.specs.MachineState.{MachineState}
 use Rattle.machine.specs.Rows.{Request, MemoryAnswer, Outcome, asks}
 use Rattle.machine.specs.Rows.Request.{Nothing, Touch, Measure}
 use Rattle.machine.specs.Rows.MemoryAnswer.{NoAnswer, Reached, Measured}
-use Rattle.machine.specs.TableStep.{TableStep, Answers, Closes, StepsFrom}
-use Rattle.machine.specs.Laws.{Touches}
+use Rattle.machine.specs.TableStep.{TableStep, AnswersRequest, Closes, StepsFrom}
+use Rattle.machine.specs.Laws.{AccessesNext}
 use Rattle.machine.proofs.StepCases.{StepCase, step_case, steps_told, steps_stayed}
+use Rattle.machine.proofs.Others.{no_touch}
 
 -- ---- a step as a request and its answer, which does it again over any other store
 
 record Asked {M : Type 0} (mem : Memories M) (m : MachineState) (o : Outcome) (before mid : M) : Type 0 where
   request : Request
   said : MemoryAnswer
-  answers : Answers mem request before said mid
-  touches : (n : ℕ) (op : Op) → request ≡ Touch n op → Touches m n
-  again : (x y : M) → Answers mem request x said y → StepsFrom m.stop mem m x o y
-
-no_touch : {P : Type 0} (n : ℕ) (op : Op) → Nothing ≡ Touch n op → P
-no_touch n op e = absurd (cc)
+  answers : AnswersRequest mem request before said mid
+  touches : (n : ℕ) (op : Op) → request ≡ Touch n op → AccessesNext m n
+  again : (x y : M) → AnswersRequest mem request x said y → StepsFrom m.stop mem m x o y
 
 over : {M : Type 0} (mem : Memories M) (m : MachineState) (o p : Outcome) (x y : M) → o ≡ p → y ≡ x → StepsFrom m.stop mem m x p x → StepsFrom m.stop mem m x o y
 over mem m o p x y e f s = rw (e, f) s
@@ -85,7 +84,7 @@ Says s (Touch n op) (Reached r) = Allows op (bytes_of s.objects n) (place_of s.p
 Says s (Measure n) (Measured k) = k ≡ length (bytes_of s.objects n)
 Says s _ _ = ⊥
 
-split : (who : ℕ) (q : Request) (a : MemoryAnswer) (x y : StoreState) → Answers (store_memory who) q x a y → Says x q a × (y ≡ effect who q a x)
+split : (who : ℕ) (q : Request) (a : MemoryAnswer) (x y : StoreState) → AnswersRequest (store_memory who) q x a y → Says x q a × (y ≡ effect who q a x)
 split who Nothing NoAnswer x y h = (tt, h)
 split who Nothing _ x y h = absurd h
 split who (Touch n op) (Reached (reach.Done v)) x y h = ((h.0, h.1, h.2), h.3)
@@ -97,7 +96,7 @@ split who (Touch n op) _ x y h = absurd h
 split who (Measure n) (Measured k) x y h = (h.0, h.1)
 split who (Measure n) _ x y h = absurd h
 
-join : (who : ℕ) (q : Request) (a : MemoryAnswer) (x : StoreState) → Says x q a → Answers (store_memory who) q x a (effect who q a x)
+join : (who : ℕ) (q : Request) (a : MemoryAnswer) (x : StoreState) → Says x q a → AnswersRequest (store_memory who) q x a (effect who q a x)
 join who Nothing NoAnswer x h = refl
 join who Nothing _ x h = absurd h
 join who (Touch n op) (Reached (reach.Done v)) x h = (h.0, h.1, h.2, refl)
@@ -118,13 +117,6 @@ so_closes true who x y h = h
 so_closes false who x y h = h
 
 -- ---- two that are done
-
-set_commutes : {A : Type 0} (xs : List A) (n m : ℕ) (a b : A) → n ≢ m → set (set xs n a) m b ≡ set (set xs m b) n a
-set_commutes {A = A} [] n m a b h = refl
-set_commutes {A = A} (x ∷ xs) zero zero a b h = absurd (h refl)
-set_commutes {A = A} (x ∷ xs) zero (suc m) a b h = refl
-set_commutes {A = A} (x ∷ xs) (suc n) zero a b h = refl
-set_commutes {A = A} (x ∷ xs) (suc n) (suc m) a b h = ap (λ (ys : List A). x ∷ ys) (set_commutes xs n m a b (λ e. h (ap suc e)))
 
 -- two that change by what they were
 changed_commute : (xs : List (List ℕ)) (n m : ℕ) (f g : List ℕ → List ℕ) → n ≢ m
@@ -229,7 +221,7 @@ record Stepping (who : ℕ) (p : MachineState) (x : StoreState) (a : Stepped) (q
   closes : Bool
   says : Says x request said
   becomes : y ≡ acted who request said closes x
-  touches : (n : ℕ) (op : Op) → request ≡ Touch n op → Touches p n
+  touches : (n : ℕ) (op : Op) → request ≡ Touch n op → AccessesNext p n
   again : (s t : StoreState) → Says s request said → t ≡ acted who request said closes s → TableStep (store_memory who) p s a q t
 
 stepping_so : (who : ℕ) (p q : MachineState) (x y : StoreState) (a : Stepped) → TableStep (store_memory who) p x a q y → Stepping who p x a q y
@@ -252,7 +244,7 @@ stepping_so who p q x y a t =
       };
     }
 
-pub store_steps_commute : (m k : ℕ) (p q r s : MachineState) (before mid after : StoreState) (a b : Stepped) → m ≢ k → ((n : ℕ) → Touches p n → Touches q n → ⊥)
+pub store_steps_commute : (m k : ℕ) (p q r s : MachineState) (before mid after : StoreState) (a b : Stepped) → m ≢ k → ((n : ℕ) → AccessesNext p n → AccessesNext q n → ⊥)
     → TableStep (store_memory m) p before a r mid → TableStep (store_memory k) q mid b s after
     → (other : StoreState) × TableStep (store_memory k) q before b s other × TableStep (store_memory m) p other a r after
 store_steps_commute m k p q r s before mid after a b d apart t u =

@@ -1,13 +1,9 @@
 -- A step has one answer.
-use Rattle.std.proofs.Common.{◌≡◌, ℕ, true, false, List, Option, Some, refl, ap, sym, subst, ◌∙◌, inl, inr}
+use Rattle.std.proofs.Common.{◌≡◌, ℕ, true, false, List, Option, Some, ap, sym, subst, ◌∙◌, inl, inr}
 use Rattle.std.specs.Prelude.{◌⊎◌}
-use Rattle.memory.specs.declared.access.Op.{Op}
-use Rattle.memory.specs.declared.access.Reach.{Reach}
-use Rattle.memory.specs.declared.access.Reach.TheVariants as reach
-use Rattle.object_store.specs.Stores.{StoreState, store_memory, Touches}
+use Rattle.object_store.specs.Stores.{StoreState, store_memory}
 use Rattle.machine.specs.MachineState.{MachineState}
 use Rattle.machine.specs.TableStep.{TableStep}
-use Rattle.machine.specs.Laws.{IsDetermined}
 use Rattle.machine.specs.declared.state.Stepped.{Stepped}
 use Rattle.machine.proofs.OneWay.{steps_one_way}
 use Rattle.debugger.specs.Steps.{before}
@@ -18,26 +14,7 @@ use Rattle.world.specs.WorldState.{machine_at, with_machine}
 use Rattle.world.specs.Steps.{Way, Steps, AnswersStep, holds_back, debugged, reply_to_step}
 use Rattle.world_laws.proofs.Machines.{found_once, found_none}
 use Rattle.world_laws.proofs.Replying.{Misses, Halts, step_cases}
-
--- ---- one access
-
-reached : (who : ℕ) (old a b : StoreState) (n : ℕ) (op : Op) (r s : Reach) → Touches who old n op r a → Touches who old n op s b → (r ≡ s) × (a ≡ b)
-reached who old a b n op (reach.Done x) (reach.Done y) g h = (ap reach.Done (g.2 ∙ sym h.2), g.3 ∙ sym h.3)
-reached who old a b n op reach.Outside reach.Outside g h = (refl, g.1 ∙ sym h.1)
-reached who old a b n op reach.Away reach.Away g h = (refl, g.2 ∙ sym h.2)
-reached who old a b n op (reach.Done x) reach.Outside g h = absurd (h.0 g.0)
-reached who old a b n op (reach.Done x) reach.Away g h = absurd (h.1 g.1)
-reached who old a b n op reach.Outside (reach.Done y) g h = absurd (g.0 h.0)
-reached who old a b n op reach.Outside reach.Away g h = absurd (g.0 h.0)
-reached who old a b n op reach.Away (reach.Done y) g h = absurd (g.1 h.1)
-reached who old a b n op reach.Away reach.Outside g h = absurd (h.0 g.0)
-reached who old a b n op (reach.Done x) _ g h = absurd h
-reached who old a b n op reach.Outside _ g h = absurd h
-reached who old a b n op reach.Away _ g h = absurd h
-reached who old a b n op _ _ g h = absurd g
-
-determined : (who : ℕ) → IsDetermined (store_memory who)
-determined who = record { reached = reached who; closed = λ old a b g h. g ∙ sym h }
+use Rattle.world_laws.proofs.Awaited.{store_determined}
 
 -- ---- one step
 
@@ -62,7 +39,7 @@ steps_same : (who : ℕ) (way : Way) (old new other : List Debuggee) (s t u : St
 steps_same who way old new other s t u a b d e =
     let x = found_once (machine_at old who) d.debuggee e.debuggee d.found e.found in
     let step : TableStep (store_memory who) e.debuggee.machine s d.answer d.machine t = subst (λ (y : Debuggee). TableStep (store_memory who) y.machine s d.answer d.machine t) x d.step in
-    let y = steps_one_way (store_memory who) (determined who) e.debuggee.machine d.machine e.machine s t u d.answer e.answer step e.step in (
+    let y = steps_one_way (store_memory who) (store_determined who) e.debuggee.machine d.machine e.machine s t u d.answer e.answer step e.step in (
       d.told ∙ ap (λ (r : Stepped). reply_to_step who r d.machine.slot d.debuggee.debugger) y.0
           ∙ ap (λ (m : MachineState). reply_to_step who e.answer m.slot d.debuggee.debugger) y.1
           ∙ ap (λ (z : Debuggee). reply_to_step who e.answer e.machine.slot z.debugger) x ∙ sym e.told,

@@ -6,7 +6,7 @@ use Rattle.object_store.specs.declared.places.Place.TheVariants as place
 use Rattle.object_store.specs.declared.places.Moved.{Moved}
 use Rattle.object_store.specs.declared.places.Moved.TheVariants as moved
 use Rattle.object_store.specs.Stores.{StoreState, StandsAt, HasRoom, HasRisen, IsScoped, near_bytes, near_length, with_place}
-use Rattle.object_store.specs.Calls.{Refuses, BeginsLeave, EndsLeave, BeginsReturn, EndsReturn}
+use Rattle.object_store.specs.Calls.{RefusesMove, BeginsLeave, EndsLeave, BeginsReturn, EndsReturn}
 use Rattle.world.specs.declared.events.Reply.{Reply}
 use Rattle.world.specs.declared.events.Reply.TheVariants as reply
 use Rattle.world.specs.Answers.{reply_to_move}
@@ -79,7 +79,7 @@ pub data Move (old : StoreState) (n : ℕ) (r : Reply) (new : StoreState) : Type
   Refused : is_placing r ≡ false → new ≡ old → Move old n r new
   Moves : («from» to : Place) (faults : ℕ) → IsMove old n «from» to faults r → new ≡ record (with_place old n to) { faults = faults } → Move old n r new
 
-refused : (at : Place) (old new : StoreState) (n : ℕ) (m : Moved) (told : Reply) (back : Place) → Refuses at old n m new → Move old n (reply_to_move told back n m) new
+refused : (at : Place) (old new : StoreState) (n : ℕ) (m : Moved) (told : Reply) (back : Place) → RefusesMove at old n m new → Move old n (reply_to_move told back n m) new
 refused at old new n moved.NoObject told back h = Refused refl h.1
 refused at old new n (moved.Misplaced q) told back h = Refused refl h.2
 refused at old new n _ told back h = absurd h

@@ -4,7 +4,7 @@ use Rattle.std.proofs.lemmas.Bool.Decides.{nat_tests}
 use Rattle.isa_table.specs.declared.instr.Instr.{Instr}
 use Rattle.memory.specs.declared.access.Reach.{Reach}
 use Rattle.memory.specs.declared.access.Reach.TheVariants as reach
-use Rattle.memory.specs.Access.{Writes, writes}
+use Rattle.memory.specs.Access.{WritesAt, writes}
 use Rattle.memory.specs.Objects.{bytes_of, map_reaches}
 use Rattle.memory.proofs.Accesses.{bytes_stay, others, lengths}
 use Rattle.object_store.specs.Stores.{StoreState, store_memory, Touches}
@@ -18,7 +18,7 @@ use Rattle.machine.specs.MachineState.{MachineState, own_stack}
 use Rattle.machine.specs.Rows.{MemoryAnswer, Outcome, asks_for, told_for, told_access, range, work_of}
 use Rattle.machine.specs.Rows.Request.{Nothing, Touch}
 use Rattle.machine.specs.Rows.MemoryAnswer.{NoAnswer, Reached, Measured}
-use Rattle.machine.specs.TableStep.{Answers, Closes}
+use Rattle.machine.specs.TableStep.{AnswersRequest, Closes}
 use Rattle.machine.proofs.StepCases.{StepCase, step_case}
 use Rattle.world_laws.specs.Stepping.{IsTold, ChangesTold, StepsTellWhatTheyWrite}
 
@@ -41,7 +41,7 @@ byte_told : (b : Bool) (x : Accessing) (v n i : ℕ) (a : Stepped) (before mid :
     → (IsTold a n i → ⊥) → get_or (bytes_of mid n) i 0 ≡ get_or (bytes_of before n) i 0
 byte_told true x v n i a before mid e h s d =
     let same : n ≡ x.number = grind (arith, nat_tests) in
-    let untold : Writes x.op v i → ⊥ = λ w. d (subst (λ (z : Stepped). IsTold z n i) (sym (s ∙ ap Ran (range_told (writes x.op.action v) _ w.wrote))) (same, w.from, w.to)) in
+    let untold : WritesAt x.op v i → ⊥ = λ w. d (subst (λ (z : Stepped). IsTold z n i) (sym (s ∙ ap Ran (range_told (writes x.op.action v) _ w.wrote))) (same, w.from, w.to)) in
     subst (λ k. get_or (bytes_of mid k) i 0 ≡ get_or (bytes_of before k) i 0) (sym same) (bytes_stay before mid x.number x.op v i h untold)
 byte_told false x v n i a before mid e h s d =
     let other : n ≢ x.number = grind (arith, nat_tests) in
@@ -60,14 +60,14 @@ same_store : (a : Stepped) (before mid : StoreState) → mid ≡ before → Chan
 same_store a before mid e = same_told a before.objects mid.objects (ap (λ (s : StoreState). s.objects) e)
 
 access_told : (who : ℕ) (own : Bool) (x : Accessing) (i : Instr) (m : MachineState) (said : MemoryAnswer) (a : Stepped) (before mid : StoreState)
-    → Answers (store_memory who) (cond own Nothing (Touch x.number x.op)) before said mid → a ≡ (told_access i x m said).answer → ChangesTold a before.objects mid.objects
+    → AnswersRequest (store_memory who) (cond own Nothing (Touch x.number x.op)) before said mid → a ≡ (told_access i x m said).answer → ChangesTold a before.objects mid.objects
 access_told who true x i m NoAnswer a before mid h s = same_store a before mid h
 access_told who true x i m _ a before mid h s = absurd h
 access_told who false x i m (Reached r) a before mid h s = reach_told who x i m r a before mid h s
 access_told who false x i m _ a before mid h s = absurd h
 
 work_told : (who : ℕ) (w : Work) (i : Instr) (m : MachineState) (said : MemoryAnswer) (a : Stepped) (before mid : StoreState)
-    → Answers (store_memory who) (asks_for w) before said mid → a ≡ (told_for w i m said).answer → ChangesTold a before.objects mid.objects
+    → AnswersRequest (store_memory who) (asks_for w) before said mid → a ≡ (told_for w i m said).answer → ChangesTold a before.objects mid.objects
 work_told who Computes i m NoAnswer a before mid h s = same_store a before mid h
 work_told who Computes i m _ a before mid h s = absurd h
 work_told who (Measures n) i m (Measured k) a before mid h s = same_store a before mid h.1

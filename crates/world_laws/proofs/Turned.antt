@@ -4,7 +4,7 @@ use Rattle.object_store.specs.Stores.{StoreState, store_memory}
 use Rattle.machine.specs.declared.state.Stepped.{Stepped}
 use Rattle.machine.specs.MachineState.{MachineState}
 use Rattle.machine.specs.TableStep.{TableStep}
-use Rattle.machine.specs.Laws.{Touches}
+use Rattle.machine.specs.Laws.{AccessesNext}
 use Rattle.debugger.specs.Steps as debugging
 use Rattle.world.specs.declared.debuggee.Debuggee.{Debuggee}
 use Rattle.world.specs.declared.events.Reply.{Reply}
@@ -31,7 +31,7 @@ Does who (Row p a q) x y = TableStep (store_memory who) p x a q y
 
 abbrev Reaches : Kind → ℕ → Type 0
 Reaches Idle n = ⊥
-Reaches (Row p a q) n = Touches p n
+Reaches (Row p a q) n = AccessesNext p n
 
 abbrev put_in : List Debuggee → ℕ → Option Debuggee → List Debuggee
 put_in xs m None = xs
@@ -45,7 +45,7 @@ IfPut (Some e) P = P
 record Going (xs : List Debuggee) (m n : ℕ) : Type 0 where
   debuggee : Debuggee
   found : machine_at xs m ≡ Some debuggee
-  touches : Touches debuggee.machine n
+  touches : AccessesNext debuggee.machine n
 
 record Local (way : Way) (m : ℕ) (r : Reply) (old : List Debuggee) (before : StoreState) (new : List Debuggee) (after : StoreState) : Type 0 where
   kind : Kind

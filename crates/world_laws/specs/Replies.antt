@@ -60,29 +60,29 @@ abbrev pub machine_in : Debuggee → MachineState
 machine_in d = d.machine
 
 -- the machine that a debugging command names
-abbrev pub debugs : Command → Option ℕ
-debugs (Break m slot) = Some m
-debugs (Unbreak m slot) = Some m
-debugs (Watch m address size) = Some m
-debugs (Unwatch m address size) = Some m
-debugs (Resume m) = Some m
-debugs _ = None
+abbrev pub machine_debugged : Command → Option ℕ
+machine_debugged (Break m slot) = Some m
+machine_debugged (Unbreak m slot) = Some m
+machine_debugged (Watch m address size) = Some m
+machine_debugged (Unwatch m address size) = Some m
+machine_debugged (Resume m) = Some m
+machine_debugged _ = None
 
 -- A debugging command leaves the objects, every machine, and the debug state of every other machine as they were.
 abbrev pub DebuggingChangesDebugStateAlone : Type 0
-DebuggingChangesDebugStateAlone = (old new : WorldState) (command : Command) (reply : Reply) (m : ℕ) → Answers old command reply new → debugs command ≡ Some m
+DebuggingChangesDebugStateAlone = (old new : WorldState) (command : Command) (reply : Reply) (m : ℕ) → Answers old command reply new → machine_debugged command ≡ Some m
     → (new.store ≡ old.store) × (map machine_in new.machines ≡ map machine_in old.machines)
     × ((k : ℕ) → k ≢ m → machine_at new.machines k ≡ machine_at old.machines k)
 
 -- the machine that makes a step
-abbrev pub steps : Command → Option ℕ
-steps (Step m) = Some m
-steps (One m) = Some m
-steps _ = None
+abbrev pub machine_stepped : Command → Option ℕ
+machine_stepped (Step m) = Some m
+machine_stepped (One m) = Some m
+machine_stepped _ = None
 
 -- A step of one machine leaves every other machine, and its debug state, as they were.
 abbrev pub OthersStay : Type 0
-OthersStay = (old new : WorldState) (command : Command) (reply : Reply) (m k : ℕ) → Answers old command reply new → steps command ≡ Some m → k ≢ m
+OthersStay = (old new : WorldState) (command : Command) (reply : Reply) (m k : ℕ) → Answers old command reply new → machine_stepped command ≡ Some m → k ≢ m
     → machine_at new.machines k ≡ machine_at old.machines k
 
 -- the code of each command `ship` that was answered `shipped`, in order
@@ -120,7 +120,7 @@ MachinesStay = (old new : WorldState) (command : Command) (reply : Reply) → An
 
 -- Commands on machines leave the objects as they were, but for steps.
 abbrev pub ObjectsStay : Type 0
-ObjectsStay = (old new : WorldState) (command : Command) (reply : Reply) → Answers old command reply new → is_on_objects command ≡ false → steps command ≡ None → new.store ≡ old.store
+ObjectsStay = (old new : WorldState) (command : Command) (reply : Reply) → Answers old command reply new → is_on_objects command ≡ false → machine_stepped command ≡ None → new.store ≡ old.store
 
 -- Writing bytes into an object leaves every other object as it was.
 abbrev pub PutsStayApart : Type 0

@@ -12,7 +12,7 @@ use Rattle.machine.specs.declared.state.Stepped.TheVariants as stepped
 use Rattle.machine.specs.Rows.{asks}
 use Rattle.machine.specs.Rows.Request.{Touch}
 use Rattle.machine.specs.TableStep.{Attempts}
-use Rattle.machine.specs.Laws.{Touches}
+use Rattle.machine.specs.Laws.{AccessesNext}
 use Rattle.world.specs.declared.debuggee.Debuggee.{Debuggee}
 use Rattle.world.specs.declared.events.Reply.{Reply}
 use Rattle.world.specs.declared.events.Reply.TheVariants.{Waiting}
@@ -84,7 +84,7 @@ StepsTellWhatTheyWrite = (old new : WorldState) (way : Way) (m : ℕ) (reply : R
 pub record Comes (w : WorldState) (m n : ℕ) : Type 0 where
   pub debuggee : Debuggee
   pub found : machine_at w.machines m ≡ Some debuggee
-  pub touches : Touches debuggee.machine n
+  pub touches : AccessesNext debuggee.machine n
 
 -- Where two machines come to no common object, their steps may change places: the replies are the same, and so is the
 -- state after both.

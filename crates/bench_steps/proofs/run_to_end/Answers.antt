@@ -1,6 +1,6 @@
 use Rattle.std.proofs.Common.{arith, refl}
 use Rattle.machine.proofs.Fuel.{ran_paid}
-use Rattle.bench_steps.specs.Reached.Reaches.{here, on}
+use Rattle.bench_steps.specs.Reached.RunsTo.{here, on}
 use Rattle.bench_steps.proofs.run_to_end.Goals as goal
 
 pub run-init : goal.run-init
