@@ -1,3 +1,4 @@
+mod Finding
 pub mod LineTokens
 pub mod CommandReading
 pub mod Clips

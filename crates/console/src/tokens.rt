@@ -7,6 +7,7 @@ ghost use Rattle.console.specs.Tokens.{tokens_left, tokens_of, AreNumbers, AreBy
 
 use crate::fault::LineFault;
 use crate::kind::{Limits, NUMBERS};
+use memchr::memchr;
 
 /// The tokens that are still to be read.
 #[derive(Drop)]
@@ -177,12 +178,12 @@ fn is_hex(token: &[u8]) -> bool
 fn are_hex_digits(token: &[u8]) -> bool
     ensures { IsTrue result ↔ AllPass is_hex_digit token.now }
 {
+    // no early exit: so many digits are tested by one instruction
+    let mut all = true;
     for b in token {
-        if !is_digit(*b) {
-            return false;
-        }
+        all &= is_digit(*b);
     }
-    true
+    all
 }
 
 fn is_digit(b: u8) -> bool
@@ -197,5 +198,5 @@ pub fn find(byte: u8, text: &[u8]) -> Option<usize>
         × All (λ b. b ≢ byte) (take at text.now)) }
     ensures none { IfNone result (All (λ b. b ≢ byte) text.now) }
 {
-    text.iter().position(|b| *b == byte)
+    memchr(byte, text)
 }
