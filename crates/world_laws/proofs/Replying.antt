@@ -1,7 +1,6 @@
 -- The answers to a step.
-use Rattle.std.proofs.Common.{◌≡◌, ℕ, Bool, true, false, List, None, refl, ap, inl, inr}
-use Rattle.std.specs.Prelude.{◌⊎◌, cond}
-use Rattle.memory.specs.Memories.{Memories}
+use Rattle.std.proofs.Common.{◌≡◌, ℕ, Bool, true, false, List, None}
+use Rattle.std.specs.Prelude.{cond}
 use Rattle.machine.specs.declared.state.Stop.{Stop}
 use Rattle.machine.specs.declared.state.Stepped.{Stepped}
 use Rattle.machine.specs.declared.state.Stepped.TheVariants as stepped
@@ -10,7 +9,7 @@ use Rattle.world.specs.declared.debuggee.Debuggee.{Debuggee}
 use Rattle.world.specs.declared.events.Reply.{Reply}
 use Rattle.world.specs.declared.events.Reply.TheVariants.{Ran, Hit, Waiting, Stopped, Paused, Missing}
 use Rattle.world.specs.WorldState.{machine_at}
-use Rattle.world.specs.Steps.{Way, Steps, Pauses, AnswersStep, reply_to_step}
+use Rattle.world.specs.Steps.{Way, Pauses, reply_to_step}
 
 by_hit : (P : Reply → Type 0) (b : Bool) (m slot : ℕ) → P (Ran m slot) → P (Hit m slot) → P (cond b (Hit m slot) (Ran m slot))
 by_hit P true m slot p q = q
@@ -35,11 +34,3 @@ pub record Halts {S : Type 0} (way : Way) (old : List Debuggee) (before : S) (m 
   pub slot : ℕ
   pub told : reply ≡ Paused m slot
   pub pauses : Pauses way old before m slot new after
-
--- the three answers to a step
-pub step_cases : {S : Type 0} (memory : Memories S) (way : Way) (old : List Debuggee) (before : S) (m : ℕ) (reply : Reply) (new : List Debuggee) (after : S)
-    → AnswersStep memory way old before m reply new after
-    → Misses old before m reply new after ⊎ Halts way old before m reply new after ⊎ Steps memory way old before m reply new after
-step_cases memory way old before m Missing new after h = inl (record { told = refl; missing = h.0; changed = h.1; same = h.2 })
-step_cases memory way old before m (Paused k slot) new after h = inr (inl (record { slot = slot; told = ap (λ n. Paused n slot) h.0; pauses = h.1 }))
-step_cases memory way old before m _ new after h = inr (inr h)

@@ -1,6 +1,5 @@
 -- A step has one answer.
-use Rattle.std.proofs.Common.{◌≡◌, ℕ, true, false, List, Option, Some, ap, sym, subst, ◌∙◌, inl, inr}
-use Rattle.std.specs.Prelude.{◌⊎◌}
+use Rattle.std.proofs.Common.{◌≡◌, ℕ, true, false, List, Option, Some, ap, sym, subst, ◌∙◌}
 use Rattle.object_store.specs.Stores.{StoreState, store_memory}
 use Rattle.machine.specs.MachineState.{MachineState}
 use Rattle.machine.specs.TableStep.{TableStep}
@@ -13,13 +12,11 @@ use Rattle.world.specs.declared.events.Reply.TheVariants.{Paused}
 use Rattle.world.specs.WorldState.{machine_at, with_machine}
 use Rattle.world.specs.Steps.{Way, Steps, AnswersStep, holds_back, debugged, reply_to_step}
 use Rattle.world_laws.proofs.Machines.{found_once, found_none}
-use Rattle.world_laws.proofs.Replying.{Misses, Halts, step_cases}
+use Rattle.world_laws.proofs.Replying.{Halts}
+use Rattle.world_laws.proofs.Answered.{StepAnswer, NoMachine, Pause, TableRow, parted}
 use Rattle.world_laws.proofs.Awaited.{store_determined}
 
 -- ---- one step
-
-abbrev Cases : ℕ → Way → List Debuggee → StoreState → Reply → List Debuggee → StoreState → Type 0
-Cases who way old s reply new t = Misses old s who reply new t ⊎ Halts way old s who reply new t ⊎ Steps (store_memory who) way old s who reply new t
 
 abbrev Same : List Debuggee → List Debuggee → StoreState → StoreState → Reply → Reply → Type 0
 Same new other t u a b = (a ≡ b) × (new ≡ other) × (t ≡ u)
@@ -55,20 +52,20 @@ not_both way o d e f g h k =
     let x : holds_back way d ≡ holds_back way e = ap (holds_back way) (found_once o d e f g) in
     absurd (cc)
 
-cases_same : (who : ℕ) (way : Way) (old new other : List Debuggee) (s t u : StoreState) (a b : Reply) → Cases who way old s a new t → Cases who way old s b other u → Same new other t u a b
-cases_same who way old new other s t u a b (inl d) (inl e) = (d.told ∙ sym e.told, d.changed ∙ sym e.changed, d.same ∙ sym e.same)
-cases_same who way old new other s t u a b (inl d) (inr (inl e)) = found_none (machine_at old who) e.pauses.debuggee d.missing e.pauses.found
-cases_same who way old new other s t u a b (inl d) (inr (inr e)) = found_none (machine_at old who) e.debuggee d.missing e.found
-cases_same who way old new other s t u a b (inr (inl d)) (inl e) = found_none (machine_at old who) d.pauses.debuggee e.missing d.pauses.found
-cases_same who way old new other s t u a b (inr (inr d)) (inl e) = found_none (machine_at old who) d.debuggee e.missing d.found
-cases_same who way old new other s t u a b (inr (inl d)) (inr (inl e)) = waits_same who way old new other s t u a b d e
-cases_same who way old new other s t u a b (inr (inr d)) (inr (inr e)) = steps_same who way old new other s t u a b d e
-cases_same who way old new other s t u a b (inr (inl d)) (inr (inr e)) =
+cases_same : (who : ℕ) (way : Way) (old new other : List Debuggee) (s t u : StoreState) (a b : Reply) → StepAnswer (store_memory who) way old s who a new t → StepAnswer (store_memory who) way old s who b other u → Same new other t u a b
+cases_same who way old new other s t u a b (NoMachine d) (NoMachine e) = (d.told ∙ sym e.told, d.changed ∙ sym e.changed, d.same ∙ sym e.same)
+cases_same who way old new other s t u a b (NoMachine d) (Pause e) = found_none (machine_at old who) e.pauses.debuggee d.missing e.pauses.found
+cases_same who way old new other s t u a b (NoMachine d) (TableRow e) = found_none (machine_at old who) e.debuggee d.missing e.found
+cases_same who way old new other s t u a b (Pause d) (NoMachine e) = found_none (machine_at old who) d.pauses.debuggee e.missing d.pauses.found
+cases_same who way old new other s t u a b (TableRow d) (NoMachine e) = found_none (machine_at old who) d.debuggee e.missing d.found
+cases_same who way old new other s t u a b (Pause d) (Pause e) = waits_same who way old new other s t u a b d e
+cases_same who way old new other s t u a b (TableRow d) (TableRow e) = steps_same who way old new other s t u a b d e
+cases_same who way old new other s t u a b (Pause d) (TableRow e) =
     not_both way (machine_at old who) d.pauses.debuggee e.debuggee d.pauses.found e.found d.pauses.held e.goes
-cases_same who way old new other s t u a b (inr (inr d)) (inr (inl e)) =
+cases_same who way old new other s t u a b (TableRow d) (Pause e) =
     not_both way (machine_at old who) e.pauses.debuggee d.debuggee e.pauses.found d.found e.pauses.held d.goes
 
 pub step_same : (who : ℕ) (way : Way) (old new other : List Debuggee) (s t u : StoreState) (a b : Reply) → AnswersStep (store_memory who) way old s who a new t
     → AnswersStep (store_memory who) way old s who b other u → (a ≡ b) × (new ≡ other) × (t ≡ u)
 step_same who way old new other s t u a b g h =
-    cases_same who way old new other s t u a b (step_cases (store_memory who) way old s who a new t g) (step_cases (store_memory who) way old s who b other u h)
+    cases_same who way old new other s t u a b (parted (store_memory who) way old s who a new t g) (parted (store_memory who) way old s who b other u h)
