@@ -1,7 +1,11 @@
 //! Bytes in, bytes out.
-ghost use Rattle.std.specs.Prelude.{◌≡◌, ◌++◌, ◌<◌, ◌≤◌, ℕ, List, [], length, IfSome, OnOk, OnErr, IsFalse};
+ghost use Rattle.std.specs.Prelude.{◌≡◌, ◌++◌, ◌<◌, ◌≤◌, ℕ, List, [], length, Ok, IfSome, OnOk, OnErr, IsFalse};
 ghost use Rattle.std.specs.Result.{IsErrOf};
-ghost use Rattle.console.specs.Lines.{IsLine};
+ghost use Rattle.world.specs.Commands.{command_of};
+ghost use Rattle.world.specs.Answers.{Answers};
+ghost use Rattle.world.specs.declared.events.Reply.{Reply};
+ghost use Rattle.console.specs.Lines.{IsLine, ended};
+ghost use Rattle.console.specs.Replies.{reply_text};
 ghost use Rattle.console.specs.Commands.{Reads, SpellsCommand};
 ghost use Rattle.console.specs.Held.{bytes_so_far, clip, held_bytes, nothing_held};
 ghost use Rattle.console.specs.Conversations.{Answered, AnswersSoFar, AnswersAll, FailsInReply, StopsReading, StopsWriting};
@@ -9,7 +13,7 @@ ghost use Rattle.console.specs.Agent.{agent};
 
 use crate::console::Console;
 use crate::fault::{DriveFault, LineFault};
-use crate::replies::{ReplyLine, print_fault, print_reply};
+use crate::replies::{ReplyLine, print_fault, print_reply, print_step};
 use crate::writing::{WriteFault, put_all};
 use far_store::FarStore;
 use std::io::{Read, Write};
@@ -17,6 +21,14 @@ use world::{Event, World};
 
 /// How many bytes a read asks for.
 const PIECE: usize = 4096;
+
+/// Does a command that a line spells, and makes the line of the reply.
+fn perform_event<F: FarStore>(world: &mut World<F>, event: Event, reply: &mut ReplyLine)
+    requires { (line : List ℕ) × Reads (SpellsCommand line) (Ok event) }
+    ensures { (told : Reply) × Answers world.old (command_of event) told world.new × (reply.new.items ≡ ended (reply_text told)) }
+{
+    print_reply(&world.apply(event), reply);
+}
 
 /// Does what a line says, and makes the line of the reply.
 fn perform<F: FarStore>(
@@ -28,7 +40,9 @@ fn perform<F: FarStore>(
     ensures { (line : List ℕ) → IsLine line → Reads (SpellsCommand line) command → Answered agent world.old line reply.new.items world.new }
 {
     match command {
-        Ok(event) => print_reply(&world.apply(event), reply),
+        // a step's reply is small, and isn't moved as one that may be large
+        Ok(Event::Step { machine }) => print_step(machine, world.step(machine), reply),
+        Ok(event) => perform_event(world, event, reply),
         Err(fault) => print_fault(fault, reply),
     }
 }

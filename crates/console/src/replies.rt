@@ -4,6 +4,7 @@ ghost use Rattle.arrayvec.specs.ArrayVec.{array_vec_len};
 ghost use Rattle.console.specs.Lines.{ended, bad_text, nomem_text};
 ghost use Rattle.hex.specs.Hex.{encode_lower};
 ghost use Rattle.loader.specs.Refusals.{why_name};
+ghost use Rattle.world.specs.Steps.{reply_of};
 ghost use Rattle.console.specs.Replies.{reply_text, number_text, value_text, stop_name, stop_value_text, state_name, shown_text, place_name, IsShort};
 
 use crate::fault::LineFault;
@@ -12,7 +13,7 @@ use debugger::{Shown, State};
 use loader::LoadError;
 use machine::Stop;
 use object_store::Place;
-use world::Reply;
+use world::{Reply, StepReply};
 
 /// The most bytes of a reply, with its line end.
 pub const REPLY_LIMIT: usize = 8_200;
@@ -259,6 +260,25 @@ pub fn print_reply(reply: &Reply, line: &mut ReplyLine)
         Reply::NotPaused => put(line, b"notpaused"),
         Reply::Refused(error) => put_refusal(line, error),
         Reply::Missing => put(line, b"none"),
+    }
+    put(line, b"\n");
+}
+
+/// Makes this the line of the reply to a step of a machine.
+pub fn print_step(machine: usize, reply: StepReply, line: &mut ReplyLine)
+    ensures { line.new.items ≡ ended (reply_text (reply_of machine reply)) }
+{
+    line.clear();
+    match reply {
+        StepReply::Ran(slot) => put_pair(line, b"ran", machine as u64, slot as u64),
+        StepReply::Hit(slot) => put_pair(line, b"hit", machine as u64, slot as u64),
+        StepReply::Waiting(object) => put_pair(line, b"waiting", machine as u64, object as u64),
+        StepReply::Paused(slot) => put_pair(line, b"paused", machine as u64, slot as u64),
+        StepReply::Stopped(stop) => {
+            put_named(line, b"stopped", machine as u64);
+            put_stop(line, stop);
+        }
+        StepReply::Missing => put(line, b"none"),
     }
     put(line, b"\n");
 }

@@ -5,3 +5,4 @@ pub mod Laws
 pub mod FramePointer
 pub mod Replay
 pub mod Carrying
+pub mod Variants

@@ -11,6 +11,8 @@ use Rattle.debugger.specs.Steps.{is_to_pause, before, debugged_step, debugged_on
 use Rattle.world.specs.declared.debuggee.Debuggee.{Debuggee}
 use Rattle.world.specs.declared.events.Reply.{Reply}
 use Rattle.world.specs.declared.events.Reply.TheVariants.{Ran, Hit, Waiting, Stopped, Paused, Missing}
+use Rattle.world.specs.declared.events.StepReply.{StepReply}
+use Rattle.world.specs.declared.events.StepReply.TheVariants as step_reply
 use Rattle.world.specs.WorldState.{machine_at, with_machine}
 
 -- The two commands: `step` looks at pauses and `one` doesn't, and they leave the debug state in different ways.
@@ -37,6 +39,15 @@ abbrev pub reply_to_step : ℕ → Stepped → ℕ → DebugState → Reply
 reply_to_step m (stepped.Ran wrote) slot d = cond (hits wrote d) (Hit m slot) (Ran m slot)
 reply_to_step m (stepped.Waiting n) slot d = Waiting m n
 reply_to_step m (stepped.Stopped stop) slot d = Stopped m stop
+
+-- the reply that a step of machine m was answered
+abbrev pub reply_of : ℕ → StepReply → Reply
+reply_of m (step_reply.Ran slot) = Ran m slot
+reply_of m (step_reply.Hit slot) = Hit m slot
+reply_of m (step_reply.Waiting n) = Waiting m n
+reply_of m (step_reply.Paused slot) = Paused m slot
+reply_of m (step_reply.Stopped stop) = Stopped m stop
+reply_of m step_reply.Missing = Missing
 
 -- Machine m makes one step of the table over the memory. The other machines stay as they are.
 pub record Steps {S : Type 0} (memory : Memories S) (way : Way) (old : List Debuggee) (before : S) (m : ℕ) (reply : Reply) (new : List Debuggee) (after : S) : Type 0 where

@@ -2,6 +2,7 @@
 
 ghost use Rattle.std.specs.Prelude.{◌≡◌, ◌≤◌, IfSome, IfNone};
 ghost use Rattle.memory.specs.Objects.{object_bytes};
+ghost use Rattle.world.specs.Steps.{reply_of};
 
 use debugger::{Bytes, LineText, Shown, Values};
 use loader::LoadError;
@@ -265,4 +266,37 @@ pub enum Reply {
     Refused(LoadError),
     /// There is no such machine, or no such object.
     Missing,
+}
+
+/// What a step of a machine was answered. It is much smaller than a reply, and is moved faster.
+#[derive(Clone, Copy, Drop, Debug, PartialEq, Eq)]
+pub enum StepReply {
+    /// An instruction was done, and the machine goes on at the slot.
+    Ran(usize),
+    /// An instruction was done that wrote a byte of a watched range, and the machine is paused at the slot.
+    Hit(usize),
+    /// The next instruction waits for the object of this number.
+    Waiting(u32),
+    /// The machine is paused at the slot, and nothing was done.
+    Paused(usize),
+    /// The machine is stopped.
+    Stopped(Stop),
+    /// There is no such machine.
+    Missing,
+}
+
+impl StepReply {
+    /// The reply, of the machine of this number.
+    pub fn of(self, machine: usize) -> Reply
+        ensures { result ≡ reply_of machine self }
+    {
+        match self {
+            StepReply::Ran(slot) => Reply::Ran { machine, slot },
+            StepReply::Hit(slot) => Reply::Hit { machine, slot },
+            StepReply::Waiting(object) => Reply::Waiting { machine, object },
+            StepReply::Paused(slot) => Reply::Paused { machine, slot },
+            StepReply::Stopped(stop) => Reply::Stopped { machine, stop },
+            StepReply::Missing => Reply::Missing,
+        }
+    }
 }

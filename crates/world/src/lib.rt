@@ -11,7 +11,7 @@ mod world;
 
 pub use debuggee::Debuggee;
 pub use debugger::{Bytes, LineText, Shown, State, Values};
-pub use events::{Event, ObjectLength, Reply};
+pub use events::{Event, ObjectLength, Reply, StepReply};
 pub use laws::{debugging_changes_nothing, moving_changes_nothing, neither_changes_anything};
 pub use object_store::{MACHINE_LIMIT, Place};
 pub use world::World;

@@ -1,12 +1,12 @@
 //! Steps of a machine.
-ghost use Rattle.std.specs.Prelude.{◌≡◌, ◌≤◌, Bool, length, if◌then◌else◌};
+ghost use Rattle.std.specs.Prelude.{◌≡◌, ◌≤◌, ℕ, Bool, length, if◌then◌else◌};
 ghost use Rattle.object_store.specs.Stores.{IsMachine, machine_limit, store_memory};
 ghost use Rattle.machine.specs.TableStep.{TableStep};
-ghost use Rattle.world.specs.Steps.{AnswersStep, reply_to_step, debugged};
+ghost use Rattle.world.specs.Steps.{AnswersStep, reply_of, reply_to_step, debugged};
 ghost use Rattle.world.specs.Steps.Way.{ByStep, ByOne};
 
 use crate::debuggee::{Debuggee, index_of};
-use crate::events::Reply;
+use crate::events::StepReply;
 use debugger::After;
 use far_store::FarStore;
 use machine::{Machine, Stepped};
@@ -24,46 +24,46 @@ fn step_over<F: FarStore>(machine: &mut Machine, store: &mut ObjectStore<F>, who
 
 /// The reply to a step that ran, after which the machine is at the slot.
 #[inline]
-fn reply_to_run(machine: usize, after: After, slot: usize) -> Reply
-    ensures { (hits : Bool) → after ≡ (if hits then After.Hit else After.Ran) → result ≡ (if hits then Reply.Hit machine slot else Reply.Ran machine slot) }
+fn reply_to_run(after: After, slot: usize) -> StepReply
+    ensures { (hits : Bool) → after ≡ (if hits then After.Hit else After.Ran) → result ≡ (if hits then StepReply.Hit slot else StepReply.Ran slot) }
 {
     match after {
-        After::Hit => Reply::Hit { machine, slot },
-        After::Ran => Reply::Ran { machine, slot },
+        After::Hit => StepReply::Hit(slot),
+        After::Ran => StepReply::Ran(slot),
     }
 }
 
 impl Debuggee {
     /// Notes what a step was answered, and replies to it.
     #[inline]
-    fn reply_to_step(&mut self, machine: usize, answer: Stepped) -> Reply
-        ensures reply { result ≡ reply_to_step machine answer self.old.machine.slot self.old.debugger }
+    fn reply_to_step(&mut self, answer: Stepped) -> StepReply
+        ensures reply { (machine : ℕ) → reply_of machine result ≡ reply_to_step machine answer self.old.machine.slot self.old.debugger }
         ensures new { self.new ≡ record self.old { debugger = debugged ByStep answer self.old.debugger } }
     {
         match answer {
             Stepped::Ran(written) => {
                 let after = self.debugger.after(written);
-                reply_to_run(machine, after, self.machine.slot())
+                reply_to_run(after, self.machine.slot())
             }
-            Stepped::Waiting(object) => Reply::Waiting { machine, object },
+            Stepped::Waiting(object) => StepReply::Waiting(object),
             Stepped::Stopped(stop) => {
                 self.debugger.after_stop();
-                Reply::Stopped { machine, stop }
+                StepReply::Stopped(stop)
             }
         }
     }
 
     /// Notes what a step was answered that pauses after it, and replies to it.
-    fn reply_to_one(&mut self, machine: usize, answer: Stepped) -> Reply
-        ensures reply { result ≡ reply_to_step machine answer self.old.machine.slot self.old.debugger }
+    fn reply_to_one(&mut self, answer: Stepped) -> StepReply
+        ensures reply { (machine : ℕ) → reply_of machine result ≡ reply_to_step machine answer self.old.machine.slot self.old.debugger }
         ensures new { self.new ≡ record self.old { debugger = debugged ByOne answer self.old.debugger } }
     {
         match answer {
             Stepped::Ran(written) => {
                 let after = self.debugger.after_one(written);
-                reply_to_run(machine, after, self.machine.slot())
+                reply_to_run(after, self.machine.slot())
             }
-            Stepped::Waiting(_) | Stepped::Stopped(_) => self.reply_to_step(machine, answer),
+            Stepped::Waiting(_) | Stepped::Stopped(_) => self.reply_to_step(answer),
         }
     }
 }
@@ -74,20 +74,20 @@ pub(crate) fn step<F: FarStore>(
     machines: &mut [Debuggee],
     store: &mut ObjectStore<F>,
     machine: usize,
-) -> Reply
+) -> StepReply
     requires { length machines.old ≤ machine_limit }
-    ensures { AnswersStep (store_memory machine) ByStep machines.old store.old machine result machines.new store.new }
+    ensures { AnswersStep (store_memory machine) ByStep machines.old store.old machine (reply_of machine result) machines.new store.new }
 {
     let Some(index) = index_of(machines, machine) else {
-        return Reply::Missing;
+        return StepReply::Missing;
     };
     let stepping = &mut machines[index];
     if stepping.pauses() {
         let slot = stepping.machine.slot();
-        return Reply::Paused { machine, slot };
+        return StepReply::Paused(slot);
     }
     let answer = step_over(&mut stepping.machine, store, machine);
-    stepping.reply_to_step(machine, answer)
+    stepping.reply_to_step(answer)
 }
 
 /// One step of a machine, paused or not.
@@ -95,14 +95,14 @@ pub(crate) fn one<F: FarStore>(
     machines: &mut [Debuggee],
     store: &mut ObjectStore<F>,
     machine: usize,
-) -> Reply
+) -> StepReply
     requires { length machines.old ≤ machine_limit }
-    ensures { AnswersStep (store_memory machine) ByOne machines.old store.old machine result machines.new store.new }
+    ensures { AnswersStep (store_memory machine) ByOne machines.old store.old machine (reply_of machine result) machines.new store.new }
 {
     let Some(index) = index_of(machines, machine) else {
-        return Reply::Missing;
+        return StepReply::Missing;
     };
     let stepping = &mut machines[index];
     let answer = step_over(&mut stepping.machine, store, machine);
-    stepping.reply_to_one(machine, answer)
+    stepping.reply_to_one(answer)
 }

@@ -4,17 +4,17 @@ ghost use Rattle.object_store.specs.Stores.{store_memory};
 ghost use Rattle.object_store.specs.Calls.{Frees, BeginsLeave, EndsLeave, BeginsReturn, EndsReturn};
 ghost use Rattle.world.specs.declared.events.Reply.{Reply};
 ghost use Rattle.world.specs.Run.{Runs};
-ghost use Rattle.world.specs.Commands.{command_of};
+ghost use Rattle.world.specs.Commands.{Command, command_of};
 ghost use Rattle.world.specs.WorldState.{world_start};
-ghost use Rattle.world.specs.Steps.{AnswersStep};
-ghost use Rattle.world.specs.Steps.Way.{ByStep, ByOne};
+ghost use Rattle.world.specs.Steps.{AnswersStep, reply_of};
+ghost use Rattle.world.specs.Steps.Way.{ByOne};
 ghost use Rattle.world.specs.Debugging.{AnswersBreak, AnswersUnbreak, AnswersWatch, AnswersUnwatch, AnswersResume};
 ghost use Rattle.world.specs.Unseen.{IsPlainRun};
 ghost use Rattle.world.specs.Answers.{Answers, AnswersMake, AnswersPut, AnswersMove, AnswersShip, ShowsObject, InMachines, reply_to_move};
 
 use crate::debuggee::Debuggee;
 use crate::debugging::{clear_break, clear_watch, resume, set_break, set_watch};
-use crate::events::{Event, ObjectLength, Reply};
+use crate::events::{Event, ObjectLength, Reply, StepReply};
 use crate::showing::{line, out, regs, stack};
 use crate::stepping::{one, step};
 use debugger::{Bytes, Debugger};
@@ -107,8 +107,8 @@ impl<F: FarStore> World<F> {
             Event::Left { object } => self.left(object),
             Event::Return { object } => self.return_(object),
             Event::Returned { object } => self.returned(object),
-            Event::Step { machine } => self.step(machine),
-            Event::One { machine } => self.one(machine),
+            Event::Step { machine } => self.step(machine).of(machine),
+            Event::One { machine } => self.one(machine).of(machine),
             Event::Regs { machine } => regs(self.machines.as_slice(), machine),
             Event::Out { machine } => out(self.machines.as_slice(), machine),
             Event::Stack {
@@ -258,16 +258,16 @@ impl<F: FarStore> World<F> {
         }
     }
 
-    /// One step of a machine, unless it pauses.
-    fn step(&mut self, machine: usize) -> Reply
-        ensures { AnswersStep (store_memory machine) ByStep self.old.machines self.old.store machine result self.new.machines self.new.store }
+    /// One step of a machine, unless it pauses: what the command `step` does.
+    pub fn step(&mut self, machine: usize) -> StepReply
+        ensures { Answers self.old (Command.Step machine) (reply_of machine result) self.new }
     {
         step(self.machines.as_mut_slice(), &mut self.store, machine)
     }
 
     /// One step of a machine, paused or not.
-    fn one(&mut self, machine: usize) -> Reply
-        ensures { AnswersStep (store_memory machine) ByOne self.old.machines self.old.store machine result self.new.machines self.new.store }
+    fn one(&mut self, machine: usize) -> StepReply
+        ensures { AnswersStep (store_memory machine) ByOne self.old.machines self.old.store machine (reply_of machine result) self.new.machines self.new.store }
     {
         one(self.machines.as_mut_slice(), &mut self.store, machine)
     }
