@@ -1,6 +1,6 @@
 #!/usr/bin/env python3
 """Checks that docs/DEFINITIONS.md names every definition that a public clause depends on, and none that isn't there, and
-that each of them has a comment of its own.
+that each row of the page is the comment above the definition.
 
 With --list it prints these definitions, by crate and file, each with the comment above it; with --table as tables of the
 page, a row for each.
@@ -169,6 +169,19 @@ def not_there(own):
     return lost
 
 
+def page_rows():
+    """The rows of the page's tables, each as a name and what is said of it, by the crate of the section."""
+    rows, crate = {}, None
+    for line in (ROOT / PAGE).read_text().splitlines():
+        if line.startswith("#"):
+            here = re.findall(r"`(\w+)`", line)
+            crate = here[0] if here else None
+        elif crate and len(listed(line)) == 1:
+            says = line.strip()[1:-1].split(" | ", 2)[2].strip()
+            rows.setdefault(crate, set()).add((listed(line)[0], says))
+    return rows
+
+
 def modules_of(crate, found):
     """The files of a crate that definitions are needed of, in the order of its specs/Lib.antt."""
     needed = {m for c, m, _ in found if c == crate}
@@ -215,15 +228,19 @@ def main():
     missing = [(c, m, n) for c, m, n in found if n not in names.get(c, set())]
     lost = not_there(own)
     silent = [(c, m, n) for c, m, n in found if not specs[c, m].comments[n]]
+    rows = page_rows()
+    stale = [(c, m, n) for c, m, n in found if n in names.get(c, set()) and (n, cell(specs[c, m].comments[n])) not in rows.get(c, set())]
     for crate, module, name in missing:
         print(f"{PAGE}: `{name}` of crates/{crate}/specs/{module}.antt is missing: a public clause depends on it")
     for crate, name in lost:
         print(f"{PAGE}: no file of crates/{crate}/specs defines `{name}`")
     for crate, module, name in silent:
         print(f"crates/{crate}/specs/{module}.antt: `{name}` has no comment of its own, which {PAGE} would show")
-    if missing or lost or silent:
-        sys.exit(f"{len(missing)} definitions are missing on {PAGE}, {len(lost)} are not there any more, and {len(silent)} have no comment")
-    print(f"{PAGE} names the {len(found)} definitions that public clauses depend on, each with a comment of its own")
+    for crate, module, name in stale:
+        print(f"{PAGE}: the row of `{name}` isn't the comment above it in crates/{crate}/specs/{module}.antt")
+    if missing or lost or silent or stale:
+        sys.exit(f"{len(missing)} definitions are missing on {PAGE}, {len(lost)} are not there any more, {len(silent)} have no comment, and {len(stale)} rows say something else")
+    print(f"{PAGE} names the {len(found)} definitions that public clauses depend on, each with the comment above it")
 
 
 if __name__ == "__main__":
