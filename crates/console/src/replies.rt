@@ -192,6 +192,25 @@ fn put_refusal(line: &mut ReplyLine, error: &LoadError)
     put(line, error.why.name());
 }
 
+/// Adds the reply to a step of a machine.
+fn put_step(line: &mut ReplyLine, machine: usize, reply: StepReply)
+    requires { array_vec_len line.old + 100 ≤ REPLY_LIMIT }
+    ensures text { line.new.items ≡ line.old.items ++ reply_text (reply_of machine reply) }
+    ensures short { array_vec_len line.new ≤ array_vec_len line.old + 100 }
+{
+    match reply {
+        StepReply::Ran(slot) => put_pair(line, b"ran", machine as u64, slot as u64),
+        StepReply::Hit(slot) => put_pair(line, b"hit", machine as u64, slot as u64),
+        StepReply::Waiting(object) => put_pair(line, b"waiting", machine as u64, object as u64),
+        StepReply::Paused(slot) => put_pair(line, b"paused", machine as u64, slot as u64),
+        StepReply::Stopped(stop) => {
+            put_named(line, b"stopped", machine as u64);
+            put_stop(line, stop);
+        }
+        StepReply::Missing => put(line, b"none"),
+    }
+}
+
 /// Makes this the line of a reply.
 pub fn print_reply(reply: &Reply, line: &mut ReplyLine)
     requires { IsShort reply.now }
@@ -211,18 +230,13 @@ pub fn print_reply(reply: &Reply, line: &mut ReplyLine)
             put_bytes(line, bytes.as_slice());
         }
         Reply::Shipped { machine } => put_named(line, b"shipped", *machine as u64),
-        Reply::Ran { machine, slot } => put_pair(line, b"ran", *machine as u64, *slot as u64),
-        Reply::Hit { machine, slot } => put_pair(line, b"hit", *machine as u64, *slot as u64),
+        Reply::Ran { machine, slot } => put_step(line, *machine, StepReply::Ran(*slot)),
+        Reply::Hit { machine, slot } => put_step(line, *machine, StepReply::Hit(*slot)),
         Reply::Waiting { machine, object } => {
-            put_pair(line, b"waiting", *machine as u64, *object as u64);
+            put_step(line, *machine, StepReply::Waiting(*object));
         }
-        Reply::Paused { machine, slot } => {
-            put_pair(line, b"paused", *machine as u64, *slot as u64);
-        }
-        Reply::Stopped { machine, stop } => {
-            put_named(line, b"stopped", *machine as u64);
-            put_stop(line, *stop);
-        }
+        Reply::Paused { machine, slot } => put_step(line, *machine, StepReply::Paused(*slot)),
+        Reply::Stopped { machine, stop } => put_step(line, *machine, StepReply::Stopped(*stop)),
         Reply::Registers { machine, shown } => {
             put_named(line, b"regs", *machine as u64);
             put_shown(line, shown);
@@ -269,17 +283,7 @@ pub fn print_step(machine: usize, reply: StepReply, line: &mut ReplyLine)
     ensures { line.new.items ≡ ended (reply_text (reply_of machine reply)) }
 {
     line.clear();
-    match reply {
-        StepReply::Ran(slot) => put_pair(line, b"ran", machine as u64, slot as u64),
-        StepReply::Hit(slot) => put_pair(line, b"hit", machine as u64, slot as u64),
-        StepReply::Waiting(object) => put_pair(line, b"waiting", machine as u64, object as u64),
-        StepReply::Paused(slot) => put_pair(line, b"paused", machine as u64, slot as u64),
-        StepReply::Stopped(stop) => {
-            put_named(line, b"stopped", machine as u64);
-            put_stop(line, stop);
-        }
-        StepReply::Missing => put(line, b"none"),
-    }
+    put_step(line, machine, reply);
     put(line, b"\n");
 }
 

@@ -7,16 +7,13 @@ use Rattle.world.specs.WorldState.{WorldState, machine_at, with_machine}
 use Rattle.world_laws.specs.Replies.{machine_debugged, machine_stepped, machine_in, DebuggingChangesDebugStateAlone, OthersStay}
 use Rattle.world_laws.proofs.Machines.{with_map, other_machine}
 use Rattle.world_laws.proofs.OtherScopes.{other_scopes}
-use Rattle.world_laws.proofs.Sorts.{Marks, Sets, Sort, Stays, Stores, Ships, Tunes, Pauses, Walks, none, sort_of}
+use Rattle.world_laws.proofs.Sorts.{Marks, Sets, Sort, Stays, Stores, Ships, Tunes, Pauses, Walks, none, same_number, sort_of}
 
 abbrev debugged : Marks → Option ℕ
 debugged x = x.debugged
 
 abbrev stepped : Marks → Option ℕ
 stepped x = x.stepped
-
-same_number : (o : Option ℕ) (k m : ℕ) → o ≡ Some k → o ≡ Some m → k ≡ m
-same_number o k m e f = cc
 
 -- the other machines
 abbrev Others : List Debuggee → List Debuggee → ℕ → Type 0

@@ -63,6 +63,9 @@ off b f t = absurd (cc)
 pub none : {P : Type 0} (o : Option ℕ) (m : ℕ) → o ≡ None → o ≡ Some m → P
 none o m e f = absurd (cc)
 
+pub same_number : (o : Option ℕ) (k m : ℕ) → o ≡ Some k → o ≡ Some m → k ≡ m
+same_number o k m e f = cc
+
 -- ---- the sorts
 
 -- The debug state of machine m changes. A machine that is stopped isn't paused by it.
