@@ -44,7 +44,6 @@ fn end_pushed<F: FarStore>(bodies: &mut [Body<F>], out: Option<u32>)
 }
 
 /// Notes a number in the window of a machine.
-#[inline(always)]
 pub fn note<F: FarStore>(bodies: &mut [Body<F>], windows: &mut [Window], who: usize, number: u32)
     requires machine { (who < length windows.old) × (length windows.old ≤ window_count) }
     requires object { number < length bodies.old }
