@@ -23,7 +23,7 @@ use Rattle.machine.specs.Rows.MemoryAnswer.{NoAnswer, Reached, Measured}
 use Rattle.machine.specs.TableStep.{Attempts, AnswersRequest}
 use Rattle.machine.specs.Laws.{is_exit}
 use Rattle.machine.specs.Replay.WasAsked.{ForNothing, ForAccess}
-use Rattle.machine.specs.Replay.{Entry, Feeds, Replays, ReplaysOneWay, entries_added, WasAsked, ReplaysOn, ReplaysWith, StaysReplay}
+use Rattle.machine.specs.Replay.{Entry, Feeds, Replays, ReplaysOneWay, WasAsked, ReplaysOn, StaysReplay}
 use Rattle.machine.proofs.ValidRows.{same_next}
 use Rattle.machine.proofs.StepCases.{StepCase, step_case}
 
