@@ -1,0 +1,41 @@
+-- What a far store is asked, and what it answers.
+use Rattle.std.specs.Prelude.{◌≡◌, ℕ, nat_eq, Bool, true, false, ◌&&◌, List, [], ◌∷◌, Option, Some, None, Result, Ok, Err}
+use Rattle.far_store.specs.declared.fault.StoreFault.{StoreFault}
+use Rattle.far_store.specs.declared.fault.StoreFault.TheVariants.{Memory, Refused}
+use Rattle.far_store.specs.Stores.{Rises}
+
+-- one call, with what came of it; a parcel is told by the bytes for which it stands
+pub data Call : Type 0 where
+  -- these bytes were put, or that failed
+  Put : List ℕ → Option StoreFault → Call
+  -- the bytes of a parcel were asked for: those that came, or the fault
+  Get : List ℕ → Result (List ℕ) StoreFault → Call
+  -- a parcel was forgotten
+  Forget : List ℕ → Call
+
+-- These calls, one after the other, and no others, lead from one store to the next. `called` says which store a call leaves.
+abbrev pub Calls : {X : Type 0} → (X → Call → X → Type 0) → X → List Call → X → Type 0
+Calls called old [] new = new ≡ old
+Calls {X} called old (c ∷ cs) new = (mid : X) × called old c mid × Calls called mid cs new
+
+-- ---- the stores
+
+-- what a call leaves of the store in the agent's own memory, which is seen as its count of faults
+abbrev pub own_called : ℕ → Call → ℕ → Type 0
+own_called old (Put bytes None) new = new ≡ old
+own_called old (Put bytes (Some fault)) new = ⊥
+own_called old (Get bytes (Ok came)) new = (came ≡ bytes) × (new ≡ old)
+own_called old (Get bytes (Err fault)) new = (fault ≡ Memory) × Rises old new
+own_called old (Forget bytes) new = new ≡ old
+
+-- a call that may be the one that fails
+abbrev pub is_counted : Call → Bool
+is_counted (Forget bytes) = false
+is_counted _ = true
+
+-- a call that is refused leaves the store; any other is one of the store within
+abbrev pub called_unless : {X : Type 0} → Bool → (X → Call → X → Type 0) → X → Call → X → Type 0
+called_unless true called old (Put bytes (Some fault)) new = (fault ≡ Refused) × (new ≡ old)
+called_unless true called old (Get bytes (Err fault)) new = (fault ≡ Refused) × (new ≡ old)
+called_unless true called old _ new = ⊥
+called_unless false called old c new = called old c new

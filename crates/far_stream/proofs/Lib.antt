@@ -1,0 +1,5 @@
+pub mod Bytes
+pub mod Filling
+pub mod Parcels
+pub mod Serving
+pub mod Calling

@@ -1,0 +1,10 @@
+pub mod Frames
+pub mod Faults
+pub mod Kinds
+pub mod Serving
+pub mod Sent
+pub mod Hearing
+pub mod Client
+pub mod Server
+pub mod Conversations
+pub mod Payloads

@@ -1,0 +1,159 @@
+//! The server's end.
+ghost use Rattle.std.specs.Prelude.{◌≡◌, ◌++◌, ◌<◌, ◌≤◌, ◌^◌, [], true, false, IfOk, IfErr, OnOk, Result, Ok, Err};
+ghost use Rattle.std.specs.Io.KnownBytes.{Appends};
+ghost use Rattle.streams.specs.Streams.{AppendsPart};
+ghost use Rattle.far_stream.specs.Payloads.{CutsOff};
+ghost use Rattle.far_stream.specs.Frames.{head, IsHead, put_kind, get_kind, forget_kind, payload_limit};
+ghost use Rattle.far_stream.specs.Conversations.{Converses, EndsBetween};
+ghost use Rattle.far_stream.specs.Serving.{Forgotten, PutTaken, ServesOn};
+
+use crate::fault::{Cut, PayloadFault, StreamFault};
+use crate::frame::{Head, Kind, Status};
+use crate::keeping::{KEPT_LIMIT, Kept, place_of};
+use crate::payload::drop_payload;
+use std::alloc::Global;
+use std::io::{Read, Write};
+use streams::put_all;
+
+/// Writes an answer.
+fn answer<W: Write>(writer: &mut W, frame: &[u8]) -> Result<(), StreamFault>
+    ensures ok { OnOk result (Appends (W.contents writer.old) (W.contents writer.new) frame.now) }
+    ensures err { IfErr result (λ fault. (fault ≡ StreamFault.Io) × AppendsPart (W.contents writer.old) (W.contents writer.new) frame.now) }
+{
+    put_all(writer, frame).map_err(|_| StreamFault::Io)
+}
+
+/// Reads the bytes of a put, and keeps them where the id is free and there is room. Bytes that aren't
+/// kept are read and dropped.
+fn take<R: Read>(
+    alloc: Global,
+    reader: &mut R,
+    kept: &mut Vec<Kept>,
+    id: u64,
+    count: u32,
+) -> Result<Status, Cut>
+    ensures ok { IfOk result (λ status. PutTaken (R.remaining reader.old) (R.remaining reader.new) kept.old.items id count status kept.new.items) }
+    ensures err { IfErr result (λ cut. CutsOff cut count (R.remaining reader.old) (R.remaining reader.new)) }
+{
+    if place_of(kept, id).is_some() {
+        drop_payload(reader, count)?;
+        return Ok(Status::RefusedId);
+    }
+    if kept.len() >= KEPT_LIMIT {
+        drop_payload(reader, count)?;
+        return Ok(Status::NoRoom);
+    }
+    match Kept::read(alloc, reader, id, count) {
+        Ok(parcel) => match kept.push(parcel) {
+            Ok(()) => Ok(Status::Done),
+            Err(_) => Ok(Status::NoRoom),
+        },
+        Err(PayloadFault::NoMemory) => Ok(Status::NoRoom),
+        Err(PayloadFault::CutOff(cut)) => Err(cut),
+    }
+}
+
+/// Serves a put whose head came.
+fn serve_put<S: Read + Write>(
+    alloc: Global,
+    stream: &mut S,
+    kept: &mut Vec<Kept>,
+    id: u64,
+    count: u32,
+) -> Result<(), StreamFault>
+    requires { (0 < count) × (count ≤ payload_limit) }
+    ensures { ServesOn S.remaining S.contents (head put_kind id count) stream.old kept.old.items result kept.new.items stream.new }
+{
+    let status = take(alloc, stream, kept, id, count)?;
+    answer(stream, &status.head(id).bytes())
+}
+
+/// Serves a get whose head came.
+fn serve_get<S: Read + Write>(stream: &mut S, kept: &[Kept], id: u64) -> Result<(), StreamFault>
+    ensures { ServesOn S.remaining S.contents (head get_kind id 0) stream.old kept.now result kept.now stream.new }
+{
+    match place_of(kept, id) {
+        Some(place) => answer(stream, kept[place].answer()),
+        None => answer(stream, &Status::RefusedId.head(id).bytes()),
+    }
+}
+
+/// Keeps an id no more.
+fn forget(kept: &mut Vec<Kept>, id: u64) -> Status
+    ensures { Forgotten kept.old.items id result kept.new.items }
+{
+    match place_of(kept, id) {
+        Some(place) => {
+            drop(kept.remove(place));
+            Status::Done
+        }
+        None => Status::RefusedId,
+    }
+}
+
+/// Serves a forget whose head came.
+fn serve_forget<S: Read + Write>(
+    stream: &mut S,
+    kept: &mut Vec<Kept>,
+    id: u64,
+) -> Result<(), StreamFault>
+    ensures { ServesOn S.remaining S.contents (head forget_kind id 0) stream.old kept.old.items result kept.new.items stream.new }
+{
+    let status = forget(kept, id);
+    answer(stream, &status.head(id).bytes())
+}
+
+/// Serves the request whose head came.
+fn serve<S: Read + Write>(
+    alloc: Global,
+    stream: &mut S,
+    kept: &mut Vec<Kept>,
+    request: Head,
+) -> Result<(), StreamFault>
+    requires { IsHead request.kind request.id request.count }
+    ensures { ServesOn S.remaining S.contents (head request.kind request.id request.count) stream.old kept.old.items result kept.new.items stream.new }
+{
+    match request.asks() {
+        Some(Kind::Put) => serve_put(alloc, stream, kept, request.id, request.count),
+        Some(Kind::Get) => serve_get(stream, kept, request.id),
+        Some(Kind::Forget) => serve_forget(stream, kept, request.id),
+        None => Err(StreamFault::Protocol),
+    }
+}
+
+/// Serves the next request, and tells whether there was one.
+fn serve_next<S: Read + Write>(
+    alloc: Global,
+    stream: &mut S,
+    kept: &mut Vec<Kept>,
+) -> Result<bool, StreamFault>
+    ensures served { result ≡ Ok true → ServesOn S.remaining S.contents [] stream.old kept.old.items (Ok tt) kept.new.items stream.new }
+    ensures ended { result ≡ Ok false → EndsBetween S.remaining stream.old stream.new }
+    ensures err { IfErr result (λ fault. ServesOn S.remaining S.contents [] stream.old kept.old.items (Err fault) kept.new.items stream.new) }
+{
+    match Head::read(stream)? {
+        Some(request) => {
+            serve(alloc, stream, kept, request)?;
+            Ok(true)
+        }
+        None => Ok(false),
+    }
+}
+
+/// Serves a client from a store that is empty at first, until the input ends. Each request is
+/// answered before the next is read, by one write where the writer takes all of it; bytes that aren't
+/// kept are read and dropped. At most [`KEPT_LIMIT`] parcels are kept.
+///
+/// `Protocol` is answered where what came is no request, or the input ended within one; `Io` where
+/// the stream failed, or after `2^64 - 1` requests.
+pub fn serve_store<S: Read + Write>(alloc: Global, stream: &mut S) -> Result<(), StreamFault>
+    ensures { Converses S.remaining S.contents stream.old result stream.new }
+{
+    let mut kept = Vec::new(alloc);
+    for turn in 0..u64::MAX {
+        if !serve_next(alloc, stream, &mut kept)? {
+            return Ok(());
+        }
+    }
+    Err(StreamFault::Io)
+}

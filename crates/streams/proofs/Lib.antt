@@ -1,0 +1,2 @@
+pub mod ReadAtMost
+pub mod Filling

@@ -1,0 +1,12 @@
+//! Bytes in and bytes out, with what a reader gave and a writer took also where the device fails.
+#![tactic(auto)]
+
+mod fault;
+mod reading;
+#[cfg(test)]
+mod tests;
+mod writing;
+
+pub use fault::{InputFault, ReadFault, WriteFault};
+pub use reading::{fill, read_at_most, skip};
+pub use writing::put_all;
