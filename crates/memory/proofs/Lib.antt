@@ -1,3 +1,4 @@
 pub mod Replacing
 pub mod Lengths
 pub mod Accesses
+pub mod Promised

@@ -31,9 +31,13 @@ is_inside op n = nat_le (op.offset + count_of op) n
 
 -- ---- what it does
 
+-- so many of the bytes, from an offset on
+abbrev pub part : ℕ → ℕ → List ℕ → List ℕ
+part offset count bytes = take count (drop offset bytes)
+
 -- the number at its place, the lowest byte first
 abbrev pub old_number : Op → List ℕ → ℕ
-old_number op bytes = number_of (take (count_of op) (drop op.offset bytes))
+old_number op bytes = number_of (part op.offset (count_of op) bytes)
 
 -- The number that is put over an old one, if one is. A load puts none, nor does a compare-exchange whose comparison fails.
 abbrev pub number_put : Action → ℕ → Option ℕ

@@ -10,7 +10,8 @@ use Rattle.memory.specs.declared.access.Action.TheVariants.{Load, Store, Atomic}
 use Rattle.memory.specs.declared.access.Reach.{Reach}
 use Rattle.memory.specs.declared.access.Reach.TheVariants.{Done}
 use Rattle.memory.specs.Access.{WritesAt, writes}
-use Rattle.memory.specs.Objects.{bytes_of, map_reaches}
+use Rattle.memory.specs.Objects.{bytes_of}
+use Rattle.memory.specs.MapMemory.{map_reaches}
 
 -- A byte that an access wrote is one of the object's.
 abbrev pub WritesAreInside : Type 0

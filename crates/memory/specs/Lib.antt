@@ -1,4 +1,6 @@
 pub mod Access
-pub mod Memories
+pub mod Deeds
 pub mod Objects
+pub mod Memories
+pub mod MapMemory
 pub mod Laws

@@ -1,10 +1,10 @@
 -- Objects by number: the list of their bytes. A number without bytes is no object; number 0 is none ever.
-use Rattle.std.specs.Prelude.{◌≡◌, ℕ, ◌+◌, ◌<◌, ◌≤◌, List, [], length, take, drop, get_or, set, refl}
+use Rattle.std.specs.Prelude.{◌≡◌, ℕ, ◌+◌, ◌<◌, ◌≤◌, List, [], ◌∷◌, length, get_or, set}
 use Rattle.memory.specs.declared.access.Op.{Op}
-use Rattle.memory.specs.declared.access.Reach.{Reach}
-use Rattle.memory.specs.declared.access.Reach.TheVariants.{Done, Away, Busy, Outside, Worn}
-use Rattle.memory.specs.Access.{IsInside, answer, after, replaced}
-use Rattle.memory.specs.Memories.{Memories, Promises}
+use Rattle.memory.specs.declared.deeds.Deed.TheVariants.{Reads, Writes}
+use Rattle.memory.specs.declared.deeds.Entry.{Entry}
+use Rattle.memory.specs.Access.{IsInside, part}
+use Rattle.memory.specs.Deeds.{EndsInside, given_by, left_by}
 
 -- the bytes of object n
 abbrev pub bytes_of : List (List ℕ) → ℕ → List ℕ
@@ -14,33 +14,22 @@ bytes_of objects n = get_or objects n []
 abbrev pub with_bytes : List (List ℕ) → ℕ → List ℕ → List (List ℕ)
 with_bytes objects n bytes = set objects n bytes
 
--- ---- accesses
+-- ---- what is done to them
 
 -- the access is inside the object's bytes
 abbrev pub Reaches : List (List ℕ) → ℕ → Op → Type 0
 Reaches objects n op = IsInside op (length (bytes_of objects n))
 
--- One access to the objects. It is done, or it isn't inside and changes nothing.
-abbrev pub map_reaches : List (List ℕ) → ℕ → Op → Reach → List (List ℕ) → Type 0
-map_reaches old n op Outside new = (Reaches old n op → ⊥) × (new ≡ old)
-map_reaches old n op (Done x) new = Reaches old n op × (x ≡ answer op (bytes_of old n)) × (new ≡ with_bytes old n (after op (bytes_of old n)))
-map_reaches old n op _ new = ⊥
+-- One entry is done: inside the object's bytes, with what is given back for it, and to no other object.
+pub record Does (old : List (List ℕ)) (e : Entry) (new : List (List ℕ)) : Type 0 where
+  pub inside : EndsInside e.deed (length (bytes_of old e.number))
+  pub gives : e.given ≡ given_by e.deed (bytes_of old e.number)
+  pub leaves : new ≡ with_bytes old e.number (left_by e.deed (bytes_of old e.number))
 
--- the objects as a memory: it has no scopes
-abbrev pub map_memory : Memories (List (List ℕ))
-map_memory = record {
-  reaches = map_reaches;
-  closes = λ old new. new ≡ old;
-  length_of = λ objects n. length (bytes_of objects n);
-}
-
--- the promises of memories
-pub map_promises : (old new : List (List ℕ)) (n : ℕ) (op : Op) (r : Reach) → map_reaches old n op r new → Promises (length (bytes_of old n)) op r
-map_promises old new n op Outside h = h.0
-map_promises old new n op (Done x) h = (h.0, (bytes_of old n, refl, h.1))
-map_promises old new n op Away h = absurd h
-map_promises old new n op Busy h = absurd h
-map_promises old new n op Worn h = absurd h
+-- entries are done one after the other
+abbrev pub DoesAll : List (List ℕ) → List Entry → List (List ℕ) → Type 0
+DoesAll old [] new = new ≡ old
+DoesAll old (e ∷ es) new = (mid : List (List ℕ)) × Does old e mid × DoesAll mid es new
 
 -- ---- single objects and their ranges
 
@@ -50,15 +39,15 @@ IsLive objects n = 0 < length (bytes_of objects n)
 
 -- there is an object of this number, and the range ends within its bytes
 abbrev pub HasRange : List (List ℕ) → ℕ → ℕ → ℕ → Type 0
-HasRange objects n offset count = IsLive objects n × (offset + count ≤ length (bytes_of objects n))
+HasRange objects n offset count = EndsInside (Reads offset count) (length (bytes_of objects n))
 
 -- so many bytes of the object, from an offset on
 abbrev pub range_of : List (List ℕ) → ℕ → ℕ → ℕ → List ℕ
-range_of objects n offset count = take count (drop offset (bytes_of objects n))
+range_of objects n offset count = part offset count (bytes_of objects n)
 
 -- the objects, with other bytes over a range
 abbrev pub with_range : List (List ℕ) → ℕ → ℕ → List ℕ → List (List ℕ)
-with_range objects n offset bytes = with_bytes objects n (replaced offset bytes (bytes_of objects n))
+with_range objects n offset bytes = with_bytes objects n (left_by (Writes offset bytes) (bytes_of objects n))
 
 -- ---- limits
 

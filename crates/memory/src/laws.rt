@@ -1,5 +1,7 @@
 //! What the definitions say of accesses and objects, apart from any call.
 ghost use Rattle.memory.specs.Laws.{WritesAreInside, OtherBytesStay, UnwrittenStays, FailedExchangesChangeNothing, OtherObjectsStay, LengthsStay, LoadsWhatWasStored, AccessesOneWay, AccessesCommute};
+ghost use Rattle.memory.specs.Memories.{KeepsPromises};
+ghost use Rattle.memory.specs.MapMemory.{map_memory};
 
 /// A byte that an access wrote is one of the object's.
 pub fn writes_are_inside()
@@ -44,4 +46,9 @@ pub fn accesses_one_way()
 /// Two accesses of different objects do the same in either order.
 pub fn accesses_commute()
     ensures { AccessesCommute }
+{}
+
+/// The map of objects keeps the promises of memories.
+pub fn map_keeps_promises()
+    ensures { KeepsPromises map_memory }
 {}

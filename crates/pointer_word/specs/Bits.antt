@@ -1,11 +1,11 @@
 -- How a word is kept in 64 bits.
-use Rattle.std.specs.Prelude.{◌≡◌, ℕ, ◌/◌, ◌%◌, ◌<◌, ◌^◌, nat_eq, cond}
-use Rattle.pointer_word.specs.declared.word.Place.{Place}
-use Rattle.pointer_word.specs.declared.word.Place.TheVariants.{Local, Moving, Far}
+use Rattle.std.specs.Prelude.{◌≡◌, ℕ, ◌-◌, ◌*◌, ◌/◌, ◌%◌, ◌<◌, ◌^◌, nat_eq, cond}
+use Rattle.pointer_word.specs.declared.word.WordPlace.{WordPlace}
+use Rattle.pointer_word.specs.declared.word.WordPlace.TheVariants.{Local, Moving, Far}
 use Rattle.pointer_word.specs.Words.{WordRecord}
 
 -- the place of this number; any above 1 is far
-abbrev pub place_at : ℕ → Place
+abbrev pub place_at : ℕ → WordPlace
 place_at n = cond (nat_eq n 0) Local (cond (nat_eq n 1) Moving Far)
 
 -- the fields in the bits of a number
@@ -23,3 +23,7 @@ pub record IsWord (n : ℕ) : Type 0 where
   pub placed : n % 4 < 3
   pub reserved : n / 16 % 16 ≡ 0
   pub fits : n < 2 ^ 64
+
+-- the number without the mark that the object is hot
+abbrev pub cold_bits : ℕ → ℕ
+cold_bits n = n - 8 * (n / 8 % 2)

@@ -1,12 +1,12 @@
 -- The word of an object, and what each call changes in it. The words are this project's choice, after AIFM's pointers.
 use Rattle.std.specs.Prelude.{ℕ, ◌+◌, ◌-◌, ◌*◌, ◌<◌, ◌^◌, nat_lt, nat_le, nat_eq, ◌&&◌, not, Bool, true, false, cond, Option, Some, None}
-use Rattle.pointer_word.specs.declared.word.Place.{Place}
-use Rattle.pointer_word.specs.declared.word.Place.TheVariants.{Local, Moving, Far}
+use Rattle.pointer_word.specs.declared.word.WordPlace.{WordPlace}
+use Rattle.pointer_word.specs.declared.word.WordPlace.TheVariants.{Local, Moving, Far}
 
 -- what the word of an object says: its place, two marks and two counts
 pub record WordRecord : Type 0 where
   -- where the object is
-  pub place : Place
+  pub place : WordPlace
   -- an actor has its turn
   pub turn : Bool
   -- it was used lately
@@ -17,7 +17,7 @@ pub record WordRecord : Type 0 where
   pub stamp : ℕ
 
 -- places by number
-abbrev pub place_number : Place → ℕ
+abbrev pub place_number : WordPlace → ℕ
 place_number Local = 0
 place_number Moving = 1
 place_number Far = 2
@@ -44,17 +44,17 @@ abbrev pub new_word : WordRecord
 new_word = record { place = Local; turn = false; hot = false; count = 0; stamp = 0 }
 
 -- whether the place is local: the object is here
-abbrev pub is_local : Place → Bool
+abbrev pub is_local : WordPlace → Bool
 is_local Local = true
 is_local _ = false
 
 -- whether the object is moving, one way or the other
-abbrev pub is_moving : Place → Bool
+abbrev pub is_moving : WordPlace → Bool
 is_moving Moving = true
 is_moving _ = false
 
 -- whether the object is far
-abbrev pub is_far : Place → Bool
+abbrev pub is_far : WordPlace → Bool
 is_far Far = true
 is_far _ = false
 
@@ -70,17 +70,21 @@ opened w = where_it_applies (nat_lt w.count 255) (record w { count = w.count + 1
 abbrev pub closed : WordRecord → Option WordRecord
 closed w = where_it_applies (nat_lt 0 w.count) (record w { count = w.count - 1 })
 
--- an actor takes the turn, where the object is here and nobody has it
+-- an actor takes the turn, where the object is here and nobody has it; the object is hot then
 abbrev pub turn_taken : WordRecord → Option WordRecord
-turn_taken w = where_it_applies (is_local w.place && not w.turn) (record w { turn = true })
+turn_taken w = where_it_applies (is_local w.place && not w.turn) (record w { turn = true; hot = true })
 
 -- the turn is given back, with a stamp that is no less
 abbrev pub turn_given : WordRecord → ℕ → Option WordRecord
 turn_given w s = where_it_applies (w.turn && nat_le w.stamp s && nat_le s stamp_limit) (record w { turn = false; stamp = s })
 
--- the object begins to leave, where no scope is open and nobody has the turn
+-- the object is not hot, whatever it was
+abbrev pub cooled : WordRecord → WordRecord
+cooled w = record w { hot = false }
+
+-- the object begins to leave, where no scope is open and nobody has the turn; it is not hot then
 abbrev pub leaving : WordRecord → Option WordRecord
-leaving w = where_it_applies (is_local w.place && nat_eq w.count 0 && not w.turn) (record w { place = Moving })
+leaving w = where_it_applies (is_local w.place && nat_eq w.count 0 && not w.turn) (record w { place = Moving; hot = false })
 
 -- a move ends, and the object is far
 abbrev pub gone_far : WordRecord → Option WordRecord

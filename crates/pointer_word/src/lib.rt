@@ -7,4 +7,4 @@ mod tests;
 mod word;
 
 pub use laws::{one_number, scopes_keep_objects_here};
-pub use word::{Place, STAMP_LIMIT, Word};
+pub use word::{STAMP_LIMIT, Word, WordPlace};

@@ -2,13 +2,14 @@
 
 use crate::word::Word;
 
-/// The numbers of a word through a scope, a turn, a move to the far store and back.
-fn travelled() -> Option<[u64; 8]> {
+/// The numbers of a word through a scope, a turn, cooling, a move to the far store and back.
+fn travelled() -> Option<[u64; 9]> {
     let opened = Word::of(0)?.opened()?;
     let taken = opened.taken()?;
     let given = taken.given(5)?;
     let closed = given.closed()?;
-    let leaving = closed.leaving()?;
+    let cooled = closed.cooled();
+    let leaving = cooled.leaving()?;
     let left = leaving.left()?;
     let returning = left.returning()?;
     let home = returning.home()?;
@@ -17,6 +18,7 @@ fn travelled() -> Option<[u64; 8]> {
         taken.number(),
         given.number(),
         closed.number(),
+        cooled.number(),
         leaving.number(),
         left.number(),
         returning.number(),
@@ -29,7 +31,7 @@ fn a_word_travels(rt: HostRuntime) {
     assert_eq!(rt;
         travelled(),
         Some([
-            0x100, 0x104, 0x5_0100, 0x5_0000, 0x5_0001, 0x5_0002, 0x5_0001, 0x5_0000
+            0x100, 0x10c, 0x5_0108, 0x5_0008, 0x5_0000, 0x5_0001, 0x5_0002, 0x5_0001, 0x5_0000
         ])
     );
 }
@@ -91,4 +93,15 @@ fn wrong_stamps() -> Option<bool> {
 #[test]
 fn a_stamp_neither_falls_nor_wraps(rt: HostRuntime) {
     assert_eq!(rt; wrong_stamps(), Some(false));
+}
+
+/// The number of a hot object that leaves, and of one that was cooled twice.
+fn cold() -> Option<[u64; 2]> {
+    let hot = Word::of(0x5_0008)?;
+    Some([hot.leaving()?.number(), hot.cooled().cooled().number()])
+}
+
+#[test]
+fn a_hot_object_leaves_cold(rt: HostRuntime) {
+    assert_eq!(rt; cold(), Some([0x5_0001, 0x5_0000]));
 }

@@ -1,12 +1,13 @@
 //! Words.
 ghost use Rattle.std.specs.Prelude.{◌≡◌, ◌+◌, ◌-◌, ◌<◌, None, IfSome};
-ghost use Rattle.pointer_word.specs.Words.{WordRecord, HasFields, word_number, new_word, is_local, opened, closed, turn_taken, turn_given, leaving, gone_far, returning, home};
+ghost use Rattle.pointer_word.specs.Words.{WordRecord, HasFields, word_number, new_word, is_local, opened, closed, turn_taken, turn_given, cooled, leaving, gone_far, returning, home};
+ghost use Rattle.pointer_word.specs.Bits.{cold_bits};
 
 use std::marker::Model;
 
 /// Where an object is.
 #[derive(Clone, Copy, Drop, Debug, PartialEq, Eq)]
-pub enum Place {
+pub enum WordPlace {
     /// It may be reached.
     Local,
     /// It is on its way to the far store, or back.
@@ -21,6 +22,8 @@ pub const STAMP_LIMIT: u64 = 0xffff_ffff_ffff;
 const PLACE: u64 = 0x3;
 
 const TURN: u64 = 0x4;
+
+const HOT: u64 = 0x8;
 
 const SCOPE: u64 = 0x100;
 
@@ -54,6 +57,7 @@ impl Word {
     /// The word of this number. There is none where the place would be 3, or one of bits 4 to 7 is set.
     pub fn of(number: u64) -> Option<Self>
         ensures some { IfSome result (λ w. word_number w ≡ number) }
+        ensures fields { IfSome result (λ w. HasFields w) }
         ensures none { result ≡ None → (w : WordRecord) → HasFields w → word_number w ≡ number → ⊥ }
     {
         if number & PLACE == 3 || number >> 4 & 0xf != 0 {
@@ -71,13 +75,13 @@ impl Word {
     }
 
     /// Where the object is.
-    pub fn place(&self) -> Place
+    pub fn place(&self) -> WordPlace
         ensures { result ≡ self.now.place }
     {
         match self.bits & PLACE {
-            0 => Place::Local,
-            1 => Place::Moving,
-            _ => Place::Far,
+            0 => WordPlace::Local,
+            1 => WordPlace::Moving,
+            _ => WordPlace::Far,
         }
     }
 
@@ -108,6 +112,13 @@ impl Word {
         ensures { result ≡ self.now.turn }
     {
         self.bits >> 2 & 1 == 1
+    }
+
+    /// Whether an actor used the object since it was cooled.
+    pub fn is_hot(&self) -> bool
+        ensures { result ≡ self.now.hot }
+    {
+        self.bits >> 3 & 1 == 1
     }
 
     /// One more scope, where there are fewer than 255.
@@ -154,13 +165,13 @@ impl Word {
         self.bits -= SCOPE;
     }
 
-    /// The turn is taken, where the object is here and nobody has it.
+    /// The turn is taken, where the object is here and nobody has it. The object is hot then.
     pub fn taken(&self) -> Option<Self>
         ensures { result ≡ turn_taken self.now }
     {
         if self.bits & PLACE == 0 && !self.has_turn() {
             Some(Word {
-                bits: self.bits + TURN,
+                bits: cold(self.bits) + TURN + HOT,
             })
         } else {
             None
@@ -180,13 +191,22 @@ impl Word {
         }
     }
 
-    /// The object leaves, where it is here and neither a scope is open on it nor its turn taken.
+    /// The object is not hot.
+    pub fn cooled(&self) -> Self
+        ensures { result ≡ cooled self.now }
+    {
+        Word {
+            bits: cold(self.bits),
+        }
+    }
+
+    /// The object leaves, where it is here and neither a scope is open on it nor its turn taken. It is not hot then.
     pub fn leaving(&self) -> Option<Self>
         ensures { result ≡ leaving self.now }
     {
         if self.bits & PLACE == 0 && self.scopes() == 0 && !self.has_turn() {
             Some(Word {
-                bits: self.bits + 1,
+                bits: cold(self.bits) + 1,
             })
         } else {
             None
@@ -231,4 +251,12 @@ impl Word {
             None
         }
     }
+}
+
+/// The bits, without the mark that the object is hot.
+#[inline(always)]
+fn cold(bits: u64) -> u64
+    ensures { result ≡ cold_bits bits }
+{
+    bits - HOT * (bits >> 3 & 1)
 }

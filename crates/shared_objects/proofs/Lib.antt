@@ -1,0 +1,13 @@
+mod Sums
+mod Logs
+mod Moves
+mod Keeps
+mod Noted
+mod Acting
+mod MoverKeeps
+mod Slots
+mod One
+mod Joining
+mod Sorting
+mod Seating
+mod Few

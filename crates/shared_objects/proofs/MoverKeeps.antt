@@ -1,0 +1,288 @@
+-- Each step of the mover keeps the rule.
+use Rattle.std.proofs.Common.{◌≡◌, true, false, Bool, ℕ, zero, suc, ◌+◌, ◌-◌, ◌*◌, ◌/◌, ◌%◌, ◌^◌, ◌<◌, ◌≤◌, ◌≢◌, List, [], ◌∷◌, ◌++◌, length, set, get_or, sym, refl, ap, ◌∙◌, subst, arith, cond, eqb, eq-eqb, ne_eqb, ◌⊎◌, inl, inr, ⊎_elim, length-set, get_or-set_other, get_or-set_same, slice_index, slice_set, Some, None, bit_and, min}
+use Rattle.std.specs.Prelude.{Option, slice_index_or}
+use prog.Atomic.{either}
+use lib.Bits.{and_step, and_mask}
+use Rattle.std.specs.Prelude.{nat_eq}
+use mathlib.Core.Logic.{dite}
+use native.Mathlib.Decide.{ℕ_discrete}
+use mathlib.Core.Option.{some, none, some-injective, some-ne-none}
+use mathlib.Core.Option as maybe
+use lib.ListN.{get_elem?}
+use Rattle.atomic_table.specs.Table.{State, step, Act, keeps, takes, gives, Allows}
+use Rattle.atomic_table.proofs.Lists.{at_set, set_here, set_else, exchanged}
+use Rattle.shared_objects.specs.History.{Has, Rises, Chained, AllInside, top, fold, Answers}
+use Rattle.memory.specs.Objects.{bytes_of}
+use Rattle.shared_objects.specs.Rule.{total, same, has_turn, has_open, has_pass, has_moving, has_far, place_of, taken, is_moving, is_far, Stands, word_of, Tally, tally, Fits, Knows, Kept}
+use Rattle.shared_objects.specs.Kinds.{Sat, object_at, placed, sent, called, cooled, begins_leave, ends_leave, begins_return, ends_return, cools}
+use Rattle.shared_objects.specs.declared.body.Body.{Body}
+use Rattle.shared_objects.specs.declared.view.Entry.{Entry}
+use Rattle.shared_objects.specs.declared.view.Place.{Place}
+use Rattle.shared_objects.specs.declared.view.Place.TheVariants.{Here, Moving, Far}
+use Rattle.shared_objects.specs.declared.view.View.{View}
+use Rattle.shared_objects.proofs.Sums.{total-set, term_le}
+use Rattle.shared_objects.proofs.Moves.{St, state, grown, moves, Alike, SameSeat}
+use Rattle.shared_objects.proofs.Logs.{object_home}
+use Rattle.shared_objects.proofs.Keeps.{few_open, same_knows, unmoved, none_is_not, some_is}
+
+pub placed_here : (v : View) (n : ℕ) (p : Place) → n < length v.out → place_of (placed n p v) n ≡ p
+placed_here v n p wide = get_or-set_same v.out n p Here wide
+
+pub placed_else : (v : View) (n : ℕ) (p : Place) (m : ℕ) → m ≢ n → place_of (placed n p v) m ≡ place_of v m
+placed_else v n p m ne = get_or-set_other v.out n m p Here ne
+
+-- nothing changes at another object
+alike_else : (v : View) (n : ℕ) (p : Place) (m : ℕ) → m ≢ n → Alike m v (placed n p v)
+alike_else v n p m ne = record { turns = refl; opens = refl; passes = refl; moving = ap is_moving (placed_else v n p m ne); far = ap is_far (placed_else v n p m ne) }
+
+-- what the mover knows after one object has got another place, with bytes that stand
+altered : (returns : Bool) (key : List (List ℕ)) (s : St) (o : Kept returns key s) (id : ℕ) (v : View) (n : ℕ) (p : Place) → get_elem? s.views id ≡ some v → v.live ≡ true → n < length v.out
+    → ((bytes : List ℕ) → taken p ≡ Some bytes → Stands returns (bytes_of key n) (o.logs n) bytes) → Knows returns key (grown o.logs n (o.logs n)) id (placed n p v)
+altered returns key s o id v n p me alive_ wide stands = let k = o.knows id v me in
+    same_knows returns key s o id v (placed n p v) n me alive_ (refl, refl, refl, refl, refl, refl, refl) refl refl k.marks (λ z. let h = k.first z in (h.1, h.2)) (λ t is. (k.turn t is).2)
+    (λ m bytes e. dite (ℕ_discrete m n)
+    (λ here. subst (λ i. Stands returns (bytes_of key i) (o.logs i) bytes) (sym here) (stands bytes (sym (ap taken (ap (place_of (placed n p v)) here ∙ placed_here v n p wide)) ∙ e)))
+    (λ ne. k.out m bytes (sym (ap taken (placed_else v n p m ne)) ∙ e)))
+    k.opens_once
+
+-- K5: the word was that of an object that is here, with no scope open and no turn held
+pub lifts_ok : (returns : Bool) (key : List (List ℕ)) (slots id : ℕ) (m : Sat) (n old next : ℕ) → n < slots → (old % 65536 ≡ 0) ⊎ (old % 65536 ≡ 8) → next ≡ old - old % 65536 + 1 → n < length m.0.out → m.0.live ≡ true
+    → Allows (Kept returns key) slots id m (word_of n) (λ y. either (eqb y old) next y) (begins_leave (step slots (word_of n) old next none) m)
+lifts_ok returns key slots id m n old next lt quiet next_is wide alive_ s o long me small =
+    let v : View = m.0 in
+    let near : n < length key = omega (arith, o.slots) in
+    let f = o.fits n near in let few = few_open returns key s o n in
+    let k = o.knows id v me in
+    let x : ℕ = slice_index s.words (word_of n) in
+    let low : old % 65536 ≤ 8 = ⊎_elim (λ e. omega (arith, e)) (λ e. omega (arith, e)) quiet in
+    let bit : (old % 65536 ≡ 0) ⊎ (old % 65536 ≡ 8) = quiet in
+    exchanged x old next
+    (λ y. (w : View) × (a : Act Body) × Rattle.atomic_table.specs.Table.Valid s.homes m.1 a × Kept returns key (Rattle.atomic_table.specs.Table.stepped s (word_of n) y id m.1 w a) × begins_leave (step slots (word_of n) old next none) m x (w, Rattle.atomic_table.specs.Table.carried_after m.1 a))
+    (λ hit.
+    let z : (tally n s.views).moving + (tally n s.views).far + (tally n s.views).turns ≡ 0 = ⊎_elim (λ e. omega (arith, e, hit, f.word_is, f.one_hot, f.one_turn, f.one_out)) (λ e. omega (arith, e, hit, f.word_is, f.one_hot, f.one_turn, f.one_out)) bit in
+    let none-open : (tally n s.views).opens + (tally n s.views).passes ≡ 0 = ⊎_elim (λ e. omega (arith, e, hit, z, f.word_is, f.one_hot)) (λ e. omega (arith, e, hit, z, f.word_is, f.one_hot)) bit in
+    let rest_is : old - old % 65536 ≡ 65536 * top 0 (o.logs n) = omega (arith, hit, z, none-open, f.word_is, f.one_hot) in
+    let y = f.body_in z in let body : Body = y.0 in
+    let p : Place = Moving body.bytes.items in
+    let w : View = placed n p v in
+    let hs : List (maybe.Option Body) = set s.homes n none in
+    let was = term_le (has_moving n) s.views id v me in let was' = term_le (has_far n) s.views id v me in
+    let is : has_moving n w ≡ 1 = ap is_moving (placed_here v n p wide) in let is' : has_far n w ≡ 0 = ap is_far (placed_here v n p wide) in
+    let a₁ = total-set (has_open n) s.views id v w me in let b₁ = total-set (has_turn n) s.views id v w me in let c₁ = total-set (has_pass n) s.views id v w me in
+    let d₁ = total-set (has_moving n) s.views id v w me in let e₁ = total-set (has_far n) s.views id v w me in
+    let gone : get_elem? hs n ≡ some none = set_here s.homes n none (omega arith) in (
+      w,
+      takes n body,
+      y.1,
+      moves returns key s o id v w n next hs (o.logs n) me near alive_ (length-set s.homes n none) (λ j ne. set_else s.homes n j none ne)
+          (alike_else v n p) (refl, refl, refl, refl, refl, refl, refl)
+          (record {
+            hot = 0;
+            one_hot = omega arith;
+            word_is = omega (arith, rest_is, next_is);
+            one_turn = omega arith;
+            one_out = omega arith;
+            here = λ _. omega arith;
+            small = f.small;
+            chained = f.chained;
+            inside = f.inside;
+            answers = f.answers;
+            body_in = λ q. absurd (omega arith);
+            body_out = λ _. gone;
+            body_far = λ q. absurd (omega arith);
+          })
+          (altered returns key s o id v n p me alive_ wide (λ bytes e. subst (Stands returns (bytes_of key n) (o.logs n)) (some_is body.bytes.items bytes e) y.2))
+          (λ e h. h) (λ e h. inl h) (λ e h. h) (omega arith) (inl refl),
+      (
+        (λ _. subst (λ j. (b : Body) × (◌≡◌ {A = Sat} (w, (n, body) ∷ m.1) (placed j (Moving b.bytes.items) v, (j, b) ∷ m.1)) × (length b.bytes.items ≡ length (bytes_of v.opening j))) (sym (object_home n)) (body, refl, y.2.0 ∙ ap (λ (q : List (List ℕ)). length (bytes_of q n)) (sym (k.opening_is alive_)))),
+        λ ne. absurd (ne hit),
+      ),
+    ))
+    (λ miss. (v, keeps, tt, unmoved returns key s o id v n me alive_ near, ((λ e. absurd (miss e)), λ _. refl)))
+
+sent_taken : (p : Place) → taken (sent p) ≡ taken p
+sent_taken Here = refl
+sent_taken (Moving bytes) = refl
+sent_taken (Far bytes) = refl
+
+called_taken : (p : Place) → taken (called p) ≡ taken p
+called_taken Here = refl
+called_taken (Moving bytes) = refl
+called_taken (Far bytes) = refl
+
+-- what is on its way is far, and its slot goes home
+pub sends_ok : (returns : Bool) (key : List (List ℕ)) (slots id : ℕ) (m : Sat) (n : ℕ) (bytes : List ℕ) (body : Body) (more : List (ℕ × Body)) → n < slots → m.1 ≡ (n, body) ∷ more
+    → place_of m.0 n ≡ Moving bytes → n < length m.0.out → m.0.live ≡ true
+    → Allows (Kept returns key) slots id m (word_of n) (λ x. (x + 1) % 2 ^ 64) (ends_leave (step slots (word_of n) 1 0 none) m)
+sends_ok returns key slots id m n bytes body more lt carried at wide alive_ s o long me small =
+    let v : View = m.0 in
+    let near : n < length key = omega (arith, o.slots) in
+    let f = o.fits n near in let few = few_open returns key s o n in
+    let k = o.knows id v me in
+    let x : ℕ = slice_index s.words (word_of n) in
+    let p : Place = sent (place_of v n) in
+    let p_is : p ≡ Far bytes = ap sent at in
+    let w : View = placed n p v in
+    let hs : List (maybe.Option Body) = set s.homes n (some body) in
+    let home : get_elem? hs n ≡ some (some body) = set_here s.homes n (some body) (omega arith) in
+    let part = term_le (has_moving n) s.views id v me in
+    let was : has_moving n v ≡ 1 = ap is_moving at in let was' : has_far n v ≡ 0 = ap is_far at in
+    let is : has_moving n w ≡ 0 = ap is_moving (placed_here v n p wide ∙ p_is) in let is' : has_far n w ≡ 1 = ap is_far (placed_here v n p wide ∙ p_is) in
+    let a₁ = total-set (has_open n) s.views id v w me in let b₁ = total-set (has_turn n) s.views id v w me in let c₁ = total-set (has_pass n) s.views id v w me in
+    let d₁ = total-set (has_moving n) s.views id v w me in let e₁ = total-set (has_far n) s.views id v w me in
+    let quiet = f.here (omega arith) in
+    let kept = moves returns key s o id v w n ((x + 1) % 2 ^ 64) hs (o.logs n) me near alive_ (length-set s.homes n (some body)) (λ j ne. set_else s.homes n j (some body) ne) (alike_else v n p) (refl, refl, refl, refl, refl, refl, refl)
+    (record {
+      hot = f.hot;
+      one_hot = f.one_hot;
+      word_is = omega (arith, f.word_is, f.one_hot, f.small, f.one_turn, f.one_out);
+      one_turn = omega (arith, f.one_turn);
+      one_out = omega (arith, f.one_out);
+      here = λ _. omega (arith, quiet);
+      small = f.small;
+      chained = f.chained;
+      inside = f.inside;
+      answers = f.answers;
+      body_in = λ q. absurd (omega (arith, f.one_out));
+      body_out = λ q. absurd (omega (arith, quiet, f.one_out));
+      body_far = λ _. (body, home);
+    })
+    (altered returns key s o id v n p me alive_ wide (λ b e. k.out n b (sym (sent_taken (place_of v n)) ∙ e)))
+    (λ e h. h) (λ e h. inl h) (λ e h. h) (omega arith) (inl refl) in
+    let P : List (ℕ × Body) → Type 0 = λ c. (w : View) × (a : Act Body) × Rattle.atomic_table.specs.Table.Valid s.homes c a × Kept returns key (Rattle.atomic_table.specs.Table.stepped s (word_of n) ((x + 1) % 2 ^ 64) id c w a) × ends_leave (step slots (word_of n) 1 0 none) (v, c) x (w, Rattle.atomic_table.specs.Table.carried_after c a) in
+    subst P (sym carried) (w, gives, tt, kept, ap (λ j. (placed j (sent (place_of v j)) v, more)) (sym (object_home n)))
+
+-- what is far is on its way, and its slot is with the mover
+pub calls_ok : (returns : Bool) (key : List (List ℕ)) (slots id : ℕ) (m : Sat) (n : ℕ) (bytes : List ℕ) → n < slots → place_of m.0 n ≡ Far bytes → n < length m.0.out → m.0.live ≡ true
+    → Allows (Kept returns key) slots id m (word_of n) (λ x. (x + (2 ^ 64 - 1)) % 2 ^ 64) (begins_return (step slots (word_of n) 1 0 none) m)
+calls_ok returns key slots id m n bytes lt at wide alive_ s o long me small =
+    let v : View = m.0 in
+    let near : n < length key = omega (arith, o.slots) in
+    let f = o.fits n near in let few = few_open returns key s o n in
+    let k = o.knows id v me in
+    let x : ℕ = slice_index s.words (word_of n) in
+    let p : Place = called (place_of v n) in
+    let p_is : p ≡ Moving bytes = ap called at in
+    let w : View = placed n p v in
+    let part = term_le (has_far n) s.views id v me in
+    let was : has_moving n v ≡ 0 = ap is_moving at in let was' : has_far n v ≡ 1 = ap is_far at in
+    let is : has_moving n w ≡ 1 = ap is_moving (placed_here v n p wide ∙ p_is) in let is' : has_far n w ≡ 0 = ap is_far (placed_here v n p wide ∙ p_is) in
+    let y = f.body_far (omega arith) in let body : Body = y.0 in
+    let hs : List (maybe.Option Body) = set s.homes n none in
+    let gone : get_elem? hs n ≡ some none = set_here s.homes n none (omega arith) in
+    let quiet = f.here (omega arith) in
+    let a₁ = total-set (has_open n) s.views id v w me in let b₁ = total-set (has_turn n) s.views id v w me in let c₁ = total-set (has_pass n) s.views id v w me in
+    let d₁ = total-set (has_moving n) s.views id v w me in let e₁ = total-set (has_far n) s.views id v w me in (
+      w,
+      takes n body,
+      y.1,
+      moves returns key s o id v w n ((x + (2 ^ 64 - 1)) % 2 ^ 64) hs (o.logs n) me near alive_ (length-set s.homes n none) (λ j ne. set_else s.homes n j none ne) (alike_else v n p) (refl, refl, refl, refl, refl, refl, refl)
+          (record {
+            hot = f.hot;
+            one_hot = f.one_hot;
+            word_is = omega (arith, f.word_is, f.one_hot, f.small, f.one_turn, f.one_out);
+            one_turn = omega (arith, f.one_turn);
+            one_out = omega (arith, f.one_out);
+            here = λ _. omega (arith, quiet);
+            small = f.small;
+            chained = f.chained;
+            inside = f.inside;
+            answers = f.answers;
+            body_in = λ q. absurd (omega (arith, f.one_out));
+            body_out = λ _. gone;
+            body_far = λ q. absurd (omega (arith, f.one_out));
+          })
+          (altered returns key s o id v n p me alive_ wide (λ b e. k.out n b (sym (called_taken (place_of v n)) ∙ e)))
+          (λ e h. h) (λ e h. inl h) (λ e h. h) (omega arith) (inl refl),
+      (body, ap (λ j. (placed j (called (place_of v j)) v, (j, body) ∷ m.1)) (sym (object_home n))),
+    )
+
+-- all bits but that of heat
+cold_mask : (x : ℕ) → x < 2 ^ 64 → bit_and x (2 ^ 64 - 9) + x / 8 % 2 * 8 ≡ x
+cold_mask x small =
+    let a : bit_and x 18446744073709551607 ≡ bit_and (x / 2) 9223372036854775803 * 2 + min (x % 2) 1 = and_step x 18446744073709551607 in
+    let b : bit_and (x / 2) 9223372036854775803 ≡ bit_and (x / 2 / 2) 4611686018427387901 * 2 + min (x / 2 % 2) 1 = and_step (x / 2) 9223372036854775803 in
+    let c : bit_and (x / 2 / 2) 4611686018427387901 ≡ bit_and (x / 2 / 2 / 2) 2305843009213693950 * 2 + min (x / 2 / 2 % 2) 1 = and_step (x / 2 / 2) 4611686018427387901 in
+    let d : bit_and (x / 2 / 2 / 2) 2305843009213693950 ≡ bit_and (x / 2 / 2 / 2 / 2) 1152921504606846975 * 2 + min (x / 2 / 2 / 2 % 2) 0 = and_step (x / 2 / 2 / 2) 2305843009213693950 in
+    let e : bit_and (x / 2 / 2 / 2 / 2) 1152921504606846975 ≡ x / 2 / 2 / 2 / 2 % 2 ^ 60 = and_mask (x / 2 / 2 / 2 / 2) 60 in
+    omega (arith, a, b, c, d, e)
+
+-- the object is cooled, wherever it is
+pub cools_ok : (returns : Bool) (key : List (List ℕ)) (slots id : ℕ) (m : Sat) (n : ℕ) → n < slots → m.0.live ≡ true
+    → Allows (Kept returns key) slots id m (word_of n) (λ x. bit_and x (2 ^ 64 - 9)) (cools (step slots (word_of n) (2 ^ 64 - 9) 0 none) m)
+cools_ok returns key slots id m n lt alive_ s o long me small =
+    let v : View = m.0 in
+    let near : n < length key = omega (arith, o.slots) in
+    let f = o.fits n near in let few = few_open returns key s o n in
+    let k = o.knows id v me in
+    let x : ℕ = slice_index s.words (word_of n) in
+    let w : View = cooled n (nat_eq (x / 8 % 2) 1) v in
+    let bits = cold_mask x small in
+    let hot_is : x / 8 % 2 ≡ f.hot = omega (arith, f.word_is, f.one_turn, f.one_hot, f.one_out) in
+    let a₁ = total-set (has_open n) s.views id v w me in let b₁ = total-set (has_turn n) s.views id v w me in let c₁ = total-set (has_pass n) s.views id v w me in
+    let d₁ = total-set (has_moving n) s.views id v w me in let e₁ = total-set (has_far n) s.views id v w me in (
+      w,
+      keeps,
+      tt,
+      moves returns key s o id v w n (bit_and x (2 ^ 64 - 9)) s.homes (o.logs n) me near alive_ refl (λ _ _. refl)
+          (λ j ne. record { turns = refl; opens = refl; passes = refl; moving = refl; far = refl }) (refl, refl, refl, refl, refl, refl, refl)
+          (record {
+            hot = 0;
+            one_hot = omega arith;
+            word_is = omega (arith, f.word_is, f.one_hot, bits, hot_is);
+            one_turn = omega (arith, f.one_turn);
+            one_out = omega (arith, f.one_out);
+            here = λ out. let h = f.here (omega arith) in omega arith;
+            small = f.small;
+            chained = f.chained;
+            inside = f.inside;
+            answers = f.answers;
+            body_in = λ z. f.body_in (omega arith);
+            body_out = λ z. f.body_out (omega arith);
+            body_far = λ z. f.body_far (omega arith);
+          })
+          (same_knows returns key s o id v w n me alive_ (refl, refl, refl, refl, refl, refl, refl) refl refl k.marks (λ z. let h = k.first z in (h.1, h.2)) (λ t is. (k.turn t is).2) k.out k.opens_once)
+          (λ e h. h) (λ e h. inl h) (λ e h. h) (omega arith) (inl refl),
+      (refl, ap (λ j. (cooled j (nat_eq (x / 8 % 2) 1) v, m.1)) (sym (object_home n))),
+    )
+
+-- K8: the body is back. It is as long as the opening bytes, and what was taken where the store gives back what was put
+pub lands_ok : (returns : Bool) (key : List (List ℕ)) (slots id : ℕ) (m : Sat) (n : ℕ) (bytes : List ℕ) (body : Body) (more : List (ℕ × Body)) → n < slots → m.1 ≡ (n, body) ∷ more
+    → place_of m.0 n ≡ Moving bytes → (length bytes ≡ length (bytes_of key n) → length body.bytes.items ≡ length (bytes_of key n)) → (returns ≡ true → body.bytes.items ≡ bytes) → n < length m.0.out → m.0.live ≡ true
+    → Allows (Kept returns key) slots id m (word_of n) (λ x. (x + (2 ^ 64 - 1)) % 2 ^ 64) (ends_return (step slots (word_of n) 1 0 none) m)
+lands_ok returns key slots id m n bytes body more lt carried at as_long back_ wide alive_ s o long me small =
+    let v : View = m.0 in
+    let near : n < length key = omega (arith, o.slots) in
+    let f = o.fits n near in let few = few_open returns key s o n in
+    let k = o.knows id v me in
+    let x : ℕ = slice_index s.words (word_of n) in
+    let w : View = placed n Here v in
+    let hs : List (maybe.Option Body) = set s.homes n (some body) in
+    let part = term_le (has_moving n) s.views id v me in
+    let was : has_moving n v ≡ 1 = ap is_moving at in let was' : has_far n v ≡ 0 = ap is_far at in
+    let is : has_moving n w ≡ 0 = ap is_moving (placed_here v n Here wide) in let is' : has_far n w ≡ 0 = ap is_far (placed_here v n Here wide) in
+    let a₁ = total-set (has_open n) s.views id v w me in let b₁ = total-set (has_turn n) s.views id v w me in let c₁ = total-set (has_pass n) s.views id v w me in
+    let d₁ = total-set (has_moving n) s.views id v w me in let e₁ = total-set (has_far n) s.views id v w me in
+    let home : get_elem? hs n ≡ some (some body) = set_here s.homes n (some body) (omega arith) in
+    let stood = k.out n bytes (ap taken at) in
+    let stands : Stands returns (bytes_of key n) (o.logs n) body.bytes.items = (as_long stood.0, λ r. back_ r ∙ stood.1 r) in
+    let kept = moves returns key s o id v w n ((x + (2 ^ 64 - 1)) % 2 ^ 64) hs (o.logs n) me near alive_ (length-set s.homes n (some body)) (λ j ne. set_else s.homes n j (some body) ne) (alike_else v n Here) (refl, refl, refl, refl, refl, refl, refl)
+    (record {
+      hot = f.hot;
+      one_hot = f.one_hot;
+      word_is = omega (arith, f.word_is, f.one_hot, f.small, f.one_turn, f.one_out);
+      one_turn = omega (arith, f.one_turn);
+      one_out = omega (arith, f.one_out);
+      here = λ q. absurd (omega (arith, f.one_out));
+      small = f.small;
+      chained = f.chained;
+      inside = f.inside;
+      answers = f.answers;
+      body_in = λ _. (body, home, stands);
+      body_out = λ q. absurd (let h = f.here (omega arith) in omega (arith, f.one_out));
+      body_far = λ q. absurd (omega (arith, f.one_out));
+    })
+    (altered returns key s o id v n Here me alive_ wide (λ b e. absurd (none_is_not b e)))
+    (λ e h. h) (λ e h. inl h) (λ e h. h) (omega arith) (inl refl) in
+    let P : List (ℕ × Body) → Type 0 = λ c. (w : View) × (a : Act Body) × Rattle.atomic_table.specs.Table.Valid s.homes c a × Kept returns key (Rattle.atomic_table.specs.Table.stepped s (word_of n) ((x + (2 ^ 64 - 1)) % 2 ^ 64) id c w a) × ends_return (step slots (word_of n) 1 0 none) (v, c) x (w, Rattle.atomic_table.specs.Table.carried_after c a) in
+    subst P (sym carried) (w, gives, tt, kept, ap (λ j. (placed j Here v, more)) (sym (object_home n)))

@@ -1,0 +1,24 @@
+use Rattle.std.proofs.Common.{rules, arith, ap, sym, ◌∙◌, subst, ◌≡◌, ℕ, ◌<◌, ◌≤◌, List, length, ⊎_elim}
+use Rattle.std.proofs.lemmas.Bool.{cases_lt}
+use Rattle.std.proofs.lemmas.List.{length-map}
+use Rattle.memory.specs.Objects.{bytes_of}
+use Rattle.shared_objects.specs.Kinds.{Witness}
+use Rattle.shared_objects.specs.Opening.{opening_bytes}
+use Rattle.shared_objects.proofs.Acting.{none_above}
+use Rattle.shared_objects.proofs.Keeps.{sees_ok}
+use Rattle.shared_objects.proofs.Logs.{object_home}
+use Rattle.shared_objects.proofs.table.SharedTable.look.Goals as goal
+
+near : (os : List (List ℕ)) (n : ℕ) → 0 < length (bytes_of os n) → n < length os
+near os n h = ⊎_elim (λ (lt : n < length os). lt) (λ (far : length os ≤ n). absurd (let e = ap length (none_above os n far) in omega (arith, e))) (cases_lt n (length os))
+
+pub load-requires : goal.load-requires
+load-requires c = let z = c.args.self.now in let a = c.args.actor.now in let n : ℕ = c.args.number in
+    let key : List (List ℕ) = opening_bytes z.table.shared.key.bodies.value in
+    let lt : n < length a.seat.me.0.opening = near a.seat.me.0.opening n c.requires.object in
+    let long : length z.lengths.items ≡ length key = ap length z.sizes ∙ length-map key length in
+    let same = ap length c.requires.actor.1 in
+    (c.requires.actor.0, omega (arith, z.words), sees_ok _ _ _ _ _ n (omega (arith, z.slots)) a.rests.2)
+
+pub returns-clause-rule : goal.returns-clause-rule
+returns-clause-rule c = subst (λ k. Witness c.args.actor.now.seat.me.0 k c.load.result) (object_home c.args.number) c.load.ensures.2.1

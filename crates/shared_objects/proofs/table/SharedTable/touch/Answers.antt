@@ -1,0 +1,43 @@
+use Rattle.std.proofs.Common.{rules, arith, ap, subst, sym, ◌∙◌, refl, ◌≡◌, ℕ, ◌+◌, ◌<◌, ◌≤◌, true, List, [], ◌∷◌, ◌++◌, length, map, None, Some}
+use Rattle.std.proofs.lemmas.List.{length-map}
+use Rattle.memory.specs.Access.{IsInside}
+use Rattle.memory.specs.Objects.{bytes_of}
+use Rattle.memory.specs.declared.deeds.Deed.TheVariants.{Accesses, Reads, Writes}
+use Rattle.memory.specs.declared.deeds.Given.TheVariants.{Number, Bytes, Nothing}
+use Rattle.scopes.specs.Windows.{noted}
+use Rattle.shared_objects.specs.History.{top, entry}
+use Rattle.shared_objects.specs.Kinds.{looking, recorded}
+use Rattle.shared_objects.specs.Opening.{opening_bytes}
+use Rattle.shared_objects.specs.declared.body.Body.{Body}
+use Rattle.shared_objects.specs.declared.view.View.{View}
+use Rattle.shared_objects.specs.declared.view.Entry.{Entry}
+use Rattle.shared_objects.proofs.Logs.{top-snoc}
+use Rattle.shared_objects.proofs.Acting.{noted_seat, reaches_some}
+use Rattle.shared_objects.proofs.table.SharedTable.touch.Goals as goal
+
+pub invariant_of-actor-in-Busy : goal.invariant_of-actor-in-Busy
+invariant_of-actor-in-Busy c = let a = c.args.actor.now in let r = a.rests in let e = c.in-Busy.ensures.begins in let key : List (List ℕ) = opening_bytes c.args.self.now.table.shared.key.bodies.value in
+    let lt : c.args.number < length a.seat.me.0.opening = omega (arith, c.length.ensures.object (let i : IsInside c.args.op.now c.length.result = c.if-not-is_inside.ensures.inside.0 refl in omega (arith, reaches_some c.args.op.now)), reaches_some c.args.op.now, ap length c.args.self.now.sizes, length-map key length, ap length c.requires.1) in
+    let q = noted_seat a.seat.me _ _ a.window _ c.args.number a.stamp r a.opens a.near e.0 e.1 refl r.1 refl refl refl refl refl refl lt a.stamped in
+    record { rests = q.0; opens = q.1; near = q.2; stamped = q.3 }
+
+pub invariant_of-actor-in-Worn : goal.invariant_of-actor-in-Worn
+invariant_of-actor-in-Worn c = let a = c.args.actor.now in let r = a.rests in let e = c.in-Worn.ensures.begins in let key : List (List ℕ) = opening_bytes c.args.self.now.table.shared.key.bodies.value in
+    let lt : c.args.number < length a.seat.me.0.opening = omega (arith, c.length.ensures.object (let i : IsInside c.args.op.now c.length.result = c.if-not-is_inside.ensures.inside.0 refl in omega (arith, reaches_some c.args.op.now)), reaches_some c.args.op.now, ap length c.args.self.now.sizes, length-map key length, ap length c.requires.1) in
+    let q = noted_seat a.seat.me _ _ a.window _ c.args.number a.stamp r a.opens a.near e.0.2 e.1 refl refl refl refl refl refl refl refl lt a.stamped in
+    record { rests = q.0; opens = q.1; near = q.2; stamped = q.3 }
+
+pub invariant_of-actor-in-Turn : goal.invariant_of-actor-in-Turn
+invariant_of-actor-in-Turn c = let a = c.args.actor.now in let v : View = a.seat.me.0 in let r = a.rests in let b = c.in-Turn.ensures.begins in let key : List (List ℕ) = opening_bytes c.args.self.now.table.shared.key.bodies.value in
+    let lt : c.args.number < length v.opening = omega (arith, c.length.ensures.object (let i : IsInside c.args.op.now c.length.result = c.if-not-is_inside.ensures.inside.0 refl in omega (arith, reaches_some c.args.op.now)), reaches_some c.args.op.now, ap length c.args.self.now.sizes, length-map key length, ap length c.requires.1) in
+    let seen = c.act-reply.ensures.view ∙ b.2.2.0 in
+    let done : Entry = entry v.actor c.in-Turn.stamp c.in-Turn.found c.args.number (Accesses c.args.op.now) (Number c.act-reply.result) in
+    let is = c.record_access.ensures.me ∙ ap (λ (u : View). (recorded (entry u.actor c.in-Turn.stamp c.in-Turn.found c.args.number (Accesses c.args.op.now) (Number c.act-reply.result)) u, [])) seen in
+    let q = noted_seat a.seat.me _ (recorded done (looking c.args.number v)) a.window _ c.args.number c.in-Turn.stamp r a.opens a.near is b.3 refl refl refl refl refl refl refl refl lt (omega (arith, top-snoc 0 v.entries done)) in
+    record { rests = q.0; opens = q.1; near = q.2; stamped = q.3 }
+
+pub act-reply-requires-clause-held : goal.act-reply-requires-clause-held
+act-reply-requires-clause-held c = let t = c.in-Turn.ensures.begins.2 in
+    let i : IsInside c.args.op.now c.length.result = c.if-not-is_inside.ensures.inside.0 refl in
+    let long : length t.0.bytes.items ≡ c.length.result = t.2.1 ∙ ap (λ (o : List (List ℕ)). length (bytes_of o c.args.number)) c.requires.1 ∙ sym c.length.ensures.length in
+    (t.0, t.1, subst (IsInside c.args.op.now) (sym long) i)

@@ -1,0 +1,17 @@
+pub mod History
+pub mod Rule
+pub mod Kinds
+pub mod Opening
+pub mod Resting
+pub mod Phases
+pub mod Tables
+pub mod Beginnings
+pub mod Touches
+pub mod Leaves
+pub mod One
+pub mod Parts
+pub mod Ends
+pub mod Opened
+pub mod SeatMemories
+pub mod Promised
+pub mod Laws

@@ -1,0 +1,191 @@
+-- The rule of the table: what its words, bodies and views have to do with one another, between any two steps.
+use Rattle.std.specs.Prelude.{◌≡◌, ◌⊎◌, Bool, true, false, ℕ, ◌+◌, ◌*◌, ◌^◌, ◌<◌, ◌≤◌, List, [], ◌∷◌, length, slice_index, slice_index_or, cond, ◌==◌, Option, Some, None}
+use mathlib.Core.Option.{some, none}
+use mathlib.Core.Option as maybe
+use lib.ListN.{get_elem?}
+use Rattle.atomic_table.specs.Table.{State}
+use Rattle.memory.specs.Objects.{bytes_of}
+use Rattle.scopes.specs.Windows.{window_limit}
+use Rattle.shared_objects.specs.History.{Has, Rises, Chained, AllInside, top, fold, Answers}
+use Rattle.shared_objects.specs.declared.body.Body.{Body}
+use Rattle.shared_objects.specs.declared.view.Entry.{Entry}
+use Rattle.shared_objects.specs.declared.view.Mark.{Mark}
+use Rattle.shared_objects.specs.declared.view.Mark.TheVariants.{Away, Busy, Worn}
+use Rattle.shared_objects.specs.declared.view.Turn.{Turn}
+use Rattle.shared_objects.specs.declared.view.Part.{Part}
+use Rattle.shared_objects.specs.declared.view.Place.{Place}
+use Rattle.shared_objects.specs.declared.view.Place.TheVariants.{Here, Moving, Far}
+use Rattle.shared_objects.specs.declared.view.View.{View}
+
+-- ---- counts
+
+-- the numbers that f gives, added up
+abbrev pub total : {A : Type 0} → (A → ℕ) → List A → ℕ
+total f [] = 0
+total f (x ∷ xs) = f x + total f xs
+
+-- 1 where the numbers are the same
+abbrev pub same : ℕ → ℕ → ℕ
+same x n = cond (x == n) 1 0
+
+-- how often n stands in the list
+abbrev pub times : ℕ → List ℕ → ℕ
+times n [] = 0
+times n (x ∷ xs) = same x n + times n xs
+
+-- 1 where it is the turn of the object n
+abbrev pub turns_on : ℕ → Option Turn → ℕ
+turns_on n None = 0
+turns_on n (Some t) = same t.object n
+
+-- 1 where the seat holds the turn of the object n
+abbrev pub has_turn : ℕ → View → ℕ
+has_turn n v = turns_on n v.turn
+
+-- 1 where the seat has the object n open, found here
+abbrev pub has_open : ℕ → View → ℕ
+has_open n v = times n v.scopes
+
+-- 1 where the seat counts at n, found away
+abbrev pub has_pass : ℕ → View → ℕ
+has_pass n v = times n v.passing
+
+-- where the object n is for the seat
+abbrev pub place_of : View → ℕ → Place
+place_of v n = slice_index_or v.out n Here
+
+-- 1 where it is on its way
+abbrev pub is_moving : Place → ℕ
+is_moving Here = 0
+is_moving (Moving bytes) = 1
+is_moving (Far bytes) = 0
+
+-- 1 where it is far
+abbrev pub is_far : Place → ℕ
+is_far Here = 0
+is_far (Moving bytes) = 0
+is_far (Far bytes) = 1
+
+-- the bytes that were taken
+abbrev pub taken : Place → Option (List ℕ)
+taken Here = None
+taken (Moving bytes) = Some bytes
+taken (Far bytes) = Some bytes
+
+-- 1 where the seat has the object n on its way
+abbrev pub has_moving : ℕ → View → ℕ
+has_moving n v = is_moving (place_of v n)
+
+-- 1 where the seat has the object n far
+abbrev pub has_far : ℕ → View → ℕ
+has_far n v = is_far (place_of v n)
+
+-- 1 where the seat was not taken in
+abbrev pub is_live : View → ℕ
+is_live v = cond v.live 1 0
+
+-- a seat that was taken in
+abbrev pub spent : View
+spent = record { made = 0; alive = 0; live = false; gathered = []; actor = 0; opening = []; returns = false; scopes = []; passing = []; turn = None; entries = []; marks = []; out = []; heat = [] }
+
+-- how many seats have the turn of an object, have it open, pass by, have it on its way, and have it far
+pub record Tally : Type 0 where
+  pub turns : ℕ
+  pub opens : ℕ
+  pub passes : ℕ
+  pub moving : ℕ
+  pub far : ℕ
+
+-- the object n, as all seats have it
+abbrev pub tally : ℕ → List View → Tally
+tally n vs = record { turns = total (has_turn n) vs; opens = total (has_open n) vs; passes = total (has_pass n) vs; moving = total (has_moving n) vs; far = total (has_far n) vs }
+
+-- ---- the rule
+
+-- An entry of one of these parts.
+abbrev pub HasPart : List Part → Entry → Type 0
+HasPart parts e = (p : Part) × Has parts p × Has p.entries e
+
+-- The seat has the entry, or took it in.
+abbrev pub Written : View → Entry → Type 0
+Written v e = Has v.entries e ⊎ HasPart v.gathered e
+
+-- The bytes are as long as the opening ones; and where far stores give back what was put, they are the fold of the entries.
+abbrev pub Stands : Bool → List ℕ → List Entry → List ℕ → Type 0
+Stands returns opening log bytes = (length bytes ≡ length opening) × (returns ≡ true → bytes ≡ fold opening log)
+
+-- the word of the object n, so that the words of two objects never share a cache line
+abbrev pub word_of : ℕ → ℕ
+word_of n = n * 16
+
+-- One object: its opening bytes, what all seats have of it, its word, its slot, and its entries.
+pub record Fits (returns : Bool) (opening : List ℕ) (t : Tally) (word : ℕ) (home : maybe.Option (maybe.Option Body)) (log : List Entry) : Type 0 where
+  -- 1 where it was used since it was cooled last
+  pub hot : ℕ
+  pub word_is : word ≡ t.moving + 2 * t.far + 4 * t.turns + 8 * hot + 256 * (t.opens + t.passes) + 65536 * top 0 log
+  pub one_hot : hot ≤ 1
+  pub one_turn : t.turns ≤ 1
+  pub one_out : t.moving + t.far ≤ 1
+  -- an object that is open, or hot, or whose turn is held, is here
+  pub here : 0 < t.moving + t.far → t.opens + t.turns + hot ≡ 0
+  pub small : top 0 log < 2 ^ 48
+  pub chained : Chained 0 log
+  pub inside : AllInside (length opening) log
+  pub answers : returns ≡ true → Answers opening log
+  -- here and with no turn held the body is at home
+  pub body_in : t.moving + t.far + t.turns ≡ 0 → (body : Body) × (home ≡ some (some body)) × Stands returns opening log body.bytes.items
+  -- where its turn is held, or it is on its way, a seat has the slot
+  pub body_out : 0 < t.moving + t.turns → home ≡ some none
+  -- where it is far some body is at home, which stands for nothing
+  pub body_far : 0 < t.far → (body : Body) × (home ≡ some (some body))
+
+-- The turn that a seat holds has the latest stamp and bytes, and at most four scopes are open meanwhile.
+abbrev pub TurnFits : Bool → List (List ℕ) → (ℕ → List Entry) → List ℕ → Turn → Type 0
+TurnFits returns opening logs scopes t = (t.stamp ≡ top 0 (logs t.object)) × Stands returns (bytes_of opening t.object) (logs t.object) t.bytes × (length scopes ≤ window_limit)
+
+-- The stamp that a worn turn found stands in the object's entries, or below.
+abbrev pub MarkFits : (ℕ → List Entry) → Mark → Type 0
+MarkFits logs (Away n) = Unit {0}
+MarkFits logs (Busy n) = Unit {0}
+MarkFits logs (Worn n found) = found ≤ top 0 (logs n)
+
+-- One seat: what it has done is in the objects' entries, and what it holds or has out is the latest.
+pub record Knows (returns : Bool) (opening : List (List ℕ)) (logs : ℕ → List Entry) (id : ℕ) (v : View) : Type 0 where
+  pub actor : v.live ≡ true → v.actor ≡ id
+  pub opening_is : v.live ≡ true → v.opening ≡ opening
+  pub returns_is : v.live ≡ true → v.returns ≡ returns
+  pub idle : v.live ≡ false → v ≡ spent
+  -- the first seat made the others, and opens nothing
+  pub first : id ≡ 0 → (0 < v.made) × (v.scopes ≡ []) × (v.passing ≡ [])
+  pub opens_once : (n : ℕ) → has_open n v + has_pass n v ≤ 1
+  pub turn : (t : Turn) → v.turn ≡ Some t → TurnFits returns opening logs v.scopes t
+  pub out : (n : ℕ) (bytes : List ℕ) → taken (place_of v n) ≡ Some bytes → Stands returns (bytes_of opening n) (logs n) bytes
+  pub entries : (e : Entry) → Has v.entries e → (e.actor ≡ id) × Has (logs e.object) e
+  pub marks : (m : Mark) → Has v.marks m → MarkFits logs m
+  pub rises : Rises 0 v.entries
+
+-- What a seat that was taken in had done is in the objects' entries, and its seat is spent.
+pub record PartFits (logs : ℕ → List Entry) (views : List View) (p : Part) : Type 0 where
+  pub rises : Rises 0 p.entries
+  pub entries : (e : Entry) → Has p.entries e → (e.actor ≡ p.actor) × Has (logs e.object) e
+  pub marks : (m : Mark) → Has p.marks m → MarkFits logs m
+  pub gone : get_elem? views p.actor ≡ some spent
+
+-- The whole table.
+pub record Kept (returns : Bool) (opening : List (List ℕ)) (s : State Body View) : Type 0 where
+  -- the entries of each object, by rising stamps
+  pub logs : ℕ → List Entry
+  pub words : length s.words ≡ word_of (length opening)
+  pub slots : length s.homes ≡ length opening
+  pub seats : length s.views ≤ 57
+  -- the first seat made the others
+  pub dealer : (id : ℕ) (v : View) → get_elem? s.views id ≡ some v → 0 < v.made → (id ≡ 0) × (v.made ≡ length s.views) × (v.alive ≡ total is_live s.views)
+  pub parts : (id : ℕ) (v : View) → get_elem? s.views id ≡ some v → (p : Part) → Has v.gathered p → PartFits logs s.views p
+  -- no two parts are of one actor
+  pub apart : (id : ℕ) (v : View) → get_elem? s.views id ≡ some v → (j k : ℕ) (p q : Part) → get_elem? v.gathered j ≡ some p → get_elem? v.gathered k ≡ some q → p.actor ≡ q.actor → j ≡ k
+  -- there are entries of the objects alone
+  pub nowhere : (n : ℕ) → length opening ≤ n → logs n ≡ []
+  pub fits : (n : ℕ) → n < length opening → Fits returns (bytes_of opening n) (tally n s.views) (slice_index s.words (word_of n)) (get_elem? s.homes n) (logs n)
+  pub knows : (id : ℕ) (v : View) → get_elem? s.views id ≡ some v → Knows returns opening logs id v
+  -- and they are entries of the seats
+  pub whole : (n : ℕ) (e : Entry) → Has (logs n) e → (e.object ≡ n) × ((id : ℕ) × (v : View) × (get_elem? s.views id ≡ some v) × Written v e)

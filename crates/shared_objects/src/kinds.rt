@@ -1,0 +1,141 @@
+//! The rule of the table, and the nine kinds of step. A proof of a step is as good as this list: no other module has kinds.
+ghost use Rattle.shared_objects.specs.Kinds.{opens_scope, closes_scope, leaves_pass, takes_turn, gives_turn, gives_up_turn, begins_leave, ends_leave, begins_return, ends_return, cools, looks, dealer, dealt, newcomer, gathers};
+ghost use Rattle.shared_objects.specs.Rule.{Kept, spent};
+ghost use Rattle.shared_objects.specs.Opening.{opening_bytes};
+
+use crate::body::Body;
+use crate::view::View;
+use atomic_table::{Join, Play, Split, TableRule};
+use std::marker::{Brand, PhantomData};
+use std::snapshot::Snapshot;
+
+/// What a table is told when it is opened: its bytes, and whether the far store gives back what was put.
+#[derive(Drop)]
+pub struct Key {
+    pub bodies: Snapshot<Vec<Vec<u8>>>,
+    pub returns: bool,
+}
+
+/// The rule of the table.
+pub struct Rule;
+
+impl TableRule<Body, View, Key> for Rule {
+    ghost holds = { λ key. Kept key.returns (opening_bytes key.bodies.value) };
+
+    ghost first = { λ key. dealer key.returns (opening_bytes key.bodies.value) };
+}
+
+/// The first seat makes one more.
+pub struct Deals;
+
+impl Split<View> for Deals {
+    ghost left = { dealt };
+
+    ghost right = { newcomer };
+}
+
+/// The first seat takes another in.
+pub struct Gathers;
+
+impl Join<View> for Gathers {
+    ghost both = { gathers };
+
+    ghost spent = { spent };
+}
+
+/// Open scope.
+pub struct OpensScope;
+
+impl Play<Body, View> for OpensScope {
+    ghost then = { opens_scope };
+}
+
+/// Close scope.
+pub struct ClosesScope;
+
+impl Play<Body, View> for ClosesScope {
+    ghost then = { closes_scope };
+}
+
+/// Close scope, of an object that was found away.
+pub struct LeavesPass;
+
+impl Play<Body, View> for LeavesPass {
+    ghost then = { leaves_pass };
+}
+
+/// Take turn.
+pub struct TakesTurn;
+
+impl Play<Body, View> for TakesTurn {
+    ghost then = { takes_turn };
+}
+
+/// The entry that a step adds, which a call picks.
+pub trait Told {
+    ghost use Rattle.shared_objects.specs.declared.view.Entry.{Entry};
+
+    ghost entry: { Entry };
+}
+
+impl Told for Brand {
+    ghost use Rattle.shared_objects.specs.Kinds.{no_entry};
+
+    ghost entry = { no_entry };
+}
+
+/// Give turn, with an entry.
+pub struct GivesTurn<T>(PhantomData<T>);
+
+impl<T: Told> Play<Body, View> for GivesTurn<T> {
+    ghost then = { gives_turn T.entry };
+}
+
+/// Give turn, without an entry.
+pub struct GivesUpTurn;
+
+impl Play<Body, View> for GivesUpTurn {
+    ghost then = { gives_up_turn };
+}
+
+/// Begin leave.
+pub struct BeginsLeave;
+
+impl Play<Body, View> for BeginsLeave {
+    ghost then = { begins_leave };
+}
+
+/// End leave.
+pub struct EndsLeave;
+
+impl Play<Body, View> for EndsLeave {
+    ghost then = { ends_leave };
+}
+
+/// Begin return.
+pub struct BeginsReturn;
+
+impl Play<Body, View> for BeginsReturn {
+    ghost then = { begins_return };
+}
+
+/// End return.
+pub struct EndsReturn;
+
+impl Play<Body, View> for EndsReturn {
+    ghost then = { ends_return };
+}
+
+/// Cool.
+pub struct Cools;
+
+impl Play<Body, View> for Cools {
+    ghost then = { cools };
+}
+
+/// A look, which changes nothing.
+pub struct Looks;
+
+impl Play<Body, View> for Looks {
+    ghost then = { looks };
+}

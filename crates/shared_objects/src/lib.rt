@@ -1,0 +1,26 @@
+//! Objects that threads share, and that a mover takes away and brings back.
+#![tactic(auto)]
+
+mod body;
+mod closing;
+mod kinds;
+mod laws;
+mod moving;
+mod opening;
+mod seat_memory;
+mod seats;
+mod shared;
+mod table;
+mod touching;
+mod view;
+
+pub use closing::Ended;
+pub use kinds::Key;
+pub use laws::{counts_stay_few, sorted_entries_run};
+pub use moving::Leave;
+pub use seat_memory::SeatMemory;
+pub use seats::{ActorSeat, MoverSeat, Phase};
+pub use shared::{OpenFault, Shared};
+pub use table::SharedTable;
+pub use touching::Fetched;
+pub use view::{Entry, Mark, Part, Place, Turn, View};
