@@ -16,11 +16,18 @@ static uint64_t (*const machine_number)(void) = (void *)2;
 static uint64_t (*const emit)(uint64_t value) = (void *)3;
 static uint64_t (*const close_scopes)(void) = (void *)4;
 #else
-uint64_t object_length(uint64_t object); // in bytes; 0 where there is no such object
+uint64_t object_length(uint64_t object); // in bytes; 0 where there is no such object, or it wasn't granted
 uint64_t machine_number(void);           // this machine's own
 uint64_t emit(uint64_t value);           // keeps a value for `out`: 0, or 1 where 64 are kept, and then it is lost
 uint64_t close_scopes(void);             // no object that was touched so far is held in place any longer; always 0
 #endif
+
+// Whether this program may read the object: there is one, and `ship` or `ship2` granted it. An access without a grant
+// stops the machine (notgranted). Whether it may write it too can't be asked.
+static inline int is_granted(uint64_t object)
+{
+    return object_length(object) != 0;
+}
 
 // Addresses. An object's bytes are at its number times 2^32 and on, so an address is a pointer.
 static inline uint64_t object_of(const volatile void *address)

@@ -4,7 +4,7 @@
 A case has commands of the protocol, and `run NAME A .. | NAME A ..`, which ships programs and steps them in turns until all
 have ended. `mover n` among them takes object n to the far store and back, whenever its turn comes. What programs leave
 (their values, what they emit, the objects' bytes) comes from out/native, which runs the same sources as native code; the
-other replies come from the agent in Python of crates/conversations. Where both answer, they have to agree. Natively the
+other replies come from the agent in Python of tests/reference. Where both answer, they have to agree. Natively the
 programs of one `run` run one after the other and nothing moves, so a case asks only for what this doesn't change. With
 --check the scripts are compared and not written.
 """
@@ -14,7 +14,7 @@ import subprocess
 import sys
 
 HERE = pathlib.Path(__file__).resolve().parent
-sys.path.insert(0, str(HERE.parent.parent / "crates/conversations"))
+sys.path.insert(0, str(HERE.parent.parent / "tests/reference"))
 
 from reference_agent import Agent  # noqa: E402
 from ship import ship_line  # noqa: E402

@@ -3,8 +3,9 @@
 
 ship.py check OBJECT              says why a compiler's object file can't be shipped as raw code, if it can't
 ship.py line CODE FUEL [A ..]     prints the `ship` line of raw code, with up to five arguments
-ship.py run BPFAGENT CODE [A ..]  ships it to a new `bpfagent run` with a fuel of 1,000,000, steps it to its end and
-                                  shows the objects
+ship.py run BPFAGENT CODE [--fuel N] [A ..]
+                                  ships it to a new `bpfagent run` with a fuel of 1,000,000 or N, steps it to its end and
+                                  shows the stop, with the instruction where it isn't `exit`, and the objects, whole
 
 An argument is a number; for `run` it may also be an object, whose address is given: +N is one of N zero bytes, @FILE one
 of a file's bytes, =TEXT one of a text's.
@@ -118,9 +119,12 @@ class Agent:
 
 def number_of(text):
     try:
-        return int(text, 0)
+        number = int(text, 0)
     except ValueError:
-        raise Refused(f"{text} is no number") from None
+        raise Refused("is neither a number nor +N, =TEXT or @FILE") from None
+    if not 0 <= number < 2**64:
+        raise Refused("isn't from 0 to 2^64 - 1")
+    return number
 
 
 def content_of(argument):
@@ -136,6 +140,17 @@ def content_of(argument):
     return None
 
 
+def contents_of(arguments):
+    """What each argument asks for."""
+    found = []
+    for place, argument in enumerate(arguments, 1):
+        try:
+            found.append(content_of(argument))
+        except (Refused, OSError) as why:
+            raise Refused(f"argument {place}, `{argument}`: {why}") from None
+    return found
+
+
 def step_to_end(agent):
     """The stop, and how many instructions were done."""
     steps = 0
@@ -146,25 +161,37 @@ def step_to_end(agent):
         steps += 1
 
 
-def run(program, path, arguments):
+def whole(agent, number, length):
+    """All bytes of an object, in pieces."""
+    pieces = (agent.tell(f"get {number} {at} {min(length - at, PART)}") for at in range(0, length, PART))
+    return "".join(piece.removeprefix("bytes ") for piece in pieces)
+
+
+def show_stop(agent, reply, steps):
+    """The stop; where the program didn't come to its end, at which instruction."""
+    print(f"{reply}\n{steps} instructions")
+    if not reply.startswith("stopped 1 exit"):
+        slot = agent.tell("regs 1").split()[2]
+        print(f"at slot {slot}: {agent.tell(f'line 1 {slot}').removeprefix(f'line 1 {slot} ')}")
+
+
+def run(program, path, fuel, arguments):
     agent, objects, numbers = Agent(program), [], []
-    for argument in arguments:
-        content = content_of(argument)
+    for argument, content in zip(arguments, contents_of(arguments)):
         if content is not None:
             objects.append((agent.make(content), len(content)))
             argument = f"0x{objects[-1][0] << 32:x}"
         numbers.append(argument)
     with open(path, "rb") as file:
-        reply = agent.tell(ship_line(file.read(), str(FUEL), numbers))
+        reply = agent.tell(ship_line(file.read(), str(fuel), numbers))
     if reply != "shipped 1":
-        raise Refused(reply)
-    reply, steps = step_to_end(agent)
-    print(f"{reply}\n{steps} instructions")
+        raise Refused(f"{path}: {reply}")
+    show_stop(agent, *step_to_end(agent))
     emitted = agent.tell("out 1").removeprefix("out 1")
     if emitted:
         print(f"emitted{emitted}")
     for number, length in objects:
-        shown = agent.tell(f"get {number} 0 {min(length, PART)}").removeprefix("bytes ")
+        shown = whole(agent, number, length)
         print(f"object {number}: {shown}{as_text(bytes.fromhex(shown))}")
 
 
@@ -174,6 +201,17 @@ def as_text(content):
     return f' "{content.decode()}"' if content and all(32 <= byte < 127 for byte in content) else ""
 
 
+def with_fuel(words):
+    """The fuel that `--fuel N` gives, and the other words."""
+    if "--fuel" not in words:
+        return FUEL, words
+    at = words.index("--fuel")
+    try:
+        return number_of("".join(words[at + 1 : at + 2])), words[:at] + words[at + 2 :]
+    except Refused:
+        raise Refused("--fuel takes a number") from None
+
+
 def main():
     try:
         if sys.argv[1:2] == ["check"] and len(sys.argv) == 3:
@@ -181,8 +219,11 @@ def main():
         elif sys.argv[1:2] == ["line"] and 4 <= len(sys.argv) <= 9:
             with open(sys.argv[2], "rb") as file:
                 print(ship_line(file.read(), sys.argv[3], sys.argv[4:]))
-        elif sys.argv[1:2] == ["run"] and 4 <= len(sys.argv) <= 9:
-            run(sys.argv[2], sys.argv[3], sys.argv[4:])
+        elif sys.argv[1:2] == ["run"] and 4 <= len(sys.argv):
+            fuel, words = with_fuel(sys.argv[4:])
+            if len(words) > 5:
+                raise Refused(f"{len(words)} arguments are given, and a program takes five")
+            run(sys.argv[2], sys.argv[3], fuel, words)
         else:
             sys.exit(__doc__)
     except (Refused, OSError) as why:

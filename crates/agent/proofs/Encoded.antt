@@ -3,7 +3,8 @@ use Rattle.std.proofs.Common.{◌≡◌, refl, [], ◌∷◌, ◌*◌, take, len
 use Rattle.std.specs.Char.{encode_utf8}
 use Rattle.std.proofs.Math.Seq.{take-append_seam}
 use Rattle.isa_table.specs.declared.instr.Instr.{Instr}
-use Rattle.bpf_codec.specs.Slots.{encoding, padded, slots, zeros_after}
+use Rattle.isa_table.specs.Slots.{slots}
+use Rattle.bpf_codec.specs.Slots.{encoding, padded, zeros_after}
 use Rattle.loader.proofs.Positions.{length_encoding}
 use Rattle.asm_grammar.specs.declared.why.Why.{Why}
 use Rattle.asm_grammar.specs.declared.why.Why.TheVariants as why

@@ -1,4 +1,3 @@
-pub mod ReadCode
 pub mod CheckedPrefix
 pub mod WholeInput
 pub mod Encoded

@@ -8,7 +8,7 @@ use Rattle.clap.specs.declared.error.kind.ErrorKind.TheVariants as kind
 use Rattle.agent.specs.ErrorShown.{Shows}
 use Rattle.agent.specs.Failures.{status_number}
 use Rattle.agent.specs.Reports.{ReportsOutcome}
-use Rattle.agent.specs.Streams.{ConsumesAtMost}
+use Rattle.streams.specs.Streams.{ConsumesAtMost}
 use Rattle.agent.specs.declared.failure.Failure.{Failure}
 use Rattle.agent.specs.declared.failure.Failure.TheVariants.{NoMemory}
 use Rattle.agent.specs.declared.failure.Status.{Status}

@@ -6,11 +6,11 @@ use Rattle.std.specs.Option.{option_map_or}
 use Rattle.clap.specs.Facts.{explicit_source}
 use Rattle.clap.specs.Kinds.{Kinds, check_kinds, or_else}
 use Rattle.clap.specs.Faults.{built_fault, check_fault, defaults_fault, entered_fault, level_fault, settle_fault, walk_fault}
-use Rattle.clap.specs.Simple.{App, Shape, built, entered, names_of, new_shape, rows_at, subcommand_of}
+use Rattle.clap.specs.Simple.{App, Shape, built, entered, filled, names_of, new_shape, rows_at, subcommand_of}
 use Rattle.clap.specs.Takes.{is_given}
 use Rattle.clap.specs.Walk.{Held, Row, Text, answers_to, finished, nothing_held, rows_after, settled, walk, walk_from}
 use Rattle.clap.proofs.OnLiterals.{clap_on_literals}
-use Rattle.agent.specs.CommandLine.{HasBudget, command_line, faults_of, task_named, task_of}
+use Rattle.agent.specs.CommandLine.{HasBudget, command_line, dis_shape, faults_of, flag_rule, task_named, task_of}
 use Rattle.agent.proofs.Budgets.{first_empty, rest_empty, help, rules, run_built, run_has_budget}
 
 last_empty : (first second third fourth last : Kinds) → or_else first (or_else second (or_else third (or_else fourth last))) ≡ [] → last ≡ []
@@ -46,12 +46,15 @@ abbrev pub IsEntered : Option (Text × List Row) → Type 0
 IsEntered None = Unit {0}
 IsEntered (Some p) = IsSome (task_named p.0 p.1) × (p.0 ≡ codes "run" → HasBudget p.1)
 
+abbrev dis_built : Shape
+dis_built = record dis_shape { rules = filled (flag_rule (codes "slots")) ∷ help ∷ []; no_binary_name = true; disable_help_subcommand = true; is_built = true }
+
 abbrev other_built : Text → Shape
 other_built name = record (new_shape name) { rules = help ∷ []; no_binary_name = true; disable_help_subcommand = true; is_built = true }
 
 module _ (P : Option Shape → Type 0) where
-  among_at : (x y z w : Bool) → P None → P (Some run_built) → P (Some (other_built (codes "check"))) → P (Some (other_built (codes "asm"))) → P (Some (other_built (codes "dis")))
-      → P (cond x (Some run_built) (cond y (Some (other_built (codes "check"))) (cond z (Some (other_built (codes "asm"))) (cond w (Some (other_built (codes "dis"))) None))))
+  among_at : (x y z w : Bool) → P None → P (Some run_built) → P (Some (other_built (codes "check"))) → P (Some (other_built (codes "asm"))) → P (Some dis_built)
+      → P (cond x (Some run_built) (cond y (Some (other_built (codes "check"))) (cond z (Some (other_built (codes "asm"))) (cond w (Some dis_built) None))))
   among_at true y z w none run check asm dis = run
   among_at false true z w none run check asm dis = check
   among_at false false true w none run check asm dis = asm

@@ -1,5 +1,6 @@
 -- What is found about the longest text or code and one byte more is found about the whole input.
-use Rattle.std.proofs.Common.{◌≡◌, ℕ, List, take, subst, Option, None, Some, IfSome, Result, Ok, Err, IfOk, IfErr}
+use Rattle.std.proofs.Common.{◌≡◌, ◌≤◌, ℕ, Bool, true, false, List, length, take, subst, Option, None, Some, IfSome, Result, Ok, Err, IfOk, IfErr}
+use Rattle.disassembler.specs.TextOf.{IsShownAs}
 use Rattle.agent.specs.AsmLeaves.{Assembles}
 use Rattle.agent.specs.DisLeaves.{Disassembles}
 use Rattle.agent.specs.declared.failure.Failure.{Failure}
@@ -15,14 +16,18 @@ assembled_whole limit input (Err Read) is h = tt
 assembled_whole limit input (Err (Refused error)) is h = absurd h
 assembled_whole limit input (Err Write) is h = absurd h
 
-shown_whole : (limit : ℕ) (input : List ℕ) (result : Result (List ℕ) Failure) → limit ≡ 32769 → Disassembles (take limit input) result → Disassembles input result
-shown_whole limit input (Ok text) is h = subst (λ bytes. Disassembles bytes (Ok text)) (short 32768 limit input is h.1.short) h
-shown_whole limit input (Err (Refused error)) is h = (refused limit error.why error.slot input is h.0, h.1)
-shown_whole limit input (Err NoMemory) is h = tt
-shown_whole limit input (Err Read) is h = tt
-shown_whole limit input (Err (WrongLine error)) is h = absurd h
-shown_whole limit input (Err InputTooLong) is h = absurd h
-shown_whole limit input (Err Write) is h = absurd h
+shown_short : (has_slots : Bool) (code text : List ℕ) → IsShownAs has_slots code text → length code ≤ 32768
+shown_short false code text h = h.1.short
+shown_short true code text h = h.1.short
+
+shown_whole : (has_slots : Bool) (limit : ℕ) (input : List ℕ) (result : Result (List ℕ) Failure) → limit ≡ 32769 → Disassembles has_slots (take limit input) result → Disassembles has_slots input result
+shown_whole has_slots limit input (Ok text) is h = subst (λ bytes. Disassembles has_slots bytes (Ok text)) (short 32768 limit input is (shown_short has_slots (take limit input) text h)) h
+shown_whole has_slots limit input (Err (Refused error)) is h = (refused limit error.why error.slot input is h.0, h.1)
+shown_whole has_slots limit input (Err NoMemory) is h = tt
+shown_whole has_slots limit input (Err Read) is h = tt
+shown_whole has_slots limit input (Err (WrongLine error)) is h = absurd h
+shown_whole has_slots limit input (Err InputTooLong) is h = absurd h
+shown_whole has_slots limit input (Err Write) is h = absurd h
 
 -- what holds of the bytes that were read holds of the whole input
 abbrev Whole : ℕ → (List ℕ → Result (List ℕ) Failure → Type 0) → Type 0
@@ -52,12 +57,12 @@ pub code_err : {A : Type 0} (limit : ℕ) (given : Option (List ℕ)) (read : Li
     → IfSome given (λ input. IfErr result (λ e. Assembles input (Err e)))
 code_err limit given read result is = found_err Assembles limit given read result (λ input found. assembled_whole limit input found is)
 
-pub text_ok : {A : Type 0} (view : A → List ℕ) (limit : ℕ) (given : Option (List ℕ)) (read : List ℕ) (result : Result A Failure)
-    → limit ≡ 32769 → IfSome given (λ input. read ≡ take limit input) → IfOk result (λ x. Disassembles read (Ok (view x)))
-    → IfSome given (λ input. IfOk result (λ x. Disassembles input (Ok (view x))))
-text_ok view limit given read result is = found_ok view Disassembles limit given read result (λ input found. shown_whole limit input found is)
+pub text_ok : {A : Type 0} (has_slots : Bool) (view : A → List ℕ) (limit : ℕ) (given : Option (List ℕ)) (read : List ℕ) (result : Result A Failure)
+    → limit ≡ 32769 → IfSome given (λ input. read ≡ take limit input) → IfOk result (λ x. Disassembles has_slots read (Ok (view x)))
+    → IfSome given (λ input. IfOk result (λ x. Disassembles has_slots input (Ok (view x))))
+text_ok has_slots view limit given read result is = found_ok view (Disassembles has_slots) limit given read result (λ input found. shown_whole has_slots limit input found is)
 
-pub text_err : {A : Type 0} (limit : ℕ) (given : Option (List ℕ)) (read : List ℕ) (result : Result A Failure)
-    → limit ≡ 32769 → IfSome given (λ input. read ≡ take limit input) → IfErr result (λ e. Disassembles read (Err e))
-    → IfSome given (λ input. IfErr result (λ e. Disassembles input (Err e)))
-text_err limit given read result is = found_err Disassembles limit given read result (λ input found. shown_whole limit input found is)
+pub text_err : {A : Type 0} (has_slots : Bool) (limit : ℕ) (given : Option (List ℕ)) (read : List ℕ) (result : Result A Failure)
+    → limit ≡ 32769 → IfSome given (λ input. read ≡ take limit input) → IfErr result (λ e. Disassembles has_slots read (Err e))
+    → IfSome given (λ input. IfErr result (λ e. Disassembles has_slots input (Err e)))
+text_err has_slots limit given read result is = found_err (Disassembles has_slots) limit given read result (λ input found. shown_whole has_slots limit input found is)

@@ -4,7 +4,7 @@ use Rattle.std.specs.Io.KnownBytes.{Appends, Keeps}
 use Rattle.loader.specs.Refusals.{Refuses}
 use Rattle.loader.specs.ValidCode.{ValidCode, code_limit}
 use Rattle.loader.specs.declared.loading.Why.TheVariants as why
-use Rattle.agent.specs.Streams.{AppendsPart}
+use Rattle.streams.specs.Streams.{AppendsPart}
 use Rattle.agent.specs.declared.failure.Failure.{Failure}
 use Rattle.agent.specs.declared.failure.Failure.TheVariants.{Refused, WrongLine, InputTooLong, Read, Write, NoMemory}
 

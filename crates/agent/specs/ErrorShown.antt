@@ -6,7 +6,7 @@ use Rattle.clap.specs.declared.error.kind.ErrorKind.{ErrorKind}
 use Rattle.clap.specs.declared.error.kind.ErrorKind.TheVariants as kind
 use Rattle.agent.specs.Failures.{status_number}
 use Rattle.agent.specs.Reports.{Reports}
-use Rattle.agent.specs.Streams.{AppendsPart, AppendsSome}
+use Rattle.streams.specs.Streams.{AppendsPart, AppendsSome}
 use Rattle.agent.specs.declared.failure.Failure.TheVariants.{Write, NoMemory}
 use Rattle.agent.specs.declared.failure.Status.{Status}
 use Rattle.agent.specs.declared.failure.Status.TheVariants.{InvalidArguments}

@@ -1,5 +1,4 @@
 pub mod Failures
-pub mod Streams
 pub mod CheckLeaves
 pub mod Leaves
 pub mod AsmLeaves

@@ -2,7 +2,7 @@
 use Rattle.std.specs.Prelude.{◌≡◌, ℕ, ⊤, List, Option, Result, Ok, Err}
 use Rattle.std.specs.Io.KnownBytes.{Keeps}
 use Rattle.agent.specs.Failures.{failure_line, status_number, status_of}
-use Rattle.agent.specs.Streams.{AppendsSome}
+use Rattle.streams.specs.Streams.{AppendsSome}
 use Rattle.agent.specs.declared.failure.Failure.{Failure}
 use Rattle.agent.specs.declared.failure.Status.{Status}
 use Rattle.agent.specs.declared.failure.Status.TheVariants.{Done}

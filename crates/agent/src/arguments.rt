@@ -1,9 +1,9 @@
 //! The arguments of the command line.
 ghost use Rattle.std.specs.Prelude.{◌≡◌, [], Some, map, codes, IfOk, IfErr};
 ghost use Rattle.clap.specs.Words.{app_of, found_of, rows_of, rule_of, HasKind};
-ghost use Rattle.agent.specs.CommandLine.{HasBudget, budget_in, budget_rule, command_line, faults_of, task_named, task_of};
+ghost use Rattle.agent.specs.CommandLine.{HasBudget, budget_in, budget_rule, command_line, faults_of, flag_rule, is_set, task_named, task_of};
 
-use clap::{Arg, ArgMatches, Command, Error, value_parser};
+use clap::{Arg, ArgAction, ArgMatches, Command, Error, value_parser};
 use std::alloc::{AllocError, Global};
 use std::convert::AsStr;
 
@@ -16,8 +16,9 @@ pub enum Task {
     Check,
     /// To turn assembly into raw code.
     Assemble,
-    /// To show raw code as assembly.
-    Disassemble,
+    /// To show raw code as assembly, each instruction after the number of its slot where that is
+    /// asked for.
+    Disassemble { has_slots: bool },
 }
 
 /// `--budget N`: the most bytes that the objects that aren't far may have.
@@ -29,8 +30,42 @@ fn make_budget<'a>(alloc: Global) -> Arg<'a>
         .value_name("N")
         .value_parser(value_parser!(u32).range(0..=67_108_864))
         .default_value("67108864")
-        .help("The most bytes of objects that are not far")
+        .help("The most bytes of objects that are not far, 0 to 67108864")
 }
+
+/// `--NAME`, which is given or not.
+fn make_flag<'a>(alloc: Global, name: &'a str, help: &'a str) -> Arg<'a>
+    ensures { rule_of result ≡ flag_rule name.entry.now }
+{
+    Arg::new(alloc, name)
+        .long(name)
+        .action(ArgAction::SetTrue)
+        .help(help)
+}
+
+/// What help says of `run`.
+const RUN_HELP: &str =
+    "Reads lines from standard input, each a command, and writes a line to standard output \
+for each, its reply, before the next is done. docs/PROTOCOL.md describes them.\n\nStatus 0: the input has ended. \
+Status 3: a stream failed, or there is no memory to begin with; standard error says which.";
+
+/// What help says of `check`.
+const CHECK_HELP: &str =
+    "Reads raw code (bytes, not hex) from standard input, and writes 'ok N' to standard output \
+where it is valid: it has N slots.\n\nStatus 0: the code is valid. Status 1: it isn't, and standard error has \
+'slot S: WHY'. Status 3: a stream failed, or out of memory.";
+
+/// What help says of `asm`.
+const ASM_HELP: &str =
+    "Reads assembly from standard input, 1048576 bytes at most, and writes raw code (bytes, not hex) \
+to standard output. docs/ASSEMBLY.md describes it.\n\nStatus 0: the code is written. Status 1: it isn't assembly, and \
+standard error has 'line L: WHY' or 'input too long'. Status 3: a stream failed, or out of memory.";
+
+/// What help says of `dis`.
+const DIS_HELP: &str =
+    "Reads raw code (bytes, not hex) from standard input, and writes assembly to standard output, a \
+line for each instruction. 'asm' makes the same code of it, where no slots are shown.\n\nStatus 0: the text is written. \
+Status 1: the code isn't valid, and standard error has 'slot S: WHY'. Status 3: a stream failed, or out of memory.";
 
 /// The command line of the program.
 fn make_command<'a>(alloc: Global) -> Result<Command<'a>, AllocError>
@@ -38,10 +73,23 @@ fn make_command<'a>(alloc: Global) -> Result<Command<'a>, AllocError>
 {
     let run = Command::new(alloc, "run")
         .about("Do the commands of standard input, one a line")
+        .after_help(RUN_HELP)
         .arg(make_budget(alloc))?;
-    let check = Command::new(alloc, "check").about("Check the raw code of standard input");
-    let asm = Command::new(alloc, "asm").about("Turn the assembly of standard input into raw code");
-    let dis = Command::new(alloc, "dis").about("Show the raw code of standard input as assembly");
+    let check = Command::new(alloc, "check")
+        .about("Check the raw code of standard input")
+        .after_help(CHECK_HELP);
+    let asm = Command::new(alloc, "asm")
+        .about("Turn the assembly of standard input into raw code")
+        .after_help(ASM_HELP);
+    let slots = make_flag(
+        alloc,
+        "slots",
+        "Show the number of its slot before each instruction",
+    );
+    let dis = Command::new(alloc, "dis")
+        .about("Show the raw code of standard input as assembly")
+        .after_help(DIS_HELP)
+        .arg(slots)?;
     Command::new(alloc, "bpfagent")
         .bin_name("bpfagent")?
         .about("Runs BPF programs")
@@ -65,6 +113,16 @@ fn read_budget<'a>(matches: &ArgMatches<'a>) -> u32
     budget
 }
 
+/// Whether the flag of this name is given.
+fn is_set<'a>(matches: &ArgMatches<'a>, name: &str) -> bool
+    ensures { result ≡ is_set name.now (rows_of (found_of matches.now)) }
+{
+    match matches.get_str(name) {
+        Some(text) => text == "true",
+        None => false,
+    }
+}
+
 /// The task of this name, with these matches.
 fn task_called<'a>(name: &str, matches: &ArgMatches<'a>) -> Option<Task>
     requires { name.now ≡ codes "run" → HasBudget (rows_of (found_of matches.now)) }
@@ -76,7 +134,9 @@ fn task_called<'a>(name: &str, matches: &ArgMatches<'a>) -> Option<Task>
         }),
         "check" => Some(Task::Check),
         "asm" => Some(Task::Assemble),
-        "dis" => Some(Task::Disassemble),
+        "dis" => Some(Task::Disassemble {
+            has_slots: is_set(matches, "slots"),
+        }),
         _ => None,
     }
 }

@@ -5,16 +5,15 @@ ghost use Rattle.std.specs.String.{string_bytes};
 ghost use Rattle.bpf_codec.specs.Slots.{encoding};
 ghost use Rattle.loader.specs.Instructions.{encodings};
 ghost use Rattle.agent.specs.AsmLeaves.{AsmLeaves, Assembles, asm_limit, char_text, text_of_bytes};
-ghost use Rattle.agent.specs.Streams.{ConsumesAtMost};
+ghost use Rattle.streams.specs.Streams.{ConsumesAtMost};
 
 use crate::failure::Failure;
-use crate::reading::read_at_most;
 use assembler::{Why, assemble};
 use bpf_codec::encode;
-use console::put_all;
 use isa_table::Instr;
 use std::alloc::{AllocError, Global};
 use std::io::{Read, Write};
+use streams::{put_all, read_at_most};
 
 /// The longest text.
 const TEXT_LIMIT: usize = 1_048_576;

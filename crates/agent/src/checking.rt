@@ -1,15 +1,14 @@
 //! `check`: raw code in, whether it is valid out.
 ghost use Rattle.std.specs.Prelude.{◌≡◌, IfSome};
 ghost use Rattle.agent.specs.CheckLeaves.{CheckLeaves, Finds, check_limit, ok_line};
-ghost use Rattle.agent.specs.Streams.{ConsumesAtMost};
+ghost use Rattle.streams.specs.Streams.{ConsumesAtMost};
 
 use crate::failure::Failure;
-use crate::reading::read_at_most;
 use arrayvec::ArrayVec;
-use console::put_all;
 use loader::{CODE_LIMIT, Why, load};
 use std::alloc::Global;
 use std::io::{Read, Write};
+use streams::{put_all, read_at_most};
 
 /// As much as is read: the longest code that can be valid, and one byte more, which shows that
 /// there is more.

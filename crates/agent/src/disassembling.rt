@@ -2,51 +2,55 @@
 ghost use Rattle.std.specs.Prelude.{IfOk, IfErr, IfSome, Ok, Err};
 ghost use Rattle.agent.specs.CheckLeaves.{check_limit};
 ghost use Rattle.agent.specs.DisLeaves.{DisLeaves, Disassembles};
-ghost use Rattle.agent.specs.Streams.{ConsumesAtMost};
+ghost use Rattle.streams.specs.Streams.{ConsumesAtMost};
 
 use crate::checking::CHECK_LIMIT;
 use crate::failure::Failure;
-use crate::reading::read_at_most;
-use console::put_all;
-use disassembler::text;
+use disassembler::listing;
 use loader::{Why, load};
 use std::alloc::Global;
 use std::io::{Read, Write};
+use streams::{put_all, read_at_most};
 
-/// The canonical text of the code, where it is valid.
-fn show_code(alloc: Global, code: &[u8]) -> Result<Vec<u8>, Failure>
-    ensures ok { IfOk result (λ shown. Disassembles code.now (Ok shown.items)) }
-    ensures err { IfErr result (λ failure. Disassembles code.now (Err failure)) }
+/// The canonical text of the code, where it is valid, with slots or without.
+fn show_code(alloc: Global, has_slots: bool, code: &[u8]) -> Result<Vec<u8>, Failure>
+    ensures ok { IfOk result (λ shown. Disassembles has_slots code.now (Ok shown.items)) }
+    ensures err { IfErr result (λ failure. Disassembles has_slots code.now (Err failure)) }
 {
     let program = match load(alloc, code) {
         Ok(program) => program,
         Err(error) if error.why == Why::Memory => return Err(Failure::NoMemory),
         Err(error) => return Err(Failure::Refused(error)),
     };
-    match text(alloc, &program) {
-        Ok(shown) => Ok(shown.into_bytes()),
+    match listing(alloc, has_slots, &program) {
+        Ok(shown) => Ok(shown),
         Err(_) => Err(Failure::NoMemory),
     }
 }
 
 /// The canonical text of the code that the reader has.
-fn find_text<R: Read>(alloc: Global, reader: &mut R) -> Result<Vec<u8>, Failure>
-    ensures ok { IfSome (R.remaining reader.old) (λ input. IfOk result (λ shown. Disassembles input (Ok shown.items))) }
-    ensures err { IfSome (R.remaining reader.old) (λ input. IfErr result (λ failure. Disassembles input (Err failure))) }
+fn find_text<R: Read>(alloc: Global, has_slots: bool, reader: &mut R) -> Result<Vec<u8>, Failure>
+    ensures ok { IfSome (R.remaining reader.old) (λ input. IfOk result (λ shown. Disassembles has_slots input (Ok shown.items))) }
+    ensures err { IfSome (R.remaining reader.old) (λ input. IfErr result (λ failure. Disassembles has_slots input (Err failure))) }
     ensures consumed { ConsumesAtMost check_limit (R.remaining reader.old) (R.remaining reader.new) }
 {
     let code = read_at_most(alloc, reader, CHECK_LIMIT)?;
-    show_code(alloc, &code)
+    show_code(alloc, has_slots, &code)
 }
 
-/// Reads raw code, and writes its canonical text where it is valid. At most one byte is read past
-/// the longest valid code.
-pub fn dis<R: Read, W: Write>(alloc: Global, reader: &mut R, writer: &mut W) -> Result<(), Failure>
+/// Reads raw code, and writes its canonical text where it is valid, with the number of its slot
+/// before each instruction or without. At most one byte is read past the longest valid code.
+pub fn dis<R: Read, W: Write>(
+    alloc: Global,
+    has_slots: bool,
+    reader: &mut R,
+    writer: &mut W,
+) -> Result<(), Failure>
     ensures left { IfSome (R.remaining reader.old) (λ input.
-        DisLeaves input (W.contents writer.old) (W.contents writer.new) result) }
+        DisLeaves has_slots input (W.contents writer.old) (W.contents writer.new) result) }
     ensures consumed { ConsumesAtMost check_limit (R.remaining reader.old) (R.remaining reader.new) }
 {
-    let shown = find_text(alloc, reader)?;
+    let shown = find_text(alloc, has_slots, reader)?;
     match put_all(writer, &shown) {
         Ok(()) => Ok(()),
         Err(_) => Err(Failure::Write),

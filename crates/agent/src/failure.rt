@@ -1,11 +1,13 @@
 //! What the program ends with.
-ghost use Rattle.std.specs.Prelude.{◌≡◌, ◌≤◌, length};
+ghost use Rattle.std.specs.Prelude.{◌≡◌, ◌⊎◌, ◌≤◌, length};
 ghost use Rattle.asm_grammar.specs.Reasons.{why_name};
 ghost use Rattle.agent.specs.Failures.{status_number, failure_line, status_of};
+ghost use Rattle.agent.specs.declared.failure.Failure.TheVariants.{Read as ReadFailed, NoMemory as OutOfMemory};
 
 use arrayvec::ArrayVec;
 use assembler::{AsmError, Why};
 use loader::LoadError;
+use streams::InputFault;
 use thiserror::Error;
 
 /// How the program ended.
@@ -51,6 +53,17 @@ pub enum Failure {
     /// Out of memory.
     #[error("no memory")]
     NoMemory,
+}
+
+impl From<InputFault> for Failure {
+    ghost from_gives = { λ _ failure. (failure ≡ ReadFailed) ⊎ (failure ≡ OutOfMemory) };
+
+    fn from(fault: InputFault) -> Failure {
+        match fault {
+            InputFault::Read => Failure::Read,
+            InputFault::NoMemory => Failure::NoMemory,
+        }
+    }
 }
 
 /// A line about a failure: at most a slot's or a line's number and the longest of the names.

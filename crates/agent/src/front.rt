@@ -1,5 +1,5 @@
 //! The whole program over its arguments and streams.
-ghost use Rattle.std.specs.Prelude.{◌≡◌, ◌≢◌, ℕ, [], map, Some, IfSome};
+ghost use Rattle.std.specs.Prelude.{◌≡◌, ◌≢◌, ℕ, Bool, [], map, Some, IfSome};
 ghost use Rattle.std.specs.Io.KnownBytes.{Keeps};
 ghost use Rattle.clap.specs.Words.{kind_of};
 ghost use Rattle.agent.specs.AsmLeaves.{AsmLeaves, asm_limit};
@@ -9,7 +9,7 @@ ghost use Rattle.agent.specs.DisLeaves.{DisLeaves};
 ghost use Rattle.agent.specs.ErrorShown.{Shows, ShowsError, ShowsHelp, ShowsOneOf};
 ghost use Rattle.agent.specs.Reports.{ReportsOutcome};
 ghost use Rattle.agent.specs.RunLeaves.{RunLeaves};
-ghost use Rattle.agent.specs.Streams.{ConsumesAtMost};
+ghost use Rattle.streams.specs.Streams.{ConsumesAtMost};
 
 use crate::arguments::{Task, read_arguments};
 use crate::assembling::asm;
@@ -20,10 +20,10 @@ use crate::reporting::{report, say};
 use crate::running::run;
 use clap::Error;
 use clap::error::ErrorKind;
-use console::put_all;
 use std::alloc::Global;
 use std::convert::AsStr;
 use std::io::{Read, Write};
+use streams::put_all;
 
 /// This text, or another where it is empty: `clap`'s contracts leave the texts of its errors open.
 fn some_text(text: &str) -> &[u8]
@@ -50,7 +50,7 @@ fn show_help<W: Write, E: Write>(text: &str, writer: &mut W, errors: &mut E) -> 
 fn show_error<E: Write>(text: &str, errors: &mut E) -> Status
     ensures { ShowsError (E.contents errors.old) (E.contents errors.new) result }
 {
-    say(some_text(text), errors);
+    let _told = say(some_text(text), errors);
     Status::InvalidArguments
 }
 
@@ -92,12 +92,12 @@ pub fn tool<'a, S: AsStr, R: Read, W: Write, E: Write>(
     ensures asm { faults_of (map S.text arguments.entry.now) ≡ [] → task_of (map S.text arguments.entry.now) ≡ Some Task.Assemble
         → IfSome (R.remaining reader.old) (λ input. ReportsOutcome (AsmLeaves input (W.contents writer.old) (W.contents writer.new))
         (E.contents errors.old) (E.contents errors.new) result) }
-    ensures dis { faults_of (map S.text arguments.entry.now) ≡ [] → task_of (map S.text arguments.entry.now) ≡ Some Task.Disassemble
-        → IfSome (R.remaining reader.old) (λ input. ReportsOutcome (DisLeaves input (W.contents writer.old) (W.contents writer.new))
+    ensures dis { (has_slots : Bool) → faults_of (map S.text arguments.entry.now) ≡ [] → task_of (map S.text arguments.entry.now) ≡ Some (Task.Disassemble has_slots)
+        → IfSome (R.remaining reader.old) (λ input. ReportsOutcome (DisLeaves has_slots input (W.contents writer.old) (W.contents writer.new))
         (E.contents errors.old) (E.contents errors.new) result) }
     ensures consumed { task_of (map S.text arguments.entry.now) ≡ Some Task.Check → ConsumesAtMost check_limit (R.remaining reader.old) (R.remaining reader.new) }
     ensures consumed_by_asm { task_of (map S.text arguments.entry.now) ≡ Some Task.Assemble → ConsumesAtMost asm_limit (R.remaining reader.old) (R.remaining reader.new) }
-    ensures consumed_by_dis { task_of (map S.text arguments.entry.now) ≡ Some Task.Disassemble → ConsumesAtMost check_limit (R.remaining reader.old) (R.remaining reader.new) }
+    ensures consumed_by_dis { (has_slots : Bool) → task_of (map S.text arguments.entry.now) ≡ Some (Task.Disassemble has_slots) → ConsumesAtMost check_limit (R.remaining reader.old) (R.remaining reader.new) }
     ensures invalid { faults_of (map S.text arguments.entry.now) ≢ []
         → ShowsOneOf (faults_of (map S.text arguments.entry.now)) (W.contents writer.old) (W.contents writer.new)
         (E.contents errors.old) (E.contents errors.new) result }
@@ -107,7 +107,9 @@ pub fn tool<'a, S: AsStr, R: Read, W: Write, E: Write>(
         Ok(Task::Run { budget }) => report(run(alloc, budget, reader, writer), errors).number(),
         Ok(Task::Check) => report(check(alloc, reader, writer), errors).number(),
         Ok(Task::Assemble) => report(asm(alloc, reader, writer), errors).number(),
-        Ok(Task::Disassemble) => report(dis(alloc, reader, writer), errors).number(),
+        Ok(Task::Disassemble { has_slots }) => {
+            report(dis(alloc, has_slots, reader, writer), errors).number()
+        }
         Err(error) => show(alloc, error, writer, errors).number(),
     }
 }

@@ -1,5 +1,5 @@
 //! What the command line takes, apart from any call.
-ghost use Rattle.std.specs.Prelude.{◌≡◌, ◌≢◌, [], ◌∷◌, Some, codes};
+ghost use Rattle.std.specs.Prelude.{◌≡◌, ◌≢◌, [], ◌∷◌, Some, codes, true, false};
 ghost use Rattle.agent.specs.CommandLine.{budget_limit, budget_limit_text, faults_of, task_of};
 ghost use Rattle.agent.specs.Laws.{RightArgumentsNameATask};
 
@@ -12,7 +12,7 @@ pub fn right_arguments()
     ensures run { (faults_of (codes "run" ∷ []) ≡ []) × (task_of (codes "run" ∷ []) ≡ Some (Task.Run budget_limit)) }
     ensures check { (faults_of (codes "check" ∷ []) ≡ []) × (task_of (codes "check" ∷ []) ≡ Some Task.Check) }
     ensures asm { (faults_of (codes "asm" ∷ []) ≡ []) × (task_of (codes "asm" ∷ []) ≡ Some Task.Assemble) }
-    ensures dis { (faults_of (codes "dis" ∷ []) ≡ []) × (task_of (codes "dis" ∷ []) ≡ Some Task.Disassemble) }
+    ensures dis { (faults_of (codes "dis" ∷ []) ≡ []) × (task_of (codes "dis" ∷ []) ≡ Some (Task.Disassemble false)) }
     ensures help { faults_of (codes "--help" ∷ []) ≡ ErrorKind.DisplayHelp ∷ [] }
 {}
 
@@ -25,13 +25,21 @@ pub fn right_budgets()
         × (task_of (codes "run" ∷ codes "--budget" ∷ budget_limit_text ∷ []) ≡ Some (Task.Run budget_limit)) }
 {}
 
-/// No argument at all, another one, `help`, a second one and an option of another subcommand are invalid.
+/// `--slots` asks `dis` for the slots.
+pub fn right_flags()
+    ensures slots { (faults_of (codes "dis" ∷ codes "--slots" ∷ []) ≡ []) × (task_of (codes "dis" ∷ codes "--slots" ∷ []) ≡ Some (Task.Disassemble true)) }
+{}
+
+/// No argument at all, another one, `help`, a second one, an option of another subcommand and a flag given twice are
+/// invalid.
 pub fn invalid_arguments()
     ensures none { faults_of [] ≢ [] }
     ensures other { faults_of (codes "serve" ∷ []) ≢ [] }
     ensures help { faults_of (codes "help" ∷ []) ≢ [] }
     ensures second { faults_of (codes "run" ∷ codes "check" ∷ []) ≢ [] }
     ensures option { faults_of (codes "check" ∷ codes "--budget" ∷ codes "8" ∷ []) ≢ [] }
+    ensures flag { faults_of (codes "asm" ∷ codes "--slots" ∷ []) ≢ [] }
+    ensures twice { faults_of (codes "dis" ∷ codes "--slots" ∷ codes "--slots" ∷ []) ≢ [] }
 {}
 
 /// A budget that is too great, or no number, or missing, or given twice, is invalid.

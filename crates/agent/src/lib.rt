@@ -8,7 +8,6 @@ mod disassembling;
 mod failure;
 mod front;
 mod laws;
-mod reading;
 mod reporting;
 mod running;
 
@@ -19,7 +18,8 @@ pub use disassembling::dis;
 pub use failure::{Failure, Status};
 pub use front::tool;
 pub use laws::{
-    invalid_arguments, invalid_budgets, right_arguments, right_arguments_name_a_task, right_budgets,
+    invalid_arguments, invalid_budgets, right_arguments, right_arguments_name_a_task,
+    right_budgets, right_flags,
 };
 pub use reporting::refuse_arguments;
 pub use running::run;

@@ -1,20 +1,23 @@
 //! What is reported at the end.
-ghost use Rattle.std.specs.Prelude.{◌≡◌, ◌≢◌, Err};
+ghost use Rattle.std.specs.Prelude.{◌≡◌, ◌≢◌, true, false, Err};
+ghost use Rattle.std.specs.Io.KnownBytes.{Appends};
 ghost use Rattle.std.specs.IoError.{error_kind};
 ghost use Rattle.agent.specs.ErrorShown.{not_text};
 ghost use Rattle.agent.specs.Failures.{status_number};
 ghost use Rattle.agent.specs.Reports.{Reports, ReportsOutcome};
-ghost use Rattle.agent.specs.Streams.{AppendsSome};
+ghost use Rattle.streams.specs.Streams.{AppendsPart, AppendsSome};
 
 use crate::failure::{Failure, Status};
-use console::put_all;
 use std::io::{self, ErrorKind, Write};
+use streams::put_all;
 
-/// Writes this text. What the stream doesn't take of it is lost.
-pub(crate) fn say<E: Write>(text: &[u8], errors: &mut E)
-    ensures { AppendsSome (E.contents errors.old) (E.contents errors.new) text.now }
+/// Writes this text, and answers whether the stream took all of it. What it doesn't take is lost.
+pub(crate) fn say<E: Write>(text: &[u8], errors: &mut E) -> bool
+    ensures some { AppendsSome (E.contents errors.old) (E.contents errors.new) text.now }
+    ensures all { result ≡ true → Appends (E.contents errors.old) (E.contents errors.new) text.now }
+    ensures part { result ≡ false → AppendsPart (E.contents errors.old) (E.contents errors.new) text.now }
 {
-    let _ = put_all(errors, text);
+    put_all(errors, text).is_ok()
 }
 
 /// Reports a failure, and gives the status. What the stream doesn't take of the line is lost.
@@ -24,7 +27,7 @@ pub(crate) fn report<E: Write>(outcome: Result<(), Failure>, errors: &mut E) -> 
     match outcome {
         Ok(()) => Status::Done,
         Err(failure) => {
-            say(&failure.line(), errors);
+            let _told = say(&failure.line(), errors);
             failure.status()
         }
     }
@@ -41,6 +44,6 @@ pub fn refuse_arguments<E: Write>(error: &io::Error, errors: &mut E) -> u8
     if error.kind() == ErrorKind::OutOfMemory {
         return report(Err(Failure::NoMemory), errors).number();
     }
-    say(b"error: the arguments are not valid UTF-8\n", errors);
+    let _told = say(b"error: the arguments are not valid UTF-8\n", errors);
     Status::InvalidArguments.number()
 }

@@ -44,6 +44,15 @@ fn code_becomes_its_text(rt: HostRuntime) {
 }
 
 #[test]
+fn slots_stand_before_the_lines(rt: HostRuntime) {
+    let outcome = outcome_of(rt.alloc(), &["dis", "--slots"], ALL_ONES);
+    assert_eq!(rt; outcome.status, 0);
+    let text: &[u8] = b"0: lddw r0, 0xffffffffffffffff\n2: exit\n";
+    assert_eq!(rt; outcome.output.as_slice(), text);
+    assert!(rt; outcome.errors.is_empty());
+}
+
+#[test]
 fn a_wrong_line_goes_to_the_errors(rt: HostRuntime) {
     let cases: [(&[u8], &[u8]); 5] = [
         (b"exit\nexot\n", b"line 2: Word\n"),

@@ -1,19 +1,21 @@
 -- What is wrong with a line, but for labels that stand nowhere, doesn't depend on the labels.
-use Rattle.std.proofs.Common.{◌≡◌, ℕ, Bool, true, false, cond, List, [], ◌∷◌, ◌++◌, refl, sym, ap, ◌∙◌, Option, Some, None, is_some, option_and_then, Err, ℤ, pos}
+use Rattle.std.proofs.Common.{◌≡◌, ℕ, ◌&&◌, Bool, true, false, cond, List, [], ◌∷◌, ◌++◌, refl, sym, ap, ◌∙◌, Option, Some, None, is_some, option_and_then, Err, ℤ, pos}
 use Rattle.asm_text.specs.Tokens.{Lexeme}
 use Rattle.isa_table.specs.declared.instr.Instr.{Instr}
 use Rattle.asm_table.specs.declared.mnemonic.Mnemonic.{Mnemonic}
-use Rattle.asm_table.specs.declared.mnemonic.Mnemonic.TheVariants as mnemonic
 use Rattle.asm_table.specs.declared.mnemonic.Sort.{Sort}
 use Rattle.asm_table.specs.declared.operands.AsmOperand.{AsmOperand}
 use Rattle.asm_table.specs.declared.operands.AsmOperand.TheVariants as operand
 use Rattle.asm_table.specs.Mnemonics.{sorts}
 use Rattle.asm_table.specs.Parts.{instr_of_parts}
+use Rattle.asm_table.proofs.Each.{of_sort, of_sorts, built_exactly}
 use Rattle.asm_grammar.specs.declared.why.Why.TheVariants as why
 use Rattle.asm_grammar.specs.Writing.{Written}
 use Rattle.asm_grammar.specs.Sorts.{Taken, operand_taken, distance}
 use Rattle.asm_grammar.specs.Sorts.Taken.{No, Out, Is, To, LongTo}
-use Rattle.asm_grammar.specs.Reading.{Look, Gathered, nothing, gather_operands, step, added, aimed, next_operand, mnemonic_at, finished, judged, said, body, by_mnemonic, has_stray, after_label, line_says, fault_of}
+use Rattle.asm_grammar.specs.Grammar.{Look, has_stray, after_label}
+use Rattle.asm_grammar.specs.Reading.{Gathered, nothing, gather_operands, step, added, aimed, next_operand, mnemonic_at, finished, judged, said, body, by_mnemonic, line_says, fault_of}
+use Rattle.asm_grammar.proofs.Formed.{any_offset, any_long_offset}
 
 -- an operand with no regard to where a label stands
 kind : AsmOperand → AsmOperand
@@ -30,29 +32,21 @@ unfolding kinds
 kinds-append [] ps = refl
 kinds-append (o ∷ os) ps = ap (λ l. kind o ∷ l) (kinds-append os ps)
 
+kind_sort : (s : Sort) (o : AsmOperand) → of_sort s (kind o) ≡ of_sort s o
+unfolding kind
+kind_sort s (operand.Offset z) = sym (any_offset s z)
+kind_sort s (operand.LongOffset z) = sym (any_long_offset s z)
+kind_sort s _ = refl
+
+kinds_sorts : (ss : List Sort) (os : List AsmOperand) → of_sorts ss (kinds os) ≡ of_sorts ss os
+unfolding kinds of_sorts
+kinds_sorts [] [] = refl
+kinds_sorts [] (o ∷ os) = refl
+kinds_sorts (s ∷ ss) [] = refl
+kinds_sorts (s ∷ ss) (o ∷ os) = ap (λ b. b && of_sorts ss (kinds os)) (kind_sort s o) ∙ ap (λ b. of_sort s o && b) (kinds_sorts ss os)
+
 built_kinds : (m : Mnemonic) (os : List AsmOperand) → is_some (instr_of_parts m (kinds os)) ≡ is_some (instr_of_parts m os)
-unfolding kinds kind
-built_kinds (mnemonic.Alu w op) (operand.Register d ∷ operand.Register s ∷ []) = refl
-built_kinds (mnemonic.Alu w op) (operand.Register d ∷ operand.Imm z ∷ []) = refl
-built_kinds (mnemonic.Neg w) (operand.Register d ∷ []) = refl
-built_kinds (mnemonic.MovSx8 w) (operand.Register d ∷ operand.Register s ∷ []) = refl
-built_kinds (mnemonic.MovSx16 w) (operand.Register d ∷ operand.Register s ∷ []) = refl
-built_kinds mnemonic.MovSx32 (operand.Register d ∷ operand.Register s ∷ []) = refl
-built_kinds (mnemonic.End o w) (operand.Register d ∷ []) = refl
-built_kinds (mnemonic.Jump w c) (operand.Register d ∷ operand.Register s ∷ operand.Offset o ∷ []) = refl
-built_kinds (mnemonic.Jump w c) (operand.Register d ∷ operand.Imm z ∷ operand.Offset o ∷ []) = refl
-built_kinds mnemonic.Ja (operand.Offset o ∷ []) = refl
-built_kinds mnemonic.JaLong (operand.LongOffset o ∷ []) = refl
-built_kinds mnemonic.CallHelper (operand.Imm k ∷ []) = refl
-built_kinds mnemonic.CallLocal (operand.LongOffset o ∷ []) = refl
-built_kinds mnemonic.Exit [] = refl
-built_kinds (mnemonic.Load z) (operand.Register d ∷ operand.Memory s o ∷ []) = refl
-built_kinds (mnemonic.LoadSigned z) (operand.Register d ∷ operand.Memory s o ∷ []) = refl
-built_kinds (mnemonic.StoreImm z) (operand.Memory d o ∷ operand.Imm k ∷ []) = refl
-built_kinds (mnemonic.StoreRegister z) (operand.Memory d o ∷ operand.Register s ∷ []) = refl
-built_kinds (mnemonic.Atomic w op) (operand.Memory d o ∷ operand.Register s ∷ []) = refl
-built_kinds mnemonic.LoadImm64 (operand.Register d ∷ operand.Imm64 v ∷ []) = refl
-built_kinds _ _ = refl
+built_kinds m os = built_exactly m (kinds os) ∙ kinds_sorts (sorts m) os ∙ sym (built_exactly m os)
 
 record Alike (g h : Gathered) : Type 0 where
   out : g.out ≡ h.out

@@ -3,7 +3,6 @@ use Rattle.std.proofs.Common.{◌≡◌, ℕ, ℤ, pos, ◌&&◌, ◌^◌, Bool,
 use Rattle.asm_text.specs.Tokens.{Lexeme}
 use Rattle.isa_table.specs.declared.instr.Reg.{Reg}
 use Rattle.asm_table.specs.declared.mnemonic.Mnemonic.{Mnemonic}
-use Rattle.asm_table.specs.declared.mnemonic.Mnemonic.TheVariants as mnemonic
 use Rattle.asm_table.specs.declared.mnemonic.Sort.{Sort}
 use Rattle.asm_table.specs.declared.mnemonic.Sort.TheVariants as sort
 use Rattle.asm_table.specs.declared.operands.AsmOperand.{AsmOperand}
@@ -11,54 +10,16 @@ use Rattle.asm_table.specs.declared.operands.AsmOperand.TheVariants as operand
 use Rattle.asm_table.specs.Mnemonics.{sorts}
 use Rattle.asm_table.specs.Names.{register_named}
 use Rattle.asm_table.specs.Parts.{instr_of_parts}
+use Rattle.asm_table.proofs.Each.{of_sort, of_sorts, built_exactly}
 use Rattle.asm_grammar.specs.declared.written.Sign.TheVariants as sign
 use Rattle.asm_grammar.specs.Writing.{Written}
 use Rattle.asm_grammar.specs.Writing.Written.{Word, Bare, Signed, Memory, MemoryAt}
 use Rattle.asm_grammar.specs.Sorts.{Taken, operand_taken, counted, registered, fitting, imm64_of, distance}
 use Rattle.asm_grammar.specs.Sorts.Taken.{No, Out, Is, To, LongTo}
-use Rattle.asm_grammar.specs.Reading.{Look, Gathered, nothing, gather_operands, step, added, aimed}
+use Rattle.asm_grammar.specs.Grammar.{Look}
+use Rattle.asm_grammar.specs.Reading.{Gathered, nothing, gather_operands, step, added, aimed}
 use Rattle.asm_grammar.proofs.Meant.{having}
 use Rattle.asm_grammar.proofs.Found.{and_then_some, step_is}
-
-of_sort : Sort → AsmOperand → Bool
-of_sort sort.Register (operand.Register r) = true
-of_sort sort.RegisterOrImm (operand.Register r) = true
-of_sort sort.RegisterOrImm (operand.Imm z) = true
-of_sort sort.Imm (operand.Imm z) = true
-of_sort sort.Memory (operand.Memory r z) = true
-of_sort sort.Imm64 (operand.Imm64 k) = true
-of_sort sort.Target (operand.Offset z) = true
-of_sort sort.LongTarget (operand.LongOffset z) = true
-of_sort _ _ = false
-
-of_sorts : List Sort → List AsmOperand → Bool
-of_sorts [] [] = true
-of_sorts (s ∷ ss) (o ∷ os) = of_sort s o && of_sorts ss os
-of_sorts _ _ = false
-
-built_some : (m : Mnemonic) (os : List AsmOperand) → of_sorts (sorts m) os ≡ true → is_some (instr_of_parts m os) ≡ true
-unfolding of_sorts of_sort
-built_some (mnemonic.Alu w op) (operand.Register d ∷ operand.Register s ∷ []) h = refl
-built_some (mnemonic.Alu w op) (operand.Register d ∷ operand.Imm z ∷ []) h = refl
-built_some (mnemonic.Neg w) (operand.Register d ∷ []) h = refl
-built_some (mnemonic.MovSx8 w) (operand.Register d ∷ operand.Register s ∷ []) h = refl
-built_some (mnemonic.MovSx16 w) (operand.Register d ∷ operand.Register s ∷ []) h = refl
-built_some mnemonic.MovSx32 (operand.Register d ∷ operand.Register s ∷ []) h = refl
-built_some (mnemonic.End o w) (operand.Register d ∷ []) h = refl
-built_some (mnemonic.Jump w c) (operand.Register d ∷ operand.Register s ∷ operand.Offset o ∷ []) h = refl
-built_some (mnemonic.Jump w c) (operand.Register d ∷ operand.Imm z ∷ operand.Offset o ∷ []) h = refl
-built_some mnemonic.Ja (operand.Offset o ∷ []) h = refl
-built_some mnemonic.JaLong (operand.LongOffset o ∷ []) h = refl
-built_some mnemonic.CallHelper (operand.Imm k ∷ []) h = refl
-built_some mnemonic.CallLocal (operand.LongOffset o ∷ []) h = refl
-built_some mnemonic.Exit [] h = refl
-built_some (mnemonic.Load z) (operand.Register d ∷ operand.Memory s o ∷ []) h = refl
-built_some (mnemonic.LoadSigned z) (operand.Register d ∷ operand.Memory s o ∷ []) h = refl
-built_some (mnemonic.StoreImm z) (operand.Memory d o ∷ operand.Imm k ∷ []) h = refl
-built_some (mnemonic.StoreRegister z) (operand.Memory d o ∷ operand.Register s ∷ []) h = refl
-built_some (mnemonic.Atomic w op) (operand.Memory d o ∷ operand.Register s ∷ []) h = refl
-built_some mnemonic.LoadImm64 (operand.Register d ∷ operand.Imm64 v ∷ []) h = refl
-built_some _ _ h = absurd (cc h)
 
 -- ---- what is taken has the sort
 
@@ -101,12 +62,13 @@ taken_fits sort.LongTarget (Word w) = refl
 taken_fits sort.LongTarget (Signed s n) = counted_fits (λ z. operand.LongOffset z) sort.LongTarget (λ z. refl) (fitting (2 ^ 31) s n)
 taken_fits _ _ = refl
 
-any_offset : (s : Sort) (z : ℤ) → of_sort s (operand.Offset z) ≡ of_sort s (operand.Offset (pos 0))
+-- whether an offset may stand somewhere doesn't depend on where it leads
+pub any_offset : (s : Sort) (z : ℤ) → of_sort s (operand.Offset z) ≡ of_sort s (operand.Offset (pos 0))
 unfolding of_sort
 any_offset sort.Target z = refl
 any_offset _ z = refl
 
-any_long_offset : (s : Sort) (z : ℤ) → of_sort s (operand.LongOffset z) ≡ of_sort s (operand.LongOffset (pos 0))
+pub any_long_offset : (s : Sort) (z : ℤ) → of_sort s (operand.LongOffset z) ≡ of_sort s (operand.LongOffset (pos 0))
 unfolding of_sort
 any_long_offset sort.LongTarget z = refl
 any_long_offset _ z = refl
@@ -170,4 +132,4 @@ module _ (look : Look) (n : ℕ) where
   pub built_gathered : (m : Mnemonic) (ts : List Lexeme) (g : Gathered) → gather_operands look n true nothing (sorts m) ts ≡ Some g → g.out ≡ false → is_some (instr_of_parts m g.operands) ≡ true
   built_gathered m ts g e q =
       let r = gathered_sorts true nothing g (sorts m) ts e q in
-      ap (λ os. is_some (instr_of_parts m os)) r.operands ∙ built_some m r.os r.sorted
+      ap (λ os. is_some (instr_of_parts m os)) r.operands ∙ built_exactly m r.os ∙ r.sorted

@@ -13,13 +13,14 @@ use Rattle.asm_table.specs.declared.operands.AsmOperand.TheVariants as operand
 use Rattle.asm_table.specs.Mnemonics.{name, sorts}
 use Rattle.asm_table.specs.Names.{named, has_two_words}
 use Rattle.asm_table.specs.Parts.{mnemonic_of, operands_of, instr_of_parts}
-use Rattle.asm_table.proofs.Built.{built_is}
+use Rattle.asm_table.proofs.Each.{built_is}
 use Rattle.asm_table.proofs.Lookups.{named_is, named_local}
 use Rattle.asm_grammar.specs.declared.why.Why.TheVariants as why
 use Rattle.asm_grammar.specs.Writing.{Written, lexemes_of, joined, more}
 use Rattle.asm_grammar.specs.Sorts.{Taken, operand_taken, distance}
 use Rattle.asm_grammar.specs.Sorts.Taken.{No, Out, Is, To, LongTo}
-use Rattle.asm_grammar.specs.Reading.{Look, Gathered, nothing, gather_operands, step, added, aimed, next_operand, StandsFor, Stand, Means, head, after_call, headed, mnemonic_at, finished, judged, said, body, by_mnemonic}
+use Rattle.asm_grammar.specs.Grammar.{Look, StandsFor, Stand, Means, head}
+use Rattle.asm_grammar.specs.Reading.{Gathered, nothing, gather_operands, step, added, aimed, next_operand, after_call, headed, mnemonic_at, finished, judged, said, body, by_mnemonic}
 use Rattle.asm_grammar.proofs.Meant.{having, operand_found, same_pair, head_one}
 
 pub and_then_some : {A B : Type 0} (f : A → Option B) (o : Option A) (y : B) → option_and_then f o ≡ Some y → (x : A) × (o ≡ Some x) × (f x ≡ Some y)
@@ -65,7 +66,7 @@ named_found : (w : List ℕ) (ts : List Lexeme) (m : Mnemonic) (rest : List Lexe
 named_found w ts m rest None f e = absurd (cc e)
 named_found w ts m rest (Some k) f e = ap (λ x. Name x ∷ ts) (named_is w k f) ∙ headed_found k ts m rest (named_local w k f) e
 
-mnemonic_found : (ts : List Lexeme) (m : Mnemonic) (rest : List Lexeme) → mnemonic_at ts ≡ Some (m, rest) → ts ≡ head m ++ rest
+pub mnemonic_found : (ts : List Lexeme) (m : Mnemonic) (rest : List Lexeme) → mnemonic_at ts ≡ Some (m, rest) → ts ≡ head m ++ rest
 mnemonic_found (Name w ∷ ts) m rest e = named_found w ts m rest (named w) refl e
 mnemonic_found _ m rest e = absurd (cc e)
 
@@ -74,11 +75,11 @@ abbrev pub from : Bool → List Written → List Lexeme
 from true ws = joined ws
 from false ws = more ws
 
-from_none : (first : Bool) → from first [] ≡ []
+pub from_none : (first : Bool) → from first [] ≡ []
 from_none true = refl
 from_none false = refl
 
-from_next : (first : Bool) (ts : List Lexeme) (w : Written) (rest : List Lexeme) (ws : List Written) → next_operand first ts ≡ Some (w, rest) → rest ≡ more ws → ts ≡ from first (w ∷ ws)
+pub from_next : (first : Bool) (ts : List Lexeme) (w : Written) (rest : List Lexeme) (ws : List Written) → next_operand first ts ≡ Some (w, rest) → rest ≡ more ws → ts ≡ from first (w ∷ ws)
 from_next true ts w rest ws e f = operand_found ts w rest e ∙ ap (λ x. lexemes_of w ++ x) f
 from_next false (Comma ∷ ts) w rest ws e f = ap (λ x. Comma ∷ x) (operand_found ts w rest e ∙ ap (λ x. lexemes_of w ++ x) f)
 from_next false _ w rest ws e f = absurd (cc e)

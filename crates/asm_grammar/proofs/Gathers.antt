@@ -5,7 +5,8 @@ use Rattle.asm_text.specs.Tokens.{Lexeme}
 use Rattle.asm_table.specs.declared.mnemonic.Sort.{Sort}
 use Rattle.asm_grammar.specs.Sorts.{operand_taken}
 use Rattle.asm_grammar.specs.Writing.{Written}
-use Rattle.asm_grammar.specs.Reading.{Look, Gathered, gather_operands, step, added, next_operand}
+use Rattle.asm_grammar.specs.Grammar.{Look}
+use Rattle.asm_grammar.specs.Reading.{Gathered, gather_operands, step, added, next_operand}
 
 module _ (look : Look) (n : ℕ) where
   pub step_some : (first : Bool) (g h : Gathered) (s : Sort) (w : Written) (ts rest : List Lexeme) → next_operand first ts ≡ Some (w, rest) → added look n g (operand_taken s w) ≡ Some h → step look n first g s ts ≡ Some (h, rest)

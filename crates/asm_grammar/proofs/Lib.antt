@@ -4,3 +4,5 @@ pub mod Found
 pub mod Alike
 pub mod Rewritten
 pub mod Formed
+pub mod Unknown
+pub mod Ranges

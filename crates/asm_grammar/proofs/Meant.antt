@@ -1,5 +1,5 @@
 -- What is read is what the tokens mean.
-use Rattle.std.proofs.Common.{◌≡◌, ℕ, Bool, true, false, List, [], ◌∷◌, ◌++◌, refl, sym, ap, ◌∙◌, append_assoc, append-nil, codes, Option, Some, option_and_then, Ok}
+use Rattle.std.proofs.Common.{◌≡◌, ◌^◌, inl, inr, ℕ, Bool, true, false, List, [], ◌∷◌, ◌++◌, refl, sym, ap, ◌∙◌, append_assoc, append-nil, codes, Option, Some, None, option_and_then, Ok}
 use Rattle.asm_text.specs.Tokens.{Lexeme}
 use Rattle.asm_text.specs.Tokens.Lexeme.{Name, Number, Comma, Open, Close, Plus, Minus}
 use Rattle.isa_table.specs.declared.instr.Instr.{Instr}
@@ -12,15 +12,15 @@ use Rattle.asm_table.specs.declared.operands.AsmOperand.TheVariants as operand
 use Rattle.asm_table.specs.Mnemonics.{name, sorts, slots_of}
 use Rattle.asm_table.specs.Names.{has_two_words}
 use Rattle.asm_table.specs.Parts.{mnemonic_of, operands_of}
-use Rattle.asm_table.proofs.Built.{built_again}
-use Rattle.asm_table.proofs.Lookups.{named_name}
+use Rattle.asm_table.proofs.Each.{built_again, named_name}
 use Rattle.asm_grammar.specs.declared.written.Sign.{Sign}
 use Rattle.asm_grammar.specs.declared.written.Sign.TheVariants as sign
 use Rattle.asm_grammar.specs.Writing.{Written, lexemes_of, sign_token, joined, more, operand_at, signed_at, memory_at, base_at, offset_at, close_at}
 use Rattle.asm_grammar.specs.Writing.Written.{Word, Bare, Signed, Memory, MemoryAt}
-use Rattle.asm_grammar.specs.Sorts.{Taken, operand_taken}
+use Rattle.asm_grammar.specs.Sorts.{Taken, operand_taken, counted, fitting}
 use Rattle.asm_grammar.specs.Sorts.Taken.{No, Out, Is, To, LongTo}
-use Rattle.asm_grammar.specs.Reading.{Look, Gathered, nothing, gather_operands, added, aimed, StandsFor, Stand, Means, head, after_call, headed, mnemonic_at, finished, judged, said, body, by_mnemonic, mnemonic_slots, body_slots}
+use Rattle.asm_grammar.specs.Grammar.{Look, StandsFor, Stand, Means, head, AimsNowhere, OneAimsNowhere}
+use Rattle.asm_grammar.specs.Reading.{Gathered, nothing, gather_operands, added, aimed, after_call, headed, mnemonic_at, finished, judged, said, body, by_mnemonic, mnemonic_slots, body_slots}
 use Rattle.asm_grammar.proofs.Gathers.{step_some}
 
 -- ---- one operand, both ways
@@ -181,3 +181,30 @@ module _ (look : Look) (n : ℕ) where
       body_named ts (m, joined h.0) (means_mnemonic ts i h)
       ∙ ap (λ g. said (finished m g)) (joined_stand (sorts m) h.0 (operands_of i) h.2)
       ∙ ap (λ o. said (judged false o)) (built_again i)
+
+  -- ---- a label that stands nowhere isn't the operand of a helper call
+
+  no_aim : {A : Type 0} (f : A → AsmOperand) (x : Option A) → AimsNowhere look (counted f x) → ⊥
+  no_aim f None h = h
+  no_aim f (Some a) h = h
+
+  number_aims : (w : Written) → AimsNowhere look (operand_taken sort.Imm w) → ⊥
+  number_aims (Bare k) h = no_aim (λ z. operand.Imm z) (fitting (2 ^ 31) sign.Plus k) h
+  number_aims (Signed s k) h = no_aim (λ z. operand.Imm z) (fitting (2 ^ 31) s k) h
+  number_aims (Word w) h = h
+  number_aims (Memory w) h = h
+  number_aims (MemoryAt w s k) h = h
+
+  number_aimless : (ws : List Written) → OneAimsNowhere look (sort.Imm ∷ []) ws → ⊥
+  number_aimless [] h = h
+  number_aimless (w ∷ ws) (inl h) = number_aims w h
+  number_aimless (w ∷ ws) (inr h) = h
+
+  helper_aimless : (m : Mnemonic) (ws : List Written) → OneAimsNowhere look (sorts m) ws → is_helper m ≡ true → NoName (joined ws)
+  unfolding is_helper
+  helper_aimless mnemonic.CallHelper ws h e = absurd (number_aimless ws h)
+  helper_aimless _ ws h e = absurd (cc e)
+
+  -- what uses a label that stands nowhere is read by its mnemonic
+  pub used_body : (ts : List Lexeme) (m : Mnemonic) (ws : List Written) → ts ≡ head m ++ joined ws → OneAimsNowhere look (sorts m) ws → body look n ts ≡ said (finished m (gather_operands look n true nothing (sorts m) (joined ws)))
+  used_body ts m ws e h = body_named ts (m, joined ws) (ap mnemonic_at e ∙ mnemonic_again m (joined ws) (helper_aimless m ws h))

@@ -8,12 +8,11 @@ use Rattle.asm_text.specs.Tokens.Lexeme.{Name, Number, Comma, Open, Close, Plus,
 use Rattle.asm_text.proofs.Digits.{and_both}
 use Rattle.asm_text.proofs.Spelled.{name_front, number_front, hex_front, comma_front, open_front, close_front, plus_front, minus_front}
 use Rattle.isa_table.specs.declared.instr.Instr.{Instr}
-use Rattle.isa_table.specs.declared.instr.Instr.TheVariants as instr
-use Rattle.isa_table.specs.declared.instr.Operand.TheVariants as source
 use Rattle.isa_table.specs.declared.instr.Reg.{Reg}
 use Rattle.isa_table.specs.declared.instr.Reg.TheVariants.{R0, R1, R2, R3, R4, R5, R6, R7, R8, R9, R10}
 use Rattle.asm_table.specs.declared.mnemonic.Mnemonic.{Mnemonic}
 use Rattle.asm_table.specs.declared.mnemonic.Mnemonic.TheVariants as mnemonic
+use Rattle.asm_table.specs.declared.mnemonic.Sort.{Sort}
 use Rattle.asm_table.specs.declared.mnemonic.Sort.TheVariants as sort
 use Rattle.asm_table.specs.declared.named.TheConstants.{BY_NAME}
 use Rattle.asm_table.specs.declared.operands.AsmOperand.{AsmOperand}
@@ -22,6 +21,7 @@ use Rattle.asm_table.specs.Mnemonics.{name, sorts}
 use Rattle.asm_table.specs.Names.{has_two_words, register_name}
 use Rattle.asm_table.specs.Parts.{mnemonic_of, operands_of}
 use Rattle.asm_table.specs.Canonical.{offset_text, operand_text, more_text, operands_text, line_text, IsSignedWithin, FitsOperand, AllFitOperands, FitsParts}
+use Rattle.asm_table.proofs.Each.{of_sort, of_sorts, operands_sorted}
 use Rattle.asm_table.proofs.Lookups.{all_pass, passing, register_again}
 use Rattle.asm_grammar.specs.declared.written.Sign.{Sign}
 use Rattle.asm_grammar.specs.declared.written.Sign.TheVariants as sign
@@ -29,7 +29,7 @@ use Rattle.asm_grammar.specs.Writing.{lexemes_of, joined, more}
 use Rattle.asm_grammar.specs.Writing.Written.{MemoryAt}
 use Rattle.asm_grammar.specs.Sorts.{Taken, operand_taken, counted, registered, fitting}
 use Rattle.asm_grammar.specs.Sorts.Taken.{Is}
-use Rattle.asm_grammar.specs.Reading.{Look, StandsFor, Stand, Means, head}
+use Rattle.asm_grammar.specs.Grammar.{Look, StandsFor, Stand, Means, head}
 use Rattle.asm_grammar.specs.Canonical.{canonical}
 use Rattle.asm_grammar.proofs.Meant.{head_one}
 
@@ -190,8 +190,11 @@ module _ (look : Look) (n : ℕ) where
   memory_stands : (r : Reg) (z : ℤ) → IsSignedWithin (2 ^ 15) z → StandsFor look n (operand_taken sort.Memory (canonical (operand.Memory r z))) (operand.Memory r z)
   memory_stands r z f = is_stands look n _ _ (taken_memory r z f)
 
-  imm_stands : (z : ℤ) → IsSignedWithin (2 ^ 31) z → StandsFor look n (operand_taken sort.RegisterOrImm (canonical (operand.Imm z))) (operand.Imm z)
-  imm_stands z f = is_stands look n _ _ (taken_second z f)
+  imm_stands : (z : ℤ) → IsSignedWithin (2 ^ 31) z → StandsFor look n (operand_taken sort.Imm (canonical (operand.Imm z))) (operand.Imm z)
+  imm_stands z f = is_stands look n _ _ (taken_imm z f)
+
+  second_stands : (z : ℤ) → IsSignedWithin (2 ^ 31) z → StandsFor look n (operand_taken sort.RegisterOrImm (canonical (operand.Imm z))) (operand.Imm z)
+  second_stands z f = is_stands look n _ _ (taken_second z f)
 
   offset_stands : (z : ℤ) → IsSignedWithin (2 ^ 15) z → StandsFor look n (operand_taken sort.Target (canonical (operand.Offset z))) (operand.Offset z)
   offset_stands z f = is_stands look n _ _ (taken_offset z f)
@@ -199,28 +202,24 @@ module _ (look : Look) (n : ℕ) where
   long_offset_stands : (z : ℤ) → IsSignedWithin (2 ^ 31) z → StandsFor look n (operand_taken sort.LongTarget (canonical (operand.LongOffset z))) (operand.LongOffset z)
   long_offset_stands z f = is_stands look n _ _ (taken_long_offset z f)
 
-  pub canonical_stands : (i : Instr) → FitsParts i → Stand look n (sorts (mnemonic_of i)) (map canonical (operands_of i)) (operands_of i)
-  canonical_stands (instr.Alu w op d (source.Imm z)) f = (register_stands d, (imm_stands z f.1.0, tt))
-  canonical_stands (instr.Alu w op d (source.Register r)) f = (register_stands d, (register_stands r, tt))
-  canonical_stands (instr.Neg w d) f = (register_stands d, tt)
-  canonical_stands (instr.MovSx8 w d s) f = (register_stands d, (register_stands s, tt))
-  canonical_stands (instr.MovSx16 w d s) f = (register_stands d, (register_stands s, tt))
-  canonical_stands (instr.MovSx32 d s) f = (register_stands d, (register_stands s, tt))
-  canonical_stands (instr.End o w d) f = (register_stands d, tt)
-  canonical_stands (instr.Jump w c d (source.Imm z) o) f = (register_stands d, (imm_stands z f.1.0, (offset_stands o f.1.1.0, tt)))
-  canonical_stands (instr.Jump w c d (source.Register s) o) f = (register_stands d, (register_stands s, (offset_stands o f.1.1.0, tt)))
-  canonical_stands (instr.Ja o) f = (offset_stands o f.0, tt)
-  canonical_stands (instr.JaLong o) f = (long_offset_stands o f.0, tt)
-  canonical_stands (instr.CallHelper k) f = (is_stands look n _ _ (taken_imm k f.0), tt)
-  canonical_stands (instr.CallLocal o) f = (long_offset_stands o f.0, tt)
-  canonical_stands instr.Exit f = tt
-  canonical_stands (instr.Load z d s o) f = (register_stands d, (memory_stands s o f.1.0, tt))
-  canonical_stands (instr.LoadSigned z d s o) f = (register_stands d, (memory_stands s o f.1.0, tt))
-  canonical_stands (instr.Store z d (source.Imm k) o) f = (memory_stands d o f.0, (is_stands look n _ _ (taken_imm k f.1.0), tt))
-  canonical_stands (instr.Store z d (source.Register s) o) f = (memory_stands d o f.0, (register_stands s, tt))
-  canonical_stands (instr.Atomic w op d s o) f = (memory_stands d o f.0, (register_stands s, tt))
-  canonical_stands (instr.LoadImm64 d v) f = (register_stands d, (refl, tt))
+  operand_stands : (s : Sort) (o : AsmOperand) → of_sort s o ≡ true → FitsOperand o → StandsFor look n (operand_taken s (canonical o)) o
+  unfolding of_sort
+  operand_stands sort.Register (operand.Register r) h f = register_stands r
+  operand_stands sort.RegisterOrImm (operand.Register r) h f = register_stands r
+  operand_stands sort.RegisterOrImm (operand.Imm z) h f = second_stands z f
+  operand_stands sort.Imm (operand.Imm z) h f = imm_stands z f
+  operand_stands sort.Memory (operand.Memory r z) h f = memory_stands r z f
+  operand_stands sort.Imm64 (operand.Imm64 k) h f = refl
+  operand_stands sort.Target (operand.Offset z) h f = offset_stands z f
+  operand_stands sort.LongTarget (operand.LongOffset z) h f = long_offset_stands z f
+  operand_stands _ _ h f = absurd (cc h)
+
+  operands_stand : (ss : List Sort) (os : List AsmOperand) → of_sorts ss os ≡ true → AllFitOperands os → Stand look n ss (map canonical os) os
+  unfolding of_sorts
+  operands_stand [] [] h f = tt
+  operands_stand (s ∷ ss) (o ∷ os) h f = let p = and_both (of_sort s o) (of_sorts ss os) h in (operand_stands s o p.0 f.0, operands_stand ss os p.1 f.1)
+  operands_stand _ _ h f = absurd (cc h)
 
   -- the canonical line of an instruction means it, whatever labels there are
   pub line_means : (i : Instr) → FitsParts i → Means look n (tokens (line_text i)) i
-  line_means i f = (map canonical (operands_of i), line_tokens i f, canonical_stands i f)
+  line_means i f = (map canonical (operands_of i), line_tokens i f, operands_stand (sorts (mnemonic_of i)) (operands_of i) (operands_sorted i) f)

@@ -1,5 +1,6 @@
 pub mod Writing
 pub mod Sorts
+pub mod Grammar
 pub mod Reading
 pub mod Reasons
 pub mod Views

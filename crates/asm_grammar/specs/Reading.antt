@@ -1,52 +1,25 @@
--- Which instruction the tokens of a line are.
-use Rattle.std.specs.Prelude.{◌≡◌, ℕ, ℤ, pos, Bool, true, false, List, [], ◌∷◌, ◌++◌, codes, Option, Some, None, option_and_then, if◌then◌else◌, Result, Ok, Err}
+-- How a line is read, with the reasons against it: which instruction its tokens are, or the least of what is wrong.
+use Rattle.std.specs.Prelude.{ℕ, ℤ, pos, Bool, true, false, List, [], ◌∷◌, ◌++◌, codes, Option, Some, None, option_and_then, if◌then◌else◌, Result, Ok, Err}
 use Rattle.std.specs.Str.{bytes_eq}
 use Rattle.asm_text.specs.Tokens.{Lexeme}
-use Rattle.asm_text.specs.Tokens.Lexeme.{Name, Colon, Comma, Stray}
+use Rattle.asm_text.specs.Tokens.Lexeme.{Name, Comma}
 use Rattle.isa_table.specs.declared.instr.Instr.{Instr}
 use Rattle.asm_table.specs.declared.mnemonic.Mnemonic.{Mnemonic}
 use Rattle.asm_table.specs.declared.mnemonic.Mnemonic.TheVariants as mnemonic
 use Rattle.asm_table.specs.declared.mnemonic.Sort.{Sort}
 use Rattle.asm_table.specs.declared.operands.AsmOperand.{AsmOperand}
 use Rattle.asm_table.specs.declared.operands.AsmOperand.TheVariants as operand
-use Rattle.asm_table.specs.Mnemonics.{name, sorts, slots_of}
+use Rattle.asm_table.specs.Mnemonics.{sorts, slots_of}
 use Rattle.asm_table.specs.Names.{named}
-use Rattle.asm_table.specs.Parts.{mnemonic_of, operands_of, instr_of_parts}
+use Rattle.asm_table.specs.Parts.{instr_of_parts}
 use Rattle.asm_grammar.specs.declared.why.Why.{Why}
 use Rattle.asm_grammar.specs.declared.why.Why.TheVariants as why
-use Rattle.asm_grammar.specs.Writing.{Written, joined, operand_at}
+use Rattle.asm_grammar.specs.Writing.{Written, operand_at}
 use Rattle.asm_grammar.specs.Sorts.{Taken, operand_taken, distance}
 use Rattle.asm_grammar.specs.Sorts.Taken.{No, Out, Is, To, LongTo}
+use Rattle.asm_grammar.specs.Grammar.{Look, after_label, has_stray}
 
--- ---- the grammar
-
--- which slot a label stands for
-abbrev pub Look : Type 0
-Look = List ℕ → Option ℕ
-
--- what a written operand at slot n is taken as is this operand: itself, or the offset to a label's slot
-abbrev pub StandsFor : Look → ℕ → Taken → AsmOperand → Type 0
-StandsFor look n (Is p) o = p ≡ o
-StandsFor look n (To w) o = (slot : ℕ) × (look w ≡ Some slot) × (operand.Offset (distance slot n) ≡ o)
-StandsFor look n (LongTo w) o = (slot : ℕ) × (look w ≡ Some slot) × (operand.LongOffset (distance slot n) ≡ o)
-StandsFor look n _ o = ⊥
-
--- written operands, one for each sort, stand for these operands
-abbrev pub Stand : Look → ℕ → List Sort → List Written → List AsmOperand → Type 0
-Stand look n [] [] [] = Unit {0}
-Stand look n (s ∷ ss) (w ∷ ws) (o ∷ os) = StandsFor look n (operand_taken s w) o × Stand look n ss ws os
-Stand look n _ _ _ = ⊥
-
--- the tokens of a mnemonic
-abbrev pub head : Mnemonic → List Lexeme
-head mnemonic.CallLocal = Name (codes "call") ∷ Name (codes "local") ∷ []
-head m = Name (name m) ∷ []
-
--- The tokens are the instruction at slot n: its mnemonic, and operands that stand for its own.
-abbrev pub Means : Look → ℕ → List Lexeme → Instr → Type 0
-Means look n ts i = (ws : List Written) × (ts ≡ head (mnemonic_of i) ++ joined ws) × Stand look n (sorts (mnemonic_of i)) ws (operands_of i)
-
--- ---- reading
+-- ---- operands
 
 -- what was read so far: operands, whether a number was out of its range, and whether a label stands nowhere
 pub record Gathered : Type 0 where
@@ -134,26 +107,6 @@ by_mnemonic look n (Some x) = said (finished x.0 (gather_operands look n true no
 abbrev pub body : Look → ℕ → List Lexeme → Result (Option Instr) Why
 body look n [] = Ok None
 body look n (t ∷ ts) = by_mnemonic look n (mnemonic_at (t ∷ ts))
-
--- a line's label, if it has one
-abbrev pub label_of : List Lexeme → Option (List ℕ)
-label_of (Name w ∷ Colon ∷ ts) = Some w
-label_of _ = None
-
--- what stands after a line's label
-abbrev pub after_label : List Lexeme → List Lexeme
-after_label (Name w ∷ Colon ∷ ts) = ts
-after_label ts = ts
-
--- a stray byte, which begins no token
-abbrev pub is_stray : Lexeme → Bool
-is_stray Stray = true
-is_stray _ = false
-
--- one of the tokens is a stray byte
-abbrev pub has_stray : List Lexeme → Bool
-has_stray [] = false
-has_stray (t ∷ ts) = if is_stray t then true else has_stray ts
 
 -- What the tokens of a line say at slot n, or the least of the reasons Word, Operand, Range and Label against them.
 abbrev pub line_says : Look → ℕ → List Lexeme → Result (Option Instr) Why

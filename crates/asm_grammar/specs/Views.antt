@@ -9,7 +9,8 @@ use Rattle.asm_grammar.specs.declared.taking.Taken.{Taken as TakenOfCode}
 use Rattle.asm_grammar.specs.declared.taking.Taken.TheVariants as code
 use Rattle.asm_grammar.specs.Sorts.{Taken}
 use Rattle.asm_grammar.specs.Sorts.Taken.{No, Out, Is, To, LongTo}
-use Rattle.asm_grammar.specs.Reading.{Gathered, Look}
+use Rattle.asm_grammar.specs.Grammar.{Look}
+use Rattle.asm_grammar.specs.Reading.{Gathered}
 
 -- what the code has read so far
 abbrev pub gathered_seen : GatheredOfCode → Gathered

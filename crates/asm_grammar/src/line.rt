@@ -1,7 +1,8 @@
 //! What a line says.
 ghost use Rattle.std.specs.Prelude.{◌≡◌, ◌≤◌, ◌∷◌, List, [], option_map, MatchOption, Some, None};
 ghost use Rattle.asm_text.specs.Tokens.{lexemes_left, tokens, lexeme_seen};
-ghost use Rattle.asm_grammar.specs.Reading.{said, finished, body, line_says, label_of, after_label, has_stray, body_slots, mnemonic_at, after_call};
+ghost use Rattle.asm_grammar.specs.Grammar.{label_of, after_label, has_stray};
+ghost use Rattle.asm_grammar.specs.Reading.{said, finished, body, line_says, body_slots, mnemonic_at, after_call};
 ghost use Rattle.asm_grammar.specs.Views.{gathered_seen, look_in, AllBelow, label_seen};
 
 use crate::gather::{Gathered, Labels, gather};

@@ -1,4 +1,5 @@
-pub mod Built
+pub mod Each
+pub mod Lengths
 pub mod Lookups
 pub mod Printable
 pub mod Rising

@@ -1,132 +1,14 @@
--- Each mnemonic of one word is found by its name.
+-- What is found by a name has it.
 use Rattle.std.proofs.Common.{◌≡◌, ℕ, Bool, true, false, cond, List, [], ◌∷◌, refl, sym, ap, ◌∙◌, Some}
 use Rattle.std.proofs.lemmas.Slice.Eq.{bytes_eq-Decides}
 use Rattle.std.specs.Str.{bytes_eq}
-use Rattle.isa_table.specs.declared.instr.AtomicOp.TheVariants as atomic
-use Rattle.isa_table.specs.declared.instr.Binary.TheVariants as binary
-use Rattle.isa_table.specs.declared.instr.Cond.TheVariants as condition
-use Rattle.isa_table.specs.declared.instr.Order.TheVariants as order
 use Rattle.isa_table.specs.declared.instr.Reg.{Reg}
 use Rattle.isa_table.specs.declared.instr.Reg.TheVariants.{R0, R1, R2, R3, R4, R5, R6, R7, R8, R9, R10}
-use Rattle.isa_table.specs.declared.instr.SignedSize.TheVariants as signed_size
-use Rattle.isa_table.specs.declared.instr.Size.TheVariants as size
-use Rattle.isa_table.specs.declared.instr.SwapWidth.TheVariants as swap
-use Rattle.isa_table.specs.declared.instr.Width.TheVariants as width
 use Rattle.asm_table.specs.declared.mnemonic.Mnemonic.{Mnemonic}
-use Rattle.asm_table.specs.declared.mnemonic.Mnemonic.TheVariants as mnemonic
 use Rattle.asm_table.specs.declared.named.TheConstants.{BY_NAME}
 use Rattle.asm_table.specs.Mnemonics.{name}
 use Rattle.asm_table.specs.Names.{named, named_in, has_two_words, register_in, register_name, register_named}
-
-pub named_name : (m : Mnemonic) → has_two_words m ≡ false → named (name m) ≡ Some m
-unfolding named
-named_name mnemonic.CallLocal h = absurd (cc h)
-named_name (mnemonic.Alu width.W64 binary.Add) h = refl
-named_name (mnemonic.Alu width.W32 binary.Add) h = refl
-named_name (mnemonic.Alu width.W64 binary.And) h = refl
-named_name (mnemonic.Alu width.W32 binary.And) h = refl
-named_name (mnemonic.Alu width.W64 binary.Arsh) h = refl
-named_name (mnemonic.Alu width.W32 binary.Arsh) h = refl
-named_name (mnemonic.Alu width.W64 binary.Div) h = refl
-named_name (mnemonic.Alu width.W32 binary.Div) h = refl
-named_name (mnemonic.Alu width.W64 binary.Lsh) h = refl
-named_name (mnemonic.Alu width.W32 binary.Lsh) h = refl
-named_name (mnemonic.Alu width.W64 binary.Mod) h = refl
-named_name (mnemonic.Alu width.W32 binary.Mod) h = refl
-named_name (mnemonic.Alu width.W64 binary.Mov) h = refl
-named_name (mnemonic.Alu width.W32 binary.Mov) h = refl
-named_name (mnemonic.Alu width.W64 binary.Mul) h = refl
-named_name (mnemonic.Alu width.W32 binary.Mul) h = refl
-named_name (mnemonic.Alu width.W64 binary.Or) h = refl
-named_name (mnemonic.Alu width.W32 binary.Or) h = refl
-named_name (mnemonic.Alu width.W64 binary.Rsh) h = refl
-named_name (mnemonic.Alu width.W32 binary.Rsh) h = refl
-named_name (mnemonic.Alu width.W64 binary.SDiv) h = refl
-named_name (mnemonic.Alu width.W32 binary.SDiv) h = refl
-named_name (mnemonic.Alu width.W64 binary.SMod) h = refl
-named_name (mnemonic.Alu width.W32 binary.SMod) h = refl
-named_name (mnemonic.Alu width.W64 binary.Sub) h = refl
-named_name (mnemonic.Alu width.W32 binary.Sub) h = refl
-named_name (mnemonic.Alu width.W64 binary.Xor) h = refl
-named_name (mnemonic.Alu width.W32 binary.Xor) h = refl
-named_name (mnemonic.Neg width.W64) h = refl
-named_name (mnemonic.Neg width.W32) h = refl
-named_name (mnemonic.MovSx8 width.W64) h = refl
-named_name (mnemonic.MovSx8 width.W32) h = refl
-named_name (mnemonic.MovSx16 width.W64) h = refl
-named_name (mnemonic.MovSx16 width.W32) h = refl
-named_name mnemonic.MovSx32 h = refl
-named_name (mnemonic.End order.Big swap.W16) h = refl
-named_name (mnemonic.End order.Big swap.W32) h = refl
-named_name (mnemonic.End order.Big swap.W64) h = refl
-named_name (mnemonic.End order.Swapped swap.W16) h = refl
-named_name (mnemonic.End order.Swapped swap.W32) h = refl
-named_name (mnemonic.End order.Swapped swap.W64) h = refl
-named_name (mnemonic.End order.Little swap.W16) h = refl
-named_name (mnemonic.End order.Little swap.W32) h = refl
-named_name (mnemonic.End order.Little swap.W64) h = refl
-named_name (mnemonic.Jump width.W64 condition.Eq) h = refl
-named_name (mnemonic.Jump width.W32 condition.Eq) h = refl
-named_name (mnemonic.Jump width.W64 condition.Ge) h = refl
-named_name (mnemonic.Jump width.W32 condition.Ge) h = refl
-named_name (mnemonic.Jump width.W64 condition.Gt) h = refl
-named_name (mnemonic.Jump width.W32 condition.Gt) h = refl
-named_name (mnemonic.Jump width.W64 condition.Le) h = refl
-named_name (mnemonic.Jump width.W32 condition.Le) h = refl
-named_name (mnemonic.Jump width.W64 condition.Lt) h = refl
-named_name (mnemonic.Jump width.W32 condition.Lt) h = refl
-named_name (mnemonic.Jump width.W64 condition.Ne) h = refl
-named_name (mnemonic.Jump width.W32 condition.Ne) h = refl
-named_name (mnemonic.Jump width.W64 condition.Set) h = refl
-named_name (mnemonic.Jump width.W32 condition.Set) h = refl
-named_name (mnemonic.Jump width.W64 condition.SGe) h = refl
-named_name (mnemonic.Jump width.W32 condition.SGe) h = refl
-named_name (mnemonic.Jump width.W64 condition.SGt) h = refl
-named_name (mnemonic.Jump width.W32 condition.SGt) h = refl
-named_name (mnemonic.Jump width.W64 condition.SLe) h = refl
-named_name (mnemonic.Jump width.W32 condition.SLe) h = refl
-named_name (mnemonic.Jump width.W64 condition.SLt) h = refl
-named_name (mnemonic.Jump width.W32 condition.SLt) h = refl
-named_name mnemonic.Ja h = refl
-named_name mnemonic.JaLong h = refl
-named_name mnemonic.CallHelper h = refl
-named_name mnemonic.Exit h = refl
-named_name (mnemonic.Load size.Byte) h = refl
-named_name (mnemonic.Load size.Double) h = refl
-named_name (mnemonic.Load size.Half) h = refl
-named_name (mnemonic.Load size.Word) h = refl
-named_name (mnemonic.LoadSigned signed_size.Byte) h = refl
-named_name (mnemonic.LoadSigned signed_size.Half) h = refl
-named_name (mnemonic.LoadSigned signed_size.Word) h = refl
-named_name (mnemonic.StoreImm size.Byte) h = refl
-named_name (mnemonic.StoreImm size.Double) h = refl
-named_name (mnemonic.StoreImm size.Half) h = refl
-named_name (mnemonic.StoreImm size.Word) h = refl
-named_name (mnemonic.StoreRegister size.Byte) h = refl
-named_name (mnemonic.StoreRegister size.Double) h = refl
-named_name (mnemonic.StoreRegister size.Half) h = refl
-named_name (mnemonic.StoreRegister size.Word) h = refl
-named_name (mnemonic.Atomic width.W64 atomic.Add) h = refl
-named_name (mnemonic.Atomic width.W32 atomic.Add) h = refl
-named_name (mnemonic.Atomic width.W64 atomic.And) h = refl
-named_name (mnemonic.Atomic width.W32 atomic.And) h = refl
-named_name (mnemonic.Atomic width.W64 atomic.CompareExchange) h = refl
-named_name (mnemonic.Atomic width.W32 atomic.CompareExchange) h = refl
-named_name (mnemonic.Atomic width.W64 atomic.FetchAdd) h = refl
-named_name (mnemonic.Atomic width.W32 atomic.FetchAdd) h = refl
-named_name (mnemonic.Atomic width.W64 atomic.FetchAnd) h = refl
-named_name (mnemonic.Atomic width.W32 atomic.FetchAnd) h = refl
-named_name (mnemonic.Atomic width.W64 atomic.FetchOr) h = refl
-named_name (mnemonic.Atomic width.W32 atomic.FetchOr) h = refl
-named_name (mnemonic.Atomic width.W64 atomic.FetchXor) h = refl
-named_name (mnemonic.Atomic width.W32 atomic.FetchXor) h = refl
-named_name (mnemonic.Atomic width.W64 atomic.Or) h = refl
-named_name (mnemonic.Atomic width.W32 atomic.Or) h = refl
-named_name (mnemonic.Atomic width.W64 atomic.Exchange) h = refl
-named_name (mnemonic.Atomic width.W32 atomic.Exchange) h = refl
-named_name (mnemonic.Atomic width.W64 atomic.Xor) h = refl
-named_name (mnemonic.Atomic width.W32 atomic.Xor) h = refl
-named_name mnemonic.LoadImm64 h = refl
+use Rattle.asm_table.proofs.Each.{named_name}
 
 -- what is found has this name
 

@@ -1,5 +1,6 @@
 //! What is wrong with a text: each error alone, each two on one line and on two lines.
 use crate::answers::{at, refusal};
+use asm_text::Fault;
 use assembler::Why;
 use std::test::Fail;
 
@@ -170,5 +171,13 @@ fn too_long_with_each_other_error(rt: HostRuntime) -> Result<(), Fail> {
             "{line}"
         );
     }
+    Ok(())
+}
+
+#[test]
+fn faults_of_tokens_by_number_and_text(rt: HostRuntime) -> Result<(), Fail> {
+    assert_eq!(rt; (Fault::Char.number(), Fault::Number.number()), (1, 2));
+    let told = format!(in rt.alloc(); "{} {}", Fault::Char, Fault::Number)?;
+    assert_eq!(rt; told.as_str(), "Char Number");
     Ok(())
 }

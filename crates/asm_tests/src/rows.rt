@@ -60,6 +60,12 @@ const TEXTS: &[(&str, &str)] = &[
     ),
     ("r0: ja r0 ; any name is a label", "ja -1\n"),
     ("exit: exit", "exit\n"),
+    ("a:exit", "exit\n"),
+    ("mov r0,1\nexit", "mov r0, 1\nexit\n"),
+    (
+        "ldxb r0,[r1+0x1F]\nldxb r0 , [ r1 + 0x1f ]\nexit",
+        "ldxb r0, [r1+31]\nldxb r0, [r1+31]\nexit\n",
+    ),
     ("local: call local local", "call local -1\n"),
     ("call\t local\t+ 1", "call local +1\n"),
     ("call 99\nja +5", "call 99\nja +5\n"),

@@ -2,10 +2,10 @@
 use Rattle.std.proofs.Common.{◌≡◌, ℕ, ◌-◌, ◌≤◌, ◌==◌, ◌&&◌, zero, suc, Bool, true, false, cond, List, [], ◌∷◌, ◌++◌, length, take, drop, append-nil, refl, ap, ◌∙◌, arith}
 use Rattle.std.proofs.lemmas.Bool.Decides.{nat_tests}
 use Rattle.std.specs.Char.{is_ascii_digit, is_ascii_hexdigit}
-use Rattle.asm_text.specs.Tokens.{run, tokens, tokens_past, is_blank, is_letter, is_name_byte, begins_comment, begins_hex, word_length, lexeme_of, is_clean, comment_of}
+use Rattle.asm_text.specs.Tokens.{run, tokens, tokens_past, is_blank, is_letter, is_name_byte, begins_comment, begins_hex, word_length, lexeme_of, is_clean, comment_of, mark_of}
 use Rattle.asm_text.specs.Tokens.Lexeme.{Stray}
 use Rattle.asm_text.specs.Laws.{no_comment}
-use Rattle.asm_text.proofs.Spelled.{begins_no_hex, and_right, name_byte_ends, name_byte_ends_hex}
+use Rattle.asm_text.proofs.Spelled.{word_front, begins_no_hex, and_right, name_byte_ends, name_byte_ends_hex}
 
 run_bound_at : (p : ℕ → Bool) (x : ℕ) (xs : List ℕ) (t : Bool) → p x ≡ t → run p xs ≤ length xs → run p (x ∷ xs) ≤ suc (length xs)
 run_bound_at p x xs true e h = rw e (omega arith)
@@ -110,3 +110,23 @@ comment_passed xs ys b e h c =
     let t : tokens (b ∷ ys) ≡ comment_of ys = rw (k.1, e) refl in
     let n : comment_of ys ≡ [] = ap (λ t. cond t [] (Stray ∷ [])) c in
     tokens_part b ys k.0 xs h ∙ ap (λ l. tokens xs ++ l) (t ∙ n) ∙ append-nil (tokens xs)
+
+-- ---- a mark
+
+mark_plain : (b : ℕ) → is_name_byte b ≡ false → (is_letter b ≡ false) × (is_ascii_digit b ≡ false) × ((b == 48) ≡ false)
+mark_plain b h = (grind (arith, nat_tests), grind (arith, nat_tests), grind (arith, nat_tests))
+
+mark_length : (b : ℕ) (rest : List ℕ) → is_name_byte b ≡ false → word_length (b ∷ rest) ≡ 1
+unfolding word_length
+mark_length b rest h =
+    let p = mark_plain b h in
+    let x : (b == 48 && begins_hex rest) ≡ false = ap (λ t. t && begins_hex rest) p.2 in
+    rw (p.0, x, p.1) refl
+
+mark_is : (b : ℕ) → is_name_byte b ≡ false → lexeme_of (b ∷ []) ≡ mark_of b
+unfolding lexeme_of
+mark_is b h = let p = mark_plain b h in rw (p.0, p.1) refl
+
+pub mark_apart : (xs ys : List ℕ) (b : ℕ) → is_name_byte b ≡ false → is_blank b ≡ false → begins_comment b ≡ false → no_comment xs ≡ true → tokens (xs ++ b ∷ ys) ≡ tokens xs ++ mark_of b ∷ tokens ys
+mark_apart xs ys b e blank comment h =
+    tokens_part b ys e xs h ∙ ap (λ l. tokens xs ++ l) (word_front b [] ys blank comment (mark_length b ys e) ∙ ap (λ t. t ∷ tokens ys) (mark_is b e))

@@ -29,6 +29,11 @@ fault_in Stray = Some fault.Char
 fault_in (Number None) = Some fault.Number
 fault_in _ = None
 
+-- faults by number
+abbrev pub fault_number : Fault → ℕ
+fault_number fault.Char = 1
+fault_number fault.Number = 2
+
 -- ---- classes of bytes
 
 -- a space or a tab

@@ -7,6 +7,8 @@ mod token;
 mod tokens;
 
 pub use cursor::Tokens;
-pub use laws::{blanks_dont_matter, comments_dont_matter, hex_case_doesnt_matter, tokens_part};
+pub use laws::{
+    blanks_dont_matter, comments_dont_matter, hex_case_doesnt_matter, marks_part, tokens_part,
+};
 pub use token::{Fault, Token};
 pub use tokens::Found;

@@ -1,6 +1,8 @@
 //! Tokens and classes of bytes.
 ghost use Rattle.std.specs.Prelude.{◌≡◌};
-ghost use Rattle.asm_text.specs.Tokens.{in_class, mark_of, lexeme_seen, is_letter, fault_in};
+ghost use Rattle.asm_text.specs.Tokens.{in_class, mark_of, lexeme_seen, is_letter, fault_in, fault_number};
+
+use thiserror::Error;
 
 /// A token of a line of assembly.
 #[derive(Clone, Copy, Drop, Debug)]
@@ -19,13 +21,24 @@ pub enum Token<'a> {
     Stray,
 }
 
-/// What may be wrong with a token by itself.
-#[derive(Clone, Copy, Drop, Debug, PartialEq, Eq)]
+/// What may be wrong with a token by itself. The text of an error is its name.
+#[derive(Clone, Copy, Drop, Debug, PartialEq, Eq, Error)]
 pub enum Fault {
     /// It is no token, or a comment that isn't ASCII.
-    Char,
+    #[error("Char")]
+    Char = 1,
     /// It is a number above 2^64 - 1.
-    Number,
+    #[error("Number")]
+    Number = 2,
+}
+
+impl Fault {
+    /// The fault's number.
+    pub fn number(self) -> u8
+        ensures { result ≡ fault_number self }
+    {
+        self as u8
+    }
 }
 
 impl<'a> Token<'a> {

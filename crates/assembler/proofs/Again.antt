@@ -19,7 +19,8 @@ use Rattle.asm_grammar.specs.declared.why.Why.{Why}
 use Rattle.asm_grammar.specs.declared.why.Why.TheVariants as why
 use Rattle.asm_grammar.specs.Writing.{Written, lexemes_of, joined, more}
 use Rattle.asm_grammar.specs.Writing.Written.{Word, Bare, Signed, Memory, MemoryAt}
-use Rattle.asm_grammar.specs.Reading.{fault_of, Look, head, body, label_of, after_label, has_stray, line_says, body_slots}
+use Rattle.asm_grammar.specs.Grammar.{Look, head, label_of, after_label, has_stray}
+use Rattle.asm_grammar.specs.Reading.{fault_of, body, line_says, body_slots}
 use Rattle.asm_grammar.specs.Canonical.{canonical}
 use Rattle.asm_grammar.proofs.Meant.{head_one, means_says, means_slots}
 use Rattle.asm_grammar.proofs.Rewritten.{line_tokens, line_means}

@@ -1,5 +1,5 @@
--- Ok is answered for what is spelled, and for nothing else; a label that stands nowhere is told last.
-use Rattle.std.proofs.Common.{◌≡◌, ◌≤◌, ◌+◌, ◌⊎◌, inl, inr, ℕ, nat_lt, Bool, true, false, cond, List, [], ◌∷◌, refl, sym, ap, ◌∙◌, arith, Option, Some, None, Result, Ok, Err}
+-- Ok is answered for what is spelled, and for nothing else.
+use Rattle.std.proofs.Common.{◌≡◌, ◌≤◌, ◌+◌, inl, inr, ℕ, nat_lt, Bool, true, false, cond, List, [], ◌∷◌, refl, sym, ap, ◌∙◌, arith, Option, Some, None, Result, Ok, Err}
 use Rattle.std.proofs.lemmas.Bool.Decides.{nat_tests}
 use Rattle.std.specs.Str.Lines.{lines}
 use Rattle.asm_text.specs.Tokens.{Lexeme, tokens}
@@ -8,12 +8,13 @@ use Rattle.asm_table.specs.declared.mnemonic.Mnemonic.{Mnemonic}
 use Rattle.asm_grammar.specs.declared.why.Why.{Why}
 use Rattle.asm_grammar.specs.declared.why.Why.TheVariants as why
 use Rattle.asm_table.specs.Mnemonics.{sorts}
-use Rattle.asm_grammar.specs.Reading.{Look, mnemonic_at, body, by_mnemonic, said, finished, gather_operands, nothing, label_of, after_label, has_stray, line_says, fault_of}
+use Rattle.asm_grammar.specs.Grammar.{Look, label_of, after_label, has_stray}
+use Rattle.asm_grammar.specs.Reading.{mnemonic_at, body, by_mnemonic, said, finished, gather_operands, nothing, line_says, fault_of}
 use Rattle.asm_grammar.proofs.Meant.{means_says}
 use Rattle.asm_grammar.proofs.Found.{says_means}
 use Rattle.asm_grammar.proofs.Alike.{line_alike}
 use Rattle.assembler.specs.declared.error.AsmError.{AsmError}
-use Rattle.assembler.specs.Passes.{with_label, slots_in, is_twice, or_else, wrong, refused, unless_wrong, outlined, onto, with_said, assembled, meaning, under, nowhere}
+use Rattle.assembler.specs.Passes.{with_label, slots_in, is_twice, or_else, wrong, unless_wrong, outlined, onto, with_said, assembled, meaning, under, nowhere}
 use Rattle.assembler.specs.Spelling.{SaysThen, LinesSay, Spells}
 use Rattle.assembler.proofs.Steps.{IsRight, right}
 
@@ -35,7 +36,7 @@ body_none : (look : Look) (n : ℕ) (ts : List Lexeme) → body look n ts ≡ Ok
 body_none look n [] e = refl
 body_none look n (t ∷ ts) e = absurd (named_some look n (mnemonic_at (t ∷ ts)) e)
 
-none_wrong : (w : Why) → fault_of (Err w) ≡ None → w ≡ why.Label
+pub none_wrong : (w : Why) → fault_of (Err w) ≡ None → w ≡ why.Label
 none_wrong why.Label e = refl
 none_wrong _ e = absurd (cc e)
 
@@ -43,21 +44,21 @@ onto_ok : (i : Instr) (r : Result (List Instr) AsmError) (code : List Instr) →
 onto_ok i (Ok is) code e = let k : i ∷ is ≡ code = cc e in (is, refl, sym k)
 onto_ok i (Err f) code e = absurd (cc e)
 
-onto_err : (i : Instr) (r : Result (List Instr) AsmError) (f : AsmError) → onto (λ is. i ∷ is) r ≡ Err f → r ≡ Err f
+pub onto_err : (i : Instr) (r : Result (List Instr) AsmError) (f : AsmError) → onto (λ is. i ∷ is) r ≡ Err f → r ≡ Err f
 onto_err i (Ok is) f e = absurd (cc e)
 onto_err i (Err g) f e = let k : g ≡ f = cc e in ap (λ x. Err x) k
 
 -- a line with nothing wrong in the first pass, and what is after it
-record Next (k : ℕ) (look before : Look) (n : ℕ) (line : List ℕ) (rest : List (List ℕ)) : Type 0 where
-  right : IsRight before n (tokens line)
-  outlined : outlined (k + 1) (with_label before (label_of (tokens line)) n) (n + slots_in (tokens line)) rest ≡ Ok look
+pub record Next (k : ℕ) (look before : Look) (n : ℕ) (line : List ℕ) (rest : List (List ℕ)) : Type 0 where
+  pub right : IsRight before n (tokens line)
+  pub outlined : outlined (k + 1) (with_label before (label_of (tokens line)) n) (n + slots_in (tokens line)) rest ≡ Ok look
 
 next_at : (k : ℕ) (look before : Look) (n : ℕ) (line : List ℕ) (rest : List (List ℕ)) (o : Option Why) → wrong before n (tokens line) ≡ o
     → unless_wrong o k (outlined (k + 1) (with_label before (label_of (tokens line)) n) (n + slots_in (tokens line)) rest) ≡ Ok look → Next k look before n line rest
 next_at k look before n line rest None w h = record { right = right before n (tokens line) w; outlined = h }
 next_at k look before n line rest (Some v) w h = absurd (cc h)
 
-next : (k : ℕ) (look before : Look) (n : ℕ) (line : List ℕ) (rest : List (List ℕ)) → outlined k before n (line ∷ rest) ≡ Ok look → Next k look before n line rest
+pub next : (k : ℕ) (look before : Look) (n : ℕ) (line : List ℕ) (rest : List (List ℕ)) → outlined k before n (line ∷ rest) ≡ Ok look → Next k look before n line rest
 next k look before n line rest h = next_at k look before n line rest (wrong before n (tokens line)) refl h
 
 -- ---- what is answered is spelled
@@ -135,28 +136,3 @@ spelled text code e = let k = under_ok (outlined 1 nowhere 0 (lines text)) (line
 
 pub answered : (text : List ℕ) (code : List Instr) → Spells text code → meaning text ≡ Ok code
 answered text code h = let k = lines_read 1 1 h.0 nowhere 0 (lines text) code h.1 in ap (λ o. under o (lines text)) k.0 ∙ k.1
-
--- ---- a label that stands nowhere
-
-label_at : (j : ℕ) (look before : Look) (n : ℕ) (line : List ℕ) (rest : List (List ℕ)) (e : AsmError) (r : Result (Option Instr) Why) → line_says look n (tokens line) ≡ r → fault_of (line_says before n (tokens line)) ≡ None
-    → with_said r j (assembled (j + 1) look (n + slots_in (tokens line)) rest) ≡ Err e → ((f : AsmError) → assembled (j + 1) look (n + slots_in (tokens line)) rest ≡ Err f → f.why ≡ why.Label) → e.why ≡ why.Label
-label_at j look before n line rest e (Ok None) l w h f = f e h
-label_at j look before n line rest e (Ok (Some i)) l w h f = f e (onto_err i (assembled (j + 1) look (n + slots_in (tokens line)) rest) e h)
-label_at j look before n line rest e (Err v) l w h f =
-    let k : refused j v ≡ e = cc h in
-    sym (ap (λ (x : AsmError). x.why) k) ∙ none_wrong v (sym (ap fault_of l) ∙ line_alike look before n n (tokens line) ∙ w)
-
-label_last : (k j : ℕ) (look before : Look) (n : ℕ) (lines : List (List ℕ)) (e : AsmError) → outlined k before n lines ≡ Ok look → assembled j look n lines ≡ Err e → e.why ≡ why.Label
-label_last k j look before n [] e o h = absurd (cc h)
-label_last k j look before n (line ∷ rest) e o h =
-    let x = next k look before n line rest o in
-    label_at j look before n line rest e (line_says look n (tokens line)) refl x.right.says h (λ f g. label_last (k + 1) (j + 1) look (with_label before (label_of (tokens line)) n) (n + slots_in (tokens line)) rest f x.outlined g)
-
-under_err : (o : Result Look AsmError) (lines : List (List ℕ)) (e : AsmError) → under o lines ≡ Err e → (o ≡ Err e) ⊎ ((look : Look) × (o ≡ Ok look) × (assembled 1 look 0 lines ≡ Err e))
-under_err (Ok look) lines e h = inr (look, refl, h)
-under_err (Err f) lines e h = let k : f ≡ e = cc h in inl (ap (λ x. Err x) k)
-
-pub label_is_last : (text : List ℕ) (e : AsmError) → meaning text ≡ Err e → (outlined 1 nowhere 0 (lines text) ≡ Err e) ⊎ ((look : Look) × (outlined 1 nowhere 0 (lines text) ≡ Ok look) × (e.why ≡ why.Label))
-label_is_last text e h =
-    elim (under_err (outlined 1 nowhere 0 (lines text)) (lines text) e h) as (λ _. (outlined 1 nowhere 0 (lines text) ≡ Err e) ⊎ ((look : Look) × (outlined 1 nowhere 0 (lines text) ≡ Ok look) × (e.why ≡ why.Label)))
-    [ inl k ↦ inl k | inr k ↦ inr (k.0, k.1, label_last 1 1 k.0 nowhere 0 (lines text) e k.1 k.2) ]

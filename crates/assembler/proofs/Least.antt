@@ -8,7 +8,8 @@ use Rattle.asm_grammar.specs.declared.why.Why.{Why}
 use Rattle.asm_grammar.specs.declared.why.Why.TheVariants as why
 use Rattle.asm_table.specs.Mnemonics.{sorts}
 use Rattle.asm_table.specs.Parts.{instr_of_parts}
-use Rattle.asm_grammar.specs.Reading.{Look, Gathered, gather_operands, nothing, mnemonic_at, judged, finished, said, by_mnemonic, body, label_of, after_label, has_stray, fault_of}
+use Rattle.asm_grammar.specs.Grammar.{Look, label_of, after_label, has_stray}
+use Rattle.asm_grammar.specs.Reading.{Gathered, gather_operands, nothing, mnemonic_at, judged, finished, said, by_mnemonic, body, fault_of}
 use Rattle.asm_grammar.proofs.Alike.{line_alike}
 use Rattle.asm_grammar.proofs.Formed.{built_gathered}
 use Rattle.assembler.specs.declared.error.AsmError.{AsmError}

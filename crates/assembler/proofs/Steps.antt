@@ -13,7 +13,8 @@ use Rattle.asm_text.specs.Tokens.{Lexeme, tokens}
 use Rattle.isa_table.specs.declared.instr.Instr.{Instr}
 use Rattle.asm_grammar.specs.declared.why.Why.{Why}
 use Rattle.asm_grammar.specs.declared.why.Why.TheVariants as why
-use Rattle.asm_grammar.specs.Reading.{fault_of, Look, line_says, label_of}
+use Rattle.asm_grammar.specs.Grammar.{Look, label_of}
+use Rattle.asm_grammar.specs.Reading.{fault_of, line_says}
 use Rattle.asm_grammar.specs.Views.{look_in}
 use Rattle.assembler.specs.declared.error.AsmError.{AsmError}
 use Rattle.assembler.specs.Passes.{with_label, slots_in, is_twice, or_else, wrong, refused, unless_wrong, outlined, onto, with_said, assembled, with_instr}

@@ -3,7 +3,8 @@ use Rattle.std.proofs.Common.{◌≡◌, ◌+◌, ℕ, List, [], ◌∷◌, map,
 use Rattle.std.specs.Str.Lines.{lines}
 use Rattle.asm_text.specs.Tokens.{Lexeme, tokens}
 use Rattle.isa_table.specs.declared.instr.Instr.{Instr}
-use Rattle.asm_grammar.specs.Reading.{Look, line_says, label_of}
+use Rattle.asm_grammar.specs.Grammar.{Look, label_of}
+use Rattle.asm_grammar.specs.Reading.{line_says}
 use Rattle.assembler.specs.declared.error.AsmError.{AsmError}
 use Rattle.assembler.specs.Passes.{with_label, slots_in, wrong, unless_wrong, outlined, with_said, assembled, meaning, under, nowhere}
 use Rattle.assembler.specs.Spelling.{Spells}

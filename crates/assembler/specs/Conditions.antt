@@ -6,7 +6,8 @@ use Rattle.asm_table.specs.declared.mnemonic.Mnemonic.{Mnemonic}
 use Rattle.asm_grammar.specs.declared.why.Why.{Why}
 use Rattle.asm_grammar.specs.declared.why.Why.TheVariants as why
 use Rattle.asm_table.specs.Mnemonics.{sorts}
-use Rattle.asm_grammar.specs.Reading.{Look, Gathered, gather_operands, nothing, mnemonic_at, label_of, after_label, has_stray}
+use Rattle.asm_grammar.specs.Grammar.{Look, label_of, after_label, has_stray}
+use Rattle.asm_grammar.specs.Reading.{Gathered, gather_operands, nothing, mnemonic_at}
 use Rattle.assembler.specs.declared.error.AsmError.{AsmError}
 use Rattle.assembler.specs.Passes.{nowhere, with_label, slots_in, is_twice, outlined}
 

@@ -6,7 +6,8 @@ use Rattle.asm_text.specs.Tokens.{Lexeme, tokens}
 use Rattle.isa_table.specs.declared.instr.Instr.{Instr}
 use Rattle.asm_grammar.specs.declared.why.Why.{Why}
 use Rattle.asm_grammar.specs.declared.why.Why.TheVariants as why
-use Rattle.asm_grammar.specs.Reading.{Look, line_says, label_of, after_label, body_slots, fault_of}
+use Rattle.asm_grammar.specs.Grammar.{Look, label_of, after_label}
+use Rattle.asm_grammar.specs.Reading.{line_says, body_slots, fault_of}
 use Rattle.assembler.specs.declared.error.AsmError.{AsmError}
 
 -- no label is known

@@ -4,7 +4,7 @@ use Rattle.std.specs.Str.Lines.{lines}
 use Rattle.asm_text.specs.Tokens.{Lexeme, tokens}
 use Rattle.isa_table.specs.declared.instr.Instr.{Instr}
 use Rattle.asm_grammar.specs.declared.why.Why.TheVariants as why
-use Rattle.asm_grammar.specs.Reading.{Look, Means, label_of, after_label, has_stray}
+use Rattle.asm_grammar.specs.Grammar.{Look, Means, label_of, after_label, has_stray, UsesUnknown}
 use Rattle.assembler.specs.declared.error.AsmError.{AsmError}
 use Rattle.assembler.specs.Passes.{meaning, nowhere, with_label, slots_in, is_twice, outlined}
 
@@ -32,6 +32,14 @@ Spells text code = (look : Look) × LinesSay look nowhere 0 (lines text) code
 abbrev pub OkExactly : Type 0
 OkExactly = (text : List ℕ) (code : List Instr) → (meaning text ≡ Ok code) ↔ Spells text code
 
--- A label that stands nowhere is told only where nothing else is wrong.
+-- Line `at` is the first of these lines that uses a label that stands nowhere; the first of them has number k.
+abbrev pub IsFirstUnknown : ℕ → Look → List (List ℕ) → ℕ → Type 0
+IsFirstUnknown k look [] at = ⊥
+IsFirstUnknown k look (line ∷ lines) at =
+    ((at ≡ k) × UsesUnknown look (after_label (tokens line))) ⊎
+    ((UsesUnknown look (after_label (tokens line)) → ⊥) × IsFirstUnknown (k + 1) look lines at)
+
+-- A label that stands nowhere is told only where nothing else is wrong in any line, and then of the first line that uses
+-- one.
 abbrev pub LabelLast : Type 0
-LabelLast = (text : List ℕ) (e : AsmError) → meaning text ≡ Err e → (outlined 1 nowhere 0 (lines text) ≡ Err e) ⊎ ((look : Look) × (outlined 1 nowhere 0 (lines text) ≡ Ok look) × (e.why ≡ why.Label))
+LabelLast = (text : List ℕ) (e : AsmError) → (meaning text ≡ Err e) ↔ ((outlined 1 nowhere 0 (lines text) ≡ Err e) ⊎ ((look : Look) × (outlined 1 nowhere 0 (lines text) ≡ Ok look) × (e.why ≡ why.Label) × IsFirstUnknown 1 look (lines text) e.line))

@@ -13,7 +13,8 @@ use Rattle.bpf_codec.specs.declared.layout.Field.TheVariants.{Wide}
 use Rattle.bpf_codec.specs.declared.fault.Fault.{Fault}
 use Rattle.bpf_codec.specs.declared.fault.Fault.TheVariants as fault
 use Rattle.bpf_codec.specs.declared.slot.Slot.{Slot}
-use Rattle.bpf_codec.specs.Slots.{layout, first, fields, slot_bytes, second, encoding, slots, FitsField, Fits, Begins, next_word, zeros_after, padded, NoneBeginsAnother, NoneShared}
+use Rattle.isa_table.specs.Slots.{slots}
+use Rattle.bpf_codec.specs.Slots.{layout, first, fields, slot_bytes, second, encoding, FitsField, Fits, Begins, next_word, zeros_after, padded, NoneBeginsAnother, NoneShared}
 use Rattle.bpf_codec.specs.Faults.{has_fault, IsLeastFault, BeginsWithSome, NoFaultWhereEncoded}
 use Rattle.bpf_codec.specs.Decoding.{◌>>=◌, rows_of, row_for, checked, next_imm, operands, built, decoded_as, decoded, with_slots}
 use Rattle.bpf_codec.proofs.Fields.{is_wide_imm, next_in}

@@ -14,4 +14,4 @@ mod writing;
 pub use fault::Fault;
 pub use laws::{no_fault_where_encoded, none_begins_another, none_shared};
 pub use reading::decode_at;
-pub use writing::{encode, slots_of};
+pub use writing::encode;

@@ -1,7 +1,8 @@
 //! Reads instructions.
 ghost use Rattle.std.specs.Prelude.{◌≡◌, ◌*◌, drop, IfOk, IfErr};
 ghost use Rattle.isa_table.specs.declared.instr.Instr.{Instr};
-ghost use Rattle.bpf_codec.specs.Slots.{Fits, Begins, slots};
+ghost use Rattle.isa_table.specs.Slots.{slots};
+ghost use Rattle.bpf_codec.specs.Slots.{Fits, Begins};
 ghost use Rattle.bpf_codec.specs.Faults.{IsLeastFault, is_packet};
 ghost use Rattle.bpf_codec.specs.Decoding.{next_imm, decoded, with_slots};
 
@@ -10,8 +11,7 @@ use crate::checks::check;
 use crate::fault::Fault;
 use crate::places::rows_at;
 use crate::slot::slot_at;
-use crate::writing::slots_of;
-use isa_table::Instr;
+use isa_table::{Instr, slots_of};
 
 /// The imm field of the second slot, or 0 where the opcode has none.
 #[tactic(auto, unfolding(crate::specs::Decoding::next_imm))]

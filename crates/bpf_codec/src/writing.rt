@@ -1,19 +1,10 @@
 //! Writes instructions.
 ghost use Rattle.std.specs.Prelude.{◌≡◌};
-ghost use Rattle.bpf_codec.specs.Slots.{number_in, padded, next_word, slots};
+ghost use Rattle.isa_table.specs.Slots.{slots};
+ghost use Rattle.bpf_codec.specs.Slots.{number_in, padded, next_word};
 
 use crate::layout::{Field, layout_of};
-use isa_table::Instr;
-
-/// How many slots the instruction takes: two in the wide encoding (RFC 9669, section 3.2), else one.
-pub fn slots_of(instr: &Instr) -> usize
-    ensures { result ≡ slots instr.now }
-{
-    match instr {
-        Instr::LoadImm64 { .. } => 2,
-        _ => 1,
-    }
-}
+use isa_table::{Instr, slots_of};
 
 /// The number in a field; of a 64-bit number its low half.
 fn number_of(field: Field) -> u32

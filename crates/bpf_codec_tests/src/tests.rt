@@ -1,7 +1,8 @@
 //! Encodings by the tables of RFC 9669, by hand.
-use bpf_codec::{Fault, decode_at, encode, slots_of};
+use bpf_codec::{Fault, decode_at, encode};
 use isa_table::{
     AtomicOp, Binary, Cond, Instr, Operand, Order, Reg, SignedSize, Size, SwapWidth, Width,
+    slots_of,
 };
 
 const ENCODINGS: [([u8; 8], Instr); 22] = [

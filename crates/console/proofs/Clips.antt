@@ -2,7 +2,6 @@
 use Rattle.std.proofs.Common.{◌≡◌, ℕ, ◌+◌, ◌-◌, ◌≤◌, min, zero, suc, List, [], ◌∷◌, ◌++◌, length, take, refl, sym, ap, ◌∙◌, arith, Result, Ok, Err, subst}
 use Rattle.std.proofs.lemmas.List.{length-take, take_all, take_min}
 use Rattle.std.proofs.Math.Seq.{take-append-add}
-use Rattle.world.specs.Commands.{Command, command_of}
 use Rattle.world.specs.declared.events.Event.{Event}
 use Rattle.console.specs.Commands.{Reads, SpellsCommand}
 use Rattle.console.specs.Held.{clip}
@@ -23,14 +22,14 @@ clip-append zero xs ys = refl
 clip-append (suc m) [] ys = refl
 clip-append (suc m) (x ∷ xs) ys = ap (λ l. x ∷ l) (clip-append m xs ys)
 
-pub clip_spells : (line : List ℕ) (command : Command) → SpellsCommand (clip line) command → SpellsCommand line command
+pub clip_spells : (line : List ℕ) (command : Event) → SpellsCommand (clip line) command → SpellsCommand line command
 clip_spells line command s =
     let e : length (take 70001 line) ≡ min 70001 (length line) = length-take 70001 line in
     let small : length line ≤ 70001 = omega (arith, e, s.0) in
     subst (λ l. SpellsCommand l command) (take_all 70001 line small) s
 
 pub reads_clip : (line : List ℕ) (read : Result Event LineFault) → Reads (SpellsCommand (clip line)) read → Reads (SpellsCommand line) read
-reads_clip line (Ok event) h = clip_spells line (command_of event) h
+reads_clip line (Ok event) h = clip_spells line event h
 reads_clip line (Err NoMemory) h = (h.0, clip_spells line h.0 h.1, h.2)
 reads_clip line (Err Bad) h = λ command s.
     let small : length line ≤ 70001 = omega (arith, s.0) in

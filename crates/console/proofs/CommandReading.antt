@@ -1,42 +1,57 @@
 -- What is read from tokens.
-use Rattle.std.proofs.Common.{Bool, true, false, cond, ◌≡◌, ℕ, ◌<◌, ◌≤◌, List, [], ◌∷◌, drop, length, get_or, slice_index, Some, None, Result, Ok, Err, subst, sym, ◌∙◌, ap, arith}
+use Rattle.std.proofs.Common.{◌≡◌, ℕ, ◌<◌, ◌≤◌, List, [], ◌∷◌, drop, length, get_or, slice_index, Some, None, Result, Ok, Err, subst, sym, ◌∙◌, ap, arith, inl, inr}
 use Rattle.std.proofs.lemmas.List.{length-take}
 use Rattle.memory.specs.Objects.{bytes_of}
+use Rattle.machine.specs.Grants.{GrantState}
 use Rattle.object_store.specs.declared.places.Place.{Place}
 use Rattle.object_store.specs.declared.places.Place.TheVariants as place
 use Rattle.object_store.specs.declared.places.Moved.{Moved}
 use Rattle.object_store.specs.declared.places.Moved.TheVariants as moved
-use Rattle.machine.specs.declared.state.Stepped.{Stepped}
-use Rattle.machine.specs.declared.state.Stepped.TheVariants as stepped
-use Rattle.debugger.specs.DebugState.{DebugState, hits}
-use Rattle.world.specs.declared.events.Reply.{Reply}
-use Rattle.world.specs.declared.events.Reply.TheVariants as reply
-use Rattle.world.specs.WorldState.{WorldState}
-use Rattle.world.specs.Steps.{reply_to_step}
-use Rattle.world.specs.Answers.{Answers, reply_to_move}
-use Rattle.world.specs.Commands.{Command, command_of}
-use Rattle.world.specs.Commands.Command.{Make, Free, Put, Get, Ship, Leave, Left, Return, Returned, Step, One, Regs, Out, Stack, Line, Break, Unbreak, Watch, Unwatch, Resume}
+use Rattle.object_store.specs.Stores.{StoreState, store_memory}
+use Rattle.debugger.specs.declared.commands.MachineCommand.{MachineCommand}
+use Rattle.debugger.specs.declared.commands.MachineCommand.TheVariants.{Step, Show, Debug}
+use Rattle.debugger.specs.declared.commands.ShowCommand.{ShowCommand}
+use Rattle.debugger.specs.declared.commands.ShowCommand.TheVariants.{Stack}
+use Rattle.debugger.specs.declared.replies.StepReply.{StepReply}
+use Rattle.debugger.specs.declared.replies.StepReply.TheVariants as step_reply
+use Rattle.debugger.specs.declared.replies.ShowReply.{ShowReply}
+use Rattle.debugger.specs.declared.replies.ShowReply.TheVariants as show_reply
+use Rattle.debugger.specs.declared.replies.Debugged.{Debugged}
+use Rattle.debugger.specs.declared.replies.Debugged.TheVariants as debugged
+use Rattle.debugger.specs.declared.debuggee.Debuggee.{Debuggee}
+use Rattle.debugger.specs.Showing.{Shows}
 use Rattle.world.specs.declared.events.Event.{Event}
-use Rattle.console.specs.Tokens.{tokens_of, within, IsWithin, AreBytes}
+use Rattle.world.specs.declared.events.Event.TheVariants.{Make, Ship, Object, Machine}
+use Rattle.world.specs.declared.events.ObjectCommand.{ObjectCommand}
+use Rattle.world.specs.declared.events.ObjectCommand.TheVariants.{Free, Put, Get, Move}
+use Rattle.world.specs.declared.events.Move.{Move as WorldMove}
+use Rattle.world.specs.declared.events.Move.TheVariants as move
+use Rattle.world.specs.declared.replies.Reply.{Reply}
+use Rattle.world.specs.declared.replies.Reply.TheVariants as reply
+use Rattle.world.specs.WorldState.{WorldState}
+use Rattle.world.specs.Machines.{AnswersCommand, reply_to_step, reply_to_show, reply_to_debug}
+use Rattle.world.specs.Answers.{Answers, AnswersObject, reply_to_move, moved_reply, place_before}
+use Rattle.console.specs.Tokens.{tokens_of, within, IsWithin, AreNumbers, AreBytes}
+use Rattle.console.specs.Granting.{AreGrants}
 use Rattle.console.specs.Replies.{IsShort}
-use Rattle.console.specs.Commands.{Reads, Says, SaysOfKind, SpellsCommand, kind_named, number_limits, most_bytes, command_with, range_limit, CarriesBytes}
+use Rattle.console.specs.Commands.{Reads, Says, SaysOfKind, SpellsCommand, kind_named, number_limits, most_bytes, takes_grants, event_with, range_limit, CarriesBytes}
 use Rattle.console.specs.declared.fault.LineFault.{LineFault}
 use Rattle.console.specs.declared.fault.LineFault.TheVariants.{Bad, NoMemory}
 use Rattle.console.specs.declared.kind.Kind.{Kind}
 use Rattle.console.specs.declared.kind.Kind.TheVariants as kind
-use Rattle.console.proofs.LineTokens.{numbers_within}
+use Rattle.console.proofs.LineTokens.{numbers_one, numbers_within, bytes_one}
 
 -- no command is said
-pub reads_bad : (IsSaid : Command → Type 0) (r : Result Event LineFault) (x y : LineFault) → r ≡ Err x → x ≡ y → y ≡ Bad → ((command : Command) → IsSaid command → ⊥) → Reads IsSaid r
+pub reads_bad : (IsSaid : Event → Type 0) (r : Result Event LineFault) (x y : LineFault) → r ≡ Err x → x ≡ y → y ≡ Bad → ((command : Event) → IsSaid command → ⊥) → Reads IsSaid r
 reads_bad IsSaid r x y e f g none = subst (Reads IsSaid) (sym (e ∙ ap (λ (v : LineFault). Err v) (f ∙ g))) none
 
 -- a command is said, and there is no memory for its bytes
-pub reads_no_memory : (IsSaid : Command → Type 0) (r : Result Event LineFault) (x y : LineFault) → r ≡ Err x → x ≡ y → y ≡ NoMemory → (command : Command) → IsSaid command → CarriesBytes command → Reads IsSaid r
+pub reads_no_memory : (IsSaid : Event → Type 0) (r : Result Event LineFault) (x y : LineFault) → r ≡ Err x → x ≡ y → y ≡ NoMemory → (command : Event) → IsSaid command → CarriesBytes command → Reads IsSaid r
 reads_no_memory IsSaid r x y e f g command s b = subst (Reads IsSaid) (sym (e ∙ ap (λ (v : LineFault). Err v) (f ∙ g))) (command, s, b)
 
 -- the kind of the name decides
 pub reads_named : (tokens left : List (List ℕ)) (name : List ℕ) (k : Kind) (r : Result Event LineFault) → tokens ≡ name ∷ left → Some k ≡ kind_named name → Reads (SaysOfKind k left) r → Reads (Says tokens) r
-reads_named tokens left name k (Ok event) e f h = subst (λ t. Says t (command_of event)) (sym e) (k, sym f, h)
+reads_named tokens left name k (Ok event) e f h = subst (λ t. Says t event) (sym e) (k, sym f, h)
 reads_named tokens left name k (Err NoMemory) e f h = (h.0, subst (λ t. Says t h.0) (sym e) (k, sym f, h.1), h.2)
 reads_named tokens left name k (Err Bad) e f h = λ command s.
     let t = subst (λ t. Says t command) e s in
@@ -44,35 +59,54 @@ reads_named tokens left name k (Err Bad) e f h = λ command s.
     let same : t.0 ≡ k = cc in
     h command (subst (λ x. SaysOfKind x left command) same t.2)
 
+-- ---- what the tokens after the name can't say
+
+module _ (kind : Kind) (tokens : List (List ℕ)) (numbers : List ℕ) (left : List (List ℕ)) (first : AreNumbers (number_limits kind) tokens numbers left) where
+  -- what comes after the numbers isn't as it has to be
+  pub none_without_bytes : ((bytes : List ℕ) (words : List (List ℕ)) → AreBytes (most_bytes kind) left bytes words → ⊥) → (command : Event) → SaysOfKind kind tokens command → ⊥
+  none_without_bytes none command s =
+      none s.bytes s.words (subst (λ l. AreBytes (most_bytes kind) l s.bytes s.words) (numbers_one (number_limits kind) tokens s.numbers numbers s.left left s.numbers_first first).1 s.bytes_next)
+
+  -- what comes after the bytes isn't as it has to be
+  pub none_without_grants : (bytes : List ℕ) (words : List (List ℕ)) → AreBytes (most_bytes kind) left bytes words
+      → ((grants : GrantState) → AreGrants (takes_grants kind) words grants → ⊥) → (command : Event) → SaysOfKind kind tokens command → ⊥
+  none_without_grants bytes words next none command s =
+      let l = (numbers_one (number_limits kind) tokens s.numbers numbers s.left left s.numbers_first first).1 in
+      let w = (bytes_one (most_bytes kind) left s.bytes bytes s.words words (subst (λ l. AreBytes (most_bytes kind) l s.bytes s.words) l s.bytes_next) next).1 in
+      none s.grants (subst (λ t. AreGrants (takes_grants kind) t s.grants) w s.grants_last)
+
 -- ---- the table of commands
 
-none_carried : (left : List (List ℕ)) (bytes : List ℕ) → AreBytes None left bytes → 0 < length bytes → ⊥
-none_carried left bytes a some = let e = ap length a.1 in omega (arith, e, some)
+none_carried : (left words : List (List ℕ)) (bytes : List ℕ) → AreBytes None left bytes words → 0 < length bytes → ⊥
+none_carried left words bytes a some = let e = ap length a.1 in omega (arith, e, some)
 
 -- where there are bytes, the command carries them
-pub carries : (k : Kind) (numbers bytes : List ℕ) (left : List (List ℕ)) → AreBytes (most_bytes k) left bytes → 0 < length bytes → CarriesBytes (command_with k numbers bytes)
-carries kind.Put numbers bytes left a some = tt
-carries kind.Ship numbers bytes left a some = tt
-carries _ numbers bytes left a some = absurd (none_carried left bytes a some)
+pub carries : (k : Kind) (numbers bytes : List ℕ) (grants : GrantState) (left words : List (List ℕ)) → AreBytes (most_bytes k) left bytes words → 0 < length bytes
+    → CarriesBytes (event_with k numbers bytes grants)
+carries kind.Put numbers bytes grants left words a some = tt
+carries kind.Ship numbers bytes grants left words a some = tt
+carries kind.Ship2 numbers bytes grants left words a some = tt
+carries _ numbers bytes grants left words a some = absurd (none_carried left words bytes a some)
 
 -- a command that asks for so few bytes that they can be shown
-abbrev pub AsksShort : Command → Type 0
-AsksShort (Get n offset size) = size ≤ range_limit
-AsksShort (Stack m offset size) = size ≤ range_limit
+abbrev pub AsksShort : Event → Type 0
+AsksShort (Object n (Get offset size)) = size ≤ range_limit
+AsksShort (Machine m (Show (Stack offset size))) = size ≤ range_limit
 AsksShort _ = Unit {0}
 
-kind_asks_short : (k : Kind) (numbers bytes : List ℕ) → ((i : ℕ) → i < length (number_limits k) → IsWithin (get_or (number_limits k) i (within 0 0)) (slice_index numbers i)) → AsksShort (command_with k numbers bytes)
-kind_asks_short kind.Get numbers bytes w = (w 2 (omega arith)).1
-kind_asks_short kind.Stack numbers bytes w = (w 2 (omega arith)).1
-kind_asks_short _ numbers bytes w = tt
+kind_asks_short : (k : Kind) (numbers bytes : List ℕ) (grants : GrantState) → ((i : ℕ) → i < length (number_limits k) → IsWithin (get_or (number_limits k) i (within 0 0)) (slice_index numbers i))
+    → AsksShort (event_with k numbers bytes grants)
+kind_asks_short kind.Get numbers bytes grants w = (w 2 (omega arith)).1
+kind_asks_short kind.Stack numbers bytes grants w = (w 2 (omega arith)).1
+kind_asks_short _ numbers bytes grants w = tt
 
-said_short : (tokens : List (List ℕ)) (command : Command) → Says tokens command → AsksShort command
+said_short : (tokens : List (List ℕ)) (command : Event) → Says tokens command → AsksShort command
 said_short [] command s = absurd s
 said_short (name ∷ tokens) command s =
     let t = s.2 in
-    subst AsksShort (sym t.is_command) (kind_asks_short s.0 t.numbers t.bytes (numbers_within (number_limits s.0) tokens t.numbers t.left t.numbers_first))
+    subst AsksShort (sym t.is_command) (kind_asks_short s.0 t.numbers t.bytes t.grants (numbers_within (number_limits s.0) tokens t.numbers t.left t.numbers_first))
 
-pub asks_short : (line : List ℕ) (command : Command) → SpellsCommand line command → AsksShort command
+pub asks_short : (line : List ℕ) (command : Event) → SpellsCommand line command → AsksShort command
 asks_short line command s = said_short (tokens_of line) command s.1
 
 -- ---- replies
@@ -85,35 +119,41 @@ move_short told back n moved.Scoped short = tt
 move_short told back n moved.NoRoom short = tt
 move_short told back n (moved.Fault f) short = tt
 
-ran_short : (hit : Bool) (m slot : ℕ) → IsShort (cond hit (reply.Hit m slot) (reply.Ran m slot))
-ran_short true m slot = tt
-ran_short false m slot = tt
+moved_short : (m : WorldMove) (n : ℕ) → IsShort (moved_reply m n)
+moved_short move.Returned n = tt
+moved_short _ n = tt
 
-step_short : (m : ℕ) (answer : Stepped) (slot : ℕ) (d : DebugState) → IsShort (reply_to_step m answer slot d)
-step_short m (stepped.Ran wrote) slot d = ran_short (hits wrote d) m slot
-step_short m (stepped.Waiting n) slot d = tt
-step_short m (stepped.Stopped stop) slot d = tt
+step_short : (m : ℕ) (told : StepReply) → IsShort (reply_to_step m told)
+step_short m (step_reply.Stopped stop) = tt
+step_short m _ = tt
+
+debug_short : (told : Debugged) → IsShort (reply_to_debug told)
+debug_short debugged.Done = tt
+debug_short _ = tt
+
+show_short : (m : ℕ) (command : ShowCommand) (d : Debuggee) (told : ShowReply) → Shows command d told → AsksShort (Machine m (Show command)) → IsShort (reply_to_show m told)
+show_short m (Stack offset size) d (show_reply.Bytes shown) s short = let e = ap length s.1 in let l = length-take size (drop offset d.machine.stack) in omega (arith, e, l, short)
+show_short m _ d (show_reply.Bytes shown) s short = absurd s
+show_short m command d _ s short = tt
+
+command_short : (old new : Debuggee) (before after : StoreState) (m : ℕ) (command : MachineCommand) (r : Reply)
+    → (f : AnswersCommand (store_memory m) old before m command r new after) → AsksShort (Machine m command) → IsShort r
+command_short old new before after m (Step way) r f short = subst IsShort (sym f.1) (step_short m f.0)
+command_short old new before after m (Show command) r f short = subst IsShort (sym f.1) (show_short m command old f.0 f.2 short)
+command_short old new before after m (Debug command) r f short = subst IsShort (sym f.1) (debug_short f.0)
+
+object_short : (old new : WorldState) (n : ℕ) (command : ObjectCommand) (r : Reply) → AnswersObject old n command r new → AsksShort (Object n command) → IsShort r
+object_short old new n (Get offset size) (reply.Bytes shown) a short = let e = ap length a.0.2 in let l = length-take size (drop offset (bytes_of old.store.objects n)) in omega (arith, e, l, short)
+object_short old new n (Put offset bytes) (reply.Bytes shown) a short = absurd a
+object_short old new n Free (reply.Bytes shown) a short = subst IsShort (sym a.told) (move_short (reply.Freed n) place.Here n a.moved tt)
+object_short old new n (Move m) (reply.Bytes shown) a short = subst IsShort (sym a.told) (move_short (moved_reply m n) (place_before m) n a.moved (moved_short m n))
+object_short old new n command r a short = tt
 
 -- so few bytes are answered as were asked for
-pub answers_short : (old new : WorldState) (command : Command) (r : Reply) → Answers old command r new → AsksShort command → IsShort r
-answers_short old new (Get n offset size) (reply.Bytes shown) a short = let e = ap length a.0.2 in let l = length-take size (drop offset (bytes_of old.store.objects n)) in omega (arith, e, l, short)
-answers_short old new (Stack m offset size) (reply.Bytes shown) a short = let e = ap length a.0.2.1 in let l = length-take size (drop offset a.0.0.machine.stack) in omega (arith, e, l, short)
-answers_short old new (Free n) (reply.Bytes shown) a short = subst IsShort (sym a.told) (move_short (reply.Freed n) place.Here n a.moved tt)
-answers_short old new (Leave n) (reply.Bytes shown) a short = subst IsShort (sym a.told) (move_short (reply.Leaving n) place.Here n a.moved tt)
-answers_short old new (Left n) (reply.Bytes shown) a short = subst IsShort (sym a.told) (move_short (reply.Left n) place.Here n a.moved tt)
-answers_short old new (Return n) (reply.Bytes shown) a short = subst IsShort (sym a.told) (move_short (reply.Returning n) place.Far n a.moved tt)
-answers_short old new (Returned n) (reply.Bytes shown) a short = subst IsShort (sym a.told) (move_short (reply.Home n) place.Far n a.moved tt)
-answers_short old new (Step m) (reply.Bytes shown) a short = subst IsShort (sym a.told) (step_short m a.answer a.machine.slot a.debuggee.debugger)
-answers_short old new (One m) (reply.Bytes shown) a short = subst IsShort (sym a.told) (step_short m a.answer a.machine.slot a.debuggee.debugger)
+pub answers_short : (old new : WorldState) (command : Event) (r : Reply) → Answers old command r new → AsksShort command → IsShort r
 answers_short old new (Make size) (reply.Bytes shown) a short = absurd a
-answers_short old new (Put n offset bytes) (reply.Bytes shown) a short = absurd a
-answers_short old new (Ship fuel arguments code) (reply.Bytes shown) a short = absurd a.0
-answers_short old new (Regs m) (reply.Bytes shown) a short = absurd a.0
-answers_short old new (Out m) (reply.Bytes shown) a short = absurd a.0
-answers_short old new (Line m slot) (reply.Bytes shown) a short = absurd a.0
-answers_short old new (Break m slot) (reply.Bytes shown) a short = absurd a.0
-answers_short old new (Unbreak m slot) (reply.Bytes shown) a short = absurd a.0
-answers_short old new (Watch m address size) (reply.Bytes shown) a short = absurd a.0
-answers_short old new (Unwatch m address size) (reply.Bytes shown) a short = absurd a.0
-answers_short old new (Resume m) (reply.Bytes shown) a short = absurd a.0
+answers_short old new (Ship start code) (reply.Bytes shown) a short = absurd a.0
+answers_short old new (Object n command) r a short = object_short old new n command r a short
+answers_short old new (Machine m command) r (inl a) short = subst IsShort (sym a.told) tt
+answers_short old new (Machine m command) r (inr a) short = command_short a.debuggee a.left old.store new.store m command r a.answers short
 answers_short old new command r a short = tt

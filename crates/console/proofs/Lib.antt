@@ -1,5 +1,7 @@
 mod Finding
 pub mod LineTokens
+pub mod GrantWords
+pub mod HexPairs
 pub mod CommandReading
 pub mod Clips
 pub mod Exchanges

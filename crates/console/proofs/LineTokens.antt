@@ -118,12 +118,13 @@ numbers_one (l ∷ ls) (t ∷ tokens) (n ∷ ns) (m ∷ ms) left other a b =
 -- ---- bytes
 
 -- bytes are read in one way
-pub bytes_one : (most : Option ℕ) (tokens : List (List ℕ)) (xs ys : List ℕ) → AreBytes most tokens xs → AreBytes most tokens ys → xs ≡ ys
-bytes_one None tokens xs ys a b = a.1 ∙ sym b.1
-bytes_one (Some most) tokens xs ys a b =
-    let x : a.0 ∷ [] ≡ b.0 ∷ [] = sym a.1 ∙ b.1 in
+pub bytes_one : (most : Option ℕ) (tokens : List (List ℕ)) (xs ys : List ℕ) (left other : List (List ℕ)) → AreBytes most tokens xs left → AreBytes most tokens ys other → (xs ≡ ys) × (left ≡ other)
+bytes_one None tokens xs ys left other a b = (a.1 ∙ sym b.1, a.0 ∙ sym b.0)
+bytes_one (Some most) tokens xs ys left other a b =
+    let x : a.0 ∷ left ≡ b.0 ∷ other = sym a.1 ∙ b.1 in
     let y : b.0 ≡ a.0 = cc in
-    decode_of-same a.0 xs ys a.2.1 (subst (λ t. decode_of t ≡ Ok ys) y b.2.1)
+    let z : left ≡ other = cc in
+    (decode_of-same a.0 xs ys a.2.1 (subst (λ t. decode_of t ≡ Ok ys) y b.2.1), z)
 
 -- how long the hex text of bytes is
 pub hex_length : (text bytes : List ℕ) → decode_of text ≡ Ok bytes → length text ≡ 2 * length bytes
@@ -137,22 +138,19 @@ hex_empty text (b ∷ bytes) e d = absurd (let k = hex_length text (b ∷ bytes)
 pub hex_nothing : decode_of [] ≡ Ok []
 hex_nothing = let d = decode_of-digits [] refl (All-nil (λ x. is_hex_digit x ≡ true)) in hex_empty [] d.0 refl d.1
 
--- the last token is hex text
-pub bytes_given : (most : ℕ) (tokens left : List (List ℕ)) (text bytes : List ℕ) → tokens ≡ text ∷ left → left ≡ [] → IsHex text bytes → length bytes ≤ most
-    → (bytes : List ℕ) × AreBytes (Some most) tokens bytes × (decode_of text ≡ Ok bytes)
-bytes_given most tokens left text bytes e f h s = (bytes, (text, e ∙ ap (λ l. text ∷ l) f, h, s), h.1)
+-- the next token is hex text
+pub bytes_given : (most : ℕ) (tokens left : List (List ℕ)) (text bytes : List ℕ) → tokens ≡ text ∷ left → IsHex text bytes → length bytes ≤ most
+    → (bytes : List ℕ) × AreBytes (Some most) tokens bytes left × (decode_of text ≡ Ok bytes)
+bytes_given most tokens left text bytes e h s = (bytes, (text, e, h, s), h.1)
 
+-- the next token is no such text
 pub bytes_wrong : (most : ℕ) (tokens left : List (List ℕ)) (text : List ℕ) → tokens ≡ text ∷ left → ((bytes : List ℕ) → IsHex text bytes → length bytes ≤ most → ⊥)
-    → (bytes : List ℕ) → AreBytes (Some most) tokens bytes → ⊥
-bytes_wrong most tokens left text e none bytes a =
-    let x : text ∷ left ≡ a.0 ∷ [] = sym e ∙ a.1 in
+    → (bytes : List ℕ) (other : List (List ℕ)) → AreBytes (Some most) tokens bytes other → ⊥
+bytes_wrong most tokens left text e none bytes other a =
+    let x : text ∷ left ≡ a.0 ∷ other = sym e ∙ a.1 in
     let y : a.0 ≡ text = cc in
     none bytes (subst (λ t. IsHex t bytes) y a.2) a.3
 
-pub bytes_absent : (most : ℕ) (tokens : List (List ℕ)) → tokens ≡ [] → (bytes : List ℕ) → AreBytes (Some most) tokens bytes → ⊥
-bytes_absent most tokens e bytes a = absurd (let x : [] ≡ a.0 ∷ [] = sym e ∙ a.1 in cc)
-
-pub bytes_followed : (most : ℕ) (tokens left : List (List ℕ)) (text : List ℕ) → tokens ≡ text ∷ left → left ≢ [] → (bytes : List ℕ) → AreBytes (Some most) tokens bytes → ⊥
-bytes_followed most tokens left text e f bytes a =
-    let x : text ∷ left ≡ a.0 ∷ [] = sym e ∙ a.1 in
-    f cc
+-- there is no next token
+pub bytes_absent : (most : ℕ) (tokens : List (List ℕ)) → tokens ≡ [] → (bytes : List ℕ) (other : List (List ℕ)) → AreBytes (Some most) tokens bytes other → ⊥
+bytes_absent most tokens e bytes other a = absurd (let x : [] ≡ a.0 ∷ other = sym e ∙ a.1 in cc)

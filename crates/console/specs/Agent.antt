@@ -3,7 +3,7 @@ use Rattle.std.specs.Prelude.{ℕ, List, flat_map}
 use Rattle.world.specs.WorldState.{WorldState}
 use Rattle.world.specs.Answers.{Answers}
 use Rattle.world.specs.Unseen.{IsPlainRun}
-use Rattle.world.specs.declared.events.Reply.{Reply}
+use Rattle.world.specs.declared.replies.Reply.{Reply}
 use Rattle.console.specs.Replies.{reply_text}
 use Rattle.console.specs.Conversations.{Protocol, Exchange, turn_commands, turn_replies}
 

@@ -1,22 +1,30 @@
 -- Which line spells which command. Names, parameters and limits are this project's choice.
-use Rattle.std.specs.Prelude.{◌≡◌, ℕ, ◌≤◌, ◌-◌, ◌/◌, ◌^◌, List, [], ◌∷◌, length, slice_index, codes, if◌then◌else◌, Option, Some, None, Result, Ok, Err}
+use Rattle.std.specs.Prelude.{◌≡◌, ℕ, ◌≤◌, ◌-◌, ◌/◌, ◌^◌, Bool, true, false, List, [], ◌∷◌, length, slice_index, codes, if◌then◌else◌, Option, Some, None, Result, Ok, Err}
 use Rattle.std.specs.Str.{bytes_eq}
 use Rattle.loader.specs.ValidCode.{code_limit}
-use Rattle.memory.specs.Objects.{object_limit, object_bytes}
+use Rattle.memory.specs.Objects.{object_bytes}
 use Rattle.object_store.specs.Stores.{machine_limit}
-use Rattle.world.specs.declared.events.Event.{Event}
-use Rattle.world.specs.Commands.{Command, command_of}
-use Rattle.world.specs.Commands.Command.{Make, Free, Put, Get, Ship, Leave, Left, Return, Returned, Step, One, Regs, Out, Stack, Line, Break, Unbreak, Watch, Unwatch, Resume}
 use Rattle.machine.specs.MachineState.{stack_size}
+use Rattle.machine.specs.Grants.{GrantState}
+use Rattle.debugger.specs.declared.commands.MachineCommand.{MachineCommand}
+use Rattle.debugger.specs.declared.commands.MachineCommand.TheVariants.{Step, Show, Debug}
+use Rattle.debugger.specs.declared.commands.Way.TheVariants as way
+use Rattle.debugger.specs.declared.commands.ShowCommand.TheVariants.{Regs, Out, Stack, Line}
+use Rattle.debugger.specs.declared.commands.DebugCommand.TheVariants.{Break, Unbreak, Watch, Unwatch, Resume}
+use Rattle.world.specs.declared.events.Event.{Event}
+use Rattle.world.specs.declared.events.Event.TheVariants.{Make, Ship, Object, Machine}
+use Rattle.world.specs.declared.events.ObjectCommand.TheVariants.{Free, Put, Get, Move}
+use Rattle.world.specs.declared.events.Move.TheVariants as move
 use Rattle.console.specs.Lines.{line_limit}
 use Rattle.console.specs.Tokens.{tokens_of, within, AreNumbers, AreBytes}
+use Rattle.console.specs.Granting.{object_number, AreGrants}
 use Rattle.console.specs.declared.fault.LineFault.{LineFault}
 use Rattle.console.specs.declared.fault.LineFault.TheVariants.{Bad, NoMemory}
 use Rattle.console.specs.declared.kind.Kind.{Kind}
 use Rattle.console.specs.declared.kind.Kind.TheVariants as kind
 use Rattle.console.specs.declared.kind.Limits.{Limits}
 
--- ---- the table of commands: name, numbers, bytes, command
+-- ---- the table of commands: name, numbers, bytes, words, command
 
 -- the kind of command that has this name
 abbrev pub kind_named : List ℕ → Option Kind
@@ -26,6 +34,7 @@ kind_named name =
     (if bytes_eq name (codes "put") then Some kind.Put else
     (if bytes_eq name (codes "get") then Some kind.Get else
     (if bytes_eq name (codes "ship") then Some kind.Ship else
+    (if bytes_eq name (codes "ship2") then Some kind.Ship2 else
     (if bytes_eq name (codes "leave") then Some kind.Leave else
     (if bytes_eq name (codes "left") then Some kind.Left else
     (if bytes_eq name (codes "return") then Some kind.Return else
@@ -40,15 +49,11 @@ kind_named name =
     (if bytes_eq name (codes "unbreak") then Some kind.Unbreak else
     (if bytes_eq name (codes "watch") then Some kind.Watch else
     (if bytes_eq name (codes "unwatch") then Some kind.Unwatch else
-    (if bytes_eq name (codes "resume") then Some kind.Resume else None)))))))))))))))))))
+    (if bytes_eq name (codes "resume") then Some kind.Resume else None))))))))))))))))))))
 
 -- any number of 64 bits
 abbrev pub any_number : Limits
 any_number = within 0 (2 ^ 64 - 1)
-
--- the number of an object that there may be
-abbrev pub object_number : Limits
-object_number = within 1 object_limit
 
 -- the number of a machine that there may be
 abbrev pub machine_number : Limits
@@ -83,6 +88,7 @@ number_limits kind.Put = object_number ∷ object_offset ∷ []
 number_limits kind.Get = object_number ∷ object_offset ∷ range_length ∷ []
 -- fuel, and what R1 to R5 begin with
 number_limits kind.Ship = any_number ∷ any_number ∷ any_number ∷ any_number ∷ any_number ∷ any_number ∷ []
+number_limits kind.Ship2 = any_number ∷ any_number ∷ any_number ∷ any_number ∷ any_number ∷ any_number ∷ []
 number_limits kind.Leave = object_number ∷ []
 number_limits kind.Left = object_number ∷ []
 number_limits kind.Return = object_number ∷ []
@@ -105,64 +111,81 @@ abbrev pub most_bytes : Kind → Option ℕ
 most_bytes kind.Put = Some range_limit
 -- code, as much as the line holds
 most_bytes kind.Ship = Some line_limit
+most_bytes kind.Ship2 = Some line_limit
 most_bytes _ = None
 
--- the command of this kind, with these numbers and bytes
-abbrev pub command_with : Kind → List ℕ → List ℕ → Command
-command_with kind.Make numbers bytes = Make (slice_index numbers 0)
-command_with kind.Free numbers bytes = Free (slice_index numbers 0)
-command_with kind.Put numbers bytes = Put (slice_index numbers 0) (slice_index numbers 1) bytes
-command_with kind.Get numbers bytes = Get (slice_index numbers 0) (slice_index numbers 1) (slice_index numbers 2)
-command_with kind.Ship numbers bytes = Ship (slice_index numbers 0)
-    (slice_index numbers 1 ∷ slice_index numbers 2 ∷ slice_index numbers 3 ∷ slice_index numbers 4 ∷ slice_index numbers 5 ∷ []) bytes
-command_with kind.Leave numbers bytes = Leave (slice_index numbers 0)
-command_with kind.Left numbers bytes = Left (slice_index numbers 0)
-command_with kind.Return numbers bytes = Return (slice_index numbers 0)
-command_with kind.Returned numbers bytes = Returned (slice_index numbers 0)
-command_with kind.Step numbers bytes = Step (slice_index numbers 0)
-command_with kind.One numbers bytes = One (slice_index numbers 0)
-command_with kind.Regs numbers bytes = Regs (slice_index numbers 0)
-command_with kind.Out numbers bytes = Out (slice_index numbers 0)
-command_with kind.Stack numbers bytes = Stack (slice_index numbers 0) (slice_index numbers 1) (slice_index numbers 2)
-command_with kind.Line numbers bytes = Line (slice_index numbers 0) (slice_index numbers 1)
-command_with kind.Break numbers bytes = Break (slice_index numbers 0) (slice_index numbers 1)
-command_with kind.Unbreak numbers bytes = Unbreak (slice_index numbers 0) (slice_index numbers 1)
-command_with kind.Watch numbers bytes = Watch (slice_index numbers 0) (slice_index numbers 1) (slice_index numbers 2)
-command_with kind.Unwatch numbers bytes = Unwatch (slice_index numbers 0) (slice_index numbers 1) (slice_index numbers 2)
-command_with kind.Resume numbers bytes = Resume (slice_index numbers 0)
+-- whether words that grant objects may come last
+abbrev pub takes_grants : Kind → Bool
+takes_grants kind.Ship2 = true
+takes_grants _ = false
+
+-- a machine made of the code
+abbrev pub ship_with : List ℕ → List ℕ → GrantState → Event
+ship_with numbers bytes grants = Ship record {
+  fuel = slice_index numbers 0;
+  arguments = slice_index numbers 1 ∷ slice_index numbers 2 ∷ slice_index numbers 3 ∷ slice_index numbers 4 ∷ slice_index numbers 5 ∷ [];
+  grants = grants;
+} bytes
+
+-- the command of this kind, with these numbers, bytes and grants
+abbrev pub event_with : Kind → List ℕ → List ℕ → GrantState → Event
+event_with kind.Make numbers bytes grants = Make (slice_index numbers 0)
+event_with kind.Free numbers bytes grants = Object (slice_index numbers 0) Free
+event_with kind.Put numbers bytes grants = Object (slice_index numbers 0) (Put (slice_index numbers 1) bytes)
+event_with kind.Get numbers bytes grants = Object (slice_index numbers 0) (Get (slice_index numbers 1) (slice_index numbers 2))
+event_with kind.Ship numbers bytes grants = ship_with numbers bytes grants
+event_with kind.Ship2 numbers bytes grants = ship_with numbers bytes grants
+event_with kind.Leave numbers bytes grants = Object (slice_index numbers 0) (Move move.Leave)
+event_with kind.Left numbers bytes grants = Object (slice_index numbers 0) (Move move.Left)
+event_with kind.Return numbers bytes grants = Object (slice_index numbers 0) (Move move.Return)
+event_with kind.Returned numbers bytes grants = Object (slice_index numbers 0) (Move move.Returned)
+event_with kind.Step numbers bytes grants = Machine (slice_index numbers 0) (Step way.Step)
+event_with kind.One numbers bytes grants = Machine (slice_index numbers 0) (Step way.One)
+event_with kind.Regs numbers bytes grants = Machine (slice_index numbers 0) (Show Regs)
+event_with kind.Out numbers bytes grants = Machine (slice_index numbers 0) (Show Out)
+event_with kind.Stack numbers bytes grants = Machine (slice_index numbers 0) (Show (Stack (slice_index numbers 1) (slice_index numbers 2)))
+event_with kind.Line numbers bytes grants = Machine (slice_index numbers 0) (Show (Line (slice_index numbers 1)))
+event_with kind.Break numbers bytes grants = Machine (slice_index numbers 0) (Debug (Break (slice_index numbers 1)))
+event_with kind.Unbreak numbers bytes grants = Machine (slice_index numbers 0) (Debug (Unbreak (slice_index numbers 1)))
+event_with kind.Watch numbers bytes grants = Machine (slice_index numbers 0) (Debug (Watch (slice_index numbers 1) (slice_index numbers 2)))
+event_with kind.Unwatch numbers bytes grants = Machine (slice_index numbers 0) (Debug (Unwatch (slice_index numbers 1) (slice_index numbers 2)))
+event_with kind.Resume numbers bytes grants = Machine (slice_index numbers 0) (Debug Resume)
 
 -- ---- lines
 
--- The tokens after the name are the numbers and the bytes of this command of that kind.
-pub record SaysOfKind (kind : Kind) (tokens : List (List ℕ)) (command : Command) : Type 0 where
+-- The tokens after the name are the numbers, the bytes and the words of this command of that kind.
+pub record SaysOfKind (kind : Kind) (tokens : List (List ℕ)) (command : Event) : Type 0 where
   pub numbers : List ℕ
   pub bytes : List ℕ
+  pub grants : GrantState
   pub left : List (List ℕ)
+  pub words : List (List ℕ)
   pub numbers_first : AreNumbers (number_limits kind) tokens numbers left
-  pub bytes_last : AreBytes (most_bytes kind) left bytes
-  pub is_command : command ≡ command_with kind numbers bytes
+  pub bytes_next : AreBytes (most_bytes kind) left bytes words
+  pub grants_last : AreGrants (takes_grants kind) words grants
+  pub is_command : command ≡ event_with kind numbers bytes grants
 
 -- the tokens say the command
-abbrev pub Says : List (List ℕ) → Command → Type 0
+abbrev pub Says : List (List ℕ) → Event → Type 0
 Says [] command = ⊥
 Says (name ∷ tokens) command = (kind : Kind) × (kind_named name ≡ Some kind) × SaysOfKind kind tokens command
 
 -- The line spells the command.
-abbrev pub SpellsCommand : List ℕ → Command → Type 0
+abbrev pub SpellsCommand : List ℕ → Event → Type 0
 SpellsCommand line command = (length line ≤ line_limit) × Says (tokens_of line) command
 
 -- The line spells no command.
 abbrev pub SpellsNone : List ℕ → Type 0
-SpellsNone line = (command : Command) → SpellsCommand line command → ⊥
+SpellsNone line = (command : Event) → SpellsCommand line command → ⊥
 
 -- the commands that carry bytes: reading them may be out of memory
-abbrev pub CarriesBytes : Command → Type 0
-CarriesBytes (Put n offset bytes) = Unit {0}
-CarriesBytes (Ship fuel arguments code) = Unit {0}
+abbrev pub CarriesBytes : Event → Type 0
+CarriesBytes (Object n (Put offset bytes)) = Unit {0}
+CarriesBytes (Ship start code) = Unit {0}
 CarriesBytes _ = ⊥
 
 -- what may be read where these are the commands that are said
-abbrev pub Reads : (Command → Type 0) → Result Event LineFault → Type 0
-Reads IsSaid (Ok event) = IsSaid (command_of event)
-Reads IsSaid (Err Bad) = (command : Command) → IsSaid command → ⊥
-Reads IsSaid (Err NoMemory) = (command : Command) × IsSaid command × CarriesBytes command
+abbrev pub Reads : (Event → Type 0) → Result Event LineFault → Type 0
+Reads IsSaid (Ok command) = IsSaid command
+Reads IsSaid (Err Bad) = (command : Event) → IsSaid command → ⊥
+Reads IsSaid (Err NoMemory) = (command : Event) × IsSaid command × CarriesBytes command

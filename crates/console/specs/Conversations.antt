@@ -1,7 +1,7 @@
 -- A whole conversation: lines in, their replies out, and the run of commands between them. Who answers the commands is a parameter.
 use Rattle.std.specs.Prelude.{◌≡◌, ℕ, ◌<◌, List, [], ◌∷◌, ◌++◌, length, All, flat_map, ◌⊎◌, Option, Some}
 use Rattle.std.specs.Io.KnownBytes.{Appends}
-use Rattle.world.specs.Commands.{Command}
+use Rattle.world.specs.declared.events.Event.{Event}
 use Rattle.world.specs.Run.{Runs}
 use Rattle.console.specs.Lines.{IsLine, ended, bad_text, nomem_text, cut_of}
 use Rattle.console.specs.Commands.{SpellsCommand, SpellsNone, CarriesBytes}
@@ -11,12 +11,12 @@ use Rattle.console.specs.Held.{Held, open_line}
 pub record Protocol : Type 1 where
   pub State : Type 0
   pub Reply : Type 0
-  pub step : State → Command → Reply → State → Type 0
+  pub step : State → Event → Reply → State → Type 0
   pub text : Reply → List ℕ
 
 -- A line with its reply: it spells a command that was done, or one whose bytes found no memory when they were read, or none.
 pub data Turn (p : Protocol) : Type 0 where
-  Done : List ℕ → Command → p.Reply → Turn p
+  Done : List ℕ → Event → p.Reply → Turn p
   Unread : List ℕ → Turn p
   Bad : List ℕ → Turn p
 
@@ -33,7 +33,7 @@ turn_text p (Unread line) = nomem_text
 turn_text p (Bad line) = bad_text
 
 -- the command that was done
-abbrev pub turn_commands : (p : Protocol) → Turn p → List Command
+abbrev pub turn_commands : (p : Protocol) → Turn p → List Event
 turn_commands p (Done line command reply) = command ∷ []
 turn_commands p (Unread line) = []
 turn_commands p (Bad line) = []
@@ -47,7 +47,7 @@ turn_replies p (Bad line) = []
 -- the line is a line, and spells what the turn says
 abbrev pub IsTurn : (p : Protocol) → Turn p → Type 0
 IsTurn p (Done line command reply) = IsLine line × SpellsCommand line command
-IsTurn p (Unread line) = IsLine line × ((command : Command) × SpellsCommand line command × CarriesBytes command)
+IsTurn p (Unread line) = IsLine line × ((command : Event) × SpellsCommand line command × CarriesBytes command)
 IsTurn p (Bad line) = IsLine line × SpellsNone line
 
 -- the lines, each with its end

@@ -1,6 +1,7 @@
 pub mod Faults
 pub mod Lines
 pub mod Tokens
+pub mod Granting
 pub mod Commands
 pub mod Replies
 pub mod Held

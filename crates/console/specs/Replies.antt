@@ -10,8 +10,8 @@ use Rattle.object_store.specs.declared.places.Place.TheVariants as place
 use Rattle.debugger.specs.declared.shown.State.{State}
 use Rattle.debugger.specs.declared.shown.State.TheVariants as state
 use Rattle.debugger.specs.declared.shown.Shown.{Shown}
-use Rattle.world.specs.declared.events.Reply.{Reply}
-use Rattle.world.specs.declared.events.Reply.TheVariants as reply
+use Rattle.world.specs.declared.replies.Reply.{Reply}
+use Rattle.world.specs.declared.replies.Reply.TheVariants as reply
 use Rattle.console.specs.Lines.{nomem_text}
 use Rattle.console.specs.Commands.{range_limit}
 
@@ -31,6 +31,7 @@ stop_name stop.Misaligned = codes "misaligned"
 stop_name stop.Depth = codes "depth"
 stop_name stop.Spent = codes "spent"
 stop_name stop.Worn = codes "worn"
+stop_name stop.NotGranted = codes "notgranted"
 
 -- the value of a stop, if it has one
 abbrev pub stop_value_text : Stop → List ℕ

@@ -39,10 +39,10 @@ AreNumbers [] tokens [] left = left ≡ tokens
 AreNumbers (limits ∷ more) (token ∷ tokens) (n ∷ numbers) left = IsNumberWithin limits token n × AreNumbers more tokens numbers left
 AreNumbers _ _ _ _ = ⊥
 
--- where there may be bytes, at most so many, one token is left, which is their hex text; else no token is left
-abbrev pub AreBytes : Option ℕ → List (List ℕ) → List ℕ → Type 0
-AreBytes (Some most) tokens bytes = (token : List ℕ) × (tokens ≡ token ∷ []) × IsHex token bytes × (length bytes ≤ most)
-AreBytes None tokens bytes = (tokens ≡ []) × (bytes ≡ [])
+-- where there may be bytes, at most so many, the first token is their hex text; the other tokens are left
+abbrev pub AreBytes : Option ℕ → List (List ℕ) → List ℕ → List (List ℕ) → Type 0
+AreBytes (Some most) tokens bytes left = (token : List ℕ) × (tokens ≡ token ∷ left) × IsHex token bytes × (length bytes ≤ most)
+AreBytes None tokens bytes left = (left ≡ tokens) × (bytes ≡ [])
 
 -- the tokens of the rest of a line; none where there is no rest
 abbrev pub left_of : Option (Bor (List ℕ)) → List (List ℕ)

@@ -1,15 +1,15 @@
 //! Tokens in, commands out.
-ghost use Rattle.std.specs.Prelude.{◌≡◌, ◌<◌, ◌^◌, ℕ, List, length, take, get_or, slice_index, IfOk, IfErr};
+ghost use Rattle.std.specs.Prelude.{◌≡◌, ◌<◌, ℕ, List, length, IfOk, IfErr};
 ghost use Rattle.hex.specs.Hex.{decode_of};
-ghost use Rattle.world.specs.Commands.{command_of};
-ghost use Rattle.console.specs.Tokens.{tokens_left, within, IsWithin};
-ghost use Rattle.console.specs.Commands.{Reads, Says, SaysOfKind, SpellsCommand, command_with, number_limits};
+ghost use Rattle.console.specs.Tokens.{tokens_left};
+ghost use Rattle.console.specs.Commands.{Reads, Says, SaysOfKind, SpellsCommand};
 
+use crate::digits::write_bytes;
 use crate::fault::LineFault;
-use crate::kind::{Kind, NUMBERS};
+use crate::kind::Kind;
 use crate::tokens::Tokens;
 use std::alloc::Global;
-use world::{Event, ObjectLength};
+use world::{Bytes, Event};
 
 /// The most bytes that a line may have, without its end (this project's choice).
 pub const LINE_LIMIT: usize = 70_000;
@@ -35,7 +35,7 @@ fn read_tokens<'a>(alloc: Global, mut tokens: Tokens<'a>) -> Result<Event, LineF
     }
 }
 
-/// What the tokens after the name say.
+/// What the tokens after the name say. Memory is asked for only once they all say something.
 fn read_parameters<'a>(
     alloc: Global,
     kind: Kind,
@@ -45,89 +45,25 @@ fn read_parameters<'a>(
 {
     let numbers = tokens.numbers(kind.numbers())?;
     let text = tokens.bytes(kind.bytes())?;
+    let grants = tokens.grants(kind.takes_grants())?;
     let bytes = decode(alloc, text)?;
-    Ok(event_with(kind, numbers, bytes))
+    Ok(kind.event(numbers, bytes, grants))
 }
 
 /// The bytes of hex text. Where there is no text, no memory is needed.
-fn decode(alloc: Global, text: &[u8]) -> Result<Vec<u8>, LineFault>
+fn decode(alloc: Global, text: &[u8]) -> Result<Bytes, LineFault>
     requires { (bytes : List ℕ) × (decode_of text.now ≡ Ok bytes) }
-    ensures ok { IfOk result (λ bytes. decode_of text.now ≡ Ok bytes.items) }
+    ensures ok { IfOk result (λ bytes. decode_of text.now ≡ Ok bytes) }
     ensures err { IfErr result (λ e. (e ≡ LineFault.NoMemory) × (0 < length text.now)) }
 {
     if text.is_empty() {
-        return Ok(Vec::new(alloc));
+        return Ok(Bytes::new(Vec::new(alloc)));
     }
-    match hex::decode(alloc, text) {
-        Ok(bytes) => Ok(bytes),
+    match vec![in alloc; 0u8; text.len() / 2] {
+        Ok(mut bytes) => {
+            write_bytes(text, bytes.as_mut_slice());
+            Ok(Bytes::new(bytes))
+        }
         Err(_) => Err(LineFault::NoMemory),
-    }
-}
-
-/// The number's low 32 bits: all of it, where it is so small.
-fn low_half(number: u64) -> u32
-    ensures { number < 2 ^ 32 → result ≡ number }
-{
-    (number & u32::MAX as u64) as u32
-}
-
-/// The command of this kind, with these numbers and bytes.
-fn event_with(kind: Kind, numbers: [u64; NUMBERS], bytes: Vec<u8>) -> Event
-    requires { (i : ℕ) → i < length (number_limits kind) → IsWithin (get_or (number_limits kind) i (within 0 0)) (slice_index numbers i) }
-    ensures { command_of result ≡ command_with kind (take (length (number_limits kind)) numbers) bytes.items }
-{
-    let machine = numbers[0] as usize;
-    let object = low_half(numbers[0]);
-    let offset = low_half(numbers[1]);
-    let slot = low_half(numbers[1]);
-    let address = numbers[1];
-    let length = low_half(numbers[2]);
-    match kind {
-        Kind::Make => Event::Make {
-            length: ObjectLength::new(numbers[0]).unwrap(),
-        },
-        Kind::Free => Event::Free { object },
-        Kind::Put => Event::Put {
-            object,
-            offset,
-            bytes,
-        },
-        Kind::Get => Event::Get {
-            object,
-            offset,
-            length,
-        },
-        Kind::Ship => Event::Ship {
-            fuel: numbers[0],
-            arguments: [numbers[1], numbers[2], numbers[3], numbers[4], numbers[5]],
-            code: bytes,
-        },
-        Kind::Leave => Event::Leave { object },
-        Kind::Left => Event::Left { object },
-        Kind::Return => Event::Return { object },
-        Kind::Returned => Event::Returned { object },
-        Kind::Step => Event::Step { machine },
-        Kind::One => Event::One { machine },
-        Kind::Regs => Event::Regs { machine },
-        Kind::Out => Event::Out { machine },
-        Kind::Stack => Event::Stack {
-            machine,
-            offset,
-            length,
-        },
-        Kind::Line => Event::Line { machine, slot },
-        Kind::Break => Event::Break { machine, slot },
-        Kind::Unbreak => Event::Unbreak { machine, slot },
-        Kind::Watch => Event::Watch {
-            machine,
-            address,
-            length,
-        },
-        Kind::Unwatch => Event::Unwatch {
-            machine,
-            address,
-            length,
-        },
-        Kind::Resume => Event::Resume { machine },
     }
 }

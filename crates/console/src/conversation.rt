@@ -1,94 +1,84 @@
 //! Bytes in, bytes out.
-ghost use Rattle.std.specs.Prelude.{◌≡◌, ◌++◌, ◌<◌, ◌≤◌, ℕ, List, [], length, Ok, IfSome, OnOk, OnErr, IsFalse};
+ghost use Rattle.std.specs.Prelude.{◌≡◌, ◌++◌, ◌<◌, ◌≤◌, ℕ, List, [], length, IfSome, OnOk, OnErr, IsFalse};
 ghost use Rattle.std.specs.Result.{IsErrOf};
-ghost use Rattle.world.specs.Commands.{command_of};
-ghost use Rattle.world.specs.Answers.{Answers};
-ghost use Rattle.world.specs.declared.events.Reply.{Reply};
-ghost use Rattle.console.specs.Lines.{IsLine, ended};
-ghost use Rattle.console.specs.Replies.{reply_text};
+ghost use Rattle.console.specs.Lines.{IsLine};
 ghost use Rattle.console.specs.Commands.{Reads, SpellsCommand};
 ghost use Rattle.console.specs.Held.{bytes_so_far, clip, held_bytes, nothing_held};
 ghost use Rattle.console.specs.Conversations.{Answered, AnswersSoFar, AnswersAll, FailsInReply, StopsReading, StopsWriting};
 ghost use Rattle.console.specs.Agent.{agent};
 
+use crate::answerer::Answerer;
 use crate::console::Console;
 use crate::fault::{DriveFault, LineFault};
-use crate::replies::{ReplyLine, print_fault, print_reply, print_step};
-use crate::writing::{WriteFault, put_all};
+use crate::replies::{ReplyLine, print_fault};
 use far_store::FarStore;
 use std::io::{Read, Write};
+use streams::{WriteFault, put_all};
 use world::{Event, World};
 
 /// How many bytes a read asks for.
 const PIECE: usize = 4096;
 
-/// Does a command that a line spells, and makes the line of the reply.
-fn perform_event<F: FarStore>(world: &mut World<F>, event: Event, reply: &mut ReplyLine)
-    requires { (line : List ℕ) × Reads (SpellsCommand line) (Ok event) }
-    ensures { (told : Reply) × Answers world.old (command_of event) told world.new × (reply.new.items ≡ ended (reply_text told)) }
-{
-    print_reply(&world.apply(event), reply);
-}
-
 /// Does what a line says, and makes the line of the reply.
-fn perform<F: FarStore>(
-    world: &mut World<F>,
+fn perform<C, A: Answerer<C>>(
+    shared: &C,
+    answerer: &mut A,
     command: Result<Event, LineFault>,
     reply: &mut ReplyLine,
 )
     requires { (line : List ℕ) × Reads (SpellsCommand line) command }
-    ensures { (line : List ℕ) → IsLine line → Reads (SpellsCommand line) command → Answered agent world.old line reply.new.items world.new }
+    ensures { (line : List ℕ) → IsLine line → Reads (SpellsCommand line) command → Answered A.protocol (A.state answerer.old) line reply.new.items (A.state answerer.new) }
 {
     match command {
-        // a step's reply is small, and isn't moved as one that may be large
-        Ok(Event::Step { machine }) => print_step(machine, world.step(machine), reply),
-        Ok(event) => perform_event(world, event, reply),
+        Ok(event) => answerer.perform(shared, event, reply),
         Err(fault) => print_fault(fault, reply),
     }
 }
 
 /// Answers the line that waits, if one does.
-fn answer_waiting<F: FarStore, W: Write>(
+fn answer_waiting<C, A: Answerer<C>, W: Write>(
     writer: &mut W,
     console: &mut Console,
-    world: &mut World<F>,
+    shared: &C,
+    answerer: &mut A,
     reply: &mut ReplyLine,
 ) -> Result<(), WriteFault>
     ensures ok { OnOk result ((line : List ℕ) → IsLine line → console.old.line ≡ clip line →
-        AnswersSoFar agent world.old (bytes_so_far line console.old.waits) (W.contents writer.old) (W.contents writer.new) world.new console.new) }
+        AnswersSoFar A.protocol (A.state answerer.old) (bytes_so_far line console.old.waits) (W.contents writer.old) (W.contents writer.new) (A.state answerer.new) console.new) }
     ensures err { OnErr result ((line : List ℕ) → IsLine line → console.old.line ≡ clip line →
-        FailsInReply agent [] world.old (bytes_so_far line console.old.waits) (W.contents writer.old) (W.contents writer.new) world.new) }
+        FailsInReply A.protocol [] (A.state answerer.old) (bytes_so_far line console.old.waits) (W.contents writer.old) (W.contents writer.new) (A.state answerer.new)) }
     ensures open { OnOk result (IsFalse console.new.waits) }
     ensures dropped { OnErr result (console.new ≡ nothing_held) }
     ensures line { IsLine console.old.line × (clip console.old.line ≡ console.old.line) }
 {
     if let Some(command) = console.next_command() {
-        perform(world, command, reply);
+        perform(shared, answerer, command, reply);
         put_all(writer, reply)?;
     }
     Ok(())
 }
 
 /// Answers what is said in this piece of the input.
-fn answer_piece<F: FarStore, W: Write>(
+fn answer_piece<C, A: Answerer<C>, W: Write>(
     piece: &[u8],
     writer: &mut W,
     console: &mut Console,
-    world: &mut World<F>,
+    shared: &C,
+    answerer: &mut A,
     reply: &mut ReplyLine,
 ) -> Result<(), WriteFault>
     requires { IsFalse console.old.waits }
     ensures ok { OnOk result ((line : List ℕ) → IsLine line → console.old.line ≡ clip line →
-        AnswersSoFar agent world.old (line ++ piece.now) (W.contents writer.old) (W.contents writer.new) world.new console.new) }
+        AnswersSoFar A.protocol (A.state answerer.old) (line ++ piece.now) (W.contents writer.old) (W.contents writer.new) (A.state answerer.new) console.new) }
     ensures err { OnErr result ((line : List ℕ) → IsLine line → console.old.line ≡ clip line → (ahead : List ℕ) × (length ahead < length piece.now)
-        × FailsInReply agent ahead world.old (line ++ piece.now) (W.contents writer.old) (W.contents writer.new) world.new) }
+        × FailsInReply A.protocol ahead (A.state answerer.old) (line ++ piece.now) (W.contents writer.old) (W.contents writer.new) (A.state answerer.new)) }
     ensures dropped { OnErr result (console.new ≡ nothing_held) }
 {
     let mut rest = piece;
     while !rest.is_empty() {
         let taken = console.feed(rest);
         rest = &rest[taken..];
-        answer_waiting(writer, console, world, reply)?;
+        answer_waiting(writer, console, shared, answerer, reply)?;
     }
     Ok(())
 }
@@ -97,11 +87,48 @@ fn answer_piece<F: FarStore, W: Write>(
 /// Trailing bytes without a line end are answered `cut` and dropped. Each reply is written before
 /// more is read, and by as few writes as the writer needs.
 ///
-/// The world has done the commands of all lines that were heard, and no other. After
+/// The commands of all lines that were heard are done, and no other. After
 /// `DriveFault::Read` all replies to them are written, and the console holds what was heard of the
 /// next line. After `DriveFault::Write` the last of the replies, or `cut`, is written in part or
 /// not at all, and the console holds nothing. Any error of the reader or the writer ends the
 /// conversation, an interrupted call too.
+pub fn converse<C, A: Answerer<C>, R: Read, W: Write>(
+    reader: &mut R,
+    writer: &mut W,
+    console: &mut Console,
+    shared: &C,
+    answerer: &mut A,
+) -> Result<(), DriveFault>
+    ensures ok { OnOk result (IfSome (R.remaining reader.old) (λ input.
+        AnswersAll A.protocol (A.state answerer.old) (held_bytes console.old ++ input) (W.contents writer.old) (W.contents writer.new) (A.state answerer.new))) }
+    ensures read { IsErrOf result DriveFault.Read → IfSome (R.remaining reader.old) (λ input.
+        StopsReading A.protocol (A.state answerer.old) (held_bytes console.old ++ input) (W.contents writer.old) (W.contents writer.new) (A.state answerer.new) console.new (R.remaining reader.new)) }
+    ensures write { IsErrOf result DriveFault.Write → IfSome (R.remaining reader.old) (λ input.
+        StopsWriting A.protocol (A.state answerer.old) (held_bytes console.old ++ input) (W.contents writer.old) (W.contents writer.new) (A.state answerer.new) (R.remaining reader.new)) }
+    ensures emptied { OnOk result (console.new ≡ nothing_held) }
+    ensures dropped { IsErrOf result DriveFault.Write → console.new ≡ nothing_held }
+{
+    let mut reply = ReplyLine::new();
+    answer_waiting(writer, console, shared, answerer, &mut reply)?;
+    let mut piece = [0u8; PIECE];
+    for _ in 0..u64::MAX {
+        match reader.read(&mut piece) {
+            Ok(0) => {
+                let cut = console.rest();
+                console.clear();
+                if cut {
+                    put_all(writer, b"cut\n")?;
+                }
+                return Ok(());
+            }
+            Ok(n) => answer_piece(&piece[..n], writer, console, shared, answerer, &mut reply)?,
+            Err(_) => return Err(DriveFault::Read),
+        }
+    }
+    Err(DriveFault::Read)
+}
+
+/// Answers each line of the input by one world, as [`converse`] says.
 pub fn drive<F: FarStore, R: Read, W: Write>(
     reader: &mut R,
     writer: &mut W,
@@ -117,22 +144,5 @@ pub fn drive<F: FarStore, R: Read, W: Write>(
     ensures emptied { OnOk result (console.new ≡ nothing_held) }
     ensures dropped { IsErrOf result DriveFault.Write → console.new ≡ nothing_held }
 {
-    let mut reply = ReplyLine::new();
-    answer_waiting(writer, console, world, &mut reply)?;
-    let mut piece = [0u8; PIECE];
-    for _ in 0..u64::MAX {
-        match reader.read(&mut piece) {
-            Ok(0) => {
-                let cut = console.rest();
-                console.clear();
-                if cut {
-                    put_all(writer, b"cut\n")?;
-                }
-                return Ok(());
-            }
-            Ok(n) => answer_piece(&piece[..n], writer, console, world, &mut reply)?,
-            Err(_) => return Err(DriveFault::Read),
-        }
-    }
-    Err(DriveFault::Read)
+    converse(reader, writer, console, &(), world)
 }

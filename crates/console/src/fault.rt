@@ -1,7 +1,9 @@
 //! What can go wrong.
 ghost use Rattle.std.specs.Prelude.{◌≡◌};
 ghost use Rattle.console.specs.Faults.{line_fault_number, drive_fault_number};
+ghost use Rattle.console.specs.declared.fault.DriveFault.TheVariants.{Write as WriteFailed};
 
+use streams::WriteFault;
 use thiserror::Error;
 
 /// Why a line gives no command.
@@ -41,5 +43,13 @@ impl DriveFault {
         ensures { result ≡ drive_fault_number self }
     {
         self as u8
+    }
+}
+
+impl From<WriteFault> for DriveFault {
+    ghost from_gives = { λ _ fault. fault ≡ WriteFailed };
+
+    fn from(_fault: WriteFault) -> DriveFault {
+        DriveFault::Write
     }
 }

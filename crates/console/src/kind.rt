@@ -1,10 +1,16 @@
 //! The commands: their names, and what comes after the name. All of it is this project's choice.
-ghost use Rattle.std.specs.Prelude.{◌≡◌, ◌≤◌, length};
-ghost use Rattle.console.specs.Commands.{kind_named, number_limits, most_bytes};
+ghost use Rattle.std.specs.Prelude.{◌≡◌, ◌≤◌, ◌<◌, ◌^◌, ℕ, take, get_or, slice_index, length};
+ghost use Rattle.console.specs.Tokens.{within, IsWithin};
+ghost use Rattle.console.specs.Commands.{event_with, kind_named, number_limits, most_bytes, takes_grants};
 
 use crate::commands::LINE_LIMIT;
+use loader::CODE_LIMIT;
+use machine::{Grants, STACK_SIZE};
 use memory::{OBJECT_BYTES, OBJECT_LIMIT};
-use world::MACHINE_LIMIT;
+use world::{
+    Bytes, DebugCommand, Event, MACHINE_LIMIT, MachineCommand, Move, ObjectCommand, ObjectLength,
+    ShowCommand, Start, Way,
+};
 
 /// The command that a line's first token names.
 #[derive(Clone, Copy, Debug, PartialEq, Eq)]
@@ -14,6 +20,7 @@ pub enum Kind {
     Put,
     Get,
     Ship,
+    Ship2,
     Leave,
     Left,
     Return,
@@ -57,7 +64,7 @@ const OBJECT_LENGTH: Limits = Limits {
 };
 
 /// The number of an object that there may be.
-const OBJECT: Limits = Limits {
+pub const OBJECT: Limits = Limits {
     least: 1,
     most: OBJECT_LIMIT as u64,
 };
@@ -77,19 +84,19 @@ const OBJECT_OFFSET: Limits = Limits {
 /// Where a range of a stack's bytes may begin.
 const STACK_OFFSET: Limits = Limits {
     least: 0,
-    most: 4095,
+    most: STACK_SIZE as u64 - 1,
 };
 
 /// A slot of code that there may be.
 const SLOT: Limits = Limits {
     least: 0,
-    most: 4095,
+    most: CODE_LIMIT as u64 / 8 - 1,
 };
 
 /// How many bytes may be shown at once, or watched as one range.
 const RANGE_LENGTH: Limits = Limits {
     least: 1,
-    most: 4096,
+    most: RANGE_LIMIT as u64,
 };
 
 impl Kind {
@@ -107,6 +114,8 @@ impl Kind {
             Some(Kind::Get)
         } else if name == b"ship".as_slice() {
             Some(Kind::Ship)
+        } else if name == b"ship2".as_slice() {
+            Some(Kind::Ship2)
         } else if name == b"leave".as_slice() {
             Some(Kind::Leave)
         } else if name == b"left".as_slice() {
@@ -153,6 +162,7 @@ impl Kind {
             Kind::Put => &[OBJECT, OBJECT_OFFSET],
             Kind::Get => &[OBJECT, OBJECT_OFFSET, RANGE_LENGTH],
             Kind::Ship => &[ANY, ANY, ANY, ANY, ANY, ANY],
+            Kind::Ship2 => &[ANY, ANY, ANY, ANY, ANY, ANY],
             Kind::Leave => &[OBJECT],
             Kind::Left => &[OBJECT],
             Kind::Return => &[OBJECT],
@@ -177,8 +187,94 @@ impl Kind {
     {
         match self {
             Kind::Put => Some(RANGE_LIMIT),
-            Kind::Ship => Some(LINE_LIMIT),
+            Kind::Ship | Kind::Ship2 => Some(LINE_LIMIT),
             _ => None,
         }
     }
+
+    /// Whether words that grant objects may come last.
+    pub fn takes_grants(self) -> bool
+        ensures { result ≡ takes_grants self }
+    {
+        matches!(self, Kind::Ship2)
+    }
+
+    /// The command of this kind, with these numbers, bytes and grants.
+    pub fn event(self, numbers: [u64; NUMBERS], bytes: Bytes, grants: Grants) -> Event
+        requires { (i : ℕ) → i < length (number_limits self) → IsWithin (get_or (number_limits self) i (within 0 0)) (slice_index numbers i) }
+        ensures { result ≡ event_with self (take (length (number_limits self)) numbers) bytes grants }
+    {
+        let number = low_half(numbers[0]);
+        let machine = numbers[0] as usize;
+        let offset = low_half(numbers[1]);
+        let slot = low_half(numbers[1]);
+        let address = numbers[1];
+        let length = low_half(numbers[2]);
+        match self {
+            Kind::Make => Event::Make {
+                length: ObjectLength::new(numbers[0]).unwrap(),
+            },
+            Kind::Ship | Kind::Ship2 => Event::Ship {
+                start: Start {
+                    fuel: numbers[0],
+                    arguments: [numbers[1], numbers[2], numbers[3], numbers[4], numbers[5]],
+                    grants,
+                },
+                code: bytes,
+            },
+            Kind::Free => of_object(number, ObjectCommand::Free),
+            Kind::Put => of_object(number, ObjectCommand::Put { offset, bytes }),
+            Kind::Get => of_object(number, ObjectCommand::Get { offset, length }),
+            Kind::Leave => of_object(number, ObjectCommand::Move(Move::Leave)),
+            Kind::Left => of_object(number, ObjectCommand::Move(Move::Left)),
+            Kind::Return => of_object(number, ObjectCommand::Move(Move::Return)),
+            Kind::Returned => of_object(number, ObjectCommand::Move(Move::Returned)),
+            Kind::Step => of_machine(machine, MachineCommand::Step(Way::Step)),
+            Kind::One => of_machine(machine, MachineCommand::Step(Way::One)),
+            Kind::Regs => showing(machine, ShowCommand::Regs),
+            Kind::Out => showing(machine, ShowCommand::Out),
+            Kind::Stack => showing(machine, ShowCommand::Stack { offset, length }),
+            Kind::Line => showing(machine, ShowCommand::Line { slot }),
+            Kind::Break => debugging(machine, DebugCommand::Break { slot }),
+            Kind::Unbreak => debugging(machine, DebugCommand::Unbreak { slot }),
+            Kind::Watch => debugging(machine, DebugCommand::Watch { address, length }),
+            Kind::Unwatch => debugging(machine, DebugCommand::Unwatch { address, length }),
+            Kind::Resume => debugging(machine, DebugCommand::Resume),
+        }
+    }
+}
+
+/// A command on the object of this number.
+fn of_object(object: u32, command: ObjectCommand) -> Event
+    ensures { result ≡ Event.Object object command }
+{
+    Event::Object { object, command }
+}
+
+/// A command on the machine of this number.
+fn of_machine(machine: usize, command: MachineCommand) -> Event
+    ensures { result ≡ Event.Machine machine command }
+{
+    Event::Machine { machine, command }
+}
+
+/// A command that shows something of the machine of this number.
+fn showing(machine: usize, command: ShowCommand) -> Event
+    ensures { result ≡ Event.Machine machine (MachineCommand.Show command) }
+{
+    of_machine(machine, MachineCommand::Show(command))
+}
+
+/// A command of the debugger of the machine of this number.
+fn debugging(machine: usize, command: DebugCommand) -> Event
+    ensures { result ≡ Event.Machine machine (MachineCommand.Debug command) }
+{
+    of_machine(machine, MachineCommand::Debug(command))
+}
+
+/// The number's low 32 bits: all of it, where it is so small.
+fn low_half(number: u64) -> u32
+    ensures { number < 2 ^ 32 → result ≡ number }
+{
+    (number & u32::MAX as u64) as u32
 }

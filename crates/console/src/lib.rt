@@ -1,19 +1,20 @@
 //! Lines of commands in, lines of replies out.
 #![tactic(auto)]
 
+mod answerer;
 mod commands;
 mod console;
 mod conversation;
+mod digits;
 mod fault;
 mod kind;
 mod laws;
 mod replies;
 mod tokens;
-mod writing;
 
+pub use answerer::Answerer;
 pub use console::Console;
-pub use conversation::drive;
+pub use conversation::{converse, drive};
 pub use fault::{DriveFault, LineFault};
 pub use laws::{conversations_are_plain, one_command};
-pub use replies::{REPLY_LIMIT, ReplyLine, print_fault, print_reply};
-pub use writing::{WriteFault, put_all};
+pub use replies::{REPLY_LIMIT, ReplyLine, print_fault, print_reply, put, put_named};

@@ -4,16 +4,15 @@ ghost use Rattle.arrayvec.specs.ArrayVec.{array_vec_len};
 ghost use Rattle.console.specs.Lines.{ended, bad_text, nomem_text};
 ghost use Rattle.hex.specs.Hex.{encode_lower};
 ghost use Rattle.loader.specs.Refusals.{why_name};
-ghost use Rattle.world.specs.Steps.{reply_of};
+ghost use Rattle.world.specs.Machines.{reply_of, reply_to_step};
 ghost use Rattle.console.specs.Replies.{reply_text, number_text, value_text, stop_name, stop_value_text, state_name, shown_text, place_name, IsShort};
 
+use crate::digits::write_digits;
 use crate::fault::LineFault;
 use arrayvec::ArrayVec;
-use debugger::{Shown, State};
 use loader::LoadError;
 use machine::Stop;
-use object_store::Place;
-use world::{Reply, StepReply};
+use world::{Place, Reply, Shown, State, StepReply};
 
 /// The most bytes of a reply, with its line end.
 pub const REPLY_LIMIT: usize = 8_200;
@@ -22,7 +21,7 @@ pub const REPLY_LIMIT: usize = 8_200;
 pub type ReplyLine = ArrayVec<u8, REPLY_LIMIT>;
 
 /// Adds a text.
-fn put(line: &mut ReplyLine, text: &[u8])
+pub fn put(line: &mut ReplyLine, text: &[u8])
     requires { array_vec_len line.old + length text.now ≤ REPLY_LIMIT }
     ensures { line.new.items ≡ line.old.items ++ text.now }
 {
@@ -40,7 +39,7 @@ fn put_number(line: &mut ReplyLine, number: u64)
 }
 
 /// Adds a name, a space and a number in decimal.
-fn put_named(line: &mut ReplyLine, name: &[u8], number: u64)
+pub fn put_named(line: &mut ReplyLine, name: &[u8], number: u64)
     requires { array_vec_len line.old + length name.now + 21 ≤ REPLY_LIMIT }
     ensures text { line.new.items ≡ line.old.items ++ name.now ++ number_text number }
     ensures short { array_vec_len line.new ≤ array_vec_len line.old + length name.now + 21 }
@@ -66,7 +65,7 @@ fn put_value(line: &mut ReplyLine, value: u64)
     ensures short { array_vec_len line.new ≡ array_vec_len line.old + 17 }
 {
     let mut digits = [0u8; 16];
-    let _ = hex::encode_to_slice(value.to_be_bytes(), &mut digits);
+    write_digits(&value.to_be_bytes(), &mut digits);
     put(line, b" ");
     put(line, &digits);
 }
@@ -82,16 +81,8 @@ fn put_values(line: &mut ReplyLine, values: &[u64])
     }
 }
 
-/// Adds a byte in hex.
-fn put_byte(line: &mut ReplyLine, b: u8)
-    requires { array_vec_len line.old + 2 ≤ REPLY_LIMIT }
-    ensures text { line.new.items ≡ line.old.items ++ encode_lower (b ∷ []) }
-    ensures short { array_vec_len line.new ≡ array_vec_len line.old + 2 }
-{
-    let mut digits = [0u8; 2];
-    let _ = hex::encode_to_slice([b], &mut digits);
-    put(line, &digits);
-}
+/// How many bytes are written in hex at a time.
+const BLOCK: usize = 64;
 
 /// Adds bytes in hex.
 fn put_bytes(line: &mut ReplyLine, bytes: &[u8])
@@ -99,8 +90,14 @@ fn put_bytes(line: &mut ReplyLine, bytes: &[u8])
     ensures text { line.new.items ≡ line.old.items ++ encode_lower bytes.now }
     ensures short { array_vec_len line.new ≡ array_vec_len line.old + 2 * length bytes.now }
 {
-    for b in bytes {
-        put_byte(line, *b);
+    let mut digits = [0u8; 2 * BLOCK];
+    let mut rest = bytes;
+    while !rest.is_empty() {
+        let count = rest.len().min(BLOCK);
+        let text = &mut digits[..2 * count];
+        write_digits(&rest[..count], text);
+        put(line, text);
+        rest = &rest[count..];
     }
 }
 
@@ -116,6 +113,7 @@ fn name_of_stop(stop: Stop) -> &'static [u8]
         Stop::Depth => b"depth",
         Stop::Spent => b"spent",
         Stop::Worn => b"worn",
+        Stop::NotGranted => b"notgranted",
     }
 }
 
@@ -195,7 +193,7 @@ fn put_refusal(line: &mut ReplyLine, error: &LoadError)
 /// Adds the reply to a step of a machine.
 fn put_step(line: &mut ReplyLine, machine: usize, reply: StepReply)
     requires { array_vec_len line.old + 100 ≤ REPLY_LIMIT }
-    ensures text { line.new.items ≡ line.old.items ++ reply_text (reply_of machine reply) }
+    ensures text { line.new.items ≡ line.old.items ++ reply_text (reply_to_step machine reply) }
     ensures short { array_vec_len line.new ≤ array_vec_len line.old + 100 }
 {
     match reply {
@@ -207,7 +205,6 @@ fn put_step(line: &mut ReplyLine, machine: usize, reply: StepReply)
             put_named(line, b"stopped", machine as u64);
             put_stop(line, stop);
         }
-        StepReply::Missing => put(line, b"none"),
     }
 }
 
@@ -278,12 +275,15 @@ pub fn print_reply(reply: &Reply, line: &mut ReplyLine)
     put(line, b"\n");
 }
 
-/// Makes this the line of the reply to a step of a machine.
-pub fn print_step(machine: usize, reply: StepReply, line: &mut ReplyLine)
+/// Makes this the line of the reply to a step of the machine of this number, if there is one.
+pub fn print_step(machine: usize, reply: Option<StepReply>, line: &mut ReplyLine)
     ensures { line.new.items ≡ ended (reply_text (reply_of machine reply)) }
 {
     line.clear();
-    put_step(line, machine, reply);
+    match reply {
+        Some(reply) => put_step(line, machine, reply),
+        None => put(line, b"none"),
+    }
     put(line, b"\n");
 }
 

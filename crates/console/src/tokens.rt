@@ -1,12 +1,15 @@
 //! The tokens of a line, one after the other.
-ghost use Rattle.std.specs.Prelude.{◌≡◌, ◌∷◌, ◌≤◌, ◌<◌, ◌^◌, ◌≢◌, ◌+◌, ◌++◌, ℕ, List, [], length, take, drop, get_or, All, codes, OnOk, IfOk, IfErr, IfSome, IfNone, Some, IsTrue, ◌↔◌, MatchOption, ◌==◌};
+ghost use Rattle.std.specs.Prelude.{◌≡◌, ◌∷◌, ◌≤◌, ◌<◌, ◌^◌, ◌≢◌, ◌+◌, ◌++◌, ℕ, List, [], length, take, drop, get_or, All, codes, true, OnOk, IfOk, IfErr, IfSome, IfNone, Some, IsTrue, ◌↔◌, MatchOption, ◌==◌};
 ghost use Rattle.std.specs.Str.Parse.{IsNumeral, digits_value};
-ghost use Rattle.std.specs.List.{AllPass};
-ghost use Rattle.hex.specs.Hex.{decode_of, is_hex_digit};
+ghost use Rattle.hex.specs.Hex.{decode_of};
+ghost use Rattle.machine.specs.Grants.{GrantState};
 ghost use Rattle.console.specs.Tokens.{tokens_left, tokens_of, AreNumbers, AreBytes, IsNumber, IsNumberWithin, IsHex};
+ghost use Rattle.console.specs.Granting.{AreGrants, IsGrant};
 
+use crate::digits::are_hex_digits;
 use crate::fault::LineFault;
-use crate::kind::{Limits, NUMBERS};
+use crate::kind::{Limits, NUMBERS, OBJECT};
+use machine::{GRANT_LIMIT, Grant, Grants};
 use memchr::memchr;
 
 /// The tokens that are still to be read.
@@ -58,16 +61,10 @@ impl<'a> Tokens<'a> {
             × ((token : List ℕ) (left : List (List ℕ)) (n : ℕ) → tokens_left self.old ≡ token ∷ left → IsNumberWithin limits token n → ⊥)) }
     {
         let token = self.token()?;
-        let Some(n) = read_number(token) else {
-            return Err(LineFault::Bad);
-        };
-        if n < limits.least {
-            return Err(LineFault::Bad);
+        match read_within(token, limits) {
+            Some(n) => Ok(n),
+            None => Err(LineFault::Bad),
         }
-        if n > limits.most {
-            return Err(LineFault::Bad);
-        }
-        Ok(n)
     }
 
     /// The next tokens, which have to be numbers, one for each of the limits and within them. They come first, then zeros.
@@ -85,27 +82,25 @@ impl<'a> Tokens<'a> {
         Ok(numbers)
     }
 
-    /// The hex text of the bytes that come last: at most so many, or none where there may be none.
+    /// The hex text of the bytes that come next: at most so many. Where there may be none, nothing is read.
     pub fn bytes(&mut self, most: Option<usize>) -> Result<&'a [u8], LineFault>
-        ensures ok { IfOk result (λ text. (bytes : List ℕ) × AreBytes most (tokens_left self.old) bytes × (decode_of text.now ≡ Ok bytes)) }
-        ensures err { IfErr result (λ e. (e ≡ LineFault.Bad) × ((bytes : List ℕ) → AreBytes most (tokens_left self.old) bytes → ⊥)) }
+        ensures ok { IfOk result (λ text. (bytes : List ℕ) × AreBytes most (tokens_left self.old) bytes (tokens_left self.new) × (decode_of text.now ≡ Ok bytes)) }
+        ensures err { IfErr result (λ e. (e ≡ LineFault.Bad)
+            × ((bytes : List ℕ) (left : List (List ℕ)) → AreBytes most (tokens_left self.old) bytes left → ⊥)) }
     {
         match most {
             Some(most) => self.hex(most),
-            None => {
-                self.end()?;
-                Ok(b"")
-            }
+            None => Ok(b""),
         }
     }
 
-    /// The last token, which has to be hex text of at most so many bytes.
+    /// The next token, which has to be hex text of at most so many bytes.
     fn hex(&mut self, most: usize) -> Result<&'a [u8], LineFault>
-        ensures ok { IfOk result (λ text. (bytes : List ℕ) × AreBytes (Some most) (tokens_left self.old) bytes × (decode_of text.now ≡ Ok bytes)) }
-        ensures err { IfErr result (λ e. (e ≡ LineFault.Bad) × ((bytes : List ℕ) → AreBytes (Some most) (tokens_left self.old) bytes → ⊥)) }
+        ensures ok { IfOk result (λ text. (bytes : List ℕ) × AreBytes (Some most) (tokens_left self.old) bytes (tokens_left self.new) × (decode_of text.now ≡ Ok bytes)) }
+        ensures err { IfErr result (λ e. (e ≡ LineFault.Bad)
+            × ((bytes : List ℕ) (left : List (List ℕ)) → AreBytes (Some most) (tokens_left self.old) bytes left → ⊥)) }
     {
         let text = self.token()?;
-        self.end()?;
         if !is_hex(text) {
             return Err(LineFault::Bad);
         }
@@ -113,6 +108,39 @@ impl<'a> Tokens<'a> {
             return Err(LineFault::Bad);
         }
         Ok(text)
+    }
+
+    /// What the tokens that come last grant: some objects, or all where there may be no such tokens.
+    pub fn grants(&mut self, some: bool) -> Result<Grants, LineFault>
+        ensures ok { IfOk result (λ grants. AreGrants some (tokens_left self.old) grants) }
+        ensures err { IfErr result (λ e. (e ≡ LineFault.Bad) × ((grants : GrantState) → AreGrants some (tokens_left self.old) grants → ⊥)) }
+    {
+        if some {
+            return self.some_grants();
+        }
+        self.end()?;
+        Ok(Grants::all())
+    }
+
+    /// What the tokens that come last grant, which have to grant objects of rising numbers.
+    fn some_grants(&mut self) -> Result<Grants, LineFault>
+        ensures ok { IfOk result (λ grants. AreGrants true (tokens_left self.old) grants) }
+        ensures err { IfErr result (λ e. (e ≡ LineFault.Bad) × ((grants : GrantState) → AreGrants true (tokens_left self.old) grants → ⊥)) }
+    {
+        let mut grants = Grants::none();
+        let mut last = 0;
+        'words: for count in 0..GRANT_LIMIT {
+            let Some(word) = self.next() else {
+                return Ok(grants);
+            };
+            let Some(grant) = read_grant(word, last) else {
+                return Err(LineFault::Bad);
+            };
+            last = grant.number;
+            grants.add(grant);
+        }
+        self.end()?;
+        Ok(grants)
     }
 
     /// That no token is left.
@@ -161,6 +189,45 @@ fn read_number(token: &[u8]) -> Option<u64>
     digits(10, token)
 }
 
+/// The number that a token is, which has to be within the limits.
+fn read_within(token: &[u8], limits: Limits) -> Option<u64>
+    ensures some { IfSome result (λ n. IsNumberWithin limits token.now n) }
+    ensures none { IfNone result ((n : ℕ) → IsNumberWithin limits token.now n → ⊥) }
+{
+    let Some(n) = read_number(token) else {
+        return None;
+    };
+    if n < limits.least {
+        return None;
+    }
+    if n > limits.most {
+        return None;
+    }
+    Some(n)
+}
+
+/// The object that a word grants, which has to have a number above the last one's.
+fn read_grant(word: &[u8], last: u32) -> Option<Grant>
+    ensures some { IfSome result (λ grant. IsGrant word.now grant × (last < grant.number)) }
+    ensures none { IfNone result ((grant : Grant) → IsGrant word.now grant → last < grant.number → ⊥) }
+{
+    if word.is_empty() {
+        return None;
+    }
+    let writes = word[0] == b'w';
+    if !writes && word[0] != b'r' {
+        return None;
+    }
+    let Some(number) = read_within(&word[1..], OBJECT) else {
+        return None;
+    };
+    let number = number as u32;
+    if number <= last {
+        return None;
+    }
+    Some(Grant { number, writes })
+}
+
 /// Whether a token is hex text of at least one byte.
 fn is_hex(token: &[u8]) -> bool
     ensures { IsTrue result ↔ ((bytes : List ℕ) × IsHex token.now bytes) }
@@ -172,24 +239,6 @@ fn is_hex(token: &[u8]) -> bool
         return false;
     }
     are_hex_digits(token)
-}
-
-/// Whether all bytes are hex digits of either case.
-fn are_hex_digits(token: &[u8]) -> bool
-    ensures { IsTrue result ↔ AllPass is_hex_digit token.now }
-{
-    // no early exit: so many digits are tested by one instruction
-    let mut all = true;
-    for b in token {
-        all &= is_digit(*b);
-    }
-    all
-}
-
-fn is_digit(b: u8) -> bool
-    ensures { result ≡ is_hex_digit b }
-{
-    matches!(b, b'A'..=b'F') || matches!(b, b'a'..=b'f') || matches!(b, b'0'..=b'9')
 }
 
 /// Where the byte stands first.

@@ -1,10 +1,11 @@
 //! Readers and writers that fail.
 
 use crate::talks::{INPUT, OUTPUT, count_done, count_lines, first_lines, seen_done, world_of};
-use console::{Console, DriveFault, LineFault, WriteFault, drive, put_all};
+use console::{Console, DriveFault, LineFault, drive};
 use std::alloc::Global;
 use std::io::ErrorKind;
 use std::test::Fail;
+use streams::{WriteFault, put_all};
 use test_devices::{FailingReader, FailingWriter, Failure, Narrow, Pieces};
 
 #[test]

@@ -16,6 +16,14 @@ fn read(alloc: Global, line: &str) -> Result<Option<Result<Event, LineFault>>, F
     Ok(console.next_command())
 }
 
+/// Whether this is a command on the machine of this number.
+fn is_on_machine(said: Option<Result<Event, LineFault>>, number: usize) -> bool {
+    match said {
+        Some(Ok(Event::Machine { machine, .. })) => machine == number,
+        _ => false,
+    }
+}
+
 #[test]
 fn bytes_in_commands_out(rt: HostRuntime) -> Result<(), Fail> {
     let mut console = Console::new(rt.alloc())?;
@@ -26,10 +34,10 @@ fn bytes_in_commands_out(rt: HostRuntime) -> Result<(), Fail> {
     assert!(rt; !console.rest());
     // a line waits
     assert_eq!(rt; console.feed(b"regs 2\n"), 0);
-    assert!(rt; matches!(console.next_command(), Some(Ok(Event::Step { machine: 1 }))));
+    assert!(rt; is_on_machine(console.next_command(), 1));
     assert!(rt; console.next_command().is_none());
     assert_eq!(rt; console.feed(b"regs 2\n"), 7);
-    assert!(rt; matches!(console.next_command(), Some(Ok(Event::Regs { machine: 2 }))));
+    assert!(rt; is_on_machine(console.next_command(), 2));
     assert_eq!(rt; console.feed(b"\n"), 1);
     assert!(rt; matches!(console.next_command(), Some(Err(LineFault::Bad))));
     assert_eq!(rt; console.feed(b"regs"), 4);
@@ -39,70 +47,128 @@ fn bytes_in_commands_out(rt: HostRuntime) -> Result<(), Fail> {
 }
 
 /// Lines, each with the command that it spells.
-const GOOD: [(&str, &str); 36] = [
+const GOOD: [(&str, &str); 40] = [
     ("make 1", "Make { length: ObjectLength { count: 1 } }"),
     (
         "make 65536",
         "Make { length: ObjectLength { count: 65536 } }",
     ),
-    ("free 1024", "Free { object: 1024 }"),
+    ("free 1024", "Object { object: 1024, command: Free }"),
     (
         "put 1 65535 0Ff0",
-        "Put { object: 1, offset: 65535, bytes: [15, 240] }",
+        "Object { object: 1, command: Put { offset: 65535, bytes: Bytes { bytes: [15, 240] } } }",
     ),
     (
         "get 0x400 0xFFFF 0x1000",
-        "Get { object: 1024, offset: 65535, length: 4096 }",
+        "Object { object: 1024, command: Get { offset: 65535, length: 4096 } }",
     ),
-    ("get 1 0 1", "Get { object: 1, offset: 0, length: 1 }"),
+    (
+        "get 1 0 1",
+        "Object { object: 1, command: Get { offset: 0, length: 1 } }",
+    ),
     (
         "ship 18446744073709551615 0xffffffffffffffff 0xFfFf 0 0 0x0000000000000001 00",
-        "Ship { fuel: 18446744073709551615, arguments: [18446744073709551615, 65535, 0, 0, 1], code: [0] }",
+        "Ship { start: Start { fuel: 18446744073709551615, arguments: [18446744073709551615, 65535, 0, 0, 1], grants: Grants { all: true, listed: [] } }, code: Bytes { bytes: [0] } }",
     ),
-    ("leave 1", "Leave { object: 1 }"),
-    ("leave 1024", "Leave { object: 1024 }"),
-    ("left 1", "Left { object: 1 }"),
-    ("left 0x400", "Left { object: 1024 }"),
-    ("return 1", "Return { object: 1 }"),
-    ("return 1024", "Return { object: 1024 }"),
-    ("returned 1", "Returned { object: 1 }"),
-    ("returned 1024", "Returned { object: 1024 }"),
-    ("step 48", "Step { machine: 48 }"),
-    ("step 0x30", "Step { machine: 48 }"),
-    ("one 1", "One { machine: 1 }"),
-    ("one 48", "One { machine: 48 }"),
-    ("regs 1", "Regs { machine: 1 }"),
-    ("out 48", "Out { machine: 48 }"),
+    (
+        "ship2 1 0 0 0 0 2 95",
+        "Ship { start: Start { fuel: 1, arguments: [0, 0, 0, 0, 2], grants: Grants { all: false, listed: [] } }, code: Bytes { bytes: [149] } }",
+    ),
+    (
+        "ship2 1 0 0 0 0 2 95 r1",
+        "Ship { start: Start { fuel: 1, arguments: [0, 0, 0, 0, 2], grants: Grants { all: false, listed: [Grant { number: 1, writes: false }] } }, code: Bytes { bytes: [149] } }",
+    ),
+    (
+        "ship2 1 0 0 0 0 0x2 95 w0x1 r1024",
+        "Ship { start: Start { fuel: 1, arguments: [0, 0, 0, 0, 2], grants: Grants { all: false, listed: [Grant { number: 1, writes: true }, Grant { number: 1024, writes: false }] } }, code: Bytes { bytes: [149] } }",
+    ),
+    (
+        "ship2 1 0 0 0 0 2 95 r1 r2 r3 r4 r5 r6 r7 r8 w9 w10 w11 w12 w13 w14 w15 w16",
+        "Ship { start: Start { fuel: 1, arguments: [0, 0, 0, 0, 2], grants: Grants { all: false, listed: [Grant { number: 1, writes: false }, Grant { number: 2, writes: false }, Grant { number: 3, writes: false }, Grant { number: 4, writes: false }, Grant { number: 5, writes: false }, Grant { number: 6, writes: false }, Grant { number: 7, writes: false }, Grant { number: 8, writes: false }, Grant { number: 9, writes: true }, Grant { number: 10, writes: true }, Grant { number: 11, writes: true }, Grant { number: 12, writes: true }, Grant { number: 13, writes: true }, Grant { number: 14, writes: true }, Grant { number: 15, writes: true }, Grant { number: 16, writes: true }] } }, code: Bytes { bytes: [149] } }",
+    ),
+    ("leave 1", "Object { object: 1, command: Move(Leave) }"),
+    (
+        "leave 1024",
+        "Object { object: 1024, command: Move(Leave) }",
+    ),
+    ("left 1", "Object { object: 1, command: Move(Left) }"),
+    ("left 0x400", "Object { object: 1024, command: Move(Left) }"),
+    ("return 1", "Object { object: 1, command: Move(Return) }"),
+    (
+        "return 1024",
+        "Object { object: 1024, command: Move(Return) }",
+    ),
+    (
+        "returned 1",
+        "Object { object: 1, command: Move(Returned) }",
+    ),
+    (
+        "returned 1024",
+        "Object { object: 1024, command: Move(Returned) }",
+    ),
+    ("step 48", "Machine { machine: 48, command: Step(Step) }"),
+    ("step 0x30", "Machine { machine: 48, command: Step(Step) }"),
+    ("one 1", "Machine { machine: 1, command: Step(One) }"),
+    ("one 48", "Machine { machine: 48, command: Step(One) }"),
+    ("regs 1", "Machine { machine: 1, command: Show(Regs) }"),
+    ("out 48", "Machine { machine: 48, command: Show(Out) }"),
     (
         "stack 48 4095 4096",
-        "Stack { machine: 48, offset: 4095, length: 4096 }",
+        "Machine { machine: 48, command: Show(Stack { offset: 4095, length: 4096 }) }",
     ),
-    ("stack 1 0 1", "Stack { machine: 1, offset: 0, length: 1 }"),
-    ("line 1 0", "Line { machine: 1, slot: 0 }"),
-    ("line 48 4095", "Line { machine: 48, slot: 4095 }"),
-    ("break 1 0", "Break { machine: 1, slot: 0 }"),
-    ("break 48 0xfff", "Break { machine: 48, slot: 4095 }"),
-    ("unbreak 1 0", "Unbreak { machine: 1, slot: 0 }"),
-    ("unbreak 48 4095", "Unbreak { machine: 48, slot: 4095 }"),
-    ("watch 1 0 1", "Watch { machine: 1, address: 0, length: 1 }"),
+    (
+        "stack 1 0 1",
+        "Machine { machine: 1, command: Show(Stack { offset: 0, length: 1 }) }",
+    ),
+    (
+        "line 1 0",
+        "Machine { machine: 1, command: Show(Line { slot: 0 }) }",
+    ),
+    (
+        "line 48 4095",
+        "Machine { machine: 48, command: Show(Line { slot: 4095 }) }",
+    ),
+    (
+        "break 1 0",
+        "Machine { machine: 1, command: Debug(Break { slot: 0 }) }",
+    ),
+    (
+        "break 48 0xfff",
+        "Machine { machine: 48, command: Debug(Break { slot: 4095 }) }",
+    ),
+    (
+        "unbreak 1 0",
+        "Machine { machine: 1, command: Debug(Unbreak { slot: 0 }) }",
+    ),
+    (
+        "unbreak 48 4095",
+        "Machine { machine: 48, command: Debug(Unbreak { slot: 4095 }) }",
+    ),
+    (
+        "watch 1 0 1",
+        "Machine { machine: 1, command: Debug(Watch { address: 0, length: 1 }) }",
+    ),
     (
         "watch 48 18446744073709551615 4096",
-        "Watch { machine: 48, address: 18446744073709551615, length: 4096 }",
+        "Machine { machine: 48, command: Debug(Watch { address: 18446744073709551615, length: 4096 }) }",
     ),
     (
         "watch 2 0x100000008 8",
-        "Watch { machine: 2, address: 4294967304, length: 8 }",
+        "Machine { machine: 2, command: Debug(Watch { address: 4294967304, length: 8 }) }",
     ),
     (
         "unwatch 1 0 1",
-        "Unwatch { machine: 1, address: 0, length: 1 }",
+        "Machine { machine: 1, command: Debug(Unwatch { address: 0, length: 1 }) }",
     ),
     (
         "unwatch 48 0xffffFFFFffffFFFF 0x1000",
-        "Unwatch { machine: 48, address: 18446744073709551615, length: 4096 }",
+        "Machine { machine: 48, command: Debug(Unwatch { address: 18446744073709551615, length: 4096 }) }",
     ),
-    ("resume 1", "Resume { machine: 1 }"),
-    ("resume 48", "Resume { machine: 48 }"),
+    ("resume 1", "Machine { machine: 1, command: Debug(Resume) }"),
+    (
+        "resume 48",
+        "Machine { machine: 48, command: Debug(Resume) }",
+    ),
 ];
 
 #[test]
@@ -118,7 +184,7 @@ fn good_lines(rt: HostRuntime) -> Result<(), Fail> {
 }
 
 /// Lines that spell no command.
-const BAD: [&str; 106] = [
+const BAD: [&str; 128] = [
     // names and spaces
     "",
     " ",
@@ -181,6 +247,29 @@ const BAD: [&str; 106] = [
     "ship 0 0 0 0 0 0 95 0",
     "ship 0 18446744073709551616 0 0 0 0 95",
     "ship 0 00 0 0 0 0 95",
+    // grants
+    "ship2 1 0 0 0 0 2",
+    "ship2 1 0 0 0 0 2 ",
+    "ship2 1 0 0 0 0 2 9",
+    "ship2 1 0 0 0 0 2 95 ",
+    "ship2 1 0 0 0 0 2 95 r",
+    "ship2 1 0 0 0 0 2 95 1",
+    "ship2 1 0 0 0 0 2 95 x1",
+    "ship2 1 0 0 0 0 2 95 R1",
+    "ship2 1 0 0 0 0 2 95 r0",
+    "ship2 1 0 0 0 0 2 95 w1025",
+    "ship2 1 0 0 0 0 2 95 r01",
+    "ship2 1 0 0 0 0 2 95 r0x",
+    "ship2 1 0 0 0 0 2 95 r1 ",
+    "ship2 1 0 0 0 0 2 95  r1",
+    "ship2 1 0 0 0 0 2 95 r1 w1",
+    "ship2 1 0 0 0 0 2 95 r2 r1",
+    "ship2 1 0 0 0 0 2 95 w3 r3",
+    "ship2 1 0 0 0 0 2 95 r4294967297",
+    "ship2 1 0 0 0 0 2 95 r1 r2 r3 r4 r5 r6 r7 r8 r9 r10 r11 r12 r13 r14 r15 r16 r17",
+    "ship2 1 0 0 0 0 2 9g r1",
+    "ship 1 0 0 0 0 2 95 r1",
+    "ship3 1 0 0 0 0 2 95",
     // moves
     "leave",
     "leave 0",

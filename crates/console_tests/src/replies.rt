@@ -2,13 +2,11 @@
 ghost use Rattle.console.specs.Replies.{IsShort};
 
 use console::{LineFault, ReplyLine, print_fault, print_reply};
-use debugger::{Bytes, Shown, State, Values};
 use loader::{LoadError, Why};
 use machine::Stop;
-use object_store::Place;
 use std::process::Abort;
 use std::test::Fail;
-use world::Reply;
+use world::{Bytes, Place, Reply, Shown, State, Values};
 
 /// What is shown of a machine that stands thus.
 const SHOWN: Shown = Shown {
@@ -125,6 +123,7 @@ fn each_stop(rt: HostRuntime) {
     prints_stop(&rt, Stop::Depth, "stopped 3 depth\n");
     prints_stop(&rt, Stop::Spent, "stopped 3 spent\n");
     prints_stop(&rt, Stop::Worn, "stopped 3 worn\n");
+    prints_stop(&rt, Stop::NotGranted, "stopped 3 notgranted\n");
 }
 
 #[test]

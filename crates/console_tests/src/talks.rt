@@ -5,7 +5,7 @@ use far_store::OwnStore;
 use std::alloc::Global;
 use std::test::Fail;
 use test_devices::Pieces;
-use world::{Event, Reply, World};
+use world::{Event, MachineCommand, ObjectCommand, Reply, ShowCommand, World};
 
 /// An object, and a machine that puts 7 into R0 and ends, in seven commands.
 pub const INPUT: &[u8] =
@@ -51,9 +51,26 @@ fn count_first_done(reply: &Reply) -> usize {
     }
 }
 
+/// Shows the machine.
+fn regs() -> Event {
+    Event::Machine {
+        machine: 1,
+        command: MachineCommand::Show(ShowCommand::Regs),
+    }
+}
+
+/// Shows two bytes of the object.
+fn get() -> Event {
+    let command = ObjectCommand::Get {
+        offset: 2,
+        length: 2,
+    };
+    Event::Object { object: 1, command }
+}
+
 /// How many of the seven commands are done.
 pub fn count_done(world: &mut World<OwnStore>) -> usize {
-    let fuel = match world.apply(Event::Regs { machine: 1 }) {
+    let fuel = match world.apply(regs()) {
         Reply::Registers { shown, .. } => shown.fuel,
         _ => 11,
     };
@@ -61,11 +78,7 @@ pub fn count_done(world: &mut World<OwnStore>) -> usize {
         8 => 6,
         9 => 5,
         10 => 4,
-        _ => count_first_done(&world.apply(Event::Get {
-            object: 1,
-            offset: 2,
-            length: 2,
-        })),
+        _ => count_first_done(&world.apply(get())),
     }
 }
 

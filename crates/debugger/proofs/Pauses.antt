@@ -33,10 +33,10 @@ pub nothing_set : laws.NothingSetNothingPauses
 nothing_set slot w d no_breaks no_watches runs = (rw (runs, no_breaks) (never (not d.pass)), no_hits w d no_watches)
 
 pub waits : laws.WaitingChangesNothing
-waits n d = (refl, refl)
+waits way n d = refl
 
 pub stops : laws.StopsEndPauses
-stops s d = (refl, refl)
+stops way s d = refl
 
 pub ones : laws.OnesPause
 ones w d = refl

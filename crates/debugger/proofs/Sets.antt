@@ -1,12 +1,17 @@
 -- What is set after setting and clearing.
-use Rattle.std.proofs.Common.{◌≡◌, ◌≢◌, ℕ, nat_eq, Bool, true, false, not, cond, ◌||◌, ◌&&◌, List, [], ◌∷◌, ◌++◌, inl, inr, Ok, Err, refl, ◌∙◌, sym, arith}
+use Rattle.std.proofs.Common.{◌≡◌, ◌≢◌, ℕ, nat_eq, Bool, true, false, not, cond, ◌||◌, ◌&&◌, List, [], ◌∷◌, ◌++◌, inl, inr, refl, subst, ◌∙◌, sym, arith}
 use Rattle.std.specs.List.{list_any, filter}
 use Rattle.std.proofs.lemmas.Bool.{eqb-true}
 use Rattle.std.proofs.lemmas.Bool.Decides.{nat_tests, eqb_tells}
 use Rattle.std.proofs.lemmas.Map.Views.{any-filter_same}
 use Rattle.debugger.specs.declared.watch.Watch.{Watch}
-use Rattle.debugger.specs.declared.errors.SetBreakError.TheVariants as set_break_error
+use Rattle.debugger.specs.declared.commands.DebugCommand.TheVariants.{Break}
+use Rattle.debugger.specs.declared.replies.Debugged.{Debugged}
+use Rattle.debugger.specs.declared.replies.Debugged.TheVariants.{Done, NoSlot, Full}
 use Rattle.debugger.specs.DebugState.{DebugState, has_break, has_watch, is_same_watch}
+use Rattle.debugger.specs.Changes.{Needs, with_break, left_by}
+use Rattle.debugger.specs.Refusals.{Decides}
+use Rattle.loader.specs.ValidCode.{IsAt}
 use Rattle.debugger.specs.Laws as laws
 use Rattle.debugger.proofs.Hits.{both}
 
@@ -112,11 +117,18 @@ watches_cleared r d =
 
 -- ---- breakpoints are at instructions
 
-pub breaks_begin : laws.BreaksStayAtInstructions
-breaks_begin code slot old new (Ok u) h begins = λ other e.
+begins_with : (code : List ℕ) (slot : ℕ) (d : DebugState) → IsAt code slot → laws.BreaksBegin code d → laws.BreaksBegin code (with_break slot d)
+begins_with code slot d at begins = λ other e.
     elim (eqb_tells other slot) [
-      | inl same ↦ rw same.1 h.0
-      | inr apart ↦ begins other (sym ((breaks_set slot old).1 other apart.1) ∙ (rw h.2 at e))
+      | inl same ↦ rw same.1 at
+      | inr apart ↦ begins other (sym ((breaks_set slot d).1 other apart.1) ∙ e)
     ]
-breaks_begin code slot old new (Err set_break_error.NoSlot) h begins = rw h.1 begins
-breaks_begin code slot old new (Err set_break_error.Full) h begins = rw h.2 begins
+
+kept_by : (code : List ℕ) (slot : ℕ) (d : DebugState) (outcome : Debugged) → laws.BreaksBegin code d → Decides (Needs (Break slot) code d) (NoSlot ∷ Full ∷ []) Done outcome
+    → laws.BreaksBegin code (left_by outcome d (with_break slot d))
+kept_by code slot d Done begins (inl p) = absurd (cc)
+kept_by code slot d Done begins (inr p) = begins_with code slot d p.0 begins
+kept_by code slot d _ begins h = begins
+
+pub breaks_begin : laws.BreaksStayAtInstructions
+breaks_begin code slot old new outcome h begins = subst (λ (d : DebugState). laws.BreaksBegin code d) (sym h.1) (kept_by code slot old outcome begins h.0)

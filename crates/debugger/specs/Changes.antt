@@ -1,22 +1,16 @@
--- What the debugging commands do to the state of one machine. A refusal changes nothing, and refusals are tested in the
--- order written.
-use Rattle.std.specs.Prelude.{◌≡◌, ℕ, nat_eq, true, false, not, cond, List, [], ◌∷◌, ◌++◌, Result, Ok, Err}
+-- What the debugging commands do to the debug state of one machine. A refusal changes nothing.
+use Rattle.std.specs.Prelude.{◌≡◌, ℕ, nat_eq, true, false, not, cond, List, [], ◌∷◌, ◌++◌}
 use Rattle.std.specs.List.{filter}
 use Rattle.loader.specs.ValidCode.{IsAt}
 use Rattle.debugger.specs.declared.watch.Watch.{Watch}
-use Rattle.debugger.specs.declared.errors.SetBreakError.{SetBreakError}
-use Rattle.debugger.specs.declared.errors.SetBreakError.TheVariants as set_break_error
-use Rattle.debugger.specs.declared.errors.ClearBreakError.{ClearBreakError}
-use Rattle.debugger.specs.declared.errors.ClearBreakError.TheVariants as clear_break_error
-use Rattle.debugger.specs.declared.errors.SetWatchError.{SetWatchError}
-use Rattle.debugger.specs.declared.errors.SetWatchError.TheVariants as set_watch_error
-use Rattle.debugger.specs.declared.errors.ClearWatchError.{ClearWatchError}
-use Rattle.debugger.specs.declared.errors.ClearWatchError.TheVariants as clear_watch_error
-use Rattle.debugger.specs.declared.errors.ResumeError.{ResumeError}
-use Rattle.debugger.specs.declared.errors.ResumeError.TheVariants as resume_error
-use Rattle.debugger.specs.DebugState.{DebugState, has_break, takes_break, ends_within, is_same_watch, has_watch, takes_watch}
+use Rattle.debugger.specs.declared.commands.DebugCommand.{DebugCommand}
+use Rattle.debugger.specs.declared.commands.DebugCommand.TheVariants as command
+use Rattle.debugger.specs.declared.replies.Debugged.{Debugged}
+use Rattle.debugger.specs.declared.replies.Debugged.TheVariants.{Done, NoSlot, Outside, Full, NoWatch, NotPaused}
+use Rattle.debugger.specs.DebugState.{DebugState, has_break, takes_break, watch_at, ends_within, is_same_watch, has_watch, takes_watch}
+use Rattle.debugger.specs.Refusals.{Decides}
 
--- ---- breakpoints
+-- ---- changes
 
 -- one that is set already is not set twice
 abbrev pub with_break : ℕ → DebugState → DebugState
@@ -26,19 +20,6 @@ with_break slot d = cond (has_break slot d) d (record d { breakpoints = d.breakp
 abbrev pub without_break : ℕ → DebugState → DebugState
 without_break slot d = record d { breakpoints = filter (λ other. not (nat_eq slot other)) d.breakpoints }
 
--- `break`: an instruction begins at the slot, and there is room
-abbrev pub SetsBreak : List ℕ → ℕ → DebugState → Result Unit SetBreakError → DebugState → Type 0
-SetsBreak code slot old (Ok u) new = IsAt code slot × (takes_break slot old ≡ true) × (new ≡ with_break slot old)
-SetsBreak code slot old (Err set_break_error.NoSlot) new = (IsAt code slot → ⊥) × (new ≡ old)
-SetsBreak code slot old (Err set_break_error.Full) new = IsAt code slot × (takes_break slot old ≡ false) × (new ≡ old)
-
--- `unbreak`: a breakpoint is set at the slot
-abbrev pub ClearsBreak : ℕ → DebugState → Result Unit ClearBreakError → DebugState → Type 0
-ClearsBreak slot old (Ok u) new = (has_break slot old ≡ true) × (new ≡ without_break slot old)
-ClearsBreak slot old (Err clear_break_error.NoSlot) new = (has_break slot old ≡ false) × (new ≡ old)
-
--- ---- watched ranges
-
 -- one that is set already is not set twice
 abbrev pub with_watch : Watch → DebugState → DebugState
 with_watch r d = cond (has_watch r d) d (record d { watches = d.watches ++ r ∷ [] })
@@ -47,24 +28,51 @@ with_watch r d = cond (has_watch r d) d (record d { watches = d.watches ++ r ∷
 abbrev pub without_watch : Watch → DebugState → DebugState
 without_watch r d = record d { watches = filter (λ other. not (is_same_watch r other)) d.watches }
 
--- `watch`: the range ends within the offsets of 32 bits, and there is room
-abbrev pub SetsWatch : Watch → DebugState → Result Unit SetWatchError → DebugState → Type 0
-SetsWatch r old (Ok u) new = (ends_within r ≡ true) × (takes_watch r old ≡ true) × (new ≡ with_watch r old)
-SetsWatch r old (Err set_watch_error.Outside) new = (ends_within r ≡ false) × (new ≡ old)
-SetsWatch r old (Err set_watch_error.Full) new = (ends_within r ≡ true) × (takes_watch r old ≡ false) × (new ≡ old)
-
--- `unwatch`: the range is set
-abbrev pub ClearsWatch : Watch → DebugState → Result Unit ClearWatchError → DebugState → Type 0
-ClearsWatch r old (Ok u) new = (has_watch r old ≡ true) × (new ≡ without_watch r old)
-ClearsWatch r old (Err clear_watch_error.NoWatch) new = (has_watch r old ≡ false) × (new ≡ old)
-
--- ---- going on
-
 -- the machine is not paused, and the next instruction runs whatever breakpoint is set at it
 abbrev pub resumed : DebugState → DebugState
 resumed d = record d { paused = false; pass = true }
 
--- `resume`: the machine is paused
-abbrev pub Resumes : DebugState → Result Unit ResumeError → DebugState → Type 0
-Resumes old (Ok u) new = (old.paused ≡ true) × (new ≡ resumed old)
-Resumes old (Err resume_error.NotPaused) new = (old.paused ≡ false) × (new ≡ old)
+-- what each debugging command does
+abbrev pub change_of : DebugCommand → DebugState → DebugState
+change_of (command.Break slot) d = with_break slot d
+change_of (command.Unbreak slot) d = without_break slot d
+change_of (command.Watch address size) d = with_watch (watch_at address size) d
+change_of (command.Unwatch address size) d = without_watch (watch_at address size) d
+change_of command.Resume d = resumed d
+
+-- ---- refusals
+
+-- how each may be refused, in the order of the tests
+abbrev pub refusals_of : DebugCommand → List Debugged
+refusals_of (command.Break slot) = NoSlot ∷ Full ∷ []
+refusals_of (command.Unbreak slot) = NoSlot ∷ []
+refusals_of (command.Watch address size) = Outside ∷ Full ∷ []
+refusals_of (command.Unwatch address size) = NoWatch ∷ []
+refusals_of command.Resume = NotPaused ∷ []
+
+-- what each needs, on a machine with this code, lest it be refused so
+abbrev pub Needs : DebugCommand → List ℕ → DebugState → Debugged → Type 0
+-- an instruction begins at the slot, and there is room
+Needs (command.Break slot) code d NoSlot = IsAt code slot
+Needs (command.Break slot) code d Full = takes_break slot d ≡ true
+-- a breakpoint is set at the slot
+Needs (command.Unbreak slot) code d NoSlot = has_break slot d ≡ true
+-- the range ends within the offsets of 32 bits, and there is room
+Needs (command.Watch address size) code d Outside = ends_within (watch_at address size) ≡ true
+Needs (command.Watch address size) code d Full = takes_watch (watch_at address size) d ≡ true
+-- the range is set
+Needs (command.Unwatch address size) code d NoWatch = has_watch (watch_at address size) d ≡ true
+-- the machine is paused
+Needs command.Resume code d NotPaused = d.paused ≡ true
+Needs _ code d _ = Unit {0}
+
+-- ---- commands
+
+-- what is done changes the state, and a refusal doesn't
+abbrev pub left_by : Debugged → DebugState → DebugState → DebugState
+left_by Done old changed = changed
+left_by _ old changed = old
+
+-- a debugging command on a machine with this code
+abbrev pub Debugs : DebugCommand → List ℕ → DebugState → Debugged → DebugState → Type 0
+Debugs c code old outcome new = Decides (Needs c code old) (refusals_of c) Done outcome × (new ≡ left_by outcome old (change_of c old))

@@ -1,5 +1,5 @@
 -- What follows of breakpoints, watched ranges and steps, in their users' words. None of it speaks of the code.
-use Rattle.std.specs.Prelude.{◌≡◌, ◌≢◌, ◌≤◌, ◌<◌, ◌+◌, ℕ, true, false, ◌↔◌, List, [], Option, Some, Result}
+use Rattle.std.specs.Prelude.{◌≡◌, ◌≢◌, ◌≤◌, ◌<◌, ◌+◌, ℕ, true, false, ◌↔◌, List, [], Option, Some}
 use Rattle.std.specs.List.{Any}
 use Rattle.isa_table.specs.declared.instr.Size.{Size}
 use Rattle.isa_table.specs.declared.instr.Width.{Width}
@@ -12,11 +12,14 @@ use Rattle.machine.specs.declared.state.Stop.{Stop}
 use Rattle.machine.specs.declared.state.Stepped.TheVariants.{Ran, Waiting, Stopped}
 use Rattle.machine.specs.declared.state.Written.{Written}
 use Rattle.machine.specs.Rows.{range}
-use Rattle.debugger.specs.declared.errors.SetBreakError.{SetBreakError}
+use Rattle.debugger.specs.declared.commands.Way.{Way}
+use Rattle.debugger.specs.declared.commands.Way.TheVariants.{Step, One}
+use Rattle.debugger.specs.declared.commands.DebugCommand.TheVariants.{Break}
+use Rattle.debugger.specs.declared.replies.Debugged.{Debugged}
 use Rattle.debugger.specs.declared.watch.Watch.{Watch}
 use Rattle.debugger.specs.DebugState.{DebugState, has_break, has_watch, hits}
-use Rattle.debugger.specs.Changes.{with_break, without_break, SetsBreak, with_watch, without_watch, resumed}
-use Rattle.debugger.specs.Steps.{is_to_pause, before, after_step, debugged_step, debugged_one}
+use Rattle.debugger.specs.Changes.{with_break, without_break, with_watch, without_watch, resumed, Debugs}
+use Rattle.debugger.specs.Steps.{is_to_pause, with_pause, after_run, debugged}
 
 -- ---- breakpoints
 
@@ -36,8 +39,8 @@ BreaksBegin code d = (slot : ℕ) → has_break slot d ≡ true → IsAt code sl
 
 -- Where each breakpoint is at an instruction of the code, setting one keeps that.
 abbrev pub BreaksStayAtInstructions : Type 0
-BreaksStayAtInstructions = (code : List ℕ) (slot : ℕ) (old new : DebugState) (answer : Result Unit SetBreakError)
-    → SetsBreak code slot old answer new → BreaksBegin code old → BreaksBegin code new
+BreaksStayAtInstructions = (code : List ℕ) (slot : ℕ) (old new : DebugState) (outcome : Debugged)
+    → Debugs (Break slot) code old outcome new → BreaksBegin code old → BreaksBegin code new
 
 -- ---- watched ranges
 
@@ -86,28 +89,27 @@ FailedExchangesNeverHit = (number offset found src r0 : ℕ) (width : Width) (d 
 
 -- Looking again before a step changes nothing more: a machine that has paused stays paused.
 abbrev pub PausingStays : Type 0
-PausingStays = (slot : ℕ) (d : DebugState) → before slot (before slot d) ≡ before slot d
+PausingStays = (slot : ℕ) (d : DebugState) → with_pause slot (with_pause slot d) ≡ with_pause slot d
 
 -- A step after `resume` does not pause, whatever is set.
 abbrev pub ResumingGoesOn : Type 0
 ResumingGoesOn = (slot : ℕ) (d : DebugState) → is_to_pause slot (resumed d) ≡ false
 
--- After a step that ran the machine pauses at each breakpoint again.
+-- After a `step` that ran the machine pauses at each breakpoint again.
 abbrev pub PassingEnds : Type 0
-PassingEnds = (slot : ℕ) (w : Option Written) (d : DebugState) → has_break slot d ≡ true → is_to_pause slot (after_step w d) ≡ true
+PassingEnds = (slot : ℕ) (w : Option Written) (d : DebugState) → has_break slot d ≡ true → is_to_pause slot (after_run Step w d) ≡ true
 
 -- A machine that waits changes nothing, by `step` and by `one`.
 abbrev pub WaitingChangesNothing : Type 0
-WaitingChangesNothing = (n : ℕ) (d : DebugState) → (debugged_step (Waiting n) d ≡ d) × (debugged_one (Waiting n) d ≡ d)
+WaitingChangesNothing = (way : Way) (n : ℕ) (d : DebugState) → debugged way (Waiting n) d ≡ d
 
 -- A machine that stops is not paused, and keeps its breakpoints and watched ranges.
 abbrev pub StopsEndPauses : Type 0
-StopsEndPauses = (s : Stop) (d : DebugState)
-    → (debugged_step (Stopped s) d ≡ record d { paused = false }) × (debugged_one (Stopped s) d ≡ record d { paused = false })
+StopsEndPauses = (way : Way) (s : Stop) (d : DebugState) → debugged way (Stopped s) d ≡ record d { paused = false }
 
--- By `one` the machine is paused in any case; all else is as by `step`.
+-- After a `one` that ran the machine is paused; all else is as after a `step`.
 abbrev pub OnesPause : Type 0
-OnesPause = (w : Option Written) (d : DebugState) → debugged_one (Ran w) d ≡ record (debugged_step (Ran w) d) { paused = true }
+OnesPause = (w : Option Written) (d : DebugState) → debugged One (Ran w) d ≡ record (debugged Step (Ran w) d) { paused = true }
 
 -- Where nothing is set, a machine that is not paused never pauses, and no write hits.
 abbrev pub NothingSetNothingPauses : Type 0

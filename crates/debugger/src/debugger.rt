@@ -2,13 +2,13 @@
 ghost use Rattle.std.specs.Prelude.{◌≡◌, ◌≤◌, nat_eq, true, false, not, length, if◌then◌else◌};
 ghost use Rattle.std.specs.List.{list_any, filter};
 ghost use Rattle.loader.specs.ValidCode.{IsAt};
-ghost use Rattle.debugger.specs.declared.debugger.Before.TheVariants as before_answer;
-ghost use Rattle.debugger.specs.declared.debugger.After.TheVariants as after_answer;
+ghost use Rattle.debugger.specs.declared.commands.DebugCommand.{DebugCommand};
 ghost use Rattle.debugger.specs.DebugState.{debug_start, AreDistinctBy, has_break, has_watch, is_same_watch, watch_at, overlaps, hits, break_limit, watch_limit};
-ghost use Rattle.debugger.specs.Changes.{SetsBreak, ClearsBreak, SetsWatch, ClearsWatch, Resumes};
-ghost use Rattle.debugger.specs.Steps.{is_to_pause, before, after_step, after_one, after_stop};
+ghost use Rattle.debugger.specs.Changes.{Debugs};
+ghost use Rattle.debugger.specs.Steps.{is_to_pause, with_pause, after_run, after_stop};
 
-use crate::errors::{ClearBreakError, ClearWatchError, ResumeError, SetBreakError, SetWatchError};
+use crate::commands::{DebugCommand, Way};
+use crate::replies::Debugged;
 use crate::watch::Watch;
 use arrayvec::ArrayVec;
 use loader::Program;
@@ -21,24 +21,6 @@ pub const BREAK_LIMIT: usize = 16;
 
 /// How many ranges a machine may watch (this project's choice).
 pub const WATCH_LIMIT: usize = 8;
-
-/// Whether a step may be done.
-#[derive(Clone, Copy, Drop, Debug, PartialEq, Eq)]
-pub enum Before {
-    /// The machine is paused: nothing is to be done.
-    Pause,
-    /// The step is to be done.
-    Go,
-}
-
-/// What a step that ran is answered.
-#[derive(Clone, Copy, Drop, Debug, PartialEq, Eq)]
-pub enum After {
-    /// It wrote a byte of a watched range.
-    Hit,
-    /// It wrote none.
-    Ran,
-}
 
 /// The breakpoints and watched ranges of one machine, and whether it is paused. Takes no memory.
 #[derive(Drop)]
@@ -109,118 +91,122 @@ impl Debugger {
 
     // ---- commands
 
-    /// Sets a breakpoint at a slot of the machine's program. One that is set already stays.
-    pub fn set_break(&mut self, program: &Program, slot: usize) -> Result<(), SetBreakError>
-        ensures { SetsBreak program.now slot self.old result self.new }
+    /// Does a command on the machine of this program. A refusal changes nothing.
+    pub fn apply(&mut self, program: &Program, command: DebugCommand) -> Debugged
+        ensures { Debugs command program.now self.old result self.new }
     {
+        match command {
+            DebugCommand::Break { slot } => self.set_break(program, slot),
+            DebugCommand::Unbreak { slot } => self.clear_break(program, slot),
+            DebugCommand::Watch { address, length } => self.set_watch(program, address, length),
+            DebugCommand::Unwatch { address, length } => self.clear_watch(program, address, length),
+            DebugCommand::Resume => self.resume(program),
+        }
+    }
+
+    /// Sets a breakpoint at a slot of the machine's program. One that is set already stays.
+    fn set_break(&mut self, program: &Program, slot: u32) -> Debugged
+        ensures { Debugs (DebugCommand.Break slot) program.now self.old result self.new }
+    {
+        let slot = slot as usize;
         if !begins(program, slot) {
-            return Err(SetBreakError::NoSlot);
+            return Debugged::NoSlot;
         }
         if has_slot(self.breakpoints.as_slice(), slot) {
-            return Ok(());
+            return Debugged::Done;
         }
         if self.breakpoints.is_full() {
-            return Err(SetBreakError::Full);
+            return Debugged::Full;
         }
         self.breakpoints.push(slot);
-        Ok(())
+        Debugged::Done
     }
 
     /// Clears the breakpoint at a slot.
-    pub fn clear_break(&mut self, slot: usize) -> Result<(), ClearBreakError>
-        ensures { ClearsBreak slot self.old result self.new }
+    fn clear_break(&mut self, _program: &Program, slot: u32) -> Debugged
+        ensures { Debugs (DebugCommand.Unbreak slot) _program.now self.old result self.new }
     {
+        let slot = slot as usize;
         if !has_slot(self.breakpoints.as_slice(), slot) {
-            return Err(ClearBreakError::NoSlot);
+            return Debugged::NoSlot;
         }
         self.breakpoints = slots_but(self.breakpoints.as_slice(), slot);
-        Ok(())
+        Debugged::Done
     }
 
     /// Watches so many bytes from an address on. A range that is watched already stays.
-    pub fn set_watch(&mut self, address: u64, length: u32) -> Result<(), SetWatchError>
-        ensures { SetsWatch (watch_at address length) self.old result self.new }
+    fn set_watch(&mut self, _program: &Program, address: u64, length: u32) -> Debugged
+        ensures { Debugs (DebugCommand.Watch address length) _program.now self.old result self.new }
     {
         let watch = Watch::at(address, length);
         if !watch.ends_within() {
-            return Err(SetWatchError::Outside);
+            return Debugged::Outside;
         }
         if has_range(self.watches.as_slice(), &watch) {
-            return Ok(());
+            return Debugged::Done;
         }
         if self.watches.is_full() {
-            return Err(SetWatchError::Full);
+            return Debugged::Full;
         }
         self.watches.push(watch);
-        Ok(())
+        Debugged::Done
     }
 
     /// Watches a range no more. It has to have this address and this length.
-    pub fn clear_watch(&mut self, address: u64, length: u32) -> Result<(), ClearWatchError>
-        ensures { ClearsWatch (watch_at address length) self.old result self.new }
+    fn clear_watch(&mut self, _program: &Program, address: u64, length: u32) -> Debugged
+        ensures { Debugs (DebugCommand.Unwatch address length) _program.now self.old result self.new }
     {
         let watch = Watch::at(address, length);
         if !has_range(self.watches.as_slice(), &watch) {
-            return Err(ClearWatchError::NoWatch);
+            return Debugged::NoWatch;
         }
         self.watches = ranges_but(self.watches.as_slice(), &watch);
-        Ok(())
+        Debugged::Done
     }
 
     /// Lets a paused machine go on. The breakpoint where it is, if any, is passed.
-    pub fn resume(&mut self) -> Result<(), ResumeError>
-        ensures { Resumes self.old result self.new }
+    fn resume(&mut self, _program: &Program) -> Debugged
+        ensures { Debugs DebugCommand.Resume _program.now self.old result self.new }
     {
         if !mem::take(&mut self.paused) {
-            return Err(ResumeError::NotPaused);
+            return Debugged::NotPaused;
         }
         self.pass = true;
-        Ok(())
+        Debugged::Done
     }
 
     // ---- around a step
 
-    /// Before a `step` of a machine at this slot that isn't stopped: whether it pauses there.
+    /// Whether a `step` of a machine at this slot that isn't stopped pauses there, which is noted.
     #[inline]
-    pub fn before(&mut self, slot: usize) -> Before
-        ensures answer { result ≡ (if is_to_pause slot self.old then before_answer.Pause else before_answer.Go) }
-        ensures new { self.new ≡ before slot self.old }
+    pub fn pauses(&mut self, slot: usize) -> bool
+        ensures answer { result ≡ is_to_pause slot self.old }
+        ensures new { self.new ≡ with_pause slot self.old }
     {
         if self.paused {
-            return Before::Pause;
+            return true;
         }
         if self.breakpoints.is_empty() || self.pass {
-            return Before::Go;
+            return false;
         }
         self.paused = has_slot(self.breakpoints.as_slice(), slot);
-        if self.paused {
-            return Before::Pause;
-        }
-        Before::Go
+        self.paused
     }
 
-    /// After a `step` that ran and wrote these bytes, if any: a write of a byte of a watched range pauses the machine.
+    /// After a step that ran and wrote these bytes, if any: whether it wrote a byte of a watched range. A `step` that did
+    /// pauses the machine, and each `one` does.
     #[inline]
-    pub fn after(&mut self, written: Option<Written>) -> After
-        ensures answer { result ≡ (if hits written self.old then after_answer.Hit else after_answer.Ran) }
-        ensures new { self.new ≡ after_step written self.old }
+    pub fn after(&mut self, way: Way, written: Option<Written>) -> bool
+        ensures answer { result ≡ hits written self.old }
+        ensures new { self.new ≡ after_run way written self.old }
     {
+        let hit = self.is_hit(written);
         self.pass = false;
-        if self.is_hit(written) {
-            self.paused = true;
-            return After::Hit;
+        match way {
+            Way::Step => self.paused |= hit,
+            Way::One => self.paused = true,
         }
-        After::Ran
-    }
-
-    /// After a `one` that ran and wrote these bytes, if any: the machine is paused.
-    pub fn after_one(&mut self, written: Option<Written>) -> After
-        ensures answer { result ≡ (if hits written self.old then after_answer.Hit else after_answer.Ran) }
-        ensures new { self.new ≡ after_one self.old }
-    {
-        let after = self.after(written);
-        self.paused = true;
-        after
+        hit
     }
 
     /// After a stop: the machine is not paused.

@@ -32,7 +32,7 @@ pub struct Shown {
     pub registers: [u64; 11],
 }
 
-/// Bytes of a stack or of an object.
+/// Bytes: those of a command, of a stack or of an object.
 #[derive(Drop, Debug)]
 pub struct Bytes {
     bytes: Vec<u8>,
@@ -52,6 +52,13 @@ impl Bytes {
         ensures { result ≡ bytes.items }
     {
         Bytes { bytes }
+    }
+
+    /// Gives the bytes back. Takes no memory.
+    pub fn into_vec(self) -> Vec<u8>
+        ensures { result.items ≡ self }
+    {
+        self.bytes
     }
 
     /// The bytes.

@@ -1,9 +1,8 @@
 //! A debugged machine over a store of objects. A slot of code is written as its bytes, first to last.
 
-use debugger::{After, Before, Debugger};
+use debugger::{DebugCommand, Debugged, Debuggee, ShowCommand, ShowReply, Start, StepReply, Way};
 use far_store::OwnStore;
 use loader::load;
-use machine::{Machine, Stepped, Stop};
 use object_store::{ObjectStore, StoreMemory};
 use std::alloc::Global;
 use std::test::Fail;
@@ -19,21 +18,10 @@ pub const OBJECT: u64 = 0x0000_0001_0000_0000;
 /// The address of the machine's own stack.
 pub const STACK: u64 = 0xffff_ffff_0000_0000;
 
-/// What a step of a debugged machine is answered.
-#[derive(Clone, Copy, Drop, Debug, PartialEq, Eq)]
-pub enum Answer {
-    Ran(usize),
-    Hit(usize),
-    Paused(usize),
-    Waiting(u32),
-    Stopped(Stop),
-}
-
 /// A machine with number 1, its debugger, and the objects that it reaches.
 #[derive(Drop)]
 pub struct Session {
-    pub machine: Machine,
-    pub debugger: Debugger,
+    pub debuggee: Debuggee,
     pub store: ObjectStore<OwnStore>,
 }
 
@@ -52,57 +40,56 @@ pub fn session_of(
     let mut store = ObjectStore::new(alloc, 64, OwnStore::new(alloc))?;
     let _ = store.make(8)?;
     Ok(Session {
-        machine: Machine::new(program, 1, fuel, arguments),
-        debugger: Debugger::new(),
+        debuggee: Debuggee::new(program, 1, Start::new(fuel, arguments)),
         store,
     })
 }
 
 /// One step over the objects.
-fn step_over(machine: &mut Machine, store: &mut ObjectStore<OwnStore>) -> Stepped {
-    machine.step(&mut StoreMemory { store, who: 1 })
+fn step_over(debuggee: &mut Debuggee, store: &mut ObjectStore<OwnStore>, way: Way) -> StepReply {
+    debuggee.step(way, &mut StoreMemory { store, who: 1 })
 }
 
 /// `step`: a stop comes first, then a pause.
-pub fn step(session: &mut Session) -> Answer {
-    if let Some(stop) = session.machine.stop() {
-        return Answer::Stopped(stop);
-    }
-    let slot = session.machine.slot();
-    if session.debugger.before(slot) == Before::Pause {
-        return Answer::Paused(slot);
-    }
-    match step_over(&mut session.machine, &mut session.store) {
-        Stepped::Ran(written) => {
-            let after = session.debugger.after(written);
-            answer_of(after, session.machine.slot())
-        }
-        Stepped::Waiting(number) => Answer::Waiting(number),
-        Stepped::Stopped(stop) => {
-            session.debugger.after_stop();
-            Answer::Stopped(stop)
-        }
-    }
+pub fn step(session: &mut Session) -> StepReply {
+    step_over(&mut session.debuggee, &mut session.store, Way::Step)
 }
 
 /// `one`: without a look at pauses.
-pub fn one(session: &mut Session) -> Answer {
-    match step_over(&mut session.machine, &mut session.store) {
-        Stepped::Ran(written) => {
-            let after = session.debugger.after_one(written);
-            answer_of(after, session.machine.slot())
-        }
-        Stepped::Waiting(number) => Answer::Waiting(number),
-        Stepped::Stopped(stop) => {
-            session.debugger.after_stop();
-            Answer::Stopped(stop)
-        }
-    }
+pub fn one(session: &mut Session) -> StepReply {
+    step_over(&mut session.debuggee, &mut session.store, Way::One)
 }
 
-fn answer_of(after: After, slot: usize) -> Answer {
-    match after {
-        After::Hit => Answer::Hit(slot),
-        After::Ran => Answer::Ran(slot),
-    }
+/// Sets a breakpoint.
+pub fn set(session: &mut Session, slot: u32) -> Debugged {
+    session.debuggee.debug(DebugCommand::Break { slot })
+}
+
+/// Clears a breakpoint.
+pub fn clear(session: &mut Session, slot: u32) -> Debugged {
+    session.debuggee.debug(DebugCommand::Unbreak { slot })
+}
+
+/// Watches a range.
+pub fn watch(session: &mut Session, address: u64, length: u32) -> Debugged {
+    session
+        .debuggee
+        .debug(DebugCommand::Watch { address, length })
+}
+
+/// Watches a range no more.
+pub fn unwatch(session: &mut Session, address: u64, length: u32) -> Debugged {
+    session
+        .debuggee
+        .debug(DebugCommand::Unwatch { address, length })
+}
+
+/// Lets the machine go on.
+pub fn resume(session: &mut Session) -> Debugged {
+    session.debuggee.debug(DebugCommand::Resume)
+}
+
+/// Shows something of the machine.
+pub fn show(alloc: Global, session: &Session, command: ShowCommand) -> ShowReply {
+    session.debuggee.show(alloc, command)
 }

@@ -1,5 +1,5 @@
 -- Valid code has a text of ASCII, and the numbers of its instructions fit their operands.
-use Rattle.std.proofs.Common.{◌≡◌, ℕ, ◌+◌, ◌<◌, ◌^◌, nat_lt, ℤ, pos, negsuc, true, List, [], ◌∷◌, All, refl, arith, IsAscii}
+use Rattle.std.proofs.Common.{◌≡◌, ℕ, ◌+◌, ◌<◌, ◌^◌, nat_lt, ℤ, pos, negsuc, true, List, [], ◌∷◌, All, refl, arith, rules, IsAscii}
 use Rattle.std.specs.Int.{w16, w32}
 use Rattle.std.specs.Int.RustNames.{FitsSigned}
 use Rattle.std.proofs.lemmas.Bool.Decides.{nat_tests}
@@ -9,7 +9,8 @@ use Rattle.std.proofs.lemmas.Str.Ascii.{IsAscii-from_all}
 use Rattle.isa_table.specs.declared.instr.Instr.{Instr}
 use Rattle.isa_table.specs.declared.instr.Instr.TheVariants as instr
 use Rattle.isa_table.specs.declared.instr.Operand.TheVariants as source
-use Rattle.bpf_codec.specs.Slots.{Fits, slots}
+use Rattle.isa_table.specs.Slots.{slots}
+use Rattle.bpf_codec.specs.Slots.{Fits}
 use Rattle.loader.specs.Instructions.{AllFit, slot_count}
 use Rattle.asm_table.specs.Mnemonics.{slots_of}
 use Rattle.asm_table.specs.Parts.{mnemonic_of}
@@ -30,24 +31,11 @@ within32 (negsuc n) h = omega (arith, h)
 pub fits_parts : (i : Instr) → Fits i → FitsParts i
 fits_parts (instr.Alu w op d (source.Imm z)) f = (tt, (within32 z f.1, tt))
 fits_parts (instr.Alu w op d (source.Register r)) f = (tt, (tt, tt))
-fits_parts (instr.Neg w d) f = (tt, tt)
-fits_parts (instr.MovSx8 w d s) f = (tt, (tt, tt))
-fits_parts (instr.MovSx16 w d s) f = (tt, (tt, tt))
-fits_parts (instr.MovSx32 d s) f = (tt, (tt, tt))
-fits_parts (instr.End o w d) f = (tt, tt)
 fits_parts (instr.Jump w c d (source.Imm z) o) f = (tt, (within32 z f.1, (within16 o f.0, tt)))
 fits_parts (instr.Jump w c d (source.Register s) o) f = (tt, (tt, (within16 o f.0, tt)))
-fits_parts (instr.Ja o) f = (within16 o f.0, tt)
-fits_parts (instr.JaLong o) f = (within32 o f.1, tt)
-fits_parts (instr.CallHelper k) f = (within32 k f.1, tt)
-fits_parts (instr.CallLocal o) f = (within32 o f.1, tt)
-fits_parts instr.Exit f = tt
-fits_parts (instr.Load z d s o) f = (tt, (within16 o f.0, tt))
-fits_parts (instr.LoadSigned z d s o) f = (tt, (within16 o f.0, tt))
 fits_parts (instr.Store z d (source.Imm k) o) f = (within16 o f.0, (within32 k f.1, tt))
 fits_parts (instr.Store z d (source.Register s) o) f = (within16 o f.0, (tt, tt))
-fits_parts (instr.Atomic w op d s o) f = (within16 o f.0, (tt, tt))
-fits_parts (instr.LoadImm64 d v) f = (tt, (f.1, tt))
+fits_parts _ f = search (rules, within16, within32, f)
 
 pub all_fit_parts : (code : List Instr) → AllFit code → AllFitParts code
 all_fit_parts [] f = tt
@@ -75,7 +63,7 @@ plain_ascii : (b : ℕ) → is_plain b ≡ true → b < 128
 unfolding is_plain
 plain_ascii b h = let l : nat_lt b 127 ≡ true = (and_true (nat_lt 31 b) (nat_lt b 127) h).1 in grind (arith, nat_tests)
 
-all_ascii : (bs : List ℕ) → printable bs ≡ true → All (λ b. b < 128) bs
+pub all_ascii : (bs : List ℕ) → printable bs ≡ true → All (λ b. b < 128) bs
 unfolding printable
 all_ascii [] h = All-nil (λ b. b < 128)
 all_ascii (b ∷ bs) h = let p = and_true (is_plain b) (printable bs) h in All-cons (λ b. b < 128) b bs (plain_ascii b p.0) (all_ascii bs p.1)

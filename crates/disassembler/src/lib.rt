@@ -7,4 +7,4 @@ mod operands;
 mod programs;
 
 pub use lines::line;
-pub use programs::text;
+pub use programs::{listing, text};

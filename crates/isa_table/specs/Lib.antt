@@ -3,3 +3,4 @@ pub mod Registers
 pub mod Table
 pub mod Destination
 pub mod Rows
+pub mod Slots

@@ -2,6 +2,7 @@
 ghost use Rattle.std.specs.Prelude.{◌≡◌, ◌<◌};
 ghost use Rattle.isa_table.specs.Destination.{destination, old_value_to};
 ghost use Rattle.isa_table.specs.Registers.{all_registers, register_number};
+ghost use Rattle.isa_table.specs.Slots.{slots};
 ghost use Rattle.isa_table.specs.Table.{size_bytes, size_of_signed, size_of_width};
 
 /// A register, R0 to R10 (RFC 9669, section 3.1).
@@ -344,5 +345,15 @@ impl Instr {
             | Instr::Exit
             | Instr::Store { .. } => None,
         }
+    }
+}
+
+/// How many slots the instruction takes: two in the wide encoding (RFC 9669, section 3.2), else one.
+pub fn slots_of(instr: &Instr) -> usize
+    ensures { result ≡ slots instr.now }
+{
+    match instr {
+        Instr::LoadImm64 { .. } => 2,
+        _ => 1,
     }
 }

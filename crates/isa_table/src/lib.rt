@@ -10,7 +10,7 @@ mod row_list;
 pub use bits64::alu64;
 pub use instr::{
     AluOp, AtomicOp, Binary, Cond, Instr, Operand, Order, Reg, SignedSize, Size, SwapWidth, Width,
-    registers,
+    registers, slots_of,
 };
 pub use operations::{alu32, atomic, holds, mov_sx32, swap};
 pub use row_list::rows;

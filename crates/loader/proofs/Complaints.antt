@@ -1,7 +1,7 @@
 -- What is wrong with an instruction, and that nothing of a lesser number is.
 use Rattle.std.proofs.Common.{◌≡◌, ℕ, ◌+◌, ◌<◌, true, false, List, [], ◌∷◌, Option, Some, refl, subst, sym, arith, ℤ, pos, inl, inr}
 use Rattle.isa_table.specs.declared.instr.Instr.{Instr}
-use Rattle.bpf_codec.specs.Slots.{slots}
+use Rattle.isa_table.specs.Slots.{slots}
 use Rattle.loader.specs.declared.loading.Why.{Why}
 use Rattle.loader.specs.declared.loading.Why.TheVariants as why
 use Rattle.loader.specs.Instructions.{slot_count, StandsIn, StartsIn, target, writes_r10, calls_unknown_helper, ends_code}

@@ -3,3 +3,4 @@ pub mod ValidCode
 pub mod Entries
 pub mod Refusals
 pub mod Laws
+pub mod Rows

@@ -2,7 +2,8 @@
 use Rattle.std.specs.Prelude.{◌≡◌, ◌<◌, ◌≤◌, ℕ, ◌+◌, ℤ, pos, true, false, List, [], ◌∷◌, ◌++◌, length, codes, Some, ◌⊎◌}
 use Rattle.isa_table.specs.declared.instr.Instr.{Instr}
 use Rattle.bpf_codec.specs.declared.fault.Fault.{Fault}
-use Rattle.bpf_codec.specs.Slots.{Fits, Begins, slots}
+use Rattle.isa_table.specs.Slots.{slots}
+use Rattle.bpf_codec.specs.Slots.{Fits, Begins}
 use Rattle.bpf_codec.specs.Faults.{fault_number, fault_name, IsLeastFault}
 use Rattle.loader.specs.declared.loading.Why.{Why}
 use Rattle.loader.specs.declared.loading.Why.TheVariants as why

@@ -1,7 +1,7 @@
 //! What is asked of decoded code.
 ghost use Rattle.std.specs.Prelude.{◌≡◌, ◌<◌, ◌≤◌, ◌+◌, ◌*◌, ◌↔◌, ℕ, pos, List, [], length, MatchOption, IfSome, IfNone};
 ghost use Rattle.isa_table.specs.declared.instr.Instr.{Instr};
-ghost use Rattle.bpf_codec.specs.Slots.{slots};
+ghost use Rattle.isa_table.specs.Slots.{slots};
 ghost use Rattle.loader.specs.Instructions.{target, writes_r10, calls_unknown_helper, ends_code};
 ghost use Rattle.loader.specs.ValidCode.{code_limit, LeadsInside, IsSound, AllSound};
 ghost use Rattle.loader.specs.Entries.{all_entries};
@@ -9,8 +9,7 @@ ghost use Rattle.loader.specs.Refusals.{IsLeastComplaint, IsFirstWrong};
 
 use crate::loading::{LoadError, Why};
 use crate::program::{Entry, entry_at};
-use bpf_codec::slots_of;
-use isa_table::{Instr, Reg};
+use isa_table::{Instr, Reg, slots_of};
 
 /// The slot to which the instruction at the slot jumps or calls.
 fn target_of(slot: usize, instr: Instr) -> Option<i64>

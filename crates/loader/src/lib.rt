@@ -5,7 +5,9 @@ mod checks;
 mod laws;
 mod loading;
 mod program;
+mod rows;
 
 pub use laws::{refused_for_one_reason, valid_code_is_taken};
 pub use loading::{CODE_LIMIT, LoadError, Why, load};
 pub use program::Program;
+pub use rows::{Fields, Row};

@@ -13,3 +13,7 @@ pub mod Changes
 pub mod Others
 pub mod Carried
 pub mod Replaying
+pub mod SameReplays
+pub mod Confined
+pub mod Turning
+pub mod Running

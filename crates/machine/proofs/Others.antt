@@ -2,7 +2,8 @@
 use Rattle.std.proofs.Common.{◌≡◌, ◌≢◌, ℕ, zero, suc, Bool, true, false, List, length, refl, ap, sym, ◌∙◌, subst, inl, inr}
 use Rattle.memory.specs.declared.access.Op.{Op}
 use Rattle.memory.specs.declared.access.Reach.{Reach}
-use Rattle.memory.specs.Objects.{map_memory, bytes_of}
+use Rattle.memory.specs.Objects.{bytes_of}
+use Rattle.memory.specs.MapMemory.{map_memory}
 use Rattle.memory.proofs.Accesses as accesses
 use Rattle.machine.specs.declared.state.Stepped.{Stepped}
 use Rattle.machine.specs.MachineState.{MachineState}

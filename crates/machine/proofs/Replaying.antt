@@ -1,208 +1,220 @@
 -- A machine as the replay of its accesses.
-use Rattle.std.proofs.Common.{◌≡◌, ℕ, zero, suc, Bool, true, false, cond, nat_eq, List, [], ◌∷◌, ◌++◌, Option, Some, None, refl, ap, sym, ◌∙◌, subst, append-nil, inl, inr}
+use Rattle.std.proofs.Common.{◌≡◌, ℕ, suc, Bool, true, false, cond, nat_eq, List, [], ◌++◌, Option, Some, None, refl, ap, sym, ◌∙◌, subst, append-nil, arith, inl, inr, ◌⊎◌}
 use Rattle.isa_table.specs.declared.instr.Instr.{Instr}
-use Rattle.isa_table.specs.declared.instr.Instr.TheVariants.{CallHelper, Exit}
+use Rattle.memory.specs.declared.access.Op.{Op}
 use Rattle.memory.specs.declared.access.Reach.{Reach}
 use Rattle.memory.specs.declared.access.Reach.TheVariants as reach
-use Rattle.memory.specs.Access.{is_inside}
-use Rattle.memory.specs.Memories.{Memories}
-use Rattle.helpers.specs.declared.helper.Helper.{Helper}
-use Rattle.helpers.specs.Helpers.{helper_of}
+use Rattle.memory.specs.declared.deeds.Entry.{Entry}
+use Rattle.memory.specs.Access.{IsInside}
+use Rattle.memory.specs.Memories.{Memories, Did, KeepsPromises, entries_added}
+use Rattle.memory.proofs.Promised.{did_nothing, did_then}
 use Rattle.machine.specs.declared.state.Accessing.{Accessing}
-use Rattle.machine.specs.declared.state.Frame.{Frame}
+use Rattle.machine.specs.declared.state.Written.{Written}
 use Rattle.machine.specs.declared.state.Work.{Work}
 use Rattle.machine.specs.declared.state.Work.TheVariants.{Computes, Accesses, Measures}
 use Rattle.machine.specs.declared.state.Stop.{Stop}
 use Rattle.machine.specs.declared.state.Stop.TheVariants as stop
 use Rattle.machine.specs.declared.state.Stepped.{Stepped}
 use Rattle.machine.specs.declared.state.Stepped.TheVariants.{Ran, Waiting, Stopped}
-use Rattle.machine.specs.MachineState.{MachineState, own_stack, stack_size}
-use Rattle.machine.specs.Rows.{Request, MemoryAnswer, Outcome, asks, asks_for, told, told_for, told_own, told_access, told_call, exits, work_of}
-use Rattle.machine.specs.Rows.Request.{Nothing, Touch, Measure}
+use Rattle.machine.specs.MachineState.{MachineState, own_stack}
+use Rattle.machine.specs.Rows.{Request, MemoryAnswer, Outcome, asks_for, told, told_for, told_access, work_of}
+use Rattle.machine.specs.Rows.Request.{Nothing, Touch}
 use Rattle.machine.specs.Rows.MemoryAnswer.{NoAnswer, Reached, Measured}
-use Rattle.machine.specs.TableStep.{Attempts, AnswersRequest}
-use Rattle.machine.specs.Laws.{is_exit}
-use Rattle.machine.specs.Replay.WasAsked.{ForNothing, ForAccess}
-use Rattle.machine.specs.Replay.{Entry, Feeds, Replays, ReplaysOneWay, WasAsked, ReplaysOn, StaysReplay}
-use Rattle.machine.proofs.ValidRows.{same_next}
-use Rattle.machine.proofs.StepCases.{StepCase, step_case}
+use Rattle.machine.specs.TableStep.{TableStep, AnswersRequest, Closes, StepsFrom}
+use Rattle.machine.specs.Carrying.{goes}
+use Rattle.machine.specs.Laws.{IsWaiting, FuelPaid}
+use Rattle.machine.specs.Replay.{recorded_memory, Replays, StopsThere, IsReplay, StartsAsReplay, ReplaysOn, StaysReplay}
+use Rattle.machine.proofs.StepCases.{StepCase, step_case, steps_told, steps_stopped}
+use Rattle.machine.proofs.Stopping.{stopped_stays, stops_in_place, waits_in_place}
+use Rattle.machine.proofs.Fuel.{fuel_counts}
 
-feeds_same : {X : Type 0} (lengths : ℕ → ℕ) (q : Request) (es : List Entry) (G H : MemoryAnswer → List Entry → Type 0)
-    → ((a : MemoryAnswer) (rest : List Entry) → G a rest → H a rest → X) → Feeds lengths q es G → Feeds lengths q es H → X
-feeds_same lengths Nothing es G H f g h = f NoAnswer es g h
-feeds_same lengths (Measure n) es G H f g h = f (Measured (lengths n)) es g h
-feeds_same lengths (Touch n op) [] G H f g h = absurd g
-feeds_same lengths (Touch n op) (e ∷ es) G H f g h = f (Reached (reach.Done e.answer)) es g.2 h.2
+pub starts_as_replay : StartsAsReplay
+starts_as_replay lengths worn start = record { reached = start; steps = 0; fuel = omega arith; replays = (refl, refl); stops = inl refl }
 
-pub replays_one_way : ReplaysOneWay
-replays_one_way lengths zero old new other es p q = p.1 ∙ sym q.1
-replays_one_way lengths (suc k) old new other es p q =
-    let same : p.0 ≡ q.0 = same_next old p.0 q.0 p.1.next q.1.next in
-    feeds_same lengths (asks p.0 old) es _ _ (λ a rest g h. replays_one_way lengths k (told p.0 old a).machine new other rest g h) p.2
-    (subst (λ (i : Instr). Feeds lengths (asks i old) es (λ a rest. Replays lengths k (told i old a).machine rest other)) (sym same) q.2)
+-- ---- what a memory was asked for, as entries
 
-feeds_more : (lengths : ℕ → ℕ) (q : Request) (es fs : List Entry) (G H : MemoryAnswer → List Entry → Type 0)
-    → ((a : MemoryAnswer) (rest : List Entry) → G a rest → H a (rest ++ fs)) → Feeds lengths q es G → Feeds lengths q (es ++ fs) H
-feeds_more lengths Nothing es fs G H f g = f NoAnswer es g
-feeds_more lengths (Measure n) es fs G H f g = f (Measured (lengths n)) es g
-feeds_more lengths (Touch n op) [] fs G H f g = absurd g
-feeds_more lengths (Touch n op) (e ∷ es) fs G H f g = (g.0, g.1, f (Reached (reach.Done e.answer)) es g.2)
-
--- one instruction more at the end
-pub Replays-next : (lengths : ℕ → ℕ) (k : ℕ) (a b c : MachineState) (es fs : List Entry) → Replays lengths k a es b → Replays lengths 1 b fs c → Replays lengths (suc k) a (es ++ fs) c
-Replays-next lengths zero a b c es fs p q = rw p.0 (subst (λ (m : MachineState). Replays lengths 1 m fs c) p.1 q)
-Replays-next lengths (suc k) a b c es fs p q =
-    (p.0, p.1, feeds_more lengths (asks p.0 a) es fs _ _ (λ s rest g. Replays-next lengths k (told p.0 a s).machine b c rest fs g q) p.2)
-
--- ---- over a memory
-
--- what took fuel, and what didn't
-abbrev is_done : Stepped → Bool
-is_done (Ran w) = true
-is_done (Waiting n) = false
-is_done (Stopped s) = is_exit s
-
-abbrev Becomes : Work → Instr → MachineState → MachineState → MemoryAnswer → List Entry → Type 0
-Becomes w i old new a rest = (rest ≡ []) × (new ≡ (told_for w i old a).machine)
-
--- What an attempted instruction adds to the entries: those that it is fed by where it was done, else none, and the machine
--- stays as it was.
-abbrev Fed : Bool → (ℕ → ℕ) → Request → List Entry → (MemoryAnswer → List Entry → Type 0) → Type 0
-Fed true lengths q more goes = Feeds lengths q more goes
-Fed false lengths q more goes = more ≡ []
-
-record Feeding {M : Type 0} (mem : Memories M) (lengths : ℕ → ℕ) (b : Bool) (q : Request) (before mid : M) (goes : MemoryAnswer → List Entry → Type 0) : Type 0 where
+-- A request that was answered so did this to the memory, and is answered so by the entries too, which these are added to. A
+-- stop adds none.
+record Recorded {M : Type 0} (mem : Memories M) (lengths : ℕ → ℕ) (worn : ℕ → Bool) (q : Request) (answer : Stepped) (es : List Entry) (before : M) (said : MemoryAnswer) (mid : M) : Type 0 where
   more : List Entry
-  asked : WasAsked mem before mid more
-  feeds : Fed b lengths q more goes
-
-fed_quietly : {M : Type 0} (mem : Memories M) (lengths : ℕ → ℕ) (b : Bool) (before mid : M) (goes : MemoryAnswer → List Entry → Type 0) → mid ≡ before → goes NoAnswer [] → Feeding mem lengths b Nothing before mid goes
-fed_quietly mem lengths true before mid goes e g = record { more = []; asked = ForNothing refl e; feeds = g }
-fed_quietly mem lengths false before mid goes e g = record { more = []; asked = ForNothing refl e; feeds = refl }
-
-feed_reach : {M : Type 0} (mem : Memories M) (lengths : ℕ → ℕ) (x : Accessing) (i : Instr) (old : MachineState) (before mid : M) (r : Reach)
-    → mem.reaches before x.number x.op r mid
-    → Feeding mem lengths (is_done (told_access i x old (Reached r)).answer) (Touch x.number x.op) before mid (Becomes (Accesses x) i old (told_access i x old (Reached r)).machine)
-feed_reach mem lengths x i old before mid (reach.Done v) h = record {
-  more = record { number = x.number; op = x.op; answer = v } ∷ [];
-  asked = ForAccess x.number x.op (reach.Done v) refl h;
-  feeds = (refl, refl, (refl, refl));
-}
-feed_reach mem lengths x i old before mid reach.Away h = record { more = []; asked = ForAccess x.number x.op reach.Away refl h; feeds = refl }
-feed_reach mem lengths x i old before mid reach.Busy h = record { more = []; asked = ForAccess x.number x.op reach.Busy refl h; feeds = refl }
-feed_reach mem lengths x i old before mid reach.Outside h = record { more = []; asked = ForAccess x.number x.op reach.Outside refl h; feeds = refl }
-feed_reach mem lengths x i old before mid reach.Worn h = record { more = []; asked = ForAccess x.number x.op reach.Worn refl h; feeds = refl }
-
-feed_access : {M : Type 0} (mem : Memories M) (lengths : ℕ → ℕ) (own : Bool) (x : Accessing) (i : Instr) (old : MachineState) (before mid : M) (said : MemoryAnswer)
-    → AnswersRequest mem (cond own Nothing (Touch x.number x.op)) before said mid
-    → Feeding mem lengths (is_done (told_access i x old said).answer) (cond own Nothing (Touch x.number x.op)) before mid (Becomes (Accesses x) i old (told_access i x old said).machine)
-feed_access mem lengths true x i old before mid NoAnswer h = fed_quietly mem lengths _ before mid _ h (refl, refl)
-feed_access mem lengths true x i old before mid _ h = absurd h
-feed_access mem lengths false x i old before mid (Reached r) h = feed_reach mem lengths x i old before mid r h
-feed_access mem lengths false x i old before mid _ h = absurd h
-
-feed : {M : Type 0} (mem : Memories M) (lengths : ℕ → ℕ) (v : Work) (i : Instr) (old : MachineState) (before mid : M) (said : MemoryAnswer) → ((n : ℕ) → mem.length_of before n ≡ lengths n)
-    → AnswersRequest mem (asks_for v) before said mid
-    → Feeding mem lengths (is_done (told_for v i old said).answer) (asks_for v) before mid (Becomes v i old (told_for v i old said).machine)
-feed mem lengths Computes i old before mid NoAnswer m h = fed_quietly mem lengths _ before mid _ h (refl, refl)
-feed mem lengths Computes i old before mid _ m h = absurd h
-feed mem lengths (Measures n) i old before mid (Measured l) m h = record {
-  more = [];
-  asked = ForNothing refl h.1;
-  feeds = (refl, ap (λ x. (told_for (Measures n) i old (Measured x)).machine) (h.0 ∙ m n));
-}
-feed mem lengths (Measures n) i old before mid _ m h = absurd h
-feed mem lengths (Accesses x) i old before mid said m h = feed_access mem lengths (nat_eq x.number own_stack) x i old before mid said h
-
--- ---- an outcome that isn't done leaves the machine, a stop apart
-
-abbrev Left : Stepped → MachineState → MachineState → Type 0
-Left (Ran w) old new = Unit {0}
-Left (Waiting n) old new = new ≡ old
-Left (Stopped (stop.Exit v)) old new = Unit {0}
-Left (Stopped s) old new = (record new { stop = None }) ≡ (record old { stop = None })
-
-own_left : (b : Bool) (i : Instr) (x : Accessing) (old : MachineState) → Left (told_own b i x old).answer old (told_own b i x old).machine
-own_left true i x old = tt
-own_left false i x old = refl
-
-exit_left : (frames : List Frame) (old : MachineState) → Left (exits frames old).answer old (exits frames old).machine
-exit_left [] old = tt
-exit_left (f ∷ frames) old = tt
-
-call_left : (o : Option Helper) (i : Instr) (bytes : ℕ) (old : MachineState) → Left (told_call i o bytes old).answer old (told_call i o bytes old).machine
-call_left (Some k) i bytes old = tt
-call_left None i bytes old = tt
-
-told_left : (v : Work) (i : Instr) (old : MachineState) (a : MemoryAnswer) → Left (told_for v i old a).answer old (told_for v i old a).machine
-told_left (Accesses x) i old (Reached (reach.Done v)) = tt
-told_left (Accesses x) i old (Reached reach.Away) = refl
-told_left (Accesses x) i old (Reached reach.Busy) = refl
-told_left (Accesses x) i old (Reached reach.Outside) = refl
-told_left (Accesses x) i old (Reached reach.Worn) = refl
-told_left (Accesses x) i old _ = own_left (is_inside x.op stack_size) i x old
-told_left (Measures k) i old (Measured l) = tt
-told_left (Measures k) i old _ = tt
-told_left Computes Exit old a = exit_left old.frames old
-told_left Computes (CallHelper id) old a = call_left (helper_of id) (CallHelper id) 0 old
-told_left Computes _ old a = tt
-
--- ---- the replay after a step
-
-running : (old : MachineState) → old.stop ≡ None → record old { stop = None } ≡ old
-running old r = ap (λ (s : Option Stop). record old { stop = s }) (sym r)
-
-halted : (s : Stop) (lengths : ℕ → ℕ) (k : ℕ) (start old : MachineState) (es : List Entry) → is_exit s ≡ false → old.stop ≡ None → Replays lengths k start es old → ReplaysOn (Stopped s) lengths k start es (record old { stop = Some s })
-halted (stop.Exit v) lengths k start old es h r p = absurd (cc)
-halted stop.Outside lengths k start old es h r p = rw (running old r) p
-halted stop.Misaligned lengths k start old es h r p = rw (running old r) p
-halted stop.Depth lengths k start old es h r p = rw (running old r) p
-halted stop.Spent lengths k start old es h r p = rw (running old r) p
-halted stop.Worn lengths k start old es h r p = rw (running old r) p
-
--- by the answer: one instruction more, or the machine as it was
-on_replay : (a : Stepped) (lengths : ℕ → ℕ) (k : ℕ) (start old new : MachineState) (es fs : List Entry) (i : Instr) → Attempts old i → old.stop ≡ None → Left a old new → Replays lengths k start es old
-    → Fed (is_done a) lengths (asks i old) fs (λ s rest. (rest ≡ []) × (new ≡ (told i old s).machine)) → ReplaysOn a lengths k start (es ++ fs) new
-on_replay (Ran w) lengths k start old new es fs i t r l p f = Replays-next lengths k start old new es fs p (i, t, f)
-on_replay (Waiting n) lengths k start old new es fs i t r l p f = rw (f, append-nil es, l) p
-on_replay (Stopped (stop.Exit v)) lengths k start old new es fs i t r l p f = Replays-next lengths k start old new es fs p (i, t, f)
-on_replay (Stopped stop.Outside) lengths k start old new es fs i t r l p f = rw (f, append-nil es, l, running old r) p
-on_replay (Stopped stop.Misaligned) lengths k start old new es fs i t r l p f = rw (f, append-nil es, l, running old r) p
-on_replay (Stopped stop.Depth) lengths k start old new es fs i t r l p f = rw (f, append-nil es, l, running old r) p
-on_replay (Stopped stop.Spent) lengths k start old new es fs i t r l p f = rw (f, append-nil es, l, running old r) p
-on_replay (Stopped stop.Worn) lengths k start old new es fs i t r l p f = rw (f, append-nil es, l, running old r) p
+  did : Did mem before more mid
+  answers : AnswersRequest (recorded_memory lengths worn) q es said (es ++ more)
+  none : (s : Stop) → answer ≡ Stopped s → more ≡ []
 
 abbrev HasLengths : {M : Type 0} → Memories M → M → (ℕ → ℕ) → Type 0
 HasLengths mem before lengths = (n : ℕ) → mem.length_of before n ≡ lengths n
 
--- the entries of a step, which come before its scopes close
-record Entered {M : Type 0} (mem : Memories M) (lengths : ℕ → ℕ) (k : ℕ) (start : MachineState) (es : List Entry) (before : M) (o : Outcome) (mid : M) : Type 0 where
-  more : List Entry
-  asked : WasAsked mem before mid more
-  replays : ReplaysOn o.answer lengths k start (es ++ more) o.machine
+abbrev IsMarked : {M : Type 0} → Memories M → M → (ℕ → Bool) → Type 0
+IsMarked mem mid worn = (n : ℕ) → mem.is_worn mid n → worn n ≡ true
 
-case_replay : {M : Type 0} (mem : Memories M) (lengths : ℕ → ℕ) (k : ℕ) (start old : MachineState) (es : List Entry) (before : M) (o : Outcome) (mid : M)
-    → HasLengths mem before lengths → old.stop ≡ None → Replays lengths k start es old → StepCase mem old before o mid → Entered mem lengths k start es before o mid
-case_replay mem lengths k start old es before o mid l r p (inl d) = let e : Some d.stop ≡ None = sym d.stopped ∙ r in absurd (cc)
-case_replay mem lengths k start old es before o mid l r p (inr (inl d)) = record {
-  more = [];
-  asked = ForNothing refl d.same;
-  replays =
-      subst (λ (x : Outcome). ReplaysOn x.answer lengths k start (es ++ []) x.machine) (sym d.becomes)
-      (subst (λ (fs : List Entry). ReplaysOn (Stopped d.stop) lengths k start fs (record old { stop = Some d.stop })) (sym (append-nil es)) (halted d.stop lengths k start old es d.other r p));
+did_same : {M : Type 0} (mem : Memories M) (before mid : M) → mid ≡ before → Did mem before [] mid
+did_same {M} mem before mid e = subst (λ (x : M). Did mem before [] x) (sym e) (did_nothing mem before)
+
+ran_on : {P : Type 0} (w : Option Written) (s : Stop) → Ran w ≡ Stopped s → P
+ran_on w s e = absurd (cc)
+
+record_nothing : {M : Type 0} (mem : Memories M) (lengths : ℕ → ℕ) (worn : ℕ → Bool) (answer : Stepped) (es : List Entry) (before mid : M) → mid ≡ before
+    → Recorded mem lengths worn Nothing answer es before NoAnswer mid
+record_nothing mem lengths worn answer es before mid h = record { more = []; did = did_same mem before mid h; answers = append-nil es; none = λ s e. refl }
+
+record_reach : {M : Type 0} (mem : Memories M) (lengths : ℕ → ℕ) (worn : ℕ → Bool) (i : Instr) (x : Accessing) (old : MachineState) (es : List Entry) (before mid : M) (r : Reach)
+    → KeepsPromises mem → HasLengths mem before lengths → IsMarked mem mid worn → goes (told_access i x old (Reached r)).answer ≡ true → mem.reaches before x.number x.op r mid
+    → Recorded mem lengths worn (Touch x.number x.op) (told_access i x old (Reached r)).answer es before (Reached r) mid
+record_reach mem lengths worn i x old es before mid (reach.Done v) p l k g h = record {
+  more = entries_added x.number x.op (reach.Done v);
+  did = p.reaches before mid x.number x.op (reach.Done v) h;
+  answers = (subst (λ n. IsInside x.op n) (l x.number) (p.answers before mid x.number x.op (reach.Done v) h).0, refl);
+  none = λ s e. ran_on _ s e;
 }
-case_replay mem lengths k start old es before o mid l r p (inr (inr d)) =
-    let w : Work = work_of d.instr old.registers in
-    let f = feed mem lengths w d.instr old before mid d.said l d.answers in
+record_reach mem lengths worn i x old es before mid reach.Outside p l k g h = record {
+  more = [];
+  did = p.reaches before mid x.number x.op reach.Outside h;
+  answers = (λ j. p.answers before mid x.number x.op reach.Outside h (subst (λ n. IsInside x.op n) (sym (l x.number)) j), append-nil es);
+  none = λ s e. refl;
+}
+record_reach mem lengths worn i x old es before mid reach.Worn p l k g h = record {
+  more = [];
+  did = p.reaches before mid x.number x.op reach.Worn h;
+  answers = let a = p.answers before mid x.number x.op reach.Worn h in (subst (λ n. IsInside x.op n) (l x.number) a.0, k x.number a.1, append-nil es);
+  none = λ s e. refl;
+}
+record_reach mem lengths worn i x old es before mid reach.Away p l k g h = absurd (cc)
+record_reach mem lengths worn i x old es before mid reach.Busy p l k g h = absurd (cc)
+
+record_access : {M : Type 0} (mem : Memories M) (lengths : ℕ → ℕ) (worn : ℕ → Bool) (own : Bool) (i : Instr) (x : Accessing) (old : MachineState) (es : List Entry) (before mid : M) (said : MemoryAnswer)
+    → KeepsPromises mem → HasLengths mem before lengths → IsMarked mem mid worn → goes (told_access i x old said).answer ≡ true
+    → AnswersRequest mem (cond own Nothing (Touch x.number x.op)) before said mid
+    → Recorded mem lengths worn (cond own Nothing (Touch x.number x.op)) (told_access i x old said).answer es before said mid
+record_access mem lengths worn true i x old es before mid NoAnswer p l k g h = record_nothing mem lengths worn _ es before mid h
+record_access mem lengths worn true i x old es before mid _ p l k g h = absurd h
+record_access mem lengths worn false i x old es before mid (Reached r) p l k g h = record_reach mem lengths worn i x old es before mid r p l k g h
+record_access mem lengths worn false i x old es before mid _ p l k g h = absurd h
+
+record_request : {M : Type 0} (mem : Memories M) (lengths : ℕ → ℕ) (worn : ℕ → Bool) (w : Work) (i : Instr) (old : MachineState) (es : List Entry) (before mid : M) (said : MemoryAnswer)
+    → KeepsPromises mem → HasLengths mem before lengths → IsMarked mem mid worn → goes (told_for w i old said).answer ≡ true → AnswersRequest mem (asks_for w) before said mid
+    → Recorded mem lengths worn (asks_for w) (told_for w i old said).answer es before said mid
+record_request mem lengths worn Computes i old es before mid NoAnswer p l k g h = record_nothing mem lengths worn _ es before mid h
+record_request mem lengths worn Computes i old es before mid _ p l k g h = absurd h
+record_request mem lengths worn (Measures n) i old es before mid (Measured c) p l k g h = record {
+  more = [];
+  did = did_same mem before mid h.1;
+  answers = (h.0 ∙ l n, append-nil es);
+  none = λ s e. refl;
+}
+record_request mem lengths worn (Measures n) i old es before mid _ p l k g h = absurd h
+record_request mem lengths worn (Accesses x) i old es before mid said p l k g h = record_access mem lengths worn (nat_eq x.number own_stack) i x old es before mid said p l k g h
+
+-- ---- the replay after a step
+
+closed_recorded : (b : Bool) (lengths : ℕ → ℕ) (worn : ℕ → Bool) (es : List Entry) → Closes b (recorded_memory lengths worn) es es
+closed_recorded true lengths worn es = refl
+closed_recorded false lengths worn es = refl
+
+-- a machine that isn't stopped is the state that was reached
+some_none : {P : Type 0} (s : Stop) (u : Option Stop) → u ≡ Some s → u ≡ None → P
+some_none s u e f = let k : Some s ≡ None = sym e ∙ f in absurd (cc)
+
+running : (lengths : ℕ → ℕ) (worn : ℕ → Bool) (start : MachineState) (es : List Entry) (m : MachineState) (r : IsReplay lengths worn start es m) → m.stop ≡ None → Replays lengths worn r.steps start es m
+running lengths worn start es m r e = from r.stops
+  where
+    from : (m ≡ r.reached) ⊎ StopsThere lengths worn r.reached es m → Replays lengths worn r.steps start es m
+    from (inl h) = subst (λ (x : MachineState). Replays lengths worn r.steps start es x) (sym h) r.replays
+    from (inr h) = some_none h.stop m.stop (ap (λ (x : MachineState). x.stop) (stops_in_place (recorded_memory lengths worn) r.reached m es es h.stop h.other h.step)) e
+
+-- by a step of the same instruction over the entries
+on_step : (lengths : ℕ → ℕ) (worn : ℕ → Bool) (start old new : MachineState) (es more : List Entry) (a : Stepped) → goes a ≡ true → ((s : Stop) → a ≡ Stopped s → more ≡ [])
+    → old.stop ≡ None → IsReplay lengths worn start es old → FuelPaid a old new → TableStep (recorded_memory lengths worn) old es a new (es ++ more) → IsReplay lengths worn start (es ++ more) new
+on_step lengths worn start old new es more (Waiting n) g none e r f t = absurd (cc)
+on_step lengths worn start old new es more (Ran w) g none e r f t = record {
+  reached = new;
+  steps = suc r.steps;
+  fuel = omega (arith, r.fuel, f);
+  replays = (old, es, running lengths worn start es old r e, record { answer = Ran w; step = t; paid = f });
+  stops = inl refl;
+}
+on_step lengths worn start old new es more (Stopped (stop.Exit v)) g none e r f t = record {
+  reached = new;
+  steps = suc r.steps;
+  fuel = omega (arith, r.fuel, f);
+  replays = (old, es, running lengths worn start es old r e, record { answer = Stopped (stop.Exit v); step = t; paid = f });
+  stops = inl refl;
+}
+on_step lengths worn start old new es more (Stopped s) g none e r f t = on_stop (none s refl) (ap (λ (m : MachineState). m.fuel) f)
+  where
+    on_stop : more ≡ [] → new.fuel ≡ old.fuel → IsReplay lengths worn start (es ++ more) new
+    on_stop n k =
+        let same : es ++ more ≡ es = ap (λ (l : List Entry). es ++ l) n ∙ append-nil es in
+        subst (λ (l : List Entry). IsReplay lengths worn start l new) (sym same) (record {
+          reached = old;
+          steps = r.steps;
+          fuel = omega (arith, r.fuel, k);
+          replays = running lengths worn start es old r e;
+          stops = inr (record { stop = s; other = refl; step = subst (λ (l : List Entry). TableStep (recorded_memory lengths worn) old es (Stopped s) new l) same t });
+        })
+
+did_closed : {M : Type 0} (mem : Memories M) (b : Bool) (mid after : M) → KeepsPromises mem → Closes b mem mid after → Did mem mid [] after
+did_closed mem true mid after p h = p.closes mid after h
+did_closed mem false mid after p h = did_same mem mid after h
+
+unmoved : {M : Type 0} (mem : Memories M) (lengths : ℕ → ℕ) (worn : ℕ → Bool) (start old new : MachineState) (es : List Entry) (before after : M) → new ≡ old → Did mem before [] after
+    → IsReplay lengths worn start es old → ReplaysOn mem lengths worn start es before new after
+unmoved mem lengths worn start old new es before after e d r = record {
+  more = [];
+  did = d;
+  replay = subst (λ (l : List Entry). IsReplay lengths worn start l new) (sym (append-nil es)) (subst (λ (m : MachineState). IsReplay lengths worn start es m) (sym e) r);
+}
+
+joined : {M : Type 0} (mem : Memories M) (before mid after : M) (more : List Entry) → Did mem before more mid → Did mem mid [] after → Did mem before more after
+joined mem before mid after more p q = subst (λ (l : List Entry). Did mem before l after) (append-nil more) (did_then mem before mid after more [] p q)
+
+waiting_did : {M : Type 0} (mem : Memories M) (before after : M) (n : ℕ) (op : Op) (r : Reach) → KeepsPromises mem → IsWaiting r → mem.reaches before n op r after → Did mem before [] after
+waiting_did mem before after n op reach.Away p w h = p.reaches before after n op reach.Away h
+waiting_did mem before after n op reach.Busy p w h = p.reaches before after n op reach.Busy h
+waiting_did mem before after n op _ p w h = absurd w
+
+pub waited_did : {M : Type 0} (mem : Memories M) → KeepsPromises mem → (old new : MachineState) (before after : M) (n : ℕ) → TableStep mem old before (Waiting n) new after → Did mem before [] after
+waited_did mem p old new before after n t =
+    let w = waits_in_place mem old new before after n t in
+    waiting_did mem before after n w.1.1 w.1.2 p w.1.6 w.1.5
+
+case_replay : {M : Type 0} (mem : Memories M) (lengths : ℕ → ℕ) (worn : ℕ → Bool) (start old new : MachineState) (es : List Entry) (before mid after : M) (a : Stepped) (closes : Bool)
+    → KeepsPromises mem → HasLengths mem before lengths → IsMarked mem mid worn → goes a ≡ true → Closes closes mem mid after → old.stop ≡ None → IsReplay lengths worn start es old → FuelPaid a old new
+    → StepCase mem old before (record { machine = new; answer = a; closes = closes }) mid → ReplaysOn mem lengths worn start es before new after
+case_replay mem lengths worn start old new es before mid after a closes p l k g c e r f (inl d) = some_none d.stop old.stop d.stopped e
+case_replay mem lengths worn start old new es before mid after a closes p l k g c e r f (inr (inl d)) =
+    let o : Outcome = record { machine = new; answer = a; closes = closes } in
+    let steps = subst (λ (x : Outcome). StepsFrom old.stop (recorded_memory lengths worn) old es x es) (sym d.becomes) (steps_stopped (recorded_memory lengths worn) d.stop old es e d.cause) in
+    let t : TableStep (recorded_memory lengths worn) old es a new es = record { closes = closes; mid = es; steps = steps; closed = closed_recorded closes lengths worn es } in
     record {
-      more = f.more;
-      asked = f.asked;
-      replays =
-          subst (λ (x : Outcome). ReplaysOn x.answer lengths k start (es ++ f.more) x.machine) (sym d.becomes)
-          (on_replay (told d.instr old d.said).answer lengths k start old (told d.instr old d.said).machine es f.more d.instr d.attempts r (told_left w d.instr old d.said) p f.feeds);
+      more = [];
+      did = joined mem before mid after [] (did_same mem before mid d.same) (did_closed mem closes mid after p c);
+      replay = on_step lengths worn start old new es [] a g (λ s h. refl) e r f (subst (λ (x : List Entry). TableStep (recorded_memory lengths worn) old es a new x) (sym (append-nil es)) t);
+    }
+case_replay mem lengths worn start old new es before mid after a closes p l k g c e r f (inr (inr d)) =
+    let o : Outcome = record { machine = new; answer = a; closes = closes } in
+    let same : (told d.instr old d.said).answer ≡ a = sym (ap (λ (x : Outcome). x.answer) d.becomes) in
+    let w = record_request mem lengths worn (work_of d.instr old) d.instr old es before mid d.said p l k (ap goes same ∙ g) d.answers in
+    let steps = subst (λ (x : Outcome). StepsFrom old.stop (recorded_memory lengths worn) old es x (es ++ w.more)) (sym d.becomes)
+    (steps_told (recorded_memory lengths worn) d.instr old es (es ++ w.more) d.said d.attempts w.answers) in
+    record {
+      more = w.more;
+      did = joined mem before mid after w.more w.did (did_closed mem closes mid after p c);
+      replay = on_step lengths worn start old new es w.more a g (λ s h. w.none s (same ∙ h)) e r f (record { closes = closes; mid = es ++ w.more; steps = steps; closed = closed_recorded closes lengths worn (es ++ w.more) });
     }
 
-pub stays_replay : {M : Type 0} (mem : Memories M) → StaysReplay mem
-stays_replay {M} mem lengths k start old new es before after a l r p t =
-    let e = case_replay mem lengths k start old es before _ t.mid l r p (step_case mem old.stop old before _ t.mid refl t.steps) in
-    record { more = e.more; mid = t.mid; closes = t.closes; asked = e.asked; closed = t.closed; replays = e.replays }
+stepped : {M : Type 0} (mem : Memories M) (lengths : ℕ → ℕ) (worn : ℕ → Bool) (start old new : MachineState) (es : List Entry) (before after : M) (a : Stepped) (u : Option Stop)
+    → KeepsPromises mem → HasLengths mem before lengths → IsMarked mem after worn → IsReplay lengths worn start es old → old.stop ≡ u → TableStep mem old before a new after → ReplaysOn mem lengths worn start es before new after
+stepped mem lengths worn start old new es before after a (Some s) p l k r e t =
+    let h = stopped_stays mem old new before after a s e t in
+    unmoved mem lengths worn start old new es before after h.1 (did_same mem before after h.2) r
+stepped mem lengths worn start old new es before after (Waiting n) None p l k r e t =
+    unmoved mem lengths worn start old new es before after (waits_in_place mem old new before after n t).0 (waited_did mem p old new before after n t) r
+stepped mem lengths worn start old new es before after (Ran w) None p l k r e t =
+    case_replay mem lengths worn start old new es before t.mid after (Ran w) t.closes p l (λ n m. k n ((did_closed mem t.closes t.mid after p t.closed).worn n m)) refl t.closed e r
+    (fuel_counts mem old new before after (Ran w) e t) (step_case mem old.stop old before _ t.mid refl t.steps)
+stepped mem lengths worn start old new es before after (Stopped s) None p l k r e t =
+    case_replay mem lengths worn start old new es before t.mid after (Stopped s) t.closes p l (λ n m. k n ((did_closed mem t.closes t.mid after p t.closed).worn n m)) refl t.closed e r
+    (fuel_counts mem old new before after (Stopped s) e t) (step_case mem old.stop old before _ t.mid refl t.steps)
+
+pub stays_replay : {M : Type 0} (mem : Memories M) → KeepsPromises mem → StaysReplay mem
+stays_replay {M} mem p lengths worn start old new es before after a l k r t = stepped mem lengths worn start old new es before after a old.stop p l k r refl t

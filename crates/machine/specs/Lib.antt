@@ -1,3 +1,4 @@
+pub mod Grants
 pub mod MachineState
 pub mod Rows
 pub mod TableStep
@@ -5,4 +6,7 @@ pub mod Laws
 pub mod FramePointer
 pub mod Replay
 pub mod Carrying
+pub mod Confinement
 pub mod Variants
+pub mod Turns
+pub mod Runs

@@ -1,71 +1,88 @@
 -- A machine is its start, done again with the answers that its accesses were given. No memory is needed to say it.
-use Rattle.std.specs.Prelude.{◌≡◌, ℕ, Bool, zero, suc, List, [], ◌∷◌, ◌++◌, None}
-use Rattle.isa_table.specs.declared.instr.Instr.{Instr}
+use Rattle.std.specs.Prelude.{◌≡◌, ◌⊎◌, ℕ, zero, suc, ◌+◌, Bool, true, false, List, [], ◌++◌}
 use Rattle.memory.specs.declared.access.Op.{Op}
 use Rattle.memory.specs.declared.access.Reach.{Reach}
-use Rattle.memory.specs.declared.access.Reach.TheVariants.{Done}
-use Rattle.memory.specs.Memories.{Memories}
-use Rattle.machine.specs.declared.state.Stop.TheVariants as stop
+use Rattle.memory.specs.declared.access.Reach.TheVariants.{Done, Outside, Worn}
+use Rattle.memory.specs.declared.deeds.Entry.{Entry}
+use Rattle.memory.specs.Access.{IsInside}
+use Rattle.memory.specs.Memories.Known.{OwnEntries}
+use Rattle.memory.specs.Memories.{Memories, Did, entries_added}
+use Rattle.machine.specs.declared.state.Stop.{Stop}
 use Rattle.machine.specs.declared.state.Stepped.{Stepped}
-use Rattle.machine.specs.declared.state.Stepped.TheVariants.{Ran, Waiting, Stopped}
+use Rattle.machine.specs.declared.state.Stepped.TheVariants.{Stopped}
 use Rattle.machine.specs.MachineState.{MachineState}
-use Rattle.machine.specs.Rows.{Request, MemoryAnswer, asks, told}
-use Rattle.machine.specs.Rows.Request.{Nothing, Touch, Measure}
-use Rattle.machine.specs.Rows.MemoryAnswer.{NoAnswer, Reached, Measured}
-use Rattle.machine.specs.TableStep.{TableStep, Attempts, Closes}
+use Rattle.machine.specs.TableStep.{TableStep}
+use Rattle.machine.specs.Laws.{is_exit}
 
--- an access of an object that was done
-pub record Entry : Type 0 where
-  pub number : ℕ
-  pub op : Op
-  pub answer : ℕ
+-- ---- a history as a memory
 
--- a request is answered by the next entry, or needs none
-abbrev pub Feeds : (ℕ → ℕ) → Request → List Entry → (MemoryAnswer → List Entry → Type 0) → Type 0
-Feeds lengths Nothing es goes = goes NoAnswer es
-Feeds lengths (Measure n) es goes = goes (Measured (lengths n)) es
-Feeds lengths (Touch n op) [] goes = ⊥
-Feeds lengths (Touch n op) (e ∷ es) goes = (e.number ≡ n) × (e.op ≡ op) × goes (Reached (Done e.answer)) es
+-- An access that isn't inside its object is Outside. One that is inside is done, with any answer, and is the next entry; where
+-- the object is marked as worn, it may be Worn. `lengths` are those of the objects.
+abbrev pub recorded : (ℕ → ℕ) → (ℕ → Bool) → List Entry → ℕ → Op → Reach → List Entry → Type 0
+recorded lengths worn es n op Outside fs = (IsInside op (lengths n) → ⊥) × (fs ≡ es)
+recorded lengths worn es n op (Done x) fs = IsInside op (lengths n) × (fs ≡ es ++ entries_added n op (Done x))
+recorded lengths worn es n op Worn fs = IsInside op (lengths n) × (worn n ≡ true) × (fs ≡ es)
+recorded lengths worn es n op _ fs = ⊥
 
--- So many instructions, one after the other, use up the entries. `lengths` are those of the objects.
-abbrev pub Replays : (ℕ → ℕ) → ℕ → MachineState → List Entry → MachineState → Type 0
-Replays lengths zero old es new = (es ≡ []) × (new ≡ old)
-Replays lengths (suc k) old es new = (i : Instr) × Attempts old i × Feeds lengths (asks i old) es (λ a rest. Replays lengths k (told i old a).machine rest new)
+-- the entries so far as a memory
+abbrev pub recorded_memory : (ℕ → ℕ) → (ℕ → Bool) → Memories (List Entry)
+recorded_memory lengths worn = record {
+  reaches = recorded lengths worn;
+  closes = λ es fs. fs ≡ es;
+  length_of = λ es n. lengths n;
+  knows = λ es. OwnEntries es;
+  is_worn = λ es n. worn n ≡ true;
+}
 
--- With the same answers a machine goes the same way.
+-- ---- replays
+
+-- One instruction is done: a table step takes one fuel. With it the entries es become fs.
+pub record Advances (lengths : ℕ → ℕ) (worn : ℕ → Bool) (old : MachineState) (es : List Entry) (new : MachineState) (fs : List Entry) : Type 0 where
+  pub answer : Stepped
+  pub step : TableStep (recorded_memory lengths worn) old es answer new fs
+  pub paid : new.fuel + 1 ≡ old.fuel
+
+-- So many instructions from the start, one after the other, make this state and these entries, and no others.
+abbrev pub Replays : (ℕ → ℕ) → (ℕ → Bool) → ℕ → MachineState → List Entry → MachineState → Type 0
+Replays lengths worn zero start es m = (es ≡ []) × (m ≡ start)
+Replays lengths worn (suc k) start es m = (mid : MachineState) × (earlier : List Entry) × Replays lengths worn k start earlier mid × Advances lengths worn mid earlier m es
+
+-- The stop, other than exit, that a table step names there.
+pub record StopsThere (lengths : ℕ → ℕ) (worn : ℕ → Bool) (reached : MachineState) (es : List Entry) (m : MachineState) : Type 0 where
+  pub stop : Stop
+  pub other : is_exit stop ≡ false
+  pub step : TableStep (recorded_memory lengths worn) reached es (Stopped stop) m es
+
+-- The machine is the replay of the entries from its start: as many instructions as fuel is gone use them up and make this
+-- state, a stop apart. Its stop is that of the state reached, or the one other than exit that the table names there: worn only
+-- where the next instruction is an inside access to an object that is marked so.
+pub record IsReplay (lengths : ℕ → ℕ) (worn : ℕ → Bool) (start : MachineState) (es : List Entry) (m : MachineState) : Type 0 where
+  pub reached : MachineState
+  pub steps : ℕ
+  pub fuel : m.fuel + steps ≡ start.fuel
+  pub replays : Replays lengths worn steps start es reached
+  pub stops : (m ≡ reached) ⊎ StopsThere lengths worn reached es m
+
+-- ---- laws
+
+-- With the same entries a machine goes the same way.
 abbrev pub ReplaysOneWay : Type 0
-ReplaysOneWay = (lengths : ℕ → ℕ) (k : ℕ) (old new other : MachineState) (es : List Entry) → Replays lengths k old es new → Replays lengths k old es other → new ≡ other
+ReplaysOneWay = (lengths : ℕ → ℕ) (worn : ℕ → Bool) (k : ℕ) (start new other : MachineState) (es : List Entry)
+    → Replays lengths worn k start es new → Replays lengths worn k start es other → new ≡ other
 
--- ---- over a memory
+-- The start is the replay of no entries.
+abbrev pub StartsAsReplay : Type 0
+StartsAsReplay = (lengths : ℕ → ℕ) (worn : ℕ → Bool) (start : MachineState) → IsReplay lengths worn start [] start
 
--- what is added to a machine's entries by an access
-abbrev pub entries_added : ℕ → Op → Reach → List Entry
-entries_added n op (Done v) = record { number = n; op = op; answer = v } ∷ []
-entries_added n op _ = []
-
--- Memory was asked for nothing, or for one access: for the entry that is, where the access was done.
-pub data WasAsked {M : Type 0} (mem : Memories M) (before mid : M) (es : List Entry) : Type 0 where
-  ForNothing : es ≡ [] → mid ≡ before → WasAsked mem before mid es
-  ForAccess : (n : ℕ) (op : Op) (r : Reach) → es ≡ entries_added n op r → mem.reaches before n op r mid → WasAsked mem before mid es
-
--- after a step that answered so: one instruction more where it took fuel, else the same replay, a stop apart
-abbrev pub ReplaysOn : Stepped → (ℕ → ℕ) → ℕ → MachineState → List Entry → MachineState → Type 0
-ReplaysOn (Ran w) lengths k start es new = Replays lengths (suc k) start es new
-ReplaysOn (Waiting n) lengths k start es new = Replays lengths k start es new
-ReplaysOn (Stopped (stop.Exit v)) lengths k start es new = Replays lengths (suc k) start es new
-ReplaysOn (Stopped s) lengths k start es new = Replays lengths k start es (record new { stop = None })
-
--- The machine is the replay of the entries es, and of those that memory was asked for since.
-pub record ReplaysWith {M : Type 0} (mem : Memories M) (lengths : ℕ → ℕ) (k : ℕ) (start : MachineState) (es : List Entry) (before : M) (a : Stepped) (new : MachineState) (after : M) : Type 0 where
+-- what a step over a memory did to the objects, and the machine as the replay of that too
+pub record ReplaysOn {M : Type 0} (mem : Memories M) (lengths : ℕ → ℕ) (worn : ℕ → Bool) (start : MachineState) (es : List Entry) (before : M) (new : MachineState) (after : M) : Type 0 where
   pub more : List Entry
-  pub mid : M
-  pub closes : Bool
-  pub asked : WasAsked mem before mid more
-  pub closed : Closes closes mem mid after
-  pub replays : ReplaysOn a lengths k start (es ++ more) new
+  pub did : Did mem before more after
+  pub replay : IsReplay lengths worn start (es ++ more) new
 
--- A step over any memory leaves a machine the replay of its accesses, where the objects have these lengths.
+-- A step over any memory leaves a machine the replay of what it did to the objects, where they have these lengths, and those
+-- that the memory found worn are marked.
 abbrev pub StaysReplay : {M : Type 0} → Memories M → Type 0
-StaysReplay {M} mem = (lengths : ℕ → ℕ) (k : ℕ) (start old new : MachineState) (es : List Entry) (before after : M) (a : Stepped)
-    → ((n : ℕ) → mem.length_of before n ≡ lengths n) → old.stop ≡ None → Replays lengths k start es old
-    → TableStep mem old before a new after → ReplaysWith mem lengths k start es before a new after
+StaysReplay {M} mem = (lengths : ℕ → ℕ) (worn : ℕ → Bool) (start old new : MachineState) (es : List Entry) (before after : M) (a : Stepped)
+    → ((n : ℕ) → mem.length_of before n ≡ lengths n) → ((n : ℕ) → mem.is_worn after n → worn n ≡ true)
+    → IsReplay lengths worn start es old → TableStep mem old before a new after → ReplaysOn mem lengths worn start es before new after

@@ -1,8 +1,9 @@
 //! What the table step promises, whatever the program. Each function has the law as its clause, and does nothing.
-ghost use Rattle.machine.specs.Laws.{StepsOneWay, MapStepsOneWay, AlwaysSteps, MapAlwaysSteps, StoppedStays, StopsInPlace, WaitsInPlace, FuelCounts, FuelBounds, StartsWhole, StaysWhole, StaysSized, ChangesOne, LeavesOthers, StepsCommute};
+ghost use Rattle.machine.specs.Laws.{StepsOneWay, MapStepsOneWay, AlwaysSteps, MapAlwaysSteps, StoppedStays, StopsInPlace, WaitsInPlace, WaitingDoesNothing, FuelCounts, FuelBounds, StartsWhole, StaysWhole, StaysSized, ChangesOne, LeavesOthers, StepsCommute};
 ghost use Rattle.machine.specs.FramePointer.{StartsAtTop, StaysAtDepth};
-ghost use Rattle.machine.specs.Replay.{ReplaysOneWay, StaysReplay};
+ghost use Rattle.machine.specs.Replay.{ReplaysOneWay, StartsAsReplay, StaysReplay};
 ghost use Rattle.machine.specs.Carrying.{StepsCarry};
+ghost use Rattle.machine.specs.Confinement.{StepIsConfined, StepsAreConfined, StepsProtect};
 
 use memory::Memory;
 
@@ -39,6 +40,11 @@ pub fn stops_in_place<M: Memory>()
 /// Waiting changes nothing in the machine, and comes from an access that was away or busy and from nothing else.
 pub fn waits_in_place<M: Memory>()
     ensures { WaitsInPlace M.acts }
+{}
+
+/// Nor does it do anything to an object, over any memory.
+pub fn waiting_does_nothing<M: Memory>()
+    ensures { WaitingDoesNothing M.acts }
 {}
 
 /// Fuel falls by one with each instruction that ran, EXIT included, and with nothing else.
@@ -96,7 +102,12 @@ pub fn replays_one_way()
     ensures { ReplaysOneWay }
 {}
 
-/// A machine stays the replay of the accesses that its memory keeps.
+/// A machine is the replay of nothing at its start.
+pub fn starts_as_replay()
+    ensures { StartsAsReplay }
+{}
+
+/// After a step over any memory a machine is the replay of its accesses, this one too.
 pub fn stays_replay<M: Memory>()
     ensures { StaysReplay M.acts }
 {}
@@ -104,4 +115,20 @@ pub fn stays_replay<M: Memory>()
 /// A step over one memory is a step over another as which it is seen.
 pub fn steps_carry<M: Memory, N: Memory>()
     ensures { StepsCarry M.acts N.acts }
+{}
+
+/// Over two maps of objects that agree on what a machine may read, a step gives the same machine, the same answer, and
+/// again two such maps.
+pub fn step_is_confined()
+    ensures { StepIsConfined }
+{}
+
+/// So do any number of steps.
+pub fn steps_are_confined()
+    ensures { StepsAreConfined }
+{}
+
+/// An object that isn't granted for writing keeps its bytes.
+pub fn steps_protect()
+    ensures { StepsProtect }
 {}

@@ -2,17 +2,21 @@
 #![tactic(auto)]
 
 mod accesses;
+mod grants;
 mod jumps;
 mod laws;
 mod machine;
 mod registers;
+mod rows;
 mod state;
 
+pub use grants::{GRANT_LIMIT, Grant, Grants, is_writing};
 pub use laws::{
     always_steps, changes_one, fuel_bounds, fuel_counts, leaves_others, map_always_steps,
-    map_steps_one_way, replays_one_way, starts_at_top, starts_whole, stays_at_depth, stays_replay,
-    stays_sized, stays_whole, steps_carry, steps_commute, steps_one_way, stopped_stays,
-    stops_in_place, waits_in_place,
+    map_steps_one_way, replays_one_way, starts_as_replay, starts_at_top, starts_whole,
+    stays_at_depth, stays_replay, stays_sized, stays_whole, step_is_confined, steps_are_confined,
+    steps_carry, steps_commute, steps_one_way, steps_protect, stopped_stays, stops_in_place,
+    waiting_does_nothing, waits_in_place,
 };
-pub use machine::Machine;
-pub use state::{Accessing, Done, Frame, Stepped, Stop, Work, Written};
+pub use machine::{Machine, STACK_SIZE};
+pub use state::{Accessing, Done, Ended, Frame, Point, Stepped, Stop, Work, Written};

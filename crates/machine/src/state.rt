@@ -18,6 +18,8 @@ pub enum Stop {
     Spent,
     /// The stamps of an object have run out.
     Worn,
+    /// An access to an object that the machine may not reach, or not in this way.
+    NotGranted,
 }
 
 /// The bytes that an instruction wrote: of the object of that number, from the offset on.
@@ -34,6 +36,17 @@ pub enum Stepped {
     /// The instruction was done, and wrote these bytes, if any.
     Ran(Option<Written>),
     /// The object of that number can't be reached now. Nothing was done.
+    Waiting(u32),
+    /// The machine is stopped.
+    Stopped(Stop),
+}
+
+/// Why a run of steps ended.
+#[derive(Clone, Copy, Drop, Debug, PartialEq, Eq)]
+pub enum Ended {
+    /// As many instructions were done as were asked for.
+    Paused,
+    /// The object of that number can't be reached now.
     Waiting(u32),
     /// The machine is stopped.
     Stopped(Stop),
@@ -57,9 +70,19 @@ pub enum Work {
     Measures(u64),
 }
 
-/// What a step did, and whether all scopes of the machine close with it.
+/// Where a machine is, and what fuel it has. While it runs both are kept apart from it, in registers of the processor.
+#[derive(Clone, Copy, Drop, Debug, PartialEq, Eq)]
+pub struct Point {
+    /// The slot where the next instruction begins.
+    pub slot: usize,
+    /// How many instructions may still be done.
+    pub fuel: u64,
+}
+
+/// What a step did, where the machine is then, and whether all its scopes close.
 #[derive(Clone, Copy, Drop, Debug, PartialEq, Eq)]
 pub struct Done {
+    pub point: Point,
     pub answer: Stepped,
     pub closes: bool,
 }

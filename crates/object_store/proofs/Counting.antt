@@ -8,7 +8,7 @@ use Rattle.std.proofs.lemmas.Bool.Decides.{nat_tests}
 use Rattle.scopes.specs.Windows.{holds, noted, pushed_out, AreDistinct}
 use Rattle.object_store.specs.Stores.{holders, weight}
 use Rattle.object_store.specs.Bodies.{Kept, CountsHold, lessened, grown, scopes_in}
-use Rattle.object_store.proofs.Entries.{scopes_at, bytes_same, places_same}
+use Rattle.object_store.proofs.Entries.{scopes_at, bytes_same, places_same, sent_same}
 
 neither : (a b : Bool) → (a || b) ≡ false → (a ≡ false) × (b ≡ false)
 neither true b h = absurd (cc)
@@ -22,7 +22,7 @@ below_counts [] i h = absurd (omega arith)
 below_counts (b ∷ bodies) zero h = omega arith
 below_counts (b ∷ bodies) (suc i) h = let g = below_counts bodies i h in omega arith
 
-pub ruleset body_steps = (scopes_set, scopes_at, bytes_same, places_same, below_counts)
+pub ruleset body_steps = (scopes_set, scopes_at, bytes_same, places_same, sent_same, below_counts)
 
 -- ---- weights
 

@@ -1,10 +1,11 @@
 -- What is read of one object of a list, and what a change at one leaves.
-use Rattle.std.proofs.Common.{◌≡◌, ℕ, ◌<◌, ◌≤◌, List, [], length, map, set, get_or, sym, arith}
+use Rattle.std.proofs.Common.{◌≡◌, ℕ, ◌<◌, ◌≤◌, List, [], length, map, set, get_or, sym, ap, arith}
 use Rattle.std.proofs.lemmas.List.{get_or-map, map-set, length-map}
 use Rattle.std.proofs.Math.ListN.{get_or-eq_default}
 use Rattle.std.proofs.Math.Seq.{map-set_same}
 use Rattle.object_store.specs.declared.places.Place.TheVariants as place
-use Rattle.object_store.specs.Bodies.{Kept, bytes_in, place_in, scopes_in}
+use Rattle.object_store.specs.Bodies.{Kept, bytes_in, place_in, scopes_in, sent_in}
+use Rattle.object_store.specs.Stores.{Sent, unsent}
 
 pub bytes_at : (bodies : List Kept) (i : ℕ) (d : Kept) → i < length bodies → (get_or bodies i d).bytes ≡ get_or (map bytes_in bodies) i []
 bytes_at bodies i d h = sym (get_or-map bytes_in bodies i d [] h)
@@ -33,11 +34,26 @@ places_same bodies i b d e = map-set_same place_in bodies i b d e
 pub scopes_same : (bodies : List Kept) (i : ℕ) (b d : Kept) → b.scopes ≡ (get_or bodies i d).scopes → map scopes_in (set bodies i b) ≡ map scopes_in bodies
 scopes_same bodies i b d e = map-set_same scopes_in bodies i b d e
 
+pub sent_at : (bodies : List Kept) (i : ℕ) (d : Kept) → i < length bodies → sent_in (get_or bodies i d) ≡ get_or (map sent_in bodies) i unsent
+sent_at bodies i d h = sym (get_or-map sent_in bodies i d unsent h)
+
+pub parcel_at : (bodies : List Kept) (i : ℕ) (d : Kept) → i < length bodies → (get_or bodies i d).parcel ≡ (get_or (map sent_in bodies) i unsent).parcel
+parcel_at bodies i d h = ap (λ (s : Sent). s.parcel) (sent_at bodies i d h)
+
+pub clean_at : (bodies : List Kept) (i : ℕ) (d : Kept) → i < length bodies → (get_or bodies i d).clean ≡ (get_or (map sent_in bodies) i unsent).clean
+clean_at bodies i d h = ap (λ (s : Sent). s.clean) (sent_at bodies i d h)
+
+pub sent_set : (bodies : List Kept) (i : ℕ) (b : Kept) → map sent_in (set bodies i b) ≡ set (map sent_in bodies) i (record { parcel = b.parcel; clean = b.clean })
+sent_set bodies i b = map-set sent_in bodies i b
+
+pub sent_same : (bodies : List Kept) (i : ℕ) (b d : Kept) → sent_in b ≡ sent_in (get_or bodies i d) → map sent_in (set bodies i b) ≡ map sent_in bodies
+sent_same bodies i b d e = map-set_same sent_in bodies i b d e
+
 -- an access
-pub ruleset at_steps = (bytes_at, no_bytes_at, place_at, scopes_at, bytes_set, places_same, scopes_same)
+pub ruleset at_steps = (bytes_at, no_bytes_at, place_at, scopes_at, bytes_set, places_same, scopes_same, parcel_at, clean_at, sent_set)
 
 -- a move
-pub ruleset move_steps = (bytes_at, place_at, scopes_at, places_set, bytes_same, scopes_same)
+pub ruleset move_steps = (bytes_at, place_at, scopes_at, places_set, bytes_same, scopes_same, sent_at, parcel_at, clean_at, sent_set, sent_same)
 
 -- freeing
-pub ruleset free_steps = (bytes_at, place_at, bytes_set, places_same, scopes_same)
+pub ruleset free_steps = (bytes_at, place_at, bytes_set, places_same, scopes_same, parcel_at, sent_set)

@@ -1,5 +1,5 @@
 -- A store stays as it is always kept.
-use Rattle.std.proofs.Common.{◌≡◌, ℕ, ◌+◌, ◌<◌, ◌≤◌, zero, suc, Bool, true, false, List, [], ◌∷◌, ◌++◌, length, slice_index_or, map, set, take, drop, replicate, refl, sym, ap, ◌∙◌, arith}
+use Rattle.std.proofs.Common.{◌≡◌, ℕ, ◌+◌, ◌<◌, ◌≤◌, zero, suc, Bool, true, false, List, [], ◌∷◌, ◌++◌, length, slice_index_or, map, set, take, drop, replicate, None, refl, sym, ap, ◌∙◌, arith}
 use Rattle.std.proofs.lemmas.List.{length-map, map-append}
 use Rattle.std.proofs.Math.Seq.{take-append_seam}
 use Rattle.object_store.specs.declared.places.Place.{Place}
@@ -151,7 +151,7 @@ none_sized (suc k) = omega arith
 objects_first : AreObjects ([] ∷ [])
 objects_first = record { none_at_zero = refl; place_of_zero = omega arith; limit = omega arith; sizes = λ k. none_sized k }
 
-pub first_store : (bodies : List Kept) (windows : List (List ℕ)) (budget : ℕ) → bodies ≡ record { bytes = []; place = Here; scopes = 0; clean = false } ∷ [] → windows ≡ replicate window_count [] → IsKeptStore bodies windows budget budget
+pub first_store : (bodies : List Kept) (windows : List (List ℕ)) (budget : ℕ) → bodies ≡ record { bytes = []; place = Here; scopes = 0; parcel = None; clean = false } ∷ [] → windows ≡ replicate window_count [] → IsKeptStore bodies windows budget budget
 first_store bodies windows budget b w = rw (b, w) (record {
   objects = objects_first;
   counts = counts_at_first (replicate window_count []) (λ k. none_held window_count k);

@@ -1,12 +1,17 @@
 -- What a far store gives back, and how it fails.
-use Rattle.std.proofs.Common.{◌≡◌, ℕ, ◌+◌, ◌<◌, ◌≤◌, Bool, true, false, List, [], length, map, set, get_or, sym, ap, ◌∙◌, arith, inl}
+use Rattle.std.proofs.Common.{◌≡◌, ℕ, ◌+◌, ◌<◌, ◌≤◌, Bool, true, false, List, [], ◌∷◌, length, map, set, get_or, Option, Ok, sym, ap, subst, ◌∙◌, arith, inl}
 use Rattle.std.proofs.lemmas.Bool.Decides.{nat_tests}
 use Rattle.std.proofs.lemmas.List.{map-set, set-get_or, get_or-set_same, length-map}
 use Rattle.far_store.specs.Stores.{capped, Rises}
 use Rattle.memory.specs.Objects.{bytes_of}
 use Rattle.object_store.specs.Stores.{HasRisen}
 use Rattle.object_store.specs.Calls.{FailsToReturn}
-use Rattle.object_store.specs.Bodies.{Kept, ReturnsTo, BytesBack, bytes_in}
+use Rattle.object_store.specs.Stores.{sent_of}
+use Rattle.object_store.specs.Asking.{parcel_of}
+use Rattle.object_store.specs.Bodies.{Kept, ReturnsTo, BytesBack, bytes_in, sent_in}
+use Rattle.far_store.specs.Calls.Call.{Get}
+use Rattle.far_store.specs.Calls.{Call, Calls}
+use Rattle.object_store.proofs.Entries.{parcel_at}
 
 pub capped_rises : (a b : ℕ) → a ≤ b → capped (a + 1) ≤ capped (b + 1)
 capped_rises a b h = grind (arith, nat_tests)
@@ -25,3 +30,12 @@ back_in true bodies n old new h e r = map-set bytes_in bodies n new ∙ ap (set 
 back_in false bodies n old new h e r =
     let there : bytes_of (map bytes_in (set bodies n new)) n ≡ new.bytes = ap (λ (l : List (List ℕ)). get_or l n []) (map-set bytes_in bodies n new) ∙ get_or-set_same (map bytes_in bodies) n new.bytes [] (let l = length-map bodies bytes_in in omega arith) in
     (ap (λ (l : List ℕ). length l) there ∙ (r.0 ∙ ap (λ (l : List ℕ). length l) e), map-set bytes_in bodies n new ∙ ap (set (map bytes_in bodies) n) (sym there))
+
+-- what was got of an object, by its place among all
+pub got_in : {X : Type 0} (called : X → Call → X → Type 0) (a b : X) (bodies : List Kept) (n : ℕ) (d new : Kept) → n < length bodies
+    → Calls called a (Get (parcel_of (get_or bodies n d).parcel) (Ok new.bytes) ∷ []) b
+    → Calls called a (Get (parcel_of (sent_of (map sent_in bodies) n).parcel) (Ok (bytes_of (map bytes_in (set bodies n new)) n)) ∷ []) b
+got_in called a b bodies n d new h k =
+    let there : bytes_of (map bytes_in (set bodies n new)) n ≡ new.bytes = ap (λ (l : List (List ℕ)). get_or l n []) (map-set bytes_in bodies n new) ∙ get_or-set_same (map bytes_in bodies) n new.bytes [] (let l = length-map bodies bytes_in in omega arith) in
+    subst (λ (p : Option (List ℕ)). Calls called a (Get (parcel_of p) (Ok (bytes_of (map bytes_in (set bodies n new)) n)) ∷ []) b) (parcel_at bodies n d h)
+    (subst (λ (v : List ℕ). Calls called a (Get (parcel_of (get_or bodies n d).parcel) (Ok v) ∷ []) b) (sym there) k)

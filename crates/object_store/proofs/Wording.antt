@@ -1,9 +1,9 @@
 -- Where the calls of a word apply.
 use Rattle.std.proofs.Common.{◌≡◌, false, Some, refl}
-use Rattle.pointer_word.specs.declared.word.Place.TheVariants.{Local, Moving, Far}
+use Rattle.pointer_word.specs.declared.word.WordPlace.TheVariants.{Local, Moving, Far}
 use Rattle.pointer_word.specs.Words.{WordRecord, leaving, gone_far, returning, home}
 
-pub leaves : (w : WordRecord) → w.place ≡ Local → w.count ≡ 0 → w.turn ≡ false → leaving w ≡ Some (record w { place = Moving })
+pub leaves : (w : WordRecord) → w.place ≡ Local → w.count ≡ 0 → w.turn ≡ false → leaving w ≡ Some (record w { place = Moving; hot = false })
 leaves w p c t = rw (p, c, t) refl
 
 pub goes_far : (w : WordRecord) → w.place ≡ Moving → gone_far w ≡ Some (record w { place = Far })

@@ -1,14 +1,12 @@
 -- Objects, as they are kept.
 use Rattle.std.specs.Prelude.{◌≡◌, ℕ, ◌+◌, ◌-◌, Bool, true, false, cond, List, [], length, map, get_or, set, Option, Some, None, is_some}
-use Rattle.pointer_word.specs.declared.word.Place.{Place as WordPlace}
-use Rattle.pointer_word.specs.declared.word.Place.TheVariants.{Local, Moving, Far as WordFar}
+use Rattle.pointer_word.specs.declared.word.WordPlace.{WordPlace}
+use Rattle.pointer_word.specs.declared.word.WordPlace.TheVariants.{Local, Moving, Far as WordFar}
 use Rattle.pointer_word.specs.Words.{WordRecord}
 use Rattle.object_store.specs.declared.places.Place.{Place}
 use Rattle.object_store.specs.declared.places.Place.TheVariants.{Here, Leaving, Far, Returning}
-use Rattle.memory.specs.declared.access.Action.{Action}
-use Rattle.memory.specs.declared.access.Action.TheVariants.{Load}
 use Rattle.memory.specs.Objects.{AreObjects, bytes_of, with_bytes}
-use Rattle.object_store.specs.Stores.{window_count, holders, near_bytes}
+use Rattle.object_store.specs.Stores.{Sent, window_count, holders, near_bytes}
 
 -- ---- one object
 
@@ -19,6 +17,8 @@ pub record Kept : Type 0 where
   pub place : Place
   -- how many windows hold it
   pub scopes : ℕ
+  -- for which bytes its parcel stands, if it keeps one
+  pub parcel : Option (List ℕ)
   -- its parcel stands for its bytes, so that it need not be sent again
   pub clean : Bool
 
@@ -26,6 +26,11 @@ pub record Kept : Type 0 where
 abbrev pub sent : {P : Type 0} → (P → List ℕ) → Option P → List ℕ
 sent stands_for None = []
 sent stands_for (Some p) = stands_for p
+
+-- for which bytes a parcel stands, if there is one
+abbrev pub parcel_bytes : {P : Type 0} → (P → List ℕ) → Option P → Option (List ℕ)
+parcel_bytes stands_for None = None
+parcel_bytes stands_for (Some p) = Some (stands_for p)
 
 -- the bytes of an object that is out, or isn't
 abbrev pub contents : {P : Type 0} → (P → List ℕ) → Bool → List ℕ → Option P → List ℕ
@@ -49,6 +54,8 @@ FitsWord out WordFar = out ≡ true
 pub record IsKept {P : Type 0} (stands_for : P → List ℕ) (word : WordRecord) (count : ℕ) (bytes : List ℕ) (memory : ℕ) (parcel : Option P) (out clean : Bool) : Type 0 where
   pub fits : FitsWord out word.place
   pub no_turn : word.turn ≡ false
+  pub no_hot : word.hot ≡ false
+  pub no_stamp : word.stamp ≡ 0
   pub length_is : length (contents stands_for out bytes parcel) ≡ count
   pub freed : count ≡ 0 → is_some parcel ≡ false
   pub gone : count ≡ 0 → memory ≡ 0
@@ -56,11 +63,6 @@ pub record IsKept {P : Type 0} (stands_for : P → List ℕ) (word : WordRecord)
   pub sent_out : out ≡ true → is_some parcel ≡ true
   pub kept_clean : clean ≡ true → is_some parcel ≡ true
   pub same_clean : clean ≡ true → sent stands_for parcel ≡ contents stands_for out bytes parcel
-
--- what an access leaves of the mark that it is clean
-abbrev pub clean_after : Action → Bool → Bool
-clean_after (Load size) clean = clean
-clean_after _ clean = false
 
 -- What it is once its bytes came back: the same, and clean, or, where the store doesn't promise that, as many.
 abbrev pub ReturnsTo : Bool → Kept → Kept → Type 0
@@ -78,6 +80,10 @@ place_in k = k.place
 -- how many windows hold it
 abbrev pub scopes_in : Kept → ℕ
 scopes_in k = k.scopes
+
+-- what the far store has of it
+abbrev pub sent_in : Kept → Sent
+sent_in k = record { parcel = k.parcel; clean = k.clean }
 
 -- The bytes of all objects once those of object n came back: the same, or, where the store doesn't promise that, as
 -- many.

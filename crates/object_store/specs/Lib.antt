@@ -1,4 +1,6 @@
 pub mod Stores
+pub mod Asking
 pub mod Bodies
 pub mod Standings
 pub mod Calls
+pub mod Promised

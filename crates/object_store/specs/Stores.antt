@@ -1,15 +1,16 @@
 -- A store of objects, as its callers see it: the bytes of each object, where it is, and which machines have it in scope.
-use Rattle.std.specs.Prelude.{◌≡◌, ℕ, ◌+◌, ◌<◌, ◌≤◌, cond, List, [], ◌∷◌, length, get_or, set, replicate, refl}
+use Rattle.std.specs.Prelude.{◌≡◌, ℕ, ◌+◌, ◌<◌, ◌≤◌, Bool, false, cond, List, [], ◌∷◌, length, get_or, set, replicate, Option, None}
 use Rattle.std.specs.List.{sum_by}
 use Rattle.scopes.specs.Windows.{holds, noted}
 use Rattle.far_store.specs.Stores.{capped}
 use Rattle.memory.specs.declared.access.Op.{Op}
 use Rattle.memory.specs.declared.access.Reach.{Reach}
-use Rattle.memory.specs.declared.access.Reach.TheVariants.{Done, Away, Busy, Outside, Worn}
+use Rattle.memory.specs.declared.access.Reach.TheVariants.{Done, Away, Outside}
 use Rattle.object_store.specs.declared.places.Place.{Place}
 use Rattle.object_store.specs.declared.places.Place.TheVariants.{Here, Far}
 use Rattle.memory.specs.Access.{answer, after}
-use Rattle.memory.specs.Memories.{Memories, Promises}
+use Rattle.memory.specs.Memories.Known.{AllBytes}
+use Rattle.memory.specs.Memories.{Memories}
 use Rattle.memory.specs.Objects.{Reaches, IsLive, AreObjects, bytes_of, with_bytes}
 
 -- a store, as its callers see it: each object's bytes and place, the windows, the budget, and the far store's faults
@@ -24,6 +25,29 @@ pub record StoreState : Type 0 where
   pub budget : ℕ
   -- how many faults the far store had
   pub faults : ℕ
+
+-- What the far store has of an object.
+pub record Sent : Type 0 where
+  -- for which bytes the parcel stands that is kept of it, if one is
+  pub parcel : Option (List ℕ)
+  -- these are its bytes as they are, so that they need not be sent again
+  pub clean : Bool
+
+-- nothing was sent
+abbrev pub unsent : Sent
+unsent = record { parcel = None; clean = false }
+
+-- what the far store has of object n
+abbrev pub sent_of : List Sent → ℕ → Sent
+sent_of sent n = get_or sent n unsent
+
+-- A store, as those see it who look at its far store too.
+pub record StoreWithin (X : Type 0) : Type 0 where
+  pub state : StoreState
+  -- the far store
+  pub far : X
+  -- what it has of each number
+  pub sent : List Sent
 
 -- ---- places
 
@@ -123,15 +147,9 @@ store_memory who = record {
   reaches = Touches who;
   closes = λ old new. new ≡ with_window old who [];
   length_of = λ s n. length (bytes_of s.objects n);
+  knows = λ s. AllBytes s.objects;
+  is_worn = λ s n. ⊥;
 }
-
--- the promises of memories
-pub store_promises : (who : ℕ) (old new : StoreState) (n : ℕ) (op : Op) (r : Reach) → Touches who old n op r new → Promises (length (bytes_of old.objects n)) op r
-store_promises who old new n op Outside h = h.0
-store_promises who old new n op (Done x) h = (h.0, (bytes_of old.objects n, refl, h.2))
-store_promises who old new n op Away h = h.0
-store_promises who old new n op Busy h = absurd h
-store_promises who old new n op Worn h = absurd h
 
 -- What has a store lent to it, as a memory: what its machine does is done to the store, and the loan stays the same.
 abbrev pub lent_memory : {M : Type 0} → (M → StoreState) → (M → ℕ) → (M → ℕ) → Memories M
@@ -139,4 +157,6 @@ lent_memory {M} store loan who = record {
   reaches = λ m n op r w. Touches (who m) (store m) n op r (store w) × (loan w ≡ loan m) × (who w ≡ who m);
   closes = λ m w. (store w ≡ with_window (store m) (who m) []) × (loan w ≡ loan m) × (who w ≡ who m);
   length_of = λ m n. length (bytes_of (store m).objects n);
+  knows = λ m. AllBytes (store m).objects;
+  is_worn = λ m n. ⊥;
 }

@@ -1,16 +1,19 @@
 //! What is kept of one object: its word, its bytes, and the parcel that stands for them in the far store.
-ghost use Rattle.std.specs.Prelude.{◌≡◌, ◌<◌, ◌≤◌, ◌+◌, ◌-◌, [], true, false, is_some, replicate, length, IfOk, OnOk, OnErr, IsOk, take, drop, vec_capacity};
+ghost use Rattle.std.specs.Prelude.{◌≡◌, ◌<◌, ◌≤◌, ◌+◌, ◌-◌, [], true, false, ◌∷◌, ◌++◌, Some, None, Ok, is_some, replicate, length, IfOk, IfErr, OnOk, OnErr, IsOk, take, drop, vec_capacity};
 ghost use Rattle.memory.specs.Access.{IsInside, answer, after, replaced};
 ghost use Rattle.object_store.specs.Stores.{HasRisen};
 ghost use Rattle.object_store.specs.Calls.{FailsToReturn};
-ghost use Rattle.object_store.specs.Bodies.{sent, clean_after, ReturnsTo};
+ghost use Rattle.object_store.specs.Bodies.{sent, parcel_bytes, sent_in, ReturnsTo};
+ghost use Rattle.object_store.specs.Asking.{forgets, leave_calls, parcel_of, clean_after, AsksInVain};
+ghost use Rattle.far_store.specs.Calls.Call.{Put, Get};
+ghost use Rattle.far_store.specs.Calls.{Calls};
 ghost use Rattle.object_store.specs.declared.places.Place.TheVariants as place;
 
 use crate::places::Place;
 use crate::words;
 use far_store::{FarStore, StoreFault};
 use memory::{Action, Op, act, overwrite};
-use pointer_word::{Place as WordPlace, Word};
+use pointer_word::{Word, WordPlace};
 use std::alloc::{AllocError, Global};
 use std::marker::Model;
 use std::mem;
@@ -36,18 +39,20 @@ pub struct Body<F: FarStore> {
 
 impl<F: FarStore> Model for Body<F> {
     ghost use Rattle.std.specs.Prelude.{vec_capacity};
-    ghost use Rattle.object_store.specs.Bodies.{Kept, IsKept, contents, place_by};
+    ghost use Rattle.object_store.specs.Bodies.{Kept, IsKept, contents, parcel_bytes, place_by};
 
     ghost Value = { Kept };
 
-    ghost view = { λ b. record { bytes = contents F.bytes_in b.out b.bytes.items b.parcel; place = place_by b.out b.word.place; scopes = b.word.count; clean = b.clean } };
+    ghost view = { λ b. record { bytes = contents F.bytes_in b.out b.bytes.items b.parcel; place = place_by b.out b.word.place; scopes = b.word.count; parcel = parcel_bytes F.bytes_in b.parcel; clean = b.clean } };
 
     ghost invariant = { λ b. IsKept F.bytes_in b.word b.length b.bytes.items (vec_capacity b.bytes) b.parcel b.out b.clean };
 }
 
 /// Lets go of a parcel, if there is one.
+#[tactic(auto, using(crate::proofs::Asked::asked_steps))]
 fn forget_kept<F: FarStore>(store: &mut F, parcel: &mut Option<F::Parcel>)
-    ensures gone { is_some parcel.new ≡ false }
+    ensures gone { parcel.new ≡ None }
+    ensures calls { Calls F.called store.old (forgets (parcel_bytes F.bytes_in parcel.old)) store.new }
     ensures faults { F.faults_of store.old ≤ F.faults_of store.new }
 {
     if let Some(old) = parcel.take() {
@@ -56,6 +61,7 @@ fn forget_kept<F: FarStore>(store: &mut F, parcel: &mut Option<F::Parcel>)
 }
 
 /// Sends bytes to the far store, and lets go of an older parcel first.
+#[tactic(auto, using(crate::proofs::Asked::asked_steps))]
 fn send<F: FarStore>(
     alloc: Global,
     store: &mut F,
@@ -63,10 +69,13 @@ fn send<F: FarStore>(
     bytes: &mut Vec<u8>,
 ) -> Result<(), StoreFault>
     ensures sent { OnOk result ((is_some parcel.new ≡ true) × (sent F.bytes_in parcel.new ≡ bytes.old.items)) }
+    ensures lost { OnErr result (parcel.new ≡ None) }
     ensures gone { OnOk result (vec_capacity bytes.new ≡ 0) }
     ensures back { OnErr result (bytes.new.items ≡ bytes.old.items) }
     ensures faults { OnOk result (F.faults_of store.old ≤ F.faults_of store.new) }
     ensures fault { OnErr result (HasRisen (F.faults_of store.old) (F.faults_of store.new)) }
+    ensures puts { OnOk result (Calls F.called store.old (forgets (parcel_bytes F.bytes_in parcel.old) ++ Put bytes.old.items None ∷ []) store.new) }
+    ensures tries { IfErr result (λ f. Calls F.called store.old (forgets (parcel_bytes F.bytes_in parcel.old) ++ Put bytes.old.items (Some f) ∷ []) store.new) }
 {
     forget_kept(store, parcel);
     match store.put(mem::replace(bytes, Vec::new(alloc))) {
@@ -82,6 +91,7 @@ fn send<F: FarStore>(
 }
 
 /// Fetches the bytes of a parcel, which are to be so many.
+#[tactic(auto, using(crate::proofs::Asked::asked_steps))]
 fn fetch<F: FarStore>(
     store: &mut F,
     parcel: &F::Parcel,
@@ -92,6 +102,8 @@ fn fetch<F: FarStore>(
     ensures bytes { IfOk result (λ v. F.RETURNS ≡ true → v.items ≡ F.bytes_in parcel.now) }
     ensures calm { OnOk result (F.faults_of store.new ≡ F.faults_of store.old) }
     ensures fault { OnErr result (FailsToReturn F.RETURNS (F.faults_of store.old) (F.faults_of store.new)) }
+    ensures gets { IfOk result (λ v. Calls F.called store.old (Get (F.bytes_in parcel.now) (Ok v.items) ∷ []) store.new) }
+    ensures vain { IfErr result (λ f. AsksInVain F.called store.old (Some (F.bytes_in parcel.now)) count f store.new) }
 {
     match store.get(parcel) {
         Ok(bytes) => {
@@ -108,7 +120,7 @@ fn fetch<F: FarStore>(
 impl<F: FarStore> Body<F> {
     /// No object.
     pub fn none(alloc: Global) -> Self
-        ensures { result ≡ record { bytes = []; place = place.Here; scopes = 0; clean = false } }
+        ensures { result ≡ record { bytes = []; place = place.Here; scopes = 0; parcel = None; clean = false } }
     {
         Body {
             word: Word::new(),
@@ -123,7 +135,7 @@ impl<F: FarStore> Body<F> {
     /// An object of these bytes.
     pub fn with_bytes(bytes: Vec<u8>) -> Self
         requires { 0 < length bytes.items }
-        ensures { result ≡ record { bytes = bytes.items; place = place.Here; scopes = 0; clean = false } }
+        ensures { result ≡ record { bytes = bytes.items; place = place.Here; scopes = 0; parcel = None; clean = false } }
     {
         Body {
             word: Word::new(),
@@ -230,7 +242,8 @@ impl<F: FarStore> Body<F> {
     /// It is no object any more.
     pub fn free(&mut self, alloc: Global, store: &mut F)
         requires here { self.old.place ≡ place.Here }
-        ensures new { self.new ≡ record self.old { bytes = []; clean = false } }
+        ensures new { self.new ≡ record self.old { bytes = []; parcel = None; clean = false } }
+        ensures calls { Calls F.called store.old (forgets self.old.parcel) store.new }
         ensures faults { F.faults_of store.old ≤ F.faults_of store.new }
     {
         forget_kept(store, &mut self.parcel);
@@ -252,9 +265,11 @@ impl<F: FarStore> Body<F> {
     pub fn end_leave(&mut self, alloc: Global, store: &mut F) -> Result<(), StoreFault>
         requires leaving { self.old.place ≡ place.Leaving }
         requires live { 0 < length self.old.bytes }
-        ensures done { OnOk result (self.new ≡ record self.old { place = place.Far }) }
-        ensures kept { self.old.clean ≡ true → IsOk result × (store.new ≡ store.old) }
-        ensures failed { OnErr result (self.new ≡ record self.old { place = place.Here }) }
+        ensures done { OnOk result (self.new ≡ record self.old { place = place.Far; parcel = Some self.old.bytes }) }
+        ensures failed { OnErr result (self.new ≡ record self.old { place = place.Here; parcel = None }) }
+        ensures clean { self.old.clean ≡ true → IsOk result }
+        ensures puts { OnOk result (Calls F.called store.old (leave_calls (sent_in self.old) self.old.bytes None) store.new) }
+        ensures tries { IfErr result (λ f. Calls F.called store.old (leave_calls (sent_in self.old) self.old.bytes (Some f)) store.new) }
         ensures faults { OnOk result (F.faults_of store.old ≤ F.faults_of store.new) }
         ensures fault { OnErr result (HasRisen (F.faults_of store.old) (F.faults_of store.new)) }
     {
@@ -285,6 +300,8 @@ impl<F: FarStore> Body<F> {
         ensures failed { OnErr result (self.new ≡ record self.old { place = place.Far }) }
         ensures calm { OnOk result (F.faults_of store.new ≡ F.faults_of store.old) }
         ensures fault { OnErr result (FailsToReturn F.RETURNS (F.faults_of store.old) (F.faults_of store.new)) }
+        ensures gets { OnOk result (Calls F.called store.old (Get (parcel_of self.old.parcel) (Ok self.new.bytes) ∷ []) store.new) }
+        ensures vain { IfErr result (λ f. AsksInVain F.called store.old self.old.parcel (length self.old.bytes) f store.new) }
     {
         let fetched = match &self.parcel {
             Some(parcel) => fetch(store, parcel, self.length),

@@ -1,9 +1,12 @@
 //! One object of a list, moved.
-ghost use Rattle.std.specs.Prelude.{◌≡◌, ◌<◌, ◌≤◌, ◌+◌, [], length, map, set, get_or, true, false, OnOk, OnErr};
+ghost use Rattle.std.specs.Prelude.{◌≡◌, ◌<◌, ◌≤◌, ◌+◌, [], ◌∷◌, length, map, set, get_or, Some, None, Ok, true, false, IfErr, IsOk, OnOk, OnErr};
 ghost use Rattle.memory.specs.Objects.{bytes_of, with_bytes};
-ghost use Rattle.object_store.specs.Stores.{place_of, HasRisen};
+ghost use Rattle.object_store.specs.Stores.{place_of, unsent, sent_of, HasRisen};
+ghost use Rattle.object_store.specs.Asking.{forgets, leave_calls, parcel_of, AsksInVain};
+ghost use Rattle.far_store.specs.Calls.Call.{Get};
+ghost use Rattle.far_store.specs.Calls.{Calls};
 ghost use Rattle.object_store.specs.Calls.{FailsToReturn};
-ghost use Rattle.object_store.specs.Bodies.{bytes_in, place_in, scopes_in, BytesBack};
+ghost use Rattle.object_store.specs.Bodies.{bytes_in, place_in, scopes_in, sent_in, BytesBack};
 ghost use Rattle.object_store.specs.declared.places.Place.TheVariants as place;
 
 use crate::bodies::Body;
@@ -18,7 +21,9 @@ pub fn free_at<F: FarStore>(alloc: Global, store: &mut F, bodies: &mut [Body<F>]
     ensures bytes { map bytes_in bodies.new ≡ with_bytes (map bytes_in bodies.old) number [] }
     ensures places { map place_in bodies.new ≡ map place_in bodies.old }
     ensures counts { map scopes_in bodies.new ≡ map scopes_in bodies.old }
+    ensures sent { map sent_in bodies.new ≡ set (map sent_in bodies.old) number unsent }
     ensures faults { F.faults_of store.old ≤ F.faults_of store.new }
+    ensures calls { Calls F.called store.old (forgets (sent_of (map sent_in bodies.old) number).parcel) store.new }
 {
     bodies[number].free(alloc, store);
 }
@@ -32,6 +37,7 @@ pub fn begin_leave_at<F: FarStore>(bodies: &mut [Body<F>], number: usize)
     ensures bytes { map bytes_in bodies.new ≡ map bytes_in bodies.old }
     ensures places { map place_in bodies.new ≡ set (map place_in bodies.old) number place.Leaving }
     ensures counts { map scopes_in bodies.new ≡ map scopes_in bodies.old }
+    ensures sent { map sent_in bodies.new ≡ map sent_in bodies.old }
 {
     bodies[number].begin_leave();
 }
@@ -53,6 +59,11 @@ pub fn end_leave_at<F: FarStore>(
     ensures counts { map scopes_in bodies.new ≡ map scopes_in bodies.old }
     ensures faults { OnOk result (F.faults_of store.old ≤ F.faults_of store.new) }
     ensures fault { OnErr result (HasRisen (F.faults_of store.old) (F.faults_of store.new)) }
+    ensures sent { OnOk result (map sent_in bodies.new ≡ set (map sent_in bodies.old) number (record (sent_of (map sent_in bodies.old) number) { parcel = Some (bytes_of (map bytes_in bodies.old) number) })) }
+    ensures lost { OnErr result (map sent_in bodies.new ≡ set (map sent_in bodies.old) number unsent) }
+    ensures clean { (sent_of (map sent_in bodies.old) number).clean ≡ true → IsOk result }
+    ensures puts { OnOk result (Calls F.called store.old (leave_calls (sent_of (map sent_in bodies.old) number) (bytes_of (map bytes_in bodies.old) number) None) store.new) }
+    ensures tries { IfErr result (λ f. Calls F.called store.old (leave_calls (sent_of (map sent_in bodies.old) number) (bytes_of (map bytes_in bodies.old) number) (Some f)) store.new) }
 {
     bodies[number].end_leave(alloc, store)
 }
@@ -65,6 +76,7 @@ pub fn begin_return_at<F: FarStore>(bodies: &mut [Body<F>], number: usize)
     ensures bytes { map bytes_in bodies.new ≡ map bytes_in bodies.old }
     ensures places { map place_in bodies.new ≡ set (map place_in bodies.old) number place.Returning }
     ensures counts { map scopes_in bodies.new ≡ map scopes_in bodies.old }
+    ensures sent { map sent_in bodies.new ≡ map sent_in bodies.old }
 {
     bodies[number].begin_return();
 }
@@ -86,6 +98,10 @@ pub fn end_return_at<F: FarStore>(
     ensures counts { map scopes_in bodies.new ≡ map scopes_in bodies.old }
     ensures calm { OnOk result (F.faults_of store.new ≡ F.faults_of store.old) }
     ensures fault { OnErr result (FailsToReturn F.RETURNS (F.faults_of store.old) (F.faults_of store.new)) }
+    ensures sent { OnOk result (map sent_in bodies.new ≡ set (map sent_in bodies.old) number (record (sent_of (map sent_in bodies.old) number) { clean = F.RETURNS })) }
+    ensures kept { OnErr result (map sent_in bodies.new ≡ map sent_in bodies.old) }
+    ensures gets { OnOk result (Calls F.called store.old (Get (parcel_of (sent_of (map sent_in bodies.old) number).parcel) (Ok (bytes_of (map bytes_in bodies.new) number)) ∷ []) store.new) }
+    ensures vain { IfErr result (λ f. AsksInVain F.called store.old (sent_of (map sent_in bodies.old) number).parcel (length (bytes_of (map bytes_in bodies.old) number)) f store.new) }
 {
     match bodies[number].end_return(store) {
         Ok(()) => Ok(()),

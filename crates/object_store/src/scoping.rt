@@ -1,8 +1,8 @@
 //! Which objects the windows hold.
-ghost use Rattle.std.specs.Prelude.{◌≡◌, ◌<◌, ◌≤◌, ◌+◌, ◌-◌, [], length, map, set, get_or, IfSome};
-ghost use Rattle.scopes.specs.Windows.{noted};
+ghost use Rattle.std.specs.Prelude.{◌≡◌, ◌<◌, ◌≤◌, ◌+◌, ◌-◌, [], false, length, map, set, get_or, IfSome};
+ghost use Rattle.scopes.specs.Windows.{holds, noted};
 ghost use Rattle.object_store.specs.Stores.{window_count, window_of};
-ghost use Rattle.object_store.specs.Bodies.{CountsHold, lessened, bytes_in, place_in, scopes_in};
+ghost use Rattle.object_store.specs.Bodies.{CountsHold, lessened, bytes_in, place_in, scopes_in, sent_in};
 
 use crate::bodies::Body;
 use far_store::FarStore;
@@ -16,6 +16,7 @@ fn open_scope<F: FarStore>(bodies: &mut [Body<F>], number: usize)
     ensures counts { map scopes_in bodies.new ≡ set (map scopes_in bodies.old) number (get_or (map scopes_in bodies.old) number 0 + 1) }
     ensures bytes { map bytes_in bodies.new ≡ map bytes_in bodies.old }
     ensures places { map place_in bodies.new ≡ map place_in bodies.old }
+    ensures sent { map sent_in bodies.new ≡ map sent_in bodies.old }
 {
     bodies[number].open_scope();
 }
@@ -27,6 +28,7 @@ fn end_scope<F: FarStore>(bodies: &mut [Body<F>], number: usize)
     ensures counts { map scopes_in bodies.new ≡ set (map scopes_in bodies.old) number (get_or (map scopes_in bodies.old) number 0 - 1) }
     ensures bytes { map bytes_in bodies.new ≡ map bytes_in bodies.old }
     ensures places { map place_in bodies.new ≡ map place_in bodies.old }
+    ensures sent { map sent_in bodies.new ≡ map sent_in bodies.old }
 {
     bodies[number].close_scope();
 }
@@ -37,13 +39,15 @@ fn end_pushed<F: FarStore>(bodies: &mut [Body<F>], out: Option<u32>)
     ensures counts { map scopes_in bodies.new ≡ lessened out (map scopes_in bodies.old) }
     ensures bytes { map bytes_in bodies.new ≡ map bytes_in bodies.old }
     ensures places { map place_in bodies.new ≡ map place_in bodies.old }
+    ensures sent { map sent_in bodies.new ≡ map sent_in bodies.old }
 {
     if let Some(number) = out {
         end_scope(bodies, number as usize);
     }
 }
 
-/// Notes a number in the window of a machine.
+/// Notes a number in the window of a machine. Mostly it is held already, and then there is no call.
+#[inline(always)]
 pub fn note<F: FarStore>(bodies: &mut [Body<F>], windows: &mut [Window], who: usize, number: u32)
     requires machine { (who < length windows.old) × (length windows.old ≤ window_count) }
     requires object { number < length bodies.old }
@@ -52,11 +56,29 @@ pub fn note<F: FarStore>(bodies: &mut [Body<F>], windows: &mut [Window], who: us
     ensures windows { windows.new ≡ set windows.old who (noted number (window_of windows.old who)) }
     ensures bytes { map bytes_in bodies.new ≡ map bytes_in bodies.old }
     ensures places { map place_in bodies.new ≡ map place_in bodies.old }
+    ensures sent { map sent_in bodies.new ≡ map sent_in bodies.old }
 {
-    let window = &mut windows[who];
+    let window = &windows[who];
     if window.holds(number) {
         return;
     }
+    note_new(bodies, windows, who, number);
+}
+
+/// Notes a number that the window of a machine doesn't hold.
+#[inline(never)]
+fn note_new<F: FarStore>(bodies: &mut [Body<F>], windows: &mut [Window], who: usize, number: u32)
+    requires machine { (who < length windows.old) × (length windows.old ≤ window_count) }
+    requires object { number < length bodies.old }
+    requires new { holds number (window_of windows.old who) ≡ false }
+    requires counts { CountsHold (map scopes_in bodies.old) windows.old }
+    ensures counts { CountsHold (map scopes_in bodies.new) windows.new }
+    ensures windows { windows.new ≡ set windows.old who (noted number (window_of windows.old who)) }
+    ensures bytes { map bytes_in bodies.new ≡ map bytes_in bodies.old }
+    ensures places { map place_in bodies.new ≡ map place_in bodies.old }
+    ensures sent { map sent_in bodies.new ≡ map sent_in bodies.old }
+{
+    let window = &mut windows[who];
     let out = window.note(number);
     end_pushed(bodies, out);
     open_scope(bodies, number as usize);
@@ -70,6 +92,7 @@ pub fn close<F: FarStore>(bodies: &mut [Body<F>], windows: &mut [Window], who: u
     ensures windows { windows.new ≡ set windows.old who [] }
     ensures bytes { map bytes_in bodies.new ≡ map bytes_in bodies.old }
     ensures places { map place_in bodies.new ≡ map place_in bodies.old }
+    ensures sent { map sent_in bodies.new ≡ map sent_in bodies.old }
 {
     while let Some(number) = windows[who].pop() {
         end_scope(bodies, number as usize);

@@ -1,9 +1,10 @@
 //! One object of a list: whether an access can be done, and what is done to it.
-ghost use Rattle.std.specs.Prelude.{◌≡◌, ◌<◌, ◌≤◌, ◌+◌, [], length, map, set, get_or, None, IfSome, IsSome, IfOk};
+ghost use Rattle.std.specs.Prelude.{◌≡◌, ◌<◌, ◌≤◌, ◌+◌, [], length, map, set, get_or, None, false, IfSome, IsSome, IfOk};
 ghost use Rattle.memory.specs.Access.{answer, after};
 ghost use Rattle.memory.specs.Objects.{AreObjects, Reaches, HasRange, bytes_of, with_bytes, range_of, with_range};
-ghost use Rattle.object_store.specs.Stores.{place_of, near_bytes};
-ghost use Rattle.object_store.specs.Bodies.{bytes_in, place_in, scopes_in};
+ghost use Rattle.object_store.specs.Stores.{place_of, sent_of, near_bytes};
+ghost use Rattle.object_store.specs.Asking.{clean_after};
+ghost use Rattle.object_store.specs.Bodies.{bytes_in, place_in, scopes_in, sent_in};
 ghost use Rattle.object_store.specs.Standings.{Stands, StandsRange};
 ghost use Rattle.object_store.specs.declared.places.Place.TheVariants as place;
 
@@ -103,6 +104,7 @@ pub fn act_at<F: FarStore>(bodies: &mut [Body<F>], number: usize, op: &Op) -> u6
     ensures bytes { map bytes_in bodies.new ≡ with_bytes (map bytes_in bodies.old) number (after op.now (bytes_of (map bytes_in bodies.old) number)) }
     ensures places { map place_in bodies.new ≡ map place_in bodies.old }
     ensures counts { map scopes_in bodies.new ≡ map scopes_in bodies.old }
+    ensures sent { map sent_in bodies.new ≡ set (map sent_in bodies.old) number (record (sent_of (map sent_in bodies.old) number) { clean = clean_after op.now.action (sent_of (map sent_in bodies.old) number).clean }) }
 {
     bodies[number].act(op)
 }
@@ -133,6 +135,7 @@ pub fn write_range<F: FarStore>(bodies: &mut [Body<F>], number: usize, offset: u
     ensures bytes { map bytes_in bodies.new ≡ with_range (map bytes_in bodies.old) number offset bytes.now }
     ensures places { map place_in bodies.new ≡ map place_in bodies.old }
     ensures counts { map scopes_in bodies.new ≡ map scopes_in bodies.old }
+    ensures sent { map sent_in bodies.new ≡ set (map sent_in bodies.old) number (record (sent_of (map sent_in bodies.old) number) { clean = false }) }
 {
     bodies[number].write(offset, bytes);
 }

@@ -1,7 +1,8 @@
 //! The objects of an agent.
-ghost use Rattle.std.specs.Prelude.{◌≡◌, ◌≤◌, [], IfOk, length};
+ghost use Rattle.std.specs.Prelude.{◌≡◌, ◌≤◌, [], ◌∷◌, ◌++◌, false, set, IfOk, OnOk, OnErr, length};
 ghost use Rattle.memory.specs.Objects.{AreObjects, bytes_of, object_bytes};
-ghost use Rattle.object_store.specs.Stores.{StoreState, HasWindow, IsStore, Touches, store_start, with_window};
+ghost use Rattle.object_store.specs.Stores.{HasWindow, IsStore, Touches, store_start, with_window, unsent, sent_of};
+ghost use Rattle.object_store.specs.Asking.{AsksNothing, AsksToFree, AsksToLeave, AsksToReturn, sent_after};
 ghost use Rattle.object_store.specs.Calls.{Makes, Frees, Gets, Puts, BeginsLeave, EndsLeave, BeginsReturn, EndsReturn};
 
 use crate::bodies::Body;
@@ -39,12 +40,12 @@ pub struct ObjectStore<F: FarStore> {
 impl<F: FarStore> Model for ObjectStore<F> {
     ghost use Rattle.std.specs.Prelude.{map, ◌≤◌, vec_capacity};
     ghost use Rattle.memory.specs.Objects.{number_count};
-    ghost use Rattle.object_store.specs.Stores.{StoreState};
-    ghost use Rattle.object_store.specs.Bodies.{IsKeptStore, bytes_in, place_in};
+    ghost use Rattle.object_store.specs.Stores.{StoreWithin};
+    ghost use Rattle.object_store.specs.Bodies.{IsKeptStore, bytes_in, place_in, sent_in};
 
-    ghost Value = { StoreState };
+    ghost Value = { StoreWithin F };
 
-    ghost view = { λ s. record { objects = map bytes_in s.bodies.items; places = map place_in s.bodies.items; windows = s.windows; budget = s.budget; faults = F.faults_of s.store } };
+    ghost view = { λ s. record { state = record { objects = map bytes_in s.bodies.items; places = map place_in s.bodies.items; windows = s.windows; budget = s.budget; faults = F.faults_of s.store }; far = s.store; sent = map sent_in s.bodies.items } };
 
     ghost invariant = { λ s. IsKeptStore s.bodies.items s.windows s.budget s.spare × (number_count ≤ vec_capacity s.bodies) };
 }
@@ -53,7 +54,7 @@ impl<F: FarStore + Drop> ObjectStore<F> {
     /// A store without objects, over a far store. It takes the memory for all that can be made, their bytes apart. The
     /// objects that aren't far have at most `budget` bytes.
     pub fn new(alloc: Global, budget: u32, store: F) -> Result<Self, AllocError>
-        ensures { IfOk result (λ s. s ≡ store_start budget (F.faults_of store)) }
+        ensures { IfOk result (λ s. s ≡ record { state = store_start budget (F.faults_of store); far = store; sent = unsent ∷ [] }) }
     {
         let mut bodies = Vec::with_capacity(alloc, OBJECT_LIMIT + 1)?;
         bodies.push_reserved(Body::none(alloc));
@@ -72,7 +73,10 @@ impl<F: FarStore> ObjectStore<F> {
     /// Makes an object of so many zeros, and gives its number.
     pub fn make(&mut self, length: u32) -> Result<u32, MakeError>
         requires { (1 ≤ length) × (length ≤ object_bytes) }
-        ensures { Makes self.old length result self.new }
+        ensures makes { Makes self.old.state length result self.new.state }
+        ensures far { self.new.far ≡ self.old.far }
+        ensures sent { OnOk result (self.new.sent ≡ self.old.sent ++ unsent ∷ []) }
+        ensures same { OnErr result (self.new.sent ≡ self.old.sent) }
     {
         let number = self.bodies.len();
         if number > OBJECT_LIMIT {
@@ -93,7 +97,8 @@ impl<F: FarStore> ObjectStore<F> {
 
     /// Frees an object that is here and in no scope. Its number is not used again.
     pub fn free(&mut self, number: u32) -> Moved
-        ensures { Frees self.old number result self.new }
+        ensures frees { Frees self.old.state number result self.new.state }
+        ensures asks { AsksToFree F.called self.old number result self.new }
     {
         let index = number as usize;
         match place_at(self.bodies.as_slice(), index) {
@@ -115,15 +120,15 @@ impl<F: FarStore> ObjectStore<F> {
 
     /// How many bytes an object has, wherever it is; 0 where there is none of this number.
     pub fn length(&self, number: u64) -> usize
-        ensures length { result ≡ length (bytes_of self.now.objects number) }
-        ensures store { IsStore self.now }
+        ensures length { result ≡ length (bytes_of self.now.state.objects number) }
+        ensures store { IsStore self.now.state }
     {
         length_at(self.bodies.as_slice(), number as usize)
     }
 
     /// Reads a range of an object.
     pub fn get(&self, number: u32, offset: u32, length: u32) -> Result<Vec<u8>, GetError>
-        ensures { Gets self.now number offset length result }
+        ensures { Gets self.now.state number offset length result }
     {
         let bodies = self.bodies.as_slice();
         let (index, offset, count) = (number as usize, offset as usize, length as usize);
@@ -139,7 +144,10 @@ impl<F: FarStore> ObjectStore<F> {
 
     /// Writes bytes over a range of an object.
     pub fn put(&mut self, number: u32, offset: u32, bytes: &[u8]) -> Result<(), PutError>
-        ensures { Puts self.old number offset bytes.now result self.new }
+        ensures puts { Puts self.old.state number offset bytes.now result self.new.state }
+        ensures far { self.new.far ≡ self.old.far }
+        ensures sent { OnOk result (self.new.sent ≡ set self.old.sent number (record (sent_of self.old.sent number) { clean = false })) }
+        ensures same { OnErr result (self.new.sent ≡ self.old.sent) }
     {
         let (index, offset) = (number as usize, offset as usize);
         match stand_range(self.bodies.as_slice(), index, offset, bytes.len()) {
@@ -156,7 +164,9 @@ impl<F: FarStore> ObjectStore<F> {
     #[inline(always)]
     pub fn touch(&mut self, who: usize, number: u32, op: &Op) -> Reach
         requires { HasWindow who }
-        ensures { Touches who self.old number op.now result self.new }
+        ensures touches { Touches who self.old.state number op.now result self.new.state }
+        ensures far { self.new.far ≡ self.old.far }
+        ensures sent { self.new.sent ≡ sent_after op.now result self.old.sent number }
     {
         let index = number as usize;
         match stand(self.bodies.as_slice(), index, op) {
@@ -174,14 +184,16 @@ impl<F: FarStore> ObjectStore<F> {
     /// Closes all scopes of a machine.
     pub fn close_scopes(&mut self, who: usize)
         requires { HasWindow who }
-        ensures { self.new ≡ with_window self.old who [] }
+        ensures closes { self.new.state ≡ with_window self.old.state who [] }
+        ensures asks { AsksNothing self.old self.new }
     {
         close(self.bodies.as_mut_slice(), &mut self.windows, who);
     }
 
     /// An object that is here and in no scope begins to leave.
     pub fn leave(&mut self, number: u32) -> Moved
-        ensures { BeginsLeave self.old number result self.new }
+        ensures begins { BeginsLeave self.old.state number result self.new.state }
+        ensures asks { AsksNothing self.old self.new }
     {
         let index = number as usize;
         match place_at(self.bodies.as_slice(), index) {
@@ -199,7 +211,8 @@ impl<F: FarStore> ObjectStore<F> {
 
     /// An object that leaves is put in the far store. Where that fails it is here again.
     pub fn left(&mut self, number: u32) -> Moved
-        ensures { EndsLeave self.old number result self.new }
+        ensures ends { EndsLeave self.old.state number result self.new.state }
+        ensures asks { AsksToLeave F.called self.old number result self.new }
     {
         let index = number as usize;
         match place_at(self.bodies.as_slice(), index) {
@@ -221,7 +234,8 @@ impl<F: FarStore> ObjectStore<F> {
 
     /// An object that is far begins to return, where the budget has room for it.
     pub fn return_(&mut self, number: u32) -> Moved
-        ensures { BeginsReturn self.old number result self.new }
+        ensures begins { BeginsReturn self.old.state number result self.new.state }
+        ensures asks { AsksNothing self.old self.new }
     {
         let index = number as usize;
         match place_at(self.bodies.as_slice(), index) {
@@ -241,7 +255,8 @@ impl<F: FarStore> ObjectStore<F> {
 
     /// An object that returns is got from the far store. Where that fails it is far again.
     pub fn returned(&mut self, number: u32) -> Moved
-        ensures { EndsReturn F.RETURNS self.old number result self.new }
+        ensures ends { EndsReturn F.RETURNS self.old.state number result self.new.state }
+        ensures asks { AsksToReturn F.RETURNS F.called self.old number result self.new }
     {
         let index = number as usize;
         match place_at(self.bodies.as_slice(), index) {
@@ -270,13 +285,14 @@ pub struct StoreMemory<'a, F: FarStore> {
 }
 
 impl<'a, F: FarStore> Memory for StoreMemory<'a, F> {
-    ghost use Rattle.object_store.specs.Stores.{HasWindow, lent_memory, store_promises};
+    ghost use Rattle.object_store.specs.Stores.{HasWindow, lent_memory};
+    ghost use Rattle.object_store.specs.Promised.{lent_promises};
 
     ghost is_ready = { λ m. HasWindow m.who };
 
-    ghost acts = { lent_memory (λ m. m.store.now) (λ m. m.store.ghost_name) (λ m. m.who) };
+    ghost acts = { lent_memory (λ m. m.store.now.state) (λ m. m.store.ghost_name) (λ m. m.who) };
 
-    ghost promises = { λ old new n op r h. store_promises old.who old.store.now new.store.now n op r h.0 };
+    ghost promises = { lent_promises (λ m. m.store.now.state) (λ m. m.store.ghost_name) (λ m. m.who) };
 
     fn length(&self, number: u64) -> usize {
         self.store.length(number)

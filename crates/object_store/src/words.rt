@@ -1,6 +1,6 @@
 //! The words of objects, changed where they can be.
 ghost use Rattle.std.specs.Prelude.{◌≡◌, false};
-ghost use Rattle.pointer_word.specs.declared.word.Place.TheVariants.{Local, Moving, Far};
+ghost use Rattle.pointer_word.specs.declared.word.WordPlace.TheVariants.{Local, Moving, Far};
 
 use pointer_word::Word;
 
@@ -9,7 +9,7 @@ use pointer_word::Word;
 pub fn begin_leave(word: &mut Word)
     requires here { word.old.place ≡ Local }
     requires alone { (word.old.count ≡ 0) × (word.old.turn ≡ false) }
-    ensures { word.new ≡ record word.old { place = Moving } }
+    ensures { word.new ≡ record word.old { place = Moving; hot = false } }
 {
     match word.leaving() {
         Some(next) => *word = next,

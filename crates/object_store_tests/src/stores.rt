@@ -1,5 +1,6 @@
 //! Stores for tests.
 ghost use Rattle.std.specs.Prelude.{true};
+ghost use Rattle.far_store.specs.Calls.{own_called};
 
 use far_store::{FarStore, OwnParcel, OwnStore, StoreFault};
 use object_store::ObjectStore;
@@ -56,9 +57,11 @@ impl FarStore for Counting {
 
     type Parcel = OwnParcel;
 
-    ghost bytes_in = { λ p. p };
+    ghost bytes_in = { λ p. p.bytes };
 
     ghost faults_of = { λ s. s.store };
+
+    ghost called = { λ s call t. own_called s.store call t.store };
 
     fn put(&mut self, bytes: Vec<u8>) -> Result<OwnParcel, (StoreFault, Vec<u8>)> {
         count(&self.asked.puts);

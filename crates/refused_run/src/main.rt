@@ -5,7 +5,10 @@
 use far_store::OwnStore;
 use std::alloc::{AllocError, Global};
 use std::io;
-use world::{Event, ObjectLength, Reply, World};
+use world::{
+    Bytes, Event, MachineCommand, ObjectCommand, ObjectLength, Reply, ShowCommand, Start, Way,
+    World,
+};
 
 /// R0 = 7, then EXIT.
 const SEVEN: [u8; 16] = [0xb7, 0, 0, 0, 7, 0, 0, 0, 0x95, 0, 0, 0, 0, 0, 0, 0];
@@ -23,42 +26,49 @@ fn make() -> Result<Event, AllocError> {
 fn with_machine(alloc: Global) -> Result<World<OwnStore>, AllocError> {
     let mut world = World::new(alloc, BUDGET, OwnStore::new(alloc))?;
     let _ = world.apply(make()?);
-    let code = SEVEN.to_vec(alloc)?;
-    let _ = world.apply(Event::Ship {
-        fuel: 10,
-        arguments: [0; 5],
-        code,
-    });
+    let start = Start::new(10, [0; 5]);
+    let code = Bytes::new(SEVEN.to_vec(alloc)?);
+    let _ = world.apply(Event::Ship { start, code });
     Ok(world)
 }
 
-/// Commands on the object and on the machine's stack.
-fn shows() -> [Event; 2] {
-    let get = Event::Get {
-        object: 1,
-        offset: 0,
-        length: 8,
-    };
-    let stack = Event::Stack {
+/// A command on the object.
+fn on_object(command: ObjectCommand) -> Event {
+    Event::Object { object: 1, command }
+}
+
+/// A command on the machine.
+fn on_machine(command: MachineCommand) -> Event {
+    Event::Machine {
         machine: 1,
-        offset: 0,
-        length: 8,
-    };
-    [get, stack]
+        command,
+    }
+}
+
+/// Shows the machine's registers.
+fn regs() -> Event {
+    on_machine(MachineCommand::Show(ShowCommand::Regs))
 }
 
 /// Seven commands on that object and that machine.
 fn commands(alloc: Global) -> Result<Vec<Event>, AllocError> {
-    let put = Event::Put {
-        object: 1,
+    let bytes = Bytes::new(vec![in alloc; 1u8, 2]?);
+    let range = ShowCommand::Stack {
         offset: 0,
-        bytes: vec![in alloc; 1u8, 2]?,
+        length: 8,
     };
-    let [get, stack] = shows();
-    let step = Event::Step { machine: 1 };
-    let again = Event::Step { machine: 1 };
-    let regs = Event::Regs { machine: 1 };
-    Ok(vec![in alloc; make()?, put, get, stack, step, again, regs]?)
+    Ok(vec![in alloc;
+        make()?,
+        on_object(ObjectCommand::Put { offset: 0, bytes }),
+        on_object(ObjectCommand::Get {
+            offset: 0,
+            length: 8
+        }),
+        on_machine(MachineCommand::Show(range)),
+        on_machine(MachineCommand::Step(Way::Step)),
+        on_machine(MachineCommand::Step(Way::Step)),
+        regs(),
+    ]?)
 }
 
 /// Says how the run ended, and shows the machine.
@@ -90,6 +100,6 @@ fn main(rt: HostRuntime) -> io::Result<()> {
     };
     let mut replies = Vec::new(alloc);
     let ended = world.run(events, &mut replies);
-    let machine = world.apply(Event::Regs { machine: 1 });
+    let machine = world.apply(regs());
     show(&rt, ended, &replies, machine)
 }

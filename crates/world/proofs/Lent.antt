@@ -6,6 +6,11 @@ use Rattle.machine.specs.MachineState.{MachineState}
 use Rattle.machine.specs.TableStep.{TableStep}
 use Rattle.machine.specs.Carrying.{Carries}
 use Rattle.machine.proofs.Carried.{step_carries}
+use Rattle.debugger.specs.declared.commands.Way.{Way}
+use Rattle.debugger.specs.declared.replies.StepReply.{StepReply}
+use Rattle.debugger.specs.declared.replies.StepReply.TheVariants as step_reply
+use Rattle.debugger.specs.declared.debuggee.Debuggee.{Debuggee}
+use Rattle.debugger.specs.Debuggees.{Walks, AnswersStep}
 
 -- the same loan, to the same machine
 pub record IsLent {M : Type 0} (loan who : M → ℕ) (first m : M) : Type 0 where
@@ -25,8 +30,25 @@ lent_carries store loan who first = record {
   measured = λ before n. refl;
 }
 
-pub lent_step : {M : Type 0} (store : M → StoreState) (loan who : M → ℕ) (old new : MachineState) (before after : M) (a : Stepped)
+lent_step : {M : Type 0} (store : M → StoreState) (loan who : M → ℕ) (old new : MachineState) (before after : M) (a : Stepped)
     → TableStep (lent_memory store loan who) old before a new after → TableStep (store_memory (who before)) old (store before) a new (store after) × IsLent loan who before after
 lent_step store loan who old new before after a t =
     step_carries true (lent_memory store loan who) (store_memory (who before)) store (IsLent loan who before) (lent_carries store loan who before)
     old new before after a (record { loan_is = refl; who_is = refl }) refl t
+
+lent_walk : {M : Type 0} (store : M → StoreState) (loan who : M → ℕ) (way : Way) (old new : Debuggee) (before after : M) (told : StepReply)
+    → Walks (lent_memory store loan who) way old before told new after → Walks (store_memory (who before)) way old (store before) told new (store after) × IsLent loan who before after
+lent_walk store loan who way old new before after told h =
+    let t = lent_step store loan who old.machine h.machine before after h.answer h.step in (
+      record { goes = h.goes; answer = h.answer; machine = h.machine; step = t.0; told = h.told; changed = h.changed },
+      t.1,
+    )
+
+-- a step over a store that is lent is one over the store
+pub lent_answer : {M : Type 0} (store : M → StoreState) (loan who : M → ℕ) (way : Way) (old new : Debuggee) (before after : M) (told : StepReply)
+    → AnswersStep (lent_memory store loan who) way old before told new after → AnswersStep (store_memory (who before)) way old (store before) told new (store after) × IsLent loan who before after
+lent_answer store loan who way old new before after (step_reply.Paused slot) h = (
+  record { held = h.held; slot_is = h.slot_is; changed = h.changed; same = ap store h.same },
+  record { loan_is = ap loan h.same; who_is = ap who h.same },
+)
+lent_answer store loan who way old new before after told h = lent_walk store loan who way old new before after told h

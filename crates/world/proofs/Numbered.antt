@@ -3,7 +3,7 @@ use Rattle.std.proofs.Common.{◌≡◌, ℕ, zero, suc, ◌-◌, List, Some, se
 use Rattle.std.specs.Prelude.{slice_get, slice_set}
 use Rattle.std.proofs.lemmas.List.{set-get_or}
 use Rattle.std.proofs.lemmas.Option.{get_or_from_slice_get}
-use Rattle.world.specs.declared.debuggee.Debuggee.{Debuggee}
+use Rattle.debugger.specs.declared.debuggee.Debuggee.{Debuggee}
 use Rattle.world.specs.WorldState.{machine_at, with_machine}
 
 set_same : (machines : List Debuggee) (n : ℕ) (d : Debuggee) → slice_get machines n ≡ Some d → slice_set machines n d ≡ machines

@@ -1,28 +1,49 @@
 -- Machines without their debug states.
-use Rattle.std.proofs.Common.{◌≡◌, ℕ, zero, suc, ◌-◌, Bool, true, false, ◌&&◌, is_none, cond, List, [], map, Option, Some, None, refl, sym, ap, ◌∙◌}
+use Rattle.std.proofs.Common.{◌≡◌, ℕ, zero, suc, ◌-◌, Bool, true, false, not, ◌&&◌, ◌||◌, is_none, cond, List, [], map, Option, Some, None, inl, inr, refl, sym, ap, subst, ◌∙◌}
 use Rattle.std.specs.Prelude.{option_map}
 use Rattle.std.proofs.lemmas.List.{map-set}
 use Rattle.std.proofs.lemmas.Option.{slice_get-map}
 use Rattle.memory.specs.Memories.{Memories}
+use Rattle.machine.specs.MachineState.{MachineState}
 use Rattle.machine.specs.declared.state.Stop.{Stop}
 use Rattle.machine.specs.declared.state.Written.{Written}
 use Rattle.machine.specs.declared.state.Stepped.{Stepped}
 use Rattle.machine.specs.declared.state.Stepped.TheVariants as stepped
-use Rattle.machine.specs.MachineState.{MachineState}
 use Rattle.debugger.specs.DebugState.{DebugState, debug_start, hits}
-use Rattle.debugger.specs.Steps.{is_to_pause}
-use Rattle.debugger.specs.Showing.{state_of, shown_of}
+use Rattle.debugger.specs.Steps.{is_to_pause, debugged}
+use Rattle.debugger.specs.Showing.{Shows, ShowsBytes, ShowsLine, state_of, shown_of}
+use Rattle.debugger.specs.Debuggees.{Walks, AnswersStep, reply_after}
+use Rattle.debugger.specs.declared.commands.Way.{Way}
+use Rattle.debugger.specs.declared.commands.Way.TheVariants as way
+use Rattle.debugger.specs.declared.commands.MachineCommand.{MachineCommand}
+use Rattle.debugger.specs.declared.commands.MachineCommand.TheVariants.{Step, Show, Debug}
+use Rattle.debugger.specs.declared.commands.ShowCommand.{ShowCommand}
+use Rattle.debugger.specs.declared.commands.ShowCommand.TheVariants.{Regs, Out, Stack, Line}
+use Rattle.debugger.specs.declared.replies.StepReply.{StepReply}
+use Rattle.debugger.specs.declared.replies.StepReply.TheVariants as step_reply
+use Rattle.debugger.specs.declared.replies.ShowReply.{ShowReply}
+use Rattle.debugger.specs.declared.replies.ShowReply.TheVariants as show_reply
 use Rattle.debugger.specs.declared.shown.State.{State}
 use Rattle.debugger.specs.declared.shown.Shown.{Shown}
-use Rattle.world.specs.declared.debuggee.Debuggee.{Debuggee}
-use Rattle.world.specs.declared.events.Reply.{Reply}
-use Rattle.world.specs.declared.events.Reply.TheVariants as reply
+use Rattle.debugger.specs.declared.debuggee.Debuggee.{Debuggee}
+use Rattle.world.specs.declared.replies.Reply.{Reply}
+use Rattle.world.specs.declared.events.Event.TheVariants.{Machine}
 use Rattle.world.specs.WorldState.{machine_at, with_machine}
-use Rattle.world.specs.Steps.{Way, Steps, Pauses, AnswersStep, debugged, reply_to_step}
-use Rattle.world.specs.Steps.Way.{ByStep}
-use Rattle.world.specs.Debugging.{Debugs}
-use Rattle.world.specs.Undebugged.{undebugged_machine, undebugged_reply, unpaused, is_pause}
+use Rattle.world.specs.Machines.{AnswersCommand, AnswersMachine, reply_to_step, reply_to_show}
+use Rattle.world.specs.Undebugged.{undebugged_machine, undebugged_reply, unpaused, is_pause, is_undebugged}
 use Rattle.world.proofs.Numbered.{with_same}
+
+abbrev debuggee : MachineState → DebugState → Debuggee
+debuggee m d = record { machine = m; debugger = d }
+
+-- what a Boolean says that one of two is
+pub not_second : (b : Bool) → not (false || b) ≡ true → b ≡ false
+not_second true e = absurd (cc)
+not_second false e = refl
+
+pub second : (b : Bool) → not (false || b) ≡ false → b ≡ true
+second true e = refl
+second false e = absurd (cc)
 
 abbrev pub undebugged_machines : List Debuggee → List Debuggee
 undebugged_machines machines = map undebugged_machine machines
@@ -33,24 +54,23 @@ at_undebugged : (machines : List Debuggee) (m : ℕ) → machine_at (undebugged_
 at_undebugged machines zero = refl
 at_undebugged machines (suc n) = slice_get-map undebugged_machine machines n
 
-pub found_undebugged : (machines : List Debuggee) (m : ℕ) (d : Debuggee) → machine_at machines m ≡ Some d → machine_at (undebugged_machines machines) m ≡ Some (undebugged_machine d)
+found_undebugged : (machines : List Debuggee) (m : ℕ) (d : Debuggee) → machine_at machines m ≡ Some d → machine_at (undebugged_machines machines) m ≡ Some (undebugged_machine d)
 found_undebugged machines m d e = at_undebugged machines m ∙ ap (option_map undebugged_machine) e
 
-pub missing_undebugged : (machines : List Debuggee) (m : ℕ) → machine_at machines m ≡ None → machine_at (undebugged_machines machines) m ≡ None
+missing_undebugged : (machines : List Debuggee) (m : ℕ) → machine_at machines m ≡ None → machine_at (undebugged_machines machines) m ≡ None
 missing_undebugged machines m e = at_undebugged machines m ∙ ap (option_map undebugged_machine) e
 
 with_undebugged : (machines : List Debuggee) (m : ℕ) (d : Debuggee) → undebugged_machines (with_machine machines m d) ≡ with_machine (undebugged_machines machines) m (undebugged_machine d)
 with_undebugged machines m d = map-set undebugged_machine machines (m - 1) d
 
--- a change of the debug state alone is not seen
-debug_state_unseen : (old new : List Debuggee) (m : ℕ) (d : Debuggee) (e : DebugState) → machine_at old m ≡ Some d → new ≡ with_machine old m (record d { debugger = e })
+-- a machine of which no more is changed than its debug state
+unseen : (old new : List Debuggee) (m : ℕ) (d e : Debuggee) → machine_at old m ≡ Some d → undebugged_machine e ≡ undebugged_machine d → new ≡ with_machine old m e
     → undebugged_machines new ≡ undebugged_machines old
-debug_state_unseen old new m d e found changed =
-    ap undebugged_machines changed ∙ with_undebugged old m (record d { debugger = e }) ∙ with_same (undebugged_machines old) m (undebugged_machine d) (found_undebugged old m d found)
-
-pub debugs_unseen : (changes : MachineState → DebugState → DebugState → Type 0) (old : List Debuggee) (m : ℕ) (new : List Debuggee) → Debugs changes old m new
-    → undebugged_machines new ≡ undebugged_machines old
-debugs_unseen changes old m new h = debug_state_unseen old new m h.debuggee h.debugger h.found h.changed
+unseen old new m d e found same changed =
+    ap undebugged_machines changed
+    ∙ with_undebugged old m e
+    ∙ ap (λ (x : Debuggee). with_machine (undebugged_machines old) m x) same
+    ∙ with_same (undebugged_machines old) m (undebugged_machine d) (found_undebugged old m d found)
 
 -- ---- steps
 
@@ -62,46 +82,57 @@ never_held : (s : Option Stop) (slot : ℕ) → (is_none s && is_to_pause slot d
 never_held None slot = refl
 never_held (Some s) slot = refl
 
-starts_stay : (a : Stepped) → debugged ByStep a debug_start ≡ debug_start
+starts_stay : (a : Stepped) → debugged way.Step a debug_start ≡ debug_start
 starts_stay (stepped.Ran w) = ap (λ b. record { breakpoints = []; watches = []; paused = b; pass = false }) (no_hit w)
 starts_stay (stepped.Waiting n) = refl
 starts_stay (stepped.Stopped s) = refl
 
-hit_ran : (b : Bool) (m slot : ℕ) → undebugged_reply (cond b (reply.Hit m slot) (reply.Ran m slot)) ≡ reply.Ran m slot
-hit_ran true m slot = refl
-hit_ran false m slot = refl
+-- a hit is a step that ran
+abbrev unhit : StepReply → StepReply
+unhit (step_reply.Hit slot) = step_reply.Ran slot
+unhit told = told
 
-told_undebugged : (m : ℕ) (a : Stepped) (slot : ℕ) (d : DebugState) → undebugged_reply (reply_to_step m a slot d) ≡ reply_to_step m a slot debug_start
-told_undebugged m (stepped.Ran w) slot d = hit_ran (hits w d) m slot ∙ sym (ap (λ b. cond b (reply.Hit m slot) (reply.Ran m slot)) (no_hit w))
-told_undebugged m (stepped.Waiting n) slot d = refl
-told_undebugged m (stepped.Stopped s) slot d = refl
+unhit_reply : (m : ℕ) (told : StepReply) → undebugged_reply (reply_to_step m told) ≡ reply_to_step m (unhit told)
+unhit_reply m (step_reply.Ran slot) = refl
+unhit_reply m (step_reply.Hit slot) = refl
+unhit_reply m (step_reply.Waiting n) = refl
+unhit_reply m (step_reply.Paused slot) = refl
+unhit_reply m (step_reply.Stopped s) = refl
+
+hit_ran : (b : Bool) (slot : ℕ) → unhit (cond b (step_reply.Hit slot) (step_reply.Ran slot)) ≡ step_reply.Ran slot
+hit_ran true slot = refl
+hit_ran false slot = refl
+
+told_undebugged : (a : Stepped) (slot : ℕ) (d : DebugState) → unhit (reply_after a slot d) ≡ reply_after a slot debug_start
+told_undebugged (stepped.Ran w) slot d = hit_ran (hits w d) slot ∙ sym (ap (λ b. cond b (step_reply.Hit slot) (step_reply.Ran slot)) (no_hit w))
+told_undebugged (stepped.Waiting n) slot d = refl
+told_undebugged (stepped.Stopped s) slot d = refl
 
 -- a step by any way is one by `step`
-steps_undebugged : {S : Type 0} (memory : Memories S) (way : Way) (old new : List Debuggee) (before after : S) (m : ℕ) (r : Reply) → Steps memory way old before m r new after
-    → Steps memory ByStep (undebugged_machines old) before m (undebugged_reply r) (undebugged_machines new) after
-steps_undebugged memory way old new before after m r h = record {
-  debuggee = undebugged_machine h.debuggee;
-  found = found_undebugged old m h.debuggee h.found;
-  goes = never_held h.debuggee.machine.stop h.debuggee.machine.slot;
+walk_undebugged : {S : Type 0} (memory : Memories S) (w : Way) (old new : Debuggee) (before after : S) (told : StepReply) → Walks memory w old before told new after
+    → Walks memory way.Step (undebugged_machine old) before (unhit told) (undebugged_machine new) after
+walk_undebugged memory w old new before after told h = record {
+  goes = never_held old.machine.stop old.machine.slot;
   answer = h.answer;
   machine = h.machine;
   step = h.step;
-  told = ap undebugged_reply h.told ∙ told_undebugged m h.answer h.machine.slot h.debuggee.debugger;
-  changed = ap undebugged_machines h.changed
-      ∙ with_undebugged old m (record { machine = h.machine; debugger = debugged way h.answer h.debuggee.debugger })
-      ∙ ap (λ (d : DebugState). with_machine (undebugged_machines old) m (record { machine = h.machine; debugger = d })) (sym (starts_stay h.answer));
+  told = ap unhit h.told ∙ told_undebugged h.answer h.machine.slot old.debugger;
+  changed = ap undebugged_machine h.changed ∙ ap (λ (d : DebugState). debuggee h.machine d) (sym (starts_stay h.answer));
 }
 
-pub answers_undebugged : {S : Type 0} (memory : Memories S) (way : Way) (old new : List Debuggee) (before after : S) (m : ℕ) (r : Reply) → is_pause r ≡ false
-    → AnswersStep memory way old before m r new after → AnswersStep memory ByStep (undebugged_machines old) before m (undebugged_reply r) (undebugged_machines new) after
-answers_undebugged memory way old new before after m reply.Missing e h = (missing_undebugged old m h.0, ap undebugged_machines h.1, h.2)
-answers_undebugged memory way old new before after m (reply.Paused k slot) e h = absurd (cc)
-answers_undebugged memory way old new before after m r e h = steps_undebugged memory way old new before after m r h
+step_undebugged : {S : Type 0} (memory : Memories S) (w : Way) (m : ℕ) (old new : Debuggee) (before after : S) (told : StepReply) → is_pause (reply_to_step m told) ≡ false
+    → AnswersStep memory w old before told new after → AnswersStep memory way.Step (undebugged_machine old) before (unhit told) (undebugged_machine new) after
+step_undebugged memory w m old new before after (step_reply.Paused slot) e h = absurd (cc)
+step_undebugged memory w m old new before after (step_reply.Ran slot) e h = walk_undebugged memory w old new before after (step_reply.Ran slot) h
+step_undebugged memory w m old new before after (step_reply.Hit slot) e h = walk_undebugged memory w old new before after (step_reply.Hit slot) h
+step_undebugged memory w m old new before after (step_reply.Waiting n) e h = walk_undebugged memory w old new before after (step_reply.Waiting n) h
+step_undebugged memory w m old new before after (step_reply.Stopped s) e h = walk_undebugged memory w old new before after (step_reply.Stopped s) h
 
 -- a pause is not seen
-pub pauses_unseen : {S : Type 0} (way : Way) (old new : List Debuggee) (before after : S) (m slot : ℕ) → Pauses way old before m slot new after
-    → (undebugged_machines new ≡ undebugged_machines old) × (after ≡ before)
-pauses_unseen way old new before after m slot h = (debug_state_unseen old new m h.debuggee _ h.found h.changed, h.same)
+step_unseen : {S : Type 0} (memory : Memories S) (w : Way) (m : ℕ) (old new : Debuggee) (before after : S) (told : StepReply) → is_pause (reply_to_step m told) ≡ true
+    → AnswersStep memory w old before told new after → (undebugged_machine new ≡ undebugged_machine old) × (after ≡ before)
+step_unseen memory w m old new before after (step_reply.Paused slot) e h = (ap undebugged_machine h.changed, h.same)
+step_unseen memory w m old new before after _ e h = absurd (cc)
 
 -- ---- what is shown
 
@@ -110,7 +141,95 @@ unpaused_state (Some s) paused = refl
 unpaused_state None true = refl
 unpaused_state None false = refl
 
-pub shown_undebugged : (d : Debuggee) (shown : Shown) → shown ≡ shown_of d.machine d.debugger → record shown { state = unpaused shown.state } ≡ shown_of d.machine debug_start
+shown_undebugged : (d : Debuggee) (shown : Shown) → shown ≡ shown_of d.machine d.debugger → record shown { state = unpaused shown.state } ≡ shown_of d.machine debug_start
 shown_undebugged d shown e =
     ap (λ (s : Shown). record s { state = unpaused s.state }) e
     ∙ ap (λ (s : State). record (shown_of d.machine debug_start) { state = s }) (unpaused_state d.machine.stop d.debugger.paused)
+
+-- no machine shows that it is paused
+abbrev unshown : ShowReply → ShowReply
+unshown (show_reply.Registers shown) = show_reply.Registers (record shown { state = unpaused shown.state })
+unshown told = told
+
+unshown_reply : (m : ℕ) (told : ShowReply) → undebugged_reply (reply_to_show m told) ≡ reply_to_show m (unshown told)
+unshown_reply m (show_reply.Registers shown) = refl
+unshown_reply m (show_reply.Emitted values) = refl
+unshown_reply m (show_reply.Bytes shown) = refl
+unshown_reply m (show_reply.Disassembled slot text) = refl
+unshown_reply m show_reply.Outside = refl
+unshown_reply m show_reply.NoSlot = refl
+unshown_reply m show_reply.NoMemory = refl
+
+bytes_undebugged : (bytes : List ℕ) (offset size : ℕ) (told : ShowReply) → ShowsBytes bytes offset size told → ShowsBytes bytes offset size (unshown told)
+bytes_undebugged bytes offset size (show_reply.Bytes shown) h = h
+bytes_undebugged bytes offset size show_reply.Outside h = h
+bytes_undebugged bytes offset size show_reply.NoMemory h = h
+bytes_undebugged bytes offset size _ h = absurd h
+
+line_undebugged : (code : List ℕ) (slot : ℕ) (told : ShowReply) → ShowsLine code slot told → ShowsLine code slot (unshown told)
+line_undebugged code slot (show_reply.Disassembled n text) h = h
+line_undebugged code slot show_reply.NoSlot h = h
+line_undebugged code slot show_reply.NoMemory h = h
+line_undebugged code slot _ h = absurd h
+
+show_undebugged : (c : ShowCommand) (d : Debuggee) (told : ShowReply) → Shows c d told → Shows c (undebugged_machine d) (unshown told)
+show_undebugged Regs d (show_reply.Registers shown) h = shown_undebugged d shown h
+show_undebugged Out d (show_reply.Emitted values) h = h
+show_undebugged (Stack offset size) d told h = bytes_undebugged d.machine.stack offset size told h
+show_undebugged (Line slot) d told h = line_undebugged d.machine.code slot told h
+show_undebugged _ d _ h = absurd h
+
+-- ---- commands
+
+-- `one` is `step`
+abbrev pub undebugged_work : MachineCommand → MachineCommand
+undebugged_work (Step w) = Step way.Step
+undebugged_work c = c
+
+command_undebugged : {S : Type 0} (memory : Memories S) (m : ℕ) (c : MachineCommand) (old new : Debuggee) (before after : S) (r : Reply) → is_undebugged (Machine m c) r ≡ true
+    → AnswersCommand memory old before m c r new after → AnswersCommand memory (undebugged_machine old) before m (undebugged_work c) (undebugged_reply r) (undebugged_machine new) after
+command_undebugged memory m (Step w) old new before after r e h = (
+  unhit h.0,
+  ap undebugged_reply h.1 ∙ unhit_reply m h.0,
+  step_undebugged memory w m old new before after h.0 (subst (λ (x : Reply). is_pause x ≡ false) h.1 (not_second (is_pause r) e)) h.2,
+)
+command_undebugged memory m (Show c) old new before after r e h =
+    (unshown h.0, ap undebugged_reply h.1 ∙ unshown_reply m h.0, show_undebugged c old h.0 h.2, ap undebugged_machine h.3, h.4)
+command_undebugged memory m (Debug c) old new before after r e h = absurd (cc)
+
+pub machine_undebugged : {S : Type 0} (memory : Memories S) (m : ℕ) (c : MachineCommand) (old new : List Debuggee) (before after : S) (r : Reply) → is_undebugged (Machine m c) r ≡ true
+    → AnswersMachine memory old before m c r new after
+    → AnswersMachine memory (undebugged_machines old) before m (undebugged_work c) (undebugged_reply r) (undebugged_machines new) after
+machine_undebugged memory m c old new before after r e (inl h) =
+    inl (record { none = missing_undebugged old m h.none; told = ap undebugged_reply h.told; unchanged = ap undebugged_machines h.unchanged; same = h.same })
+machine_undebugged memory m c old new before after r e (inr h) = inr (record {
+  debuggee = undebugged_machine h.debuggee;
+  left = undebugged_machine h.left;
+  found = found_undebugged old m h.debuggee h.found;
+  answers = command_undebugged memory m c h.debuggee h.left before after r e h.answers;
+  changed = ap undebugged_machines h.changed ∙ with_undebugged old m h.left;
+})
+
+not_pause : (m : ℕ) (told : ShowReply) → is_pause (reply_to_show m told) ≡ false
+not_pause m (show_reply.Registers shown) = refl
+not_pause m (show_reply.Emitted values) = refl
+not_pause m (show_reply.Bytes shown) = refl
+not_pause m (show_reply.Disassembled slot text) = refl
+not_pause m show_reply.Outside = refl
+not_pause m show_reply.NoSlot = refl
+not_pause m show_reply.NoMemory = refl
+
+-- the debugging commands and pauses are not seen
+command_unseen : {S : Type 0} (memory : Memories S) (m : ℕ) (c : MachineCommand) (old new : Debuggee) (before after : S) (r : Reply) → is_undebugged (Machine m c) r ≡ false
+    → AnswersCommand memory old before m c r new after → (undebugged_machine new ≡ undebugged_machine old) × (after ≡ before)
+command_unseen memory m (Step w) old new before after r e h =
+    step_unseen memory w m old new before after h.0 (subst (λ (x : Reply). is_pause x ≡ true) h.1 (second (is_pause r) e)) h.2
+command_unseen memory m (Show c) old new before after r e h =
+    let f = sym (second (is_pause r) e) ∙ (rw (← h.1) at (not_pause m h.0)) in absurd (cc)
+command_unseen memory m (Debug c) old new before after r e h = (ap undebugged_machine h.2.1, h.3)
+
+pub machine_unseen : {S : Type 0} (memory : Memories S) (m : ℕ) (c : MachineCommand) (old new : List Debuggee) (before after : S) (r : Reply) → is_undebugged (Machine m c) r ≡ false
+    → AnswersMachine memory old before m c r new after → (undebugged_machines new ≡ undebugged_machines old) × (after ≡ before)
+machine_unseen memory m c old new before after r e (inl h) = (ap undebugged_machines h.unchanged, h.same)
+machine_unseen memory m c old new before after r e (inr h) =
+    let k = command_unseen memory m c h.debuggee h.left before after r e h.answers in (unseen old new m h.debuggee h.left h.found k.0 h.changed, k.1)

@@ -1,15 +1,15 @@
 -- Moving objects changes nothing.
-use Rattle.std.proofs.Common.{◌≡◌, ℕ, Bool, true, false, not, ◌||◌, cond, List, [], ◌∷◌, refl, sym, ap, ◌∙◌, subst}
+use Rattle.std.proofs.Common.{◌≡◌, ℕ, Bool, true, false, ◌||◌, cond, List, [], ◌∷◌, inl, inr, refl, sym, ap, ◌∙◌, subst}
 use Rattle.memory.specs.declared.access.Op.{Op}
 use Rattle.memory.specs.declared.access.Reach.{Reach}
 use Rattle.memory.specs.declared.access.Reach.TheVariants as reach
-use Rattle.memory.specs.Objects.{map_memory, map_reaches}
+use Rattle.memory.specs.MapMemory.{map_memory, map_reaches}
 use Rattle.object_store.specs.declared.places.Place.{Place}
 use Rattle.object_store.specs.declared.places.Place.TheVariants as place
 use Rattle.object_store.specs.declared.places.Moved.{Moved}
 use Rattle.object_store.specs.declared.places.Moved.TheVariants as moved
 use Rattle.object_store.specs.Stores.{StoreState, store_memory, Touches}
-use Rattle.object_store.specs.Calls.{RefusesMove, Frees, BeginsLeave, EndsLeave, BeginsReturn, EndsReturn}
+use Rattle.object_store.specs.Calls.{Frees}
 use Rattle.machine.specs.declared.state.Stepped.{Stepped}
 use Rattle.machine.specs.declared.state.Stepped.TheVariants as stepped
 use Rattle.machine.specs.MachineState.{MachineState}
@@ -18,20 +18,32 @@ use Rattle.machine.specs.Laws.{IsWaiting}
 use Rattle.machine.specs.Carrying.{Carries, is_done, goes}
 use Rattle.machine.proofs.Carried.{step_carries}
 use Rattle.machine.proofs.Stopping.{waits_in_place}
+use Rattle.debugger.specs.declared.commands.Way.{Way}
+use Rattle.debugger.specs.declared.commands.MachineCommand.{MachineCommand}
+use Rattle.debugger.specs.declared.commands.MachineCommand.TheVariants.{Step, Show, Debug}
+use Rattle.debugger.specs.declared.replies.StepReply.{StepReply}
+use Rattle.debugger.specs.declared.replies.StepReply.TheVariants as step_reply
+use Rattle.debugger.specs.declared.replies.Debugged.{Debugged}
+use Rattle.debugger.specs.declared.replies.Debugged.TheVariants as debugged
+use Rattle.debugger.specs.declared.debuggee.Debuggee.{Debuggee}
 use Rattle.debugger.specs.DebugState.{DebugState, hits}
-use Rattle.world.specs.declared.debuggee.Debuggee.{Debuggee}
-use Rattle.world.specs.declared.events.Reply.{Reply}
-use Rattle.world.specs.declared.events.Reply.TheVariants as reply
+use Rattle.debugger.specs.Steps as steps
+use Rattle.debugger.specs.Debuggees.{Walks, AnswersStep, reply_after}
+use Rattle.world.specs.declared.replies.Reply.{Reply}
+use Rattle.world.specs.declared.replies.Reply.TheVariants as reply
+use Rattle.world.specs.declared.events.Event.{Event}
+use Rattle.world.specs.declared.events.Event.TheVariants.{Make, Ship, Object, Machine}
+use Rattle.world.specs.declared.events.ObjectCommand.{ObjectCommand}
+use Rattle.world.specs.declared.events.ObjectCommand.TheVariants.{Free, Put, Get, Move}
 use Rattle.world.specs.Run.{Runs}
-use Rattle.world.specs.Commands.{Command}
-use Rattle.world.specs.Commands.Command.{Make, Free, Put, Get, Leave, Left, Return, Returned, Step, One}
 use Rattle.world.specs.WorldState.{WorldState, with_machine}
-use Rattle.world.specs.Steps.{Way, Steps, Pauses, AnswersStep, debugged, reply_to_step}
-use Rattle.world.specs.Steps.Way.{ByStep, ByOne}
-use Rattle.world.specs.Answers.{AnswersMove, reply_to_move, Answers}
-use Rattle.world.specs.Plain.{PlainState, plain_of, FreesPlain, PlainAnswers, is_absence, is_unmoved, unmoved_commands, unmoved_replies}
+use Rattle.world.specs.Machines.{AnswersCommand, AnswersMachine, reply_to_step, reply_to_debug}
+use Rattle.world.specs.Answers.{AnswersMove, AnswersObject, Moves, moved_reply, place_before, reply_to_move, Answers}
+use Rattle.world.specs.Plain.{PlainState, plain_of, FreesPlain, ObjectPlain, PlainAnswers, is_absence, is_unmoved, unmoved_commands, unmoved_replies}
 use Rattle.world.specs.Unseen.{MovingChangesNothing}
 use Rattle.world.proofs.Numbered.{with_same}
+use Rattle.world.proofs.Moves.{moves_stay}
+use Rattle.world.proofs.Undebugged_machines.{not_second, second}
 
 -- ---- a step over the map
 
@@ -54,50 +66,48 @@ plain_step : (who : ℕ) (old new : MachineState) (before after : StoreState) (a
     → TableStep map_memory old before.objects a new after.objects
 plain_step who old new before after a l t = (step_carries false (store_memory who) map_memory (λ (s : StoreState). s.objects) (λ (s : StoreState). Unit {0}) (store_carries who) old new before after a tt l t).0
 
--- what is not answered that it waits goes on
-hit_is_none : (b : Bool) (m slot : ℕ) → is_absence (cond b (reply.Hit m slot) (reply.Ran m slot)) ≡ false
-hit_is_none true m slot = refl
-hit_is_none false m slot = refl
+abbrev debuggee : MachineState → DebugState → Debuggee
+debuggee m d = record { machine = m; debugger = d }
 
-told_goes : (m : ℕ) (a : Stepped) (slot : ℕ) (d : DebugState) → is_absence (reply_to_step m a slot d) ≡ false → goes a ≡ true
+-- what is not answered that it waits goes on
+told_goes : (m : ℕ) (a : Stepped) (slot : ℕ) (d : DebugState) → is_absence (reply_to_step m (reply_after a slot d)) ≡ false → goes a ≡ true
 told_goes m (stepped.Ran w) slot d e = refl
 told_goes m (stepped.Waiting n) slot d e = absurd (cc)
 told_goes m (stepped.Stopped s) slot d e = refl
 
-told_waits : (m : ℕ) (a : Stepped) (slot : ℕ) (d : DebugState) → is_absence (reply_to_step m a slot d) ≡ true → (n : ℕ) × (a ≡ stepped.Waiting n)
-told_waits m (stepped.Ran w) slot d e = let k = hit_is_none (hits w d) m slot in absurd (cc)
-told_waits m (stepped.Waiting n) slot d e = (n, refl)
-told_waits m (stepped.Stopped s) slot d e = absurd (cc)
-
--- by any way, where it isn't answered that it waits
-steps_plain : (m : ℕ) (way : Way) (old new : List Debuggee) (before after : StoreState) (r : Reply) → is_absence r ≡ false → Steps (store_memory m) way old before m r new after
-    → Steps map_memory way old before.objects m r new after.objects
-steps_plain m way old new before after r e h = record {
-  debuggee = h.debuggee;
-  found = h.found;
+walk_plain : (m : ℕ) (way : Way) (old new : Debuggee) (before after : StoreState) (told : StepReply) → is_absence (reply_to_step m told) ≡ false
+    → Walks (store_memory m) way old before told new after → Walks map_memory way old before.objects told new after.objects
+walk_plain m way old new before after told e h = record {
   goes = h.goes;
   answer = h.answer;
   machine = h.machine;
-  step = plain_step m h.debuggee.machine h.machine before after h.answer (told_goes m h.answer h.machine.slot h.debuggee.debugger (subst (λ (x : Reply). is_absence x ≡ false) h.told e)) h.step;
+  step = plain_step m old.machine h.machine before after h.answer (told_goes m h.answer h.machine.slot old.debugger (subst (λ (x : StepReply). is_absence (reply_to_step m x) ≡ false) h.told e)) h.step;
   told = h.told;
   changed = h.changed;
 }
 
-pauses_plain : (m slot : ℕ) (way : Way) (old new : List Debuggee) (before after : StoreState) → Pauses way old before m slot new after → Pauses way old before.objects m slot new after.objects
-pauses_plain m slot way old new before after h = record {
-  debuggee = h.debuggee;
-  found = h.found;
-  held = h.held;
-  slot_is = h.slot_is;
-  changed = h.changed;
-  same = ap (λ (s : StoreState). s.objects) h.same;
-}
+-- by any way, where it isn't answered that it waits
+step_plain : (m : ℕ) (way : Way) (old new : Debuggee) (before after : StoreState) (told : StepReply) → is_absence (reply_to_step m told) ≡ false
+    → AnswersStep (store_memory m) way old before told new after → AnswersStep map_memory way old before.objects told new after.objects
+step_plain m way old new before after (step_reply.Paused slot) e h = record { held = h.held; slot_is = h.slot_is; changed = h.changed; same = ap (λ (s : StoreState). s.objects) h.same }
+step_plain m way old new before after told e h = walk_plain m way old new before after told e h
 
-answers_plain : (m : ℕ) (way : Way) (old new : List Debuggee) (before after : StoreState) (r : Reply) → is_absence r ≡ false → AnswersStep (store_memory m) way old before m r new after
-    → AnswersStep map_memory way old before.objects m r new after.objects
-answers_plain m way old new before after reply.Missing e h = (h.0, h.1, ap (λ (s : StoreState). s.objects) h.2)
-answers_plain m way old new before after (reply.Paused k slot) e h = (h.0, pauses_plain m slot way old new before after h.1)
-answers_plain m way old new before after r e h = steps_plain m way old new before after r e h
+command_plain : (m : ℕ) (c : MachineCommand) (old new : Debuggee) (before after : StoreState) (r : Reply) → is_absence r ≡ false
+    → AnswersCommand (store_memory m) old before m c r new after → AnswersCommand map_memory old before.objects m c r new after.objects
+command_plain m (Step way) old new before after r e h = (h.0, h.1, step_plain m way old new before after h.0 (subst (λ (x : Reply). is_absence x ≡ false) h.1 e) h.2)
+command_plain m (Show c) old new before after r e h = (h.0, h.1, h.2, h.3, ap (λ (s : StoreState). s.objects) h.4)
+command_plain m (Debug c) old new before after r e h = (h.0, h.1, h.2, ap (λ (s : StoreState). s.objects) h.3)
+
+machine_plain : (m : ℕ) (c : MachineCommand) (old new : List Debuggee) (before after : StoreState) (r : Reply) → is_absence r ≡ false
+    → AnswersMachine (store_memory m) old before m c r new after → AnswersMachine map_memory old before.objects m c r new after.objects
+machine_plain m c old new before after r e (inl h) = inl (record { none = h.none; told = h.told; unchanged = h.unchanged; same = ap (λ (s : StoreState). s.objects) h.same })
+machine_plain m c old new before after r e (inr h) = inr (record {
+  debuggee = h.debuggee;
+  left = h.left;
+  found = h.found;
+  answers = command_plain m c h.debuggee h.left before after r e h.answers;
+  changed = h.changed;
+})
 
 -- ---- what waits leaves all as it was
 
@@ -106,61 +116,53 @@ waited_away who before after n op reach.Away w h = h.2
 waited_away who before after n op reach.Busy w h = absurd h
 waited_away who before after n op _ w h = absurd w
 
-debugger_waits : (way : Way) (n : ℕ) (d : DebugState) → debugged way (stepped.Waiting n) d ≡ d
-debugger_waits ByStep n d = refl
-debugger_waits ByOne n d = refl
+told_ran : (b : Bool) (n slot : ℕ) → step_reply.Waiting n ≡ cond b (step_reply.Hit slot) (step_reply.Ran slot) → ⊥
+told_ran true n slot e = cc
+told_ran false n slot e = cc
 
-waited : (m : ℕ) (way : Way) (old new : List Debuggee) (before after : StoreState) (r : Reply) → is_absence r ≡ true → Steps (store_memory m) way old before m r new after
-    → (new ≡ old) × (after ≡ before)
-waited m way old new before after r e h =
-    let k = told_waits m h.answer h.machine.slot h.debuggee.debugger (subst (λ (x : Reply). is_absence x ≡ true) h.told e) in
-    let w = waits_in_place (store_memory m) h.debuggee.machine h.machine before after k.0 (subst (λ (a : Stepped). TableStep (store_memory m) h.debuggee.machine before a h.machine after) k.1 h.step) in
-    let d : debugged way h.answer h.debuggee.debugger ≡ h.debuggee.debugger = ap (λ (a : Stepped). debugged way a h.debuggee.debugger) k.1 ∙ debugger_waits way k.0 h.debuggee.debugger in (
+told_waits : (n : ℕ) (a : Stepped) (slot : ℕ) (d : DebugState) → step_reply.Waiting n ≡ reply_after a slot d → a ≡ stepped.Waiting n
+told_waits n (stepped.Ran w) slot d e = absurd (told_ran (hits w d) n slot e)
+told_waits n (stepped.Waiting k) slot d e = cc
+told_waits n (stepped.Stopped s) slot d e = absurd (cc)
+
+waited : (m n : ℕ) (way : Way) (old new : Debuggee) (before after : StoreState) → Walks (store_memory m) way old before (step_reply.Waiting n) new after → (new ≡ old) × (after ≡ before)
+waited m n way old new before after h =
+    let k = told_waits n h.answer h.machine.slot old.debugger h.told in
+    let w = waits_in_place (store_memory m) old.machine h.machine before after n (subst (λ (a : Stepped). TableStep (store_memory m) old.machine before a h.machine after) k h.step) in
+    let d : steps.debugged way h.answer old.debugger ≡ old.debugger = ap (λ (a : Stepped). steps.debugged way a old.debugger) k in (
       h.changed
-          ∙ ap (λ (x : MachineState). with_machine old m (record { machine = x; debugger = debugged way h.answer h.debuggee.debugger })) w.0
-          ∙ ap (λ (x : DebugState). with_machine old m (record { machine = h.debuggee.machine; debugger = x })) d
-          ∙ with_same old m h.debuggee h.found,
-      waited_away m before after k.0 w.1.1 w.1.2 w.1.6 w.1.5,
+          ∙ ap (λ (x : MachineState). debuggee x (steps.debugged way h.answer old.debugger)) w.0
+          ∙ ap (λ (x : DebugState). debuggee old.machine x) d,
+      waited_away m before after n w.1.1 w.1.2 w.1.6 w.1.5,
     )
 
-answered_waits : (m : ℕ) (way : Way) (old new : List Debuggee) (before after : StoreState) (r : Reply) → is_absence r ≡ true → AnswersStep (store_memory m) way old before m r new after
-    → (new ≡ old) × (after ≡ before)
-answered_waits m way old new before after reply.Missing e h = absurd (cc)
-answered_waits m way old new before after (reply.Paused k slot) e h = absurd (cc)
-answered_waits m way old new before after r e h = waited m way old new before after r e h
+step_erased : (m : ℕ) (way : Way) (old new : Debuggee) (before after : StoreState) (told : StepReply) → is_absence (reply_to_step m told) ≡ true
+    → AnswersStep (store_memory m) way old before told new after → (new ≡ old) × (after ≡ before)
+step_erased m way old new before after (step_reply.Waiting n) e h = waited m n way old new before after h
+step_erased m way old new before after _ e h = absurd (cc)
 
-step_erased : (m : ℕ) (way : Way) (old new : WorldState) (r : Reply) → is_absence r ≡ true → AnswersStep (store_memory m) way old.machines old.store m r new.machines new.store
-    → plain_of new ≡ plain_of old
-step_erased m way old new r e h =
-    let k = answered_waits m way old.machines new.machines old.store new.store r e h in
-    ap (λ (x : List Debuggee). record { machines = x; objects = new.store.objects }) k.0 ∙ ap (λ (s : StoreState). record { machines = old.machines; objects = s.objects }) k.1
+debug_is_here : (told : Debugged) → is_absence (reply_to_debug told) ≡ false
+debug_is_here debugged.Done = refl
+debug_is_here debugged.NoSlot = refl
+debug_is_here debugged.Outside = refl
+debug_is_here debugged.Full = refl
+debug_is_here debugged.NoWatch = refl
+debug_is_here debugged.NotPaused = refl
+
+command_erased : (m : ℕ) (c : MachineCommand) (old new : Debuggee) (before after : StoreState) (r : Reply) → is_absence r ≡ true
+    → AnswersCommand (store_memory m) old before m c r new after → (new ≡ old) × (after ≡ before)
+command_erased m (Step way) old new before after r e h = step_erased m way old new before after h.0 (subst (λ (x : Reply). is_absence x ≡ true) h.1 e) h.2
+command_erased m (Show c) old new before after r e h = (h.3, h.4)
+command_erased m (Debug c) old new before after r e h = let f = sym (debug_is_here h.0) ∙ (rw h.1 at e) in absurd (cc)
+
+machine_erased : (m : ℕ) (c : MachineCommand) (old new : List Debuggee) (before after : StoreState) (r : Reply) → is_absence r ≡ true
+    → AnswersMachine (store_memory m) old before m c r new after → (new ≡ old) × (after ≡ before)
+machine_erased m c old new before after r e (inl h) = (h.unchanged, h.same)
+machine_erased m c old new before after r e (inr h) =
+    let k = command_erased m c h.debuggee h.left before after r e h.answers in
+    (h.changed ∙ ap (λ (d : Debuggee). with_machine old m d) k.0 ∙ with_same old m h.debuggee h.found, k.1)
 
 -- ---- moves
-
-refuses_stay : (from : Place) (old new : StoreState) (n : ℕ) (m : Moved) → RefusesMove from old n m new → new.objects ≡ old.objects
-refuses_stay from old new n moved.NoObject h = ap (λ (s : StoreState). s.objects) h.1
-refuses_stay from old new n (moved.Misplaced p) h = ap (λ (s : StoreState). s.objects) h.2
-refuses_stay from old new n _ h = absurd h
-
-begins_leave : (old new : StoreState) (n : ℕ) (m : Moved) → BeginsLeave old n m new → new.objects ≡ old.objects
-begins_leave old new n moved.Scoped h = ap (λ (s : StoreState). s.objects) h.2
-begins_leave old new n moved.Done h = ap (λ (s : StoreState). s.objects) h.2
-begins_leave old new n m h = refuses_stay place.Here old new n m h
-
-ends_leave : (old new : StoreState) (n : ℕ) (m : Moved) → EndsLeave old n m new → new.objects ≡ old.objects
-ends_leave old new n (moved.Fault f) h = ap (λ (s : StoreState). s.objects) h.2
-ends_leave old new n moved.Done h = ap (λ (s : StoreState). s.objects) h.2
-ends_leave old new n m h = refuses_stay place.Leaving old new n m h
-
-begins_return : (old new : StoreState) (n : ℕ) (m : Moved) → BeginsReturn old n m new → new.objects ≡ old.objects
-begins_return old new n moved.NoRoom h = ap (λ (s : StoreState). s.objects) h.2
-begins_return old new n moved.Done h = ap (λ (s : StoreState). s.objects) h.2
-begins_return old new n m h = refuses_stay place.Far old new n m h
-
-ends_return : (old new : StoreState) (n : ℕ) (m : Moved) → EndsReturn true old n m new → new.objects ≡ old.objects
-ends_return old new n (moved.Fault f) h = ap (λ (s : StoreState). s.objects) h.2
-ends_return old new n moved.Done h = ap (λ (s : StoreState). s.objects) h.1
-ends_return old new n m h = refuses_stay place.Returning old new n m h
 
 move_erased : (moves : StoreState → ℕ → Moved → StoreState → Type 0) → ((old new : StoreState) (n : ℕ) (m : Moved) → moves old n m new → new.objects ≡ old.objects)
     → (told : Reply) (back : Place) (old new : WorldState) (n : ℕ) (r : Reply) → AnswersMove moves told back old n r new → plain_of new ≡ plain_of old
@@ -177,39 +179,39 @@ frees_plain old new n (moved.Fault f) h = absurd h
 
 -- ---- one command
 
-pub not_second : (b : Bool) → not (false || b) ≡ true → b ≡ false
-not_second true e = absurd (cc)
-not_second false e = refl
+abbrev objects_of : WorldState → List (List ℕ)
+objects_of w = w.store.objects
 
-away : (b : Bool) → not (false || b) ≡ false → b ≡ true
-away true e = refl
-away false e = absurd (cc)
+abbrev machines_of : WorldState → List Debuggee
+machines_of w = w.machines
 
--- the other commands are on machines alone, and mean the same
-one_kept : (old new : WorldState) (c : Command) (r : Reply) → is_unmoved c r ≡ true → Answers old c r new → PlainAnswers (plain_of old) c r (plain_of new)
-one_kept old new (Make size) reply.Full e h = ((h.0.0, ap (λ (s : StoreState). s.objects) h.0.1), ap plain_of h.1)
-one_kept old new (Make size) reply.NoRoom e h = ((h.0.0, ap (λ (s : StoreState). s.objects) h.0.2), ap plain_of h.1)
-one_kept old new (Make size) reply.NoMemory e h = ((h.0.0, ap (λ (s : StoreState). s.objects) h.0.2), ap plain_of h.1)
-one_kept old new (Make size) (reply.Made n) e h = ((h.0.0, h.0.2, ap (λ (s : StoreState). s.objects) h.0.3), ap plain_of h.1)
-one_kept old new (Make size) _ e h = absurd h
-one_kept old new (Free n) r e h =
-    (subst (λ (x : Reply). FreesPlain old.store.objects n x new.store.objects) (sym h.told) (frees_plain old.store new.store n h.moved h.move), ap plain_of h.changed)
-one_kept old new (Put n offset bytes) reply.Outside e h = ((h.0.0, ap (λ (s : StoreState). s.objects) h.0.1), ap plain_of h.1)
-one_kept old new (Put n offset bytes) reply.Done e h = ((h.0.0, ap (λ (s : StoreState). s.objects) h.0.2), ap plain_of h.1)
-one_kept old new (Put n offset bytes) (reply.Away k) e h = absurd (cc)
-one_kept old new (Put n offset bytes) _ e h = absurd h
-one_kept old new (Get n offset size) reply.Outside e h = (h.0, ap plain_of h.1)
-one_kept old new (Get n offset size) reply.NoMemory e h = (h.0.0, ap plain_of h.1)
-one_kept old new (Get n offset size) (reply.Bytes shown) e h = ((h.0.0, h.0.2), ap plain_of h.1)
-one_kept old new (Get n offset size) (reply.Away k) e h = absurd (cc)
-one_kept old new (Get n offset size) _ e h = absurd h.0
-one_kept old new (Leave n) r e h = absurd (cc)
-one_kept old new (Left n) r e h = absurd (cc)
-one_kept old new (Return n) r e h = absurd (cc)
-one_kept old new (Returned n) r e h = absurd (cc)
-one_kept old new (Step m) r e h = answers_plain m ByStep old.machines new.machines old.store new.store r (not_second (is_absence r) e) h
-one_kept old new (One m) r e h = answers_plain m ByOne old.machines new.machines old.store new.store r (not_second (is_absence r) e) h
-one_kept old new _ r e h = (h.0, ap plain_of h.1)
+make_plain : (old new : WorldState) (size : ℕ) (r : Reply) → Answers old (Make size) r new → PlainAnswers (plain_of old) (Make size) r (plain_of new)
+make_plain old new size reply.Full h = ((h.0.0, ap (λ (s : StoreState). s.objects) h.0.1), ap machines_of h.1)
+make_plain old new size reply.NoRoom h = ((h.0.0, ap (λ (s : StoreState). s.objects) h.0.2), ap machines_of h.1)
+make_plain old new size reply.NoMemory h = ((h.0.0, ap (λ (s : StoreState). s.objects) h.0.2), ap machines_of h.1)
+make_plain old new size (reply.Made n) h = ((h.0.0, h.0.2, ap (λ (s : StoreState). s.objects) h.0.3), ap machines_of h.1)
+make_plain old new size _ h = absurd h
+
+object_plain : (old new : WorldState) (n : ℕ) (c : ObjectCommand) (r : Reply) → is_unmoved (Object n c) r ≡ true → AnswersObject old n c r new
+    → ObjectPlain old.store.objects n c r new.store.objects × (new.machines ≡ old.machines)
+object_plain old new n Free r e h =
+    (subst (λ (x : Reply). FreesPlain old.store.objects n x new.store.objects) (sym h.told) (frees_plain old.store new.store n h.moved h.move), ap machines_of h.changed)
+object_plain old new n (Put offset bytes) reply.Outside e h = ((h.0.0, ap (λ (s : StoreState). s.objects) h.0.1), ap machines_of h.1)
+object_plain old new n (Put offset bytes) reply.Done e h = ((h.0.0, ap (λ (s : StoreState). s.objects) h.0.2), ap machines_of h.1)
+object_plain old new n (Put offset bytes) (reply.Away k) e h = absurd (cc)
+object_plain old new n (Put offset bytes) _ e h = absurd h
+object_plain old new n (Get offset size) reply.Outside e h = ((h.0, ap objects_of h.1), ap machines_of h.1)
+object_plain old new n (Get offset size) reply.NoMemory e h = ((h.0.0, ap objects_of h.1), ap machines_of h.1)
+object_plain old new n (Get offset size) (reply.Bytes shown) e h = ((h.0.0, h.0.2, ap objects_of h.1), ap machines_of h.1)
+object_plain old new n (Get offset size) (reply.Away k) e h = absurd (cc)
+object_plain old new n (Get offset size) _ e h = absurd h.0
+object_plain old new n (Move m) r e h = absurd (cc)
+
+one_kept : (old new : WorldState) (c : Event) (r : Reply) → is_unmoved c r ≡ true → Answers old c r new → PlainAnswers (plain_of old) c r (plain_of new)
+one_kept old new (Make size) r e h = make_plain old new size r h
+one_kept old new (Ship start code) r e h = (h.0, ap (λ (s : StoreState). s.objects) h.1)
+one_kept old new (Object n c) r e h = object_plain old new n c r e h
+one_kept old new (Machine m c) r e h = machine_plain m c old.machines new.machines old.store new.store r (not_second (is_absence r) e) h
 
 free_told : {P : Type 0} (r : Reply) (n : ℕ) (m : Moved) → r ≡ reply_to_move (reply.Freed n) place.Here n m → is_absence r ≡ true → P
 free_told r n moved.Done e h = absurd (cc)
@@ -219,28 +221,31 @@ free_told r n moved.Scoped e h = absurd (cc)
 free_told r n moved.NoRoom e h = absurd (cc)
 free_told r n (moved.Fault f) e h = absurd (cc)
 
+object_erased : (old new : WorldState) (n : ℕ) (c : ObjectCommand) (r : Reply) → is_unmoved (Object n c) r ≡ false → AnswersObject old n c r new → plain_of new ≡ plain_of old
+object_erased old new n (Move m) r e h = move_erased (Moves m) (moves_stay m) (moved_reply m n) (place_before m) old new n r h
+object_erased old new n Free r e h =
+    free_told (reply_to_move (reply.Freed n) place.Here n h.moved) n h.moved refl (subst (λ (x : Reply). is_absence x ≡ true) h.told (second (is_absence r) e))
+object_erased old new n (Put offset bytes) (reply.Away k) e h = ap plain_of h.1.1 ∙ ap (λ (s : StoreState). record { machines = old.machines; objects = s.objects }) h.1.0.2
+object_erased old new n (Get offset size) (reply.Away k) e h = ap plain_of h.1
+object_erased old new n (Put offset bytes) (reply.Waiting k m) e h = absurd h
+object_erased old new n (Get offset size) (reply.Waiting k m) e h = absurd h.0
+object_erased old new n _ _ e h = absurd (cc)
+
 -- what is erased: the moves, what waits, and what is answered that the object is away
-one_erased : (old new : WorldState) (c : Command) (r : Reply) → is_unmoved c r ≡ false → Answers old c r new → plain_of new ≡ plain_of old
-one_erased old new (Leave n) r e h = move_erased BeginsLeave begins_leave (reply.Leaving n) place.Here old new n r h
-one_erased old new (Left n) r e h = move_erased EndsLeave ends_leave (reply.Left n) place.Here old new n r h
-one_erased old new (Return n) r e h = move_erased BeginsReturn begins_return (reply.Returning n) place.Far old new n r h
-one_erased old new (Returned n) r e h = move_erased (EndsReturn true) ends_return (reply.Home n) place.Far old new n r h
-one_erased old new (Step m) r e h = step_erased m ByStep old new r (away (is_absence r) e) h
-one_erased old new (One m) r e h = step_erased m ByOne old new r (away (is_absence r) e) h
-one_erased old new (Put n offset bytes) (reply.Away k) e h = ap plain_of h.1.1 ∙ ap (λ (s : StoreState). record { machines = old.machines; objects = s.objects }) h.1.0.2
-one_erased old new (Get n offset size) (reply.Away k) e h = ap plain_of h.1
-one_erased old new (Free n) r e h =
-    free_told (reply_to_move (reply.Freed n) place.Here n h.moved) n h.moved refl (subst (λ (x : Reply). is_absence x ≡ true) h.told (away (is_absence r) e))
+one_erased : (old new : WorldState) (c : Event) (r : Reply) → is_unmoved c r ≡ false → Answers old c r new → plain_of new ≡ plain_of old
+one_erased old new (Object n c) r e h = object_erased old new n c r e h
+one_erased old new (Machine m c) r e h =
+    let k = machine_erased m c old.machines new.machines old.store new.store r (second (is_absence r) e) h in
+    ap (λ (x : List Debuggee). record { machines = x; objects = new.store.objects }) k.0 ∙ ap (λ (s : StoreState). record { machines = old.machines; objects = s.objects }) k.1
 one_erased old new (Make size) (reply.Waiting k n) e h = absurd h
 one_erased old new (Make size) (reply.Away k) e h = absurd h
-one_erased old new (Put n offset bytes) (reply.Waiting k m) e h = absurd h
-one_erased old new _ (reply.Waiting k n) e h = absurd h.0
-one_erased old new _ (reply.Away k) e h = absurd h.0
+one_erased old new (Ship start code) (reply.Waiting k n) e h = absurd h.0
+one_erased old new (Ship start code) (reply.Away k) e h = absurd h.0
 one_erased old new _ _ e h = absurd (cc)
 
 -- ---- a run
 
-joined : (b : Bool) (old mid new : WorldState) (c : Command) (r : Reply) (cs : List Command) (rs : List Reply) → is_unmoved c r ≡ b → Answers old c r mid
+joined : (b : Bool) (old mid new : WorldState) (c : Event) (r : Reply) (cs : List Event) (rs : List Reply) → is_unmoved c r ≡ b → Answers old c r mid
     → Runs PlainAnswers (plain_of mid) (unmoved_commands cs rs) (unmoved_replies cs rs) (plain_of new)
     → Runs PlainAnswers (plain_of old) (cond b (c ∷ unmoved_commands cs rs) (unmoved_commands cs rs)) (cond b (r ∷ unmoved_replies cs rs) (unmoved_replies cs rs)) (plain_of new)
 joined true old mid new c r cs rs e h g = (plain_of mid, one_kept old mid c r e h, g)

@@ -12,19 +12,20 @@ use Rattle.object_store.specs.declared.places.Moved.{Moved}
 use Rattle.object_store.specs.declared.places.Moved.TheVariants as moved
 use Rattle.object_store.specs.declared.errors.MakeError.TheVariants as make_error
 use Rattle.object_store.specs.declared.errors.PutError.TheVariants as put_error
-use Rattle.machine.specs.MachineState.{start}
-use Rattle.debugger.specs.DebugState.{debug_start}
-use Rattle.world.specs.declared.debuggee.Debuggee.{Debuggee}
-use Rattle.world.specs.declared.events.Reply.{Reply}
-use Rattle.world.specs.declared.events.Reply.TheVariants.{Made, Freed, Leaving, Returning, Home, Done, Bytes, Shipped, NoMemory, Full, NoRoom, Outside, Away, Misplaced, Scoped, Faulted, Refused, Missing}
-use Rattle.world.specs.declared.events.Reply.TheVariants as answer
-use Rattle.world.specs.Commands.{Command}
-use Rattle.world.specs.Commands.Command.{Make, Free, Put, Get, Ship, Leave, Left, Return, Returned, Step, One, Regs, Out, Stack, Line, Break, Unbreak, Watch, Unwatch, Resume}
+use Rattle.debugger.specs.declared.start.Start.{Start}
+use Rattle.debugger.specs.declared.debuggee.Debuggee.{Debuggee}
+use Rattle.debugger.specs.Debuggees.{debuggee_start}
+use Rattle.world.specs.declared.replies.Reply.{Reply}
+use Rattle.world.specs.declared.replies.Reply.TheVariants.{Made, Freed, Leaving, Returning, Home, Done, Bytes, Shipped, NoMemory, Full, NoRoom, Outside, Away, Misplaced, Scoped, Faulted, Refused, Missing}
+use Rattle.world.specs.declared.replies.Reply.TheVariants as answer
+use Rattle.world.specs.declared.events.Event.{Event}
+use Rattle.world.specs.declared.events.Event.TheVariants as event
+use Rattle.world.specs.declared.events.ObjectCommand.{ObjectCommand}
+use Rattle.world.specs.declared.events.ObjectCommand.TheVariants as object
+use Rattle.world.specs.declared.events.Move.{Move}
+use Rattle.world.specs.declared.events.Move.TheVariants as move
 use Rattle.world.specs.WorldState.{WorldState, AreAllShipped}
-use Rattle.world.specs.Steps.{AnswersStep}
-use Rattle.world.specs.Steps.Way.{ByStep, ByOne}
-use Rattle.world.specs.Showing.{ShowsRegs, ShowsOut, ShowsStack, ShowsLine}
-use Rattle.world.specs.Debugging.{AnswersBreak, AnswersUnbreak, AnswersWatch, AnswersUnwatch, AnswersResume}
+use Rattle.world.specs.Machines.{AnswersMachine}
 
 -- ---- objects
 
@@ -48,12 +49,12 @@ AnswersPut old n offset bytes Done new = InStore (λ s t. Puts s n offset bytes 
 AnswersPut old n offset bytes _ new = ⊥
 
 -- the object's bytes from the offset on
-abbrev pub ShowsObject : StoreState → ℕ → ℕ → ℕ → Reply → Type 0
-ShowsObject s n offset size Outside = HasRange s.objects n offset size → ⊥
-ShowsObject s n offset size (Away k) = (k ≡ n) × HasRange s.objects n offset size × (place_of s.places n ≡ place.Here → ⊥)
-ShowsObject s n offset size NoMemory = HasRange s.objects n offset size × (place_of s.places n ≡ place.Here)
-ShowsObject s n offset size (Bytes shown) = HasRange s.objects n offset size × (place_of s.places n ≡ place.Here) × (shown ≡ range_of s.objects n offset size)
-ShowsObject s n offset size _ = ⊥
+abbrev pub AnswersGet : StoreState → ℕ → ℕ → ℕ → Reply → Type 0
+AnswersGet s n offset size Outside = HasRange s.objects n offset size → ⊥
+AnswersGet s n offset size (Away k) = (k ≡ n) × HasRange s.objects n offset size × (place_of s.places n ≡ place.Here → ⊥)
+AnswersGet s n offset size NoMemory = HasRange s.objects n offset size × (place_of s.places n ≡ place.Here)
+AnswersGet s n offset size (Bytes shown) = HasRange s.objects n offset size × (place_of s.places n ≡ place.Here) × (shown ≡ range_of s.objects n offset size)
+AnswersGet s n offset size _ = ⊥
 
 -- ---- moves
 
@@ -66,49 +67,56 @@ reply_to_move told back n moved.Scoped = Scoped n
 reply_to_move told back n moved.NoRoom = NoRoom
 reply_to_move told back n (moved.Fault f) = Faulted n back
 
--- a move of object n, or its end
+-- a move of object n, or its end, or its freeing
 pub record AnswersMove (moves : StoreState → ℕ → Moved → StoreState → Type 0) (done : Reply) (back : Place) (old : WorldState) (n : ℕ) (reply : Reply) (new : WorldState) : Type 0 where
   pub moved : Moved
   pub move : moves old.store n moved new.store
   pub told : reply ≡ reply_to_move done back n moved
   pub changed : new ≡ record old { store = new.store }
 
+-- what each move is in the store
+abbrev pub Moves : Move → StoreState → ℕ → Moved → StoreState → Type 0
+Moves move.Leave old n done new = BeginsLeave old n done new
+Moves move.Left old n done new = EndsLeave old n done new
+Moves move.Return old n done new = BeginsReturn old n done new
+Moves move.Returned old n done new = EndsReturn true old n done new
+
+-- its reply where it is done
+abbrev pub moved_reply : Move → ℕ → Reply
+moved_reply move.Leave n = Leaving n
+moved_reply move.Left n = answer.Left n
+moved_reply move.Return n = Returning n
+moved_reply move.Returned n = Home n
+
+-- where the object was before it began to move, and is again where the far store fails
+abbrev pub place_before : Move → Place
+place_before move.Leave = place.Here
+place_before move.Left = place.Here
+place_before move.Return = place.Far
+place_before move.Returned = place.Far
+
 -- ---- machines
 
 -- a machine at the start of the code, of the next number; code that is empty or too long takes no memory
-abbrev pub AnswersShip : List Debuggee → ℕ → List ℕ → List ℕ → Reply → List Debuggee → Type 0
-AnswersShip old fuel arguments code Full new = AreAllShipped old × (new ≡ old)
-AnswersShip old fuel arguments code (Refused e) new = (AreAllShipped old → ⊥) × Refuses code e.slot e.why × (e.why ≢ why.Memory) × (new ≡ old)
-AnswersShip old fuel arguments code NoMemory new = (AreAllShipped old → ⊥) × HasCodeSize code × (new ≡ old)
-AnswersShip old fuel arguments code (Shipped m) new = (AreAllShipped old → ⊥) × ValidCode code × (m ≡ length old + 1)
-    × (new ≡ old ++ record { machine = start m code fuel arguments; debugger = debug_start } ∷ [])
-AnswersShip old fuel arguments code _ new = ⊥
-
--- The machines change so, and the store stays as it is.
-abbrev pub InMachines : (List Debuggee → List Debuggee → Type 0) → WorldState → WorldState → Type 0
-InMachines change old new = change old.machines new.machines × (new ≡ record old { machines = new.machines })
+abbrev pub AnswersShip : List Debuggee → Start → List ℕ → Reply → List Debuggee → Type 0
+AnswersShip old start code Full new = AreAllShipped old × (new ≡ old)
+AnswersShip old start code (Refused e) new = (AreAllShipped old → ⊥) × Refuses code e.slot e.why × (e.why ≢ why.Memory) × (new ≡ old)
+AnswersShip old start code NoMemory new = (AreAllShipped old → ⊥) × HasCodeSize code × (new ≡ old)
+AnswersShip old start code (Shipped m) new = (AreAllShipped old → ⊥) × ValidCode code × (m ≡ length old + 1) × (new ≡ old ++ debuggee_start m code start ∷ [])
+AnswersShip old start code _ new = ⊥
 
 -- ---- commands
 
+-- a command on object n
+abbrev pub AnswersObject : WorldState → ℕ → ObjectCommand → Reply → WorldState → Type 0
+AnswersObject old n object.Free reply new = AnswersMove Frees (Freed n) place.Here old n reply new
+AnswersObject old n (object.Put offset bytes) reply new = AnswersPut old n offset bytes reply new
+AnswersObject old n (object.Get offset size) reply new = AnswersGet old.store n offset size reply × (new ≡ old)
+AnswersObject old n (object.Move m) reply new = AnswersMove (Moves m) (moved_reply m n) (place_before m) old n reply new
+
 -- From old, the command may have this reply and lead to new.
-abbrev pub Answers : WorldState → Command → Reply → WorldState → Type 0
-Answers old (Make size) reply new = AnswersMake old size reply new
-Answers old (Free n) reply new = AnswersMove Frees (Freed n) place.Here old n reply new
-Answers old (Put n offset bytes) reply new = AnswersPut old n offset bytes reply new
-Answers old (Get n offset size) reply new = ShowsObject old.store n offset size reply × (new ≡ old)
-Answers old (Ship fuel arguments code) reply new = InMachines (λ ms ns. AnswersShip ms fuel arguments code reply ns) old new
-Answers old (Leave n) reply new = AnswersMove BeginsLeave (Leaving n) place.Here old n reply new
-Answers old (Left n) reply new = AnswersMove EndsLeave (answer.Left n) place.Here old n reply new
-Answers old (Return n) reply new = AnswersMove BeginsReturn (Returning n) place.Far old n reply new
-Answers old (Returned n) reply new = AnswersMove (EndsReturn true) (Home n) place.Far old n reply new
-Answers old (Step m) reply new = AnswersStep (store_memory m) ByStep old.machines old.store m reply new.machines new.store
-Answers old (One m) reply new = AnswersStep (store_memory m) ByOne old.machines old.store m reply new.machines new.store
-Answers old (Regs m) reply new = ShowsRegs old.machines m reply × (new ≡ old)
-Answers old (Out m) reply new = ShowsOut old.machines m reply × (new ≡ old)
-Answers old (Stack m offset size) reply new = ShowsStack old.machines m offset size reply × (new ≡ old)
-Answers old (Line m slot) reply new = ShowsLine old.machines m slot reply × (new ≡ old)
-Answers old (Break m slot) reply new = InMachines (λ ms ns. AnswersBreak ms m slot reply ns) old new
-Answers old (Unbreak m slot) reply new = InMachines (λ ms ns. AnswersUnbreak ms m slot reply ns) old new
-Answers old (Watch m address size) reply new = InMachines (λ ms ns. AnswersWatch ms m address size reply ns) old new
-Answers old (Unwatch m address size) reply new = InMachines (λ ms ns. AnswersUnwatch ms m address size reply ns) old new
-Answers old (Resume m) reply new = InMachines (λ ms ns. AnswersResume ms m reply ns) old new
+abbrev pub Answers : WorldState → Event → Reply → WorldState → Type 0
+Answers old (event.Make size) reply new = AnswersMake old size reply new
+Answers old (event.Ship start code) reply new = AnswersShip old.machines start code reply new.machines × (new.store ≡ old.store)
+Answers old (event.Object n command) reply new = AnswersObject old n command reply new
+Answers old (event.Machine m command) reply new = AnswersMachine (store_memory m) old.machines old.store m command reply new.machines new.store

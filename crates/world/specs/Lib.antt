@@ -1,9 +1,6 @@
 pub mod Run
-pub mod Commands
 pub mod WorldState
-pub mod Steps
-pub mod Showing
-pub mod Debugging
+pub mod Machines
 pub mod Answers
 pub mod Places
 pub mod Kept

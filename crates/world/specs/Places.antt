@@ -2,8 +2,8 @@
 use Rattle.std.specs.Prelude.{ℕ, nat_eq, cond, List, [], ◌∷◌}
 use Rattle.object_store.specs.declared.places.Place.{Place}
 use Rattle.object_store.specs.declared.places.Place.TheVariants as place
-use Rattle.world.specs.declared.events.Reply.{Reply}
-use Rattle.world.specs.declared.events.Reply.TheVariants.{Made, Leaving, Left, Returning, Home, Faulted}
+use Rattle.world.specs.declared.replies.Reply.{Reply}
+use Rattle.world.specs.declared.replies.Reply.TheVariants.{Made, Leaving, Left, Returning, Home, Faulted}
 
 -- where object n is after a reply, if its place was p
 abbrev pub placed : ℕ → Place → Reply → Place

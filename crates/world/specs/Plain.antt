@@ -1,16 +1,16 @@
 -- An agent whose objects never move: machines over one map of objects, without places, scopes and budget.
 use Rattle.std.specs.Prelude.{◌≡◌, ℕ, Bool, true, false, not, ◌||◌, List, [], ◌∷◌, ◌++◌, length, replicate}
-use Rattle.memory.specs.Objects.{IsLive, IsFull, HasRange, with_bytes, range_of, with_range, map_memory}
-use Rattle.world.specs.declared.debuggee.Debuggee.{Debuggee}
-use Rattle.world.specs.declared.events.Reply.{Reply}
-use Rattle.world.specs.declared.events.Reply.TheVariants.{Made, Freed, Done, Bytes, Waiting, NoMemory, Full, NoRoom, Outside, Away, Misplaced, Scoped, Missing}
-use Rattle.world.specs.Commands.{Command}
-use Rattle.world.specs.Commands.Command.{Make, Free, Put, Get, Ship, Leave, Left, Return, Returned, Step, One, Regs, Out, Stack, Line, Break, Unbreak, Watch, Unwatch, Resume}
+use Rattle.memory.specs.Objects.{IsLive, IsFull, HasRange, with_bytes, range_of, with_range}
+use Rattle.memory.specs.MapMemory.{map_memory}
+use Rattle.debugger.specs.declared.debuggee.Debuggee.{Debuggee}
+use Rattle.world.specs.declared.replies.Reply.{Reply}
+use Rattle.world.specs.declared.replies.Reply.TheVariants.{Made, Freed, Done, Bytes, Waiting, NoMemory, Full, NoRoom, Outside, Away, Misplaced, Scoped, Missing}
+use Rattle.world.specs.declared.events.Event.{Event}
+use Rattle.world.specs.declared.events.Event.TheVariants.{Make, Ship, Object, Machine}
+use Rattle.world.specs.declared.events.ObjectCommand.{ObjectCommand}
+use Rattle.world.specs.declared.events.ObjectCommand.TheVariants.{Free, Put, Get, Move}
 use Rattle.world.specs.WorldState.{WorldState}
-use Rattle.world.specs.Steps.{AnswersStep}
-use Rattle.world.specs.Steps.Way.{ByStep, ByOne}
-use Rattle.world.specs.Showing.{ShowsRegs, ShowsOut, ShowsStack, ShowsLine}
-use Rattle.world.specs.Debugging.{AnswersBreak, AnswersUnbreak, AnswersWatch, AnswersUnwatch, AnswersResume}
+use Rattle.world.specs.Machines.{AnswersMachine}
 use Rattle.world.specs.Answers.{AnswersShip}
 use Rattle.world.specs.Kept.{commands_kept, replies_kept}
 
@@ -49,50 +49,33 @@ PutsPlain old n offset bytes Done new = HasRange old n offset (length bytes) × 
 PutsPlain old n offset bytes _ new = ⊥
 
 -- the object's bytes from the offset on
-abbrev pub GetsPlain : List (List ℕ) → ℕ → ℕ → ℕ → Reply → Type 0
-GetsPlain objects n offset size Outside = HasRange objects n offset size → ⊥
-GetsPlain objects n offset size NoMemory = HasRange objects n offset size
-GetsPlain objects n offset size (Bytes shown) = HasRange objects n offset size × (shown ≡ range_of objects n offset size)
-GetsPlain objects n offset size _ = ⊥
+abbrev pub GetsPlain : List (List ℕ) → ℕ → ℕ → ℕ → Reply → List (List ℕ) → Type 0
+GetsPlain old n offset size Outside new = (HasRange old n offset size → ⊥) × (new ≡ old)
+GetsPlain old n offset size NoMemory new = HasRange old n offset size × (new ≡ old)
+GetsPlain old n offset size (Bytes shown) new = HasRange old n offset size × (shown ≡ range_of old n offset size) × (new ≡ old)
+GetsPlain old n offset size _ new = ⊥
+
+-- a command on object n; none moves it
+abbrev pub ObjectPlain : List (List ℕ) → ℕ → ObjectCommand → Reply → List (List ℕ) → Type 0
+ObjectPlain old n Free reply new = FreesPlain old n reply new
+ObjectPlain old n (Put offset bytes) reply new = PutsPlain old n offset bytes reply new
+ObjectPlain old n (Get offset size) reply new = GetsPlain old n offset size reply new
+ObjectPlain old n (Move m) reply new = ⊥
 
 -- ---- commands
 
--- the objects change so, and the machines stay as they are
-abbrev pub InObjects : (List (List ℕ) → List (List ℕ) → Type 0) → PlainState → PlainState → Type 0
-InObjects change old new = change old.objects new.objects × (new ≡ record old { objects = new.objects })
-
--- the machines change so, and the objects stay as they are
-abbrev pub InPlainMachines : (List Debuggee → List Debuggee → Type 0) → PlainState → PlainState → Type 0
-InPlainMachines change old new = change old.machines new.machines × (new ≡ record old { machines = new.machines })
-
--- The commands but for the moves. A step is one over the map of objects, and none waits.
-abbrev pub PlainAnswers : PlainState → Command → Reply → PlainState → Type 0
-PlainAnswers old (Make size) reply new = InObjects (λ os ps. MakesPlain os size reply ps) old new
-PlainAnswers old (Free n) reply new = InObjects (λ os ps. FreesPlain os n reply ps) old new
-PlainAnswers old (Put n offset bytes) reply new = InObjects (λ os ps. PutsPlain os n offset bytes reply ps) old new
-PlainAnswers old (Get n offset size) reply new = GetsPlain old.objects n offset size reply × (new ≡ old)
-PlainAnswers old (Ship fuel arguments code) reply new = InPlainMachines (λ ms ns. AnswersShip ms fuel arguments code reply ns) old new
-PlainAnswers old (Step m) reply new = AnswersStep map_memory ByStep old.machines old.objects m reply new.machines new.objects
-PlainAnswers old (One m) reply new = AnswersStep map_memory ByOne old.machines old.objects m reply new.machines new.objects
-PlainAnswers old (Regs m) reply new = ShowsRegs old.machines m reply × (new ≡ old)
-PlainAnswers old (Out m) reply new = ShowsOut old.machines m reply × (new ≡ old)
-PlainAnswers old (Stack m offset size) reply new = ShowsStack old.machines m offset size reply × (new ≡ old)
-PlainAnswers old (Line m slot) reply new = ShowsLine old.machines m slot reply × (new ≡ old)
-PlainAnswers old (Break m slot) reply new = InPlainMachines (λ ms ns. AnswersBreak ms m slot reply ns) old new
-PlainAnswers old (Unbreak m slot) reply new = InPlainMachines (λ ms ns. AnswersUnbreak ms m slot reply ns) old new
-PlainAnswers old (Watch m address size) reply new = InPlainMachines (λ ms ns. AnswersWatch ms m address size reply ns) old new
-PlainAnswers old (Unwatch m address size) reply new = InPlainMachines (λ ms ns. AnswersUnwatch ms m address size reply ns) old new
-PlainAnswers old (Resume m) reply new = InPlainMachines (λ ms ns. AnswersResume ms m reply ns) old new
-PlainAnswers old _ reply new = ⊥
+-- The commands but for the moves. On machines they are what they are, over the map of objects, so that none waits.
+abbrev pub PlainAnswers : PlainState → Event → Reply → PlainState → Type 0
+PlainAnswers old (Make size) reply new = MakesPlain old.objects size reply new.objects × (new.machines ≡ old.machines)
+PlainAnswers old (Ship start code) reply new = AnswersShip old.machines start code reply new.machines × (new.objects ≡ old.objects)
+PlainAnswers old (Object n command) reply new = ObjectPlain old.objects n command reply new.objects × (new.machines ≡ old.machines)
+PlainAnswers old (Machine m command) reply new = AnswersMachine map_memory old.machines old.objects m command reply new.machines new.objects
 
 -- ---- what is left out
 
 -- a command that moves an object
-abbrev pub is_move : Command → Bool
-is_move (Leave n) = true
-is_move (Left n) = true
-is_move (Return n) = true
-is_move (Returned n) = true
+abbrev pub is_move : Event → Bool
+is_move (Object n (Move m)) = true
 is_move _ = false
 
 -- the object isn't here, so nothing was done
@@ -102,13 +85,13 @@ is_absence (Away n) = true
 is_absence _ = false
 
 -- a command of an agent whose objects never move, with its reply
-abbrev pub is_unmoved : Command → Reply → Bool
+abbrev pub is_unmoved : Event → Reply → Bool
 is_unmoved c r = not (is_move c || is_absence r)
 
 -- a run without the moves, and without what was not done since an object was away
-abbrev pub unmoved_commands : List Command → List Reply → List Command
+abbrev pub unmoved_commands : List Event → List Reply → List Event
 unmoved_commands cs rs = commands_kept is_unmoved cs rs
 
 -- its replies
-abbrev pub unmoved_replies : List Command → List Reply → List Reply
+abbrev pub unmoved_replies : List Event → List Reply → List Reply
 unmoved_replies cs rs = replies_kept is_unmoved cs rs

@@ -1,13 +1,15 @@
 -- An agent that nobody debugs: no breakpoint and no range is set, no machine is paused, and `one` is `step`.
 use Rattle.std.specs.Prelude.{Bool, true, false, not, ◌||◌, List, map}
 use Rattle.debugger.specs.DebugState.{debug_start}
+use Rattle.debugger.specs.declared.commands.Way.TheVariants as way
+use Rattle.debugger.specs.declared.commands.MachineCommand.TheVariants.{Step, Debug}
 use Rattle.debugger.specs.declared.shown.State.{State}
 use Rattle.debugger.specs.declared.shown.State.TheVariants as state
-use Rattle.world.specs.declared.debuggee.Debuggee.{Debuggee}
-use Rattle.world.specs.declared.events.Reply.{Reply}
-use Rattle.world.specs.declared.events.Reply.TheVariants.{Ran, Hit, Paused, Registers}
-use Rattle.world.specs.Commands.{Command}
-use Rattle.world.specs.Commands.Command.{Step, One, Break, Unbreak, Watch, Unwatch, Resume}
+use Rattle.debugger.specs.declared.debuggee.Debuggee.{Debuggee}
+use Rattle.world.specs.declared.replies.Reply.{Reply}
+use Rattle.world.specs.declared.replies.Reply.TheVariants.{Ran, Hit, Paused, Registers}
+use Rattle.world.specs.declared.events.Event.{Event}
+use Rattle.world.specs.declared.events.Event.TheVariants.{Machine}
 use Rattle.world.specs.WorldState.{WorldState}
 use Rattle.world.specs.Kept.{commands_kept, replies_kept}
 
@@ -22,12 +24,8 @@ undebugged w = record w { machines = map undebugged_machine w.machines }
 -- ---- what is left out
 
 -- a command of the debugger
-abbrev pub is_debugging : Command → Bool
-is_debugging (Break m slot) = true
-is_debugging (Unbreak m slot) = true
-is_debugging (Watch m address size) = true
-is_debugging (Unwatch m address size) = true
-is_debugging (Resume m) = true
+abbrev pub is_debugging : Event → Bool
+is_debugging (Machine m (Debug command)) = true
 is_debugging _ = false
 
 -- the machine is paused, so nothing was done
@@ -36,14 +34,14 @@ is_pause (Paused m slot) = true
 is_pause _ = false
 
 -- a command of an agent that nobody debugs, with its reply
-abbrev pub is_undebugged : Command → Reply → Bool
+abbrev pub is_undebugged : Event → Reply → Bool
 is_undebugged c r = not (is_debugging c || is_pause r)
 
 -- ---- other words
 
 -- `one` is `step`
-abbrev pub undebugged_command : Command → Command
-undebugged_command (One m) = Step m
+abbrev pub undebugged_command : Event → Event
+undebugged_command (Machine m (Step w)) = Machine m (Step way.Step)
 undebugged_command c = c
 
 -- a paused machine runs
@@ -58,9 +56,9 @@ undebugged_reply (Registers m shown) = Registers m (record shown { state = unpau
 undebugged_reply r = r
 
 -- a run without the debugging commands, and without what was not done since a machine was paused
-abbrev pub undebugged_commands : List Command → List Reply → List Command
+abbrev pub undebugged_commands : List Event → List Reply → List Event
 undebugged_commands cs rs = map undebugged_command (commands_kept is_undebugged cs rs)
 
 -- its replies
-abbrev pub undebugged_replies : List Command → List Reply → List Reply
+abbrev pub undebugged_replies : List Event → List Reply → List Reply
 undebugged_replies cs rs = map undebugged_reply (replies_kept is_undebugged cs rs)

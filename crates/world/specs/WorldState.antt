@@ -1,7 +1,7 @@
 -- The machines that were shipped, each with its debug state, and the store of the objects that were made.
 use Rattle.std.specs.Prelude.{◌≤◌, ℕ, zero, suc, ◌-◌, List, [], length, slice_get, slice_set, Option, None}
 use Rattle.object_store.specs.Stores.{StoreState, machine_limit, store_start}
-use Rattle.world.specs.declared.debuggee.Debuggee.{Debuggee}
+use Rattle.debugger.specs.declared.debuggee.Debuggee.{Debuggee}
 
 -- the machines that were shipped, each with its debug state, and the store of the objects that were made
 pub record WorldState : Type 0 where

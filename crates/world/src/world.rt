@@ -1,26 +1,22 @@
 //! What the commands do.
-ghost use Rattle.std.specs.Prelude.{◌≡◌, ◌++◌, ℕ, List, map, true, IfOk, OnOk, OnErr};
+ghost use Rattle.std.specs.Prelude.{◌≡◌, ◌++◌, List, true, IfOk, OnOk, OnErr};
 ghost use Rattle.object_store.specs.Stores.{store_memory};
-ghost use Rattle.object_store.specs.Calls.{Frees, BeginsLeave, EndsLeave, BeginsReturn, EndsReturn};
-ghost use Rattle.world.specs.declared.events.Reply.{Reply};
+ghost use Rattle.object_store.specs.Calls.{Frees};
+ghost use Rattle.debugger.specs.declared.commands.MachineCommand.{MachineCommand};
+ghost use Rattle.world.specs.declared.replies.Reply.{Reply};
+ghost use Rattle.world.specs.declared.events.Event.{Event};
 ghost use Rattle.world.specs.Run.{Runs};
-ghost use Rattle.world.specs.Commands.{Command, command_of};
 ghost use Rattle.world.specs.WorldState.{world_start};
-ghost use Rattle.world.specs.Steps.{AnswersStep, reply_of};
-ghost use Rattle.world.specs.Steps.Way.{ByOne};
-ghost use Rattle.world.specs.Debugging.{AnswersBreak, AnswersUnbreak, AnswersWatch, AnswersUnwatch, AnswersResume};
+ghost use Rattle.world.specs.Machines.{AnswersMachine, reply_of};
 ghost use Rattle.world.specs.Unseen.{IsPlainRun};
-ghost use Rattle.world.specs.Answers.{Answers, AnswersMake, AnswersPut, AnswersMove, AnswersShip, ShowsObject, InMachines, reply_to_move};
+ghost use Rattle.world.specs.Answers.{Answers, AnswersMake, AnswersPut, AnswersGet, AnswersMove, AnswersObject, AnswersShip, Moves, moved_reply, place_before};
 
-use crate::debuggee::Debuggee;
-use crate::debugging::{clear_break, clear_watch, resume, set_break, set_watch};
-use crate::events::{Event, ObjectLength, Reply, StepReply};
-use crate::showing::{line, out, regs, stack};
-use crate::stepping::{one, step};
-use debugger::{Bytes, Debugger};
+use crate::events::{Event, Move, ObjectCommand, ObjectLength};
+use crate::machines::{answer_machine, step_machine};
+use crate::replies::Reply;
+use debugger::{Bytes, Debuggee, MachineCommand, Start, StepReply, Way};
 use far_store::FarStore;
 use loader::{Why, load};
-use machine::Machine;
 use object_store::{GetError, MACHINE_LIMIT, MakeError, Moved, ObjectStore, Place, PutError};
 use std::alloc::{AllocError, Global};
 use std::marker::Model;
@@ -40,27 +36,9 @@ impl<F: FarStore> Model for World<F> {
 
     ghost Value = { WorldState };
 
-    ghost view = { λ w. record { machines = w.machines.items; store = w.store } };
+    ghost view = { λ w. record { machines = w.machines.items; store = w.store.state } };
 
     ghost invariant = { λ w. (length w.machines.items ≤ machine_limit) × (machine_limit ≤ vec_capacity w.machines) × (F.RETURNS ≡ true) };
-}
-
-/// The reply to a move of an object, which has its own reply where it is done; where the far store fails, the object is
-/// back in a place.
-fn reply_to_move(done: Reply, back: Place, object: u32, moved: Moved) -> Reply
-    ensures { result ≡ reply_to_move done back object moved }
-{
-    match moved {
-        Moved::Done => done,
-        Moved::NoObject => Reply::Missing,
-        Moved::Misplaced(place) => Reply::Misplaced { object, place },
-        Moved::Scoped => Reply::Scoped { object },
-        Moved::NoRoom => Reply::NoRoom,
-        Moved::Fault(_) => Reply::Faulted {
-            object,
-            place: back,
-        },
-    }
 }
 
 impl<F: FarStore + Drop> World<F> {
@@ -83,61 +61,13 @@ impl<F: FarStore + Drop> World<F> {
 impl<F: FarStore> World<F> {
     /// Does one command.
     pub fn apply(&mut self, event: Event) -> Reply
-        ensures { Answers self.old (command_of event) result self.new }
+        ensures { Answers self.old event result self.new }
     {
         match event {
             Event::Make { length } => self.make(length),
-            Event::Free { object } => self.free(object),
-            Event::Put {
-                object,
-                offset,
-                bytes,
-            } => self.put(object, offset, bytes.as_slice()),
-            Event::Get {
-                object,
-                offset,
-                length,
-            } => self.get(object, offset, length),
-            Event::Ship {
-                fuel,
-                arguments,
-                code,
-            } => self.ship(fuel, arguments, code.as_slice()),
-            Event::Leave { object } => self.leave(object),
-            Event::Left { object } => self.left(object),
-            Event::Return { object } => self.return_(object),
-            Event::Returned { object } => self.returned(object),
-            Event::Step { machine } => self.step(machine).of(machine),
-            Event::One { machine } => self.one(machine).of(machine),
-            Event::Regs { machine } => regs(self.machines.as_slice(), machine),
-            Event::Out { machine } => out(self.machines.as_slice(), machine),
-            Event::Stack {
-                machine,
-                offset,
-                length,
-            } => stack(
-                self.alloc,
-                self.machines.as_slice(),
-                machine,
-                offset,
-                length,
-            ),
-            Event::Line { machine, slot } => {
-                line(self.alloc, self.machines.as_slice(), machine, slot)
-            }
-            Event::Break { machine, slot } => self.break_(machine, slot),
-            Event::Unbreak { machine, slot } => self.unbreak(machine, slot),
-            Event::Watch {
-                machine,
-                address,
-                length,
-            } => self.watch(machine, address, length),
-            Event::Unwatch {
-                machine,
-                address,
-                length,
-            } => self.unwatch(machine, address, length),
-            Event::Resume { machine } => self.resume(machine),
+            Event::Ship { start, code } => self.ship(start, code.as_slice()),
+            Event::Object { object, command } => self.answer_object(object, command),
+            Event::Machine { machine, command } => self.answer_machine(machine, command),
         }
     }
 
@@ -145,8 +75,8 @@ impl<F: FarStore> World<F> {
     /// objects never move and that nobody debugs. An `Err` comes before the first command, and changes nothing.
     pub fn run(&mut self, events: Vec<Event>, replies: &mut Vec<Reply>) -> Result<(), AllocError>
         ensures ok { OnOk result ((given : List Reply) × (replies.new.items ≡ replies.old.items ++ given)
-            × Runs Answers self.old (map command_of events.items) given self.new
-            × IsPlainRun self.old (map command_of events.items) given self.new) }
+            × Runs Answers self.old events.items given self.new
+            × IsPlainRun self.old events.items given self.new) }
         ensures err { OnErr result ((self.new ≡ self.old) × (replies.new.items ≡ replies.old.items)) }
     {
         replies.reserve(events.len())?;
@@ -157,6 +87,18 @@ impl<F: FarStore> World<F> {
     }
 
     // ---- objects
+
+    /// Does a command on an object.
+    fn answer_object(&mut self, object: u32, command: ObjectCommand) -> Reply
+        ensures { AnswersObject self.old object command result self.new }
+    {
+        match command {
+            ObjectCommand::Free => self.free(object),
+            ObjectCommand::Put { offset, bytes } => self.put(object, offset, bytes.as_slice()),
+            ObjectCommand::Get { offset, length } => self.get(object, offset, length),
+            ObjectCommand::Move(kind) => self.move_(object, kind),
+        }
+    }
 
     /// Makes an object.
     fn make(&mut self, length: ObjectLength) -> Reply
@@ -175,7 +117,7 @@ impl<F: FarStore> World<F> {
         ensures { AnswersMove Frees (Reply.Freed object) Place.Here self.old object result self.new }
     {
         let moved = self.store.free(object);
-        reply_to_move(Reply::Freed { object }, Place::Here, object, moved)
+        Reply::to_move(Reply::Freed { object }, Place::Here, object, moved)
     }
 
     /// Writes bytes into an object.
@@ -191,7 +133,7 @@ impl<F: FarStore> World<F> {
 
     /// Bytes of an object.
     fn get(&self, object: u32, offset: u32, length: u32) -> Reply
-        ensures { ShowsObject self.now.store object offset length result }
+        ensures { AnswersGet self.now.store object offset length result }
     {
         match self.store.get(object, offset, length) {
             Ok(bytes) => Reply::Bytes(Bytes::new(bytes)),
@@ -203,43 +145,33 @@ impl<F: FarStore> World<F> {
 
     // ---- moves
 
-    /// An object begins to leave.
-    fn leave(&mut self, object: u32) -> Reply
-        ensures { AnswersMove BeginsLeave (Reply.Leaving object) Place.Here self.old object result self.new }
+    /// Does a move of an object, or ends it.
+    fn move_(&mut self, object: u32, kind: Move) -> Reply
+        ensures { AnswersMove (Moves kind) (moved_reply kind object) (place_before kind) self.old object result self.new }
     {
-        let moved = self.store.leave(object);
-        reply_to_move(Reply::Leaving { object }, Place::Here, object, moved)
+        let moved = self.moved(object, kind);
+        Reply::to_move(kind.reply(object), kind.back(), object, moved)
     }
 
-    /// An object that is leaving is put in the far store.
-    fn left(&mut self, object: u32) -> Reply
-        ensures { AnswersMove EndsLeave (Reply.Left object) Place.Here self.old object result self.new }
+    /// What the store does at a move.
+    fn moved(&mut self, object: u32, kind: Move) -> Moved
+        ensures store { Moves kind self.old.store object result self.new.store }
+        ensures machines { self.new ≡ record self.old { store = self.new.store } }
     {
-        let moved = self.store.left(object);
-        reply_to_move(Reply::Left { object }, Place::Here, object, moved)
-    }
-
-    /// An object begins to return.
-    fn return_(&mut self, object: u32) -> Reply
-        ensures { AnswersMove BeginsReturn (Reply.Returning object) Place.Far self.old object result self.new }
-    {
-        let moved = self.store.return_(object);
-        reply_to_move(Reply::Returning { object }, Place::Far, object, moved)
-    }
-
-    /// An object that is returning is got from the far store.
-    fn returned(&mut self, object: u32) -> Reply
-        ensures { AnswersMove (EndsReturn true) (Reply.Home object) Place.Far self.old object result self.new }
-    {
-        let moved = self.store.returned(object);
-        reply_to_move(Reply::Home { object }, Place::Far, object, moved)
+        match kind {
+            Move::Leave => self.store.leave(object),
+            Move::Left => self.store.left(object),
+            Move::Return => self.store.return_(object),
+            Move::Returned => self.store.returned(object),
+        }
     }
 
     // ---- machines
 
     /// Makes a machine of the code.
-    fn ship(&mut self, fuel: u64, arguments: [u64; 5], code: &[u8]) -> Reply
-        ensures { InMachines (λ ms ns. AnswersShip ms fuel arguments code.now result ns) self.old self.new }
+    fn ship(&mut self, start: Start, code: &[u8]) -> Reply
+        ensures machines { AnswersShip self.old.machines start code.now result self.new.machines }
+        ensures store { self.new.store ≡ self.old.store }
     {
         if self.machines.len() >= MACHINE_LIMIT {
             return Reply::Full;
@@ -247,10 +179,8 @@ impl<F: FarStore> World<F> {
         let machine = self.machines.len() + 1;
         match load(self.alloc, code) {
             Ok(program) => {
-                self.machines.push_reserved(Debuggee {
-                    machine: Machine::new(program, machine, fuel, arguments),
-                    debugger: Debugger::new(),
-                });
+                let debuggee = Debuggee::new(program, machine, start);
+                self.machines.push_reserved(debuggee);
                 Reply::Shipped { machine }
             }
             Err(error) if error.why == Why::Memory => Reply::NoMemory,
@@ -258,54 +188,24 @@ impl<F: FarStore> World<F> {
         }
     }
 
-    /// One step of a machine, unless it pauses: what the command `step` does.
-    pub fn step(&mut self, machine: usize) -> StepReply
-        ensures { Answers self.old (Command.Step machine) (reply_of machine result) self.new }
+    /// Does a command on a machine.
+    fn answer_machine(&mut self, machine: usize, command: MachineCommand) -> Reply
+        ensures { AnswersMachine (store_memory machine) self.old.machines self.old.store machine command result self.new.machines self.new.store }
     {
-        step(self.machines.as_mut_slice(), &mut self.store, machine)
+        answer_machine(
+            self.alloc,
+            self.machines.as_mut_slice(),
+            &mut self.store,
+            machine,
+            command,
+        )
     }
 
-    /// One step of a machine, paused or not.
-    fn one(&mut self, machine: usize) -> StepReply
-        ensures { AnswersStep (store_memory machine) ByOne self.old.machines self.old.store machine (reply_of machine result) self.new.machines self.new.store }
+    /// One step of a machine, if there is one of this number: what the commands `step` and `one` do. Its reply is small,
+    /// and is moved faster than one of [`apply`](World::apply).
+    pub fn step(&mut self, machine: usize, way: Way) -> Option<StepReply>
+        ensures { Answers self.old (Event.Machine machine (MachineCommand.Step way)) (reply_of machine result) self.new }
     {
-        one(self.machines.as_mut_slice(), &mut self.store, machine)
-    }
-
-    // ---- debuggers
-
-    /// Sets a breakpoint.
-    fn break_(&mut self, machine: usize, slot: u32) -> Reply
-        ensures { InMachines (λ ms ns. AnswersBreak ms machine slot result ns) self.old self.new }
-    {
-        set_break(self.machines.as_mut_slice(), machine, slot)
-    }
-
-    /// Clears a breakpoint.
-    fn unbreak(&mut self, machine: usize, slot: u32) -> Reply
-        ensures { InMachines (λ ms ns. AnswersUnbreak ms machine slot result ns) self.old self.new }
-    {
-        clear_break(self.machines.as_mut_slice(), machine, slot)
-    }
-
-    /// Watches a range.
-    fn watch(&mut self, machine: usize, address: u64, length: u32) -> Reply
-        ensures { InMachines (λ ms ns. AnswersWatch ms machine address length result ns) self.old self.new }
-    {
-        set_watch(self.machines.as_mut_slice(), machine, address, length)
-    }
-
-    /// Watches a range no more.
-    fn unwatch(&mut self, machine: usize, address: u64, length: u32) -> Reply
-        ensures { InMachines (λ ms ns. AnswersUnwatch ms machine address length result ns) self.old self.new }
-    {
-        clear_watch(self.machines.as_mut_slice(), machine, address, length)
-    }
-
-    /// Lets a paused machine go on.
-    fn resume(&mut self, machine: usize) -> Reply
-        ensures { InMachines (λ ms ns. AnswersResume ms machine result ns) self.old self.new }
-    {
-        resume(self.machines.as_mut_slice(), machine)
+        step_machine(self.machines.as_mut_slice(), &mut self.store, machine, way)
     }
 }

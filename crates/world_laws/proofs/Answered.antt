@@ -1,53 +1,106 @@
 -- The three answers to a step: there is no such machine, it is paused, or it makes a step of the table.
-use Rattle.std.proofs.Common.{◌≡◌, ℕ, Bool, true, false, cond, List, refl, sym, ap, subst}
+use Rattle.std.proofs.Common.{◌≡◌, ℕ, true, false, List, Some, inl, inr, refl, ap, ◌∙◌}
 use Rattle.memory.specs.Memories.{Memories}
+use Rattle.machine.specs.MachineState.{MachineState}
+use Rattle.machine.specs.TableStep.{TableStep}
 use Rattle.machine.specs.declared.state.Stepped.{Stepped}
-use Rattle.machine.specs.declared.state.Stepped.TheVariants as stepped
-use Rattle.debugger.specs.DebugState.{DebugState, hits}
-use Rattle.world.specs.declared.debuggee.Debuggee.{Debuggee}
-use Rattle.world.specs.declared.events.Reply.{Reply}
-use Rattle.world.specs.declared.events.Reply.TheVariants.{Ran, Hit, Missing, Paused}
-use Rattle.world.specs.Steps.{Way, Steps, AnswersStep, reply_to_step}
-use Rattle.world_laws.proofs.Replying.{Misses, Halts}
+use Rattle.debugger.specs.DebugState.{DebugState}
+use Rattle.debugger.specs.Steps.{with_pause, debugged}
+use Rattle.debugger.specs.Debuggees.{Walks, AnswersStep, holds_back, reply_after}
+use Rattle.debugger.specs.declared.commands.Way.{Way}
+use Rattle.debugger.specs.declared.commands.MachineCommand.TheVariants.{Step}
+use Rattle.debugger.specs.declared.replies.StepReply.{StepReply}
+use Rattle.debugger.specs.declared.replies.StepReply.TheVariants as step_reply
+use Rattle.debugger.specs.declared.debuggee.Debuggee.{Debuggee}
+use Rattle.world.specs.declared.replies.Reply.{Reply}
+use Rattle.world.specs.declared.replies.Reply.TheVariants.{Paused}
+use Rattle.world.specs.WorldState.{machine_at, with_machine}
+use Rattle.world.specs.Machines.{AnswersMachine, Misses, reply_to_step}
+use Rattle.world_laws.proofs.Replying.{step_replies}
+
+-- the machine makes a step of the table
+pub record Steps {S : Type 0} (memory : Memories S) (way : Way) (old : List Debuggee) (before : S) (m : ℕ) (reply : Reply) (new : List Debuggee) (after : S) : Type 0 where
+  pub debuggee : Debuggee
+  pub found : machine_at old m ≡ Some debuggee
+  pub goes : holds_back way debuggee ≡ false
+  pub answer : Stepped
+  pub machine : MachineState
+  pub step : TableStep memory debuggee.machine before answer machine after
+  pub told : reply ≡ reply_to_step m (reply_after answer machine.slot debuggee.debugger)
+  pub changed : new ≡ with_machine old m (record { machine = machine; debugger = debugged way answer debuggee.debugger })
+
+-- the machine is paused
+pub record Halts {S : Type 0} (way : Way) (old : List Debuggee) (before : S) (m : ℕ) (reply : Reply) (new : List Debuggee) (after : S) : Type 0 where
+  pub debuggee : Debuggee
+  pub found : machine_at old m ≡ Some debuggee
+  pub slot : ℕ
+  pub told : reply ≡ Paused m slot
+  pub held : holds_back way debuggee ≡ true
+  pub slot_is : slot ≡ debuggee.machine.slot
+  pub changed : new ≡ with_machine old m (record debuggee { debugger = with_pause slot debuggee.debugger })
+  pub same : after ≡ before
+
+-- a step, by the machine's number
+abbrev pub StepsAt : {S : Type 0} → Memories S → Way → List Debuggee → S → ℕ → Reply → List Debuggee → S → Type 0
+StepsAt memory way old before m reply new after = AnswersMachine memory old before m (Step way) reply new after
 
 pub data StepAnswer {S : Type 0} (memory : Memories S) (way : Way) (old : List Debuggee) (before : S) (m : ℕ) (r : Reply) (new : List Debuggee) (after : S) : Type 0 where
   NoMachine : Misses old before m r new after → StepAnswer memory way old before m r new after
   Pause : Halts way old before m r new after → StepAnswer memory way old before m r new after
   TableRow : Steps memory way old before m r new after → StepAnswer memory way old before m r new after
 
+found_step : {S : Type 0} (memory : Memories S) (way : Way) (old : List Debuggee) (before : S) (m : ℕ) (r : Reply) (new : List Debuggee) (after : S) (d e : Debuggee) (told : StepReply)
+    → machine_at old m ≡ Some d → new ≡ with_machine old m e → r ≡ reply_to_step m told → AnswersStep memory way d before told e after → StepAnswer memory way old before m r new after
+found_step memory way old before m r new after d e (step_reply.Paused slot) f c t h = Pause (record {
+  debuggee = d;
+  found = f;
+  slot = slot;
+  told = t;
+  held = h.held;
+  slot_is = h.slot_is;
+  changed = c ∙ ap (λ (x : Debuggee). with_machine old m x) h.changed;
+  same = h.same;
+})
+found_step memory way old before m r new after d e told f c t h = TableRow (record {
+  debuggee = d;
+  found = f;
+  goes = h.goes;
+  answer = h.answer;
+  machine = h.machine;
+  step = h.step;
+  told = t ∙ ap (reply_to_step m) h.told;
+  changed = c ∙ ap (λ (x : Debuggee). with_machine old m x) h.changed;
+})
+
 pub parted : {S : Type 0} (memory : Memories S) (way : Way) (old : List Debuggee) (before : S) (m : ℕ) (r : Reply) (new : List Debuggee) (after : S)
-    → AnswersStep memory way old before m r new after → StepAnswer memory way old before m r new after
-parted memory way old before m Missing new after h = NoMachine (record { told = refl; missing = h.0; changed = h.1; same = h.2 })
-parted memory way old before m (Paused k slot) new after h = Pause (record { slot = slot; told = ap (λ i. Paused i slot) h.0; pauses = h.1 })
-parted memory way old before m r new after h = TableRow h
+    → StepsAt memory way old before m r new after → StepAnswer memory way old before m r new after
+parted memory way old before m r new after (inl h) = NoMachine h
+parted memory way old before m r new after (inr h) = found_step memory way old before m r new after h.debuggee h.left h.answers.0 h.found h.changed h.answers.1 h.answers.2
 
 -- ---- and back
 
--- a step of the table is never answered so
-ran_tells : (b : Bool) (m slot : ℕ) (r : Reply) → r ≡ cond b (Hit m slot) (Ran m slot) → (r ≡ Hit m slot → ⊥) → (r ≡ Ran m slot → ⊥) → ⊥
-ran_tells true m slot r e f g = f e
-ran_tells false m slot r e f g = g e
+never_paused : (slot k : ℕ) (a : Stepped) (d : DebugState) → step_reply.Paused slot ≡ reply_after a k d → ⊥
+never_paused slot k a d = step_replies (λ (told : StepReply). step_reply.Paused slot ≡ told → ⊥) a k d (λ i e. cc) (λ i e. cc) (λ i e. cc) (λ i e. cc)
 
-never_missing : {P : Type 0} (m slot : ℕ) (a : Stepped) (d : DebugState) → Missing ≡ reply_to_step m a slot d → P
-never_missing m slot (stepped.Ran w) d e = absurd (ran_tells (hits w d) m slot Missing e (λ f. absurd (cc)) (λ f. absurd (cc)))
-never_missing m slot (stepped.Waiting n) d e = absurd (cc)
-never_missing m slot (stepped.Stopped s) d e = absurd (cc)
-
-never_paused : {P : Type 0} (k i m slot : ℕ) (a : Stepped) (d : DebugState) → Paused k i ≡ reply_to_step m a slot d → P
-never_paused k i m slot (stepped.Ran w) d e = absurd (ran_tells (hits w d) m slot (Paused k i) e (λ f. absurd (cc)) (λ f. absurd (cc)))
-never_paused k i m slot (stepped.Waiting n) d e = absurd (cc)
-never_paused k i m slot (stepped.Stopped s) d e = absurd (cc)
+-- a step of the table is never answered that the machine is paused
+walked : {S : Type 0} (memory : Memories S) (way : Way) (old new : Debuggee) (before after : S) (told : StepReply) → Walks memory way old before told new after → AnswersStep memory way old before told new after
+walked memory way old new before after (step_reply.Paused slot) h = absurd (never_paused slot h.machine.slot h.answer old.debugger h.told)
+walked memory way old new before after told h = h
 
 pub stepped_so : {S : Type 0} (memory : Memories S) (way : Way) (old : List Debuggee) (before : S) (m : ℕ) (r : Reply) (new : List Debuggee) (after : S)
-    → Steps memory way old before m r new after → AnswersStep memory way old before m r new after
-stepped_so memory way old before m Missing new after h = never_missing m h.machine.slot h.answer h.debuggee.debugger h.told
-stepped_so memory way old before m (Paused k slot) new after h = never_paused k slot m h.machine.slot h.answer h.debuggee.debugger h.told
-stepped_so memory way old before m r new after h = h
-
-pub lacking : {S : Type 0} (memory : Memories S) (way : Way) (old : List Debuggee) (before : S) (m : ℕ) (r : Reply) (new : List Debuggee) (after : S)
-    → Misses old before m r new after → AnswersStep memory way old before m r new after
-lacking memory way old before m r new after h = subst (λ (x : Reply). AnswersStep memory way old before m x new after) (sym h.told) (h.missing, h.changed, h.same)
+    → Steps memory way old before m r new after → StepsAt memory way old before m r new after
+stepped_so memory way old before m r new after h =
+    let told = reply_after h.answer h.machine.slot h.debuggee.debugger in
+    let left : Debuggee = record { machine = h.machine; debugger = debugged way h.answer h.debuggee.debugger } in
+    let walk : Walks memory way h.debuggee before told left after = record { goes = h.goes; answer = h.answer; machine = h.machine; step = h.step; told = refl; changed = refl } in
+    inr (record { debuggee = h.debuggee; left = left; found = h.found; answers = (told, h.told, walked memory way h.debuggee left before after told walk); changed = h.changed })
 
 pub halting : {S : Type 0} (memory : Memories S) (way : Way) (old : List Debuggee) (before : S) (m : ℕ) (r : Reply) (new : List Debuggee) (after : S)
-    → Halts way old before m r new after → AnswersStep memory way old before m r new after
-halting memory way old before m r new after h = subst (λ (x : Reply). AnswersStep memory way old before m x new after) (sym h.told) (refl, h.pauses)
+    → Halts way old before m r new after → StepsAt memory way old before m r new after
+halting memory way old before m r new after h = inr (record {
+  debuggee = h.debuggee;
+  left = record h.debuggee { debugger = with_pause h.slot h.debuggee.debugger };
+  found = h.found;
+  answers = (step_reply.Paused h.slot, h.told, record { held = h.held; slot_is = h.slot_is; changed = refl; same = h.same });
+  changed = h.changed;
+})

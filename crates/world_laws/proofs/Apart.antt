@@ -1,40 +1,53 @@
 -- Machines and objects.
-use Rattle.std.proofs.Common.{◌≡◌, Bool, true, false, List, None, ap}
-use Rattle.object_store.specs.Stores.{StoreState}
-use Rattle.world.specs.declared.debuggee.Debuggee.{Debuggee}
-use Rattle.world.specs.declared.events.Reply.{Reply}
-use Rattle.world.specs.Commands.{Command}
+use Rattle.std.proofs.Common.{◌≡◌, ℕ, false, List, inl, inr, ap}
+use Rattle.object_store.specs.Stores.{store_memory}
+use Rattle.debugger.specs.declared.commands.MachineCommand.{MachineCommand}
+use Rattle.debugger.specs.declared.commands.MachineCommand.TheVariants.{Step, Show, Debug}
+use Rattle.debugger.specs.declared.debuggee.Debuggee.{Debuggee}
+use Rattle.world.specs.declared.replies.Reply.{Reply}
+use Rattle.world.specs.declared.replies.Reply.TheVariants as reply
+use Rattle.world.specs.declared.events.Event.TheVariants.{Make, Ship, Object, Machine}
+use Rattle.world.specs.declared.events.ObjectCommand.{ObjectCommand}
+use Rattle.world.specs.declared.events.ObjectCommand.TheVariants.{Free, Put, Get, Move}
 use Rattle.world.specs.WorldState.{WorldState}
-use Rattle.world_laws.specs.Replies.{is_on_objects, machine_stepped, MachinesStay, ObjectsStay}
-use Rattle.world_laws.proofs.Sorts.{Marks, Sort, Stays, Stores, Ships, Tunes, Pauses, Walks, off, none, sort_of}
+use Rattle.world.specs.Machines.{AnswersMachine}
+use Rattle.world.specs.Answers.{AnswersMake, AnswersObject}
+use Rattle.world_laws.specs.Replies.{is_step, MachinesStay, ObjectsStay}
 
 abbrev machines : WorldState → List Debuggee
 machines w = w.machines
 
-abbrev store : WorldState → StoreState
-store w = w.store
+object_apart : (old new : WorldState) (n : ℕ) (c : ObjectCommand) (r : Reply) → AnswersObject old n c r new → new.machines ≡ old.machines
+object_apart old new n Free r h = ap machines h.changed
+object_apart old new n (Move m) r h = ap machines h.changed
+object_apart old new n (Get offset size) r h = ap machines h.1
+object_apart old new n (Put offset bytes) reply.Done h = ap machines h.1
+object_apart old new n (Put offset bytes) reply.Outside h = ap machines h.1
+object_apart old new n (Put offset bytes) (reply.Away k) h = ap machines h.1.1
+object_apart old new n (Put offset bytes) _ h = absurd h
 
-abbrev on_objects : Marks → Bool
-on_objects m = m.on_objects
-
-same_machines : (old new : WorldState) (c : Command) (r : Reply) → Sort old c r new → is_on_objects c ≡ true → new.machines ≡ old.machines
-same_machines old new c r (Stays q n e) t = ap machines e
-same_machines old new c r (Stores k s e) t = ap machines e
-same_machines old new c r (Ships d k q n a e) t = off (is_on_objects c) (ap on_objects k) t
-same_machines old new c r (Tunes m k q s e) t = off (is_on_objects c) (ap on_objects k) t
-same_machines old new c r (Pauses m k q s e) t = off (is_on_objects c) (ap on_objects k) t
-same_machines old new c r (Walks m way k q h) t = off (is_on_objects c) (ap on_objects k) t
-
-same_store : (old new : WorldState) (c : Command) (r : Reply) → Sort old c r new → is_on_objects c ≡ false → machine_stepped c ≡ None → new.store ≡ old.store
-same_store old new c r (Stays q n e) t u = ap store e
-same_store old new c r (Stores k s e) t u = off (is_on_objects c) t (ap on_objects k)
-same_store old new c r (Ships d k q n a e) t u = ap store e
-same_store old new c r (Tunes m k q s e) t u = ap store e
-same_store old new c r (Pauses m k q s e) t u = ap store e
-same_store old new c r (Walks m way k q h) t u = none (machine_stepped c) m u (ap (λ (x : Marks). x.stepped) k)
+make_apart : (old new : WorldState) (size : ℕ) (r : Reply) → AnswersMake old size r new → new.machines ≡ old.machines
+make_apart old new size reply.Full h = ap machines h.1
+make_apart old new size reply.NoRoom h = ap machines h.1
+make_apart old new size reply.NoMemory h = ap machines h.1
+make_apart old new size (reply.Made n) h = ap machines h.1
+make_apart old new size _ h = absurd h
 
 pub machines_stay : MachinesStay
-machines_stay old new c r h t = same_machines old new c r (sort_of old new c r h) t
+machines_stay old new (Make size) r h t = make_apart old new size r h
+machines_stay old new (Object n c) r h t = object_apart old new n c r h
+machines_stay old new (Ship start code) r h t = absurd (cc)
+machines_stay old new (Machine m c) r h t = absurd (cc)
+
+machine_apart : (old new : WorldState) (m : ℕ) (c : MachineCommand) (r : Reply) → AnswersMachine (store_memory m) old.machines old.store m c r new.machines new.store → is_step (Machine m c) ≡ false
+    → new.store ≡ old.store
+machine_apart old new m c r (inl h) t = h.same
+machine_apart old new m (Step way) r (inr h) t = absurd (cc)
+machine_apart old new m (Show c) r (inr h) t = h.answers.4
+machine_apart old new m (Debug c) r (inr h) t = h.answers.3
 
 pub objects_stay : ObjectsStay
-objects_stay old new c r h t u = same_store old new c r (sort_of old new c r h) t u
+objects_stay old new (Make size) r h t u = absurd (cc)
+objects_stay old new (Object n c) r h t u = absurd (cc)
+objects_stay old new (Ship start code) r h t u = h.1
+objects_stay old new (Machine m c) r h t u = machine_apart old new m c r h u

@@ -22,16 +22,19 @@ use Rattle.machine.proofs.StepCases.{steps_told}
 use Rattle.machine.proofs.OneWay.{steps_one_way}
 use Rattle.machine.proofs.Stopping.{waits_in_place}
 use Rattle.debugger.specs.DebugState.{DebugState, hits}
-use Rattle.world.specs.declared.debuggee.Debuggee.{Debuggee}
-use Rattle.world.specs.declared.events.Reply.{Reply}
-use Rattle.world.specs.declared.events.Reply.TheVariants.{Ran, Hit, Waiting}
+use Rattle.debugger.specs.Steps.{debugged}
+use Rattle.debugger.specs.Debuggees.{holds_back, reply_after}
+use Rattle.debugger.specs.declared.commands.Way.{Way}
+use Rattle.debugger.specs.declared.replies.StepReply.TheVariants as step_reply
+use Rattle.debugger.specs.declared.debuggee.Debuggee.{Debuggee}
+use Rattle.world.specs.declared.replies.Reply.{Reply}
+use Rattle.world.specs.declared.replies.Reply.TheVariants.{Waiting}
 use Rattle.world.specs.WorldState.{WorldState, machine_at, with_machine}
-use Rattle.world.specs.Steps.{Way, Steps, AnswersStep, debugged, holds_back, reply_to_step}
-use Rattle.world.specs.Steps.Way.{ByStep, ByOne}
+use Rattle.world.specs.Machines.{reply_to_step}
 use Rattle.world_laws.specs.Stepping.{Awaits, WaitsExactly}
 use Rattle.world.proofs.Numbered.{with_same}
 use Rattle.world_laws.proofs.Machines.{found_once, found_none}
-use Rattle.world_laws.proofs.Answered.{StepAnswer, NoMachine, Pause, TableRow, parted}
+use Rattle.world_laws.proofs.Answered.{Steps, StepsAt, StepAnswer, NoMachine, Pause, TableRow, parted}
 
 -- ---- a store is determined
 
@@ -75,25 +78,25 @@ waiting_step who n old before i op t e g p =
     record {
       closes = false;
       mid = before;
-      steps = subst (λ (o : Outcome). StepsFrom old.stop (store_memory who) old before o before) (away_waits (work_of i old.registers) i old n op e) (steps_told (store_memory who) i old before before (Reached reach.Away) t answers);
+      steps = subst (λ (o : Outcome). StepsFrom old.stop (store_memory who) old before o before) (away_waits (work_of i old) i old n op e) (steps_told (store_memory who) i old before before (Reached reach.Away) t answers);
       closed = refl;
     }
 
 -- ---- the two directions
 
-waiting_tells : (m slot n : ℕ) (d : DebugState) (a : Stepped) (r : Reply) → a ≡ stepped.Waiting n → r ≡ reply_to_step m a slot d → r ≡ Waiting m n
+waiting_tells : (m slot n : ℕ) (d : DebugState) (a : Stepped) (r : Reply) → a ≡ stepped.Waiting n → r ≡ reply_to_step m (reply_after a slot d) → r ≡ Waiting m n
 waiting_tells m slot n d a r e f = rw e at f
 
 abbrev StepsStore : Way → WorldState → ℕ → Reply → WorldState → Type 0
-StepsStore way old m r new = AnswersStep (store_memory m) way old.machines old.store m r new.machines new.store
+StepsStore way old m r new = StepsAt (store_memory m) way old.machines old.store m r new.machines new.store
 
 held_goes : {P : Type 0} (way : Way) (d e : Debuggee) → d ≡ e → holds_back way d ≡ true → holds_back way e ≡ false → P
 held_goes way d e s p q = let g = rw s at p in absurd (cc)
 
 back : (way : Way) (old new : WorldState) (m n : ℕ) (r : Reply) → Awaits way old m n → StepAnswer (store_memory m) way old.machines old.store m r new.machines new.store → r ≡ Waiting m n
-back way old new m n r w (NoMachine h) = found_none (machine_at old.machines m) w.debuggee h.missing w.found
+back way old new m n r w (NoMachine h) = found_none (machine_at old.machines m) w.debuggee h.none w.found
 back way old new m n r w (Pause h) =
-    held_goes way h.pauses.debuggee w.debuggee (found_once (machine_at old.machines m) h.pauses.debuggee w.debuggee h.pauses.found w.found) h.pauses.held w.goes
+    held_goes way h.debuggee w.debuggee (found_once (machine_at old.machines m) h.debuggee w.debuggee h.found w.found) h.held w.goes
 back way old new m n r w (TableRow h) =
     let same = found_once (machine_at old.machines m) h.debuggee w.debuggee h.found w.found in
     let step = subst (λ (x : Debuggee). TableStep (store_memory m) x.machine old.store h.answer h.machine new.store) same h.step in
@@ -106,15 +109,15 @@ record IsWait (m k n : ℕ) (a : Stepped) : Type 0 where
   number : k ≡ m
   answer : a ≡ stepped.Waiting n
 
-ran_waits : {P : Type 0} (b : Bool) (k n m slot : ℕ) → Waiting k n ≡ cond b (Hit m slot) (Ran m slot) → P
-ran_waits true k n m slot e = absurd (cc)
-ran_waits false k n m slot e = absurd (cc)
+ran_waits : (b : Bool) (k n m slot : ℕ) → Waiting k n ≡ reply_to_step m (cond b (step_reply.Hit slot) (step_reply.Ran slot)) → ⊥
+ran_waits true k n m slot e = cc
+ran_waits false k n m slot e = cc
 
 waiting_is : (k n m i : ℕ) → Waiting k n ≡ Waiting m i → (k ≡ m) × (i ≡ n)
 waiting_is k n m i e = (cc, cc)
 
-told_waiting : (m k n slot : ℕ) (a : Stepped) (d : DebugState) → Waiting k n ≡ reply_to_step m a slot d → IsWait m k n a
-told_waiting m k n slot (stepped.Ran w) d e = ran_waits (hits w d) k n m slot e
+told_waiting : (m k n slot : ℕ) (a : Stepped) (d : DebugState) → Waiting k n ≡ reply_to_step m (reply_after a slot d) → IsWait m k n a
+told_waiting m k n slot (stepped.Ran w) d e = absurd (ran_waits (hits w d) k n m slot e)
 told_waiting m k n slot (stepped.Stopped s) d e = absurd (cc)
 told_waiting m k n slot (stepped.Waiting i) d e = let g = waiting_is k n m i e in record { number = g.0; answer = ap stepped.Waiting g.1 }
 
@@ -128,17 +131,13 @@ barred who before after n op reach.Away w h = record { inside = h.0; away = h.1;
 barred who before after n op reach.Busy w h = absurd h
 barred who before after n op _ w h = absurd w
 
-debugged_waiting : (way : Way) (n : ℕ) (d : DebugState) → debugged way (stepped.Waiting n) d ≡ d
-debugged_waiting ByStep n d = refl
-debugged_waiting ByOne n d = refl
-
 there : (way : Way) (old new : WorldState) (m k n : ℕ) → Steps (store_memory m) way old.machines old.store m (Waiting k n) new.machines new.store → (k ≡ m) × Awaits way old m n × (new ≡ old)
 there way old new m k n h =
     let t = told_waiting m k n h.machine.slot h.answer h.debuggee.debugger h.told in
     let step = subst (λ (a : Stepped). TableStep (store_memory m) h.debuggee.machine old.store a h.machine new.store) t.answer h.step in
     let w = waits_in_place (store_memory m) h.debuggee.machine h.machine old.store new.store n step in
     let b = barred m old.store new.store n w.1.1 w.1.2 w.1.6 w.1.5 in
-    let debugger : debugged way h.answer h.debuggee.debugger ≡ h.debuggee.debugger = ap (λ (a : Stepped). debugged way a h.debuggee.debugger) t.answer ∙ debugged_waiting way n h.debuggee.debugger in
+    let debugger : debugged way h.answer h.debuggee.debugger ≡ h.debuggee.debugger = ap (λ (a : Stepped). debugged way a h.debuggee.debugger) t.answer in
     let machines : new.machines ≡ old.machines =
     h.changed ∙ ap (λ (x : MachineState). with_machine old.machines m (record { machine = x; debugger = debugged way h.answer h.debuggee.debugger })) w.0
     ∙ ap (λ (x : DebugState). with_machine old.machines m (record { machine = h.debuggee.machine; debugger = x })) debugger
@@ -148,13 +147,19 @@ there way old new m k n h =
       ap (λ (x : List Debuggee). record { machines = x; store = new.store }) machines ∙ ap (λ (x : StoreState). record { machines = old.machines; store = x }) b.same,
     )
 
+table_row : (way : Way) (old new : WorldState) (m k n : ℕ) → StepAnswer (store_memory m) way old.machines old.store m (Waiting k n) new.machines new.store
+    → Steps (store_memory m) way old.machines old.store m (Waiting k n) new.machines new.store
+table_row way old new m k n (NoMachine h) = let e = h.told in absurd (cc)
+table_row way old new m k n (Pause h) = let e = h.told in absurd (cc)
+table_row way old new m k n (TableRow h) = h
+
 exactly : (way : Way) (old new : WorldState) (m n : ℕ) (r : Reply) → StepsStore way old m r new
     → ((k : ℕ) → r ≡ Waiting k n → (k ≡ m) × Awaits way old m n × (new ≡ old)) × (Awaits way old m n → r ≡ Waiting m n)
 exactly way old new m n r h = (
-  λ k e. there way old new m k n (subst (λ (x : Reply). StepsStore way old m x new) e h),
+  λ k e. there way old new m k n (table_row way old new m k n (subst (λ (x : Reply). StepAnswer (store_memory m) way old.machines old.store m x new.machines new.store) e
+      (parted (store_memory m) way old.machines old.store m r new.machines new.store h))),
   λ w. back way old new m n r w (parted (store_memory m) way old.machines old.store m r new.machines new.store h),
 )
 
 pub waits_exactly : WaitsExactly
-waits_exactly old new ByStep m n r h = exactly ByStep old new m n r h
-waits_exactly old new ByOne m n r h = exactly ByOne old new m n r h
+waits_exactly old new way m n r h = exactly way old new m n r h

@@ -11,8 +11,8 @@ use Rattle.object_store.specs.declared.places.Place.{Place}
 use Rattle.object_store.specs.declared.places.Place.TheVariants.{Here, Leaving, Far, Returning}
 use Rattle.object_store.specs.Stores.{StoreState, Touches, near_length, near_bytes}
 use Rattle.object_store.proofs.Keeping.{near_placed, near_made}
-use Rattle.world.specs.declared.events.Reply.{Reply}
-use Rattle.world.specs.Commands.{Command}
+use Rattle.world.specs.declared.replies.Reply.{Reply}
+use Rattle.world.specs.declared.events.Event.{Event}
 use Rattle.world.specs.WorldState.{WorldState, world_start}
 use Rattle.world.specs.Answers.{Answers}
 use Rattle.world_laws.specs.Moves.{BudgetHolds}
@@ -80,7 +80,7 @@ record Holds (budget : ℕ) (w : WorldState) : Type 0 where
   placed : HasPlaces w.store
   fits : Fits budget w.store
 
-one : (budget : ℕ) (old new : WorldState) (c : Command) (r : Reply) → Holds budget old → Answers old c r new → Holds budget new
+one : (budget : ℕ) (old new : WorldState) (c : Event) (r : Reply) → Holds budget old → Answers old c r new → Holds budget new
 one budget old new c r o h = let g = store_changes old new c r h in
     record { placed = changed_places old.store new.store r o.placed g; fits = changed_fits budget old.store new.store r o.placed o.fits g }
 

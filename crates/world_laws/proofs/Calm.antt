@@ -7,15 +7,16 @@ use Rattle.machine.specs.declared.state.Stop.{Stop}
 use Rattle.machine.specs.declared.state.Stepped.{Stepped}
 use Rattle.machine.specs.declared.state.Stepped.TheVariants as stepped
 use Rattle.debugger.specs.DebugState.{DebugState}
-use Rattle.world.specs.declared.debuggee.Debuggee.{Debuggee}
-use Rattle.world.specs.declared.events.Reply.{Reply}
-use Rattle.world.specs.Commands.{Command}
+use Rattle.debugger.specs.Steps.{debugged}
+use Rattle.debugger.specs.declared.commands.Way.{Way}
+use Rattle.debugger.specs.declared.debuggee.Debuggee.{Debuggee}
+use Rattle.world.specs.declared.replies.Reply.{Reply}
+use Rattle.world.specs.declared.events.Event.{Event}
 use Rattle.world.specs.WorldState.{WorldState, world_start, machine_at, with_machine}
-use Rattle.world.specs.Steps.{Way, Steps, debugged}
-use Rattle.world.specs.Steps.Way.{ByStep, ByOne}
 use Rattle.world_laws.specs.Stepping.{IsCalm, StoppedMachinesAreCalm}
 use Rattle.world_laws.proofs.StoreCalls.{StoreCall, Grown, Filled, Placed}
 use Rattle.world_laws.proofs.Sorts.{Sets, Sort, Stays, Stores, Ships, Tunes, Pauses, Walks, sort_of}
+use Rattle.world_laws.proofs.Answered.{Steps}
 use Rattle.world_laws.proofs.StoreChanges.{run_keeps}
 use Rattle.world_laws.proofs.Machines.{not_zero, found_once, found_set, other_number}
 use Rattle.world_laws.proofs.Stopping.{ends_stopped, other_window}
@@ -75,8 +76,7 @@ one_calm old new m x e found changed f g c k d s h t =
 -- ---- steps
 
 stopped_unpaused : (way : Way) (s : Stop) (d : DebugState) → (debugged way (stepped.Stopped s) d).paused ≡ false
-stopped_unpaused ByStep s d = refl
-stopped_unpaused ByOne s d = refl
+stopped_unpaused way s d = refl
 
 row_calm : (way : Way) (old new : WorldState) (m : ℕ) (r : Reply) → Steps (store_memory m) way old.machines old.store m r new.machines new.store → AllCalm old → AllCalm new
 row_calm way old new m r h c =
@@ -125,7 +125,7 @@ shipped_calm old new x e n f c m d s h t = appended_calm old new x m d s n (ap (
 
 -- ---- a run
 
-by_sort : (old new : WorldState) (c : Command) (r : Reply) → Sort old c r new → AllCalm old → AllCalm new
+by_sort : (old new : WorldState) (c : Event) (r : Reply) → Sort old c r new → AllCalm old → AllCalm new
 by_sort old new c r (Stays q n e) a = subst AllCalm (sym e) a
 by_sort old new c r (Stores k s e) a = calm_same old new (ap (λ (w : WorldState). w.machines) e) (call_windows old.store new.store r s) a
 by_sort old new c r (Ships d k q n g e) a = shipped_calm old new d g n e a

@@ -1,19 +1,18 @@
--- What debugging leaves as it was, and what a step leaves of the other machines.
-use Rattle.std.proofs.Common.{◌≡◌, ◌≢◌, ℕ, List, map, Option, Some, refl, ap, subst, ◌∙◌}
-use Rattle.world.specs.declared.debuggee.Debuggee.{Debuggee}
-use Rattle.world.specs.declared.events.Reply.{Reply}
-use Rattle.world.specs.Commands.{Command}
+-- What a command on one machine leaves as it was, and what debugging does.
+use Rattle.std.proofs.Common.{◌≡◌, ◌≢◌, ℕ, List, map, Some, inl, inr, ap, ◌∙◌}
+use Rattle.object_store.specs.Stores.{StoreState, store_memory, window_of}
+use Rattle.debugger.specs.declared.debuggee.Debuggee.{Debuggee}
+use Rattle.debugger.specs.declared.commands.Way.{Way}
+use Rattle.debugger.specs.declared.commands.DebugCommand.{DebugCommand}
+use Rattle.debugger.specs.declared.commands.MachineCommand.{MachineCommand}
+use Rattle.debugger.specs.declared.commands.MachineCommand.TheVariants.{Step, Show, Debug}
+use Rattle.world.specs.declared.replies.Reply.{Reply}
 use Rattle.world.specs.WorldState.{WorldState, machine_at, with_machine}
-use Rattle.world_laws.specs.Replies.{machine_debugged, machine_stepped, machine_in, DebuggingChangesDebugStateAlone, OthersStay}
+use Rattle.world.specs.Machines.{AnswersMachine}
+use Rattle.world_laws.specs.Replies.{machine_in, DebuggingChangesDebugStateAlone, OthersStay}
 use Rattle.world_laws.proofs.Machines.{with_map, other_machine}
-use Rattle.world_laws.proofs.OtherScopes.{other_scopes}
-use Rattle.world_laws.proofs.Sorts.{Marks, Sets, Sort, Stays, Stores, Ships, Tunes, Pauses, Walks, none, same_number, sort_of}
-
-abbrev debugged : Marks → Option ℕ
-debugged x = x.debugged
-
-abbrev stepped : Marks → Option ℕ
-stepped x = x.stepped
+use Rattle.world_laws.proofs.Answered.{StepAnswer, NoMachine, Pause, TableRow, parted}
+use Rattle.world_laws.proofs.Stopping.{other_window}
 
 -- the other machines
 abbrev Others : List Debuggee → List Debuggee → ℕ → Type 0
@@ -30,36 +29,40 @@ written old new m d e f h k n = ap (λ (ms : List Debuggee). machine_at ms k) h 
 abbrev Alone : WorldState → WorldState → ℕ → Type 0
 Alone old new m = (new.store ≡ old.store) × (map machine_in new.machines ≡ map machine_in old.machines) × Others old.machines new.machines m
 
-sets_alone : (old new : WorldState) (m : ℕ) → Sets old.machines m new.machines → new ≡ record old { machines = new.machines } → Alone old new m
-sets_alone old new m s e = (
-  ap (λ (w : WorldState). w.store) e,
-  ap (map machine_in) s.changed ∙ with_map machine_in old.machines m s.debuggee (record s.debuggee { debugger = s.debugger }) s.found refl,
-  written old.machines new.machines m s.debuggee (record s.debuggee { debugger = s.debugger }) s.found s.changed,
+alone : (old new : WorldState) (m : ℕ) (c : DebugCommand) (r : Reply) → AnswersMachine (store_memory m) old.machines old.store m (Debug c) r new.machines new.store → Alone old new m
+alone old new m c r (inl h) = (h.same, ap (map machine_in) h.unchanged, equal old.machines new.machines m h.unchanged)
+alone old new m c r (inr h) = (
+  h.answers.3,
+  ap (map machine_in) h.changed ∙ with_map machine_in old.machines m h.debuggee h.left h.found (ap machine_in h.answers.2.1),
+  written old.machines new.machines m h.debuggee h.left h.found h.changed,
 )
 
-alone : (old new : WorldState) (c : Command) (r : Reply) (m : ℕ) → Sort old c r new → machine_debugged c ≡ Some m → Alone old new m
-alone old new c r m (Stays q n e) t =
-    (ap (λ (w : WorldState). w.store) e, ap (λ (w : WorldState). map machine_in w.machines) e, equal old.machines new.machines m (ap (λ (w : WorldState). w.machines) e))
-alone old new c r m (Tunes j k q s e) t = subst (λ (i : ℕ). Alone old new i) (same_number (machine_debugged c) j m (ap debugged k) t) (sets_alone old new j s e)
-alone old new c r m (Stores k s e) t = none (machine_debugged c) m (ap debugged k) t
-alone old new c r m (Ships d k q n a e) t = none (machine_debugged c) m (ap debugged k) t
-alone old new c r m (Pauses j k q s e) t = none (machine_debugged c) m (ap debugged k) t
-alone old new c r m (Walks j way k q h) t = none (machine_debugged c) m (ap debugged k) t
-
 pub debugging_keeps : DebuggingChangesDebugStateAlone
-debugging_keeps old new c r m h t = alone old new c r m (sort_of old new c r h) t
+debugging_keeps old new m c r h = alone old new m c r h
 
--- ---- steps
+-- ---- any command on a machine
 
-others : (old new : WorldState) (c : Command) (r : Reply) (m : ℕ) → Sort old c r new → machine_stepped c ≡ Some m → Others old.machines new.machines m
-others old new c r m (Stays q n e) t = equal old.machines new.machines m (ap (λ (w : WorldState). w.machines) e)
-others old new c r m (Pauses j k q s e) t = subst (λ (i : ℕ). Others old.machines new.machines i) (same_number (machine_stepped c) j m (ap stepped k) t)
-    (written old.machines new.machines j s.debuggee (record s.debuggee { debugger = s.debugger }) s.found s.changed)
-others old new c r m (Walks j way k q h) t = subst (λ (i : ℕ). Others old.machines new.machines i) (same_number (machine_stepped c) j m (ap stepped k) t)
-    (written old.machines new.machines j h.debuggee _ h.found h.changed)
-others old new c r m (Stores k s e) t = none (machine_stepped c) m (ap stepped k) t
-others old new c r m (Ships d k q n a e) t = none (machine_stepped c) m (ap stepped k) t
-others old new c r m (Tunes j k q s e) t = none (machine_stepped c) m (ap stepped k) t
+others : (old new : WorldState) (m : ℕ) (c : MachineCommand) (r : Reply) → AnswersMachine (store_memory m) old.machines old.store m c r new.machines new.store → Others old.machines new.machines m
+others old new m c r (inl h) = equal old.machines new.machines m h.unchanged
+others old new m c r (inr h) = written old.machines new.machines m h.debuggee h.left h.found h.changed
+
+-- the windows of the others
+abbrev Scopes : WorldState → WorldState → ℕ → Type 0
+Scopes old new m = (k : ℕ) → k ≢ m → window_of new.store.windows k ≡ window_of old.store.windows k
+
+abbrev StepsSo : ℕ → Way → WorldState → Reply → WorldState → Type 0
+StepsSo m way old r new = StepAnswer (store_memory m) way old.machines old.store m r new.machines new.store
+
+step_scopes : (m : ℕ) (way : Way) (old new : WorldState) (r : Reply) → StepsSo m way old r new → Scopes old new m
+step_scopes m way old new r (NoMachine h) k n = ap (λ (s : StoreState). window_of s.windows k) h.same
+step_scopes m way old new r (Pause h) k n = ap (λ (s : StoreState). window_of s.windows k) h.same
+step_scopes m way old new r (TableRow h) k n = other_window m k h.debuggee.machine h.machine old.store new.store h.answer n h.step
+
+scopes : (old new : WorldState) (m : ℕ) (c : MachineCommand) (r : Reply) → AnswersMachine (store_memory m) old.machines old.store m c r new.machines new.store → Scopes old new m
+scopes old new m (Step way) r h k n = step_scopes m way old new r (parted (store_memory m) way old.machines old.store m r new.machines new.store h) k n
+scopes old new m c r (inl h) k n = ap (λ (s : StoreState). window_of s.windows k) h.same
+scopes old new m (Show c) r (inr h) k n = ap (λ (s : StoreState). window_of s.windows k) h.answers.4
+scopes old new m (Debug c) r (inr h) k n = ap (λ (s : StoreState). window_of s.windows k) h.answers.3
 
 pub others_stay : OthersStay
-others_stay old new c r m k h t n = (others old new c r m (sort_of old new c r h) t k n, other_scopes old new c r m k (sort_of old new c r h) t n)
+others_stay old new m k c r h n = (others old new m c r h k n, scopes old new m c r h k n)

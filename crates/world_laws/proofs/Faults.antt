@@ -2,8 +2,8 @@
 use Rattle.std.proofs.Common.{◌≡◌, ℕ, sym, ap, subst, ◌∙◌, refl}
 use Rattle.object_store.specs.declared.places.Place.{Place}
 use Rattle.object_store.specs.Stores.{StoreState, with_place, HasRisen}
-use Rattle.world.specs.declared.events.Reply.TheVariants.{Faulted}
-use Rattle.world.specs.Commands.{Command}
+use Rattle.world.specs.declared.replies.Reply.TheVariants.{Faulted}
+use Rattle.world.specs.declared.events.Event.{Event}
 use Rattle.world.specs.WorldState.{WorldState}
 use Rattle.world_laws.specs.Replies.{FaultsChangeOnePlace}
 use Rattle.world_laws.proofs.StoreCalls.{StoreCall, Grown, Filled, Placed}
@@ -22,7 +22,7 @@ falls old new n p (Placed k a b faults m e) =
     let same : new ≡ record (with_place old k b) { faults = new.faults } = e ∙ ap (λ (i : ℕ). record (with_place old k b) { faults = i }) (sym count) in
     (subst (λ (i : ℕ). HasRisen old.faults i) (sym count) f.0, rw (f.1, f.2) same)
 
-by_sort : (old new : WorldState) (c : Command) (n : ℕ) (p : Place) → Sort old c (Faulted n p) new
+by_sort : (old new : WorldState) (c : Event) (n : ℕ) (p : Place) → Sort old c (Faulted n p) new
     → HasRisen old.store.faults new.store.faults × (new ≡ record old { store = record (with_place old.store n p) { faults = new.store.faults } })
 by_sort old new c n p (Stores k s e) = let f = falls old.store new.store n p s in (f.0, e ∙ ap (λ (x : StoreState). record old { store = x }) f.1)
 by_sort old new c n p (Stays q m e) = absurd (cc)

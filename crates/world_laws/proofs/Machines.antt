@@ -1,7 +1,7 @@
 -- Machines by number.
 use Rattle.std.proofs.Common.{◌≡◌, ◌≢◌, ℕ, zero, suc, ◌-◌, List, [], ◌∷◌, map, Option, Some, None, refl, sym, ap, subst, arith}
 use Rattle.std.specs.Prelude.{slice_get, slice_set}
-use Rattle.world.specs.declared.debuggee.Debuggee.{Debuggee}
+use Rattle.debugger.specs.declared.debuggee.Debuggee.{Debuggee}
 use Rattle.world.specs.WorldState.{machine_at, with_machine}
 
 pub not_zero : (ms : List Debuggee) (m : ℕ) (d : Debuggee) → machine_at ms m ≡ Some d → m ≢ 0

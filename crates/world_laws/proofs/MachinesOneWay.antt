@@ -1,25 +1,47 @@
 -- Commands on machines have one answer.
-use Rattle.std.proofs.Common.{◌≡◌, ℕ, true, List, [], ◌∷◌, ◌++◌, ◌+◌, ◌≤◌, length, take, drop, Some, refl, ap, sym, subst, ◌∙◌}
+use Rattle.std.proofs.Common.{◌≡◌, ℕ, true, false, List, [], ◌∷◌, ◌++◌, ◌+◌, ◌≤◌, length, take, drop, inl, inr, refl, ap, sym, subst, ◌∙◌}
 use Rattle.isa_table.specs.declared.instr.Instr.{Instr}
 use Rattle.asm_table.specs.Canonical.{line_text}
 use Rattle.loader.specs.declared.loading.LoadError.{LoadError}
 use Rattle.loader.specs.ValidCode.{IsAt, IsRowAt}
 use Rattle.loader.proofs.Positions.{same_first}
 use Rattle.loader.proofs.OneReason.{one_refusal, no_refusal_of_valid}
-use Rattle.machine.specs.MachineState.{start}
-use Rattle.debugger.specs.DebugState.{debug_start}
-use Rattle.debugger.specs.Showing.{shown_of, IsLineAt}
-use Rattle.world.specs.declared.debuggee.Debuggee.{Debuggee}
-use Rattle.world.specs.declared.events.Reply.{Reply}
-use Rattle.world.specs.declared.events.Reply.TheVariants.{Bytes, Shipped, Registers, Emitted, Disassembled, NoMemory, Full, Outside, NoSlot, Refused, Missing}
-use Rattle.world.specs.WorldState.{machine_at}
-use Rattle.world.specs.Showing.{ShowsRegs, ShowsOut, ShowsStack, ShowsLine}
+use Rattle.object_store.specs.Stores.{StoreState, store_memory}
+use Rattle.machine.specs.MachineState.{MachineState}
+use Rattle.machine.specs.declared.state.Stepped.{Stepped}
+use Rattle.machine.proofs.OneWay.{steps_one_way}
+use Rattle.debugger.specs.DebugState.{DebugState}
+use Rattle.debugger.specs.Refusals.{Decides}
+use Rattle.debugger.specs.Changes.{Needs, refusals_of, left_by, change_of}
+use Rattle.debugger.specs.Steps.{with_pause, debugged}
+use Rattle.debugger.specs.Showing.{Shows, ShowsBytes, ShowsLine, IsLineAt}
+use Rattle.debugger.specs.Debuggees.{Walks, AnswersStep, DebugsMachine, debuggee_start, holds_back, reply_after}
+use Rattle.debugger.specs.declared.start.Start.{Start}
+use Rattle.debugger.specs.declared.commands.Way.{Way}
+use Rattle.debugger.specs.declared.commands.MachineCommand.{MachineCommand}
+use Rattle.debugger.specs.declared.commands.MachineCommand.TheVariants.{Step, Show, Debug}
+use Rattle.debugger.specs.declared.commands.ShowCommand.{ShowCommand}
+use Rattle.debugger.specs.declared.commands.ShowCommand.TheVariants.{Regs, Out, Stack, Line}
+use Rattle.debugger.specs.declared.commands.DebugCommand.{DebugCommand}
+use Rattle.debugger.specs.declared.replies.StepReply.{StepReply}
+use Rattle.debugger.specs.declared.replies.StepReply.TheVariants as step_reply
+use Rattle.debugger.specs.declared.replies.ShowReply.{ShowReply}
+use Rattle.debugger.specs.declared.replies.ShowReply.TheVariants as show_reply
+use Rattle.debugger.specs.declared.replies.Debugged.{Debugged}
+use Rattle.debugger.specs.declared.replies.Debugged.TheVariants as debug_reply
+use Rattle.debugger.specs.declared.debuggee.Debuggee.{Debuggee}
+use Rattle.world.specs.declared.replies.Reply.{Reply}
+use Rattle.world.specs.declared.replies.Reply.TheVariants.{Shipped, NoMemory, Full, Refused}
+use Rattle.world.specs.WorldState.{machine_at, with_machine}
+use Rattle.world.specs.Machines.{AnswersCommand, AnswersMachine, Finds, reply_to_step, reply_to_show, reply_to_debug}
 use Rattle.world.specs.Answers.{AnswersShip}
 use Rattle.world_laws.specs.Replies.{is_settled}
 use Rattle.world_laws.proofs.Machines.{found_once, found_none}
+use Rattle.world_laws.proofs.Deciding.{decides_once}
+use Rattle.world_laws.proofs.Awaited.{store_determined}
 
 -- two answers to one command are the same
-abbrev pub MachinesOneWay : (List Debuggee → Reply → List Debuggee → Type 0) → Type 0
+abbrev MachinesOneWay : (List Debuggee → Reply → List Debuggee → Type 0) → Type 0
 MachinesOneWay answers = (old new other : List Debuggee) (a b : Reply) → answers old a new → answers old b other → is_settled a ≡ true → is_settled b ≡ true → (a ≡ b) × (new ≡ other)
 
 -- ---- shipping
@@ -27,82 +49,36 @@ MachinesOneWay answers = (old new other : List Debuggee) (a b : Reply) → answe
 same_error : (d e : LoadError) → (d.slot ≡ e.slot) × (d.why ≡ e.why) → d ≡ e
 same_error d e h = rw (h.0, h.1) refl
 
-pub ship : (f : ℕ) (a c : List ℕ) → MachinesOneWay (λ old x new. AnswersShip old f a c x new)
-ship f a c old new other (Shipped m) (Shipped n) g h p q =
+pub ship : (f : Start) (c : List ℕ) → MachinesOneWay (λ old x new. AnswersShip old f c x new)
+ship f c old new other (Shipped m) (Shipped n) g h p q =
     let number : m ≡ n = g.2 ∙ sym h.2 in
-    (ap Shipped number, g.3 ∙ ap (λ k. old ++ record { machine = start k c f a; debugger = debug_start } ∷ []) number ∙ sym h.3)
-ship f a c old new other (Refused d) (Refused e) g h p q =
+    (ap Shipped number, g.3 ∙ ap (λ k. old ++ debuggee_start k c f ∷ []) number ∙ sym h.3)
+ship f c old new other (Refused d) (Refused e) g h p q =
     (ap Refused (same_error d e (one_refusal c d.slot e.slot d.why e.why g.1 h.1 g.2 h.2)), g.3 ∙ sym h.3)
-ship f a c old new other Full Full g h p q = (refl, g.1 ∙ sym h.1)
-ship f a c old new other (Shipped m) (Refused e) g h p q = absurd (h.2 (no_refusal_of_valid c e.slot e.why g.1 h.1).1)
-ship f a c old new other (Refused e) (Shipped m) g h p q = absurd (g.2 (no_refusal_of_valid c e.slot e.why h.1 g.1).1)
-ship f a c old new other (Shipped m) Full g h p q = absurd (g.0 h.0)
-ship f a c old new other Full (Shipped m) g h p q = absurd (h.0 g.0)
-ship f a c old new other (Refused e) Full g h p q = absurd (g.0 h.0)
-ship f a c old new other Full (Refused e) g h p q = absurd (h.0 g.0)
-ship f a c old new other NoMemory _ g h p q = absurd (cc)
-ship f a c old new other (Shipped m) NoMemory g h p q = absurd (cc)
-ship f a c old new other Full NoMemory g h p q = absurd (cc)
-ship f a c old new other (Refused e) NoMemory g h p q = absurd (cc)
-ship f a c old new other (Shipped m) _ g h p q = absurd h
-ship f a c old new other Full _ g h p q = absurd h
-ship f a c old new other (Refused e) _ g h p q = absurd h
-ship f a c old new other _ _ g h p q = absurd g
+ship f c old new other Full Full g h p q = (refl, g.1 ∙ sym h.1)
+ship f c old new other (Shipped m) (Refused e) g h p q = absurd (h.2 (no_refusal_of_valid c e.slot e.why g.1 h.1).1)
+ship f c old new other (Refused e) (Shipped m) g h p q = absurd (g.2 (no_refusal_of_valid c e.slot e.why h.1 g.1).1)
+ship f c old new other (Shipped m) Full g h p q = absurd (g.0 h.0)
+ship f c old new other Full (Shipped m) g h p q = absurd (h.0 g.0)
+ship f c old new other (Refused e) Full g h p q = absurd (g.0 h.0)
+ship f c old new other Full (Refused e) g h p q = absurd (h.0 g.0)
+ship f c old new other NoMemory _ g h p q = absurd (cc)
+ship f c old new other (Shipped m) NoMemory g h p q = absurd (cc)
+ship f c old new other Full NoMemory g h p q = absurd (cc)
+ship f c old new other (Refused e) NoMemory g h p q = absurd (cc)
+ship f c old new other (Shipped m) _ g h p q = absurd h
+ship f c old new other Full _ g h p q = absurd h
+ship f c old new other (Refused e) _ g h p q = absurd h
+ship f c old new other _ _ g h p q = absurd g
 
 -- ---- showing
 
--- one thing is shown
-abbrev pub ShowsOneWay : (List Debuggee → Reply → Type 0) → Type 0
-ShowsOneWay shows = (ms : List Debuggee) (a b : Reply) → shows ms a → shows ms b → is_settled a ≡ true → is_settled b ≡ true → a ≡ b
-
-pub regs : (m : ℕ) → ShowsOneWay (λ ms a. ShowsRegs ms m a)
-regs m ms Missing Missing g h p q = refl
-regs m ms Missing (Registers k s) g h p q = found_none (machine_at ms m) _ g h.1.1
-regs m ms (Registers k s) Missing g h p q = found_none (machine_at ms m) _ h g.1.1
-regs m ms (Registers k s) (Registers j t) g h p q =
-    let same = found_once (machine_at ms m) g.1.0 h.1.0 g.1.1 h.1.1 in
-    let shown : s ≡ t = g.1.2 ∙ ap (λ (d : Debuggee). shown_of d.machine d.debugger) same ∙ sym h.1.2 in
-    rw (g.0, h.0, shown) refl
-regs m ms Missing _ g h p q = absurd h
-regs m ms (Registers k s) _ g h p q = absurd h
-regs m ms _ _ g h p q = absurd g
-
-pub out : (m : ℕ) → ShowsOneWay (λ ms a. ShowsOut ms m a)
-out m ms Missing Missing g h p q = refl
-out m ms Missing (Emitted k v) g h p q = found_none (machine_at ms m) _ g h.1.1
-out m ms (Emitted k v) Missing g h p q = found_none (machine_at ms m) _ h g.1.1
-out m ms (Emitted k v) (Emitted j u) g h p q =
-    let same = found_once (machine_at ms m) g.1.0 h.1.0 g.1.1 h.1.1 in
-    let values : v ≡ u = g.1.2 ∙ ap (λ (d : Debuggee). d.machine.emitted) same ∙ sym h.1.2 in
-    rw (g.0, h.0, values) refl
-out m ms Missing _ g h p q = absurd h
-out m ms (Emitted k v) _ g h p q = absurd h
-out m ms _ _ g h p q = absurd g
-
--- the range of one machine's stack is that of the other, which is the same machine
-within : (ms : List Debuggee) (m o z : ℕ) (d e : Debuggee) → machine_at ms m ≡ Some d → machine_at ms m ≡ Some e → o + z ≤ length d.machine.stack → o + z ≤ length e.machine.stack
-within ms m o z d e f g h = subst (λ (x : Debuggee). o + z ≤ length x.machine.stack) (found_once (machine_at ms m) d e f g) h
-
-pub stack : (m o z : ℕ) → ShowsOneWay (λ ms a. ShowsStack ms m o z a)
-stack m o z ms Missing Missing g h p q = refl
-stack m o z ms Missing (Bytes y) g h p q = found_none (machine_at ms m) _ g h.1
-stack m o z ms Missing Outside g h p q = found_none (machine_at ms m) _ g h.1
-stack m o z ms (Bytes x) Missing g h p q = found_none (machine_at ms m) _ h g.1
-stack m o z ms Outside Missing g h p q = found_none (machine_at ms m) _ h g.1
-stack m o z ms Outside Outside g h p q = refl
-stack m o z ms (Bytes x) Outside g h p q = absurd (h.2 (within ms m o z g.0 h.0 g.1 h.1 g.2.0))
-stack m o z ms Outside (Bytes y) g h p q = absurd (g.2 (within ms m o z h.0 g.0 h.1 g.1 h.2.0))
-stack m o z ms (Bytes x) (Bytes y) g h p q =
-    let same = found_once (machine_at ms m) g.0 h.0 g.1 h.1 in
-    ap Bytes (g.2.1 ∙ ap (λ (d : Debuggee). take z (drop o d.machine.stack)) same ∙ sym h.2.1)
-stack m o z ms NoMemory _ g h p q = absurd (cc)
-stack m o z ms Missing NoMemory g h p q = absurd (cc)
-stack m o z ms (Bytes x) NoMemory g h p q = absurd (cc)
-stack m o z ms Outside NoMemory g h p q = absurd (cc)
-stack m o z ms Missing _ g h p q = absurd h
-stack m o z ms (Bytes x) _ g h p q = absurd h
-stack m o z ms Outside _ g h p q = absurd h
-stack m o z ms _ _ g h p q = absurd g
+bytes_first : (m : ℕ) (bytes : List ℕ) (o z : ℕ) (told : ShowReply) → ShowsBytes bytes o z told → is_settled (reply_to_show m told) ≡ true
+    → Decides (λ r. o + z ≤ length bytes) (show_reply.Outside ∷ []) (show_reply.Bytes (take z (drop o bytes))) told
+bytes_first m bytes o z show_reply.Outside g p = inl (g, refl)
+bytes_first m bytes o z (show_reply.Bytes shown) g p = inr (g.0, ap show_reply.Bytes g.1)
+bytes_first m bytes o z show_reply.NoMemory g p = absurd (cc)
+bytes_first m bytes o z _ g p = absurd g
 
 same_row : (bytes : List ℕ) (n : ℕ) (i j : Instr) → IsRowAt bytes n i → IsRowAt bytes n j → i ≡ j
 same_row bytes n i j g h = same_first i j g.begins.0 h.begins.0 g.fits h.fits (sym g.begins.1 ∙ h.begins.1)
@@ -110,32 +86,90 @@ same_row bytes n i j g h = same_first i j g.begins.0 h.begins.0 g.fits h.fits (s
 at_row : (bytes : List ℕ) (n : ℕ) (i : Instr) → IsRowAt bytes n i → IsAt bytes n
 at_row bytes n i h = (h.code, h.is_code, (i, h.stands))
 
--- the line of one machine's code is that of the other, which is the same machine
-same_line : (ms : List Debuggee) (m n : ℕ) (d e : Debuggee) (t : List ℕ) → machine_at ms m ≡ Some d → machine_at ms m ≡ Some e → IsLineAt d.machine.code n t → IsLineAt e.machine.code n t
-same_line ms m n d e t f g h = subst (λ (x : Debuggee). IsLineAt x.machine.code n t) (found_once (machine_at ms m) d e f g) h
+same_line : (code : List ℕ) (n : ℕ) (t u : List ℕ) → IsLineAt code n t → IsLineAt code n u → t ≡ u
+same_line code n t u g h = g.spelled ∙ ap line_text (same_row code n g.instr h.instr g.row h.row) ∙ sym h.spelled
 
-pub line : (m n : ℕ) → ShowsOneWay (λ ms a. ShowsLine ms m n a)
-line m n ms Missing Missing g h p q = refl
-line m n ms Missing (Disassembled k x t) g h p q = found_none (machine_at ms m) _ g h.2.1
-line m n ms Missing NoSlot g h p q = found_none (machine_at ms m) _ g h.1
-line m n ms (Disassembled k x t) Missing g h p q = found_none (machine_at ms m) _ h g.2.1
-line m n ms NoSlot Missing g h p q = found_none (machine_at ms m) _ h g.1
-line m n ms (Disassembled k x t) (Disassembled j y u) g h p q =
-    let i = same_line ms m n g.2.0 h.2.0 t g.2.1 h.2.1 g.2.2 in
-    let same : t ≡ u = i.spelled ∙ ap line_text (same_row h.2.0.machine.code n i.instr h.2.2.instr i.row h.2.2.row) ∙ sym h.2.2.spelled in
-    rw (g.0, g.1, h.0, h.1, same) refl
-line m n ms NoSlot NoSlot g h p q = refl
-line m n ms (Disassembled k x t) NoSlot g h p q =
-    let i = same_line ms m n g.2.0 h.0 t g.2.1 h.1 g.2.2 in
-    absurd (h.2 (at_row h.0.machine.code n i.instr i.row))
-line m n ms NoSlot (Disassembled j y u) g h p q =
-    let i = same_line ms m n h.2.0 g.0 u h.2.1 g.1 h.2.2 in
-    absurd (g.2 (at_row g.0.machine.code n i.instr i.row))
-line m n ms NoMemory _ g h p q = absurd (cc)
-line m n ms Missing NoMemory g h p q = absurd (cc)
-line m n ms (Disassembled k x t) NoMemory g h p q = absurd (cc)
-line m n ms NoSlot NoMemory g h p q = absurd (cc)
-line m n ms Missing _ g h p q = absurd h
-line m n ms (Disassembled k x t) _ g h p q = absurd h
-line m n ms NoSlot _ g h p q = absurd h
-line m n ms _ _ g h p q = absurd g
+line_once : (m : ℕ) (code : List ℕ) (n : ℕ) (a b : ShowReply) → ShowsLine code n a → ShowsLine code n b → is_settled (reply_to_show m a) ≡ true → is_settled (reply_to_show m b) ≡ true → a ≡ b
+line_once m code n (show_reply.Disassembled i t) (show_reply.Disassembled j u) g h p q = rw (g.0, h.0, same_line code n t u g.1 h.1) refl
+line_once m code n (show_reply.Disassembled i t) show_reply.NoSlot g h p q = absurd (h (at_row code n g.1.instr g.1.row))
+line_once m code n show_reply.NoSlot (show_reply.Disassembled j u) g h p q = absurd (g (at_row code n h.1.instr h.1.row))
+line_once m code n show_reply.NoSlot show_reply.NoSlot g h p q = refl
+line_once m code n show_reply.NoMemory b g h p q = absurd (cc)
+line_once m code n (show_reply.Disassembled i t) show_reply.NoMemory g h p q = absurd (cc)
+line_once m code n show_reply.NoSlot show_reply.NoMemory g h p q = absurd (cc)
+line_once m code n (show_reply.Disassembled i t) _ g h p q = absurd h
+line_once m code n show_reply.NoSlot _ g h p q = absurd h
+line_once m code n _ _ g h p q = absurd g
+
+show_once : (m : ℕ) (c : ShowCommand) (d : Debuggee) (a b : ShowReply) → Shows c d a → Shows c d b → is_settled (reply_to_show m a) ≡ true → is_settled (reply_to_show m b) ≡ true → a ≡ b
+show_once m Regs d (show_reply.Registers s) (show_reply.Registers t) g h p q = ap show_reply.Registers (g ∙ sym h)
+show_once m Regs d (show_reply.Registers s) _ g h p q = absurd h
+show_once m Out d (show_reply.Emitted v) (show_reply.Emitted u) g h p q = ap show_reply.Emitted (g ∙ sym h)
+show_once m Out d (show_reply.Emitted v) _ g h p q = absurd h
+show_once m (Stack o z) d a b g h p q = decides_once (λ r. o + z ≤ length d.machine.stack) (show_reply.Outside ∷ []) (show_reply.Bytes (take z (drop o d.machine.stack))) a b
+    (bytes_first m d.machine.stack o z a g p) (bytes_first m d.machine.stack o z b h q)
+show_once m (Line n) d a b g h p q = line_once m d.machine.code n a b g h p q
+show_once m _ d _ _ g h p q = absurd g
+
+-- ---- steps
+
+abbrev debuggee : MachineState → DebugState → Debuggee
+debuggee m d = record { machine = m; debugger = d }
+
+walk_once : (who : ℕ) (w : Way) (old x y : Debuggee) (s t u : StoreState) (a b : StepReply) → Walks (store_memory who) w old s a x t → Walks (store_memory who) w old s b y u
+    → (a ≡ b) × (x ≡ y) × (t ≡ u)
+walk_once who w old x y s t u a b d e =
+    let k = steps_one_way (store_memory who) (store_determined who) old.machine d.machine e.machine s t u d.answer e.answer d.step e.step in (
+      d.told ∙ ap (λ (r : Stepped). reply_after r d.machine.slot old.debugger) k.0 ∙ ap (λ (m : MachineState). reply_after e.answer m.slot old.debugger) k.1 ∙ sym e.told,
+      d.changed ∙ ap (λ (r : Stepped). debuggee d.machine (debugged w r old.debugger)) k.0 ∙ ap (λ (m : MachineState). debuggee m (debugged w e.answer old.debugger)) k.1 ∙ sym e.changed,
+      k.2,
+    )
+
+-- a machine is held back or it isn't
+not_both : {X : Type 0} (w : Way) (d : Debuggee) → holds_back w d ≡ true → holds_back w d ≡ false → X
+not_both w d h k = absurd (cc)
+
+step_once : (who : ℕ) (w : Way) (old x y : Debuggee) (s t u : StoreState) (a b : StepReply) → AnswersStep (store_memory who) w old s a x t → AnswersStep (store_memory who) w old s b y u
+    → (a ≡ b) × (x ≡ y) × (t ≡ u)
+step_once who w old x y s t u (step_reply.Paused i) (step_reply.Paused j) g h =
+    let e : i ≡ j = g.slot_is ∙ sym h.slot_is in
+    (ap step_reply.Paused e, g.changed ∙ ap (λ k. record old { debugger = with_pause k old.debugger }) e ∙ sym h.changed, g.same ∙ sym h.same)
+step_once who w old x y s t u (step_reply.Paused i) b g h = not_both w old g.held h.goes
+step_once who w old x y s t u a (step_reply.Paused j) g h = not_both w old h.held g.goes
+step_once who w old x y s t u a b g h = walk_once who w old x y s t u a b g h
+
+-- ---- debugging
+
+debug_once : (c : DebugCommand) (d x y : Debuggee) (a b : Debugged) → DebugsMachine c d a x → DebugsMachine c d b y → (a ≡ b) × (x ≡ y)
+debug_once c d x y a b g h =
+    let e = decides_once (Needs c d.machine.code d.debugger) (refusals_of c) debug_reply.Done a b g.0.0 h.0.0 in
+    (e, g.1 ∙ ap (λ (s : DebugState). record d { debugger = s }) (g.0.1 ∙ ap (λ (o : Debugged). left_by o d.debugger (change_of c d.debugger)) e ∙ sym h.0.1) ∙ sym h.1)
+
+-- ---- all commands on machines
+
+command_once : (who : ℕ) (c : MachineCommand) (d x y : Debuggee) (s t u : StoreState) (a b : Reply) → AnswersCommand (store_memory who) d s who c a x t
+    → AnswersCommand (store_memory who) d s who c b y u → is_settled a ≡ true → is_settled b ≡ true → (a ≡ b) × (x ≡ y) × (t ≡ u)
+command_once who (Step w) d x y s t u a b g h p q =
+    let e = step_once who w d x y s t u g.0 h.0 g.2 h.2 in (g.1 ∙ ap (reply_to_step who) e.0 ∙ sym h.1, e.1, e.2)
+command_once who (Show c) d x y s t u a b g h p q =
+    let e = show_once who c d g.0 h.0 g.2 h.2 (sym (ap is_settled g.1) ∙ p) (sym (ap is_settled h.1) ∙ q) in
+    (g.1 ∙ ap (reply_to_show who) e ∙ sym h.1, g.3 ∙ sym h.3, g.4 ∙ sym h.4)
+command_once who (Debug c) d x y s t u a b g h p q =
+    let e = debug_once c d x y g.0 h.0 g.2 h.2 in (g.1 ∙ ap reply_to_debug e.0 ∙ sym h.1, e.1, g.3 ∙ sym h.3)
+
+abbrev Same : List Debuggee → List Debuggee → StoreState → StoreState → Reply → Reply → Type 0
+Same new other t u a b = (a ≡ b) × (new ≡ other) × (t ≡ u)
+
+finds_once : (who : ℕ) (c : MachineCommand) (old new other : List Debuggee) (s t u : StoreState) (a b : Reply) → Finds (store_memory who) old s who c a new t
+    → Finds (store_memory who) old s who c b other u → is_settled a ≡ true → is_settled b ≡ true → Same new other t u a b
+finds_once who c old new other s t u a b g h p q =
+    let same = found_once (machine_at old who) g.debuggee h.debuggee g.found h.found in
+    let e = command_once who c h.debuggee g.left h.left s t u a b (subst (λ (d : Debuggee). AnswersCommand (store_memory who) d s who c a g.left t) same g.answers) h.answers p q in
+    (e.0, g.changed ∙ ap (λ (d : Debuggee). with_machine old who d) e.1 ∙ sym h.changed, e.2)
+
+pub machine : (who : ℕ) (c : MachineCommand) (old new other : List Debuggee) (s t u : StoreState) (a b : Reply) → AnswersMachine (store_memory who) old s who c a new t
+    → AnswersMachine (store_memory who) old s who c b other u → is_settled a ≡ true → is_settled b ≡ true → Same new other t u a b
+machine who c old new other s t u a b (inl g) (inl h) p q = (g.told ∙ sym h.told, g.unchanged ∙ sym h.unchanged, g.same ∙ sym h.same)
+machine who c old new other s t u a b (inl g) (inr h) p q = found_none (machine_at old who) h.debuggee g.none h.found
+machine who c old new other s t u a b (inr g) (inl h) p q = found_none (machine_at old who) g.debuggee h.none g.found
+machine who c old new other s t u a b (inr g) (inr h) p q = finds_once who c old new other s t u a b g h p q

@@ -4,7 +4,7 @@ use Rattle.std.proofs.lemmas.List.{get_or-set_other}
 use Rattle.object_store.specs.declared.places.Place.{Place}
 use Rattle.object_store.specs.declared.places.Place.TheVariants.{Here}
 use Rattle.object_store.specs.Stores.{StoreState, place_of, with_place}
-use Rattle.world.specs.declared.events.Reply.{Reply}
+use Rattle.world.specs.declared.replies.Reply.{Reply}
 use Rattle.world.specs.WorldState.{WorldState}
 use Rattle.world_laws.specs.Moves.{MovesChangeNoByte}
 use Rattle.world_laws.proofs.StoreCalls.{Move, Refused, Moves}
@@ -22,7 +22,7 @@ store_moves old new n r (Refused q e) = subst (λ (s : StoreState). StoreMoves o
 store_moves old new n r (Moves a b faults m e) = subst (λ (s : StoreState). StoreMoves old n s) (sym e) (moved old n faults b)
 
 pub moves_change_no_byte : MovesChangeNoByte
-moves_change_no_byte old new n c r e h =
-    let a = as_move old new c n r e h in
+moves_change_no_byte old new n k r h =
+    let a = as_move old new n k r h in
     let m = store_moves old.store new.store n r a.move in
     record { machines = ap (λ (w : WorldState). w.machines) a.changed; store = m.same; others = m.others }

@@ -2,10 +2,10 @@
 use Rattle.std.proofs.Common.{◌≡◌, ℕ, suc, false, List, [], ◌∷◌, ◌++◌, length, replicate, sym, ap, ◌∙◌, subst, arith, length-append, length-set, refl}
 use Rattle.object_store.specs.declared.places.Place.TheVariants.{Here}
 use Rattle.object_store.specs.Stores.{StoreState}
-use Rattle.world.specs.declared.events.Reply.{Reply}
-use Rattle.world.specs.declared.events.Reply.TheVariants.{Made}
+use Rattle.world.specs.declared.replies.Reply.{Reply}
+use Rattle.world.specs.declared.replies.Reply.TheVariants.{Made}
 use Rattle.world.specs.Run.{Runs}
-use Rattle.world.specs.Commands.{Command}
+use Rattle.world.specs.declared.events.Event.{Event}
 use Rattle.world.specs.WorldState.{WorldState, world_start}
 use Rattle.world.specs.Answers.{Answers}
 use Rattle.world_laws.specs.Replies.{made_numbers, counted_from, NumbersCountUp}
@@ -43,7 +43,7 @@ adds old new r (Called (Filled n bytes faults q l z e)) = same_count old new r (
 adds old new r (Called (Placed n a b faults m e)) = same_count old new r m.is_unmade (ap count e)
 adds old new r (Walked m before after a q t) = same_count old new r (unmade r q) (step_count m before after old new a t)
 
-counts : (old new : WorldState) (cs : List Command) (rs : List Reply) → Runs Answers old cs rs new → CountsFrom (count old.store) rs
+counts : (old new : WorldState) (cs : List Event) (rs : List Reply) → Runs Answers old cs rs new → CountsFrom (count old.store) rs
 counts old new [] [] h = refl
 counts old new (c ∷ cs) (r ∷ rs) h = adds old.store h.0.store r (store_changes old h.0 c r h.1) rs (counts h.0 new cs rs h.2)
 counts old new [] (r ∷ rs) h = absurd h

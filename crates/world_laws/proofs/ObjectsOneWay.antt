@@ -1,178 +1,122 @@
--- Commands on objects have one answer.
-use Rattle.std.proofs.Common.{◌≡◌, ℕ, Bool, true, false, List, [], refl, ap, sym, ◌∙◌}
-use Rattle.object_store.specs.Stores.{StoreState, StandsAt, with_place}
-use Rattle.object_store.specs.Calls.{RefusesMove, Frees, BeginsLeave, EndsLeave, BeginsReturn, EndsReturn}
+-- Commands on objects have one answer: for each, its replies as the first need that isn't met, and what each leaves.
+use Rattle.std.proofs.Common.{◌≡◌, ℕ, true, List, [], ◌∷◌, length, inl, inr, refl, ap, sym, subst, ◌∙◌}
+use Rattle.memory.specs.Objects.{IsFull, HasRange, range_of}
+use Rattle.object_store.specs.Stores.{StoreState, HasRoom, place_of}
+use Rattle.object_store.specs.Calls.{Frees}
 use Rattle.object_store.specs.declared.places.Place.{Place}
 use Rattle.object_store.specs.declared.places.Place.TheVariants as place
 use Rattle.object_store.specs.declared.places.Moved.{Moved}
 use Rattle.object_store.specs.declared.places.Moved.TheVariants as moved
-use Rattle.memory.specs.Objects.{with_bytes}
-use Rattle.world.specs.declared.events.Reply.{Reply}
-use Rattle.world.specs.declared.events.Reply.TheVariants.{Made, Done, Bytes, NoMemory, Full, NoRoom, Outside, Away}
+use Rattle.debugger.specs.Refusals.{Decides}
+use Rattle.world.specs.declared.replies.Reply.{Reply}
+use Rattle.world.specs.declared.replies.Reply.TheVariants.{Made, Freed, Done, Bytes, NoMemory, Full, NoRoom, Outside, Away}
+use Rattle.world.specs.declared.events.ObjectCommand.{ObjectCommand}
+use Rattle.world.specs.declared.events.ObjectCommand.TheVariants.{Free, Put, Get, Move}
+use Rattle.world.specs.declared.events.Move.{Move as MoveKind}
 use Rattle.world.specs.WorldState.{WorldState}
-use Rattle.world.specs.Answers.{AnswersMake, AnswersPut, AnswersMove, ShowsObject, reply_to_move}
+use Rattle.world.specs.Answers.{AnswersMake, AnswersPut, AnswersGet, AnswersMove, AnswersObject, Moves, moved_reply, place_before, reply_to_move}
 use Rattle.world_laws.specs.Replies.{is_settled}
+use Rattle.world_laws.proofs.Deciding.{decides_once}
+use Rattle.world_laws.proofs.EachMove.{StoreMoves, MoveNeeds, MoveFirsts, MoveLeads, move_refusals, settles, frees_first, frees_leads, decided_so}
 
 -- two answers to one command are the same, where they leave as many faults
 abbrev pub OneWay : (WorldState → Reply → WorldState → Type 0) → Type 0
 OneWay answers = (old new other : WorldState) (a b : Reply) → answers old a new → answers old b other → new.store.faults ≡ other.store.faults
     → is_settled a ≡ true → is_settled b ≡ true → (a ≡ b) × (new ≡ other)
 
-pub same_stores : (old new other : WorldState) → new.store ≡ other.store → new ≡ record old { store = new.store } → other ≡ record old { store = other.store } → new ≡ other
+-- an answer is the first need that isn't met
+abbrev Firsts : (WorldState → Reply → WorldState → Type 0) → (WorldState → Reply → Type 0) → (WorldState → List Reply) → (WorldState → Reply) → Type 0
+Firsts answers Needs refusals done = (old new : WorldState) (r : Reply) → answers old r new → is_settled r ≡ true → Decides (Needs old) (refusals old) (done old) r
+
+-- an answer leads to one state
+abbrev Leads : (WorldState → Reply → WorldState → Type 0) → Type 0
+Leads answers = (old new other : WorldState) (r : Reply) → answers old r new → answers old r other → new ≡ other
+
+decided : (answers : WorldState → Reply → WorldState → Type 0) (Needs : WorldState → Reply → Type 0) (refusals : WorldState → List Reply) (done : WorldState → Reply)
+    → Firsts answers Needs refusals done → Leads answers → OneWay answers
+decided answers Needs refusals done first leads old new other a b g h f p q =
+    let e = decides_once (Needs old) (refusals old) (done old) a b (first old new a g p) (first old other b h q) in
+    (e, leads old new other b (subst (λ (x : Reply). answers old x new) e g) h)
+
+same_stores : (old new other : WorldState) → new.store ≡ other.store → new ≡ record old { store = new.store } → other ≡ record old { store = other.store } → new ≡ other
 same_stores old new other e g h = g ∙ ap (λ (s : StoreState). record old { store = s }) e ∙ sym h
 
--- ---- making and writing
+-- ---- making, writing and reading
+
+abbrev MakeNeeds : ℕ → WorldState → Reply → Type 0
+MakeNeeds z old Full = IsFull old.store.objects → ⊥
+MakeNeeds z old NoRoom = HasRoom old.store z
+MakeNeeds z old _ = Unit {0}
+
+make_first : (z : ℕ) → Firsts (λ old r new. AnswersMake old z r new) (MakeNeeds z) (λ old. Full ∷ NoRoom ∷ []) (λ old. Made (length old.store.objects))
+make_first z old new Full g p = inl ((λ n. n g.0.0), refl)
+make_first z old new NoRoom g p = inr (g.0.0, inl (g.0.1, refl))
+make_first z old new (Made n) g p = inr (g.0.0, inr (g.0.1, ap Made g.0.2))
+make_first z old new NoMemory g p = absurd (cc)
+make_first z old new _ g p = absurd g
+
+make_leads : (z : ℕ) → Leads (λ old r new. AnswersMake old z r new)
+make_leads z old new other Full g h = same_stores old new other (g.0.1 ∙ sym h.0.1) g.1 h.1
+make_leads z old new other NoRoom g h = same_stores old new other (g.0.2 ∙ sym h.0.2) g.1 h.1
+make_leads z old new other NoMemory g h = same_stores old new other (g.0.2 ∙ sym h.0.2) g.1 h.1
+make_leads z old new other (Made n) g h = same_stores old new other (g.0.3 ∙ sym h.0.3) g.1 h.1
+make_leads z old new other _ g h = absurd g
 
 pub make : (z : ℕ) → OneWay (λ old a new. AnswersMake old z a new)
-make z old new other (Made m) (Made n) g h f p q = (ap Made (g.0.2 ∙ sym h.0.2), same_stores old new other (g.0.3 ∙ sym h.0.3) g.1 h.1)
-make z old new other Full Full g h f p q = (refl, same_stores old new other (g.0.1 ∙ sym h.0.1) g.1 h.1)
-make z old new other NoRoom NoRoom g h f p q = (refl, same_stores old new other (g.0.2 ∙ sym h.0.2) g.1 h.1)
-make z old new other (Made m) Full g h f p q = absurd (g.0.0 h.0.0)
-make z old new other (Made m) NoRoom g h f p q = absurd (h.0.1 g.0.1)
-make z old new other Full (Made n) g h f p q = absurd (h.0.0 g.0.0)
-make z old new other Full NoRoom g h f p q = absurd (h.0.0 g.0.0)
-make z old new other NoRoom (Made n) g h f p q = absurd (g.0.1 h.0.1)
-make z old new other NoRoom Full g h f p q = absurd (g.0.0 h.0.0)
-make z old new other NoMemory _ g h f p q = absurd (cc)
-make z old new other (Made m) NoMemory g h f p q = absurd (cc)
-make z old new other Full NoMemory g h f p q = absurd (cc)
-make z old new other NoRoom NoMemory g h f p q = absurd (cc)
-make z old new other (Made m) _ g h f p q = absurd h
-make z old new other Full _ g h f p q = absurd h
-make z old new other NoRoom _ g h f p q = absurd h
-make z old new other _ _ g h f p q = absurd g
+make z = decided (λ old r new. AnswersMake old z r new) (MakeNeeds z) (λ old. Full ∷ NoRoom ∷ []) (λ old. Made (length old.store.objects)) (make_first z) (make_leads z)
 
-pub put : (n o : ℕ) (bytes : List ℕ) → OneWay (λ old a new. AnswersPut old n o bytes a new)
-put n o bytes old new other Done Done g h f p q = (refl, same_stores old new other (g.0.2 ∙ sym h.0.2) g.1 h.1)
-put n o bytes old new other Outside Outside g h f p q = (refl, same_stores old new other (g.0.1 ∙ sym h.0.1) g.1 h.1)
-put n o bytes old new other (Away i) (Away j) g h f p q = (ap Away (g.0 ∙ sym h.0), same_stores old new other (g.1.0.2 ∙ sym h.1.0.2) g.1.1 h.1.1)
-put n o bytes old new other Done Outside g h f p q = absurd (h.0.0 g.0.0)
-put n o bytes old new other Done (Away j) g h f p q = absurd (h.1.0.1 g.0.1)
-put n o bytes old new other Outside Done g h f p q = absurd (g.0.0 h.0.0)
-put n o bytes old new other Outside (Away j) g h f p q = absurd (g.0.0 h.1.0.0)
-put n o bytes old new other (Away i) Done g h f p q = absurd (g.1.0.1 h.0.1)
-put n o bytes old new other (Away i) Outside g h f p q = absurd (h.0.0 g.1.0.0)
-put n o bytes old new other Done _ g h f p q = absurd h
-put n o bytes old new other Outside _ g h f p q = absurd h
-put n o bytes old new other (Away i) _ g h f p q = absurd h
-put n o bytes old new other _ _ g h f p q = absurd g
+-- the range is in the object, which is here
+abbrev RangeNeeds : ℕ → ℕ → ℕ → WorldState → Reply → Type 0
+RangeNeeds n o z old Outside = HasRange old.store.objects n o z
+RangeNeeds n o z old (Away k) = place_of old.store.places n ≡ place.Here
+RangeNeeds n o z old _ = Unit {0}
 
-shows : (s : StoreState) (n o z : ℕ) (a b : Reply) → ShowsObject s n o z a → ShowsObject s n o z b → is_settled a ≡ true → is_settled b ≡ true → a ≡ b
-shows s n o z (Bytes x) (Bytes y) g h p q = ap Bytes (g.2 ∙ sym h.2)
-shows s n o z Outside Outside g h p q = refl
-shows s n o z (Away i) (Away j) g h p q = ap Away (g.0 ∙ sym h.0)
-shows s n o z (Bytes x) Outside g h p q = absurd (h g.0)
-shows s n o z (Bytes x) (Away j) g h p q = absurd (h.2 g.1)
-shows s n o z Outside (Bytes y) g h p q = absurd (g h.0)
-shows s n o z Outside (Away j) g h p q = absurd (g h.1)
-shows s n o z (Away i) (Bytes y) g h p q = absurd (g.2 h.1)
-shows s n o z (Away i) Outside g h p q = absurd (h g.1)
-shows s n o z NoMemory _ g h p q = absurd (cc)
-shows s n o z (Bytes x) NoMemory g h p q = absurd (cc)
-shows s n o z Outside NoMemory g h p q = absurd (cc)
-shows s n o z (Away i) NoMemory g h p q = absurd (cc)
-shows s n o z (Bytes x) _ g h p q = absurd h
-shows s n o z Outside _ g h p q = absurd h
-shows s n o z (Away i) _ g h p q = absurd h
-shows s n o z _ _ g h p q = absurd g
+put_first : (n o : ℕ) (bytes : List ℕ) → Firsts (λ old r new. AnswersPut old n o bytes r new) (RangeNeeds n o (length bytes)) (λ old. Outside ∷ Away n ∷ []) (λ old. Done)
+put_first n o bytes old new Outside g p = inl (g.0.0, refl)
+put_first n o bytes old new (Away k) g p = inr (g.1.0.0, inl (g.1.0.1, ap Away g.0))
+put_first n o bytes old new Done g p = inr (g.0.0, inr (g.0.1, refl))
+put_first n o bytes old new _ g p = absurd g
 
-pub get : (n o z : ℕ) → OneWay (λ old a new. ShowsObject old.store n o z a × (new ≡ old))
-get n o z old new other a b g h f p q = (shows old.store n o z a b g.0 h.0 p q, g.1 ∙ sym h.1)
+put_leads : (n o : ℕ) (bytes : List ℕ) → Leads (λ old r new. AnswersPut old n o bytes r new)
+put_leads n o bytes old new other Outside g h = same_stores old new other (g.0.1 ∙ sym h.0.1) g.1 h.1
+put_leads n o bytes old new other (Away k) g h = same_stores old new other (g.1.0.2 ∙ sym h.1.0.2) g.1.1 h.1.1
+put_leads n o bytes old new other Done g h = same_stores old new other (g.0.2 ∙ sym h.0.2) g.1 h.1
+put_leads n o bytes old new other _ g h = absurd g
+
+put : (n o : ℕ) (bytes : List ℕ) → OneWay (λ old a new. AnswersPut old n o bytes a new)
+put n o bytes = decided (λ old r new. AnswersPut old n o bytes r new) (RangeNeeds n o (length bytes)) (λ old. Outside ∷ Away n ∷ []) (λ old. Done) (put_first n o bytes) (put_leads n o bytes)
+
+abbrev Gets : ℕ → ℕ → ℕ → WorldState → Reply → WorldState → Type 0
+Gets n o z old r new = AnswersGet old.store n o z r × (new ≡ old)
+
+get_first : (n o z : ℕ) → Firsts (Gets n o z) (RangeNeeds n o z) (λ old. Outside ∷ Away n ∷ []) (λ old. Bytes (range_of old.store.objects n o z))
+get_first n o z old new Outside g p = inl (g.0, refl)
+get_first n o z old new (Away k) g p = inr (g.0.1, inl (g.0.2, ap Away g.0.0))
+get_first n o z old new (Bytes x) g p = inr (g.0.0, inr (g.0.1, ap Bytes g.0.2))
+get_first n o z old new NoMemory g p = absurd (cc)
+get_first n o z old new _ g p = absurd g.0
+
+get : (n o z : ℕ) → OneWay (Gets n o z)
+get n o z = decided (Gets n o z) (RangeNeeds n o z) (λ old. Outside ∷ Away n ∷ []) (λ old. Bytes (range_of old.store.objects n o z)) (get_first n o z) (λ old new other r g h. g.1 ∙ sym h.1)
 
 -- ---- moves
 
-abbrev is_faulty : Moved → Bool
-is_faulty (moved.Fault f) = true
-is_faulty _ = false
-
-settles : (told : Reply) (back : Place) (n : ℕ) (m : Moved) → is_settled (reply_to_move told back n m) ≡ true → is_faulty m ≡ false
-settles told back n (moved.Fault f) e = absurd (cc)
-settles told back n _ e = refl
-
-abbrev MovesOneWay : (StoreState → ℕ → Moved → StoreState → Type 0) → Type 0
-MovesOneWay moves = (old s t : StoreState) (n : ℕ) (m k : Moved) → moves old n m s → moves old n k t → s.faults ≡ t.faults → is_faulty m ≡ false → is_faulty k ≡ false → (m ≡ k) × (s ≡ t)
-
-stands : {X : Type 0} (from : Place) (old s : StoreState) (n : ℕ) (m : Moved) → RefusesMove from old n m s → StandsAt from old n → X
-stands from old s n moved.NoObject g h = absurd (g.0 h.0)
-stands from old s n (moved.Misplaced p) g h = absurd (g.1 (sym g.0.1 ∙ h.1))
-stands from old s n _ g h = absurd g
-
-refuses : (from : Place) (old s t : StoreState) (n : ℕ) (m k : Moved) → RefusesMove from old n m s → RefusesMove from old n k t → (m ≡ k) × (s ≡ t)
-refuses from old s t n moved.NoObject moved.NoObject g h = (refl, g.1 ∙ sym h.1)
-refuses from old s t n (moved.Misplaced p) (moved.Misplaced q) g h = (ap moved.Misplaced (sym g.0.1 ∙ h.0.1), g.2 ∙ sym h.2)
-refuses from old s t n moved.NoObject (moved.Misplaced q) g h = absurd (g.0 h.0.0)
-refuses from old s t n (moved.Misplaced p) moved.NoObject g h = absurd (h.0 g.0.0)
-refuses from old s t n moved.NoObject _ g h = absurd h
-refuses from old s t n (moved.Misplaced p) _ g h = absurd h
-refuses from old s t n _ _ g h = absurd g
-
-frees : MovesOneWay Frees
-frees old s t n moved.Done moved.Done g h f p q = (refl, g.3 ∙ ap (λ k. record old { objects = with_bytes old.objects n []; faults = k }) f ∙ sym h.3)
-frees old s t n moved.Scoped moved.Scoped g h f p q = (refl, g.2 ∙ sym h.2)
-frees old s t n moved.Done moved.Scoped g h f p q = absurd (g.1 h.1)
-frees old s t n moved.Scoped moved.Done g h f p q = absurd (h.1 g.1)
-frees old s t n moved.Done k g h f p q = stands place.Here old t n k h g.0
-frees old s t n moved.Scoped k g h f p q = stands place.Here old t n k h g.0
-frees old s t n m moved.Done g h f p q = stands place.Here old s n m g h.0
-frees old s t n m moved.Scoped g h f p q = stands place.Here old s n m g h.0
-frees old s t n m k g h f p q = refuses place.Here old s t n m k g h
-
-begins_leave : MovesOneWay BeginsLeave
-begins_leave old s t n moved.Done moved.Done g h f p q = (refl, g.2 ∙ sym h.2)
-begins_leave old s t n moved.Scoped moved.Scoped g h f p q = (refl, g.2 ∙ sym h.2)
-begins_leave old s t n moved.Done moved.Scoped g h f p q = absurd (g.1 h.1)
-begins_leave old s t n moved.Scoped moved.Done g h f p q = absurd (h.1 g.1)
-begins_leave old s t n moved.Done k g h f p q = stands place.Here old t n k h g.0
-begins_leave old s t n moved.Scoped k g h f p q = stands place.Here old t n k h g.0
-begins_leave old s t n m moved.Done g h f p q = stands place.Here old s n m g h.0
-begins_leave old s t n m moved.Scoped g h f p q = stands place.Here old s n m g h.0
-begins_leave old s t n m k g h f p q = refuses place.Here old s t n m k g h
-
-ends_leave : MovesOneWay EndsLeave
-ends_leave old s t n moved.Done moved.Done g h f p q = (refl, g.2 ∙ ap (λ k. record (with_place old n place.Far) { faults = k }) f ∙ sym h.2)
-ends_leave old s t n (moved.Fault x) k g h f p q = absurd (cc)
-ends_leave old s t n m (moved.Fault x) g h f p q = absurd (cc)
-ends_leave old s t n moved.Done k g h f p q = stands place.Leaving old t n k h g.0
-ends_leave old s t n m moved.Done g h f p q = stands place.Leaving old s n m g h.0
-ends_leave old s t n m k g h f p q = refuses place.Leaving old s t n m k g h
-
-begins_return : MovesOneWay BeginsReturn
-begins_return old s t n moved.Done moved.Done g h f p q = (refl, g.2 ∙ sym h.2)
-begins_return old s t n moved.NoRoom moved.NoRoom g h f p q = (refl, g.2 ∙ sym h.2)
-begins_return old s t n moved.Done moved.NoRoom g h f p q = absurd (h.1 g.1)
-begins_return old s t n moved.NoRoom moved.Done g h f p q = absurd (g.1 h.1)
-begins_return old s t n moved.Done k g h f p q = stands place.Far old t n k h g.0
-begins_return old s t n moved.NoRoom k g h f p q = stands place.Far old t n k h g.0
-begins_return old s t n m moved.Done g h f p q = stands place.Far old s n m g h.0
-begins_return old s t n m moved.NoRoom g h f p q = stands place.Far old s n m g h.0
-begins_return old s t n m k g h f p q = refuses place.Far old s t n m k g h
-
-ends_return : MovesOneWay (EndsReturn true)
-ends_return old s t n moved.Done moved.Done g h f p q = (refl, g.1 ∙ sym h.1)
-ends_return old s t n (moved.Fault x) k g h f p q = absurd (cc)
-ends_return old s t n m (moved.Fault x) g h f p q = absurd (cc)
-ends_return old s t n moved.Done k g h f p q = stands place.Returning old t n k h g.0
-ends_return old s t n m moved.Done g h f p q = stands place.Returning old s n m g h.0
-ends_return old s t n m k g h f p q = refuses place.Returning old s t n m k g h
-
-move : (moves : StoreState → ℕ → Moved → StoreState → Type 0) (told : Reply) (back : Place) (n : ℕ) → MovesOneWay moves → OneWay (λ old a new. AnswersMove moves told back old n a new)
-move moves told back n way old new other a b g h f p q =
+moved_once : (moves : StoreMoves) (from : Place) (more : List Moved) → MoveFirsts moves from more → MoveLeads moves → (told : Reply) (back : Place) (n : ℕ)
+    → OneWay (λ old a new. AnswersMove moves told back old n a new)
+moved_once moves from more first leads told back n old new other a b g h f p q =
     let x = settles told back n g.moved (sym (ap is_settled g.told) ∙ p) in
     let y = settles told back n h.moved (sym (ap is_settled h.told) ∙ q) in
-    let e = way old.store new.store other.store n g.moved h.moved g.move h.move f x y in
-    (g.told ∙ ap (reply_to_move told back n) e.0 ∙ sym h.told, same_stores old new other e.1 g.changed h.changed)
+    let e = decides_once (MoveNeeds from old.store n) (move_refusals old.store n more) moved.Done g.moved h.moved (first old.store new.store n g.moved g.move x) (first old.store other.store n h.moved h.move y) in
+    let s = leads old.store new.store other.store n h.moved (subst (λ (m : Moved). moves old.store n m new.store) e g.move) h.move f y in
+    (g.told ∙ ap (reply_to_move told back n) e ∙ sym h.told, same_stores old new other s g.changed h.changed)
 
-pub free : (told : Reply) (back : Place) (n : ℕ) → OneWay (λ old a new. AnswersMove Frees told back old n a new)
-free told back n = move Frees told back n frees
+moving : (m : MoveKind) (n : ℕ) → OneWay (λ old a new. AnswersMove (Moves m) (moved_reply m n) (place_before m) old n a new)
+moving m n = let o = decided_so m in moved_once (Moves m) o.start o.more o.first o.leads (moved_reply m n) (place_before m) n
 
-pub leave : (told : Reply) (back : Place) (n : ℕ) → OneWay (λ old a new. AnswersMove BeginsLeave told back old n a new)
-leave told back n = move BeginsLeave told back n begins_leave
+-- ---- all commands on objects
 
-pub left : (told : Reply) (back : Place) (n : ℕ) → OneWay (λ old a new. AnswersMove EndsLeave told back old n a new)
-left told back n = move EndsLeave told back n ends_leave
-
-pub return' : (told : Reply) (back : Place) (n : ℕ) → OneWay (λ old a new. AnswersMove BeginsReturn told back old n a new)
-return' told back n = move BeginsReturn told back n begins_return
-
-pub returned : (told : Reply) (back : Place) (n : ℕ) → OneWay (λ old a new. AnswersMove (EndsReturn true) told back old n a new)
-returned told back n = move (EndsReturn true) told back n ends_return
+pub object : (n : ℕ) (c : ObjectCommand) → OneWay (λ old a new. AnswersObject old n c a new)
+object n Free = moved_once Frees place.Here (moved.Scoped ∷ []) frees_first frees_leads (Freed n) place.Here n
+object n (Put offset bytes) = put n offset bytes
+object n (Get offset size) = get n offset size
+object n (Move m) = moving m n

@@ -13,9 +13,9 @@ use Rattle.machine.specs.declared.state.Stepped.{Stepped}
 use Rattle.machine.specs.MachineState.{MachineState}
 use Rattle.machine.specs.TableStep.{TableStep}
 use Rattle.machine.proofs.Carried.{step_carries}
-use Rattle.world.specs.declared.events.Reply.{Reply}
+use Rattle.world.specs.declared.replies.Reply.{Reply}
 use Rattle.world.specs.Run.{Runs}
-use Rattle.world.specs.Commands.{Command}
+use Rattle.world.specs.declared.events.Event.{Event}
 use Rattle.world.specs.WorldState.{WorldState, world_start}
 use Rattle.world.specs.Answers.{Answers}
 use Rattle.world.specs.Places.{placed, place_from}
@@ -117,7 +117,7 @@ there k old new r p (Walked m before after a q t) = ap (λ (ps : List Place). pl
 
 -- ---- a run
 
-read_from : (n : ℕ) (old new : WorldState) (cs : List Command) (rs : List Reply) → HasPlaces old.store → Runs Answers old cs rs new → place_of new.store.places n ≡ place_from n (place_of old.store.places n) rs
+read_from : (n : ℕ) (old new : WorldState) (cs : List Event) (rs : List Reply) → HasPlaces old.store → Runs Answers old cs rs new → place_of new.store.places n ≡ place_from n (place_of old.store.places n) rs
 read_from n old new [] [] p h = ap (λ (w : WorldState). place_of w.store.places n) h
 read_from n old new (c ∷ cs) (r ∷ rs) p h =
     let g = store_changes old h.0 c r h.1 in

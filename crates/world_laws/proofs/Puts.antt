@@ -8,9 +8,9 @@ use Rattle.memory.specs.Objects.{bytes_of, HasRange, range_of, with_range}
 use Rattle.memory.proofs.Lengths.{length-replaced}
 use Rattle.object_store.specs.Stores.{StoreState, place_of}
 use Rattle.object_store.specs.declared.places.Place.TheVariants as place
-use Rattle.world.specs.declared.events.Reply.{Reply}
-use Rattle.world.specs.declared.events.Reply.TheVariants.{Done, Bytes, NoMemory, Outside, Away}
-use Rattle.world.specs.Answers.{ShowsObject}
+use Rattle.world.specs.declared.replies.Reply.{Reply}
+use Rattle.world.specs.declared.replies.Reply.TheVariants.{Done, Bytes, NoMemory, Outside, Away}
+use Rattle.world.specs.Answers.{AnswersGet}
 use Rattle.world_laws.specs.Replies.{PutsStayApart, GetsWhatWasPut}
 
 abbrev bytes_at : ℕ → StoreState → List ℕ
@@ -47,7 +47,7 @@ still_there objects n o bytes h =
     (omega (arith, same, kept, h.0), omega (arith, same, kept, h.1))
 
 got : (s t : StoreState) (n o : ℕ) (bytes : List ℕ) (reply : Reply) → HasRange s.objects n o (length bytes) → place_of s.places n ≡ place.Here
-    → t ≡ record s { objects = with_range s.objects n o bytes } → ShowsObject t n o (length bytes) reply → (reply ≡ Bytes bytes) ⊎ (reply ≡ NoMemory)
+    → t ≡ record s { objects = with_range s.objects n o bytes } → AnswersGet t n o (length bytes) reply → (reply ≡ Bytes bytes) ⊎ (reply ≡ NoMemory)
 got s t n o bytes (Bytes shown) r p e h = inl (ap Bytes (h.2 ∙ ap (λ (x : StoreState). range_of x.objects n o (length bytes)) e ∙ got_back s.objects n o bytes r))
 got s t n o bytes NoMemory r p e h = inr refl
 got s t n o bytes Outside r p e h = absurd (h (subst (λ (x : StoreState). HasRange x.objects n o (length bytes)) (sym e) (still_there s.objects n o bytes r)))

@@ -12,8 +12,8 @@ use Rattle.object_store.specs.declared.places.Place.{Place}
 use Rattle.object_store.specs.declared.places.Place.TheVariants.{Here}
 use Rattle.object_store.specs.Stores.{StoreState, window_count, IsScoped, Touches, holders, place_of, weight, window_of}
 use Rattle.object_store.proofs.Counting.{none_held}
-use Rattle.world.specs.declared.events.Reply.{Reply}
-use Rattle.world.specs.Commands.{Command}
+use Rattle.world.specs.declared.replies.Reply.{Reply}
+use Rattle.world.specs.declared.events.Event.{Event}
 use Rattle.world.specs.WorldState.{WorldState, world_start}
 use Rattle.world.specs.Answers.{Answers}
 use Rattle.world_laws.specs.Moves.{ScopesStay}
@@ -107,7 +107,7 @@ changed_here old new r f (Walked m before after a q t) = step_keeps HasScopesHer
 abbrev Holds : WorldState → Type 0
 Holds w = HasScopesHere w.store
 
-one : (old new : WorldState) (c : Command) (r : Reply) → Holds old → Answers old c r new → Holds new
+one : (old new : WorldState) (c : Event) (r : Reply) → Holds old → Answers old c r new → Holds new
 one old new c r o h = changed_here old.store new.store r o (store_changes old new c r h)
 
 first : (budget faults : ℕ) → Holds (world_start budget faults)

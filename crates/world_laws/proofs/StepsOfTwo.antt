@@ -1,4 +1,4 @@
--- Steps of two machines over one store: what they do to it may change places.
+-- Steps of two machines over one store: what they do to it commute.
 use Rattle.std.proofs.Common.{◌≡◌, ◌≢◌, ℕ, Bool, true, false, List, [], length, get_or, set, refl, sym, ap, ◌∙◌, subst, inl, inr}
 use Rattle.std.proofs.lemmas.List.{get_or-set_other}
 use Rattle.memory.specs.declared.access.Op.{Op}

@@ -97,7 +97,7 @@ case_ends who old before mid after o s e w (inl d) c =
 case_ends who old before mid after o s e w (inr (inl d)) c =
     record { stop = d.stop; answer = ap (λ (x : Outcome). x.answer) d.becomes; window = closed_empty who o.closes mid after (ap (λ (x : Outcome). x.closes) d.becomes) c }
 case_ends who old before mid after o s e w (inr (inr d)) c =
-    told_ends who old o mid after s d.attempts.runs e (subst (MayStop old) (sym d.becomes) (told_stops (work_of d.instr old.registers) d.instr old d.said)) c
+    told_ends who old o mid after s d.attempts.runs e (subst (MayStop old) (sym d.becomes) (told_stops (work_of d.instr old) d.instr old d.said)) c
 
 pub ends_stopped : (who : ℕ) (old new : MachineState) (before after : StoreState) (a : Stepped) (s : Stop) → TableStep (store_memory who) old before a new after → new.stop ≡ Some s
     → ((t : Stop) → old.stop ≡ Some t → window_of before.windows who ≡ []) → EndsStopped who a after

@@ -1,15 +1,11 @@
 -- What a call does to the store where it does something, and what it does where it is a move.
-use Rattle.std.proofs.Common.{◌≡◌, ◌+◌, ◌≤◌, ℕ, nat_eq, Bool, true, false, cond, List, [], ◌∷◌, ◌++◌, length, replicate, refl, arith}
+use Rattle.std.proofs.Common.{◌≡◌, ◌+◌, ◌≤◌, ℕ, nat_eq, Bool, true, false, cond, List, [], ◌∷◌, ◌++◌, length, replicate, refl}
 use Rattle.memory.specs.Objects.{IsLive, bytes_of, with_bytes}
 use Rattle.object_store.specs.declared.places.Place.{Place}
 use Rattle.object_store.specs.declared.places.Place.TheVariants as place
-use Rattle.object_store.specs.declared.places.Moved.{Moved}
-use Rattle.object_store.specs.declared.places.Moved.TheVariants as moved
 use Rattle.object_store.specs.Stores.{StoreState, StandsAt, HasRoom, HasRisen, IsScoped, near_bytes, near_length, with_place}
-use Rattle.object_store.specs.Calls.{RefusesMove, BeginsLeave, EndsLeave, BeginsReturn, EndsReturn}
-use Rattle.world.specs.declared.events.Reply.{Reply}
-use Rattle.world.specs.declared.events.Reply.TheVariants as reply
-use Rattle.world.specs.Answers.{reply_to_move}
+use Rattle.world.specs.declared.replies.Reply.{Reply}
+use Rattle.world.specs.declared.replies.Reply.TheVariants as reply
 use Rattle.world.specs.Places.{placed}
 use Rattle.world_laws.specs.Replies.{is_refusal}
 
@@ -78,34 +74,3 @@ pub data StoreCall (old : StoreState) (r : Reply) (new : StoreState) : Type 0 wh
 pub data Move (old : StoreState) (n : ℕ) (r : Reply) (new : StoreState) : Type 0 where
   Refused : is_placing r ≡ false → new ≡ old → Move old n r new
   Moves : («from» to : Place) (faults : ℕ) → IsMove old n «from» to faults r → new ≡ record (with_place old n to) { faults = faults } → Move old n r new
-
-refused : (at : Place) (old new : StoreState) (n : ℕ) (m : Moved) (told : Reply) (back : Place) → RefusesMove at old n m new → Move old n (reply_to_move told back n m) new
-refused at old new n moved.NoObject told back h = Refused refl h.1
-refused at old new n (moved.Misplaced q) told back h = Refused refl h.2
-refused at old new n _ told back h = absurd h
-
-pub begun_leave : (old new : StoreState) (n : ℕ) (m : Moved) → BeginsLeave old n m new → Move old n (reply_to_move (reply.Leaving n) place.Here n m) new
-begun_leave old new n moved.Done h = Moves place.Here place.Leaving old.faults
-    (record { stands = h.0; fits = λ g. omega (arith, g); unscoped = λ e. h.1; done = refl; told = λ k p. refl; is_unmade = refl; fault = λ k p e. absurd (cc) }) h.2
-begun_leave old new n moved.Scoped h = Refused refl h.2
-begun_leave old new n m h = refused place.Here old new n m (reply.Leaving n) place.Here h
-
-pub ended_leave : (old new : StoreState) (n : ℕ) (m : Moved) → EndsLeave old n m new → Move old n (reply_to_move (reply.Left n) place.Here n m) new
-ended_leave old new n moved.Done h = Moves place.Leaving place.Far new.faults
-    (record { stands = h.0; fits = λ g. omega (arith, g); unscoped = λ e. absurd (cc); done = refl; told = λ k p. refl; is_unmade = refl; fault = λ k p e. absurd (cc) }) h.2
-ended_leave old new n (moved.Fault f) h = Moves place.Leaving place.Here new.faults
-    (record { stands = h.0; fits = λ g. omega (arith, g); unscoped = λ e. absurd (cc); done = refl; told = λ k p. refl; is_unmade = refl; fault = λ k p e. (h.1, cc, cc) }) h.2
-ended_leave old new n m h = refused place.Leaving old new n m (reply.Left n) place.Here h
-
-pub begun_return : (old new : StoreState) (n : ℕ) (m : Moved) → BeginsReturn old n m new → Move old n (reply_to_move (reply.Returning n) place.Far n m) new
-begun_return old new n moved.Done h = Moves place.Far place.Returning old.faults
-    (record { stands = h.0; fits = λ g. omega (arith, h.1); unscoped = λ e. absurd (cc); done = refl; told = λ k p. refl; is_unmade = refl; fault = λ k p e. absurd (cc) }) h.2
-begun_return old new n moved.NoRoom h = Refused refl h.2
-begun_return old new n m h = refused place.Far old new n m (reply.Returning n) place.Far h
-
-pub ended_return : (old new : StoreState) (n : ℕ) (m : Moved) → EndsReturn true old n m new → Move old n (reply_to_move (reply.Home n) place.Far n m) new
-ended_return old new n moved.Done h = Moves place.Returning place.Here old.faults
-    (record { stands = h.0; fits = λ g. omega (arith, g); unscoped = λ e. absurd (cc); done = refl; told = λ k p. refl; is_unmade = refl; fault = λ k p e. absurd (cc) }) h.1
-ended_return old new n (moved.Fault f) h = Moves place.Returning place.Far new.faults
-    (record { stands = h.0; fits = λ g. omega (arith, g); unscoped = λ e. absurd (cc); done = refl; told = λ k p. refl; is_unmade = refl; fault = λ k p e. (h.1, cc, cc) }) h.2
-ended_return old new n m h = refused place.Returning old new n m (reply.Home n) place.Far h

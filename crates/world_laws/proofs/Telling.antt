@@ -5,7 +5,8 @@ use Rattle.isa_table.specs.declared.instr.Instr.{Instr}
 use Rattle.memory.specs.declared.access.Reach.{Reach}
 use Rattle.memory.specs.declared.access.Reach.TheVariants as reach
 use Rattle.memory.specs.Access.{WritesAt, writes}
-use Rattle.memory.specs.Objects.{bytes_of, map_reaches}
+use Rattle.memory.specs.Objects.{bytes_of}
+use Rattle.memory.specs.MapMemory.{map_reaches}
 use Rattle.memory.proofs.Accesses.{bytes_stay, others, lengths}
 use Rattle.object_store.specs.Stores.{StoreState, store_memory, Touches}
 use Rattle.machine.specs.declared.state.Accessing.{Accessing}
@@ -77,11 +78,10 @@ work_told who (Accesses x) i m said a before mid h s = access_told who (nat_eq x
 case_told : (who : ℕ) (m : MachineState) (before mid : StoreState) (o : Outcome) → StepCase (store_memory who) m before o mid → ChangesTold o.answer before.objects mid.objects
 case_told who m before mid o (inl d) = same_store o.answer before mid d.same
 case_told who m before mid o (inr (inl d)) = same_store o.answer before mid d.same
-case_told who m before mid o (inr (inr d)) = work_told who (work_of d.instr m.registers) d.instr m d.said o.answer before mid d.answers (ap (λ (x : Outcome). x.answer) d.becomes)
+case_told who m before mid o (inr (inr d)) = work_told who (work_of d.instr m) d.instr m d.said o.answer before mid d.answers (ap (λ (x : Outcome). x.answer) d.becomes)
 
 pub steps_tell_what_they_write : StepsTellWhatTheyWrite
-steps_tell_what_they_write old new way m r s =
+steps_tell_what_they_write m way old new before after r s =
     let t = s.step in
-    let x = s.debuggee.machine in
-    subst (λ (o : Objects). ChangesTold s.answer old.store.objects o) (sym (closed_objects m t.closes t.mid new.store t.closed))
-    (case_told m x old.store t.mid _ (step_case (store_memory m) x.stop x old.store _ t.mid refl t.steps))
+    subst (λ (o : Objects). ChangesTold s.answer before.objects o) (sym (closed_objects m t.closes t.mid after t.closed))
+    (case_told m old.machine before t.mid _ (step_case (store_memory m) old.machine.stop old.machine before _ t.mid refl t.steps))

@@ -1,21 +1,22 @@
--- Steps of two machines that come to no common object may change places.
-use Rattle.std.proofs.Common.{◌≡◌, ◌≢◌, ℕ, List, Option, Some, None, refl, sym, ap, ◌∙◌, subst}
+-- Steps of two machines that come to no common object commute.
+use Rattle.std.proofs.Common.{◌≡◌, ◌≢◌, ℕ, List, Option, Some, None, inl, refl, sym, ap, ◌∙◌, subst}
 use Rattle.object_store.specs.Stores.{StoreState, store_memory}
 use Rattle.machine.specs.declared.state.Stepped.{Stepped}
 use Rattle.machine.specs.MachineState.{MachineState}
 use Rattle.machine.specs.TableStep.{TableStep}
 use Rattle.machine.specs.Laws.{AccessesNext}
-use Rattle.debugger.specs.Steps as debugging
-use Rattle.world.specs.declared.debuggee.Debuggee.{Debuggee}
-use Rattle.world.specs.declared.events.Reply.{Reply}
+use Rattle.debugger.specs.Steps.{with_pause, debugged}
+use Rattle.debugger.specs.declared.commands.Way.{Way}
+use Rattle.debugger.specs.declared.commands.MachineCommand.TheVariants.{Step}
+use Rattle.debugger.specs.declared.debuggee.Debuggee.{Debuggee}
+use Rattle.world.specs.declared.replies.Reply.{Reply}
 use Rattle.world.specs.WorldState.{WorldState, machine_at, with_machine}
-use Rattle.world.specs.Steps.{Way, Steps, AnswersStep, debugged}
-use Rattle.world.specs.Steps.Way.{ByStep, ByOne}
 use Rattle.world.specs.Answers.{Answers}
-use Rattle.world_laws.specs.Stepping.{stepping, Comes, StepsChangePlaces}
+use Rattle.world.specs.declared.events.Event.TheVariants.{Machine}
+use Rattle.world.specs.Machines.{Misses}
+use Rattle.world_laws.specs.Stepping.{Comes, StepsCommute}
 use Rattle.world_laws.proofs.Machines.{not_zero, other_number, machines_swap}
-use Rattle.world_laws.proofs.Replying.{Misses, Halts}
-use Rattle.world_laws.proofs.Answered.{StepAnswer, NoMachine, Pause, TableRow, parted, stepped_so, lacking, halting}
+use Rattle.world_laws.proofs.Answered.{Steps, Halts, StepsAt, StepAnswer, NoMachine, Pause, TableRow, parted, stepped_so, halting}
 use Rattle.world_laws.proofs.StepsOfTwo.{store_steps_commute}
 
 -- ---- what a command does to its machine, and to the store
@@ -55,34 +56,38 @@ record Local (way : Way) (m : ℕ) (r : Reply) (old : List Debuggee) (before : S
   number : IfPut put (m ≢ 0)
   goes : (n : ℕ) → Reaches kind n → Going old m n
   -- among any machines, if this one is the same
-  again : (xs : List Debuggee) (x y : StoreState) → machine_at xs m ≡ machine_at old m → Does m kind x y → AnswersStep (store_memory m) way xs x m r (put_in xs m put) y
+  again : (xs : List Debuggee) (x y : StoreState) → machine_at xs m ≡ machine_at old m → Does m kind x y → StepsAt (store_memory m) way xs x m r (put_in xs m put) y
 
 local_none : (way : Way) (m : ℕ) (r : Reply) (old new : List Debuggee) (before after : StoreState) → Misses old before m r new after → Local way m r old before new after
 local_none way m r old new before after h = record {
   kind = Idle;
   put = None;
   does = h.same;
-  changed = h.changed;
+  changed = h.unchanged;
   number = tt;
   goes = λ n e. absurd e;
-  again = λ xs x y e d. lacking (store_memory m) way xs x m r xs y (record { told = h.told; missing = e ∙ h.missing; changed = refl; same = d });
+  again = λ xs x y e d. inl (record { none = e ∙ h.none; told = h.told; unchanged = refl; same = d });
 }
 
 local_pause : (way : Way) (m : ℕ) (r : Reply) (old new : List Debuggee) (before after : StoreState) → Halts way old before m r new after → Local way m r old before new after
 local_pause way m r old new before after h =
-    let p = h.pauses in
-    let e : Debuggee = record p.debuggee { debugger = debugging.before h.slot p.debuggee.debugger } in
+    let e : Debuggee = record h.debuggee { debugger = with_pause h.slot h.debuggee.debugger } in
     record {
       kind = Idle;
       put = Some e;
-      does = p.same;
-      changed = p.changed;
-      number = not_zero old m p.debuggee p.found;
+      does = h.same;
+      changed = h.changed;
+      number = not_zero old m h.debuggee h.found;
       goes = λ n e. absurd e;
       again = λ xs x y f d. halting (store_memory m) way xs x m r (with_machine xs m e) y (record {
+        debuggee = h.debuggee;
+        found = f ∙ h.found;
         slot = h.slot;
         told = h.told;
-        pauses = record { debuggee = p.debuggee; found = f ∙ p.found; held = p.held; slot_is = p.slot_is; changed = refl; same = d };
+        held = h.held;
+        slot_is = h.slot_is;
+        changed = refl;
+        same = d;
       });
     }
 
@@ -129,18 +134,10 @@ does_turned m k (Row p a r) Idle x y z d e g h = (x, refl, subst (λ (s : StoreS
 does_turned m k (Row p a r) (Row q b s) x y z d e g h = store_steps_commute m k p q r s x y z a b d e g h
 
 abbrev StepsStore : Way → WorldState → ℕ → Reply → WorldState → Type 0
-StepsStore way old m r new = AnswersStep (store_memory m) way old.machines old.store m r new.machines new.store
+StepsStore way old m r new = StepsAt (store_memory m) way old.machines old.store m r new.machines new.store
 
 localled : (way : Way) (old new : WorldState) (m : ℕ) (r : Reply) → StepsStore way old m r new → Local way m r old.machines old.store new.machines new.store
 localled way old new m r h = local_case way m r old.machines new.machines old.store new.store (parted (store_memory m) way old.machines old.store m r new.machines new.store h)
-
-as_step : (way : Way) (old new : WorldState) (m : ℕ) (r : Reply) → Answers old (stepping way m) r new → StepsStore way old m r new
-as_step ByStep old new m r h = h
-as_step ByOne old new m r h = h
-
-as_answer : (way : Way) (old new : WorldState) (m : ℕ) (r : Reply) → StepsStore way old m r new → Answers old (stepping way m) r new
-as_answer ByStep old new m r h = h
-as_answer ByOne old new m r h = h
 
 record Turned (old : WorldState) (v w : Way) (m k : ℕ) (a b : Reply) (new : WorldState) : Type 0 where
   side : WorldState
@@ -161,12 +158,12 @@ turned old mid new v w m k a b d apart g h =
     record {
       side = side;
       second = h.again old.machines old.store o.0 (sym there) o.1;
-      first = subst (λ (xs : List Debuggee). AnswersStep (store_memory m) v side.machines o.0 m a xs new.store) (sym machines)
+      first = subst (λ (xs : List Debuggee). StepsAt (store_memory m) v side.machines o.0 m a xs new.store) (sym machines)
           (g.again side.machines o.0 new.store (put_other old.machines k m h.put h.number d) o.2);
     }
 
-pub steps_change_places : StepsChangePlaces
-steps_change_places old new v w m k a b d apart h =
-    let last : Answers h.0 (stepping w k) b new = subst (λ (x : WorldState). Answers h.0 (stepping w k) b x) (sym h.2.2) h.2.1 in
-    let t = turned old h.0 new v w m k a b d apart (localled v old h.0 m a (as_step v old h.0 m a h.1)) (localled w h.0 new k b (as_step w h.0 new k b last)) in
-    (t.side, as_answer w old t.side k b t.second, (new, as_answer v t.side new m a t.first, refl))
+pub steps_commute : StepsCommute
+steps_commute old new v w m k a b d apart h =
+    let last : Answers h.0 (Machine k (Step w)) b new = subst (λ (x : WorldState). Answers h.0 (Machine k (Step w)) b x) (sym h.2.2) h.2.1 in
+    let t = turned old h.0 new v w m k a b d apart (localled v old h.0 m a h.1) (localled w h.0 new k b last) in
+    (t.side, t.second, (new, t.first, refl))

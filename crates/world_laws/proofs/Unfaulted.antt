@@ -1,30 +1,33 @@
 -- The count of faults is never looked at.
-use Rattle.std.proofs.Common.{◌≡◌, ℕ, true, List, refl, ap, sym, ◌∙◌, arith}
+use Rattle.std.proofs.Common.{◌≡◌, ℕ, true, List, inl, inr, refl, ap, sym, ◌∙◌}
 use Rattle.memory.specs.declared.access.Op.{Op}
 use Rattle.memory.specs.declared.access.Reach.{Reach}
 use Rattle.memory.specs.declared.access.Reach.TheVariants as reach
 use Rattle.object_store.specs.Stores.{StoreState, store_memory, Touches}
-use Rattle.object_store.specs.Calls.{Frees, BeginsLeave, EndsLeave, BeginsReturn, EndsReturn}
+use Rattle.object_store.specs.Calls.{Frees}
 use Rattle.object_store.specs.declared.places.Place.{Place}
 use Rattle.object_store.specs.declared.places.Place.TheVariants as place
 use Rattle.object_store.specs.declared.places.Moved.{Moved}
-use Rattle.object_store.specs.declared.places.Moved.TheVariants as moved
 use Rattle.machine.specs.Carrying.{Carries}
 use Rattle.machine.proofs.Carried.{steps_carry}
-use Rattle.world.specs.declared.debuggee.Debuggee.{Debuggee}
-use Rattle.world.specs.declared.events.Reply.{Reply}
-use Rattle.world.specs.declared.events.Reply.TheVariants.{Made, Freed, Leaving, Returning, Home, Done, Bytes, Paused, NoMemory, Full, NoRoom, Outside, Away, Missing}
-use Rattle.world.specs.declared.events.Reply.TheVariants as answer
-use Rattle.world.specs.Commands.{Command}
-use Rattle.world.specs.Commands.Command.{Make, Free, Put, Get, Leave, Left, Return, Returned, Step, One}
+use Rattle.debugger.specs.Debuggees.{Walks, AnswersStep}
+use Rattle.debugger.specs.declared.commands.Way.{Way}
+use Rattle.debugger.specs.declared.commands.MachineCommand.{MachineCommand}
+use Rattle.debugger.specs.declared.commands.MachineCommand.TheVariants.{Step, Show, Debug}
+use Rattle.debugger.specs.declared.replies.StepReply.{StepReply}
+use Rattle.debugger.specs.declared.replies.StepReply.TheVariants as step_reply
+use Rattle.debugger.specs.declared.debuggee.Debuggee.{Debuggee}
+use Rattle.world.specs.declared.replies.Reply.{Reply}
+use Rattle.world.specs.declared.replies.Reply.TheVariants.{Made, Freed, Done, Bytes, NoMemory, Full, NoRoom, Outside, Away}
+use Rattle.world.specs.declared.events.Event.{Event}
+use Rattle.world.specs.declared.events.Event.TheVariants.{Make, Ship, Object, Machine}
+use Rattle.world.specs.declared.events.ObjectCommand.{ObjectCommand}
+use Rattle.world.specs.declared.events.ObjectCommand.TheVariants.{Free, Put, Get, Move}
 use Rattle.world.specs.WorldState.{WorldState}
-use Rattle.world.specs.Steps.{Way, Steps, Pauses, AnswersStep}
-use Rattle.world.specs.Steps.Way.{ByStep, ByOne}
-use Rattle.world.specs.Answers.{Answers, AnswersMove, ShowsObject, reply_to_move}
+use Rattle.world.specs.Machines.{AnswersCommand, AnswersMachine}
+use Rattle.world.specs.Answers.{Answers, AnswersMake, AnswersObject, AnswersMove, AnswersGet, Moves, moved_reply, place_before}
 use Rattle.world_laws.specs.Replies.{is_settled, without_faults}
-
-abbrev cleared : StoreState → StoreState
-cleared s = record s { faults = 0 }
+use Rattle.world_laws.proofs.EachMove.{Clears, cleared, frees_clears, clears}
 
 -- ---- steps
 
@@ -41,84 +44,45 @@ carries who = record {
   measured = λ old n. refl;
 }
 
-steps : (who : ℕ) (way : Way) (old new : List Debuggee) (s t : StoreState) (r : Reply) → Steps (store_memory who) way old s who r new t → Steps (store_memory who) way old (cleared s) who r new (cleared t)
-steps who way old new s t r d = record {
-  debuggee = d.debuggee;
-  found = d.found;
+walk : (who : ℕ) (w : Way) (old new : Debuggee) (s t : StoreState) (told : StepReply) → Walks (store_memory who) w old s told new t → Walks (store_memory who) w old (cleared s) told new (cleared t)
+walk who w old new s t told d = record {
   goes = d.goes;
   answer = d.answer;
   machine = d.machine;
-  step = (steps_carry (store_memory who) (store_memory who) true cleared (carries who) d.debuggee.machine d.machine s t d.answer tt refl d.step).0;
+  step = (steps_carry (store_memory who) (store_memory who) true cleared (carries who) old.machine d.machine s t d.answer tt refl d.step).0;
   told = d.told;
   changed = d.changed;
 }
 
-pauses : (way : Way) (old new : List Debuggee) (s t : StoreState) (m slot : ℕ) → Pauses way old s m slot new t → Pauses way old (cleared s) m slot new (cleared t)
-pauses way old new s t m slot d = record {
-  debuggee = d.debuggee;
-  found = d.found;
-  held = d.held;
-  slot_is = d.slot_is;
-  changed = d.changed;
-  same = ap cleared d.same;
-}
+step : (who : ℕ) (w : Way) (old new : Debuggee) (s t : StoreState) (told : StepReply) → AnswersStep (store_memory who) w old s told new t
+    → AnswersStep (store_memory who) w old (cleared s) told new (cleared t)
+step who w old new s t (step_reply.Paused slot) h = record { held = h.held; slot_is = h.slot_is; changed = h.changed; same = ap cleared h.same }
+step who w old new s t told h = walk who w old new s t told h
 
-step : (who : ℕ) (way : Way) (old new : List Debuggee) (s t : StoreState) (r : Reply) → AnswersStep (store_memory who) way old s who r new t
-    → AnswersStep (store_memory who) way old (cleared s) who r new (cleared t)
-step who way old new s t Missing h = (h.0, h.1, ap cleared h.2)
-step who way old new s t (Paused k slot) h = (h.0, pauses way old new s t who slot h.1)
-step who way old new s t r h = steps who way old new s t r h
+command : (who : ℕ) (c : MachineCommand) (old new : Debuggee) (s t : StoreState) (r : Reply) → AnswersCommand (store_memory who) old s who c r new t
+    → AnswersCommand (store_memory who) old (cleared s) who c r new (cleared t)
+command who (Step w) old new s t r h = (h.0, h.1, step who w old new s t h.0 h.2)
+command who (Show c) old new s t r h = (h.0, h.1, h.2, h.3, ap cleared h.4)
+command who (Debug c) old new s t r h = (h.0, h.1, h.2, ap cleared h.3)
+
+machine : (who : ℕ) (c : MachineCommand) (old new : List Debuggee) (s t : StoreState) (r : Reply) → AnswersMachine (store_memory who) old s who c r new t
+    → AnswersMachine (store_memory who) old (cleared s) who c r new (cleared t)
+machine who c old new s t r (inl h) = inl (record { none = h.none; told = h.told; unchanged = h.unchanged; same = ap cleared h.same })
+machine who c old new s t r (inr h) =
+    inr (record { debuggee = h.debuggee; left = h.left; found = h.found; answers = command who c h.debuggee h.left s t r h.answers; changed = h.changed })
 
 -- ---- moves
 
-abbrev Clears : (StoreState → ℕ → Moved → StoreState → Type 0) → Type 0
-Clears moves = (old new : StoreState) (n : ℕ) (told : Reply) (back : Place) (m : Moved) → moves old n m new → is_settled (reply_to_move told back n m) ≡ true → moves (cleared old) n m (cleared new)
-
-frees : Clears Frees
-frees old new n told back moved.Scoped h t = (h.0, h.1, ap cleared h.2)
-frees old new n told back moved.Done h t = (h.0, h.1, omega arith, ap cleared h.3)
-frees old new n told back moved.NoObject h t = (h.0, ap cleared h.1)
-frees old new n told back (moved.Misplaced p) h t = (h.0, h.1, ap cleared h.2)
-frees old new n told back _ h t = absurd h
-
-begins_leave : Clears BeginsLeave
-begins_leave old new n told back moved.Scoped h t = (h.0, h.1, ap cleared h.2)
-begins_leave old new n told back moved.Done h t = (h.0, h.1, ap cleared h.2)
-begins_leave old new n told back moved.NoObject h t = (h.0, ap cleared h.1)
-begins_leave old new n told back (moved.Misplaced p) h t = (h.0, h.1, ap cleared h.2)
-begins_leave old new n told back _ h t = absurd h
-
-ends_leave : Clears EndsLeave
-ends_leave old new n told back (moved.Fault f) h t = absurd (cc)
-ends_leave old new n told back moved.Done h t = (h.0, omega arith, ap cleared h.2)
-ends_leave old new n told back moved.NoObject h t = (h.0, ap cleared h.1)
-ends_leave old new n told back (moved.Misplaced p) h t = (h.0, h.1, ap cleared h.2)
-ends_leave old new n told back _ h t = absurd h
-
-begins_return : Clears BeginsReturn
-begins_return old new n told back moved.NoRoom h t = (h.0, h.1, ap cleared h.2)
-begins_return old new n told back moved.Done h t = (h.0, h.1, ap cleared h.2)
-begins_return old new n told back moved.NoObject h t = (h.0, ap cleared h.1)
-begins_return old new n told back (moved.Misplaced p) h t = (h.0, h.1, ap cleared h.2)
-begins_return old new n told back _ h t = absurd h
-
-ends_return : Clears (EndsReturn true)
-ends_return old new n told back (moved.Fault f) h t = absurd (cc)
-ends_return old new n told back moved.Done h t = (h.0, ap cleared h.1)
-ends_return old new n told back moved.NoObject h t = (h.0, ap cleared h.1)
-ends_return old new n told back (moved.Misplaced p) h t = (h.0, h.1, ap cleared h.2)
-ends_return old new n told back _ h t = absurd h
-
-move : (moves : StoreState → ℕ → Moved → StoreState → Type 0) (told : Reply) (back : Place) (old new : WorldState) (n : ℕ) (r : Reply) → Clears moves → AnswersMove moves told back old n r new
-    → is_settled r ≡ true → AnswersMove moves told back (without_faults old) n r (without_faults new)
-move moves told back old new n r c h t = record {
+moves : (does : StoreState → ℕ → Moved → StoreState → Type 0) (told : Reply) (back : Place) (old new : WorldState) (n : ℕ) (r : Reply) → Clears does → AnswersMove does told back old n r new
+    → is_settled r ≡ true → AnswersMove does told back (without_faults old) n r (without_faults new)
+moves does told back old new n r c h t = record {
   moved = h.moved;
   move = c old.store new.store n told back h.moved h.move (sym (ap is_settled h.told) ∙ t);
   told = h.told;
   changed = ap without_faults h.changed;
 }
 
-shows : (s : StoreState) (n o z : ℕ) (r : Reply) → ShowsObject s n o z r → ShowsObject (cleared s) n o z r
+shows : (s : StoreState) (n o z : ℕ) (r : Reply) → AnswersGet s n o z r → AnswersGet (cleared s) n o z r
 shows s n o z Outside h = h
 shows s n o z (Away k) h = h
 shows s n o z NoMemory h = h
@@ -127,23 +91,25 @@ shows s n o z _ h = absurd h
 
 -- ---- all
 
--- What is answered would be answered whatever the count, but for a fault. The other commands are on machines and don't look at the store.
-pub unfaulted : (old new : WorldState) (c : Command) (r : Reply) → Answers old c r new → is_settled r ≡ true → Answers (without_faults old) c r (without_faults new)
-unfaulted old new (Make z) Full h t = ((h.0.0, ap cleared h.0.1), ap without_faults h.1)
-unfaulted old new (Make z) NoRoom h t = ((h.0.0, h.0.1, ap cleared h.0.2), ap without_faults h.1)
-unfaulted old new (Make z) NoMemory h t = ((h.0.0, h.0.1, ap cleared h.0.2), ap without_faults h.1)
-unfaulted old new (Make z) (Made n) h t = ((h.0.0, h.0.1, h.0.2, ap cleared h.0.3), ap without_faults h.1)
-unfaulted old new (Make z) _ h t = absurd h
-unfaulted old new (Put n o b) Outside h t = ((h.0.0, ap cleared h.0.1), ap without_faults h.1)
-unfaulted old new (Put n o b) (Away k) h t = (h.0, ((h.1.0.0, h.1.0.1, ap cleared h.1.0.2), ap without_faults h.1.1))
-unfaulted old new (Put n o b) Done h t = ((h.0.0, h.0.1, ap cleared h.0.2), ap without_faults h.1)
-unfaulted old new (Put n o b) _ h t = absurd h
-unfaulted old new (Get n o z) r h t = (shows old.store n o z r h.0, ap without_faults h.1)
-unfaulted old new (Free n) r h t = move Frees (Freed n) place.Here old new n r frees h t
-unfaulted old new (Leave n) r h t = move BeginsLeave (Leaving n) place.Here old new n r begins_leave h t
-unfaulted old new (Left n) r h t = move EndsLeave (answer.Left n) place.Here old new n r ends_leave h t
-unfaulted old new (Return n) r h t = move BeginsReturn (Returning n) place.Far old new n r begins_return h t
-unfaulted old new (Returned n) r h t = move (EndsReturn true) (Home n) place.Far old new n r ends_return h t
-unfaulted old new (Step m) r h t = step m ByStep old.machines new.machines old.store new.store r h
-unfaulted old new (One m) r h t = step m ByOne old.machines new.machines old.store new.store r h
-unfaulted old new _ r h t = (h.0, ap without_faults h.1)
+make : (old new : WorldState) (z : ℕ) (r : Reply) → AnswersMake old z r new → AnswersMake (without_faults old) z r (without_faults new)
+make old new z Full h = ((h.0.0, ap cleared h.0.1), ap without_faults h.1)
+make old new z NoRoom h = ((h.0.0, h.0.1, ap cleared h.0.2), ap without_faults h.1)
+make old new z NoMemory h = ((h.0.0, h.0.1, ap cleared h.0.2), ap without_faults h.1)
+make old new z (Made n) h = ((h.0.0, h.0.1, h.0.2, ap cleared h.0.3), ap without_faults h.1)
+make old new z _ h = absurd h
+
+object : (old new : WorldState) (n : ℕ) (c : ObjectCommand) (r : Reply) → AnswersObject old n c r new → is_settled r ≡ true → AnswersObject (without_faults old) n c r (without_faults new)
+object old new n Free r h t = moves Frees (Freed n) place.Here old new n r frees_clears h t
+object old new n (Put o b) Outside h t = ((h.0.0, ap cleared h.0.1), ap without_faults h.1)
+object old new n (Put o b) (Away k) h t = (h.0, ((h.1.0.0, h.1.0.1, ap cleared h.1.0.2), ap without_faults h.1.1))
+object old new n (Put o b) Done h t = ((h.0.0, h.0.1, ap cleared h.0.2), ap without_faults h.1)
+object old new n (Put o b) _ h t = absurd h
+object old new n (Get o z) r h t = (shows old.store n o z r h.0, ap without_faults h.1)
+object old new n (Move k) r h t = moves (Moves k) (moved_reply k n) (place_before k) old new n r (clears k) h t
+
+-- What is answered would be answered whatever the count, but for a fault.
+pub unfaulted : (old new : WorldState) (c : Event) (r : Reply) → Answers old c r new → is_settled r ≡ true → Answers (without_faults old) c r (without_faults new)
+unfaulted old new (Make z) r h t = make old new z r h
+unfaulted old new (Ship start code) r h t = (h.0, ap cleared h.1)
+unfaulted old new (Object n c) r h t = object old new n c r h t
+unfaulted old new (Machine m c) r h t = machine m c old.machines new.machines old.store new.store r h

@@ -1,11 +1,11 @@
--- Steps of machines: when they wait, what they write, and which may change places.
+-- Steps of machines: when they wait, what they write, and which commute.
 use Rattle.std.specs.Prelude.{◌≡◌, ◌≢◌, ◌<◌, ◌≤◌, ℕ, ◌+◌, false, List, [], ◌∷◌, length, get_or, Some}
 use Rattle.isa_table.specs.Table.{size_bytes}
 use Rattle.isa_table.specs.declared.instr.Instr.{Instr}
 use Rattle.memory.specs.declared.access.Op.{Op}
 use Rattle.memory.specs.Objects.{Reaches, bytes_of}
 use Rattle.object_store.specs.declared.places.Place.TheVariants.{Here}
-use Rattle.object_store.specs.Stores.{store_memory, place_of, window_of}
+use Rattle.object_store.specs.Stores.{StoreState, store_memory, place_of, window_of}
 use Rattle.machine.specs.declared.state.Stop.{Stop}
 use Rattle.machine.specs.declared.state.Stepped.{Stepped}
 use Rattle.machine.specs.declared.state.Stepped.TheVariants as stepped
@@ -13,21 +13,18 @@ use Rattle.machine.specs.Rows.{asks}
 use Rattle.machine.specs.Rows.Request.{Touch}
 use Rattle.machine.specs.TableStep.{Attempts}
 use Rattle.machine.specs.Laws.{AccessesNext}
-use Rattle.world.specs.declared.debuggee.Debuggee.{Debuggee}
-use Rattle.world.specs.declared.events.Reply.{Reply}
-use Rattle.world.specs.declared.events.Reply.TheVariants.{Waiting}
+use Rattle.debugger.specs.declared.debuggee.Debuggee.{Debuggee}
+use Rattle.debugger.specs.declared.commands.Way.{Way}
+use Rattle.debugger.specs.declared.commands.MachineCommand.TheVariants.{Step}
+use Rattle.debugger.specs.declared.replies.StepReply.{StepReply}
+use Rattle.debugger.specs.Debuggees.{Walks, holds_back}
+use Rattle.world.specs.declared.replies.Reply.{Reply}
+use Rattle.world.specs.declared.replies.Reply.TheVariants.{Waiting}
 use Rattle.world.specs.Run.{Runs}
-use Rattle.world.specs.Commands.{Command}
-use Rattle.world.specs.Commands.Command.{Step, One}
+use Rattle.world.specs.declared.events.Event.{Event}
+use Rattle.world.specs.declared.events.Event.TheVariants.{Machine}
 use Rattle.world.specs.WorldState.{WorldState, world_start, machine_at}
-use Rattle.world.specs.Steps.{Way, Steps, holds_back}
-use Rattle.world.specs.Steps.Way.{ByStep, ByOne}
 use Rattle.world.specs.Answers.{Answers}
-
--- the command for a step
-abbrev pub stepping : Way → ℕ → Command
-stepping ByStep m = Step m
-stepping ByOne m = One m
 
 -- ---- waiting
 
@@ -46,7 +43,7 @@ pub record Awaits (way : Way) (w : WorldState) (m n : ℕ) : Type 0 where
 
 -- A step waits exactly there, and then nothing changes.
 abbrev pub WaitsExactly : Type 0
-WaitsExactly = (old new : WorldState) (way : Way) (m n : ℕ) (reply : Reply) → Answers old (stepping way m) reply new
+WaitsExactly = (old new : WorldState) (way : Way) (m n : ℕ) (reply : Reply) → Answers old (Machine m (Step way)) reply new
     → ((k : ℕ) → reply ≡ Waiting k n → (k ≡ m) × Awaits way old m n × (new ≡ old)) × (Awaits way old m n → reply ≡ Waiting m n)
 
 -- ---- machines that are stopped
@@ -58,7 +55,7 @@ pub record IsCalm (w : WorldState) (m : ℕ) (d : Debuggee) : Type 0 where
 
 -- So is every machine that is stopped, in each run from the start.
 abbrev pub StoppedMachinesAreCalm : Type 0
-StoppedMachinesAreCalm = (budget faults : ℕ) (commands : List Command) (replies : List Reply) (new : WorldState) → Runs Answers (world_start budget faults) commands replies new
+StoppedMachinesAreCalm = (budget faults : ℕ) (commands : List Event) (replies : List Reply) (new : WorldState) → Runs Answers (world_start budget faults) commands replies new
     → (m : ℕ) (d : Debuggee) (s : Stop) → machine_at new.machines m ≡ Some d → d.machine.stop ≡ Some s → IsCalm new m d
 
 -- ---- what is written
@@ -75,8 +72,8 @@ ChangesTold answer before after = (n : ℕ) → (length (bytes_of after n) ≡ l
 
 -- A step writes one object at most, and of it the range at most that it tells.
 abbrev pub StepsTellWhatTheyWrite : Type 0
-StepsTellWhatTheyWrite = (old new : WorldState) (way : Way) (m : ℕ) (reply : Reply) (s : Steps (store_memory m) way old.machines old.store m reply new.machines new.store)
-    → ChangesTold s.answer old.store.objects new.store.objects
+StepsTellWhatTheyWrite = (m : ℕ) (way : Way) (old new : Debuggee) (before after : StoreState) (reply : StepReply) (s : Walks (store_memory m) way old before reply new after)
+    → ChangesTold s.answer before.objects after.objects
 
 -- ---- the order of steps
 
@@ -86,8 +83,8 @@ pub record Comes (w : WorldState) (m n : ℕ) : Type 0 where
   pub found : machine_at w.machines m ≡ Some debuggee
   pub touches : AccessesNext debuggee.machine n
 
--- Where two machines come to no common object, their steps may change places: the replies are the same, and so is the
--- state after both.
-abbrev pub StepsChangePlaces : Type 0
-StepsChangePlaces = (old new : WorldState) (v w : Way) (m k : ℕ) (a b : Reply) → m ≢ k → ((n : ℕ) → Comes old m n → Comes old k n → ⊥)
-    → Runs Answers old (stepping v m ∷ stepping w k ∷ []) (a ∷ b ∷ []) new → Runs Answers old (stepping w k ∷ stepping v m ∷ []) (b ∷ a ∷ []) new
+-- Where two machines come to no common object, their steps commute: the replies are the same, and so is the state after
+-- both.
+abbrev pub StepsCommute : Type 0
+StepsCommute = (old new : WorldState) (v w : Way) (m k : ℕ) (a b : Reply) → m ≢ k → ((n : ℕ) → Comes old m n → Comes old k n → ⊥)
+    → Runs Answers old (Machine m (Step v) ∷ Machine k (Step w) ∷ []) (a ∷ b ∷ []) new → Runs Answers old (Machine k (Step w) ∷ Machine m (Step v) ∷ []) (b ∷ a ∷ []) new

@@ -1,11 +1,13 @@
 //! What the definitions of the commands say, in the agent's own words.
 #![tactic(auto)]
 
+mod confinement;
 mod places;
 mod replies;
 
+pub use confinement::runs_are_confined;
 pub use places::{
-    budget_holds, moves_change_no_byte, places_are_read, scopes_stay, steps_change_places,
+    budget_holds, moves_change_no_byte, places_are_read, scopes_stay, steps_commute,
     steps_tell_what_they_write, stopped_machines_are_calm, waits_exactly,
 };
 pub use replies::{

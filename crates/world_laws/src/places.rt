@@ -1,7 +1,7 @@
 //! Where objects are, and how machines step over them.
 
 ghost use Rattle.world_laws.specs.Moves.{PlacesAreRead, MovesChangeNoByte, BudgetHolds, ScopesStay};
-ghost use Rattle.world_laws.specs.Stepping.{WaitsExactly, StoppedMachinesAreCalm, StepsTellWhatTheyWrite, StepsChangePlaces};
+ghost use Rattle.world_laws.specs.Stepping.{WaitsExactly, StoppedMachinesAreCalm, StepsTellWhatTheyWrite, StepsCommute};
 
 /// A step waits exactly where its object isn't here.
 pub fn waits_exactly()
@@ -38,7 +38,7 @@ pub fn steps_tell_what_they_write()
     ensures { StepsTellWhatTheyWrite }
 {}
 
-/// Steps of two machines that come to no common object may change places.
-pub fn steps_change_places()
-    ensures { StepsChangePlaces }
+/// Steps of two machines that come to no common object commute.
+pub fn steps_commute()
+    ensures { StepsCommute }
 {}

@@ -22,7 +22,7 @@ pub fn debugging_changes_debug_state_alone()
     ensures { DebuggingChangesDebugStateAlone }
 {}
 
-/// A step of one machine leaves every other machine, its debug state and what it has in scope, as they were.
+/// A command on one machine leaves every other machine, its debug state and what it has in scope, as they were.
 pub fn others_stay()
     ensures { OthersStay }
 {}

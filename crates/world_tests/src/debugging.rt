@@ -1,11 +1,14 @@
 //! Machines that are debugged.
 
-use crate::common::{EXIT, FIRST, bytes, get, make, new_world, ran, ship, step, stopped, tells};
+use crate::common::{
+    EXIT, FIRST, bytes, code, debug, get, make, new_world, one, ran, regs, ship, ship_code, step,
+    stopped, tells,
+};
 use far_store::OwnStore;
 use machine::Stop;
 use std::alloc::Global;
 use std::test::Fail;
-use world::{Event, Reply, Shown, State, World};
+use world::{DebugCommand, Event, Reply, Shown, State, World};
 
 /// R10 at the start.
 const STACK_TOP: u64 = 0xffff_ffff_0000_1000;
@@ -18,36 +21,24 @@ fn shipped(alloc: Global, r2: u64, slots: &[u64]) -> Result<World<OwnStore>, Fai
     Ok(world)
 }
 
-fn one() -> Event {
-    Event::One { machine: 1 }
-}
-
 fn resume() -> Event {
-    Event::Resume { machine: 1 }
+    debug(1, DebugCommand::Resume)
 }
 
 fn break_at(slot: u32) -> Event {
-    Event::Break { machine: 1, slot }
+    debug(1, DebugCommand::Break { slot })
 }
 
 fn unbreak_at(slot: u32) -> Event {
-    Event::Unbreak { machine: 1, slot }
+    debug(1, DebugCommand::Unbreak { slot })
 }
 
 fn watch(address: u64, length: u32) -> Event {
-    Event::Watch {
-        machine: 1,
-        address,
-        length,
-    }
+    debug(1, DebugCommand::Watch { address, length })
 }
 
 fn unwatch(address: u64, length: u32) -> Event {
-    Event::Unwatch {
-        machine: 1,
-        address,
-        length,
-    }
+    debug(1, DebugCommand::Unwatch { address, length })
 }
 
 fn paused(slot: usize) -> Reply {
@@ -81,16 +72,16 @@ fn a_machine_pauses_at_a_breakpoint(rt: HostRuntime) -> Result<(), Fail> {
         (step(1), ran(1, 1)),
         (step(1), paused(1)),
         (step(1), paused(1)),
-        (one(), ran(1, 2)),
-        (Event::Regs { machine: 1 }, shown(State::Paused, 8)),
+        (one(1), ran(1, 2)),
+        (regs(1), shown(State::Paused, 8)),
     ];
     tells(&rt, &mut world, pauses);
     let goes_on = [
         (step(1), paused(2)),
         (resume(), Reply::Done),
-        (Event::Regs { machine: 1 }, shown(State::Running, 8)),
+        (regs(1), shown(State::Running, 8)),
         (step(1), stopped(1, Stop::Exit(8))),
-        (one(), stopped(1, Stop::Exit(8))),
+        (one(1), stopped(1, Stop::Exit(8))),
     ];
     tells(&rt, &mut world, goes_on);
     Ok(())
@@ -119,16 +110,13 @@ fn a_breakpoint_is_passed_once(rt: HostRuntime) -> Result<(), Fail> {
 #[test]
 fn a_breakpoint_comes_before_fuel(rt: HostRuntime) -> Result<(), Fail> {
     let mut world = new_world(rt.alloc())?;
-    let event = Event::Ship {
-        fuel: 0,
-        arguments: [0; 5],
-        code: crate::common::code(rt.alloc(), &[EXIT])?,
-    };
+    let code = code(rt.alloc(), &[EXIT])?;
+    let event = ship_code(rt.alloc(), 0, [0; 5], code.as_slice())?;
     assert_eq!(rt; world.apply(event), Reply::Shipped { machine: 1 });
     let table = [
         (break_at(0), Reply::Done),
         (step(1), paused(0)),
-        (one(), stopped(1, Stop::Spent)),
+        (one(1), stopped(1, Stop::Spent)),
         (resume(), Reply::NotPaused),
         (step(1), stopped(1, Stop::Spent)),
     ];
@@ -146,13 +134,7 @@ fn breakpoints_are_set_where_instructions_begin(rt: HostRuntime) -> Result<(), F
         (break_at(3), Reply::NoSlot),
         (unbreak_at(0), Reply::NoSlot),
         (break_at(2), Reply::Done),
-        (
-            Event::Break {
-                machine: 2,
-                slot: 0,
-            },
-            Reply::Missing,
-        ),
+        (debug(2, DebugCommand::Break { slot: 0 }), Reply::Missing),
         (unbreak_at(2), Reply::Done),
         (unbreak_at(2), Reply::NoSlot),
     ];
@@ -196,7 +178,7 @@ fn a_stack_is_watched(rt: HostRuntime) -> Result<(), Fail> {
     let mut world = shipped(rt.alloc(), 0, &[0x620a_fcff_ffff_ffff, EXIT])?;
     let table = [
         (watch(STACK_TOP - 4, 4), Reply::Done),
-        (one(), hit(1)),
+        (one(1), hit(1)),
         (resume(), Reply::Done),
         (step(1), stopped(1, Stop::Exit(0))),
     ];
@@ -231,7 +213,7 @@ fn eight_ranges_are_watched(rt: HostRuntime) -> Result<(), Fail> {
         (unwatch(FIRST, 9), Reply::NoWatch),
         (unwatch(FIRST, 8), Reply::Done),
         (watch(2 * FIRST - 1, 1), Reply::Done),
-        (Event::Resume { machine: 2 }, Reply::Missing),
+        (debug(2, DebugCommand::Resume), Reply::Missing),
     ];
     tells(&rt, &mut world, table);
     Ok(())

@@ -1,6 +1,6 @@
 //! Machines: what they are answered, one command at a time and as a run.
 
-use crate::common::new_world;
+use crate::common::{new_world, regs, ship_code, step};
 use bpf_codec::Fault;
 use loader::{LoadError, Why};
 use machine::Stop;
@@ -18,11 +18,7 @@ const EXIT: [u8; 8] = [0x95, 0, 0, 0, 0, 0, 0, 0];
 const STACK_TOP: u64 = 0xffff_ffff_0000_1000;
 
 fn ship(alloc: Global, fuel: u64, code: &[u8]) -> Result<Event, AllocError> {
-    Ok(Event::Ship {
-        fuel,
-        arguments: [0; 5],
-        code: code.to_vec(alloc)?,
-    })
+    ship_code(alloc, fuel, [0; 5], code)
 }
 
 fn refused(slot: usize, why: Why) -> Reply {
@@ -35,10 +31,10 @@ fn a_run_has_the_replies_of_its_commands(rt: HostRuntime) -> Result<(), Fail> {
     let mut replies = Vec::new(rt.alloc());
     let events = vec![in rt.alloc();
         ship(rt.alloc(), 10, &SEVEN)?,
-        Event::Step { machine: 1 },
-        Event::Step { machine: 1 },
-        Event::Step { machine: 1 },
-        Event::Regs { machine: 1 },
+        step(1),
+        step(1),
+        step(1),
+        regs(1),
     ]?;
     assert_eq!(rt; world.run(events, &mut replies), Ok(()));
     let ended = || Reply::Stopped {
@@ -74,7 +70,7 @@ fn a_run_adds_to_the_replies(rt: HostRuntime) -> Result<(), Fail> {
     let mut replies = vec![in rt.alloc(); Reply::Full]?;
     let first = vec![in rt.alloc(); ship(rt.alloc(), 0, &EXIT)?]?;
     assert_eq!(rt; world.run(first, &mut replies), Ok(()));
-    let second = vec![in rt.alloc(); Event::Step { machine: 1 }]?;
+    let second = vec![in rt.alloc(); step(1)]?;
     assert_eq!(rt; world.run(second, &mut replies), Ok(()));
     let spent = Reply::Stopped {
         machine: 1,
@@ -101,8 +97,8 @@ fn the_forty_ninth_machine_is_refused(rt: HostRuntime) -> Result<(), Fail> {
         machine: 48,
         stop: Stop::Exit(0),
     };
-    assert_eq!(rt; world.apply(Event::Step { machine: 48 }), ended);
-    assert_eq!(rt; world.apply(Event::Step { machine: 49 }), Reply::Missing);
+    assert_eq!(rt; world.apply(step(48)), ended);
+    assert_eq!(rt; world.apply(step(49)), Reply::Missing);
     Ok(())
 }
 
@@ -119,7 +115,7 @@ fn refused_code_makes_no_machine(rt: HostRuntime) -> Result<(), Fail> {
     for (code, reply) in cases {
         let event = ship(rt.alloc(), 1, code)?;
         assert_eq!(rt; world.apply(event), reply);
-        assert_eq!(rt; world.apply(Event::Regs { machine: 1 }), Reply::Missing);
+        assert_eq!(rt; world.apply(regs(1)), Reply::Missing);
     }
     let event = ship(rt.alloc(), 1, &EXIT)?;
     assert_eq!(rt; world.apply(event), Reply::Shipped { machine: 1 });
@@ -132,8 +128,8 @@ fn numbers_without_a_machine(rt: HostRuntime) -> Result<(), Fail> {
     let event = ship(rt.alloc(), 1, &EXIT)?;
     assert_eq!(rt; world.apply(event), Reply::Shipped { machine: 1 });
     for machine in [0, 2, 48, 49, usize::MAX] {
-        assert_eq!(rt; world.apply(Event::Step { machine }), Reply::Missing);
-        assert_eq!(rt; world.apply(Event::Regs { machine }), Reply::Missing);
+        assert_eq!(rt; world.apply(step(machine)), Reply::Missing);
+        assert_eq!(rt; world.apply(regs(machine)), Reply::Missing);
     }
     Ok(())
 }
@@ -142,19 +138,14 @@ fn numbers_without_a_machine(rt: HostRuntime) -> Result<(), Fail> {
 fn machines_do_not_touch_each_other(rt: HostRuntime) -> Result<(), Fail> {
     let mut world = new_world(rt.alloc())?;
     for argument in [3, 5] {
-        let event = Event::Ship {
-            fuel: 2,
-            arguments: [argument, 0, 0, 0, 0],
-            code: SEVEN.to_vec(rt.alloc())?,
-        };
-        let _ = world.apply(event);
+        let _ = world.apply(ship_code(rt.alloc(), 2, [argument, 0, 0, 0, 0], &SEVEN)?);
     }
-    let before = world.apply(Event::Regs { machine: 2 });
+    let before = world.apply(regs(2));
     let ran = Reply::Ran {
         machine: 1,
         slot: 1,
     };
-    assert_eq!(rt; world.apply(Event::Step { machine: 1 }), ran);
+    assert_eq!(rt; world.apply(step(1)), ran);
     let shown = Reply::Registers {
         machine: 2,
         shown: Shown {
@@ -165,6 +156,6 @@ fn machines_do_not_touch_each_other(rt: HostRuntime) -> Result<(), Fail> {
         },
     };
     assert_eq!(rt; before, shown);
-    assert_eq!(rt; world.apply(Event::Regs { machine: 2 }), before);
+    assert_eq!(rt; world.apply(regs(2)), before);
     Ok(())
 }

@@ -1,13 +1,13 @@
 //! Objects that move while machines run.
 
 use crate::common::{
-    EXIT, FIRST, bytes, get, leave, left, made, make, new_world, put, ran, return_, returned, ship,
-    step, stopped, tells,
+    EXIT, FIRST, bytes, free, get, leave, left, made, make, new_world, put, ran, return_, returned,
+    ship, ship_code, step, stopped, tells,
 };
 use far_store::OwnStore;
 use machine::Stop;
 use std::test::Fail;
-use world::{Event, Place, Reply, World};
+use world::{Place, Reply, World};
 
 /// `aadd [r1], r2`
 const ADD: u64 = 0xdb21_0000_0000_0000;
@@ -116,11 +116,8 @@ fn a_fifth_object_pushes_out_the_first(rt: HostRuntime) -> Result<(), Fail> {
         let _ = world.apply(make(1));
     }
     let code = crate::common::code(rt.alloc(), &five_loads())?;
-    let _ = world.apply(Event::Ship {
-        fuel: 10,
-        arguments: [FIRST, 2 * FIRST, 3 * FIRST, 4 * FIRST, 5 * FIRST],
-        code,
-    });
+    let arguments = [FIRST, 2 * FIRST, 3 * FIRST, 4 * FIRST, 5 * FIRST];
+    let _ = world.apply(ship_code(rt.alloc(), 10, arguments, code.as_slice())?);
     for slot in 1..6 {
         assert_eq!(rt; world.apply(step(1)), ran(1, slot));
     }
@@ -130,8 +127,8 @@ fn a_fifth_object_pushes_out_the_first(rt: HostRuntime) -> Result<(), Fail> {
         (step(1), stopped(1, Stop::Exit(0))),
         (leave(2), leaving(2)),
         (return_(3), misplaced(3, Place::Here)),
-        (Event::Free { object: 1 }, misplaced(1, Place::Leaving)),
-        (Event::Free { object: 3 }, Reply::Freed { object: 3 }),
+        (free(1), misplaced(1, Place::Leaving)),
+        (free(3), Reply::Freed { object: 3 }),
         (get(3, 0, 1), Reply::Outside),
         (leave(3), Reply::Missing),
     ];
@@ -153,7 +150,7 @@ fn an_object_returns_where_there_is_room(rt: HostRuntime) -> Result<(), Fail> {
     ];
     tells(&rt, &mut world, full);
     let freed = [
-        (Event::Free { object: 2 }, Reply::Freed { object: 2 }),
+        (free(2), Reply::Freed { object: 2 }),
         (return_(1), returning(1)),
         (make(1), Reply::NoRoom),
         (leave(1), misplaced(1, Place::Returning)),

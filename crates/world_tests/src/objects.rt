@@ -1,9 +1,9 @@
 //! Objects: their numbers, their ends, and what is free.
 
-use crate::common::{EXIT, FIRST, get, make, new_world, put, replies, ship, step};
+use crate::common::{EXIT, FIRST, free, get, make, new_world, put, replies, ship, step};
 use machine::Stop;
 use std::test::Fail;
-use world::{Event, Reply};
+use world::Reply;
 
 #[test]
 fn a_thousand_and_twenty_four_are_made_and_no_more(rt: HostRuntime) -> Result<(), Fail> {
@@ -12,10 +12,7 @@ fn a_thousand_and_twenty_four_are_made_and_no_more(rt: HostRuntime) -> Result<()
         assert_eq!(rt; world.apply(make(1)), Reply::Made { object });
     }
     assert_eq!(rt; world.apply(make(1)), Reply::Full);
-    assert_eq!(rt;
-        world.apply(Event::Free { object: 5 }),
-        Reply::Freed { object: 5 }
-    );
+    assert_eq!(rt; world.apply(free(5)), Reply::Freed { object: 5 });
     assert_eq!(rt; world.apply(make(1)), Reply::Full);
     Ok(())
 }
@@ -45,7 +42,6 @@ fn a_range_ends_within_its_object(rt: HostRuntime) -> Result<(), Fail> {
 
 #[test]
 fn a_freed_object_is_no_more(rt: HostRuntime) -> Result<(), Fail> {
-    let free = |object: u32| Event::Free { object };
     let events = vec![in rt.alloc();
         make(8),
         make(8),

@@ -1,9 +1,11 @@
 //! Conversations with objects, each from a new world.
 
-use crate::common::{EXIT, FIRST, bytes, get, made, make, put, ran, replies, ship, step, stopped};
+use crate::common::{
+    EXIT, FIRST, bytes, get, made, make, put, ran, regs, replies, ship, show, step, stopped,
+};
 use machine::Stop;
 use std::test::Fail;
-use world::{Event, Reply, Shown, State, Values};
+use world::{Reply, ShowCommand, Shown, State, Values};
 
 #[test]
 fn a_load_over_the_last_byte_is_outside(rt: HostRuntime) -> Result<(), Fail> {
@@ -11,7 +13,7 @@ fn a_load_over_the_last_byte_is_outside(rt: HostRuntime) -> Result<(), Fail> {
         make(8),
         ship(rt.alloc(), FIRST, 0, &[0x7910_0100_0000_0000, EXIT])?,
         step(1),
-        Event::Regs { machine: 1 },
+        regs(1),
     ]?;
     let expected = [
         made(1),
@@ -201,11 +203,7 @@ fn a_stored_byte_is_shown(rt: HostRuntime) -> Result<(), Fail> {
 #[test]
 fn a_stack_is_shown(rt: HostRuntime) -> Result<(), Fail> {
     let slots = [0x620a_fcff_ffff_ffff, 0x81a0_fcff_0000_0000, EXIT];
-    let stack = |offset: u32, length: u32| Event::Stack {
-        machine: 1,
-        offset,
-        length,
-    };
+    let stack = |offset: u32, length: u32| show(1, ShowCommand::Stack { offset, length });
     let events = vec![in rt.alloc();
         ship(rt.alloc(), 0, 0, &slots)?,
         step(1),
@@ -214,11 +212,13 @@ fn a_stack_is_shown(rt: HostRuntime) -> Result<(), Fail> {
         stack(4092, 4),
         stack(4093, 4),
         stack(4095, 1),
-        Event::Stack {
-            machine: 2,
-            offset: 0,
-            length: 1
-        },
+        show(
+            2,
+            ShowCommand::Stack {
+                offset: 0,
+                length: 1
+            }
+        ),
     ]?;
     let expected = [
         Reply::Shipped { machine: 1 },
@@ -240,7 +240,7 @@ fn a_stack_is_shown(rt: HostRuntime) -> Result<(), Fail> {
 #[test]
 fn emitted_values_are_shown(rt: HostRuntime) -> Result<(), Fail> {
     let slots = [0xb701_0000_0500_0000, 0x8500_0000_0300_0000, EXIT];
-    let out = |machine: usize| Event::Out { machine };
+    let out = |machine: usize| show(machine, ShowCommand::Out);
     let events = vec![in rt.alloc();
         ship(rt.alloc(), 0, 0, &slots)?,
         out(1),

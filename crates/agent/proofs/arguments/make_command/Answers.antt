@@ -6,7 +6,7 @@ use Rattle.clap.specs.Walk.{is_empty}
 use Rattle.clap.specs.declared.builder.arg.Arg.{Arg}
 use Rattle.clap.specs.declared.builder.command.Command.{Command}
 use Rattle.clap.specs.declared.builder.command.Command.TheOpen.{Command-F}
-use Rattle.agent.specs.CommandLine.{bare, budget_rule, run_shape}
+use Rattle.agent.specs.CommandLine.{bare, budget_rule, flag_rule, run_shape}
 use Rattle.agent.proofs.arguments.make_command.Goals as goal
 
 abbrev local_of : Command-F Command → Bool
@@ -38,25 +38,29 @@ not_true true h = absurd (cc)
 not_true false h = refl
 
 -- a simple argument is not global
-not_global : (a : Arg) → rule_of a ≡ budget_rule → a.global ≡ false
-not_global a is = not_true a.global (is_last (is_empty a.overrides.items) (is_empty a.default_vals_ifs.items) (is_empty a.groups.items)
+not_global : (a : Arg) (rule : Rule) → rule.is_simple ≡ true → rule_of a ≡ rule → a.global ≡ false
+not_global a rule simple is = not_true a.global (is_last (is_empty a.overrides.items) (is_empty a.default_vals_ifs.items) (is_empty a.groups.items)
     (not (is_some a.val_delim)) (not (is_some a.terminator)) (not a.allow_hyphen_values) (not a.allow_negative_numbers) (not a.require_equals) (not a.last) (not a.global)
-    (ap (λ (r : Rule). r.is_simple) is))
+    (ap (λ (r : Rule). r.is_simple) is ∙ simple))
 
 pub returns : goal.returns
 returns c =
-    let about_is : app_of c.about-2.result ≡ new_app (codes "bpfagent") = ap app_of_fields c.about-2.ensures ∙ (ap app_of_fields c.in_ok-bin_name.ensures.0 ∙ c.new-5.ensures.app) in
+    let about_is : app_of c.about-5.result ≡ new_app (codes "bpfagent") = ap app_of_fields c.about-5.ensures ∙ (ap app_of_fields c.in_ok-bin_name.ensures.0 ∙ c.new-5.ensures.app) in
     let named_is : app_of c.no_binary_name.result ≡ with_no_name (new_app (codes "bpfagent")) = ap app_of_fields c.no_binary_name.ensures ∙ ap with_no_name about_is in
     let helpless_is : app_of c.disable_help_subcommand.result ≡ without_help (with_no_name (new_app (codes "bpfagent"))) = ap app_of_fields c.disable_help_subcommand.ensures ∙ ap without_help named_is in
     let top_is : app_of c.subcommand_required.result ≡ bare = ap app_of_fields c.subcommand_required.ensures ∙ ap with_required helpless_is in
-    let local_is = not_global c.make_budget.result c.make_budget.ensures in
+    let local_is = not_global c.make_budget.result budget_rule refl c.make_budget.ensures in
     let run_is : app_of c.in_ok-run.run' ≡ with_rule (new_app (codes "run")) budget_rule = c.in_ok-run.ensures.shape local_is
-    ∙ ap₂ with_rule (ap app_of_fields c.about.ensures ∙ c.new.ensures.app) c.make_budget.ensures in
-    let run_local = c.in_ok-run.ensures.globals ∙ ap₂ (λ a b. a || b) (ap local_of c.about.ensures ∙ c.new.ensures.local) local_is in
+    ∙ ap₂ with_rule (ap app_of_fields c.after_help.ensures ∙ (ap app_of_fields c.about.ensures ∙ c.new.ensures.app)) c.make_budget.ensures in
+    let run_local = c.in_ok-run.ensures.globals ∙ ap₂ (λ a b. a || b) (ap local_of c.after_help.ensures ∙ (ap local_of c.about.ensures ∙ c.new.ensures.local)) local_is in
     let with_run : app_of c.in_ok-subcommand.field-0 ≡ with_subcommand bare run_shape = c.in_ok-subcommand.ensures.shape run_local
     ∙ ap₂ with_subcommand top_is (ap (λ (a : App). a.top) run_is) in
-    let with_check : app_of c.in_ok-subcommand-2.field-0 ≡ with_subcommand (with_subcommand bare run_shape) (new_shape (codes "check")) = c.in_ok-subcommand-2.ensures.shape (ap local_of c.about-check.ensures ∙ c.new-2.ensures.local)
-    ∙ ap₂ with_subcommand with_run (ap (λ (a : App). a.top) (ap app_of_fields c.about-check.ensures ∙ c.new-2.ensures.app)) in
-    let with_asm : app_of c.in_ok-subcommand-3.field-0 ≡ with_subcommand (with_subcommand (with_subcommand bare run_shape) (new_shape (codes "check"))) (new_shape (codes "asm")) = c.in_ok-subcommand-3.ensures.shape (ap local_of c.about-asm.ensures ∙ c.new-3.ensures.local)
-    ∙ ap₂ with_subcommand with_check (ap (λ (a : App). a.top) (ap app_of_fields c.about-asm.ensures ∙ c.new-3.ensures.app)) in
-    IfOk-weaker c.subcommand-4.result _ _ (λ r adds. adds.shape (ap local_of c.about-dis.ensures ∙ c.new-4.ensures.local) ∙ ap₂ with_subcommand with_asm (ap (λ (a : App). a.top) (ap app_of_fields c.about-dis.ensures ∙ c.new-4.ensures.app))) c.subcommand-4.ensures
+    let with_check : app_of c.in_ok-subcommand-2.field-0 ≡ with_subcommand (with_subcommand bare run_shape) (new_shape (codes "check")) = c.in_ok-subcommand-2.ensures.shape (ap local_of c.after_help-check.ensures ∙ (ap local_of c.about-2.ensures ∙ c.new-2.ensures.local))
+    ∙ ap₂ with_subcommand with_run (ap (λ (a : App). a.top) (ap app_of_fields c.after_help-check.ensures ∙ (ap app_of_fields c.about-2.ensures ∙ c.new-2.ensures.app))) in
+    let with_asm : app_of c.in_ok-subcommand-3.field-0 ≡ with_subcommand (with_subcommand (with_subcommand bare run_shape) (new_shape (codes "check"))) (new_shape (codes "asm")) = c.in_ok-subcommand-3.ensures.shape (ap local_of c.after_help-asm.ensures ∙ (ap local_of c.about-3.ensures ∙ c.new-3.ensures.local))
+    ∙ ap₂ with_subcommand with_check (ap (λ (a : App). a.top) (ap app_of_fields c.after_help-asm.ensures ∙ (ap app_of_fields c.about-3.ensures ∙ c.new-3.ensures.app))) in
+    let slots_local = not_global c.make_flag-slots.result (flag_rule (codes "slots")) refl c.make_flag-slots.ensures in
+    let dis_is : app_of c.in_ok-dis.dis ≡ with_rule (new_app (codes "dis")) (flag_rule (codes "slots")) = c.in_ok-dis.ensures.shape slots_local
+    ∙ ap₂ with_rule (ap app_of_fields c.after_help-2.ensures ∙ (ap app_of_fields c.about-4.ensures ∙ c.new-4.ensures.app)) c.make_flag-slots.ensures in
+    let dis_local = c.in_ok-dis.ensures.globals ∙ ap₂ (λ a b. a || b) (ap local_of c.after_help-2.ensures ∙ (ap local_of c.about-4.ensures ∙ c.new-4.ensures.local)) slots_local in
+    IfOk-weaker c.subcommand-4.result _ _ (λ r adds. adds.shape dis_local ∙ ap₂ with_subcommand with_asm (ap (λ (a : App). a.top) dis_is)) c.subcommand-4.ensures

@@ -1,10 +1,10 @@
-use Rattle.std.proofs.Common.{◌≡◌, ℕ, List, Option, None, Some, Result, IfSome, sym, ◌∙◌}
+use Rattle.std.proofs.Common.{◌≡◌, ℕ, Bool, List, Option, None, Some, Result, IfSome, sym, ◌∙◌}
 use Rattle.std.specs.Prelude.{⊤}
 use Rattle.agent.specs.Failures.{status_number}
 use Rattle.agent.specs.Reports.{Reports, ReportsOutcome}
 use Rattle.agent.specs.declared.failure.Failure.{Failure}
 use Rattle.agent.specs.declared.failure.Status.{Status}
-use Rattle.agent.specs.declared.arguments.Task.TheVariants.{Run}
+use Rattle.agent.specs.declared.arguments.Task.TheVariants.{Run, Disassemble}
 use Rattle.agent.specs.AsmLeaves.{AsmLeaves, asm_limit}
 use Rattle.agent.specs.CheckLeaves.{CheckLeaves, check_limit}
 use Rattle.agent.specs.DisLeaves.{DisLeaves}
@@ -31,15 +31,15 @@ returns-in-Err-clause-asm g c right asked =
     (λ input. AsmLeaves input (g.W.Write.contents c.args.writer.now) (g.W.Write.contents c.show.new.writer)) (λ input unread kept. (tt, kept))
 
 pub returns-in-Err-clause-dis : goal.returns-in-Err-clause-dis
-returns-in-Err-clause-dis g c right asked =
+returns-in-Err-clause-dis g c has_slots right asked =
     reported_over (g.R.Read.remaining c.args.reader.now) _ c.in-Err.error _ _ _ _ c.show.result _ right c.in-Err.ensures.err c.show.ensures c.number-in-Err.ensures
-    (λ input. DisLeaves input (g.W.Write.contents c.args.writer.now) (g.W.Write.contents c.show.new.writer)) (λ input unread kept. (tt, kept))
+    (λ input. DisLeaves has_slots input (g.W.Write.contents c.args.writer.now) (g.W.Write.contents c.show.new.writer)) (λ input unread kept. (tt, kept))
 
 pub returns-in-Err-clause-consumed_by_asm : goal.returns-in-Err-clause-consumed_by_asm
 returns-in-Err-clause-consumed_by_asm g c asked = reads_nothing asm_limit (g.R.Read.remaining c.args.reader.now)
 
 pub returns-in-Err-clause-consumed_by_dis : goal.returns-in-Err-clause-consumed_by_dis
-returns-in-Err-clause-consumed_by_dis g c asked = reads_nothing check_limit (g.R.Read.remaining c.args.reader.now)
+returns-in-Err-clause-consumed_by_dis g c has_slots asked = reads_nothing check_limit (g.R.Read.remaining c.args.reader.now)
 
 reported_run : (given : Option (List ℕ)) (work : List ℕ → Result ⊤ Failure → Type 0) (before after : Option (List ℕ)) (outcome : Result ⊤ Failure) (status : Status) (number : ℕ)
     → IfSome given (λ input. work input outcome) → Reports before after outcome status → number ≡ status_number status
@@ -54,3 +54,11 @@ returns-in-Ok-Run-clause-run g c budget right asked =
     let same : budget ≡ c.in-Ok-Run.budget = cc in
     reported_run _ (λ input. RunLeaves budget input (g.W.Write.contents c.args.writer.now) (g.W.Write.contents c.run.new.writer) (g.R.Read.remaining c.run.new.reader)) _ _ _ _ _
     (rw same c.run.ensures) c.report.ensures c.number.ensures
+
+pub returns-in-Ok-Disassemble-clause-dis : goal.returns-in-Ok-Disassemble-clause-dis
+returns-in-Ok-Disassemble-clause-dis g c has_slots right asked =
+    let told : Some c.in-Ok-Disassemble.field-0 ≡ Some (Disassemble has_slots) = sym c.in-Ok-Disassemble.ensures.ok.1 ∙ asked in
+    let is : c.in-Ok-Disassemble.field-0 ≡ Disassemble c.in-Ok-Disassemble.has_slots = c.in-Ok-Disassemble.field-0-is in
+    let same : has_slots ≡ c.in-Ok-Disassemble.has_slots = cc in
+    reported_run _ (λ input. DisLeaves has_slots input (g.W.Write.contents c.args.writer.now) (g.W.Write.contents c.dis.new.writer)) _ _ _ _ _
+    (rw same c.dis.ensures.left) c.report-in-Ok-Disassemble.ensures c.number-in-Ok-Disassemble.ensures

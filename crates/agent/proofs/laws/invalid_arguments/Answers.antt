@@ -9,4 +9,6 @@ returns c = record {
   help = λ e. cc;
   second = λ e. cc;
   option = λ e. cc;
+  flag = λ e. cc;
+  twice = λ e. cc;
 }

@@ -1,6 +1,6 @@
 use Rattle.std.proofs.Common.{◌≡◌, ◌-◌, length}
 use Rattle.asm_text.specs.Tokens.{lexemes_left, tokens}
-use Rattle.asm_grammar.specs.Reading.{has_stray}
+use Rattle.asm_grammar.specs.Grammar.{has_stray}
 use Rattle.asm_grammar.proofs.line.has_stray.Given as goal
 
 abbrev pub invariant-loop-found : goal.invariant-loop-found

@@ -1,6 +1,7 @@
 use Rattle.std.proofs.Common.{ap, ◌∙◌}
 use Rattle.asm_table.specs.Names.{named}
-use Rattle.asm_table.proofs.Lookups.{named_name, named_is}
+use Rattle.asm_table.proofs.Each.{named_name}
+use Rattle.asm_table.proofs.Lookups.{named_is}
 use Rattle.asm_table.proofs.laws.names_are_exact.Goals as goal
 
 pub returns : goal.returns

@@ -1,6 +1,6 @@
 use Rattle.std.proofs.Common.{ap, sym, ◌∙◌}
 use Rattle.asm_table.specs.Parts.{instr_of_parts}
-use Rattle.asm_table.proofs.Built.{built_again, built_is}
+use Rattle.asm_table.proofs.Each.{built_again, built_is}
 use Rattle.asm_table.proofs.laws.parts_are_exact.Goals as goal
 
 pub returns : goal.returns

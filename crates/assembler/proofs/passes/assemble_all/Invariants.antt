@@ -1,6 +1,6 @@
 use Rattle.std.proofs.Common.{◌≡◌, ◌≤◌, ◌+◌, ◌++◌, length, Ok}
 use Rattle.std.specs.Str.Lines.{lines}
-use Rattle.asm_grammar.specs.Reading.{Look}
+use Rattle.asm_grammar.specs.Grammar.{Look}
 use Rattle.asm_grammar.specs.Views.{look_in}
 use Rattle.assembler.specs.Passes.{outlined, assembled, onto}
 use Rattle.assembler.proofs.passes.assemble_all.Given as goal

@@ -1,7 +1,6 @@
 use Rattle.std.proofs.Common.{ℕ, List, [], ◌++◌, ◌≡◌, take, drop, sym, ap, ◌∙◌, refl, subst, append_assoc, append-nil, take-append-drop, length, ◌-◌, ◌<◌, arith, rules, length-append, length-drop}
 use Rattle.std.proofs.lemmas.List.{take_rest}
 use Rattle.std.proofs.lemmas.Result.{err_from_is_err_and}
-use Rattle.console.specs.Agent.{agent}
 use Rattle.console.specs.Conversations.{FailsInReply}
 use Rattle.console.proofs.Exchanges.{answers_none, answers_fed, fails_fed, fails_more}
 use Rattle.console.proofs.conversation.answer_piece.Goals as goal
@@ -26,7 +25,7 @@ shorter seen rest piece n e some more =
 pub loop-rest-init : goal.loop-rest-init
 loop-rest-init g c = record {
   open_line = c.requires;
-  answers = ([], refl, λ line l e. rw append-nil (answers_none agent _ line _ _ l e c.requires));
+  answers = ([], refl, λ line l e. rw append-nil (answers_none g.A.Answerer.protocol _ line _ _ l e c.requires));
 }
 
 pub loop-rest-preserved : goal.loop-rest-preserved
@@ -41,7 +40,7 @@ loop-rest-preserved g c =
         i.answers.0 ++ take n rest,
         moved i.answers.0 rest _ n i.answers.1,
         λ line l e. rw (← append_assoc line i.answers.0 (take n rest))
-            (answers_fed agent _ _ _ _ rest _ _ _ _ _ n _ (i.answers.2 line l e) (c.feed-taken.ensures.feeds i.open_line) a.ok),
+            (answers_fed g.A.Answerer.protocol _ _ _ _ rest _ _ _ _ _ n _ (i.answers.2 line l e) (c.feed-taken.ensures.feeds i.open_line) a.ok),
       );
     }
 
@@ -55,8 +54,8 @@ returns-in_err-answer_waiting-clause-err g c =
     rw x.1 (λ line l e. (
       drop n rest,
       shorter i.answers.0 rest _ n i.answers.1 (c.feed-taken.ensures.progress i.open_line more) more,
-      subst (λ y. FailsInReply agent (drop n rest) c.args.world.now y (g.W.Write.contents c.args.writer.now) (g.W.Write.contents c.answer_waiting.new.writer) c.answer_waiting.new.world)
+      subst (λ y. FailsInReply g.A.Answerer.protocol (drop n rest) (g.A.Answerer.state c.args.answerer.now) y (g.W.Write.contents c.args.writer.now) (g.W.Write.contents c.answer_waiting.new.writer) (g.A.Answerer.state c.answer_waiting.new.answerer))
           (whole line i.answers.0 rest _ n i.answers.1)
-          (fails_more agent [] _ _ _ (drop n rest) _ _
-          (fails_fed agent _ _ _ _ rest _ _ _ _ _ n (i.answers.2 line l e) (c.feed-taken.ensures.feeds i.open_line) c.in_err-answer_waiting.ensures.err)),
+          (fails_more g.A.Answerer.protocol [] _ _ _ (drop n rest) _ _
+          (fails_fed g.A.Answerer.protocol _ _ _ _ rest _ _ _ _ _ n (i.answers.2 line l e) (c.feed-taken.ensures.feeds i.open_line) c.in_err-answer_waiting.ensures.err)),
     ))

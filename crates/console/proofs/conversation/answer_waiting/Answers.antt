@@ -1,7 +1,6 @@
 use Rattle.std.proofs.Common.{sym, ◌∙◌, subst}
 use Rattle.std.proofs.lemmas.Result.{err_from_is_err_and}
 use Rattle.std.specs.Io.KnownBytes.{Appends}
-use Rattle.console.specs.Agent.{agent}
 use Rattle.console.specs.Commands.{Reads, SpellsCommand}
 use Rattle.console.proofs.Clips.{reads_clip}
 use Rattle.console.proofs.Exchanges.{answers_none, answers_line, fails_line, so_far_waits, so_far_open}
@@ -14,16 +13,16 @@ returns-in_err-put_all-clause-err g c =
     let r = c.in_err-put_all.ensures.err in
     rw p.1 (λ line l e.
     let a = c.perform.ensures line l (reads_clip line c.in-Some.command (subst (λ x. Reads (SpellsCommand x) c.in-Some.command) e q.1)) in
-    fails_line agent _ _ line _ _ r.0 r.1 _ _ (so_far_waits line _ q.0) a (sym c.deref.ensures.0 ∙ r.2) r.3 r.4)
+    fails_line g.A.Answerer.protocol _ _ line _ _ r.0 r.1 _ _ (so_far_waits line _ q.0) a (sym c.deref.ensures.0 ∙ r.2) r.3 r.4)
 
 pub returns-in_ok-put_all-clause-ok : goal.returns-in_ok-put_all-clause-ok
 returns-in_ok-put_all-clause-ok g c = λ line l e.
     let q = c.in-Some.ensures.some in
     let a = c.perform.ensures line l (reads_clip line c.in-Some.command (subst (λ x. Reads (SpellsCommand x) c.in-Some.command) e q.1)) in
     let w = subst (λ x. Appends (g.W.Write.contents c.args.writer.now) (g.W.Write.contents c.put_all.new.writer) x) c.deref.ensures.0 c.in_ok-put_all.ensures.ok in
-    answers_line agent _ _ line _ _ _ _ _ (so_far_waits line _ q.0) a w q.2
+    answers_line g.A.Answerer.protocol _ _ line _ _ _ _ _ (so_far_waits line _ q.0) a w q.2
 
 pub returns-in_default-clause-ok : goal.returns-in_default-clause-ok
 returns-in_default-clause-ok g c = λ line l e.
     let q = c.in_default.ensures.none in
-    rw (q.1, so_far_open line c.args.console.now.waits q.0) (answers_none agent c.args.world.now line (g.W.Write.contents c.args.writer.now) c.args.console.now l e q.0)
+    rw (q.1, so_far_open line c.args.console.now.waits q.0) (answers_none g.A.Answerer.protocol (g.A.Answerer.state c.args.answerer.now) line (g.W.Write.contents c.args.writer.now) c.args.console.now l e q.0)

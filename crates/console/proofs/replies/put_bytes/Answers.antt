@@ -1,31 +1,25 @@
-use Rattle.std.proofs.Common.{◌≡◌, ℕ, ◌+◌, ◌<◌, length, take, List, [], ◌∷◌, ◌++◌, ◌∙◌, refl, sym, ap, arith, append-nil, append_assoc, get_or}
-use Rattle.std.proofs.lemmas.List.{take_more}
-use Rattle.hex.specs.Hex.{encode_with, encode_lower, lower_digits}
+use Rattle.std.proofs.Common.{◌≡◌, ◌+◌, ◌*◌, [], ◌++◌, length, take, drop, refl, sym, ap, ◌∙◌, append-nil, append_assoc, take-append-drop, length-append, arith}
+use Rattle.std.proofs.lemmas.List.{take_rest}
+use Rattle.hex.specs.Hex.{encode_lower, lower_digits}
+use Rattle.hex.proofs.HexLemmas.{length-encode_with}
+use Rattle.console.proofs.HexPairs.{no_digits, digits_join}
 use Rattle.console.proofs.replies.put_bytes.Goals as goal
 
-encode_none : encode_lower [] ≡ []
-unfolding encode_with
-encode_none = refl
+pub loop-rest-init : goal.loop-rest-init
+loop-rest-init c = ([], refl, sym (append-nil _) ∙ ap (λ l. c.args.line.now.items ++ l) (sym no_digits), omega arith)
 
-encode_append : (xs ys : List ℕ) → encode_lower (xs ++ ys) ≡ encode_lower xs ++ encode_lower ys
-unfolding encode_with
-encode_append [] ys = refl
-encode_append (x ∷ xs) ys = ap (λ l. encode_with lower_digits (x ∷ []) ++ l) (encode_append xs ys)
-
--- one more byte
-byte_more : (start old new bytes : List ℕ) (i : ℕ) → i < length bytes → new ≡ old ++ encode_lower (get_or bytes i 0 ∷ []) → old ≡ start ++ encode_lower (take i bytes)
-    → new ≡ start ++ encode_lower (take (i + 1) bytes)
-byte_more start old new bytes i h e f =
-    e ∙ ap (λ l. l ++ encode_lower (get_or bytes i 0 ∷ [])) f ∙ append_assoc start (encode_lower (take i bytes)) (encode_lower (get_or bytes i 0 ∷ []))
-    ∙ ap (λ l. start ++ l) (sym (encode_append (take i bytes) (get_or bytes i 0 ∷ [])) ∙ ap (λ l. encode_lower l) (sym (take_more bytes i 0 h)))
-
-pub loop-b-init : goal.loop-b-init
-loop-b-init c = record { text = rw encode_none (sym (append-nil _)); short = omega arith }
-
-pub loop-b-preserved : goal.loop-b-preserved
-loop-b-preserved c =
-    let v = c.loop-b.invariant in
-    record {
-      text = byte_more _ _ _ c.args.bytes.now c.loop-b.b-index c.loop-b-test.true c.put_byte.ensures.text v.text;
-      short = omega (arith, c.put_byte.ensures.short, v.short);
-    }
+pub loop-rest-preserved : goal.loop-rest-preserved
+loop-rest-preserved c =
+    let i = c.loop-rest.invariant in
+    let n = c.min-count.result in
+    let rest = c.loop-rest.rest.now in
+    let more : c.put.new.line.items ≡ c.loop-rest.line.items ++ encode_lower (take n rest) = c.put.ensures ∙ ap (λ l. c.loop-rest.line.items ++ l) c.write_digits.ensures in
+    let m = ap length more in
+    let a = length-append c.loop-rest.line.items (encode_lower (take n rest)) in
+    let b = length-append i.0 (take n rest) in
+    let d = length-encode_with lower_digits (take n rest) in (
+      i.0 ++ take n rest,
+      i.1 ∙ ap (λ l. i.0 ++ l) (sym (take-append-drop n rest)) ∙ sym (append_assoc i.0 (take n rest) (drop n rest)) ∙ ap (λ l. i.0 ++ take n rest ++ l) (sym (take_rest rest n)),
+      digits_join c.args.line.now.items c.loop-rest.line.items _ i.0 (take n rest) i.2 more,
+      omega (arith, m, a, b, d, i.3),
+    )

@@ -1,4 +1,4 @@
-use Rattle.machine.proofs.Replaying.{replays_one_way}
+use Rattle.machine.proofs.SameReplays.{replays_one_way}
 use Rattle.machine.proofs.laws.replays_one_way.Goals as goal
 
 pub returns : goal.returns

@@ -22,4 +22,5 @@ loop-number-preserved g c =
       windows = rw now (rw i.windows (set-set c.args.windows.now c.args.who _ c.pop.new.self));
       bytes = c.end_scope.ensures.bytes ∙ i.bytes;
       places = c.end_scope.ensures.places ∙ i.places;
+      sent = c.end_scope.ensures.sent ∙ i.sent;
     }

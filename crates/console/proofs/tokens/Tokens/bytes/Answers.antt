@@ -5,5 +5,5 @@ use Rattle.console.proofs.tokens.Tokens.bytes.Goals as goal
 pub returns-in-Some-clause-err : goal.returns-in-Some-clause-err
 returns-in-Some-clause-err c = rw c.in-Some.is c.hex.ensures.err
 
-pub returns-in_ok-end-in-None-clause-ok : goal.returns-in_ok-end-in-None-clause-ok
-returns-in_ok-end-in-None-clause-ok c = ([], rw c.in-None.is (c.in_ok-end-in-None.ensures.ok, refl), hex_nothing)
+pub returns-in-None-clause-ok : goal.returns-in-None-clause-ok
+returns-in-None-clause-ok c = ([], rw c.in-None.is (refl, refl), hex_nothing)

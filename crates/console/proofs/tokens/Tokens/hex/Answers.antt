@@ -12,4 +12,4 @@ pub returns-clause-ok : goal.returns-clause-ok
 returns-clause-ok c =
     let h = c.is_hex.ensures.0 c.if-not-is_hex.false in
     let k = hex_length c.in_ok-text.text.now h.0 h.1.1 in
-    bytes_given _ _ _ _ h.0 c.in_ok-text.ensures.ok c.in_ok-end.ensures.ok h.1 (omega (arith, k, c.if-text-most.false))
+    bytes_given _ _ _ _ h.0 c.in_ok-text.ensures.ok h.1 (omega (arith, k, c.if-text-most.false))

@@ -1,9 +1,7 @@
-use Rattle.std.proofs.Common.{List, [], ◌∷◌, ◌++◌, map, ap, ◌∙◌, refl, append_assoc, arith}
-use Rattle.std.proofs.lemmas.List.{map-append}
+use Rattle.std.proofs.Common.{List, [], ◌∷◌, ◌++◌, ap, ◌∙◌, refl, append_assoc, arith}
 use Rattle.world.specs.Run.{Runs}
-use Rattle.world.specs.Commands.{command_of}
 use Rattle.world.specs.Answers.{Answers}
-use Rattle.world.specs.declared.events.Reply.{Reply}
+use Rattle.world.specs.declared.replies.Reply.{Reply}
 use Rattle.world.proofs.Joined.{Runs-append}
 use Rattle.world.proofs.Undebugged_runs.{neither_changes_anything}
 use Rattle.world.proofs.world.World.run.Goals as goal
@@ -12,8 +10,8 @@ pub loop-event-preserved : goal.loop-event-preserved
 loop-event-preserved g c =
     let i = c.loop-event.invariant in
     let s = rw c.in-Some.is at c.next.ensures.steps in
-    let run : Runs Answers c.args.self.now (map command_of (c.loop-event.yielded ++ c.in-Some.event ∷ [])) (i.run.0 ++ c.apply.result ∷ []) c.apply.new.self =
-    rw map-append (Runs-append Answers c.args.self.now c.loop-event.self c.apply.new.self (map command_of c.loop-event.yielded) i.run.0 (command_of c.in-Some.event ∷ []) (c.apply.result ∷ []) i.run.2 (c.apply.new.self, c.apply.ensures, refl)) in
+    let run : Runs Answers c.args.self.now (c.loop-event.yielded ++ c.in-Some.event ∷ []) (i.run.0 ++ c.apply.result ∷ []) c.apply.new.self =
+    Runs-append Answers c.args.self.now c.loop-event.self c.apply.new.self c.loop-event.yielded i.run.0 (c.in-Some.event ∷ []) (c.apply.result ∷ []) i.run.2 (c.apply.new.self, c.apply.ensures, refl) in
     record {
       run = (
         i.run.0 ++ c.apply.result ∷ [],

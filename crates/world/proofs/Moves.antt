@@ -1,0 +1,60 @@
+-- What is so of each move.
+use Rattle.std.proofs.Common.{◌≡◌, ℕ, true, false, refl, ap}
+use Rattle.object_store.specs.declared.places.Place.{Place}
+use Rattle.object_store.specs.declared.places.Place.TheVariants as place
+use Rattle.object_store.specs.declared.places.Moved.{Moved}
+use Rattle.object_store.specs.declared.places.Moved.TheVariants as moved
+use Rattle.object_store.specs.Stores.{StoreState}
+use Rattle.object_store.specs.Calls.{RefusesMove, BeginsLeave, EndsLeave, BeginsReturn, EndsReturn}
+use Rattle.world.specs.declared.events.Move.{Move as MoveKind}
+use Rattle.world.specs.declared.events.Move.TheVariants as move
+use Rattle.world.specs.Answers.{Moves, moved_reply}
+use Rattle.world.specs.Undebugged.{undebugged_reply, is_pause}
+
+-- ---- bytes
+
+refuses_stay : (from : Place) (old new : StoreState) (n : ℕ) (m : Moved) → RefusesMove from old n m new → new.objects ≡ old.objects
+refuses_stay from old new n moved.NoObject h = ap (λ (s : StoreState). s.objects) h.1
+refuses_stay from old new n (moved.Misplaced p) h = ap (λ (s : StoreState). s.objects) h.2
+refuses_stay from old new n _ h = absurd h
+
+begins_leave : (old new : StoreState) (n : ℕ) (m : Moved) → BeginsLeave old n m new → new.objects ≡ old.objects
+begins_leave old new n moved.Scoped h = ap (λ (s : StoreState). s.objects) h.2
+begins_leave old new n moved.Done h = ap (λ (s : StoreState). s.objects) h.2
+begins_leave old new n m h = refuses_stay place.Here old new n m h
+
+ends_leave : (old new : StoreState) (n : ℕ) (m : Moved) → EndsLeave old n m new → new.objects ≡ old.objects
+ends_leave old new n (moved.Fault f) h = ap (λ (s : StoreState). s.objects) h.2
+ends_leave old new n moved.Done h = ap (λ (s : StoreState). s.objects) h.2
+ends_leave old new n m h = refuses_stay place.Leaving old new n m h
+
+begins_return : (old new : StoreState) (n : ℕ) (m : Moved) → BeginsReturn old n m new → new.objects ≡ old.objects
+begins_return old new n moved.NoRoom h = ap (λ (s : StoreState). s.objects) h.2
+begins_return old new n moved.Done h = ap (λ (s : StoreState). s.objects) h.2
+begins_return old new n m h = refuses_stay place.Far old new n m h
+
+ends_return : (old new : StoreState) (n : ℕ) (m : Moved) → EndsReturn true old n m new → new.objects ≡ old.objects
+ends_return old new n (moved.Fault f) h = ap (λ (s : StoreState). s.objects) h.2
+ends_return old new n moved.Done h = ap (λ (s : StoreState). s.objects) h.1
+ends_return old new n m h = refuses_stay place.Returning old new n m h
+
+-- a move changes no object's bytes
+pub moves_stay : (m : MoveKind) (old new : StoreState) (n : ℕ) (d : Moved) → Moves m old n d new → new.objects ≡ old.objects
+moves_stay move.Leave old new n d h = begins_leave old new n d h
+moves_stay move.Left old new n d h = ends_leave old new n d h
+moves_stay move.Return old new n d h = begins_return old new n d h
+moves_stay move.Returned old new n d h = ends_return old new n d h
+
+-- ---- replies
+
+pub moved_undebugged : (m : MoveKind) (n : ℕ) → undebugged_reply (moved_reply m n) ≡ moved_reply m n
+moved_undebugged move.Leave n = refl
+moved_undebugged move.Left n = refl
+moved_undebugged move.Return n = refl
+moved_undebugged move.Returned n = refl
+
+pub moved_unpaused : (m : MoveKind) (n : ℕ) → is_pause (moved_reply m n) ≡ false
+moved_unpaused move.Leave n = refl
+moved_unpaused move.Left n = refl
+moved_unpaused move.Return n = refl
+moved_unpaused move.Returned n = refl

@@ -1,0 +1,91 @@
+//! Commands on machines, by their numbers.
+ghost use Rattle.std.specs.Prelude.{◌≡◌, ◌≤◌, ◌<◌, suc, None, length, IfSome, IfNone};
+ghost use Rattle.object_store.specs.Stores.{HasWindow, machine_limit, store_memory};
+ghost use Rattle.debugger.specs.declared.commands.MachineCommand.{MachineCommand};
+ghost use Rattle.debugger.specs.Debuggees.{AnswersStep};
+ghost use Rattle.world.specs.WorldState.{machine_at};
+ghost use Rattle.world.specs.Machines.{AnswersMachine, AnswersCommand, reply_of};
+
+use crate::replies::Reply;
+use debugger::{Debuggee, MachineCommand, StepReply, Way};
+use far_store::FarStore;
+use object_store::{ObjectStore, StoreMemory};
+use std::alloc::Global;
+
+/// The index of the machine of a number.
+#[inline]
+fn index_of(machines: &[Debuggee], machine: usize) -> Option<usize>
+    ensures some { IfSome result (λ index. (machine ≡ suc index) × (index < length machines.now)) }
+    ensures none { IfNone result (machine_at machines.now machine ≡ None) }
+{
+    if machine == 0 || machine > machines.len() {
+        return None;
+    }
+    Some(machine - 1)
+}
+
+/// One step of a machine over the objects. It is no `inline`: the step itself is inlined here, once.
+fn step_over<F: FarStore>(
+    debuggee: &mut Debuggee,
+    store: &mut ObjectStore<F>,
+    who: usize,
+    way: Way,
+) -> StepReply
+    requires { HasWindow who }
+    ensures { AnswersStep (store_memory who) way debuggee.old store.old.state result debuggee.new store.new.state }
+{
+    let mut memory = StoreMemory { store, who };
+    debuggee.step(way, &mut memory)
+}
+
+/// One step of the machine of a number, if there is one.
+#[inline]
+pub(crate) fn step_machine<F: FarStore>(
+    machines: &mut [Debuggee],
+    store: &mut ObjectStore<F>,
+    machine: usize,
+    way: Way,
+) -> Option<StepReply>
+    requires { length machines.old ≤ machine_limit }
+    ensures { AnswersMachine (store_memory machine) machines.old store.old.state machine (MachineCommand.Step way) (reply_of machine result) machines.new store.new.state }
+{
+    let index = index_of(machines, machine)?;
+    Some(step_over(&mut machines[index], store, machine, way))
+}
+
+/// Does a command on one machine.
+fn answer_debuggee<F: FarStore>(
+    alloc: Global,
+    debuggee: &mut Debuggee,
+    store: &mut ObjectStore<F>,
+    machine: usize,
+    command: MachineCommand,
+) -> Reply
+    requires { HasWindow machine }
+    ensures { AnswersCommand (store_memory machine) debuggee.old store.old.state machine command result debuggee.new store.new.state }
+{
+    match command {
+        MachineCommand::Step(way) => {
+            Reply::to_step(machine, step_over(debuggee, store, machine, way))
+        }
+        MachineCommand::Show(command) => Reply::to_show(machine, debuggee.show(alloc, command)),
+        MachineCommand::Debug(command) => Reply::to_debug(debuggee.debug(command)),
+    }
+}
+
+/// Does a command on the machine of a number, if there is one.
+pub(crate) fn answer_machine<F: FarStore>(
+    alloc: Global,
+    machines: &mut [Debuggee],
+    store: &mut ObjectStore<F>,
+    machine: usize,
+    command: MachineCommand,
+) -> Reply
+    requires { length machines.old ≤ machine_limit }
+    ensures { AnswersMachine (store_memory machine) machines.old store.old.state machine command result machines.new store.new.state }
+{
+    let Some(index) = index_of(machines, machine) else {
+        return Reply::Missing;
+    };
+    answer_debuggee(alloc, &mut machines[index], store, machine, command)
+}

@@ -1,0 +1,215 @@
+-- What is proved of each move, and of freeing: what it does to the store, its replies as the first need that isn't met, and
+-- that it doesn't look at the count of faults.
+use Rattle.std.proofs.Common.{◌≡◌, ℕ, Bool, true, false, List, [], ◌∷◌, length, inl, inr, refl, ap, sym, ◌∙◌, arith}
+use Rattle.memory.specs.Objects.{IsLive, bytes_of, with_bytes}
+use Rattle.object_store.specs.Stores.{StoreState, HasRoom, IsScoped, place_of, with_place}
+use Rattle.object_store.specs.Calls.{RefusesMove, Frees, BeginsLeave, EndsLeave, BeginsReturn, EndsReturn}
+use Rattle.object_store.specs.declared.places.Place.{Place}
+use Rattle.object_store.specs.declared.places.Place.TheVariants as place
+use Rattle.object_store.specs.declared.places.Moved.{Moved}
+use Rattle.object_store.specs.declared.places.Moved.TheVariants as moved
+use Rattle.debugger.specs.Refusals.{Decides}
+use Rattle.world.specs.declared.replies.Reply.{Reply}
+use Rattle.world.specs.declared.replies.Reply.TheVariants as reply
+use Rattle.world.specs.declared.events.Move.{Move as MoveKind}
+use Rattle.world.specs.declared.events.Move.TheVariants as move
+use Rattle.world.specs.Answers as answers
+use Rattle.world.specs.Answers.{moved_reply, place_before, reply_to_move}
+use Rattle.world_laws.specs.Replies.{is_settled}
+use Rattle.world_laws.proofs.StoreCalls.{Move, Refused, Moves}
+
+-- ---- what it does to the store
+
+refused : (at : Place) (old new : StoreState) (n : ℕ) (m : Moved) (told : Reply) (back : Place) → RefusesMove at old n m new → Move old n (reply_to_move told back n m) new
+refused at old new n moved.NoObject told back h = Refused refl h.1
+refused at old new n (moved.Misplaced q) told back h = Refused refl h.2
+refused at old new n _ told back h = absurd h
+
+begun_leave : (old new : StoreState) (n : ℕ) (m : Moved) → BeginsLeave old n m new → Move old n (reply_to_move (reply.Leaving n) place.Here n m) new
+begun_leave old new n moved.Done h = Moves place.Here place.Leaving old.faults
+    (record { stands = h.0; fits = λ g. omega (arith, g); unscoped = λ e. h.1; done = refl; told = λ k p. refl; is_unmade = refl; fault = λ k p e. absurd (cc) }) h.2
+begun_leave old new n moved.Scoped h = Refused refl h.2
+begun_leave old new n m h = refused place.Here old new n m (reply.Leaving n) place.Here h
+
+ended_leave : (old new : StoreState) (n : ℕ) (m : Moved) → EndsLeave old n m new → Move old n (reply_to_move (reply.Left n) place.Here n m) new
+ended_leave old new n moved.Done h = Moves place.Leaving place.Far new.faults
+    (record { stands = h.0; fits = λ g. omega (arith, g); unscoped = λ e. absurd (cc); done = refl; told = λ k p. refl; is_unmade = refl; fault = λ k p e. absurd (cc) }) h.2
+ended_leave old new n (moved.Fault f) h = Moves place.Leaving place.Here new.faults
+    (record { stands = h.0; fits = λ g. omega (arith, g); unscoped = λ e. absurd (cc); done = refl; told = λ k p. refl; is_unmade = refl; fault = λ k p e. (h.1, cc, cc) }) h.2
+ended_leave old new n m h = refused place.Leaving old new n m (reply.Left n) place.Here h
+
+begun_return : (old new : StoreState) (n : ℕ) (m : Moved) → BeginsReturn old n m new → Move old n (reply_to_move (reply.Returning n) place.Far n m) new
+begun_return old new n moved.Done h = Moves place.Far place.Returning old.faults
+    (record { stands = h.0; fits = λ g. omega (arith, h.1); unscoped = λ e. absurd (cc); done = refl; told = λ k p. refl; is_unmade = refl; fault = λ k p e. absurd (cc) }) h.2
+begun_return old new n moved.NoRoom h = Refused refl h.2
+begun_return old new n m h = refused place.Far old new n m (reply.Returning n) place.Far h
+
+ended_return : (old new : StoreState) (n : ℕ) (m : Moved) → EndsReturn true old n m new → Move old n (reply_to_move (reply.Home n) place.Far n m) new
+ended_return old new n moved.Done h = Moves place.Returning place.Here old.faults
+    (record { stands = h.0; fits = λ g. omega (arith, g); unscoped = λ e. absurd (cc); done = refl; told = λ k p. refl; is_unmade = refl; fault = λ k p e. absurd (cc) }) h.1
+ended_return old new n (moved.Fault f) h = Moves place.Returning place.Far new.faults
+    (record { stands = h.0; fits = λ g. omega (arith, g); unscoped = λ e. absurd (cc); done = refl; told = λ k p. refl; is_unmade = refl; fault = λ k p e. (h.1, cc, cc) }) h.2
+ended_return old new n m h = refused place.Returning old new n m (reply.Home n) place.Far h
+
+pub store_move : (k : MoveKind) (old new : StoreState) (n : ℕ) (m : Moved) → answers.Moves k old n m new → Move old n (reply_to_move (moved_reply k n) (place_before k) n m) new
+store_move move.Leave old new n m h = begun_leave old new n m h
+store_move move.Left old new n m h = ended_leave old new n m h
+store_move move.Return old new n m h = begun_return old new n m h
+store_move move.Returned old new n m h = ended_return old new n m h
+
+-- ---- which reply it has
+
+abbrev pub is_faulty : Moved → Bool
+is_faulty (moved.Fault f) = true
+is_faulty _ = false
+
+pub settles : (told : Reply) (back : Place) (n : ℕ) (m : Moved) → is_settled (reply_to_move told back n m) ≡ true → is_faulty m ≡ false
+settles told back n (moved.Fault f) e = absurd (cc)
+settles told back n _ e = refl
+
+-- a move of an object from a place
+abbrev pub MoveNeeds : Place → StoreState → ℕ → Moved → Type 0
+MoveNeeds from old n moved.NoObject = IsLive old.objects n
+MoveNeeds from old n (moved.Misplaced p) = place_of old.places n ≡ from
+MoveNeeds from old n moved.Scoped = IsScoped old n → ⊥
+MoveNeeds from old n moved.NoRoom = HasRoom old (length (bytes_of old.objects n))
+MoveNeeds from old n _ = Unit {0}
+
+-- how it may be refused, before it is tested for more
+abbrev pub move_refusals : StoreState → ℕ → List Moved → List Moved
+move_refusals old n more = moved.NoObject ∷ moved.Misplaced (place_of old.places n) ∷ more
+
+abbrev pub MoveDecides : Place → List Moved → StoreState → ℕ → Moved → Type 0
+MoveDecides from more old n m = Decides (MoveNeeds from old n) (move_refusals old n more) moved.Done m
+
+refused_first : (from : Place) (more : List Moved) (old s : StoreState) (n : ℕ) (m : Moved) → RefusesMove from old n m s → MoveDecides from more old n m
+refused_first from more old s n moved.NoObject g = inl (g.0, refl)
+refused_first from more old s n (moved.Misplaced p) g = inr (g.0.0, inl ((λ e. g.1 (sym g.0.1 ∙ e)), ap moved.Misplaced (sym g.0.1)))
+refused_first from more old s n _ g = absurd g
+
+refused_leads : (from : Place) (old s t : StoreState) (n : ℕ) (m : Moved) → RefusesMove from old n m s → RefusesMove from old n m t → s ≡ t
+refused_leads from old s t n moved.NoObject g h = g.1 ∙ sym h.1
+refused_leads from old s t n (moved.Misplaced p) g h = g.2 ∙ sym h.2
+refused_leads from old s t n _ g h = absurd g
+
+abbrev pub StoreMoves : Type 1
+StoreMoves = StoreState → ℕ → Moved → StoreState → Type 0
+
+abbrev pub MoveFirsts : StoreMoves → Place → List Moved → Type 0
+MoveFirsts moves from more = (old s : StoreState) (n : ℕ) (m : Moved) → moves old n m s → is_faulty m ≡ false → MoveDecides from more old n m
+
+abbrev pub MoveLeads : StoreMoves → Type 0
+MoveLeads moves = (old s t : StoreState) (n : ℕ) (m : Moved) → moves old n m s → moves old n m t → s.faults ≡ t.faults → is_faulty m ≡ false → s ≡ t
+
+pub frees_first : MoveFirsts Frees place.Here (moved.Scoped ∷ [])
+frees_first old s n moved.Done g p = inr (g.0.0, inr (g.0.1, inr (g.1, refl)))
+frees_first old s n moved.Scoped g p = inr (g.0.0, inr (g.0.1, inl ((λ k. k g.1), refl)))
+frees_first old s n m g p = refused_first place.Here (moved.Scoped ∷ []) old s n m g
+
+pub frees_leads : MoveLeads Frees
+frees_leads old s t n moved.Done g h f p = g.3 ∙ ap (λ k. record old { objects = with_bytes old.objects n []; faults = k }) f ∙ sym h.3
+frees_leads old s t n moved.Scoped g h f p = g.2 ∙ sym h.2
+frees_leads old s t n m g h f p = refused_leads place.Here old s t n m g h
+
+leave_first : MoveFirsts BeginsLeave place.Here (moved.Scoped ∷ [])
+leave_first old s n moved.Done g p = inr (g.0.0, inr (g.0.1, inr (g.1, refl)))
+leave_first old s n moved.Scoped g p = inr (g.0.0, inr (g.0.1, inl ((λ k. k g.1), refl)))
+leave_first old s n m g p = refused_first place.Here (moved.Scoped ∷ []) old s n m g
+
+leave_leads : MoveLeads BeginsLeave
+leave_leads old s t n moved.Done g h f p = g.2 ∙ sym h.2
+leave_leads old s t n moved.Scoped g h f p = g.2 ∙ sym h.2
+leave_leads old s t n m g h f p = refused_leads place.Here old s t n m g h
+
+left_first : MoveFirsts EndsLeave place.Leaving []
+left_first old s n moved.Done g p = inr (g.0.0, inr (g.0.1, refl))
+left_first old s n (moved.Fault x) g p = absurd (cc)
+left_first old s n m g p = refused_first place.Leaving [] old s n m g
+
+left_leads : MoveLeads EndsLeave
+left_leads old s t n moved.Done g h f p = g.2 ∙ ap (λ k. record (with_place old n place.Far) { faults = k }) f ∙ sym h.2
+left_leads old s t n (moved.Fault x) g h f p = absurd (cc)
+left_leads old s t n m g h f p = refused_leads place.Leaving old s t n m g h
+
+return_first : MoveFirsts BeginsReturn place.Far (moved.NoRoom ∷ [])
+return_first old s n moved.Done g p = inr (g.0.0, inr (g.0.1, inr (g.1, refl)))
+return_first old s n moved.NoRoom g p = inr (g.0.0, inr (g.0.1, inl (g.1, refl)))
+return_first old s n m g p = refused_first place.Far (moved.NoRoom ∷ []) old s n m g
+
+return_leads : MoveLeads BeginsReturn
+return_leads old s t n moved.Done g h f p = g.2 ∙ sym h.2
+return_leads old s t n moved.NoRoom g h f p = g.2 ∙ sym h.2
+return_leads old s t n m g h f p = refused_leads place.Far old s t n m g h
+
+returned_first : MoveFirsts (EndsReturn true) place.Returning []
+returned_first old s n moved.Done g p = inr (g.0.0, inr (g.0.1, refl))
+returned_first old s n (moved.Fault x) g p = absurd (cc)
+returned_first old s n m g p = refused_first place.Returning [] old s n m g
+
+returned_leads : MoveLeads (EndsReturn true)
+returned_leads old s t n moved.Done g h f p = g.1 ∙ sym h.1
+returned_leads old s t n (moved.Fault x) g h f p = absurd (cc)
+returned_leads old s t n m g h f p = refused_leads place.Returning old s t n m g h
+
+-- from where it is moved, how else it may be refused, and that these decide
+pub record DecidedSo (k : MoveKind) : Type 0 where
+  pub start : Place
+  pub more : List Moved
+  pub first : MoveFirsts (answers.Moves k) start more
+  pub leads : MoveLeads (answers.Moves k)
+
+pub decided_so : (k : MoveKind) → DecidedSo k
+decided_so move.Leave = record { start = place.Here; more = moved.Scoped ∷ []; first = leave_first; leads = leave_leads }
+decided_so move.Left = record { start = place.Leaving; more = []; first = left_first; leads = left_leads }
+decided_so move.Return = record { start = place.Far; more = moved.NoRoom ∷ []; first = return_first; leads = return_leads }
+decided_so move.Returned = record { start = place.Returning; more = []; first = returned_first; leads = returned_leads }
+
+-- ---- faults
+
+-- the store but for the count of faults
+abbrev pub cleared : StoreState → StoreState
+cleared s = record s { faults = 0 }
+
+abbrev pub Clears : (StoreState → ℕ → Moved → StoreState → Type 0) → Type 0
+Clears moves = (old new : StoreState) (n : ℕ) (told : Reply) (back : Place) (m : Moved) → moves old n m new → is_settled (reply_to_move told back n m) ≡ true → moves (cleared old) n m (cleared new)
+
+pub frees_clears : Clears Frees
+frees_clears old new n told back moved.Scoped h t = (h.0, h.1, ap cleared h.2)
+frees_clears old new n told back moved.Done h t = (h.0, h.1, omega arith, ap cleared h.3)
+frees_clears old new n told back moved.NoObject h t = (h.0, ap cleared h.1)
+frees_clears old new n told back (moved.Misplaced p) h t = (h.0, h.1, ap cleared h.2)
+frees_clears old new n told back _ h t = absurd h
+
+begins_leave : Clears BeginsLeave
+begins_leave old new n told back moved.Scoped h t = (h.0, h.1, ap cleared h.2)
+begins_leave old new n told back moved.Done h t = (h.0, h.1, ap cleared h.2)
+begins_leave old new n told back moved.NoObject h t = (h.0, ap cleared h.1)
+begins_leave old new n told back (moved.Misplaced p) h t = (h.0, h.1, ap cleared h.2)
+begins_leave old new n told back _ h t = absurd h
+
+ends_leave : Clears EndsLeave
+ends_leave old new n told back (moved.Fault f) h t = absurd (cc)
+ends_leave old new n told back moved.Done h t = (h.0, omega arith, ap cleared h.2)
+ends_leave old new n told back moved.NoObject h t = (h.0, ap cleared h.1)
+ends_leave old new n told back (moved.Misplaced p) h t = (h.0, h.1, ap cleared h.2)
+ends_leave old new n told back _ h t = absurd h
+
+begins_return : Clears BeginsReturn
+begins_return old new n told back moved.NoRoom h t = (h.0, h.1, ap cleared h.2)
+begins_return old new n told back moved.Done h t = (h.0, h.1, ap cleared h.2)
+begins_return old new n told back moved.NoObject h t = (h.0, ap cleared h.1)
+begins_return old new n told back (moved.Misplaced p) h t = (h.0, h.1, ap cleared h.2)
+begins_return old new n told back _ h t = absurd h
+
+ends_return : Clears (EndsReturn true)
+ends_return old new n told back (moved.Fault f) h t = absurd (cc)
+ends_return old new n told back moved.Done h t = (h.0, ap cleared h.1)
+ends_return old new n told back moved.NoObject h t = (h.0, ap cleared h.1)
+ends_return old new n told back (moved.Misplaced p) h t = (h.0, h.1, ap cleared h.2)
+ends_return old new n told back _ h t = absurd h
+
+pub clears : (k : MoveKind) → Clears (answers.Moves k)
+clears move.Leave = begins_leave
+clears move.Left = ends_leave
+clears move.Return = begins_return
+clears move.Returned = ends_return
