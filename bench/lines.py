@@ -5,11 +5,14 @@ of machines, of breakpoints and of scopes costs a `step` that loads from an obje
 lines.py AGENT LINES [STEPS]
 
 Runs are interleaved, and of each the tenth percentile counts; the time of a script without the measured lines is taken off.
+Where there is valgrind, the machine instructions of a line stand beside.
 """
 import struct
 import subprocess
 import sys
 import time
+
+from counts import can_count, counted
 
 RUNS = 21
 
@@ -63,14 +66,28 @@ def nanoseconds(sides, count, same):
     return [(tenth_percentile(whole) - tenth_percentile(without)) / count * 1e9 for without, whole in spent]
 
 
+def instructions(sides, count):
+    """Of each side the machine instructions of the measured line, as words; nothing where they can't be counted."""
+    if not can_count():
+        return ""
+    few, many = max(count // 400, 1), max(count // 100, 4)
+    one, other = (
+        (counted(command, (before + line * many).encode())[0] - counted(command, (before + line * few).encode())[0]) / (many - few)
+        for command, before, line in sides
+    )
+    return f"; {one:.0f} and {other:.0f} machine instructions"
+
+
 def compared(name, agent, plain, before, line, count):
-    ours, theirs = nanoseconds([(agent, before, line), (plain, before, line)], count, True)
-    print(f"{name:32} agent {ours:9.0f} ns a line, plain C {theirs:9.0f}, ratio {ours / theirs:.2f}")
+    sides = [(agent, before, line), (plain, before, line)]
+    ours, theirs = nanoseconds(sides, count, True)
+    print(f"{name:32} agent {ours:9.0f} ns a line, plain C {theirs:9.0f}, ratio {ours / theirs:.2f}{instructions(sides, count)}")
 
 
 def grown(name, agent, few, many, count):
-    one, other = nanoseconds([(agent, *few), (agent, *many)], count, False)
-    print(f"{name:32} {one:9.0f} and {other:9.0f} ns a line, ratio {other / one:.2f}")
+    sides = [(agent, *few), (agent, *many)]
+    one, other = nanoseconds(sides, count, False)
+    print(f"{name:32} {one:9.0f} and {other:9.0f} ns a line, ratio {other / one:.2f}{instructions(sides, count)}")
 
 
 def growth(agent, steps):

@@ -1,5 +1,6 @@
-/* Nanoseconds a step of the agent's machine, called once an instruction, beside a flat interpreter in C; and what the number of
-   objects, of machines and of scopes costs. Runs are interleaved, and of each the tenth percentile counts. */
+/* Nanoseconds and machine instructions a step of the agent's machine, called once an instruction, beside a flat interpreter in C;
+   and what the number of objects, of machines and of scopes costs. Runs are interleaved, and of each the tenth percentile counts.
+   Machine instructions are counted by bench/counts.py, which has this program run one side once. */
 #include "flat.h"
 #include <stdio.h>
 #include <stdlib.h>
@@ -50,6 +51,36 @@ static double tenth_percentile(double *times)
 {
     qsort(times, RUNS, sizeof *times, by_value);
     return times[RUNS / 10];
+}
+
+/* ---- machine instructions */
+
+/* The counts' lines: two numbers of machine instructions a step, and the name. Null where none were counted. */
+static const char *counts_path;
+
+struct counts {
+    double first, second;
+};
+
+/* What was counted under a name; zeros where nothing was. */
+static struct counts counts_of(const char *name)
+{
+    FILE *f = counts_path ? fopen(counts_path, "r") : NULL;
+    struct counts line, found = { 0, 0 };
+    char its[64];
+    while (f && fscanf(f, "%lf %lf %63[^\n]", &line.first, &line.second, its) == 3)
+        if (!strcmp(its, name)) found = line;
+    if (f) fclose(f);
+    return found;
+}
+
+/* Ends a line with what was counted, and gives it. */
+static struct counts tell_counts(const char *name)
+{
+    struct counts c = counts_of(name);
+    if (c.first > 0) printf("; %5.1f and %5.1f machine instructions", c.first, c.second);
+    printf("\n");
+    return c;
 }
 
 /* ---- both interpreters */
@@ -103,23 +134,33 @@ static void run_both(struct timed *t, int k)
     }
 }
 
-/* Tells the times of both, and gives their ratio. */
-static double tell(struct timed *t)
+/* Two ratios of a step: by time, and by machine instructions. */
+struct ratios {
+    double time, counts;
+};
+
+/* Tells the times of both and what was counted, and gives their ratios. */
+static struct ratios tell(struct timed *t)
 {
     double a = tenth_percentile(t->ours), b = tenth_percentile(t->theirs), steps = (double)t->outcome.steps;
-    printf("%-28s agent %6.2f ns a step, flat C %6.2f, ratio %.2f\n", t->name, 1e9 * a / steps, 1e9 * b / steps, a / b);
-    return a / b;
+    printf("%-28s agent %6.2f ns a step, flat C %6.2f, ratio %.2f", t->name, 1e9 * a / steps, 1e9 * b / steps, a / b);
+    struct counts c = tell_counts(t->name);
+    return (struct ratios){ a / b, c.first > 0 ? c.first / c.second : 0 };
 }
 
 /* Runs the programs in turn, many times, and gives the mean of their ratios. */
-static double compare(struct timed *programs, size_t count)
+static struct ratios compare(struct timed *programs, size_t count)
 {
-    double sum = 0;
+    struct ratios sum = { 0, 0 };
     for (size_t n = 0; n < count; n++) flat_decode(programs[n].decoded, programs[n].code.bytes, programs[n].code.length / 8);
     for (int k = 0; k < RUNS; k++)
         for (size_t n = 0; n < count; n++) run_both(&programs[n], k);
-    for (size_t n = 0; n < count; n++) sum += tell(&programs[n]);
-    return sum / (double)count;
+    for (size_t n = 0; n < count; n++) {
+        struct ratios r = tell(&programs[n]);
+        sum.time += r.time / (double)count;
+        sum.counts += r.counts / (double)count;
+    }
+    return sum;
 }
 
 /* The ratio of the agent's times of two programs in two settings. */
@@ -132,7 +173,8 @@ static void scales(const char *name, const struct code *c, struct setting first,
         other[k] = ours(d, STEPS, &second, &o);
     }
     double a = tenth_percentile(one), b = tenth_percentile(other);
-    printf("%-28s %6.2f and %6.2f ns a step, ratio %.2f\n", name, 1e9 * a / STEPS, 1e9 * b / STEPS, b / a);
+    printf("%-28s %6.2f and %6.2f ns a step, ratio %.2f", name, 1e9 * a / STEPS, 1e9 * b / STEPS, b / a);
+    tell_counts(name);
 }
 
 /* ---- code */
@@ -253,34 +295,82 @@ static struct code loads_in_turn(int32_t stride)
     return c;
 }
 
+static struct code loads_in_open(void)
+{
+    return loads_in_turn(0);
+}
+
+static struct code loads_in_new(void)
+{
+    return loads_in_turn(1);
+}
+
 /* ---- what is measured */
+
+#define COMPILED 5
+#define ROWS 6
+
+static const char *const compiled_names[COMPILED] = { "checksum", "gcd", "sieve", "sort", "table" };
+
+/* Programs made here: the first are those compared with C, the others load beside five objects. */
+static const struct {
+    const char *name;
+    struct code (*code)(void);
+    uint32_t objects;
+} made[] = {
+    { "counting loop", counting, 1 },      { "straight arithmetic", straight, 1 },   { "nested calls", calls, 1 },
+    { "loads", loads, 1 },                 { "stores", stores, 1 },                  { "atomic operations", atomics, 1 },
+    { "loads, open scope", loads_in_open, 5 }, { "loads, new scope", loads_in_new, 5 },
+};
 
 static void compiled(const char *folder)
 {
-    static struct timed programs[5] = {
-        { .name = "checksum" }, { .name = "gcd" }, { .name = "sieve" }, { .name = "sort" }, { .name = "table" },
-    };
-    for (size_t n = 0; n < 5; n++) {
+    static struct timed programs[COMPILED];
+    for (size_t n = 0; n < COMPILED; n++) {
+        programs[n].name = compiled_names[n];
         stored(folder, programs[n].name, &programs[n].code);
         programs[n].fuel = 1u << 30;
     }
-    double mean = compare(programs, 5);
-    printf("%-28s ratio %.2f\n", "mean of the five", mean);
+    struct ratios mean = compare(programs, COMPILED);
+    printf("%-28s ratio %.2f by time", "mean of the five", mean.time);
+    if (mean.counts > 0) printf(", %.2f by machine instructions", mean.counts);
+    printf("\n");
 }
 
 static void rows(void)
 {
-    static struct timed programs[6] = {
-        { .name = "counting loop", .fuel = STEPS }, { .name = "straight arithmetic", .fuel = STEPS }, { .name = "nested calls", .fuel = STEPS },
-        { .name = "loads", .fuel = STEPS }, { .name = "stores", .fuel = STEPS }, { .name = "atomic operations", .fuel = STEPS },
-    };
-    programs[0].code = counting();
-    programs[1].code = straight();
-    programs[2].code = calls();
-    programs[3].code = loads();
-    programs[4].code = stores();
-    programs[5].code = atomics();
-    compare(programs, 6);
+    static struct timed programs[ROWS];
+    for (size_t n = 0; n < ROWS; n++) {
+        programs[n].name = made[n].name;
+        programs[n].code = made[n].code();
+        programs[n].fuel = STEPS;
+    }
+    compare(programs, ROWS);
+}
+
+/* Runs a program once on one side, and tells how many instructions ran: what is counted. */
+static int run_once(const char *folder, const char *side, const char *name, uint64_t fuel)
+{
+    static struct code c;
+    static struct flat_instr decoded[CODE_LIMIT / 8];
+    struct setting s = { OBJECT(1), 1, 1 };
+    struct outcome o = { 0, 0 };
+    size_t n = 0;
+    while (n < sizeof made / sizeof *made && strcmp(made[n].name, name)) n++;
+    if (n < sizeof made / sizeof *made) {
+        c = made[n].code();
+        s.objects = made[n].objects;
+    } else {
+        stored(folder, name, &c);
+    }
+    if (!strcmp(side, "flat")) {
+        flat_decode(decoded, c.bytes, c.length / 8);
+        theirs(decoded, fuel, &o);
+    } else {
+        o.result = bpf_run(c.bytes, c.length, fuel, s.argument, s.objects, s.machines, &o.steps);
+    }
+    printf("%llu %llu\n", (unsigned long long)o.steps, (unsigned long long)o.result);
+    return 0;
 }
 
 static void growth(void)
@@ -293,10 +383,13 @@ static void growth(void)
     scales("loads, open and new scope", &same, five_objects, &other, five_objects);
 }
 
-/* steps FOLDER: the folder has the code of the compiled programs. */
+/* steps FOLDER [COUNTS]: the folder has the code of the compiled programs, the file what was counted of each program.
+   steps FOLDER SIDE NAME FUEL: runs one of them once, on the side 'agent' or 'flat'. */
 int main(int count, char **words)
 {
-    if (count != 2) return 2;
+    if (count == 5) return run_once(words[1], words[2], words[3], strtoull(words[4], NULL, 10));
+    if (count != 2 && count != 3) return 2;
+    counts_path = count == 3 ? words[2] : NULL;
     compiled(words[1]);
     rows();
     growth();

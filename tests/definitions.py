@@ -1,21 +1,19 @@
 #!/usr/bin/env python3
-"""Checks that docs/DEFINITIONS.md names every definition that a public clause depends on, and none that isn't there, and
-that each row of the page is the comment above the definition.
-
-With --list it prints these definitions, by crate and file, each with the comment above it; with --table as tables of the
-page, a row for each.
+"""Writes docs/DEFINITIONS-INDEX.md, the list of every definition that a public clause depends on, each with the comment
+above it: definitions.py --write. Without --write the page is compared with what it would be.
 
 A public clause is one of a `pub fn`, of a method of a trait's impl, or of a `pub trait`, and what a public type says of
 itself (its Model, its ghost items). From the names in these clauses the script follows the imports: the `ghost use`
-lines of src/, then the `use` lines of specs/, through the crates of this repository. On the page a definition stands in
-`code` in the section whose heading names its crate in `code`.
+lines of src/, then the `use` lines of specs/, through the crates of this repository. The crates stand in the order in
+which the guide, docs/DEFINITIONS.md, names them in its table, and it has to name each.
 """
 import re
 import sys
 
 from sources import ROOT, blanked, block, crates, functions
 
-PAGE = "docs/DEFINITIONS.md"
+GUIDE = "docs/DEFINITIONS.md"
+INDEX = "docs/DEFINITIONS-INDEX.md"
 NAME = re.compile(r"[^\s(){}\[\],;.`\"]+")
 USE = re.compile(r"(?:pub )?use\s+(Rattle\.(\w+)\.specs\.([\w.]+))\.\{([^}]*)\}", re.S)
 DEFINITION = re.compile(r"^(?:(?:abbrev|unfoldable|opaque|pub|data|record)\s+)*([^\s:(){}]+)\s*(?:[({][^\n]*)?:(?=\s)")
@@ -135,51 +133,18 @@ def reached(own):
     return found, specs
 
 
-def page_names():
-    """The names in code on the page, by the crate of the section."""
-    names, crate = {}, None
-    for line in (ROOT / PAGE).read_text().splitlines():
-        if line.startswith("#"):
-            here = re.findall(r"`(\w+)`", line)
-            crate = here[0] if here else None
-        elif crate:
-            names.setdefault(crate, set()).update(re.findall(r"`([^`]+)`", line))
-    return names
+def guide_rows():
+    """The rows of the guide's table: the crates, and the files to read."""
+    rows = re.findall(r"(?m)^\| ((?:`\w+`(?:, )?)+) \| ([^|]*) \|", (ROOT / GUIDE).read_text())
+    return [[re.findall(r"`(\w+)`", cell) for cell in row] for row in rows]
 
 
-def listed(line):
-    """The names in the second column of a table's row, and the file in the first."""
-    cells = [cell.strip() for cell in line.strip().strip("|").split("|")]
-    return re.findall(r"`([^`]+)`", cells[1]) if len(cells) >= 3 else []
-
-
-def not_there(own):
-    """The names in the second column of the page's tables that no file of that crate's specs/ defines."""
-    lost, crate, defined = [], None, set()
-    for line in (ROOT / PAGE).read_text().splitlines():
-        if line.startswith("#"):
-            here = [name for name in re.findall(r"`(\w+)`", line) if name in own]
-            crate = here[0] if here else None
-            defined = set()
-            for path in (ROOT / f"crates/{crate}/specs").rglob("*.antt") if crate else []:
-                file = Specs(crate, str(path.relative_to(ROOT / f"crates/{crate}/specs"))[:-5], own)
-                defined |= set(file.definitions)
-        elif crate and line.startswith("|"):
-            lost += [(crate, name) for name in listed(line) if name not in defined]
-    return lost
-
-
-def page_rows():
-    """The rows of the page's tables, each as a name and what is said of it, by the crate of the section."""
-    rows, crate = {}, None
-    for line in (ROOT / PAGE).read_text().splitlines():
-        if line.startswith("#"):
-            here = re.findall(r"`(\w+)`", line)
-            crate = here[0] if here else None
-        elif crate and len(listed(line)) == 1:
-            says = line.strip()[1:-1].split(" | ", 2)[2].strip()
-            rows.setdefault(crate, set()).add((listed(line)[0], says))
-    return rows
+def missing_files(rows):
+    """The files that the guide sends its reader to, and that aren't there."""
+    for names, files in rows:
+        for file in files:
+            if not any((ROOT / f"crates/{crate}/specs/{file}.antt").is_file() for crate in names):
+                yield file, names
 
 
 def modules_of(crate, found):
@@ -191,56 +156,54 @@ def modules_of(crate, found):
 
 def cell(says):
     """A comment as it stands in a table: without the capital and the stop of a sentence."""
-    return re.sub(r"^[A-Z](?=[a-z ])", lambda first: first[0].lower(), says.rstrip("."))
+    return re.sub(r"^[A-Z](?=[a-z ])", lambda first: first[0].lower(), says.rstrip(".")).replace("|", "\\|")
 
 
-def show_table(crate, modules, found, specs):
-    """Prints the table of one crate."""
-    print(f"\n## `{crate}`\n\n| File | Definitions | They say |\n|---|---|---|")
-    for module in modules:
-        file = f"`{module}`"
+def table(crate, found, specs):
+    """The lines of one crate."""
+    yield f"\n## `{crate}`\n\n| File | Definition | It says |\n|---|---|---|"
+    for module in modules_of(crate, found):
+        file = f"[{module}](../crates/{crate}/specs/{module}.antt)"
         for name, says in specs[crate, module].comments.items():
             if (crate, module, name) in found:
-                print(f"| {file} | `{name}` | {cell(says)} |")
+                yield f"| {file} | `{name}` | {cell(says)} |"
                 file = ""
 
 
-def show(own, found, specs, as_table):
-    """Prints the definitions, by crate and file."""
-    for crate in own:
-        modules = modules_of(crate, found)
-        if as_table and modules:
-            show_table(crate, modules, found, specs)
-            continue
-        for module in modules:
-            print(f"## {crate} {module}")
-            for name in [n for c, m, n in found if (c, m) == (crate, module)]:
-                print(f"{name}: {specs[crate, module].comments[name]}")
+HEAD = f"""# Definitions
+
+Written by `python3 tests/definitions.py --write` from the comments in the sources; `make test` compares. Every definition
+that a clause of a public call depends on, each with the comment above it. [DEFINITIONS.md](DEFINITIONS.md) is the guide to them.
+"""
+
+
+def index(order, found, specs):
+    """The text of the page."""
+    return HEAD + "".join(line + "\n" for crate in order if modules_of(crate, found) for line in table(crate, found, specs))
 
 
 def main():
-    own = libraries()
+    own, rows = libraries(), guide_rows()
+    order = [crate for names, _ in rows for crate in names]
     found, specs = reached(own)
-    if sys.argv[1:] in (["--list"], ["--table"]):
-        show(own, found, specs, sys.argv[1:] == ["--table"])
-        return
-    names = page_names()
-    missing = [(c, m, n) for c, m, n in found if n not in names.get(c, set())]
-    lost = not_there(own)
+    unnamed = sorted({crate for crate, _, _ in found} - set(order))
     silent = [(c, m, n) for c, m, n in found if not specs[c, m].comments[n]]
-    rows = page_rows()
-    stale = [(c, m, n) for c, m, n in found if n in names.get(c, set()) and (n, cell(specs[c, m].comments[n])) not in rows.get(c, set())]
-    for crate, module, name in missing:
-        print(f"{PAGE}: `{name}` of crates/{crate}/specs/{module}.antt is missing: a public clause depends on it")
-    for crate, name in lost:
-        print(f"{PAGE}: no file of crates/{crate}/specs defines `{name}`")
+    for crate in unnamed:
+        print(f"{GUIDE}: its table doesn't name `{crate}`, which has definitions")
     for crate, module, name in silent:
-        print(f"crates/{crate}/specs/{module}.antt: `{name}` has no comment of its own, which {PAGE} would show")
-    for crate, module, name in stale:
-        print(f"{PAGE}: the row of `{name}` isn't the comment above it in crates/{crate}/specs/{module}.antt")
-    if missing or lost or silent or stale:
-        sys.exit(f"{len(missing)} definitions are missing on {PAGE}, {len(lost)} are not there any more, {len(silent)} have no comment, and {len(stale)} rows say something else")
-    print(f"{PAGE} names the {len(found)} definitions that public clauses depend on, each with the comment above it")
+        print(f"crates/{crate}/specs/{module}.antt: `{name}` has no comment of its own, which {INDEX} would show")
+    missing = list(missing_files(rows))
+    for file, names in missing:
+        print(f"{GUIDE}: no crate of {', '.join(names)} has a file specs/{file}.antt")
+    text = index(order + unnamed, found, specs)
+    if sys.argv[1:] == ["--write"]:
+        (ROOT / INDEX).write_text(text)
+    is_stale = not (ROOT / INDEX).is_file() or (ROOT / INDEX).read_text() != text
+    if is_stale:
+        print(f"{INDEX} isn't what the sources say: python3 tests/definitions.py --write makes it so")
+    if unnamed or silent or missing or is_stale:
+        sys.exit(1)
+    print(f"{INDEX} has the {len(found)} definitions that public clauses depend on, each with the comment above it")
 
 
 if __name__ == "__main__":

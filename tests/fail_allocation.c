@@ -1,7 +1,9 @@
-/* For LD_PRELOAD: the allocation with the number in FAIL_AT fails, counted from 1. The count of all is written to
-   the file named in COUNT_IN, where there is one, as the program ends. It is compiled without the C library's headers,
-   which the kit doesn't bring. */
+/* For LD_PRELOAD: the allocation with the number in FAIL_AT fails, counted from 1. As the program ends, the file named in
+   COUNT_IN, where there is one, gets the number of allocations, the bytes of the largest, the number of reads from standard
+   input, the fewest bytes that one asked for, and the number of writes to standard output and of flushes. It is compiled
+   without the C library's headers, which the kit doesn't bring. */
 typedef unsigned long size_t;
+typedef long ssize_t;
 
 void *dlsym(void *, const char *);
 char *getenv(const char *);
@@ -13,15 +15,16 @@ int close(int);
 #define NEXT ((void *)-1L)
 #define WRITE_ONLY 1
 
-static unsigned long count;
+static unsigned long count, largest, reads, writes, flushes, fewest = ~0ul;
 
-static int fails(void)
+static int fails(size_t size)
 {
     static long at = -1;
     if (at < 0) {
         const char *text = getenv("FAIL_AT");
         at = text ? atol(text) : 0;
     }
+    if (size > largest) largest = size;
     return ++count == (unsigned long)at;
 }
 
@@ -29,14 +32,54 @@ void *malloc(size_t size)
 {
     static void *(*next)(size_t);
     if (!next) next = (void *(*)(size_t))dlsym(NEXT, "malloc");
-    return fails() ? 0 : next(size);
+    return fails(size) ? 0 : next(size);
+}
+
+void *calloc(size_t number, size_t size)
+{
+    static void *(*next)(size_t, size_t);
+    if (!next) next = (void *(*)(size_t, size_t))dlsym(NEXT, "calloc");
+    return fails(number * size) ? 0 : next(number, size);
 }
 
 void *realloc(void *block, size_t size)
 {
     static void *(*next)(void *, size_t);
     if (!next) next = (void *(*)(void *, size_t))dlsym(NEXT, "realloc");
-    return fails() ? 0 : next(block, size);
+    return fails(size) ? 0 : next(block, size);
+}
+
+ssize_t read(int file, void *bytes, size_t size)
+{
+    static ssize_t (*next)(int, void *, size_t);
+    if (!next) next = (ssize_t (*)(int, void *, size_t))dlsym(NEXT, "read");
+    if (file == 0) reads++;
+    if (file == 0 && size < fewest) fewest = size;
+    return next(file, bytes, size);
+}
+
+ssize_t write(int file, const void *bytes, size_t size)
+{
+    static ssize_t (*next)(int, const void *, size_t);
+    if (!next) next = (ssize_t (*)(int, const void *, size_t))dlsym(NEXT, "write");
+    if (file == 1) writes++;
+    return next(file, bytes, size);
+}
+
+int fflush(void *stream)
+{
+    static int (*next)(void *);
+    if (!next) next = (int (*)(void *))dlsym(NEXT, "fflush");
+    flushes++;
+    return next(stream);
+}
+
+int fsync(int file)
+{
+    static int (*next)(int);
+    if (!next) next = (int (*)(int))dlsym(NEXT, "fsync");
+    flushes++;
+    return next(file);
 }
 
 __attribute__((destructor)) static void tell(void)
@@ -44,6 +87,6 @@ __attribute__((destructor)) static void tell(void)
     const char *name = getenv("COUNT_IN");
     int file = name ? open(name, WRITE_ONLY) : -1;
     if (file < 0) return;
-    dprintf(file, "%lu\n", count);
+    dprintf(file, "%lu %lu %lu %lu %lu %lu\n", count, largest, reads, fewest, writes, flushes);
     close(file);
 }

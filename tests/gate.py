@@ -1,25 +1,33 @@
 #!/usr/bin/env python3
-"""The gate: gate.py RT
+"""The gate: gate.py RT, or gate.py --quick for what takes seconds.
 
-First the scripts that compare documents and lists with the sources, which take seconds. Then `rt ci`, with a line on how
-far it is. Then tests/program.py over the program as `rt ci` has built it, by LLVM and by Rattle's own compiler, and
-tests/refusals.py, which makes its allocations fail. The last line is that of `rt ci`; what else fails is counted in it.
+First the scripts that compare documents and lists with the sources, and the test of the gate itself, tests/planted.py. Then
+`rt ci`, with a line on how far it is. Then what runs the program as `rt ci` has built it, by LLVM and by Rattle's own
+compiler. The last line is that of `rt ci`; what else fails is counted in it.
 """
 import re
 import subprocess
 import sys
 import time
 
+import counts
 from sources import ROOT, crates
 
-SCRIPTS = ["tests/protocol.py", "tests/definitions.py", "tests/generated.py", "tests/failures.py"]
+SCRIPTS = ["tests/protocol.py", "tests/definitions.py", "tests/generated.py", "tests/failures.py", "tests/documents.py", "tests/kinds.py", "tests/counts.py", "tests/planted.py"]
 BUILT = ["crates/bpfagent/out/bpfagent", "crates/bpfagent/out/bpfagent.by-rattle"]
 PROVED = re.compile(r"rt: \w+(: its tests are)? proved$")
+LAST = re.compile(r"(\d+) passed, (\d+) failed")
 
 
 def failures_of(calls):
     """How many of these scripts fail, each called with its arguments."""
     return sum(subprocess.run([sys.executable, *call], cwd=ROOT).returncode != 0 for call in calls)
+
+
+def of_program(rt):
+    """What is run on the program that was built."""
+    calls = [["tests/program.py", program] for program in BUILT]
+    return calls + [["tests/sweep.py", BUILT[0]], ["tests/refusals.py", rt], ["tests/build.py", rt, "stamp"]]
 
 
 def progress(start, proved, tests):
@@ -29,10 +37,10 @@ def progress(start, proved, tests):
 
 def run_ci(rt):
     """Passes on what `rt ci` says, but for its last line, and gives that with the status."""
-    start, proved, tests, last = time.monotonic(), 0, 0, None
+    start, proved, tests, last = time.monotonic(), 0, 0, ""
     process = subprocess.Popen([rt, "ci"], cwd=ROOT, stdout=subprocess.PIPE, stderr=subprocess.STDOUT, text=True, errors="replace")
     for line in process.stdout:
-        if last is not None:
+        if last:
             print(last, flush=True)
             done = PROVED.match(last)
             if done:
@@ -43,19 +51,31 @@ def run_ci(rt):
     return process.wait(), last
 
 
+def judged(status, last):
+    """How much passed and failed by what `rt ci` says. Each crate and each edit is one that has to pass."""
+    found = LAST.fullmatch(last)
+    if not found:
+        print(f"gate: rt ci ended with: {last}")
+        return 0, 1
+    passed, failed = int(found[1]), int(found[2])
+    wanted = len(crates()) + counts.edits()
+    if passed + failed < wanted:
+        print(f"gate: rt ci tried {passed + failed}, and there are {wanted} crates and edits")
+        failed += 1
+    return passed, failed + (status != 0 and failed == 0)
+
+
 def main():
     failed = failures_of([[script] for script in SCRIPTS])
-    if failed:
-        print(f"0 passed, {failed} failed")
-        sys.exit(1)
-    status, last = run_ci(sys.argv[1])
-    if status == 0:
-        failed = failures_of([["tests/program.py", program] for program in BUILT] + [["tests/refusals.py", sys.argv[1]]])
-    counts = re.fullmatch(r"(\d+) passed, (\d+) failed", last)
-    if failed and counts:
-        last = f"{counts[1]} passed, {int(counts[2]) + failed} failed"
-    print(last, flush=True)
-    sys.exit(1 if status or failed else 0)
+    if failed or sys.argv[1:] == ["--quick"]:
+        print(f"{len(SCRIPTS) - failed} passed, {failed} failed")
+        sys.exit(1 if failed else 0)
+    passed, failed = judged(*run_ci(sys.argv[1]))
+    if not failed:
+        failed += failures_of(of_program(sys.argv[1]))
+    print(f"{passed} passed, {failed} failed", flush=True)
+    sys.exit(1 if failed else 0)
 
 
-main()
+if __name__ == "__main__":
+    main()

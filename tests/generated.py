@@ -7,7 +7,7 @@ import subprocess
 import sys
 import tempfile
 
-from sources import ROOT
+from sources import LITERAL, ROOT
 
 ASSEMBLY = "crates/asm_tests"
 WRITTEN = {
@@ -23,8 +23,10 @@ def output(call):
 
 
 def plain(text):
-    """The text without its layout."""
-    return re.sub(r",(?=[)\]])", "", "".join(text.split()))
+    """The code without its layout, and its texts as they are."""
+    kept = []
+    spaced = LITERAL.sub(lambda found: kept.append(found[0]) or "\0", text)
+    return re.sub(r",(?=[)\]])", "", "".join(spaced.split())), [part.strip() for part in kept]
 
 
 def differing():

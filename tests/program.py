@@ -1,9 +1,9 @@
 #!/usr/bin/env python3
 """Runs the program as a user would: program.py PROGRAM
 
-Each status and stream, what a closed or failing stream leaves, what the guide for writers of programs shows, and the
-conversations of examples/ over pipes, line by line: each reply has to come before the next command is sent, so that a
-program that reads ahead is found out.
+Each status and stream, what a closed or failing stream leaves and how far the input was read then, what the documents
+show, and the conversations of examples/ over pipes, line by line: each reply has to come before the next command is sent,
+so that a program that waits for more is found out.
 """
 import os
 import pathlib
@@ -13,6 +13,7 @@ import select
 import shlex
 import subprocess
 import sys
+import tempfile
 
 from scripts import conversations
 
@@ -20,8 +21,32 @@ ROOT = pathlib.Path(__file__).resolve().parent.parent
 EXIT = bytes.fromhex("9500000000000000")
 ALL_ONES = bytes.fromhex("18000000ffffffff00000000ffffffff") + EXIT
 SECONDS = 20
+# What the program may have of data, in bytes, while it runs the conversations of examples/.
+SCRIPT_DATA = 8 << 20
 PROGRAM = "crates/bpfagent/out/bpfagent"
-COMPILERS = ("(cd examples/c && make ", "llvm-")
+COMPILERS = ("(cd examples/c && make ", "llvm-", "make ")
+
+
+# Up to five arguments, so that a program that looks at fewer is found out.
+INVALID = [[], ["help"], ["serve"], ["run", "check"], ["run", "--budget", "67108865"], ["check", "x"], [b"\xff"], ["run", "--budget"],
+           ["run", "--budget", "8", "x"], ["run", "--budget", "8", "--budget", "8"], ["run", "--budget", "8", "asm", "dis"], ["dis", "--slots", "--slots"], ["asm", "--slots"]]
+# What the help of each subcommand has to name: what it reads, what it writes, and what it returns.
+HELP = {"run": [b"PROTOCOL.md", b"67108864", b"Status 0", b"Status 3"], "check": [b"bytes, not hex", b"ok N", b"slot S: WHY", b"Status 1"],
+        "asm": [b"1048576", b"ASSEMBLY.md", b"line L: WHY", b"Status 1"], "dis": [b"bytes, not hex", b"--slots", b"slot S: WHY", b"Status 1"]}
+# The longest lines on standard error: code that jumps into a wide instruction from its last slot, texts wrong at their end.
+WIDE = bytes.fromhex("18000000000000000000000000000000")
+LONGEST = [("check", WIDE + EXIT * 4093 + bytes.fromhex("050001f000000000"), b"slot 4095: JumpInside\n"), ("dis", WIDE + EXIT * 4093 + bytes.fromhex("050001f000000000"), b"slot 4095: JumpInside\n"),
+           ("asm", b"\n" * 1048575 + b"x", b"line 1048576: Word\n"), ("asm", b"a:" + b"\n" * 1048572 + b"a:", b"line 1048573: TwiceLabel\n")]
+
+
+def has_checks(program):
+    """Whether it is a program of `make try`, which has run-time checks, is slow and takes much memory."""
+    return b"AddressSanitizer" in pathlib.Path(program).read_bytes()
+
+
+def limited(program, data):
+    """What limits a child process to so many bytes of data."""
+    return None if has_checks(program) else lambda: resource.setrlimit(resource.RLIMIT_DATA, (data, data))
 
 
 class Failed(Exception):
@@ -38,7 +63,7 @@ def call(program, arguments, given=b"", **streams):
     if "stdin" not in streams:
         streams["input"] = given
     streams.setdefault("stdout", subprocess.PIPE)
-    done = subprocess.run([program, *arguments], stderr=subprocess.PIPE, timeout=SECONDS, **streams)
+    done = subprocess.run([program, *arguments], stderr=subprocess.PIPE, timeout=SECONDS * (20 if has_checks(program) else 1), **streams)
     return done.returncode, done.stdout, done.stderr
 
 
@@ -60,13 +85,20 @@ def show_statuses(program):
         want(found == (1, b"", line), f"check of {code[:16]} ended with {found}")
     is_done(program, ["asm"], b"lddw r0, -1\nexit\n", ALL_ONES)
     is_done(program, ["dis"], ALL_ONES, b"lddw r0, 0xffffffffffffffff\nexit\n")
+    is_done(program, ["dis", "--slots"], ALL_ONES, b"0: lddw r0, 0xffffffffffffffff\n2: exit\n")
     for task, given, line in (("asm", b"exit\nexot\n", b"line 2: Word\n"), ("asm", b"\n" * 1048577, b"input too long\n"), ("dis", b"\x95\0", b"slot 0: Short\n")):
         found = call(program, [task], given)
         want(found == (1, b"", line), f"{task} of {given[:16]} ended with {found}")
-    for arguments in (["--help"], ["-h"], ["run", "--help"], ["check", "--help"]):
+    for task, given, line in LONGEST:
+        found = call(program, [task], given)
+        want(found == (1, b"", line), f"{task} of the longest error ended with {found}")
+    for arguments in (["--help"], ["-h"], *([task, "--help"] for task in HELP)):
         status, output, errors = call(program, arguments)
         want((status, errors) == (0, b"") and b"Usage: bpfagent" in output, f"{arguments} ended with {status}, {output}, {errors}")
-    for arguments in ([], ["help"], ["serve"], ["run", "check"], ["run", "--budget", "67108865"], ["check", "x"], [b"\xff"]):
+        for word in HELP.get(arguments[0], []):
+            want(word in output, f"{arguments} doesn't say {word}: {output}")
+    is_done(program, ["run", "--budget", "8"], b"make 9\nmake 8\n", b"noroom\nmade 1\n")
+    for arguments in INVALID:
         status, output, errors = call(program, arguments, b"step 1\n")
         want((status, output) == (2, b"") and errors.startswith(b"error: ") and errors.endswith(b"\n"), f"{arguments} ended with {status}, {output}, {errors}")
 
@@ -83,9 +115,23 @@ def show_faults(program):
         want((status, errors) == (3, b"write fault\n"), f"{arguments} on a full device ended with {status}, {errors}")
 
 
+def show_offsets(program):
+    """Where the input stands after a write fault at the first reply: fewer than 4096 bytes after its line are read, and lost."""
+    with tempfile.TemporaryFile() as given, open("/dev/full", "wb") as full:
+        given.write(b"step 1\n" * 10_000)
+        given.flush()
+        given.seek(0)
+        status, _, errors = call(program, ["run"], stdin=given, stdout=full)
+        want((status, errors) == (3, b"write fault\n"), f"run of a file on a full device ended with {status}, {errors}")
+        at = os.lseek(given.fileno(), 0, os.SEEK_CUR)
+        want(7 <= at < 7 + 4096, f"after the fault at the first reply the input was read up to {at}")
+
+
 def show_no_memory(program):
     """3 for no memory: with more and more of it, first the C library can't start, then the program gives up, then it runs."""
     gave_up = 0
+    if has_checks(program):
+        return
     for limit in range(32 * 1024, 8192 * 1024, 32 * 1024):
         found = call(program, ["run"], b"step 1\n", preexec_fn=lambda: resource.setrlimit(resource.RLIMIT_DATA, (limit, limit)))
         if found == (0, b"none\n", b""):
@@ -114,7 +160,7 @@ def examples(pattern):
 
 
 def talk_to(program, arguments, talk):
-    process = subprocess.Popen([program, "run", *arguments], stdin=subprocess.PIPE, stdout=subprocess.PIPE, stderr=subprocess.PIPE)
+    process = subprocess.Popen([program, "run", *arguments], stdin=subprocess.PIPE, stdout=subprocess.PIPE, stderr=subprocess.PIPE, preexec_fn=limited(program, SCRIPT_DATA))
     try:
         for command, reply in talk:
             process.stdin.write(command.encode() + b"\n")
@@ -144,16 +190,21 @@ def show_examples(program):
     return count
 
 
-def show_guide(program):
-    """The commands of docs/WRITING-PROGRAMS.md that need no compiler print what stands there."""
-    guide = (ROOT / "docs/WRITING-PROGRAMS.md").read_text()
-    shown = re.findall(r"^\$ ((?:.*\\\n)*.*)\n((?:(?!\$ |```).*\n)*)", guide, re.M)
-    runs = [(command, output) for command, output in shown if not command.startswith(COMPILERS)]
-    want(runs, "docs/WRITING-PROGRAMS.md shows no run")
-    for command, output in runs:
-        command = command.replace(PROGRAM, shlex.quote(program))
-        done = subprocess.run(["sh", "-c", command], cwd=ROOT, stdout=subprocess.PIPE, stderr=subprocess.DEVNULL, text=True, timeout=SECONDS)
-        want(done.stdout == output, f"{command} printed {done.stdout}")
+def show_documents(program):
+    """The commands that the documents show, but for those that need a compiler, print what stands there. Each begins with
+    `$ ` in a block of its own, is run at the top of the repository, and may go on after a backslash."""
+    count = 0
+    (ROOT / "out").mkdir(exist_ok=True)
+    for path in [ROOT / "README.md", *sorted((ROOT / "docs").glob("*.md"))]:
+        shown = re.findall(r"^\$ ((?:.*\\\n)*.*)\n((?:(?!\$ |```).*\n)*)", path.read_text(), re.M)
+        for command, output in shown:
+            if command.startswith(COMPILERS):
+                continue
+            command = command.replace(PROGRAM, shlex.quote(program))
+            done = subprocess.run(["sh", "-c", command], cwd=ROOT, stdin=subprocess.DEVNULL, stdout=subprocess.PIPE, stderr=subprocess.STDOUT, text=True, timeout=SECONDS)
+            want(done.stdout == output, f"{path.name}: {command} printed {done.stdout}")
+            count += 1
+    return count
 
 
 def main():
@@ -161,12 +212,14 @@ def main():
     try:
         show_statuses(program)
         show_faults(program)
+        show_offsets(program)
         show_no_memory(program)
         count = show_examples(program)
-        show_guide(program)
+        shown = show_documents(program)
     except (Failed, OSError, subprocess.TimeoutExpired) as wrong:
         sys.exit(f"{sys.argv[1]}: {wrong}")
-    print(f"{sys.argv[1]}: statuses and streams are right, and {count} replies to examples/ came line by line")
+    print(f"{sys.argv[1]}: statuses and streams are right, {count} replies to examples/ came line by line, and {shown} commands of documents print what stands there")
 
 
-main()
+if __name__ == "__main__":
+    main()

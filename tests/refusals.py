@@ -1,19 +1,28 @@
 #!/usr/bin/env python3
-"""Runs the programs with their allocations failing in turn, up to 60 of each conversation: refusals.py RT
+"""Runs the programs with their allocations failing in turn, one after the other, and counts what they ask of
+the system: refusals.py RT [PROGRAM]
 
 Where an allocation of `run` fails before the first line, the program ends with `no memory` and status 3, and nothing is
 replied. Where a later one fails, one command is answered `nomem`, or `kept n fault far` where it is `returned`, and the
 conversation goes on as if the command hadn't come: the other replies are those of the same commands without it, or with
 an object that returned and left again. This is tried on each of the
-worked conversations, of those of moves and of debugging, and of the examples of README and the protocol. `check`, `asm` and
+worked conversations, of those of moves, of debugging and of grants, and of the examples of README and the protocol. `check`, `asm` and
 `dis` end with `no memory`, and no output.
 
 `refused_run` does a list of commands in one call: where an allocation fails there is no reply, and the world is as before.
 
+Of the allocations before the first line, which are the same in each conversation, all are tried once, and then two of
+each; of those after it all, up to 600, spread over all of them.
+
+It also counts, for each command, how many allocations it makes, and how many reads and writes a conversation takes: one
+read for what has come, one write for a reply, and no flush.
+
 The programs are those that `rt ci` has built; the compiler is that of the kit.
 """
+import collections
 import concurrent.futures
 import os
+import pathlib
 import subprocess
 import sys
 import tempfile
@@ -21,15 +30,16 @@ import tempfile
 from scripts import conversations
 from sources import ROOT
 
-PROGRAM = ROOT / "crates/bpfagent/out/bpfagent"
+PROGRAM = pathlib.Path(sys.argv[2]).resolve() if len(sys.argv) > 2 else ROOT / "crates/bpfagent/out/bpfagent"
 RUN = ROOT / "crates/refused_run/out/refused_run"
-SCRIPTS = [f"crates/conversations/data/{name}.script" for name in ("worked", "moves", "debugging", "protocol")]
-MAY_LACK_MEMORY = ("make ", "put ", "get ", "ship ", "stack ", "line ")
+SCRIPTS = [f"crates/conversations/data/{name}.script" for name in ("worked", "moves", "debugging", "grants", "protocol")]
+MAY_LACK_MEMORY = ("make ", "put ", "get ", "ship ", "ship2 ", "stack ", "line ")
 WIDE = bytes.fromhex("18000000ffffffff00000000ffffffff9500000000000000")
 TEXT = b"mov r0, 0\nagain: add r0, 1\njlt r0, 3, again\nexit\n"
-OTHERS = [(["check"], WIDE), (["asm"], TEXT), (["dis"], WIDE), (["--help"], b""), (["run", "--wrong"], b"")]
-# so many allocations of one conversation are tried, spread over all of them
-MOST = 60
+OTHERS = [(["check"], WIDE), (["asm"], TEXT), (["dis"], WIDE), (["dis", "--slots"], WIDE), (["--help"], b""), (["run", "--wrong"], b"")]
+# so many allocations of one conversation after its first line are tried, spread over all of them, and so many before it
+MOST = 600
+BEFORE = 2
 
 
 class Failed(Exception):
@@ -45,6 +55,9 @@ def shim(rt, folder):
     return made
 
 
+Counts = collections.namedtuple("Counts", "allocations largest reads fewest writes flushes")
+
+
 class Failing:
     """Programs of which the allocation of a number fails."""
 
@@ -58,11 +71,16 @@ class Failing:
         done = subprocess.run([program, *arguments], input=given, capture_output=True, env=env, timeout=60)
         return done.returncode, done.stdout, done.stderr
 
-    def allocations(self, program, arguments, given):
-        """What the program does without a failure, and how many allocations it makes."""
+    def counted(self, program, arguments, given):
+        """What the program does without a failure, and what it asks of the system."""
         with tempfile.NamedTemporaryFile() as file:
             done = self.call(program, arguments, given, count=file.name)
-            return done, int(open(file.name).read())
+            return done, Counts(*map(int, open(file.name).read().split()))
+
+    def allocations(self, program, arguments, given):
+        """What the program does without a failure, and how many allocations it makes."""
+        done, counts = self.counted(program, arguments, given)
+        return done, counts.allocations
 
     def talk(self, arguments, lines, at=0):
         given = "".join(line + "\n" for line in lines).encode()
@@ -102,15 +120,64 @@ def one_failure(failing, arguments, lines, whole, at):
     return lines[k].split()[0]
 
 
-def refused_growth(failing, arguments, talk):
-    """A conversation with each of its allocations failing: what was refused."""
+def spread(numbers, most):
+    """At most so many of the numbers, from the first to the last."""
+    return sorted({numbers[k * (len(numbers) - 1) // max(1, most - 1)] for k in range(most)}) if len(numbers) > most else numbers
+
+
+def refused_growth(failing, start, arguments, talk):
+    """A conversation with its allocations failing in turn: what was refused."""
     lines, whole = [line for line, _ in talk], [reply for _, reply in talk]
     given = "".join(line + "\n" for line in lines).encode()
     (status, output, _), total = failing.allocations(PROGRAM, ["run", *arguments], given)
     if status != 0 or output.decode().splitlines() != whole:
         raise Failed("the conversation without a failure isn't right")
-    step = max(1, total // MOST)
-    return [one_failure(failing, arguments, lines, whole, at) for at in range(1, total + 1, step)]
+    tried = spread(list(range(1, start + 1)), BEFORE) + spread(list(range(start + 1, total + 1)), MOST)
+    return [one_failure(failing, arguments, lines, whole, at) for at in tried]
+
+
+def before_a_line(failing):
+    """How many allocations come before the first line. Where one of them fails the program ends, or it was none of its own."""
+    (status, output, _), start = failing.allocations(PROGRAM, ["run"], b"")
+    found = [failing.call(PROGRAM, ["run"], b"step 1\n", at) for at in range(1, start + 1)]
+    gave_up = found.count((3, b"", b"no memory\n"))
+    if (status, output) != (0, b"") or not gave_up or gave_up + found.count((0, b"none\n", b"")) < start:
+        raise Failed(f"allocations before the first line: {found}")
+    return start
+
+
+# A conversation with a command of each kind, and how many allocations each makes.
+CODE = "7b0a000000000000" + "95" + "00" * 7
+COUNTED = [
+    ("make 64", 1), ("put 1 0 0102", 1), ("get 1 0 2", 1), ("get 1 63 2", 0), (f"ship 9 0 0 0 0 0 {CODE}", 2), ("step 1", 0), ("one 1", 0), ("regs 1", 0), ("out 1", 0),
+    ("stack 1 0 8", 1), ("line 1 0", 1), ("break 1 1", 0), ("watch 1 0x100000000 8", 0), ("unbreak 1 1", 0), ("leave 1", 0), ("left 1", 0), ("return 1", 0),
+    ("returned 1", 1), ("free 1", 0), ("nothing", 0), ("put 1 0 zz", 0), ("x" * 69_000, 0),
+]
+
+
+def counted_commands(failing):
+    """How many allocations each of the commands makes: exactly so many, and a step, a reply and the reading of a line none."""
+    made = []
+    for k in range(len(COUNTED) + 1):
+        given = "".join(line + "\n" for line, _ in COUNTED[:k]).encode()
+        made.append(failing.allocations(PROGRAM, ["run"], given)[1])
+    for (line, wanted), before, after in zip(COUNTED, made, made[1:]):
+        if after - before != wanted:
+            raise Failed(f"{line[:40]} makes {after - before} allocations, and not {wanted}")
+
+
+def counted_streams(failing):
+    """One read for each 4096 bytes that have come and one at the end, one write for each reply, and no flush. A file gives
+    what is asked for."""
+    given = b"step 1\n" * 5_000
+    with tempfile.TemporaryFile() as file, tempfile.NamedTemporaryFile() as counts:
+        file.write(given)
+        file.seek(0)
+        env = dict(os.environ, LD_PRELOAD=failing.library, COUNT_IN=counts.name)
+        subprocess.run([PROGRAM, "run"], stdin=file, stdout=subprocess.DEVNULL, env=env, timeout=60, check=True)
+        found = Counts(*map(int, open(counts.name).read().split()))
+    if (found.reads, found.fewest, found.writes, found.flushes) != (-(-len(given) // 4096) + 1, 4096, 5_000, 0):
+        raise Failed(f"a conversation of 5,000 commands takes {found}")
 
 
 def refused_input(failing, arguments, given):
@@ -140,9 +207,12 @@ def refused_run(failing):
 
 
 def show(failing):
+    start = before_a_line(failing)
+    counted_commands(failing)
+    counted_streams(failing)
     talks = [talk for name in SCRIPTS for talk in conversations((ROOT / name).read_text())]
     with concurrent.futures.ThreadPoolExecutor(os.cpu_count()) as pool:
-        found = [what for part in pool.map(lambda talk: refused_growth(failing, *talk), talks) for what in part]
+        found = [what for part in pool.map(lambda talk: refused_growth(failing, start, *talk), talks) for what in part]
     said = ", ".join(f"{found.count(what)} {what}" for what in sorted(set(found)))
     gave_up = sum(refused_input(failing, arguments, given) for arguments, given in OTHERS)
     runs = refused_run(failing)
