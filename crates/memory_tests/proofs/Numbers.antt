@@ -1,5 +1,5 @@
 -- The object is that of number 1.
-use Rattle.std.proofs.Common.{◌≡◌, ◌≢◌, ℕ, ◌+◌, ◌≤◌, zero, suc, List, length, refl, arith}
+use Rattle.std.proofs.Common.{◌≡◌, ◌≢◌, ℕ, ◌≤◌, zero, suc, List, length, refl, arith}
 use Rattle.isa_table.specs.declared.instr.Size.{Size}
 use Rattle.isa_table.specs.declared.instr.Size.TheVariants.{Byte, Half, Word, Double}
 use Rattle.isa_table.specs.Table.{size_bytes}

@@ -35,35 +35,29 @@ single_memory = record {
 done : (old new : List ℕ) (n : ℕ) (op : Op) (x : ℕ) → single_reaches old n op (Done x) new → map_reaches (objects_of old) n op (Done x) (objects_of new)
 done old new n op x h = subst (λ k. map_reaches (objects_of old) k op (Done x) (objects_of new)) (sym h.0) (h.1, h.2, ap objects_of h.3)
 
--- what an access is answered is as memories promise
-answered : (old new : List ℕ) (n : ℕ) (op : Op) (r : Reach) → single_reaches old n op r new → Promises (single_memory.length_of old n) op r ⊥
-answered old new n op Outside h = h.0
-answered old new n op (Done x) h = let k = done old new n op x h in (k.0, (bytes_of (objects_of old) n, refl, k.1))
-answered old new n op Away h = absurd h
-answered old new n op Busy h = absurd h
-answered old new n op Worn h = absurd h
+-- what holds of each answer of an access
+each_reach : (P : Reach → Type 0) → ((x : ℕ) → P (Done x)) → P Outside → P Away → P Busy → P Worn → (r : Reach) → P r
+each_reach P d o a b w (Done x) = d x
+each_reach P d o a b w Outside = o
+each_reach P d o a b w Away = a
+each_reach P d o a b w Busy = b
+each_reach P d o a b w Worn = w
 
--- an access that is done is its entry, and any other does nothing
-added : (old new : List ℕ) (n : ℕ) (op : Op) (r : Reach) → single_reaches old n op r new → DoesAll (objects_of old) (entries_added n op r) (objects_of new)
-added old new n op Outside h = ap objects_of h.1
-added old new n op (Done x) h = map_adds (objects_of old) (objects_of new) n op (Done x) (done old new n op x h)
-added old new n op Away h = absurd h
-added old new n op Busy h = absurd h
-added old new n op Worn h = absurd h
-
--- an access changes no length
-kept : (old new : List ℕ) (n k : ℕ) (op : Op) (r : Reach) → single_reaches old n op r new → single_memory.length_of new k ≡ single_memory.length_of old k
-kept old new n k op Outside h = ap (λ (b : List ℕ). single_memory.length_of b k) h.1
-kept old new n k op (Done x) h = lengths (objects_of old) (objects_of new) n k op (Done x) (done old new n op x h)
-kept old new n k op Away h = absurd h
-kept old new n k op Busy h = absurd h
-kept old new n k op Worn h = absurd h
-
--- so it keeps all promises
+-- So it keeps all promises: an access that is done is one to the map, and any other does nothing. One declaration, in
+-- which a definition that lets an access outside change the object is refused.
 pub single_promises : KeepsPromises single_memory
 single_promises = record {
-  answers = answered;
-  reaches = λ old new n op r h. record { adds = added old new n op r h; lengths = λ k. kept old new n k op r h; worn = λ k w. w };
+  answers = λ old new n op r. each_reach (λ r. single_reaches old n op r new → Promises (single_memory.length_of old n) op r ⊥)
+    (λ x h. let k = done old new n op x h in (k.0, (bytes_of (objects_of old) n, refl, k.1)))
+    (λ h. h.0) (λ h. absurd h) (λ h. absurd h) (λ h. absurd h) r;
+  reaches = λ old new n op r h. record {
+    adds = each_reach (λ r. single_reaches old n op r new → DoesAll (objects_of old) (entries_added n op r) (objects_of new))
+      (λ x d. map_adds (objects_of old) (objects_of new) n op (Done x) (done old new n op x d))
+      (λ o. ap objects_of o.1) (λ a. absurd a) (λ b. absurd b) (λ w. absurd w) r h;
+    lengths = λ k. each_reach (λ r. single_reaches old n op r new → single_memory.length_of new k ≡ single_memory.length_of old k)
+      (λ x d. lengths (objects_of old) (objects_of new) n k op (Done x) (done old new n op x d))
+      (λ o. ap (λ (b : List ℕ). single_memory.length_of b k) o.1) (λ a. absurd a) (λ b. absurd b) (λ w. absurd w) r h;
+    worn = λ k w. w };
   closes = λ old new e. record { adds = ap objects_of e; lengths = λ k. ap (λ (b : List ℕ). single_memory.length_of b k) e; worn = λ k w. w };
   lengths = λ m n. refl;
 }
