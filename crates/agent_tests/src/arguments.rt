@@ -25,6 +25,10 @@ Usage: bpfagent check
 
 Options:
   -h, --help  Print help
+
+Reads raw code (bytes, not hex) from standard input, and writes 'ok N' to standard output where it is valid: it has N slots.
+
+Status 0: the code is valid. Status 1: it isn't, and standard error has 'slot S: WHY'. Status 3: a stream failed, or out of memory.
 ";
 
 const RUN_HELP: &str = "Do the commands of standard input, one a line
@@ -32,8 +36,12 @@ const RUN_HELP: &str = "Do the commands of standard input, one a line
 Usage: bpfagent run [OPTIONS]
 
 Options:
-      --budget <N>  The most bytes of objects that are not far [default: 67108864]
+      --budget <N>  The most bytes of objects that are not far, 0 to 67108864 [default: 67108864]
   -h, --help        Print help
+
+Reads lines from standard input, each a command, and writes a line to standard output for each, its reply, before the next is done. docs/PROTOCOL.md describes them.
+
+Status 0: the input has ended. Status 3: a stream failed, or there is no memory to begin with; standard error says which.
 ";
 
 const NO_SUBCOMMAND: &str = "error: 'bpfagent' requires a subcommand but one was not provided
