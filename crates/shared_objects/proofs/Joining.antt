@@ -1,21 +1,20 @@
 -- Seats are taken in, and the last one knows all.
-use Rattle.std.proofs.Common.{◌≡◌, ℕ, zero, suc, ◌+◌, ◌-◌, ◌*◌, ◌^◌, ◌<◌, ◌≤◌, ◌≢◌, Bool, true, false, List, [], ◌∷◌, ◌++◌, length, set, get_or, sym, refl, ap, ◌∙◌, subst, arith, cond, ◌⊎◌, inl, inr, ⊎_elim, length-set, slice_index, map, take, Some, None}
-use Rattle.std.specs.Prelude.{Option, slice_index_or}
+use Rattle.std.proofs.Common.{◌≡◌, ℕ, zero, suc, ◌+◌, ◌<◌, ◌≤◌, ◌≢◌, Bool, true, false, List, [], ◌∷◌, ◌++◌, length, set, sym, refl, ap, ◌∙◌, subst, arith, cond, ◌⊎◌, inl, inr, ⊎_elim, length-set, map, take, Some, None}
+use Rattle.std.specs.Prelude.{slice_index_or}
 use Rattle.std.proofs.lemmas.Bool.{cases_lt}
 use mathlib.Core.Logic.{dite}
 use native.Mathlib.Decide.{ℕ_discrete}
 use mathlib.Core.Option.{some, some-injective, some-ne-none}
 use lib.ListN.{get_elem?}
 use Rattle.atomic_table.specs.Table.{State, Joins}
-use Rattle.atomic_table.proofs.Lists.{at_set, set_else, at_longer}
-use Rattle.shared_objects.specs.History.{Has, Rises, Chained, AllInside, top, fold, Answers}
+use Rattle.atomic_table.proofs.Lists.{at_set, set_else}
+use Rattle.shared_objects.specs.History.{Has, Chained, AllInside, Answers}
 use Rattle.memory.specs.Objects.{bytes_of}
-use Rattle.shared_objects.specs.Rule.{total, times, has_turn, has_open, has_pass, has_moving, has_far, place_of, taken, is_moving, is_far, is_live, spent, HasPart, Written, PartFits, MarkFits, Stands, turns_on, Tally, tally, Fits, Knows, Kept}
+use Rattle.shared_objects.specs.Rule.{total, times, has_turn, has_open, has_pass, has_moving, has_far, place_of, taken, is_moving, is_far, is_live, spent, HasPart, PartFits, MarkFits, Stands, turns_on, Knows, Kept}
 use Rattle.shared_objects.specs.Kinds.{gathers, gathers_all, part}
 use Rattle.shared_objects.specs.declared.body.Body.{Body}
 use Rattle.shared_objects.specs.declared.view.Entry.{Entry}
 use Rattle.shared_objects.specs.declared.view.Part.{Part}
-use Rattle.shared_objects.specs.declared.view.Turn.{Turn}
 use Rattle.shared_objects.specs.declared.view.Mark.{Mark}
 use Rattle.shared_objects.specs.declared.view.View.{View}
 use Rattle.shared_objects.proofs.Sums.{at_end, total-set, terms_le, set_there}
@@ -28,10 +27,8 @@ use Rattle.shared_objects.specs.declared.view.Place.{Place}
 use Rattle.shared_objects.specs.declared.view.Place.TheVariants.{Here, Moving, Far}
 use Rattle.shared_objects.specs.declared.seats.Phase.{Phase}
 use Rattle.shared_objects.specs.declared.closing.Ended.{Ended}
-use Rattle.shared_objects.specs.declared.closing.Ended.TheVariants as ended
 use Rattle.shared_objects.proofs.One.{one_list}
-use Rattle.shared_objects.specs.One.{OneList, PartsFit}
-use Rattle.std.proofs.lemmas.List.{length-map}
+use Rattle.shared_objects.specs.One.{PartsFit}
 
 -- The seat that makes the others takes in one that holds no turn and has no scope open
 pub joins_ok : (returns : Bool) (key : List (List ℕ)) (id : ℕ) (v : View) (other : ℕ) (u : View) → 0 < v.made → v.live ≡ true → u.live ≡ true → u.made ≡ 0 → u.turn ≡ None → u.scopes ≡ [] → u.gathered ≡ [] → u.passing ≡ [] → u.out ≡ []
@@ -115,6 +112,7 @@ joins_ok returns key id v other u maker alive_ here young free shut clean past h
             returns_is = λ e. absurd (no_live e);
             idle = λ _. refl;
             first = λ z. absurd (not_zero (sym t.0 ∙ z));
+            alone = λ _. refl;
             opens_once = λ n. omega arith;
             turn = λ q e. absurd (none_is_not q e);
             out = λ n b e. absurd (none_is_not b e);
@@ -129,6 +127,7 @@ joins_ok returns key id v other u maker alive_ here young free shut clean past h
             returns_is = k.returns_is;
             idle = λ e. absurd (no_live (sym e ∙ alive_));
             first = k.first;
+            alone = λ ne. absurd (ne d.0);
             opens_once = k.opens_once;
             turn = k.turn;
             out = k.out;

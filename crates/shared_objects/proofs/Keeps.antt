@@ -1,6 +1,6 @@
 -- Each step of an actor keeps the rule.
-use Rattle.std.proofs.Common.{◌≡◌, true, false, Bool, ℕ, zero, suc, ◌+◌, ◌-◌, ◌*◌, ◌/◌, ◌%◌, ◌^◌, ◌<◌, ◌≤◌, ◌≢◌, List, [], ◌∷◌, ◌++◌, length, set, get_or, sym, refl, ap, ◌∙◌, subst, arith, cond, eqb, eq-eqb, ne_eqb, ◌⊎◌, inl, inr, ⊎_elim, length-set, length-append, map, slice_index, slice_set, lit<, Some, None, bit_or, bit_and, min}
-use Rattle.std.specs.Prelude.{Option, slice_index_or}
+use Rattle.std.proofs.Common.{◌≡◌, true, Bool, ℕ, zero, suc, ◌+◌, ◌-◌, ◌*◌, ◌/◌, ◌%◌, ◌^◌, ◌<◌, ◌≤◌, ◌≢◌, List, [], ◌∷◌, ◌++◌, length, set, get_or, sym, refl, ap, ◌∙◌, subst, arith, inl, inr, ⊎_elim, length-set, length-append, map, slice_index, lit<, Some, None, bit_or, bit_and, min}
+use Rattle.std.specs.Prelude.{slice_index_or}
 use Rattle.std.proofs.lemmas.List.{length-map}
 use lib.Bits.{and_step, and_mask, or_add_and}
 use mathlib.Core.Logic.{dite}
@@ -9,24 +9,23 @@ use mathlib.Core.Option.{some, none, some-injective, some-ne-none}
 use mathlib.Core.Option as maybe
 use lib.ListN.{get_elem?}
 use Rattle.atomic_table.specs.Table.{State, step, Act, keeps, takes, gives, Allows, Splits, opening}
-use Rattle.atomic_table.proofs.Lists.{at_set, set_else, at_longer, at_snoc}
+use Rattle.atomic_table.proofs.Lists.{at_set, set_else, at_longer}
 use Rattle.memory.specs.Deeds.{EndsInside, given_by, left_by}
-use Rattle.shared_objects.specs.History.{Has, Rises, Chained, AllInside, top, fold, Answers}
+use Rattle.shared_objects.specs.History.{Has, Rises, top}
 use Rattle.memory.specs.Objects.{bytes_of}
-use Rattle.shared_objects.specs.Rule.{total, times, same, has_turn, has_open, has_pass, has_moving, has_far, place_of, taken, is_moving, is_far, is_live, spent, HasPart, Written, PartFits, TurnFits, MarkFits, Stands, turns_on, word_of, Tally, tally, Fits, Knows, Kept}
+use Rattle.shared_objects.specs.Rule.{total, same, has_turn, has_open, has_pass, has_moving, has_far, place_of, taken, is_moving, is_far, is_live, spent, Written, PartFits, TurnFits, MarkFits, Stands, turns_on, word_of, tally, Knows, Kept}
 use Rattle.shared_objects.specs.Kinds.{Sat, object_at, turn, opened, closed, passed, left, marked, holding, recorded, worn_out, opens_scope, closes_scope, leaves_pass, takes_turn, gives_turn, gives_up_turn, Took, dealer, dealt, newcomer}
 use Rattle.shared_objects.specs.declared.body.Body.{Body}
 use Rattle.shared_objects.specs.declared.view.Entry.{Entry}
 use Rattle.shared_objects.specs.declared.view.Turn.{Turn}
 use Rattle.shared_objects.specs.declared.view.Mark.{Mark}
 use Rattle.shared_objects.specs.declared.view.Part.{Part}
-use Rattle.shared_objects.specs.declared.view.Place.{Place}
-use Rattle.shared_objects.specs.declared.view.Place.TheVariants.{Here, Moving, Far}
+use Rattle.shared_objects.specs.declared.view.Place.TheVariants.{Here}
 use Rattle.shared_objects.specs.declared.view.View.{View}
 use Rattle.shared_objects.specs.declared.view.Mark.TheVariants.{Away, Busy, Worn}
-use Rattle.shared_objects.proofs.Sums.{at_end, total-set, total-append, term_le, terms_le, total_few, set_there, is_here, is_else, times-snoc, times-without, times-without_other}
+use Rattle.shared_objects.proofs.Sums.{at_end, total-set, total-append, term_le, total_few, set_there, is_here, is_else, times-snoc, times-without, times-without_other}
 use Rattle.shared_objects.proofs.Logs.{object_home, length-left_by, has_longer, has_last, has_snoc, Rises-snoc, Chained-snoc, AllInside-snoc, top-snoc, fold-snoc, Answers-snoc}
-use Rattle.shared_objects.proofs.Moves.{St, state, same_fits, grown, grown_same, grown_here, grown_else, moves, mark_stays, turn_here, no_live, Alike, SameSeat, tally_set, out_weighs}
+use Rattle.shared_objects.proofs.Moves.{St, state, same_fits, grown, grown_same, grown_here, grown_else, moves, mark_stays, turn_here, no_live, SameSeat, tally_set, out_weighs}
 
 -- the marks of a turn and of heat are set
 or_turn : (x : ℕ) → bit_or x 12 + (x / 4 % 2 * 4 + x / 8 % 2 * 8) ≡ x + 12
@@ -67,6 +66,7 @@ module _ (returns : Bool) (key : List (List ℕ)) (s : St) (o : Kept returns key
     returns_is = λ _. sm.6 ∙ k.returns_is alive_;
     idle = λ no. absurd (no_live (sym no ∙ sm.2 ∙ alive_));
     first = λ z. (subst (λ q. 0 < q) (sym sm.0) (k.first z).0, (shut z).0, (shut z).1);
+    alone = λ ne. sm.3 ∙ k.alone ne;
     opens_once = once;
     turn = λ u is. let q = k.turn u (sym t ∙ is) in (q.0, q.1, few u (sym t ∙ is));
     out = away;
@@ -293,6 +293,7 @@ turns_ok returns key slots id m n lt free opened_ few_scopes alive_ young s o wi
             returns_is = k.returns_is;
             idle = λ no. absurd (no_live (sym no ∙ alive_));
             first = λ z. absurd (not_first returns key s o id v me young z);
+            alone = k.alone;
             opens_once = k.opens_once;
             turn = λ t q. subst (TurnFits returns key o.logs v.scopes) (some_is (turn n (x / 65536) body.bytes.items) t q) (stamp_is, y.2, few_scopes);
             out = k.out;
@@ -386,6 +387,7 @@ records_ok returns key slots id m t body more e k lt carried has by on found_is 
       returns_is = kn.returns_is;
       idle = λ no. absurd (no_live (sym no ∙ alive_));
       first = λ z. absurd (not_first returns key s o id v me young z);
+      alone = kn.alone;
       opens_once = kn.opens_once;
       turn = λ u is. absurd (none_is_not u is);
       out = λ j bytes q. dite (ℕ_discrete j n)
@@ -456,6 +458,7 @@ wears_ok returns key slots id m t body more lt carried has done alive_ young s o
       returns_is = kn.returns_is;
       idle = λ no. absurd (no_live (sym no ∙ alive_));
       first = λ z. absurd (not_first returns key s o id v me young z);
+      alone = kn.alone;
       opens_once = kn.opens_once;
       turn = λ u is. absurd (none_is_not u is);
       out = kn.out;
@@ -523,7 +526,7 @@ deals_ok returns key id v is_dealer room alive_ s o me =
       knows = λ j u at. ⊎_elim
           (λ old. ⊎_elim
           (λ (t : (j ≡ id) × (w ≡ u)). subst (λ y. Knows returns key o.logs j y) t.1 (subst (λ i. Knows returns key o.logs i w) (sym t.0)
-          (record { actor = k.actor; opening_is = k.opening_is; returns_is = k.returns_is; idle = λ no. absurd (no_live (sym no ∙ alive_)); first = λ z. let h = k.first z in (omega (arith, h.0), h.1, h.2); opens_once = k.opens_once; turn = k.turn; out = k.out; entries = k.entries; marks = k.marks; rises = k.rises })))
+          (record { actor = k.actor; opening_is = k.opening_is; returns_is = k.returns_is; idle = λ no. absurd (no_live (sym no ∙ alive_)); first = λ z. let h = k.first z in (omega (arith, h.0), h.1, h.2); alone = k.alone; opens_once = k.opens_once; turn = k.turn; out = k.out; entries = k.entries; marks = k.marks; rises = k.rises })))
           (λ t. o.knows j u t.1)
           (at_set s.views id j w u old))
           (λ (t : (j ≡ length vs) × (new ≡ u)). subst (λ y. Knows returns key o.logs j y) t.1
@@ -533,6 +536,7 @@ deals_ok returns key id v is_dealer room alive_ s o me =
             returns_is = λ _. k.returns_is alive_;
             idle = λ no. absurd (no_live (sym no));
             first = λ z. absurd (omega (arith, z, t.0, long, d.1, is_dealer));
+            alone = λ _. refl;
             opens_once = λ n. omega arith;
             turn = λ t e. absurd (none_is_not t e);
             out = λ n bytes e. absurd (none_is_not bytes e);
@@ -603,6 +607,7 @@ starts_ok returns key ws bs long quiet same_bytes =
         returns_is = λ _. refl;
         idle = λ no. absurd (no_live (sym no));
         first = λ _. (omega arith, refl, refl);
+        alone = λ _. refl;
         opens_once = λ n. omega arith;
         turn = λ t e. absurd (none_is_not t e);
         out = λ n bytes e. absurd (none_is_not bytes (sym (ap taken (all_here key n)) ∙ e));

@@ -11,3 +11,4 @@ mod Joining
 mod Sorting
 mod Seating
 mod Few
+mod Legal

@@ -1,6 +1,5 @@
 -- Each step of the mover keeps the rule.
-use Rattle.std.proofs.Common.{◌≡◌, true, false, Bool, ℕ, zero, suc, ◌+◌, ◌-◌, ◌*◌, ◌/◌, ◌%◌, ◌^◌, ◌<◌, ◌≤◌, ◌≢◌, List, [], ◌∷◌, ◌++◌, length, set, get_or, sym, refl, ap, ◌∙◌, subst, arith, cond, eqb, eq-eqb, ne_eqb, ◌⊎◌, inl, inr, ⊎_elim, length-set, get_or-set_other, get_or-set_same, slice_index, slice_set, Some, None, bit_and, min}
-use Rattle.std.specs.Prelude.{Option, slice_index_or}
+use Rattle.std.proofs.Common.{◌≡◌, true, Bool, ℕ, ◌+◌, ◌-◌, ◌*◌, ◌/◌, ◌%◌, ◌^◌, ◌<◌, ◌≤◌, ◌≢◌, List, ◌∷◌, length, set, sym, refl, ap, ◌∙◌, subst, arith, eqb, ◌⊎◌, inl, ⊎_elim, length-set, get_or-set_other, get_or-set_same, slice_index, Some, bit_and, min}
 use prog.Atomic.{either}
 use lib.Bits.{and_step, and_mask}
 use Rattle.std.specs.Prelude.{nat_eq}
@@ -10,18 +9,17 @@ use mathlib.Core.Option.{some, none, some-injective, some-ne-none}
 use mathlib.Core.Option as maybe
 use lib.ListN.{get_elem?}
 use Rattle.atomic_table.specs.Table.{State, step, Act, keeps, takes, gives, Allows}
-use Rattle.atomic_table.proofs.Lists.{at_set, set_here, set_else, exchanged}
-use Rattle.shared_objects.specs.History.{Has, Rises, Chained, AllInside, top, fold, Answers}
+use Rattle.atomic_table.proofs.Lists.{set_here, set_else, exchanged}
+use Rattle.shared_objects.specs.History.{top}
 use Rattle.memory.specs.Objects.{bytes_of}
-use Rattle.shared_objects.specs.Rule.{total, same, has_turn, has_open, has_pass, has_moving, has_far, place_of, taken, is_moving, is_far, Stands, word_of, Tally, tally, Fits, Knows, Kept}
-use Rattle.shared_objects.specs.Kinds.{Sat, object_at, placed, sent, called, cooled, begins_leave, ends_leave, begins_return, ends_return, cools}
+use Rattle.shared_objects.specs.Rule.{has_turn, has_open, has_pass, has_moving, has_far, place_of, taken, is_moving, is_far, Stands, word_of, tally, Knows, Kept}
+use Rattle.shared_objects.specs.Kinds.{Sat, placed, sent, called, cooled, begins_leave, ends_leave, begins_return, ends_return, cools}
 use Rattle.shared_objects.specs.declared.body.Body.{Body}
-use Rattle.shared_objects.specs.declared.view.Entry.{Entry}
 use Rattle.shared_objects.specs.declared.view.Place.{Place}
 use Rattle.shared_objects.specs.declared.view.Place.TheVariants.{Here, Moving, Far}
 use Rattle.shared_objects.specs.declared.view.View.{View}
 use Rattle.shared_objects.proofs.Sums.{total-set, term_le}
-use Rattle.shared_objects.proofs.Moves.{St, state, grown, moves, Alike, SameSeat}
+use Rattle.shared_objects.proofs.Moves.{St, grown, moves, Alike}
 use Rattle.shared_objects.proofs.Logs.{object_home}
 use Rattle.shared_objects.proofs.Keeps.{few_open, same_knows, unmoved, none_is_not, some_is}
 

@@ -1,11 +1,9 @@
 -- What is noted in a window, as the list of open scopes.
-use Rattle.std.proofs.Common.{◌≡◌, true, false, Bool, ℕ, zero, suc, ◌+◌, ◌<◌, ◌≤◌, ◌≢◌, List, [], ◌∷◌, ◌++◌, length, sym, refl, ap, ◌∙◌, subst, arith, cond, eqb, eq-eqb, ne_eqb, Option, Some, None, length-append}
+use Rattle.std.proofs.Common.{◌≡◌, true, false, Bool, ℕ, ◌<◌, ◌≢◌, List, [], ◌∷◌, ◌++◌, length, sym, refl, ap, ◌∙◌, subst, arith, cond, eq-eqb, Some, None}
 use Rattle.std.specs.Prelude.{nat_eq, nat_le, ◌||◌}
 use Rattle.std.proofs.lemmas.Bool.Decides.{nat_tests}
-use mathlib.Core.Logic.{dite}
-use native.Mathlib.Decide.{ℕ_discrete}
-use Rattle.scopes.specs.Windows.{holds, AreDistinct, IsWindow, noted, pushed_out, without_oldest, oldest_out}
-use Rattle.shared_objects.specs.Rule.{times, same}
+use Rattle.scopes.specs.Windows.{holds, AreDistinct, IsWindow, noted, pushed_out, without_oldest}
+use Rattle.shared_objects.specs.Rule.{times}
 use Rattle.shared_objects.specs.Kinds.{without}
 use Rattle.shared_objects.specs.Resting.{AllBelow}
 use Rattle.shared_objects.proofs.Sums.{is_here, is_else, times-snoc}

@@ -1,12 +1,12 @@
 -- The entries of all parts are one list.
-use Rattle.std.proofs.Common.{◌≡◌, ℕ, zero, suc, ◌+◌, ◌<◌, ◌≤◌, ◌≢◌, Bool, true, false, List, [], ◌∷◌, ◌++◌, length, set, get_or, sym, refl, ap, ◌∙◌, subst, arith, cond, eqb, eq-eqb, ne_eqb, ◌⊎◌, inl, inr, ⊎_elim, length-set}
-use Rattle.std.specs.Prelude.{slice_index_or, ◌==◌}
+use Rattle.std.proofs.Common.{◌≡◌, ℕ, zero, suc, ◌<◌, ◌≤◌, ◌≢◌, Bool, true, false, List, [], ◌∷◌, length, set, sym, refl, ap, ◌∙◌, subst, arith, cond, eqb, eq-eqb, ne_eqb, ◌⊎◌, inl, inr, ⊎_elim, length-set}
+use Rattle.std.specs.Prelude.{◌==◌}
 use Rattle.std.proofs.lemmas.Bool.{cases_lt}
 use mathlib.Core.Logic.{dite}
 use native.Mathlib.Decide.{ℕ_discrete}
-use mathlib.Core.Option.{some, some-injective, some-ne-none}
+use mathlib.Core.Option.{some-injective, some-ne-none}
 use lib.ListN.{get_elem?}
-use Rattle.memory.specs.Deeds.{EndsInside, given_by, left_by}
+use Rattle.memory.specs.Deeds.{left_by}
 use Rattle.shared_objects.specs.History.{Has, Rises, Chained, AllInside, top, fold, Answers}
 use Rattle.memory.specs.Objects.{bytes_of}
 use Rattle.shared_objects.specs.Rule.{HasPart, MarkFits}
@@ -285,16 +285,19 @@ one_list returns opening logs parts ends f into from legal nowhere marks long by
     let log : (n : ℕ) → n < length opening → entries_on n one ≡ logs n = λ n lt. own_log n (logs n) one (chained_rises 0 (logs n) (legal n lt).0) t.1
     (λ e h on. subst (λ k. Has (logs k) e) on (into e (t.2 e h)).1)
     (λ e h. let w = from n e h in (t.3 e w.1, w.0)) in
-    let runs : returns ≡ true → Runs opening one (all_after opening one) = λ r. all_runs opening one (λ n lt. subst (Answers (bytes_of opening n)) (sym (log n lt)) ((legal n lt).2 r)) near in
+    let answers : returns ≡ true → (n : ℕ) → n < length opening → Answers (bytes_of opening n) (entries_on n one) = λ r n lt. subst (Answers (bytes_of opening n)) (sym (log n lt)) ((legal n lt).2 r) in
+    let runs : returns ≡ true → Runs opening one (all_after opening one) = λ r. all_runs opening one (answers r) near in
     record {
       apart = f;
       one = one;
       ordered = t.1;
       only = t.2;
       all = t.3;
+      near = near;
       chained = λ n lt. subst (Chained 0) (sym (log n lt)) (legal n lt).0;
       inside = λ n lt. subst (AllInside (length (bytes_of opening n))) (sym (log n lt)) (legal n lt).1;
       worn = λ p h m has. mark_stands (length opening) logs one log nowhere m (marks p h m has);
+      answers = answers;
       runs = λ r. subst (Runs opening one) (same_lists (all_after opening one) ends (all_long opening one ∙ sym long) (λ n lt. let small : n < length opening = omega (arith, long) in
           all_fold opening one near n ∙ ap (fold (bytes_of opening n)) (log n small) ∙ sym (bytes r n small))) (runs r);
       own = own_part parts one f t.1 t.2 t.3;

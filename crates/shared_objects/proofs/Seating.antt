@@ -1,8 +1,6 @@
 -- One seat more.
-use Rattle.std.proofs.Common.{◌≡◌, ℕ, ◌+◌, List, [], ◌∷◌, ◌++◌, length, sym, refl, ap, ◌∙◌, subst, arith, ⊎_elim, zero, suc}
+use Rattle.std.proofs.Common.{◌≡◌, ℕ, ◌+◌, List, [], ◌∷◌, ◌++◌, length, sym, ap, ◌∙◌, arith, ⊎_elim, zero, suc}
 use Rattle.std.specs.Prelude.{All}
-use mathlib.Core.Option.{some}
-use lib.ListN.{get_elem?}
 use Rattle.shared_objects.proofs.Sums.{at_end}
 use Rattle.shared_objects.specs.Kinds.{dealt, newcomer}
 use Rattle.shared_objects.specs.Opened.{AreFresh, seated}

@@ -1,11 +1,11 @@
 -- The slots that are with the mover, in turns, and its phases.
-use Rattle.std.proofs.Common.{◌≡◌, ℕ, zero, suc, ◌+◌, ◌<◌, ◌≤◌, ◌≢◌, Bool, true, false, List, [], ◌∷◌, ◌++◌, length, set, map, take, drop, get_or, replicate, sym, refl, ap, ◌∙◌, subst, arith, cond, eqb, eq-eqb, ne_eqb, ◌⊎◌, inl, inr, ⊎_elim, length-set, length-append, Some, None}
-use Rattle.std.specs.Prelude.{Option, slice_index_or, slice_set}
-use Rattle.std.proofs.lemmas.List.{map-set, length-map}
+use Rattle.std.proofs.Common.{◌≡◌, ℕ, zero, suc, ◌+◌, ◌<◌, ◌≤◌, ◌≢◌, List, [], ◌∷◌, ◌++◌, length, set, map, take, drop, get_or, replicate, sym, refl, ap, ◌∙◌, arith, cond, eq-eqb, ne_eqb, length-append, Some}
+use Rattle.std.specs.Prelude.{slice_index_or, slice_set}
+use Rattle.std.proofs.lemmas.List.{map-set}
 use mathlib.Core.Logic.{dite}
 use native.Mathlib.Decide.{ℕ_discrete}
 use Rattle.atomic_table.specs.Table.{turned, rest}
-use Rattle.shared_objects.specs.Rule.{times, same, total, place_of, taken, is_moving}
+use Rattle.shared_objects.specs.Rule.{times, total, place_of, taken, is_moving}
 use Rattle.shared_objects.specs.Kinds.{placed}
 use Rattle.shared_objects.specs.Phases.{phase_of, place_in}
 use Rattle.shared_objects.specs.declared.body.Body.{Body}

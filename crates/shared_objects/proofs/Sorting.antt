@@ -1,14 +1,10 @@
 -- The one list is the sorted one.
-use Rattle.std.proofs.Common.{◌≡◌, ℕ, zero, suc, ◌+◌, ◌<◌, ◌≤◌, ◌≢◌, Bool, true, false, List, [], ◌∷◌, ◌++◌, length, sym, refl, ap, ◌∙◌, subst, arith, cond, eqb, eq-eqb, ne_eqb, ◌⊎◌, inl, inr, ⊎_elim}
+use Rattle.std.proofs.Common.{◌≡◌, ℕ, suc, ◌<◌, ◌≤◌, Bool, true, false, List, [], ◌∷◌, ◌++◌, sym, refl, ap, ◌∙◌, subst, arith, cond, eq-eqb, ◌⊎◌, inl, inr, ⊎_elim}
 use Rattle.std.specs.Prelude.{nat_lt, ◌&&◌, ◌||◌, ◌==◌}
 use Rattle.std.proofs.lemmas.Bool.Decides.{nat_tests}
-use mathlib.Core.Logic.{dite}
-use native.Mathlib.Decide.{ℕ_discrete}
-use mathlib.Core.Option.{some}
-use lib.ListN.{get_elem?}
 use Rattle.shared_objects.specs.History.{Has, Rises}
 use Rattle.shared_objects.specs.Rule.{HasPart}
-use Rattle.shared_objects.specs.One.{Before, InOrder, is_before, insert, sorted, all_entries, PartsFit, Runs, OneList}
+use Rattle.shared_objects.specs.One.{Before, InOrder, is_before, insert, sorted, all_entries, PartsFit, OneList}
 use Rattle.shared_objects.specs.declared.view.Entry.{Entry}
 use Rattle.shared_objects.specs.declared.view.Part.{Part}
 use Rattle.shared_objects.proofs.One.{empty, first, later, has_cons, through, rises_above, apart_by_stamp, apart_by_actor, fewer, either_way}
@@ -125,15 +121,15 @@ sorted_order : (es : List Entry) → Apart es → InOrder (sorted es)
 sorted_order [] a = tt
 sorted_order (e ∷ es) a = insert_order e (sorted es) (sorted_order es a.1) (λ f h. a.0 f (sorted_has es f h))
 
-has_either : (xs ys : List Entry) (x : Entry) → Has (xs ++ ys) x → Has xs x ⊎ Has ys x
+pub has_either : (xs ys : List Entry) (x : Entry) → Has (xs ++ ys) x → Has xs x ⊎ Has ys x
 has_either [] ys x h = inr h
 has_either (y ∷ xs) ys x h = ⊎_elim (λ q. inl (subst (Has (y ∷ xs)) q (first y xs))) (λ q. ⊎_elim (λ r. inl (later y x xs r)) (λ r. inr r) (has_either xs ys x q)) (has_cons y x (xs ++ ys) h)
 
-has_left : (xs ys : List Entry) (x : Entry) → Has xs x → Has (xs ++ ys) x
+pub has_left : (xs ys : List Entry) (x : Entry) → Has xs x → Has (xs ++ ys) x
 has_left [] ys x h = absurd (empty x h)
 has_left (y ∷ xs) ys x h = ⊎_elim (λ q. subst (Has (y ∷ (xs ++ ys))) q (first y (xs ++ ys))) (λ q. later y x (xs ++ ys) (has_left xs ys x q)) (has_cons y x xs h)
 
-has_right : (xs ys : List Entry) (x : Entry) → Has ys x → Has (xs ++ ys) x
+pub has_right : (xs ys : List Entry) (x : Entry) → Has ys x → Has (xs ++ ys) x
 has_right [] ys x h = h
 has_right (y ∷ xs) ys x h = later y x (xs ++ ys) (has_right xs ys x h)
 

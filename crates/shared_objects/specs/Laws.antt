@@ -1,15 +1,69 @@
 -- What the rule and the one list say, apart from any call.
-use Rattle.std.specs.Prelude.{◌≡◌, Bool, true, ℕ, ◌+◌, ◌≤◌, List}
+use Rattle.std.specs.Prelude.{◌≡◌, Bool, true, ℕ, ◌+◌, ◌*◌, ◌/◌, ◌%◌, ◌<◌, ◌≤◌, List, length, slice_index, Some}
+use mathlib.Core.Option.{some}
+use lib.ListN.{get_elem?}
 use Rattle.atomic_table.specs.Table.{State}
-use Rattle.shared_objects.specs.One.{OneList, Runs, sorted, all_entries}
-use Rattle.shared_objects.specs.Rule.{total, has_open, has_pass, Kept}
+use Rattle.pointer_word.specs.Words.{WordRecord, HasFields, place_number, bit, word_number}
+use Rattle.pointer_word.specs.declared.word.WordPlace.TheVariants.{Local}
+use Rattle.shared_objects.specs.History.{Has, top}
+use Rattle.shared_objects.specs.Legal.{Legal, IsOneRun, fold_of}
+use Rattle.shared_objects.specs.One.{OneList, Runs, sorted, all_entries, entries_on}
+use Rattle.shared_objects.specs.Rule.{total, has_open, has_pass, place_of, taken, word_of, Tally, tally, Written, Kept}
 use Rattle.shared_objects.specs.declared.body.Body.{Body}
+use Rattle.shared_objects.specs.declared.view.Entry.{Entry}
 use Rattle.shared_objects.specs.declared.view.Part.{Part}
 use Rattle.shared_objects.specs.declared.view.View.{View}
+
+-- ---- words
 
 -- At most 56 seats count at an object, so that no count reaches into the stamp.
 abbrev pub CountsStayFew : Type 0
 CountsStayFew = (returns : Bool) (opening : List (List ℕ)) (s : State Body View) → Kept returns opening s → (n : ℕ) → total (has_open n) s.views + total (has_pass n) s.views ≤ 56
+
+-- What the word of an object says is what all seats have of it: its place is where the mover has it, its turn is taken exactly
+-- where one seat holds it, its count is that of the seats that have it open or pass by, and its stamp is the last of its
+-- entries. An object that is open, or hot, or whose turn is taken, is here.
+pub record ShowsSeats (t : Tally) (log : List Entry) (w : WordRecord) : Type 0 where
+  pub place : place_number w.place ≡ t.moving + 2 * t.far
+  pub turn : bit w.turn ≡ t.turns
+  pub count : w.count ≡ t.opens + t.passes
+  pub stamp : w.stamp ≡ top 0 log
+  pub here : 0 < t.opens + t.turns + bit w.hot → w.place ≡ Local
+
+-- The word of each object is that of a record that shows what all seats have of it.
+abbrev pub WordsShowSeats : Type 0
+WordsShowSeats = (returns : Bool) (opening : List (List ℕ)) (s : State Body View) (k : Kept returns opening s) (n : ℕ) → n < length opening
+    → (w : WordRecord) × HasFields w × ShowsSeats (tally n s.views) (k.logs n) w × (slice_index s.words (word_of n) ≡ word_number w)
+
+-- ---- histories
+
+-- A legal history is one run of all its entries by stamp, then actor.
+abbrev pub LegalHistoriesRun : Type 0
+LegalHistoriesRun = (opening : List (List ℕ)) (history : List Entry) → Legal opening history → IsOneRun opening history
+
+-- A seat wrote the entry, or took in one that did.
+abbrev pub IsWrittenIn : State Body View → Entry → Type 0
+IsWrittenIn s e = (id : ℕ) × (v : View) × (get_elem? s.views id ≡ some v) × Written v e
+
+-- Between any two steps all entries of all seats are one history. Where far stores give back what was put, it is legal, a body
+-- that is here with no turn taken is its object's fold, and so are the bytes of one that is out. In any case the stamp of a
+-- word is that of its object's last entry.
+pub record HasHistory (returns : Bool) (opening : List (List ℕ)) (s : State Body View) : Type 0 where
+  pub history : List Entry
+  pub only : (e : Entry) → Has history e → IsWrittenIn s e
+  pub all : (e : Entry) → IsWrittenIn s e → Has history e
+  pub stamps : (n : ℕ) → n < length opening → slice_index s.words (word_of n) / 65536 ≡ top 0 (entries_on n history)
+  pub legal : returns ≡ true → Legal opening history
+  pub here : returns ≡ true → (n : ℕ) → n < length opening → slice_index s.words (word_of n) % 8 ≡ 0 → (body : Body) × (get_elem? s.homes n ≡ some (some body)) × (body.bytes.items ≡ fold_of opening history n)
+  pub out : returns ≡ true → (id n : ℕ) (v : View) (bytes : List ℕ) → get_elem? s.views id ≡ some v → n < length opening → taken (place_of v n) ≡ Some bytes → bytes ≡ fold_of opening history n
+
+-- Between any two steps there is such a history.
+abbrev pub TablesHaveHistories : Type 0
+TablesHaveHistories = (returns : Bool) (opening : List (List ℕ)) (s : State Body View) → Kept returns opening s → HasHistory returns opening s
+
+-- The one list of a closed table is a legal history, where far stores give back what was put.
+abbrev pub OneListsAreLegal : Type 0
+OneListsAreLegal = (opening : List (List ℕ)) (parts : List Part) (ends : List (List ℕ)) → (l : OneList true opening parts ends) → Legal opening l.one
 
 -- The one list is that of all parts, sorted by stamp, then actor; so, where far stores give back what was put, these entries run
 -- from the opening bytes to the bytes that the table closes with.

@@ -9,6 +9,7 @@ pub mod Beginnings
 pub mod Touches
 pub mod Leaves
 pub mod One
+pub mod Legal
 pub mod Parts
 pub mod Ends
 pub mod Opened

@@ -1,10 +1,10 @@
 -- All entries as one list, by stamp, then actor.
-use Rattle.std.specs.Prelude.{◌≡◌, ◌⊎◌, ℕ, ◌<◌, ◌≤◌, Bool, true, false, ◌&&◌, ◌||◌, nat_lt, List, [], ◌∷◌, ◌++◌, cond, ◌==◌, length, slice_set}
+use Rattle.std.specs.Prelude.{◌≡◌, ◌⊎◌, ℕ, ◌<◌, ◌≤◌, Bool, true, ◌&&◌, ◌||◌, nat_lt, List, [], ◌∷◌, ◌++◌, cond, ◌==◌, length, slice_set}
 use mathlib.Core.Option.{some}
 use lib.ListN.{get_elem?}
 use Rattle.memory.specs.Deeds.{given_by, left_by}
 use Rattle.memory.specs.Objects.{bytes_of}
-use Rattle.shared_objects.specs.History.{Has, Rises, Chained, AllInside, top}
+use Rattle.shared_objects.specs.History.{Has, Rises, Chained, AllInside, Answers, top}
 use Rattle.shared_objects.specs.Rule.{HasPart}
 use Rattle.shared_objects.specs.declared.view.Entry.{Entry}
 use Rattle.shared_objects.specs.declared.view.Mark.{Mark}
@@ -72,17 +72,19 @@ MarkStands one (Away n) = Unit {0}
 MarkStands one (Busy n) = Unit {0}
 MarkStands one (Worn n found) = found ≤ top 0 (entries_on n one)
 
--- One list of all entries of these parts. Each part is what its actor has in it; along each object stamps rise, each turn
--- found the stamp before its own, and each deed ends inside. Where far stores give back what was put, run from the opening
--- bytes it gives every answer and these bytes.
+-- One list of all entries of these parts, which are of objects that there are. Each part is what its actor has in it; along
+-- each object stamps rise, each turn found the stamp before its own, and each deed ends inside. Where far stores give back
+-- what was put, run from the opening bytes it gives every answer and these bytes.
 pub record OneList (returns : Bool) (opening : List (List ℕ)) (parts : List Part) (ends : List (List ℕ)) : Type 0 where
   pub apart : PartsFit parts
   pub one : List Entry
   pub ordered : InOrder one
   pub only : (e : Entry) → Has one e → HasPart parts e
   pub all : (e : Entry) → HasPart parts e → Has one e
+  pub near : (e : Entry) → Has one e → e.object < length opening
   pub chained : (n : ℕ) → n < length opening → Chained 0 (entries_on n one)
   pub inside : (n : ℕ) → n < length opening → AllInside (length (bytes_of opening n)) (entries_on n one)
   pub worn : (p : Part) → Has parts p → (m : Mark) → Has p.marks m → MarkStands one m
+  pub answers : returns ≡ true → (n : ℕ) → n < length opening → Answers (bytes_of opening n) (entries_on n one)
   pub runs : returns ≡ true → Runs opening one ends
   pub own : (p : Part) → Has parts p → entries_by p.actor one ≡ p.entries

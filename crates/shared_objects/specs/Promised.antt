@@ -1,7 +1,5 @@
 -- A seat keeps the promises of memories.
-use Rattle.std.proofs.Common.{◌≡◌, ℕ, zero, suc, List, [], ◌∷◌, ◌++◌, length, map, refl, sym, ap, ◌∙◌, subst}
-use mathlib.Core.Option.{some}
-use lib.ListN.{get_elem?}
+use Rattle.std.proofs.Common.{◌≡◌, ℕ, List, [], ◌∷◌, ◌++◌, length, map, refl, sym, ap, ◌∙◌, subst}
 use Rattle.atomic_table.proofs.Lists.{at_longer, at_last}
 use Rattle.memory.specs.declared.access.Op.{Op}
 use Rattle.memory.specs.declared.access.Reach.{Reach}
@@ -10,10 +8,9 @@ use Rattle.memory.specs.declared.deeds.Deed.TheVariants.{Accesses}
 use Rattle.memory.specs.declared.deeds.Given.TheVariants.{Number}
 use Rattle.memory.specs.declared.deeds.Entry.{Entry as OwnEntry}
 use Rattle.memory.specs.Access.{answer}
-use Rattle.memory.specs.Memories.{Memories, Promises, KeepsPromises, Did, entries_added}
+use Rattle.memory.specs.Memories.{Promises, KeepsPromises, entries_added}
 use Rattle.memory.specs.Objects.{bytes_of}
 use Rattle.shared_objects.specs.History.{Has, entry}
-use Rattle.shared_objects.specs.Kinds.{looking, marked, recorded, worn_out, shut}
 use Rattle.shared_objects.specs.Touches.{Touches}
 use Rattle.shared_objects.specs.SeatMemories.{seat_memory, own_entry}
 use Rattle.shared_objects.specs.declared.view.Entry.{Entry}

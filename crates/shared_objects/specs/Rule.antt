@@ -1,5 +1,5 @@
 -- The rule of the table: what its words, bodies and views have to do with one another, between any two steps.
-use Rattle.std.specs.Prelude.{◌≡◌, ◌⊎◌, Bool, true, false, ℕ, ◌+◌, ◌*◌, ◌^◌, ◌<◌, ◌≤◌, List, [], ◌∷◌, length, slice_index, slice_index_or, cond, ◌==◌, Option, Some, None}
+use Rattle.std.specs.Prelude.{◌≡◌, ◌≢◌, ◌⊎◌, Bool, true, false, ℕ, ◌+◌, ◌*◌, ◌^◌, ◌<◌, ◌≤◌, List, [], ◌∷◌, length, slice_index, slice_index_or, cond, ◌==◌, Option, Some, None}
 use mathlib.Core.Option.{some, none}
 use mathlib.Core.Option as maybe
 use lib.ListN.{get_elem?}
@@ -157,6 +157,8 @@ pub record Knows (returns : Bool) (opening : List (List ℕ)) (logs : ℕ → Li
   pub idle : v.live ≡ false → v ≡ spent
   -- the first seat made the others, and opens nothing
   pub first : id ≡ 0 → (0 < v.made) × (v.scopes ≡ []) × (v.passing ≡ [])
+  -- and takes them in
+  pub alone : id ≢ 0 → v.gathered ≡ []
   pub opens_once : (n : ℕ) → has_open n v + has_pass n v ≤ 1
   pub turn : (t : Turn) → v.turn ≡ Some t → TurnFits returns opening logs v.scopes t
   pub out : (n : ℕ) (bytes : List ℕ) → taken (place_of v n) ≡ Some bytes → Stands returns (bytes_of opening n) (logs n) bytes

@@ -1,6 +1,5 @@
 -- A seat of an actor as the memory of a machine.
-use Rattle.std.specs.Prelude.{◌≡◌, ℕ, List, length, map}
-use Rattle.memory.specs.declared.access.Op.{Op}
+use Rattle.std.specs.Prelude.{◌≡◌, ℕ, length, map}
 use Rattle.memory.specs.declared.deeds.Entry.{Entry as OwnEntry}
 use Rattle.memory.specs.Memories.{Memories, OwnEntries}
 use Rattle.memory.specs.Objects.{bytes_of}

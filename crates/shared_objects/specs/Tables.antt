@@ -1,5 +1,5 @@
 -- Which table a seat is of, and what a table was opened with.
-use Rattle.std.specs.Prelude.{◌≡◌, ℕ, Bool, List, [], length}
+use Rattle.std.specs.Prelude.{◌≡◌, ℕ, Bool, List, []}
 use Rattle.shared_objects.specs.declared.view.View.{View}
 use Rattle.shared_objects.specs.Opening.{opening_bytes}
 use Rattle.shared_objects.specs.declared.seats.ActorSeat.{ActorSeat}

@@ -16,7 +16,10 @@ mod view;
 
 pub use closing::Ended;
 pub use kinds::Key;
-pub use laws::{counts_stay_few, sorted_entries_run};
+pub use laws::{
+    counts_stay_few, legal_histories_run, one_lists_are_legal, sorted_entries_run,
+    tables_have_histories, words_show_seats,
+};
 pub use moving::Leave;
 pub use seat_memory::SeatMemory;
 pub use seats::{ActorSeat, MoverSeat, Phase};

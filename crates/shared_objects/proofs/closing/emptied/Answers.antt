@@ -1,8 +1,8 @@
-use Rattle.std.proofs.Common.{rules, arith, ap, ◌∙◌, sym, refl, ◌≡◌, ℕ, ◌+◌, false, true, take, ◌++◌, ◌∷◌, [], subst, get_or-set_other, get_or-set_same, length, set, ◌<◌}
+use Rattle.std.proofs.Common.{arith, ap, ◌∙◌, sym, ◌≡◌, ◌+◌, false, take, ◌++◌, ◌∷◌, [], get_or-set_other, get_or-set_same, length, set, ◌<◌}
 use mathlib.Core.Logic.{dite}
 use native.Mathlib.Decide.{ℕ_discrete}
 use Rattle.std.specs.Prelude.{slice_index_or}
-use Rattle.std.specs.Mem.Slots.{slots_items, slots_filled, slots_len, slots_counts}
+use Rattle.std.specs.Mem.Slots.{slots_items, slots_filled, slots_counts}
 use Rattle.shared_objects.specs.Ends.{all_shown}
 use Rattle.shared_objects.specs.declared.seats.Phase.TheVariants.{In}
 use Rattle.shared_objects.proofs.Joining.{shown_next, phase_at, taken_long}

@@ -1,7 +1,7 @@
-use Rattle.std.proofs.Common.{rules, ◌≡◌, ℕ, ◌+◌, ◌<◌, List, [], ◌∷◌, ◌++◌, length, map, take, drop, ap, sym, ◌∙◌, subst, arith}
+use Rattle.std.proofs.Common.{ℕ, ◌<◌, List, [], ◌∷◌, ◌++◌, length, take, drop, ap, sym, ◌∙◌, subst, arith}
 use Rattle.shared_objects.specs.Rule.{times}
 use Rattle.shared_objects.specs.Phases.{place_in}
-use Rattle.shared_objects.proofs.Slots.{numbers, numbers_turned, times_turned, nearer, times_long, some_held, first_last, first_is}
+use Rattle.shared_objects.proofs.Slots.{numbers, numbers_turned, times_turned, nearer, times_long, some_held, first_last}
 use Rattle.shared_objects.proofs.moving.bring.Goals as goal
 
 pub loop-seat-smaller : goal.loop-seat-smaller

@@ -1,4 +1,4 @@
-use Rattle.std.proofs.Common.{◌≡◌, ℕ, ◌<◌, map, length}
+use Rattle.std.proofs.Common.{◌≡◌, ℕ, map, length}
 use Rattle.std.specs.Prelude.{vec_capacity}
 use Rattle.shared_objects.specs.Rule.{times}
 use Rattle.shared_objects.specs.Phases.{place_in}

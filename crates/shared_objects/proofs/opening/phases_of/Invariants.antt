@@ -1,4 +1,4 @@
-use Rattle.std.proofs.Common.{◌≡◌, length, map, take}
+use Rattle.std.proofs.Common.{◌≡◌, map, take}
 use Rattle.shared_objects.specs.declared.seats.Phase.TheVariants.{In}
 use Rattle.shared_objects.proofs.opening.phases_of.Given as goal
 

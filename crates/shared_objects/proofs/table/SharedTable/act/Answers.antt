@@ -1,7 +1,5 @@
-use Rattle.std.proofs.Common.{rules, ap, ◌∷◌, [], ◌∙◌, ℕ, List, sym, ◌≡◌, get_or, refl, length}
+use Rattle.std.proofs.Common.{ap, ◌∷◌, [], ◌∙◌, sym, ◌≡◌}
 use Rattle.atomic_table.specs.Table.{rest}
-use Rattle.memory.specs.Access.{part}
-use Rattle.shared_objects.specs.declared.body.Body.{Body}
 use Rattle.shared_objects.proofs.table.SharedTable.act.Goals as goal
 
 pub slot_mut-requires : goal.slot_mut-requires

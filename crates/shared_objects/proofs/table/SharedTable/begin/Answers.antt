@@ -1,9 +1,9 @@
-use Rattle.std.proofs.Common.{rules, arith, ap, sym, ◌∙◌, ◌≡◌, ℕ, ◌+◌, ◌≤◌, List, [], ◌∷◌, ◌++◌, length, subst, refl, max}
+use Rattle.std.proofs.Common.{arith, ap, sym, ◌∙◌, ℕ, ◌≤◌, List, length, subst, refl}
 use Rattle.memory.specs.Objects.{bytes_of}
 use Rattle.scopes.specs.Windows.{noted}
 use Rattle.scopes.proofs.Staying.{stays}
 use Rattle.shared_objects.specs.Rule.{times}
-use Rattle.shared_objects.specs.Kinds.{turn, holding}
+use Rattle.shared_objects.specs.Kinds.{holding}
 use Rattle.shared_objects.proofs.Noted.{noted_once}
 use Rattle.shared_objects.proofs.table.SharedTable.begin.Goals as goal
 

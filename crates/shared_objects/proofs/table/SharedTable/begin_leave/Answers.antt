@@ -1,20 +1,18 @@
-use Rattle.std.proofs.Common.{rules, arith, ap, sym, ◌∙◌, subst, ◌≡◌, ℕ, ◌+◌, ◌<◌, ◌≤◌, List, [], ◌∷◌, ◌++◌, length, map, drop, length-set, length-append, refl, true, Some, false}
-use Rattle.std.specs.Prelude.{slice_set, vec_capacity, slice_index_or}
+use Rattle.std.proofs.Common.{arith, ap, sym, ◌∙◌, subst, ◌≡◌, ℕ, ◌<◌, ◌≤◌, List, [], ◌∷◌, ◌++◌, length, map, length-set, length-append, refl}
+use Rattle.std.specs.Prelude.{slice_set, vec_capacity}
 use Rattle.std.proofs.lemmas.List.{length-map}
 use Rattle.atomic_table.specs.Table.{rest, turned}
 use Rattle.memory.specs.Objects.{bytes_of}
 use Rattle.shared_objects.specs.Opening.{opening_bytes}
-use Rattle.shared_objects.specs.Rule.{place_of, times, taken, is_moving, total}
+use Rattle.shared_objects.specs.Rule.{place_of, times, is_moving, total}
 use Rattle.shared_objects.specs.Phases.{phase_of, Makes}
-use Rattle.shared_objects.specs.Kinds.{Sat, placed, sent, called, cooled, object_at}
+use Rattle.shared_objects.specs.Kinds.{Sat, placed}
 use Rattle.shared_objects.specs.declared.body.Body.{Body}
 use Rattle.shared_objects.specs.declared.view.View.{View}
 use Rattle.shared_objects.specs.declared.view.Place.{Place}
 use Rattle.shared_objects.specs.declared.view.Place.TheVariants as places
 use Rattle.shared_objects.specs.declared.seats.Phase.TheVariants as phases
 use Rattle.shared_objects.proofs.Logs.{object_home}
-use Rattle.shared_objects.proofs.Keeps.{some_is}
-use Rattle.shared_objects.proofs.Acting.{none_above}
 use Rattle.shared_objects.proofs.MoverKeeps.{lifts_ok}
 use Rattle.shared_objects.proofs.Slots.{numbers, map-append, phased_after, held_taken, total_placed, room_left}
 use Rattle.shared_objects.proofs.table.SharedTable.begin_leave.Goals as goal

@@ -1,4 +1,4 @@
-use Rattle.std.proofs.Common.{rules, arith, ap, ◌∙◌, sym, refl, ◌≡◌, ℕ, ◌+◌, map, subst, List, length}
+use Rattle.std.proofs.Common.{ap, ◌∙◌, sym, ◌≡◌, ◌+◌, map, subst, List, length}
 use Rattle.std.proofs.lemmas.List.{length-map}
 use Rattle.std.specs.Mem.Slots.{slots_items}
 use Rattle.shared_objects.specs.Ends.{all_shown, Closes}

@@ -1,10 +1,10 @@
-use Rattle.std.proofs.Common.{rules, arith, ap, sym, ◌∙◌, subst, ◌≡◌, ℕ, List, [], ◌∷◌, length, refl}
+use Rattle.std.proofs.Common.{ap, ◌∙◌, subst, ℕ, refl}
 use Rattle.scopes.specs.Windows.{IsWindow}
 use Rattle.shared_objects.specs.Rule.{times}
 use Rattle.shared_objects.specs.Kinds.{closed, shut, without}
 use Rattle.shared_objects.specs.Resting.{AllBelow}
 use Rattle.shared_objects.proofs.Noted.{below_popped, popped_once, without_first}
-use Rattle.shared_objects.proofs.Acting.{rests_after, shut_is}
+use Rattle.shared_objects.proofs.Acting.{rests_after}
 use Rattle.shared_objects.proofs.table.SharedTable.close_all.Goals as goal
 
 pub close_scope-requires-clause-object : goal.close_scope-requires-clause-object

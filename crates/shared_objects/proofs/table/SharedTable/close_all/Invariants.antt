@@ -1,4 +1,4 @@
-use Rattle.std.proofs.Common.{◌≡◌, ℕ, [], length}
+use Rattle.std.proofs.Common.{◌≡◌, length}
 use Rattle.shared_objects.specs.Kinds.{shut}
 use Rattle.shared_objects.specs.Resting.{Rests, AllBelow}
 use Rattle.shared_objects.proofs.table.SharedTable.close_all.Given as goal

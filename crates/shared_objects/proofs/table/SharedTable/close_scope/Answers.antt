@@ -1,4 +1,4 @@
-use Rattle.std.proofs.Common.{rules, arith, ap, ◌∷◌, [], ◌∙◌, ℕ, List, sym, ◌≡◌, subst, refl, ◌<◌, ◌^◌}
+use Rattle.std.proofs.Common.{arith}
 use Rattle.shared_objects.proofs.Keeps.{closes_ok}
 use Rattle.shared_objects.proofs.table.SharedTable.close_scope.Goals as goal
 

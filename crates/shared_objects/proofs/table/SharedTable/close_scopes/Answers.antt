@@ -1,4 +1,4 @@
-use Rattle.std.proofs.Common.{rules, arith, ap, sym, ◌∙◌, subst, ◌≡◌, ℕ, ◌≤◌, List, [], length, refl}
+use Rattle.std.proofs.Common.{ap, sym, ◌∙◌, subst, ◌≤◌, refl}
 use Rattle.shared_objects.specs.History.{top}
 use Rattle.shared_objects.specs.Kinds.{shut}
 use Rattle.shared_objects.specs.Resting.{AllBelow}

@@ -1,4 +1,4 @@
-use Rattle.std.proofs.Common.{rules, arith, ap, ◌∙◌, refl, sym}
+use Rattle.std.proofs.Common.{arith}
 use Rattle.shared_objects.proofs.Joining.{joins_ok}
 use Rattle.shared_objects.proofs.table.SharedTable.gather.Goals as goal
 

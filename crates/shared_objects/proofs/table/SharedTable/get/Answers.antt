@@ -1,11 +1,10 @@
-use Rattle.std.proofs.Common.{rules, arith, ap, subst, sym, ◌∙◌, refl, ◌≡◌, ℕ, ◌+◌, ◌<◌, ◌≤◌, true, List, [], ◌∷◌, ◌++◌, length, map, None, Some}
+use Rattle.std.proofs.Common.{arith, ap, sym, ◌∙◌, refl, ◌≡◌, ℕ, ◌<◌, List, [], length}
 use Rattle.std.proofs.lemmas.List.{length-map}
-use Rattle.memory.specs.Access.{IsInside, part}
+use Rattle.memory.specs.Access.{part}
 use Rattle.memory.specs.Objects.{bytes_of}
-use Rattle.memory.specs.declared.deeds.Deed.TheVariants.{Accesses, Reads, Writes}
-use Rattle.memory.specs.declared.deeds.Given.TheVariants.{Number, Bytes, Nothing}
-use Rattle.scopes.specs.Windows.{noted}
-use Rattle.shared_objects.specs.History.{top, entry}
+use Rattle.memory.specs.declared.deeds.Deed.TheVariants.{Reads}
+use Rattle.memory.specs.declared.deeds.Given.TheVariants.{Bytes}
+use Rattle.shared_objects.specs.History.{entry}
 use Rattle.shared_objects.specs.Kinds.{looking, recorded}
 use Rattle.shared_objects.specs.Opening.{opening_bytes}
 use Rattle.shared_objects.specs.declared.body.Body.{Body}

@@ -1,6 +1,5 @@
-use Rattle.memory.specs.declared.deeds.Deed.TheVariants.{Accesses, Reads, Writes}
-use Rattle.memory.specs.declared.deeds.Given.TheVariants.{Number, Bytes, Nothing}
-use Rattle.std.proofs.Common.{length}
+use Rattle.memory.specs.declared.deeds.Deed.TheVariants.{Reads}
+use Rattle.memory.specs.declared.deeds.Given.TheVariants.{Bytes}
 use Rattle.shared_objects.specs.History.{entry}
 use Rattle.shared_objects.proofs.table.SharedTable.get.Given as goal
 

@@ -1,4 +1,4 @@
-use Rattle.std.proofs.Common.{rules, arith, ap, ◌∷◌, [], ◌∙◌, ℕ, List, sym, ◌≡◌, subst, refl, ◌<◌, ◌^◌}
+use Rattle.std.proofs.Common.{arith, ap, ◌≡◌}
 use Rattle.shared_objects.specs.Kinds.{turn}
 use Rattle.shared_objects.specs.declared.view.Entry.{Entry}
 use Rattle.shared_objects.proofs.Keeps.{records_ok}

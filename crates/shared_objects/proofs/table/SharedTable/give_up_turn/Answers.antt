@@ -1,4 +1,4 @@
-use Rattle.std.proofs.Common.{rules, arith, ap, ◌∷◌, [], ◌∙◌, ℕ, List, sym, ◌≡◌, subst, refl, ◌<◌, ◌^◌}
+use Rattle.std.proofs.Common.{arith, ap, ◌∙◌, sym, ◌≡◌}
 use Rattle.atomic_table.specs.Table.{rest}
 use Rattle.shared_objects.specs.Kinds.{turn, worn_out}
 use Rattle.shared_objects.specs.declared.view.Turn.{Turn}

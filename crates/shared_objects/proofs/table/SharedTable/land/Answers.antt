@@ -1,15 +1,13 @@
-use Rattle.std.proofs.Common.{rules, arith, ap, sym, ◌∙◌, subst, ◌≡◌, ℕ, ◌+◌, ◌<◌, ◌≤◌, List, [], ◌∷◌, ◌++◌, length, map, drop, length-set, length-append, refl, true, Some, false}
-use Rattle.std.specs.Prelude.{slice_set, vec_capacity, slice_index_or}
+use Rattle.std.proofs.Common.{arith, ap, sym, ◌∙◌, subst, ◌≡◌, ℕ, ◌<◌, ◌≤◌, List, length, map, drop, length-set, refl}
+use Rattle.std.specs.Prelude.{slice_set, vec_capacity}
 use Rattle.std.proofs.lemmas.List.{length-map}
-use Rattle.atomic_table.specs.Table.{rest, turned}
+use Rattle.atomic_table.specs.Table.{rest}
 use Rattle.memory.specs.Objects.{bytes_of}
 use Rattle.shared_objects.specs.Opening.{opening_bytes}
 use Rattle.shared_objects.specs.Rule.{place_of, times, taken, is_moving, total}
 use Rattle.shared_objects.specs.Phases.{phase_of, Makes}
-use Rattle.shared_objects.specs.Kinds.{placed, sent, called, cooled, object_at}
-use Rattle.shared_objects.specs.declared.body.Body.{Body}
+use Rattle.shared_objects.specs.Kinds.{placed}
 use Rattle.shared_objects.specs.declared.view.View.{View}
-use Rattle.shared_objects.specs.declared.view.Place.{Place}
 use Rattle.shared_objects.specs.declared.view.Place.TheVariants as places
 use Rattle.shared_objects.specs.declared.seats.Phase.TheVariants as phases
 use Rattle.shared_objects.proofs.Logs.{object_home}

@@ -1,4 +1,4 @@
-use Rattle.std.proofs.Common.{rules, arith, ap, sym, ◌∙◌, subst, ◌≡◌, ℕ, ◌<◌, ◌≤◌, List, length, ⊎_elim}
+use Rattle.std.proofs.Common.{arith, ap, ◌∙◌, subst, ◌≡◌, ℕ, ◌<◌, ◌≤◌, List, length, ⊎_elim}
 use Rattle.std.proofs.lemmas.Bool.{cases_lt}
 use Rattle.std.proofs.lemmas.List.{length-map}
 use Rattle.memory.specs.Objects.{bytes_of}

@@ -1,4 +1,4 @@
-use Rattle.std.proofs.Common.{rules, arith, ap, sym, ◌∙◌, ◌≡◌, ℕ, ◌+◌, List, [], ◌∷◌, ◌++◌}
+use Rattle.std.proofs.Common.{arith, ap, sym, ◌∙◌, ℕ, List, [], ◌∷◌, ◌++◌}
 use Rattle.shared_objects.specs.Rule.{times}
 use Rattle.shared_objects.proofs.Noted.{times_none, pushed_once, pushed_below}
 use Rattle.shared_objects.proofs.table.SharedTable.note.Goals as goal

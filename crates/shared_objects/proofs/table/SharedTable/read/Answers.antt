@@ -1,4 +1,4 @@
-use Rattle.std.proofs.Common.{rules, ap, ◌∷◌, [], ◌∙◌, ℕ, List, sym, ◌≡◌, get_or, refl, length, ◌+◌, ◌≤◌, ◌++◌, take, drop, subst, arith}
+use Rattle.std.proofs.Common.{ap, ◌∷◌, [], ◌∙◌, ℕ, List, sym, ◌≡◌, length, ◌+◌, ◌≤◌, ◌++◌, take, drop, subst, arith}
 use Rattle.atomic_table.specs.Table.{rest}
 use Rattle.memory.specs.Access.{part}
 use Rattle.shared_objects.specs.declared.body.Body.{Body}

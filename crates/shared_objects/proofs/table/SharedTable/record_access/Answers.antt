@@ -1,6 +1,6 @@
-use Rattle.std.proofs.Common.{rules, ap, ◌∙◌, ℕ, List, sym, ◌≡◌, subst, length, refl}
+use Rattle.std.proofs.Common.{ap, ◌∙◌, sym, subst, length}
 use Rattle.memory.specs.declared.deeds.Deed.{Deed}
-use Rattle.memory.specs.declared.deeds.Given.TheVariants.{Number, Bytes, Nothing}
+use Rattle.memory.specs.declared.deeds.Given.TheVariants.{Number}
 use Rattle.memory.specs.Deeds.{EndsInside, given_by, left_by}
 use Rattle.shared_objects.specs.declared.view.Entry.{Entry}
 use Rattle.shared_objects.proofs.table.SharedTable.record_access.Goals as goal

@@ -1,4 +1,4 @@
-use Rattle.std.proofs.Common.{rules, arith, ap, sym, ◌∙◌, subst, ◌≡◌, ℕ, ◌+◌, List, [], ◌∷◌, ◌++◌, length, length-append}
+use Rattle.std.proofs.Common.{arith, ap, sym, ◌∙◌, subst, ◌≡◌, ℕ, ◌+◌, List, [], ◌∷◌, length, length-append}
 use Rattle.std.specs.Prelude.{All}
 use Rattle.shared_objects.specs.Kinds.{dealt, newcomer}
 use Rattle.shared_objects.specs.Opened.{AreFresh, seated}

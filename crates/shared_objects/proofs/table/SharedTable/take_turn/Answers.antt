@@ -1,5 +1,5 @@
-use Rattle.std.proofs.Common.{rules, arith, ap, ◌∷◌, [], ◌∙◌, ℕ, List, sym, ◌≡◌, subst, refl, ◌<◌, ◌^◌}
-use Rattle.shared_objects.specs.Kinds.{Took, object_at}
+use Rattle.std.proofs.Common.{arith, ap, ◌∷◌, ◌∙◌, ℕ, List, subst}
+use Rattle.shared_objects.specs.Kinds.{Took}
 use Rattle.shared_objects.specs.declared.body.Body.{Body}
 use Rattle.shared_objects.proofs.Keeps.{turns_ok}
 use Rattle.shared_objects.proofs.Logs.{object_home}

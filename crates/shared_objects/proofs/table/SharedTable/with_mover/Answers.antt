@@ -1,13 +1,12 @@
-use Rattle.std.proofs.Common.{rules, arith, ap, sym, ◌∙◌, ◌≡◌, ℕ, ◌+◌, ◌*◌, ◌<◌, ◌≤◌, length, map, List, [], ◌∷◌, subst, get_or, replicate, Vec, Global, refl, lit<, false}
+use Rattle.std.proofs.Common.{arith, ap, sym, ◌∙◌, ◌≡◌, ℕ, ◌+◌, ◌*◌, ◌<◌, ◌≤◌, length, map, List, subst, get_or, replicate, Vec, Global, refl, lit<, false}
 use Rattle.std.specs.Prelude.{vec_capacity}
 use Rattle.std.proofs.lemmas.List.{length-map}
 use Rattle.shared_objects.specs.Opening.{opening_bytes}
-use Rattle.shared_objects.specs.Rule.{place_of, times, is_moving, total, word_of}
+use Rattle.shared_objects.specs.Rule.{place_of, times, is_moving, total}
 use Rattle.shared_objects.specs.Kinds.{dealer}
 use Rattle.shared_objects.specs.Phases.{phase_of, Makes}
 use Rattle.shared_objects.specs.declared.body.Body.{Body}
 use Rattle.shared_objects.specs.declared.view.View.{View}
-use Rattle.shared_objects.specs.declared.view.Place.{Place}
 use Rattle.shared_objects.specs.declared.view.Place.TheVariants as places
 use Rattle.shared_objects.proofs.Logs.{map_map}
 use Rattle.shared_objects.proofs.Keeps.{starts_ok, all_here}
