@@ -60,8 +60,8 @@ seat_adds v before n op Worn w stamp h = let t = h.2 in let is = t.2 in
     (ap (λ (u : View). map own_entry u.entries) is ∙ sym (append_none (map own_entry v.entries)), ap (λ (u : View). u.opening) is, λ m has. subst (λ (u : View). Has u.marks m) (sym is) (has_more v.marks (marks.Worn n t.0) m has))
 
 -- a seat keeps the promises of memories
-pub seat_promises : {M : Type 0} (view : M → View) (stamp loan : M → ℕ) → KeepsPromises (seat_memory view stamp loan)
-seat_promises {M} view stamp loan = record {
+pub seat_promises : {M S : Type 0} (view : M → View) (stamp loan : M → ℕ) (table : M → S) → KeepsPromises (seat_memory view stamp loan table)
+seat_promises {M} {S} view stamp loan table = record {
   answers = λ old new n op r h. seat_answers (view old) (stamp old) n op r (view new) (stamp new) h.0;
   reaches = λ old new n op r h. let t = seat_adds (view old) (stamp old) n op r (view new) (stamp new) h.0 in record {
     adds = t.0;

@@ -14,12 +14,12 @@ use Rattle.shared_objects.specs.declared.view.View.{View}
 abbrev pub own_entry : Entry → OwnEntry
 own_entry e = record { number = e.object; deed = e.deed; given = e.given }
 
--- What has a seat lent to it, as a memory: what its machine does is done by the seat, and the loan stays the same. What is
+-- What has a seat lent to it, as a memory: what its machine does is done by the seat, and the loan and its table stay. What is
 -- known of the objects are the seat's own entries; an object is worn where the seat has that mark.
-abbrev pub seat_memory : {M : Type 0} → (M → View) → (M → ℕ) → (M → ℕ) → Memories M
-seat_memory {M} view stamp loan = record {
-  reaches = λ m n op r w. Touches (view m) (stamp m) n op r (view w) (stamp w) × (loan w ≡ loan m);
-  closes = λ m w. (view w ≡ shut (view m)) × (stamp w ≡ stamp m) × (loan w ≡ loan m);
+abbrev pub seat_memory : {M S : Type 0} → (M → View) → (M → ℕ) → (M → ℕ) → (M → S) → Memories M
+seat_memory {M} {S} view stamp loan table = record {
+  reaches = λ m n op r w. Touches (view m) (stamp m) n op r (view w) (stamp w) × (loan w ≡ loan m) × (table w ≡ table m);
+  closes = λ m w. (view w ≡ shut (view m)) × (stamp w ≡ stamp m) × (loan w ≡ loan m) × (table w ≡ table m);
   length_of = λ m n. length (bytes_of (view m).opening n);
   knows = λ m. OwnEntries (map own_entry (view m).entries);
   is_worn = λ m n. (found : ℕ) × Has (view m).marks (Worn n found);

@@ -19,9 +19,9 @@ impl<'a> Memory for SeatMemory<'a> {
 
     ghost is_ready = { λ m. IsActorOf m.shared.now m.seat.now };
 
-    ghost acts = { seat_memory (λ m. m.seat.now.seat.me.0) (λ m. m.seat.now.stamp) (λ m. m.seat.ghost_name) };
+    ghost acts = { seat_memory (λ m. m.seat.now.seat.me.0) (λ m. m.seat.now.stamp) (λ m. m.seat.ghost_name) (λ m. m.shared) };
 
-    ghost promises = { seat_promises (λ m. m.seat.now.seat.me.0) (λ m. m.seat.now.stamp) (λ m. m.seat.ghost_name) };
+    ghost promises = { seat_promises (λ m. m.seat.now.seat.me.0) (λ m. m.seat.now.stamp) (λ m. m.seat.ghost_name) (λ m. m.shared) };
 
     fn length(&self, number: u64) -> usize {
         self.shared.length(number)
