@@ -26,6 +26,18 @@ fn one(number: u32, writes: bool) -> Grants {
     grants
 }
 
+/// Objects 1 to 16, each other one for writing too.
+fn sixteen() -> Grants {
+    let mut grants = Grants::none();
+    for count in 0..GRANT_LIMIT {
+        grants.add(Grant {
+            number: count as u32 + 1,
+            writes: count % 2 == 0,
+        });
+    }
+    grants
+}
+
 /// A machine with R1 as given, and R2 = 7: the slot, and EXIT.
 fn machine_with(alloc: Global, grants: Grants, r1: u64, slot: u64) -> Result<Machine, Fail> {
     let mut bytes = Vec::new(alloc);
@@ -131,14 +143,7 @@ fn sixteen_objects_are_granted_one_by_one(rt: HostRuntime) -> Result<(), Fail> {
         (16, Stepped::Ran(None)),
         (17, NOT_GRANTED),
     ] {
-        let mut grants = Grants::none();
-        for count in 0..GRANT_LIMIT {
-            grants.add(Grant {
-                number: count as u32 + 1,
-                writes: count % 2 == 0,
-            });
-        }
-        let found = first(rt.alloc(), &mut store, grants, number << 32, LOAD)?;
+        let found = first(rt.alloc(), &mut store, sixteen(), number << 32, LOAD)?;
         assert_eq!(rt; found, answer);
     }
     Ok(())
