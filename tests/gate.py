@@ -26,7 +26,7 @@ def failures_of(calls):
 
 def of_program(rt):
     """What is run on the program that was built."""
-    calls = [["tests/program.py", program] for program in BUILT]
+    calls = [[script, program] for program in BUILT for script in ("tests/program.py", "tests/store.py")]
     return calls + [["tests/sweep.py", BUILT[0]], ["tests/refusals.py", rt], ["tests/build.py", rt, "stamp"]]
 
 

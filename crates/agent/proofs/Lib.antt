@@ -3,7 +3,7 @@ pub mod WholeInput
 pub mod Encoded
 pub mod OutOfMemory
 pub mod ErrorShown
-pub mod Budgets
-pub mod ReadBudget
+pub mod Numbers
+pub mod ReadNumber
 pub mod Started
 pub mod Subcommands

@@ -10,8 +10,8 @@ use Rattle.clap.specs.Simple.{App, Shape, built, entered, filled, names_of, new_
 use Rattle.clap.specs.Takes.{is_given}
 use Rattle.clap.specs.Walk.{Held, Row, Text, answers_to, finished, nothing_held, rows_after, settled, walk, walk_from}
 use Rattle.clap.proofs.OnLiterals.{clap_on_literals}
-use Rattle.agent.specs.CommandLine.{HasBudget, command_line, dis_shape, faults_of, flag_rule, task_named, task_of}
-use Rattle.agent.proofs.Budgets.{first_empty, rest_empty, help, rules, run_built, run_has_budget}
+use Rattle.agent.specs.CommandLine.{HasNumber, budget_limit, budget_limit_text, command_line, dis_shape, faults_of, flag_rule, port_limit, task_named, task_of}
+use Rattle.agent.proofs.Numbers.{first_empty, rest_empty, help, number_built, has_number}
 
 last_empty : (first second third fourth last : Kinds) → or_else first (or_else second (or_else third (or_else fourth last))) ≡ [] → last ≡ []
 last_empty first second third fourth last right =
@@ -41,10 +41,16 @@ subcommand_entered app held words required right =
     (last_empty (walk_fault s (names_of app) (walk_from held) words) (entered_fault app stop) (settle_fault s.rules s.args_override_self end)
     (defaults_fault (settled s.rules end).rows s.rules) (check_fault s rows has) right)
 
--- what is entered has a task, and `run` has its budget
+-- what is entered has a task, and `run` has its budget and `store` its port
 abbrev pub IsEntered : Option (Text × List Row) → Type 0
 IsEntered None = Unit {0}
-IsEntered (Some p) = IsSome (task_named p.0 p.1) × (p.0 ≡ codes "run" → HasBudget p.1)
+IsEntered (Some p) = IsSome (task_named p.0 p.1) × (p.0 ≡ codes "run" → HasNumber (codes "budget") budget_limit p.1) × (p.0 ≡ codes "store" → HasNumber (codes "port") port_limit p.1)
+
+abbrev run_built : Shape
+run_built = number_built (codes "run") (codes "budget") budget_limit_text budget_limit refl refl
+
+abbrev store_built : Shape
+store_built = number_built (codes "store") (codes "port") (codes "0") port_limit refl refl
 
 abbrev dis_built : Shape
 dis_built = record dis_shape { rules = filled (flag_rule (codes "slots")) ∷ help ∷ []; no_binary_name = true; disable_help_subcommand = true; is_built = true }
@@ -53,31 +59,48 @@ abbrev other_built : Text → Shape
 other_built name = record (new_shape name) { rules = help ∷ []; no_binary_name = true; disable_help_subcommand = true; is_built = true }
 
 module _ (P : Option Shape → Type 0) where
-  among_at : (x y z w : Bool) → P None → P (Some run_built) → P (Some (other_built (codes "check"))) → P (Some (other_built (codes "asm"))) → P (Some dis_built)
-      → P (cond x (Some run_built) (cond y (Some (other_built (codes "check"))) (cond z (Some (other_built (codes "asm"))) (cond w (Some dis_built) None))))
-  among_at true y z w none run check asm dis = run
-  among_at false true z w none run check asm dis = check
-  among_at false false true w none run check asm dis = asm
-  among_at false false false true none run check asm dis = dis
-  among_at false false false false none run check asm dis = none
+  among_at : (x y z w v : Bool) → P None → P (Some run_built) → P (Some (other_built (codes "check"))) → P (Some (other_built (codes "asm"))) → P (Some dis_built) → P (Some store_built)
+      → P (cond x (Some run_built) (cond y (Some (other_built (codes "check"))) (cond z (Some (other_built (codes "asm"))) (cond w (Some dis_built) (cond v (Some store_built) None)))))
+  among_at true y z w v none run check asm dis store = run
+  among_at false true z w v none run check asm dis store = check
+  among_at false false true w v none run check asm dis store = asm
+  among_at false false false true v none run check asm dis store = dis
+  among_at false false false false true none run check asm dis store = store
+  among_at false false false false false none run check asm dis store = none
 
-not_run : (name : Text) (n : ℕ) → slice_index name 0 ≡ n → n ≢ 114 → name ≡ codes "run" → ⊥
-not_run name n first other e = other (sym first ∙ ap (λ l. slice_index l 0) e)
+-- two names that begin with other letters
+other_name : (name wanted : Text) (n m : ℕ) → slice_index name 0 ≡ n → slice_index wanted 0 ≡ m → n ≢ m → name ≡ wanted → ⊥
+other_name name wanted n m first letter other e = other (sym first ∙ ap (λ l. slice_index l 0) e ∙ letter)
 
-run_named : (rows : List Row) → HasBudget rows → IsSome (task_named (codes "run") rows)
+-- neither of the two with a number
+plain_entered : (name : Text) (n : ℕ) (rows : List Row) → slice_index name 0 ≡ n → n ≢ 114 → n ≢ 115 → IsSome (task_named name rows) → IsEntered (Some (name, rows))
+plain_entered name n rows first not_r not_s some =
+    (some, λ e. absurd (other_name name (codes "run") n 114 first refl not_r e), λ e. absurd (other_name name (codes "store") n 115 first refl not_s e))
+
+run_named : (rows : List Row) → HasNumber (codes "budget") budget_limit rows → IsSome (task_named (codes "run") rows)
 run_named rows b = rw b.2 refl
 
+store_named : (rows : List Row) → HasNumber (codes "port") port_limit rows → IsSome (task_named (codes "store") rows)
+store_named rows b = rw b.2 refl
+
 run_entered : (words : List Text) → level_fault run_built [] nothing_held words false [] ≡ [] → IsEntered (Some (rows_at run_built words))
-run_entered words f = let b = run_has_budget words f in (run_named (rows_after rules [] words) b, λ _. b)
+run_entered words f =
+    let b = has_number (codes "run") (codes "budget") budget_limit_text budget_limit refl refl words f in
+    (run_named (rows_after run_built.rules [] words) b, λ _. b, λ e. absurd (other_name (codes "run") (codes "store") 114 115 refl refl (omega arith) e))
+
+store_entered : (words : List Text) → level_fault store_built [] nothing_held words false [] ≡ [] → IsEntered (Some (rows_at store_built words))
+store_entered words f =
+    let b = has_number (codes "store") (codes "port") (codes "0") port_limit refl refl words f in
+    (store_named (rows_after store_built.rules [] words) b, λ e. absurd (other_name (codes "store") (codes "run") 115 114 refl refl (omega arith) e), λ _. b)
 
 entered_good : (stop : Option (Text × List Text)) → entered_fault (built command_line) stop ≡ [] → IsEntered (entered (built command_line) stop)
 unfolding clap_on_literals
 entered_good None f = tt
 entered_good (Some p) f =
     among_at (λ o. option_map_or (λ s. level_fault s [] nothing_held p.1 false []) o [] ≡ [] → IsEntered (option_map (λ s. rows_at s p.1) o))
-    (answers_to p.0 (codes "run", [])) (answers_to p.0 (codes "check", [])) (answers_to p.0 (codes "asm", [])) (answers_to p.0 (codes "dis", []))
-    (λ _. tt) (run_entered p.1) (λ _. (refl, λ e. absurd (not_run (codes "check") 99 refl (omega arith) e))) (λ _. (refl, λ e. absurd (not_run (codes "asm") 97 refl (omega arith) e)))
-    (λ _. (refl, λ e. absurd (not_run (codes "dis") 100 refl (omega arith) e))) f
+    (answers_to p.0 (codes "run", [])) (answers_to p.0 (codes "check", [])) (answers_to p.0 (codes "asm", [])) (answers_to p.0 (codes "dis", [])) (answers_to p.0 (codes "store", []))
+    (λ _. tt) (run_entered p.1) (λ _. plain_entered (codes "check") 99 (rows_at (other_built (codes "check")) p.1).1 refl (omega arith) (omega arith) refl) (λ _. plain_entered (codes "asm") 97 (rows_at (other_built (codes "asm")) p.1).1 refl (omega arith) (omega arith) refl)
+    (λ _. plain_entered (codes "dis") 100 (rows_at dis_built p.1).1 refl (omega arith) (omega arith) refl) (store_entered p.1) f
 
 -- right arguments enter a subcommand
 pub right_enters : (arguments : List Text) → faults_of arguments ≡ [] → (is_some (subcommand_of command_line arguments) ≡ true) × IsEntered (subcommand_of command_line arguments)

@@ -9,7 +9,7 @@ use Rattle.clap.specs.declared.builder.action.ArgAction.TheVariants.{SetTrue}
 use Rattle.clap.specs.declared.builder.value_parser.ValueParser.{ValueParser}
 use Rattle.clap.specs.declared.builder.value_parser.ValueParser.TheVariants.{Signed}
 use Rattle.agent.specs.declared.arguments.Task.{Task}
-use Rattle.agent.specs.declared.arguments.Task.TheVariants.{Run, Check, Assemble, Disassemble}
+use Rattle.agent.specs.declared.arguments.Task.TheVariants.{Run, Check, Assemble, Disassemble, Store}
 
 -- the greatest budget: 64 MiB
 abbrev pub budget_limit : ℕ
@@ -19,13 +19,17 @@ budget_limit = 67108864
 abbrev pub budget_limit_text : Text
 budget_limit_text = codes "67108864"
 
--- a number from 0 to that
-abbrev pub budget_parser : ValueParser
-budget_parser = Signed (pos 0) (pos budget_limit)
+-- a number from 0 to this limit
+abbrev pub number_parser : ℕ → ValueParser
+number_parser limit = Signed (pos 0) (pos limit)
+
+-- an option that is a number: `--NAME N`, which is `default` where it is left out
+abbrev pub number_rule : Text → ℕ → Text → Rule
+number_rule name limit default = record (new_rule name) { long = Some name; value_names = 1; defaults = default ∷ []; parser = Some (number_parser limit) }
 
 -- `--budget N`, which is the greatest where it is left out
 abbrev pub budget_rule : Rule
-budget_rule = record (new_rule (codes "budget")) { long = Some (codes "budget"); value_names = 1; defaults = budget_limit_text ∷ []; parser = Some budget_parser }
+budget_rule = number_rule (codes "budget") budget_limit budget_limit_text
 
 -- `run`, with its option
 abbrev pub run_shape : Shape
@@ -39,25 +43,37 @@ flag_rule name = record (new_rule name) { long = Some name; action = Some SetTru
 abbrev pub dis_shape : Shape
 dis_shape = record (new_shape (codes "dis")) { rules = flag_rule (codes "slots") ∷ [] }
 
+-- the greatest port
+abbrev pub port_limit : ℕ
+port_limit = 65535
+
+-- `--port P`, which is 0, any free one, where it is left out
+abbrev pub port_rule : Rule
+port_rule = number_rule (codes "port") port_limit (codes "0")
+
+-- `store`, with its option
+abbrev pub store_shape : Shape
+store_shape = record (new_shape (codes "store")) { rules = port_rule ∷ [] }
+
 -- `bpfagent` with no subcommand yet: the arguments are those after the program's name, one of the subcommands is wanted, and none is `help`
 abbrev pub bare : App
 bare = record { top = record (new_shape (codes "bpfagent")) { no_binary_name = true; disable_help_subcommand = true; subcommand_required = true }; subs = [] }
 
 -- the command line, as `clap` reads it
 abbrev pub command_line : App
-command_line = with_subcommand (with_subcommand (with_subcommand (with_subcommand bare run_shape) (new_shape (codes "check"))) (new_shape (codes "asm"))) dis_shape
+command_line = with_subcommand (with_subcommand (with_subcommand (with_subcommand (with_subcommand bare run_shape) (new_shape (codes "check"))) (new_shape (codes "asm"))) dis_shape) store_shape
 
 -- the kinds of error that these arguments may give: none, where they are right
 abbrev pub faults_of : List Text → Kinds
 faults_of arguments = fault_of command_line arguments
 
--- the matches of `run` have a budget that its parser takes
-abbrev pub HasBudget : List Row → Type 0
-HasBudget rows = (text : Text) × Accepts false budget_parser text × (one_of (codes "budget") rows ≡ Some (without_minus text))
+-- these matches have a number of this name, which is at most the limit
+abbrev pub HasNumber : Text → ℕ → List Row → Type 0
+HasNumber name limit rows = (text : Text) × Accepts false (number_parser limit) text × (one_of name rows ≡ Some (without_minus text))
 
--- the number that the matches of `run` give
-abbrev pub budget_in : List Row → Option ℕ
-budget_in rows = option_map (λ text. digits_value 10 (without_leading_plus text)) (one_of (codes "budget") rows)
+-- the number of this name that they give
+abbrev pub number_in : Text → List Row → Option ℕ
+number_in name rows = option_map (λ text. digits_value 10 (without_leading_plus text)) (one_of name rows)
 
 -- the flag of this name is given
 abbrev pub is_set : Text → List Row → Bool
@@ -65,8 +81,9 @@ is_set name rows = option_map_or (λ text. bytes_eq text (codes "true")) (first_
 
 -- the task of this name, with these matches
 abbrev pub task_named : Text → List Row → Option Task
-task_named name rows = if bytes_eq name (codes "run") then option_map Run (budget_in rows) else (if bytes_eq name (codes "check") then Some Check
-    else (if bytes_eq name (codes "asm") then Some Assemble else (if bytes_eq name (codes "dis") then Some (Disassemble (is_set (codes "slots") rows)) else None)))
+task_named name rows = if bytes_eq name (codes "run") then option_map Run (number_in (codes "budget") rows) else (if bytes_eq name (codes "check") then Some Check
+    else (if bytes_eq name (codes "asm") then Some Assemble else (if bytes_eq name (codes "dis") then Some (Disassemble (is_set (codes "slots") rows))
+    else (if bytes_eq name (codes "store") then option_map Store (number_in (codes "port") rows) else None))))
 
 -- what right arguments ask for: the subcommand that they name
 abbrev pub task_of : List Text → Option Task

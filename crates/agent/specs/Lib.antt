@@ -8,3 +8,4 @@ pub mod CommandLine
 pub mod Reports
 pub mod ErrorShown
 pub mod Laws
+pub mod StoreLeaves

@@ -1,7 +1,7 @@
 //! The arguments of the command line.
 ghost use Rattle.std.specs.Prelude.{◌≡◌, [], Some, map, codes, IfOk, IfErr};
 ghost use Rattle.clap.specs.Words.{app_of, found_of, rows_of, rule_of, HasKind};
-ghost use Rattle.agent.specs.CommandLine.{HasBudget, budget_in, budget_rule, command_line, faults_of, flag_rule, is_set, task_named, task_of};
+ghost use Rattle.agent.specs.CommandLine.{HasNumber, budget_limit, budget_rule, command_line, faults_of, flag_rule, is_set, number_in, port_limit, port_rule, task_named, task_of};
 
 use clap::{Arg, ArgAction, ArgMatches, Command, Error, value_parser};
 use std::alloc::{AllocError, Global};
@@ -19,6 +19,8 @@ pub enum Task {
     /// To show raw code as assembly, each instruction after the number of its slot where that is
     /// asked for.
     Disassemble { has_slots: bool },
+    /// To keep what clients send away, listening on this port, or on any free one where it is 0.
+    Store { port: u16 },
 }
 
 /// `--budget N`: the most bytes that the objects that aren't far may have.
@@ -31,6 +33,18 @@ fn make_budget<'a>(alloc: Global) -> Arg<'a>
         .value_parser(value_parser!(u32).range(0..=67_108_864))
         .default_value("67108864")
         .help("The most bytes of objects that are not far, 0 to 67108864")
+}
+
+/// `--port P`: the port to listen on.
+fn make_port<'a>(alloc: Global) -> Arg<'a>
+    ensures { rule_of result ≡ port_rule }
+{
+    Arg::new(alloc, "port")
+        .long("port")
+        .value_name("P")
+        .value_parser(value_parser!(u16))
+        .default_value("0")
+        .help("The port to listen on, 0 to 65535, where 0 is any free one")
 }
 
 /// `--NAME`, which is given or not.
@@ -67,6 +81,14 @@ const DIS_HELP: &str =
 line for each instruction. 'asm' makes the same code of it, where no slots are shown.\n\nStatus 0: the text is written. \
 Status 1: the code isn't valid, and standard error has 'slot S: WHY'. Status 3: a stream failed, or out of memory.";
 
+/// What help says of `store`.
+const STORE_HELP: &str =
+    "Listens on 127.0.0.1, writes 'listening P' to standard output, P the port, and serves one client \
+after another, each from an empty store, until standard input ends. docs/FAR-STREAM.md describes what a client sends \
+and is sent. A client that breaks the protocol is given up: standard error has 'client N: WHY', and the next is served.\n\n\
+Status 0: standard input has ended. Status 3: the port can't be had, a stream failed, or out of memory; standard error \
+says which.";
+
 /// The command line of the program.
 fn make_command<'a>(alloc: Global) -> Result<Command<'a>, AllocError>
     ensures { IfOk result (λ c. app_of c ≡ command_line) }
@@ -90,6 +112,10 @@ fn make_command<'a>(alloc: Global) -> Result<Command<'a>, AllocError>
         .about("Show the raw code of standard input as assembly")
         .after_help(DIS_HELP)
         .arg(slots)?;
+    let store = Command::new(alloc, "store")
+        .about("Keep the objects of other agents")
+        .after_help(STORE_HELP)
+        .arg(make_port(alloc))?;
     Command::new(alloc, "bpfagent")
         .bin_name("bpfagent")?
         .about("Runs BPF programs")
@@ -99,18 +125,30 @@ fn make_command<'a>(alloc: Global) -> Result<Command<'a>, AllocError>
         .subcommand(run)?
         .subcommand(check)?
         .subcommand(asm)?
-        .subcommand(dis)
+        .subcommand(dis)?
+        .subcommand(store)
 }
 
 /// The budget that the matches of `run` give.
 fn read_budget<'a>(matches: &ArgMatches<'a>) -> u32
-    requires { HasBudget (rows_of (found_of matches.now)) }
-    ensures { budget_in (rows_of (found_of matches.now)) ≡ Some result }
+    requires { HasNumber (codes "budget") budget_limit (rows_of (found_of matches.now)) }
+    ensures { number_in (codes "budget") (rows_of (found_of matches.now)) ≡ Some result }
 {
     let Some(budget) = matches.get_one::<u32>("budget") else {
         unreachable!()
     };
     budget
+}
+
+/// The port that the matches of `store` give.
+fn read_port<'a>(matches: &ArgMatches<'a>) -> u16
+    requires { HasNumber (codes "port") port_limit (rows_of (found_of matches.now)) }
+    ensures { number_in (codes "port") (rows_of (found_of matches.now)) ≡ Some result }
+{
+    let Some(port) = matches.get_one::<u16>("port") else {
+        unreachable!()
+    };
+    port
 }
 
 /// Whether the flag of this name is given.
@@ -125,7 +163,8 @@ fn is_set<'a>(matches: &ArgMatches<'a>, name: &str) -> bool
 
 /// The task of this name, with these matches.
 fn task_called<'a>(name: &str, matches: &ArgMatches<'a>) -> Option<Task>
-    requires { name.now ≡ codes "run" → HasBudget (rows_of (found_of matches.now)) }
+    requires run { name.now ≡ codes "run" → HasNumber (codes "budget") budget_limit (rows_of (found_of matches.now)) }
+    requires store { name.now ≡ codes "store" → HasNumber (codes "port") port_limit (rows_of (found_of matches.now)) }
     ensures { result ≡ task_named name.now (rows_of (found_of matches.now)) }
 {
     match name {
@@ -136,6 +175,9 @@ fn task_called<'a>(name: &str, matches: &ArgMatches<'a>) -> Option<Task>
         "asm" => Some(Task::Assemble),
         "dis" => Some(Task::Disassemble {
             has_slots: is_set(matches, "slots"),
+        }),
+        "store" => Some(Task::Store {
+            port: read_port(matches),
         }),
         _ => None,
     }

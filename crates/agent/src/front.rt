@@ -9,6 +9,7 @@ ghost use Rattle.agent.specs.DisLeaves.{DisLeaves};
 ghost use Rattle.agent.specs.ErrorShown.{Shows, ShowsError, ShowsHelp, ShowsOneOf};
 ghost use Rattle.agent.specs.Reports.{ReportsOutcome};
 ghost use Rattle.agent.specs.RunLeaves.{RunLeaves};
+ghost use Rattle.agent.specs.StoreLeaves.{LeavesUndone};
 ghost use Rattle.streams.specs.Streams.{ConsumesAtMost};
 
 use crate::arguments::{Task, read_arguments};
@@ -75,7 +76,8 @@ fn show<W: Write, E: Write>(alloc: Global, error: Error, writer: &mut W, errors:
 /// exit status.
 ///
 /// Each subcommand tells in the status how it ended, and on `errors` why it gave up. Invalid
-/// arguments, and those that ask for help, read no input.
+/// arguments, and those that ask for help, read no input. For `store` it does nothing: who has the
+/// network calls [`store`](crate::store).
 pub fn tool<'a, S: AsStr, R: Read, W: Write, E: Write>(
     alloc: Global,
     arguments: &'a [S],
@@ -95,6 +97,9 @@ pub fn tool<'a, S: AsStr, R: Read, W: Write, E: Write>(
     ensures dis { (has_slots : Bool) → faults_of (map S.text arguments.entry.now) ≡ [] → task_of (map S.text arguments.entry.now) ≡ Some (Task.Disassemble has_slots)
         → IfSome (R.remaining reader.old) (λ input. ReportsOutcome (DisLeaves has_slots input (W.contents writer.old) (W.contents writer.new))
         (E.contents errors.old) (E.contents errors.new) result) }
+    ensures store { (port : ℕ) → faults_of (map S.text arguments.entry.now) ≡ [] → task_of (map S.text arguments.entry.now) ≡ Some (Task.Store port)
+        → IfSome (R.remaining reader.old) (λ input. ReportsOutcome (LeavesUndone input (W.contents writer.old) (W.contents writer.new) (R.remaining reader.new))
+        (E.contents errors.old) (E.contents errors.new) result) }
     ensures consumed { task_of (map S.text arguments.entry.now) ≡ Some Task.Check → ConsumesAtMost check_limit (R.remaining reader.old) (R.remaining reader.new) }
     ensures consumed_by_asm { task_of (map S.text arguments.entry.now) ≡ Some Task.Assemble → ConsumesAtMost asm_limit (R.remaining reader.old) (R.remaining reader.new) }
     ensures consumed_by_dis { (has_slots : Bool) → task_of (map S.text arguments.entry.now) ≡ Some (Task.Disassemble has_slots) → ConsumesAtMost check_limit (R.remaining reader.old) (R.remaining reader.new) }
@@ -110,6 +115,7 @@ pub fn tool<'a, S: AsStr, R: Read, W: Write, E: Write>(
         Ok(Task::Disassemble { has_slots }) => {
             report(dis(alloc, has_slots, reader, writer), errors).number()
         }
+        Ok(Task::Store { .. }) => report(Ok(()), errors).number(),
         Err(error) => show(alloc, error, writer, errors).number(),
     }
 }

@@ -1,18 +1,19 @@
 //! What the command line takes, apart from any call.
 ghost use Rattle.std.specs.Prelude.{◌≡◌, ◌≢◌, [], ◌∷◌, Some, codes, true, false};
-ghost use Rattle.agent.specs.CommandLine.{budget_limit, budget_limit_text, faults_of, task_of};
+ghost use Rattle.agent.specs.CommandLine.{budget_limit, budget_limit_text, faults_of, port_limit, task_of};
 ghost use Rattle.agent.specs.Laws.{RightArgumentsNameATask};
 
 use crate::arguments::Task;
 use clap::error::ErrorKind;
 
-/// `run`, `check`, `asm` and `dis` alone are right arguments, and ask for what they are called; `--help` asks for
+/// `run`, `check`, `asm`, `dis` and `store` alone are right arguments, and ask for what they are called; `--help` asks for
 /// help.
 pub fn right_arguments()
     ensures run { (faults_of (codes "run" ∷ []) ≡ []) × (task_of (codes "run" ∷ []) ≡ Some (Task.Run budget_limit)) }
     ensures check { (faults_of (codes "check" ∷ []) ≡ []) × (task_of (codes "check" ∷ []) ≡ Some Task.Check) }
     ensures asm { (faults_of (codes "asm" ∷ []) ≡ []) × (task_of (codes "asm" ∷ []) ≡ Some Task.Assemble) }
     ensures dis { (faults_of (codes "dis" ∷ []) ≡ []) × (task_of (codes "dis" ∷ []) ≡ Some (Task.Disassemble false)) }
+    ensures store { (faults_of (codes "store" ∷ []) ≡ []) × (task_of (codes "store" ∷ []) ≡ Some (Task.Store 0)) }
     ensures help { faults_of (codes "--help" ∷ []) ≡ ErrorKind.DisplayHelp ∷ [] }
 {}
 
@@ -23,6 +24,16 @@ pub fn right_budgets()
     ensures equals { (faults_of (codes "run" ∷ codes "--budget=0" ∷ []) ≡ []) × (task_of (codes "run" ∷ codes "--budget=0" ∷ []) ≡ Some (Task.Run 0)) }
     ensures most { (faults_of (codes "run" ∷ codes "--budget" ∷ budget_limit_text ∷ []) ≡ [])
         × (task_of (codes "run" ∷ codes "--budget" ∷ budget_limit_text ∷ []) ≡ Some (Task.Run budget_limit)) }
+{}
+
+/// `--port` gives `store` its port.
+pub fn right_ports()
+    ensures word { (faults_of (codes "store" ∷ codes "--port" ∷ codes "8" ∷ []) ≡ [])
+        × (task_of (codes "store" ∷ codes "--port" ∷ codes "8" ∷ []) ≡ Some (Task.Store 8)) }
+    ensures most { (faults_of (codes "store" ∷ codes "--port=65535" ∷ []) ≡ []) × (task_of (codes "store" ∷ codes "--port=65535" ∷ []) ≡ Some (Task.Store port_limit)) }
+    ensures great { faults_of (codes "store" ∷ codes "--port" ∷ codes "65536" ∷ []) ≢ [] }
+    ensures text { faults_of (codes "store" ∷ codes "--port" ∷ codes "x" ∷ []) ≢ [] }
+    ensures missing { faults_of (codes "store" ∷ codes "--port" ∷ []) ≢ [] }
 {}
 
 /// `--slots` asks `dis` for the slots.

@@ -14,6 +14,7 @@ Commands:
   check  Check the raw code of standard input
   asm    Turn the assembly of standard input into raw code
   dis    Show the raw code of standard input as assembly
+  store  Keep the objects of other agents
 
 Options:
   -h, --help  Print help
@@ -44,8 +45,21 @@ Reads lines from standard input, each a command, and writes a line to standard o
 Status 0: the input has ended. Status 3: a stream failed, or there is no memory to begin with; standard error says which.
 ";
 
+const STORE_HELP: &str = "Keep the objects of other agents
+
+Usage: bpfagent store [OPTIONS]
+
+Options:
+      --port <P>  The port to listen on, 0 to 65535, where 0 is any free one [default: 0]
+  -h, --help      Print help
+
+Listens on 127.0.0.1, writes 'listening P' to standard output, P the port, and serves one client after another, each from an empty store, until standard input ends. docs/FAR-STREAM.md describes what a client sends and is sent. A client that breaks the protocol is given up: standard error has 'client N: WHY', and the next is served.
+
+Status 0: standard input has ended. Status 3: the port can't be had, a stream failed, or out of memory; standard error says which.
+";
+
 const NO_SUBCOMMAND: &str = "error: 'bpfagent' requires a subcommand but one was not provided
-  [subcommands: run, check, asm, dis]
+  [subcommands: run, check, asm, dis, store]
 
 Usage: bpfagent <COMMAND>
 
@@ -53,6 +67,8 @@ For more information, try '--help'.
 ";
 
 const UNKNOWN: &str = "error: unrecognized subcommand 'serve'
+
+  tip: a similar subcommand exists: 'store'
 
 Usage: bpfagent <COMMAND>
 
@@ -75,6 +91,11 @@ For more information, try '--help'.
 
 const TOO_GREAT: &str =
     "error: invalid value '67108865' for '--budget <N>': 67108865 is not in 0..=67108864
+
+For more information, try '--help'.
+";
+
+const NO_PORT: &str = "error: invalid value '65536' for '--port <P>': 65536 is not in 0..=65535
 
 For more information, try '--help'.
 ";
@@ -104,12 +125,13 @@ For more information, try '--help'.
 
 #[test]
 fn invalid_arguments_are_named(rt: HostRuntime) {
-    let cases: [(&[&str], &str); 9] = [
+    let cases: [(&[&str], &str); 10] = [
         (&[], NO_SUBCOMMAND),
         (&["serve"], UNKNOWN),
         (&["help"], HELP_SUBCOMMAND),
         (&["check", "--budget", "8"], OPTION),
         (&["run", "--budget", "67108865"], TOO_GREAT),
+        (&["store", "--port", "65536"], NO_PORT),
         (&["run", "--budget", "x"], NO_NUMBER),
         (&["run", "--budget="], NO_TEXT),
         (&["run", "--budget"], NO_VALUE),
@@ -125,8 +147,9 @@ fn invalid_arguments_are_named(rt: HostRuntime) {
 
 #[test]
 fn help_goes_to_the_output(rt: HostRuntime) {
-    let cases: [(&[&str], &str); 5] = [
+    let cases: [(&[&str], &str); 6] = [
         (&["--help"], HELP),
+        (&["store", "--help"], STORE_HELP),
         (&["-h"], HELP),
         (&["check", "--help"], CHECK_HELP),
         (&["run", "--help"], RUN_HELP),

@@ -15,3 +15,5 @@ mod moving;
 mod outcome;
 #[cfg(test)]
 mod running;
+#[cfg(test)]
+mod storing;

@@ -1,7 +1,7 @@
 //! The program. All that it does is in the crate `agent`.
 #![tactic(auto)]
 
-use agent::{refuse_arguments, tool};
+use agent::{refuse_arguments, store, store_port, tool};
 use std::process::ExitCode;
 use std::rt::Env;
 use std::{env, io};
@@ -13,15 +13,27 @@ fn arguments<R: Env + AllocGlobal>(rt: &R) -> io::Result<Vec<String>> {
 
 fn main(rt: HostRuntime) -> ExitCode {
     let mut errors = rt.stderr();
-    let status = match arguments(&rt) {
-        Ok(arguments) => tool(
+    let arguments = match arguments(&rt) {
+        Ok(arguments) => arguments,
+        Err(error) => return ExitCode::from(refuse_arguments(&error, &mut errors)),
+    };
+    let status = match store_port(rt.alloc(), arguments.as_slice()) {
+        Ok(Some(port)) => store(
+            &rt,
+            rt.alloc(),
+            port,
+            rt.stdin(),
+            &mut rt.stdout(),
+            &mut errors,
+        ),
+        Ok(None) => tool(
             rt.alloc(),
             arguments.as_slice(),
             &mut rt.stdin(),
             &mut rt.stdout(),
             &mut errors,
         ),
-        Err(error) => refuse_arguments(&error, &mut errors),
+        Err(error) => refuse_arguments(&error.into(), &mut errors),
     };
     ExitCode::from(status)
 }

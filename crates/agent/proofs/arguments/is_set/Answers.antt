@@ -1,7 +1,7 @@
-use Rattle.std.proofs.Common.{◌≡◌, Option, None, Some, false, codes, sym, ◌∙◌, ap, option_map, rules}
+use Rattle.std.proofs.Common.{false, codes, ◌∙◌, ap, rules}
 use Rattle.std.specs.Option.{option_map_or}
 use Rattle.std.specs.Str.{bytes_eq}
-use Rattle.clap.specs.Words.{found_of, first_of, rows_of}
+use Rattle.clap.specs.Words.{found_of}
 use Rattle.clap.proofs.WalkLemmas.{first_value-rows}
 use Rattle.agent.proofs.arguments.is_set.Goals as goal
 

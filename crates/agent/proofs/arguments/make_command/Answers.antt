@@ -6,7 +6,7 @@ use Rattle.clap.specs.Walk.{is_empty}
 use Rattle.clap.specs.declared.builder.arg.Arg.{Arg}
 use Rattle.clap.specs.declared.builder.command.Command.{Command}
 use Rattle.clap.specs.declared.builder.command.Command.TheOpen.{Command-F}
-use Rattle.agent.specs.CommandLine.{bare, budget_rule, flag_rule, run_shape}
+use Rattle.agent.specs.CommandLine.{bare, budget_rule, dis_shape, flag_rule, port_rule, run_shape}
 use Rattle.agent.proofs.arguments.make_command.Goals as goal
 
 abbrev local_of : Command-F Command → Bool
@@ -45,7 +45,7 @@ not_global a rule simple is = not_true a.global (is_last (is_empty a.overrides.i
 
 pub returns : goal.returns
 returns c =
-    let about_is : app_of c.about-5.result ≡ new_app (codes "bpfagent") = ap app_of_fields c.about-5.ensures ∙ (ap app_of_fields c.in_ok-bin_name.ensures.0 ∙ c.new-5.ensures.app) in
+    let about_is : app_of c.about-6.result ≡ new_app (codes "bpfagent") = ap app_of_fields c.about-6.ensures ∙ (ap app_of_fields c.in_ok-bin_name.ensures.0 ∙ c.new-6.ensures.app) in
     let named_is : app_of c.no_binary_name.result ≡ with_no_name (new_app (codes "bpfagent")) = ap app_of_fields c.no_binary_name.ensures ∙ ap with_no_name about_is in
     let helpless_is : app_of c.disable_help_subcommand.result ≡ without_help (with_no_name (new_app (codes "bpfagent"))) = ap app_of_fields c.disable_help_subcommand.ensures ∙ ap without_help named_is in
     let top_is : app_of c.subcommand_required.result ≡ bare = ap app_of_fields c.subcommand_required.ensures ∙ ap with_required helpless_is in
@@ -63,4 +63,10 @@ returns c =
     let dis_is : app_of c.in_ok-dis.dis ≡ with_rule (new_app (codes "dis")) (flag_rule (codes "slots")) = c.in_ok-dis.ensures.shape slots_local
     ∙ ap₂ with_rule (ap app_of_fields c.after_help-2.ensures ∙ (ap app_of_fields c.about-4.ensures ∙ c.new-4.ensures.app)) c.make_flag-slots.ensures in
     let dis_local = c.in_ok-dis.ensures.globals ∙ ap₂ (λ a b. a || b) (ap local_of c.after_help-2.ensures ∙ (ap local_of c.about-4.ensures ∙ c.new-4.ensures.local)) slots_local in
-    IfOk-weaker c.subcommand-4.result _ _ (λ r adds. adds.shape dis_local ∙ ap₂ with_subcommand with_asm (ap (λ (a : App). a.top) dis_is)) c.subcommand-4.ensures
+    let with_dis : app_of c.in_ok-subcommand-4.field-0 ≡ with_subcommand (with_subcommand (with_subcommand (with_subcommand bare run_shape) (new_shape (codes "check"))) (new_shape (codes "asm"))) dis_shape = c.in_ok-subcommand-4.ensures.shape dis_local
+    ∙ ap₂ with_subcommand with_asm (ap (λ (a : App). a.top) dis_is) in
+    let port_local = not_global c.make_port.result port_rule refl c.make_port.ensures in
+    let store_is : app_of c.in_ok-store.store ≡ with_rule (new_app (codes "store")) port_rule = c.in_ok-store.ensures.shape port_local
+    ∙ ap₂ with_rule (ap app_of_fields c.after_help-3.ensures ∙ (ap app_of_fields c.about-5.ensures ∙ c.new-5.ensures.app)) c.make_port.ensures in
+    let store_local = c.in_ok-store.ensures.globals ∙ ap₂ (λ a b. a || b) (ap local_of c.after_help-3.ensures ∙ (ap local_of c.about-5.ensures ∙ c.new-5.ensures.local)) port_local in
+    IfOk-weaker c.subcommand-5.result _ _ (λ r adds. adds.shape store_local ∙ ap₂ with_subcommand with_dis (ap (λ (a : App). a.top) store_is)) c.subcommand-5.ensures

@@ -46,7 +46,8 @@ task_called-requires g c =
     let met = (parsed.matches (ap is_simple line_is ∙ simple)).1 ∙ ap (λ (a : App). subcommand_of a words) line_is in
     let seen = joined _ _ _ _ (c.subcommand.ensures.name ∙ firsts _ _ _) c.subcommand.ensures.rows ∙ met in
     let pair = rw c.in-Some.is at seen in
-    (subst IsEntered (sym pair) (right_enters words right).1).1
+    let entered = subst IsEntered (sym pair) (right_enters words right).1 in
+    record { run = entered.1; store = entered.2 }
 
 pub unreachable-requires-in_default-task_called : goal.unreachable-requires-in_default-task_called
 unreachable-requires-in_default-task_called g c =

@@ -1,14 +1,16 @@
-use Rattle.std.proofs.Common.{◌≡◌, Some, None, sym, ◌∙◌, codes}
+use Rattle.std.proofs.Common.{◌≡◌, Some, None, sym, ◌∙◌, codes, arith}
 use Rattle.std.specs.Str.Parse.{ParsesUnsigned, ExplainsUnsignedError, HasUnsignedDigitsIfOk}
 use Rattle.clap.specs.Words.{found_of, rows_of}
 use Rattle.clap.proofs.WalkLemmas.{one_text-rows}
-use Rattle.agent.proofs.ReadBudget.{budget_read}
+use Rattle.agent.proofs.ReadNumber.{number_read}
+use Rattle.agent.specs.CommandLine.{budget_limit}
 use Rattle.agent.proofs.arguments.read_budget.Goals as goal
 
 pub unreachable-requires : goal.unreachable-requires
 unreachable-requires c =
     let f = found_of c.args.matches.now in
-    let got = budget_read _ (λ bs r. ParsesUnsigned 32 10 bs r × ExplainsUnsignedError 10 bs r × HasUnsignedDigitsIfOk bs r) (λ text x g. g.0) (rows_of f) c.requires c.get_one.result
+    let got = number_read _ (λ bs r. ParsesUnsigned 32 10 bs r × ExplainsUnsignedError 10 bs r × HasUnsignedDigitsIfOk bs r) 32 (λ text x g. g.0)
+    (codes "budget") budget_limit (omega arith) (rows_of f) c.requires c.get_one.result
     (λ text e. c.get_one.ensures.value text (one_text-rows f (codes "budget") ∙ e)) in
     let bad : None ≡ Some got.0 = sym c.in_default.is ∙ got.1 in
     cc
@@ -16,6 +18,7 @@ unreachable-requires c =
 pub returns : goal.returns
 returns c =
     let f = found_of c.args.matches.now in
-    let got = budget_read _ (λ bs r. ParsesUnsigned 32 10 bs r × ExplainsUnsignedError 10 bs r × HasUnsignedDigitsIfOk bs r) (λ text x g. g.0) (rows_of f) c.requires c.get_one.result
+    let got = number_read _ (λ bs r. ParsesUnsigned 32 10 bs r × ExplainsUnsignedError 10 bs r × HasUnsignedDigitsIfOk bs r) 32 (λ text x g. g.0)
+    (codes "budget") budget_limit (omega arith) (rows_of f) c.requires c.get_one.result
     (λ text e. c.get_one.ensures.value text (one_text-rows f (codes "budget") ∙ e)) in
     got.2 ∙ sym got.1 ∙ c.in-Some.is

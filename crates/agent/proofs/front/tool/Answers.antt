@@ -1,4 +1,5 @@
-use Rattle.std.proofs.Common.{◌≡◌, ℕ, Bool, List, Option, None, Some, Result, IfSome, sym, ◌∙◌}
+use Rattle.std.proofs.Common.{◌≡◌, ℕ, List, Option, None, Some, Result, Ok, IfSome, refl, sym, ◌∙◌}
+use Rattle.std.proofs.KnownBytes.{Keeps-refl}
 use Rattle.std.specs.Prelude.{⊤}
 use Rattle.agent.specs.Failures.{status_number}
 use Rattle.agent.specs.Reports.{Reports, ReportsOutcome}
@@ -9,6 +10,7 @@ use Rattle.agent.specs.AsmLeaves.{AsmLeaves, asm_limit}
 use Rattle.agent.specs.CheckLeaves.{CheckLeaves, check_limit}
 use Rattle.agent.specs.DisLeaves.{DisLeaves}
 use Rattle.agent.specs.RunLeaves.{RunLeaves}
+use Rattle.agent.specs.StoreLeaves.{LeavesUndone}
 use Rattle.agent.proofs.OutOfMemory.{reads_nothing, reported_over}
 use Rattle.agent.proofs.front.tool.Goals as goal
 
@@ -41,6 +43,11 @@ returns-in-Err-clause-consumed_by_asm g c asked = reads_nothing asm_limit (g.R.R
 pub returns-in-Err-clause-consumed_by_dis : goal.returns-in-Err-clause-consumed_by_dis
 returns-in-Err-clause-consumed_by_dis g c has_slots asked = reads_nothing check_limit (g.R.Read.remaining c.args.reader.now)
 
+pub returns-in-Err-clause-store : goal.returns-in-Err-clause-store
+returns-in-Err-clause-store g c port right asked =
+    reported_over (g.R.Read.remaining c.args.reader.now) _ c.in-Err.error _ _ _ _ c.show.result _ right c.in-Err.ensures.err c.show.ensures c.number-in-Err.ensures
+    (λ input. LeavesUndone input (g.W.Write.contents c.args.writer.now) (g.W.Write.contents c.show.new.writer) (g.R.Read.remaining c.args.reader.now)) (λ input unread kept. (kept, unread))
+
 reported_run : (given : Option (List ℕ)) (work : List ℕ → Result ⊤ Failure → Type 0) (before after : Option (List ℕ)) (outcome : Result ⊤ Failure) (status : Status) (number : ℕ)
     → IfSome given (λ input. work input outcome) → Reports before after outcome status → number ≡ status_number status
     → IfSome given (λ input. ReportsOutcome (work input) before after number)
@@ -62,3 +69,12 @@ returns-in-Ok-Disassemble-clause-dis g c has_slots right asked =
     let same : has_slots ≡ c.in-Ok-Disassemble.has_slots = cc in
     reported_run _ (λ input. DisLeaves has_slots input (g.W.Write.contents c.args.writer.now) (g.W.Write.contents c.dis.new.writer)) _ _ _ _ _
     (rw same c.dis.ensures.left) c.report-in-Ok-Disassemble.ensures c.number-in-Ok-Disassemble.ensures
+
+undone : (given written : Option (List ℕ)) → IfSome given (λ input. LeavesUndone input written written given (Ok tt))
+undone None written = tt
+undone (Some input) written = (Keeps-refl written, refl)
+
+pub returns-in-Ok-Store-clause-store : goal.returns-in-Ok-Store-clause-store
+returns-in-Ok-Store-clause-store g c port right asked =
+    reported_run _ (λ input. LeavesUndone input (g.W.Write.contents c.args.writer.now) (g.W.Write.contents c.args.writer.now) (g.R.Read.remaining c.args.reader.now)) _ _ (Ok tt) _ _
+    (undone (g.R.Read.remaining c.args.reader.now) (g.W.Write.contents c.args.writer.now)) c.report-in-Ok-Store.ensures c.number-in-Ok-Store.ensures

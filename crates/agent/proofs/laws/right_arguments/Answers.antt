@@ -9,5 +9,6 @@ returns c = record {
   check = (refl, refl);
   asm = (refl, refl);
   dis = (refl, refl);
+  store = (refl, refl);
   help = refl;
 }

@@ -1,0 +1,88 @@
+//! `store`: keeps what clients send away.
+ghost use Rattle.std.specs.Prelude.{◌≡◌, ◌≢◌, ◌++◌, ◌∷◌, [], ◌≤◌, ℕ, length, None, Some, IfOk, IfSome, map};
+ghost use Rattle.agent.specs.CommandLine.{faults_of, task_of};
+ghost use Rattle.agent.specs.StoreLeaves.{ReportsServer, StoreLeaves, listen_text};
+
+use crate::arguments::{Task, read_arguments};
+use crate::failure::{FailureLine, Status};
+use crate::reporting::say;
+use clap::error::ErrorKind;
+use far_server::{ListenFault, listen};
+use std::alloc::{AllocError, Global};
+use std::convert::AsStr;
+use std::io::{Read, Write};
+use std::net::{Net, TcpListener, TcpStream};
+use std::sync::Wait;
+use std::thread::Threads;
+
+/// The port to listen on, where the arguments ask for `store`. Out of memory is an error.
+pub fn store_port<'a, S: AsStr>(
+    alloc: Global,
+    arguments: &'a [S],
+) -> Result<Option<u16>, AllocError>
+    ensures some { IfOk result (λ asked. IfSome asked (λ port. (faults_of (map S.text arguments.entry.now) ≡ []) × (task_of (map S.text arguments.entry.now) ≡ Some (Task.Store port)))) }
+    ensures none { IfOk result (λ asked. asked ≡ None → (port : ℕ) → faults_of (map S.text arguments.entry.now) ≡ [] → task_of (map S.text arguments.entry.now) ≢ Some (Task.Store port)) }
+{
+    match read_arguments(alloc, arguments) {
+        Ok(Task::Store { port }) => Ok(Some(port)),
+        Ok(_) => Ok(None),
+        Err(error) if error.kind() == ErrorKind::OutOfMemory => Err(AllocError),
+        Err(_) => Ok(None),
+    }
+}
+
+/// What is said of a server that ended otherwise than with its input.
+fn text_of(fault: ListenFault) -> &'static [u8]
+    ensures text { result.now ≡ listen_text fault }
+    ensures short { length result.now ≤ 11 }
+{
+    match fault {
+        ListenFault::Net => b"net fault",
+        ListenFault::Read => b"read fault",
+        ListenFault::Write => b"write fault",
+        ListenFault::NoMemory => b"no memory",
+    }
+}
+
+/// The line that says it.
+fn line_of(fault: ListenFault) -> FailureLine
+    ensures { result.items ≡ listen_text fault ++ 10 ∷ [] }
+{
+    let mut line = FailureLine::new();
+    let _ = line.try_extend_from_slice(text_of(fault));
+    let _ = line.try_push(b'\n');
+    line
+}
+
+/// Reports how a server ended, and gives the status. What the stream doesn't take of the line is
+/// lost.
+fn report_server<E: Write>(outcome: Result<(), ListenFault>, errors: &mut E) -> u8
+    ensures { ReportsServer (E.contents errors.old) (E.contents errors.new) outcome result }
+{
+    match outcome {
+        Ok(()) => Status::Done.number(),
+        Err(fault) => {
+            let _told = say(&line_of(fault), errors);
+            Status::Failed.number()
+        }
+    }
+}
+
+/// Listens on this port of 127.0.0.1, or on any free one where it is 0, says which on the writer,
+/// serves one client after another until the input ends, and gives the exit status.
+pub fn store<R, I, W: Write, E: Write>(
+    rt: &R,
+    alloc: Global,
+    port: u16,
+    input: I,
+    writer: &mut W,
+    errors: &mut E,
+) -> u8
+where
+    R: Net<Listener = TcpListener, Stream = TcpStream> + Threads + Wait + Copy + Send + 'static,
+    I: Read + Send + Drop + 'static,
+    ensures { StoreLeaves port (W.contents writer.old) (W.contents writer.new) (E.contents errors.old) (E.contents errors.new) result }
+{
+    let outcome = listen(rt, alloc, port, input, writer, errors);
+    report_server(outcome, errors)
+}

@@ -1,0 +1,74 @@
+//! `store`: its arguments, and how it ends.
+
+use crate::outcome::outcome_of;
+use agent::{store, store_port};
+use std::io::{Error, ErrorKind, Read, Result as IoResult};
+use std::net::{Ipv4Addr, TcpListener};
+use std::test::Fail;
+use test_devices::Narrow;
+
+#[test]
+fn the_port_that_is_asked_for(rt: HostRuntime) -> Result<(), Fail> {
+    let cases: [(&[&str], Option<u16>); 8] = [
+        (&["store"], Some(0)),
+        (&["store", "--port", "7070"], Some(7070)),
+        (&["store", "--port=65535"], Some(65_535)),
+        (&["store", "--port=65536"], None),
+        (&["store", "--help"], None),
+        (&["run"], None),
+        (&["check", "--port", "1"], None),
+        (&[], None),
+    ];
+    for (arguments, port) in cases {
+        assert_eq!(rt; store_port(rt.alloc(), arguments)?, port, "{arguments:?}");
+    }
+    Ok(())
+}
+
+/// The work of `store` is its caller's: `tool` reads and writes nothing.
+#[test]
+fn tool_leaves_it_to_its_caller(rt: HostRuntime) {
+    let outcome = outcome_of(rt.alloc(), &["store", "--port", "1"], b"step 1\n");
+    assert_eq!(rt; outcome.status, 0);
+    assert!(rt; outcome.output.is_empty());
+    assert!(rt; outcome.errors.is_empty());
+}
+
+/// A reader that fails at once.
+#[derive(Drop)]
+struct Broken;
+
+impl Read for Broken {
+    fn read(&mut self, _buf: &mut [u8]) -> IoResult<usize> {
+        Err(Error::from(ErrorKind::BrokenPipe))
+    }
+}
+
+#[test]
+fn how_a_server_ends(rt: HostRuntime) -> Result<(), Fail> {
+    let alloc = rt.alloc();
+    let empty: &'static [u8] = b"";
+    let (mut output, mut errors) = (Vec::new(alloc), Vec::new(alloc));
+    let status = store(&rt, alloc, 0, empty, &mut output, &mut errors);
+    assert_eq!(rt; status, 0);
+    assert!(rt; output.starts_with(b"listening "));
+    assert!(rt; errors.is_empty());
+
+    let status = store(&rt, alloc, 0, Broken, &mut output, &mut errors);
+    assert_eq!(rt; status, 3);
+    assert_eq!(rt; errors.as_slice(), b"read fault\n".as_slice());
+
+    errors.clear();
+    let mut closed = Narrow::new(alloc, 1, 0);
+    let status = store(&rt, alloc, 0, empty, &mut closed, &mut errors);
+    assert_eq!(rt; status, 3);
+    assert_eq!(rt; errors.as_slice(), b"write fault\n".as_slice());
+
+    errors.clear();
+    let taken = TcpListener::bind(&rt, (Ipv4Addr::LOCALHOST, 0))?;
+    let port = taken.local_addr()?.port();
+    let status = store(&rt, alloc, port, empty, &mut output, &mut errors);
+    assert_eq!(rt; status, 3);
+    assert_eq!(rt; errors.as_slice(), b"net fault\n".as_slice());
+    Ok(())
+}

@@ -1,0 +1,18 @@
+//! Tests of a far store over a stream, through public calls. Frames are laid out here by hand, and
+//! expected answers are those that docs/FAR-STREAM.md gives.
+#![tactic(auto)]
+
+#[cfg(test)]
+mod client;
+#[cfg(test)]
+mod cuts;
+#[cfg(test)]
+mod frames;
+#[cfg(test)]
+mod listening;
+#[cfg(test)]
+mod server;
+#[cfg(test)]
+mod threads;
+#[cfg(test)]
+mod wire;
