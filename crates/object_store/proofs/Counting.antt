@@ -22,7 +22,7 @@ below_counts [] i h = absurd (omega arith)
 below_counts (b ∷ bodies) zero h = omega arith
 below_counts (b ∷ bodies) (suc i) h = let g = below_counts bodies i h in omega arith
 
-pub ruleset body_steps = (scopes_set, scopes_at, bytes_same, places_same, sent_same, below_counts)
+pub ruleset body_steps = (scopes_set, scopes_at, bytes_same, places_same, sent_same)
 
 -- ---- weights
 

@@ -3,4 +3,5 @@ pub mod Asking
 pub mod Bodies
 pub mod Standings
 pub mod Calls
+pub mod Parts
 pub mod Promised

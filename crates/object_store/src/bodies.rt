@@ -8,9 +8,9 @@ ghost use Rattle.object_store.specs.Asking.{forgets, leave_calls, parcel_of, cle
 ghost use Rattle.far_store.specs.Calls.Call.{Put, Get};
 ghost use Rattle.far_store.specs.Calls.{Calls};
 ghost use Rattle.object_store.specs.declared.places.Place.TheVariants as place;
+ghost use Rattle.pointer_word.specs.declared.word.WordPlace.TheVariants.{Local, Moving, Far};
 
 use crate::places::Place;
-use crate::words;
 use far_store::{FarStore, StoreFault};
 use memory::{Action, Op, act, overwrite};
 use pointer_word::{Word, WordPlace};
@@ -46,6 +46,55 @@ impl<F: FarStore> Model for Body<F> {
     ghost view = { λ b. record { bytes = contents F.bytes_in b.out b.bytes.items b.parcel; place = place_by b.out b.word.place; scopes = b.word.count; parcel = parcel_bytes F.bytes_in b.parcel; clean = b.clean } };
 
     ghost invariant = { λ b. IsKept F.bytes_in b.word b.length b.bytes.items (vec_capacity b.bytes) b.parcel b.out b.clean };
+}
+
+/// Its object was here, and is on its way.
+#[tactic(auto, using(crate::proofs::Wording::word_steps))]
+fn leave_here(word: &mut Word)
+    requires here { word.old.place ≡ Local }
+    requires alone { (word.old.count ≡ 0) × (word.old.turn ≡ false) }
+    ensures { word.new ≡ record word.old { place = Moving; hot = false } }
+{
+    match word.leaving() {
+        Some(next) => *word = next,
+        None => unreachable!(),
+    }
+}
+
+/// Its object was on its way, and is far.
+#[tactic(auto, using(crate::proofs::Wording::word_steps))]
+fn reach_far(word: &mut Word)
+    requires moving { word.old.place ≡ Moving }
+    ensures { word.new ≡ record word.old { place = Far } }
+{
+    match word.left() {
+        Some(next) => *word = next,
+        None => unreachable!(),
+    }
+}
+
+/// Its object was far, and is on its way.
+#[tactic(auto, using(crate::proofs::Wording::word_steps))]
+fn leave_far(word: &mut Word)
+    requires far { word.old.place ≡ Far }
+    ensures { word.new ≡ record word.old { place = Moving } }
+{
+    match word.returning() {
+        Some(next) => *word = next,
+        None => unreachable!(),
+    }
+}
+
+/// Its object was on its way, and is here.
+#[tactic(auto, using(crate::proofs::Wording::word_steps))]
+fn reach_here(word: &mut Word)
+    requires moving { word.old.place ≡ Moving }
+    ensures { word.new ≡ record word.old { place = Local } }
+{
+    match word.home() {
+        Some(next) => *word = next,
+        None => unreachable!(),
+    }
 }
 
 /// Lets go of a parcel, if there is one.
@@ -252,13 +301,28 @@ impl<F: FarStore> Body<F> {
         self.length = 0;
     }
 
+    /// Its bytes, where it is here. Its parcel is forgotten.
+    pub fn into_bytes(self, store: &mut F) -> Vec<u8>
+        ensures bytes { self.place ≡ place.Here → result.items ≡ self.bytes }
+        ensures calls { Calls F.called store.old (forgets self.parcel) store.new }
+        ensures faults { F.faults_of store.old ≤ F.faults_of store.new }
+    {
+        let Body {
+            bytes,
+            mut parcel,
+            ..
+        } = self;
+        forget_kept(store, &mut parcel);
+        bytes
+    }
+
     /// It begins to leave.
     pub fn begin_leave(&mut self)
         requires here { self.old.place ≡ place.Here }
         requires alone { self.old.scopes ≡ 0 }
         ensures { self.new ≡ record self.old { place = place.Leaving } }
     {
-        words::begin_leave(&mut self.word);
+        leave_here(&mut self.word);
     }
 
     /// Its bytes go to the far store, unless its parcel stands for them.
@@ -276,11 +340,11 @@ impl<F: FarStore> Body<F> {
         if self.clean {
             self.bytes = Vec::new(alloc);
         } else if let Err(fault) = send(alloc, store, &mut self.parcel, &mut self.bytes) {
-            words::end_return(&mut self.word);
+            reach_here(&mut self.word);
             return Err(fault);
         }
         self.out = true;
-        words::end_leave(&mut self.word);
+        reach_far(&mut self.word);
         Ok(())
     }
 
@@ -289,7 +353,7 @@ impl<F: FarStore> Body<F> {
         requires far { self.old.place ≡ place.Far }
         ensures { self.new ≡ record self.old { place = place.Returning } }
     {
-        words::begin_return(&mut self.word);
+        leave_far(&mut self.word);
     }
 
     /// Its bytes come from the far store, and its parcel is kept.
@@ -312,11 +376,11 @@ impl<F: FarStore> Body<F> {
                 self.bytes = bytes;
                 self.out = false;
                 self.clean = F::RETURNS;
-                words::end_return(&mut self.word);
+                reach_here(&mut self.word);
                 Ok(())
             }
             Err(fault) => {
-                words::end_leave(&mut self.word);
+                reach_far(&mut self.word);
                 Err(fault)
             }
         }

@@ -40,3 +40,14 @@ pub enum PutError {
     #[error("the object isn't here")]
     Away,
 }
+
+/// Why a store isn't taken apart.
+#[derive(Clone, Copy, Drop, Debug, PartialEq, Eq, Error)]
+pub enum PartsError {
+    /// The object of this number isn't here, the least one.
+    #[error("object {0} isn't here")]
+    NotHere(u32),
+    /// An allocation failed.
+    #[error("no memory")]
+    Memory,
+}

@@ -8,12 +8,13 @@
 mod bodies;
 mod errors;
 mod moving;
+mod parts;
 mod places;
 mod scoping;
 mod standing;
 mod stores;
-mod words;
 
-pub use errors::{GetError, MakeError, PutError};
+pub use errors::{GetError, MakeError, PartsError, PutError};
+pub use parts::Parts;
 pub use places::{Moved, Place};
 pub use stores::{MACHINE_LIMIT, ObjectStore, StoreMemory};

@@ -24,6 +24,7 @@ fn open_scope<F: FarStore>(bodies: &mut [Body<F>], number: usize)
 #[tactic(auto, using(crate::proofs::Counting::body_steps))]
 #[inline(always)]
 fn end_scope<F: FarStore>(bodies: &mut [Body<F>], number: usize)
+    requires object { number < length bodies.old }
     requires held { 0 < get_or (map scopes_in bodies.old) number 0 }
     ensures counts { map scopes_in bodies.new ≡ set (map scopes_in bodies.old) number (get_or (map scopes_in bodies.old) number 0 - 1) }
     ensures bytes { map bytes_in bodies.new ≡ map bytes_in bodies.old }
@@ -33,6 +34,7 @@ fn end_scope<F: FarStore>(bodies: &mut [Body<F>], number: usize)
     bodies[number].close_scope();
 }
 
+#[tactic(auto, using(crate::proofs::Counting::below_counts))]
 #[inline(always)]
 fn end_pushed<F: FarStore>(bodies: &mut [Body<F>], out: Option<u32>)
     requires held { IfSome out (λ n. 0 < get_or (map scopes_in bodies.old) n 0) }

@@ -1,13 +1,16 @@
 //! The objects of an agent.
-ghost use Rattle.std.specs.Prelude.{◌≡◌, ◌≤◌, [], ◌∷◌, ◌++◌, false, set, IfOk, OnOk, OnErr, length};
-ghost use Rattle.memory.specs.Objects.{AreObjects, bytes_of, object_bytes};
-ghost use Rattle.object_store.specs.Stores.{HasWindow, IsStore, Touches, store_start, with_window, unsent, sent_of};
+ghost use Rattle.std.specs.Prelude.{◌≡◌, ◌≤◌, [], ◌∷◌, ◌++◌, false, map, set, None, IfOk, IfErr, IfSome, OnOk, OnErr, length};
+ghost use Rattle.memory.specs.Objects.{AreObjects, IsLive, bytes_of, object_bytes};
+ghost use Rattle.object_store.specs.Stores.{HasWindow, IsStore, StandsAt, Touches, store_start, with_window, unsent, sent_of};
 ghost use Rattle.object_store.specs.Asking.{AsksNothing, AsksToFree, AsksToLeave, AsksToReturn, sent_after};
+ghost use Rattle.far_store.specs.Calls.{Calls};
+ghost use Rattle.object_store.specs.Parts.{AllHere, RefusesParts, bodies_of, forgets_all};
 ghost use Rattle.object_store.specs.Calls.{Makes, Frees, Gets, Puts, BeginsLeave, EndsLeave, BeginsReturn, EndsReturn};
 
 use crate::bodies::Body;
-use crate::errors::{GetError, MakeError, PutError};
+use crate::errors::{GetError, MakeError, PartsError, PutError};
 use crate::moving::{begin_leave_at, begin_return_at, end_leave_at, end_return_at, free_at};
+use crate::parts::{Parts, first_away, from_one, take_all};
 use crate::places::{Moved, Place};
 use crate::scoping::{close, note};
 use crate::standing::{
@@ -67,6 +70,33 @@ impl<F: FarStore + Drop> ObjectStore<F> {
             store,
         })
     }
+
+    /// Takes the store apart, where all objects are here. All scopes close, and parcels that are kept are forgotten, by
+    /// rising numbers.
+    pub fn into_parts(self) -> Result<Parts<F>, PartsError>
+        ensures here { OnOk result (AllHere self.state.places) }
+        ensures bodies { IfOk result (λ p. map (λ b. b.items) p.bodies.items ≡ bodies_of self.state.objects) }
+        ensures calls { IfOk result (λ p. Calls F.called self.far (forgets_all self.sent) p.store) }
+        ensures faults { IfOk result (λ p. self.state.faults ≤ F.faults_of p.store) }
+        ensures refused { IfErr result (λ e. RefusesParts self.state e) }
+    {
+        let ObjectStore {
+            alloc,
+            bodies,
+            mut store,
+            ..
+        } = self;
+        if let Some(number) = first_away(bodies.as_slice()) {
+            return Err(PartsError::NotHere(number as u32));
+        }
+        match take_all(alloc, bodies, &mut store) {
+            Ok(taken) => Ok(Parts {
+                bodies: from_one(taken),
+                store,
+            }),
+            Err(_) => Err(PartsError::Memory),
+        }
+    }
 }
 
 impl<F: FarStore> ObjectStore<F> {
@@ -124,6 +154,14 @@ impl<F: FarStore> ObjectStore<F> {
         ensures store { IsStore self.now.state }
     {
         length_at(self.bodies.as_slice(), number as usize)
+    }
+
+    /// Where an object is, if there is one of this number.
+    pub fn place(&self, number: u32) -> Option<Place>
+        ensures none { result ≡ None → IsLive self.now.state.objects number → ⊥ }
+        ensures some { IfSome result (λ p. StandsAt p self.now.state number) }
+    {
+        place_at(self.bodies.as_slice(), number as usize)
     }
 
     /// Reads a range of an object.

@@ -1,13 +1,14 @@
 use Rattle.std.proofs.Common.{◌∙◌, [], sym, arith, length-set}
 use Rattle.std.proofs.lemmas.List.{get_or_default, get_or-set_same, set-set}
-use Rattle.object_store.proofs.Counting.{taken_counted, counts_taken}
+use Rattle.object_store.proofs.Counting.{below_counts, taken_counted, counts_taken}
 use Rattle.object_store.proofs.scoping.close.Goals as goal
 
 pub end_scope-requires : goal.end_scope-requires
 end_scope-requires g c =
     let i = c.loop-number.invariant in
     let old = sym (get_or_default c.loop-number.windows c.args.who c.index-windows-who.result [] i.machine) ∙ rw c.in-Some.is at c.pop.ensures.some in
-    record { held = taken_counted _ _ _ _ c.pop.new.self i.counts i.machine old }
+    let held = taken_counted _ _ _ _ c.pop.new.self i.counts i.machine old in
+    record { object = below_counts c.loop-number.bodies c.in-Some.number held; held = held }
 
 pub loop-number-preserved : goal.loop-number-preserved
 loop-number-preserved g c =
