@@ -21,7 +21,7 @@ use Rattle.helpers.specs.Helpers.{helper_of}
 use Rattle.machine.specs.declared.grants.Grant.{Grant}
 use Rattle.machine.specs.declared.state.Accessing.{Accessing}
 use Rattle.machine.specs.declared.state.Frame.{Frame}
-use Rattle.machine.specs.declared.state.Stop.TheVariants as stop
+use Rattle.machine.specs.declared.state.Stop.{Stop}
 use Rattle.machine.specs.declared.state.Stepped.{Stepped}
 use Rattle.machine.specs.declared.state.Work.{Work}
 use Rattle.machine.specs.declared.state.Work.TheVariants.{Computes, Accesses, Measures}
@@ -37,10 +37,10 @@ use Rattle.machine.proofs.Changes.{map_closes}
 
 -- ---- what is asked is granted
 
-granted_work : (a b d : Bool) → cond a (cond b (cond d (Some stop.Depth) None) (Some stop.NotGranted)) (Some stop.Misaligned) ≡ None → b ≡ true
-granted_work true true d e = refl
-granted_work true false d e = absurd (cc)
-granted_work false b d e = absurd (cc)
+granted_work : (a b d : Bool) (x y z : Stop) → cond a (cond b (cond d (Some x) None) (Some y)) (Some z) ≡ None → b ≡ true
+granted_work true true d x y z e = refl
+granted_work true false d x y z e = absurd (cc)
+granted_work false b d x y z e = absurd (cc)
 
 -- what is asked is granted: an access to read, or to write too, and a length to read
 abbrev pub Allowed : GrantState → Request → Type 0
@@ -69,7 +69,7 @@ work_allowed (Atomic width o d s offset) m e = access_allowed m.grants _ _ e
 work_allowed _ m e = tt
 
 pub allowed : (i : Instr) (m : MachineState) → stop_before i m ≡ None → Allowed m.grants (asks i m)
-allowed i m e = work_allowed i m (granted_work (is_aligned i m.registers) (is_granted_work m.grants (work_of i m)) (is_too_deep i m) e)
+allowed i m e = work_allowed i m (granted_work (is_aligned i m.registers) (is_granted_work m.grants (work_of i m)) (is_too_deep i m) _ _ _ e)
 
 -- ---- a grant for writing is one for reading
 

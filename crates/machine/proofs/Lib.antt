@@ -1,4 +1,5 @@
 pub mod Words
+pub mod KeptGrants
 pub mod NextSlots
 pub mod FrameOrder
 pub mod DoneRows

@@ -1,4 +1,5 @@
 pub mod Grants
+pub mod GrantWords
 pub mod MachineState
 pub mod Rows
 pub mod TableStep

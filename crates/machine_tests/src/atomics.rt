@@ -7,7 +7,7 @@ use std::alloc::Global;
 use std::process::Abort;
 use std::test::Fail;
 
-const MISALIGNED: Stepped = Stepped::Stopped(Stop::Misaligned);
+pub const MISALIGNED: Stepped = Stepped::Stopped(Stop::Misaligned);
 
 /// What an atomic operation leaves: the eight bytes as a number, R2 and R0.
 #[derive(Drop)]

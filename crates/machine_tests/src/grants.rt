@@ -1,5 +1,6 @@
 //! Machines that are granted some of the objects.
 
+use crate::atomics::MISALIGNED;
 use crate::common::{EXIT, OBJECT, STACK, objects, step, store_of};
 use far_store::OwnStore;
 use loader::load;
@@ -86,7 +87,7 @@ fn loads_need_a_grant_and_all_else_one_to_write(rt: HostRuntime) -> Result<(), F
 fn the_grant_comes_after_alignment_and_before_the_object(rt: HostRuntime) -> Result<(), Fail> {
     let mut store = store_of(rt.alloc(), [0; 8])?;
     let misaligned = first(rt.alloc(), &mut store, Grants::none(), OBJECT + 4, EXCHANGE)?;
-    assert_eq!(rt; misaligned, Stepped::Stopped(Stop::Misaligned));
+    assert_eq!(rt; misaligned, MISALIGNED);
     let outside = first(rt.alloc(), &mut store, Grants::none(), OBJECT + 8, LOAD)?;
     assert_eq!(rt; outside, NOT_GRANTED);
     assert_eq!(rt; store.leave(1), Moved::Done);

@@ -81,7 +81,7 @@ fn note_new<F: FarStore>(bodies: &mut [Body<F>], windows: &mut [Window], who: us
     ensures sent { map sent_in bodies.new ≡ map sent_in bodies.old }
 {
     let window = &mut windows[who];
-    let out = window.note(number);
+    let out = window.note_new(number);
     end_pushed(bodies, out);
     open_scope(bodies, number as usize);
 }

@@ -1,5 +1,5 @@
 //! Windows.
-ghost use Rattle.std.specs.Prelude.{◌≡◌, [], ◌∷◌, None, IfSome};
+ghost use Rattle.std.specs.Prelude.{◌≡◌, [], ◌∷◌, false, None, IfSome};
 ghost use Rattle.scopes.specs.Windows.{IsWindow, holds, noted, pushed_out};
 ghost use Rattle.scopes.specs.Places.{number_at};
 
@@ -79,6 +79,17 @@ impl Window {
         if self.holds(number) {
             return None;
         }
+        self.note_new(number)
+    }
+
+    /// Notes a number that isn't held, and answers the one that it pushes out: the oldest, where four others are held.
+    #[inline(always)]
+    pub fn note_new(&mut self, number: u32) -> Option<u32>
+        requires { holds number self.old ≡ false }
+        ensures window { IsWindow self.old }
+        ensures new { self.new ≡ noted number self.old }
+        ensures out { result ≡ pushed_out number self.old }
+    {
         let out = number_of(self.oldest);
         self.oldest = self.third;
         self.third = self.second;
