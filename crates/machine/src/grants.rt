@@ -89,6 +89,7 @@ impl Grants {
     }
 
     /// The same, where not all objects are granted. It is a call, so that the other case costs one test.
+    #[cold]
     #[inline(never)]
     fn allow_some(&self, number: u64, writes: bool) -> bool
         requires { self.now.all ≡ false }

@@ -68,6 +68,7 @@ pub fn note<F: FarStore>(bodies: &mut [Body<F>], windows: &mut [Window], who: us
 }
 
 /// Notes a number that the window of a machine doesn't hold.
+#[cold]
 #[inline(never)]
 fn note_new<F: FarStore>(bodies: &mut [Body<F>], windows: &mut [Window], who: usize, number: u32)
     requires machine { (who < length windows.old) × (length windows.old ≤ window_count) }
