@@ -68,23 +68,23 @@ const GOOD: [(&str, &str); 40] = [
     ),
     (
         "ship 18446744073709551615 0xffffffffffffffff 0xFfFf 0 0 0x0000000000000001 00",
-        "Ship { start: Start { fuel: 18446744073709551615, arguments: [18446744073709551615, 65535, 0, 0, 1], grants: Grants { all: true, listed: [] } }, code: Bytes { bytes: [0] } }",
+        "Ship { start: Start { fuel: 18446744073709551615, arguments: [18446744073709551615, 65535, 0, 0, 1], grants: Grants { all: true, count: 0, words: [0, 0, 0, 0, 0, 0, 0, 0, 0, 0, 0, 0, 0, 0, 0, 0] } }, code: Bytes { bytes: [0] } }",
     ),
     (
         "ship2 1 0 0 0 0 2 95",
-        "Ship { start: Start { fuel: 1, arguments: [0, 0, 0, 0, 2], grants: Grants { all: false, listed: [] } }, code: Bytes { bytes: [149] } }",
+        "Ship { start: Start { fuel: 1, arguments: [0, 0, 0, 0, 2], grants: Grants { all: false, count: 0, words: [0, 0, 0, 0, 0, 0, 0, 0, 0, 0, 0, 0, 0, 0, 0, 0] } }, code: Bytes { bytes: [149] } }",
     ),
     (
         "ship2 1 0 0 0 0 2 95 r1",
-        "Ship { start: Start { fuel: 1, arguments: [0, 0, 0, 0, 2], grants: Grants { all: false, listed: [Grant { number: 1, writes: false }] } }, code: Bytes { bytes: [149] } }",
+        "Ship { start: Start { fuel: 1, arguments: [0, 0, 0, 0, 2], grants: Grants { all: false, count: 1, words: [1, 0, 0, 0, 0, 0, 0, 0, 0, 0, 0, 0, 0, 0, 0, 0] } }, code: Bytes { bytes: [149] } }",
     ),
     (
         "ship2 1 0 0 0 0 0x2 95 w0x1 r1024",
-        "Ship { start: Start { fuel: 1, arguments: [0, 0, 0, 0, 2], grants: Grants { all: false, listed: [Grant { number: 1, writes: true }, Grant { number: 1024, writes: false }] } }, code: Bytes { bytes: [149] } }",
+        "Ship { start: Start { fuel: 1, arguments: [0, 0, 0, 0, 2], grants: Grants { all: false, count: 2, words: [32769, 1024, 0, 0, 0, 0, 0, 0, 0, 0, 0, 0, 0, 0, 0, 0] } }, code: Bytes { bytes: [149] } }",
     ),
     (
         "ship2 1 0 0 0 0 2 95 r1 r2 r3 r4 r5 r6 r7 r8 w9 w10 w11 w12 w13 w14 w15 w16",
-        "Ship { start: Start { fuel: 1, arguments: [0, 0, 0, 0, 2], grants: Grants { all: false, listed: [Grant { number: 1, writes: false }, Grant { number: 2, writes: false }, Grant { number: 3, writes: false }, Grant { number: 4, writes: false }, Grant { number: 5, writes: false }, Grant { number: 6, writes: false }, Grant { number: 7, writes: false }, Grant { number: 8, writes: false }, Grant { number: 9, writes: true }, Grant { number: 10, writes: true }, Grant { number: 11, writes: true }, Grant { number: 12, writes: true }, Grant { number: 13, writes: true }, Grant { number: 14, writes: true }, Grant { number: 15, writes: true }, Grant { number: 16, writes: true }] } }, code: Bytes { bytes: [149] } }",
+        "Ship { start: Start { fuel: 1, arguments: [0, 0, 0, 0, 2], grants: Grants { all: false, count: 16, words: [1, 2, 3, 4, 5, 6, 7, 8, 32777, 32778, 32779, 32780, 32781, 32782, 32783, 32784] } }, code: Bytes { bytes: [149] } }",
     ),
     ("leave 1", "Object { object: 1, command: Move(Leave) }"),
     (

@@ -1,4 +1,5 @@
 //! Machines that are granted some of the objects.
+ghost use Rattle.std.specs.Prelude.{◌≤◌};
 
 use crate::atomics::MISALIGNED;
 use crate::common::{EXIT, OBJECT, STACK, objects, step, store_of};
@@ -21,7 +22,9 @@ const EXCHANGE: u64 = 0xdb21_0000_f100_0000;
 const NOT_GRANTED: Stepped = Stepped::Stopped(Stop::NotGranted);
 
 /// The object of this number alone.
-fn one(number: u32, writes: bool) -> Grants {
+fn one(number: u32, writes: bool) -> Grants
+    requires { (1 ≤ number) × (number ≤ 1024) }
+{
     let mut grants = Grants::none();
     grants.add(Grant { number, writes });
     grants
