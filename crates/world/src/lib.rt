@@ -13,6 +13,6 @@ pub use debugger::{
 };
 pub use events::{Event, Move, ObjectCommand, ObjectLength};
 pub use laws::{debugging_changes_nothing, moving_changes_nothing, neither_changes_anything};
-pub use object_store::{MACHINE_LIMIT, Place};
+pub use object_store::{MACHINE_LIMIT, PartsError, Place};
 pub use replies::Reply;
-pub use world::World;
+pub use world::{World, WorldParts};

@@ -1,7 +1,8 @@
 //! What the commands do.
-ghost use Rattle.std.specs.Prelude.{◌≡◌, ◌++◌, List, true, IfOk, OnOk, OnErr};
+ghost use Rattle.std.specs.Prelude.{◌≡◌, ◌≤◌, ◌++◌, List, map, true, IfOk, IfErr, OnOk, OnErr};
 ghost use Rattle.object_store.specs.Stores.{store_memory};
 ghost use Rattle.object_store.specs.Calls.{Frees};
+ghost use Rattle.object_store.specs.Parts.{AllHere, RefusesParts, bodies_of};
 ghost use Rattle.debugger.specs.declared.commands.MachineCommand.{MachineCommand};
 ghost use Rattle.world.specs.declared.replies.Reply.{Reply};
 ghost use Rattle.world.specs.declared.events.Event.{Event};
@@ -17,7 +18,9 @@ use crate::replies::Reply;
 use debugger::{Bytes, Debuggee, MachineCommand, Start, StepReply, Way};
 use far_store::FarStore;
 use loader::{Why, load};
-use object_store::{GetError, MACHINE_LIMIT, MakeError, Moved, ObjectStore, Place, PutError};
+use object_store::{
+    GetError, MACHINE_LIMIT, MakeError, Moved, ObjectStore, PartsError, Place, PutError,
+};
 use std::alloc::{AllocError, Global};
 use std::marker::Model;
 
@@ -27,6 +30,18 @@ pub struct World<F: FarStore> {
     alloc: Global,
     machines: Vec<Debuggee>,
     store: ObjectStore<F>,
+}
+
+/// The parts of a world of which all objects were here.
+#[derive(Drop)]
+pub struct WorldParts<F> {
+    /// The machines, each with its debugger, in the order in which they were shipped.
+    pub machines: Vec<Debuggee>,
+    /// The bytes of each object, from number 1 on: none where it was freed. Where no object was ever made this is one
+    /// body without bytes.
+    pub bodies: Vec<Vec<u8>>,
+    /// The far store, which keeps no parcel of these objects.
+    pub store: F,
 }
 
 impl<F: FarStore> Model for World<F> {
@@ -55,6 +70,27 @@ impl<F: FarStore + Drop> World<F> {
             machines,
             store,
         })
+    }
+
+    /// Takes the world apart, where all objects are here. All scopes close, and parcels that are kept are forgotten.
+    pub fn into_parts(self) -> Result<WorldParts<F>, PartsError>
+        ensures here { OnOk result (AllHere self.store.places) }
+        ensures machines { IfOk result (λ p. p.machines.items ≡ self.machines) }
+        ensures bodies { IfOk result (λ p. map (λ b. b.items) p.bodies.items ≡ bodies_of self.store.objects) }
+        ensures faults { IfOk result (λ p. self.store.faults ≤ F.faults_of p.store) }
+        ensures refused { IfErr result (λ e. RefusesParts self.store e) }
+    {
+        let World {
+            machines, store, ..
+        } = self;
+        match store.into_parts() {
+            Ok(parts) => Ok(WorldParts {
+                machines,
+                bodies: parts.bodies,
+                store: parts.store,
+            }),
+            Err(error) => Err(error),
+        }
     }
 }
 
