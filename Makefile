@@ -42,7 +42,7 @@ vectors:
 BENCH := out/bench
 C_RUNTIME := $(dir $(realpath $(RT)))../c/liblibc_c.a
 
-# Steps and lines beside plain C, as ratios in one run, and the time of a line of assembly. Where there is valgrind, each with its
+# Steps, lines and accesses to shared objects beside plain C, as ratios in one run, and the time of a line of assembly. Where there is valgrind, each with its
 # machine instructions, which repeat exactly on a busy machine too.
 bench: $(PROGRAM)
 	@mkdir -p $(BENCH)
@@ -53,3 +53,6 @@ bench: $(PROGRAM)
 	@$(BENCH)/steps bench/programs $(BENCH)/counts
 	@python3 -B bench/lines.py $(PROGRAM) $(BENCH)/lines
 	@python3 bench/assembly.py $(PROGRAM)
+	@cd crates/bench_shared && $(RT) run >/dev/null
+	@$(CC) -O2 -pthread -o $(BENCH)/shared bench/shared.c
+	@python3 bench/shared.py crates/bench_shared/out/bench_shared $(BENCH)/shared

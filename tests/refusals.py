@@ -10,6 +10,8 @@ worked conversations, of those of moves, of debugging and of grants, and of the 
 `dis` end with `no memory`, and no output.
 
 `refused_run` does a list of commands in one call: where an allocation fails there is no reply, and the world is as before.
+`refused_table` opens a table of shared objects, reads from it and closes it: where an allocation fails there is no table, or a
+read that can be done again, or nothing is left of it.
 
 Of the allocations before the first line, which are the same in each conversation, all are tried once, and then two of
 each; of those after it all, up to 600, spread over all of them.
@@ -32,6 +34,7 @@ from sources import ROOT
 
 PROGRAM = pathlib.Path(sys.argv[2]).resolve() if len(sys.argv) > 2 else ROOT / "crates/bpfagent/out/bpfagent"
 RUN = ROOT / "crates/refused_run/out/refused_run"
+TABLE = ROOT / "crates/refused_table/out/refused_table"
 SCRIPTS = [f"crates/conversations/data/{name}.script" for name in ("worked", "moves", "debugging", "grants", "protocol")]
 MAY_LACK_MEMORY = ("make ", "put ", "get ", "ship ", "ship2 ", "stack ", "line ")
 WIDE = bytes.fromhex("18000000ffffffff00000000ffffffff9500000000000000")
@@ -206,6 +209,19 @@ def refused_run(failing):
     return found.count(REFUSED)
 
 
+# The last is what a table does whose allocations are all granted.
+OF_A_TABLE = ["no bodies", "no table", "opened, read again, closed", "opened, read, not closed", "opened, read, closed"]
+
+
+def refused_table(failing):
+    """How often a table wasn't opened, read from or closed."""
+    (status, output, _), total = failing.allocations(TABLE, [], b"")
+    found = [failing.call(TABLE, [], b"", at)[1].decode().strip() for at in range(1, total + 1)]
+    if (status, output.decode().strip()) != (0, OF_A_TABLE[-1]) or set(found) - set(OF_A_TABLE) or set(OF_A_TABLE[:-1]) - set(found):
+        raise Failed(f"refused_table: {sorted(set(found))}")
+    return total - found.count(OF_A_TABLE[-1])
+
+
 def show(failing):
     start = before_a_line(failing)
     counted_commands(failing)
@@ -216,9 +232,10 @@ def show(failing):
     said = ", ".join(f"{found.count(what)} {what}" for what in sorted(set(found)))
     gave_up = sum(refused_input(failing, arguments, given) for arguments, given in OTHERS)
     runs = refused_run(failing)
+    tables = refused_table(failing)
     if not gave_up or not runs or not {word.strip() for word in MAY_LACK_MEMORY} | {"returned"} <= set(found):
         raise Failed(f"not every command was refused: {said}; {gave_up} inputs, {runs} runs")
-    print(f"refused_growth: {len(found)} allocations of {len(talks)} conversations failed in turn: {said}; {gave_up} of other inputs, {runs} of a run")
+    print(f"refused_growth: {len(found)} allocations of {len(talks)} conversations failed in turn: {said}; {gave_up} of other inputs, {runs} of a run, {tables} of a table")
 
 
 def main():

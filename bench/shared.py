@@ -1,0 +1,69 @@
+#!/usr/bin/env python3
+"""Accesses to shared objects beside the same in plain C, in one run: shared.py PROGRAM C_PROGRAM
+
+An access takes the object's turn by one atomic operation and gives it back by another, on the same layout of memory on both
+sides. A time is the difference of a long run and a short one, without the programs' start. Runs are interleaved, and of each
+the fastest counts. Of one thread it is processor time. Of several, each on an object of its own, it is the processor time of an
+access, which says what they cost one another, and the time that passed, which needs as many free processors; each beside that of
+one thread. Where there is valgrind, machine instructions of an access too, which repeat exactly on a busy machine.
+"""
+import os
+import re
+import shutil
+import subprocess
+import sys
+import time
+
+KINDS = ["load", "store", "add"]
+SHORT, LONG = 1_000_000, 11_000_000
+FEW, MANY = 20_000, 60_000
+RUNS = 11
+
+
+def run(program, kind, count, threads):
+    """The processor time and the time that passed, in seconds."""
+    start = time.monotonic()
+    process = subprocess.Popen([program, kind, str(count), str(threads)], stdout=subprocess.DEVNULL)
+    _, status, used = os.wait4(process.pid, 0)
+    if status:
+        sys.exit(f"{program} {kind} {count} {threads}: status {status}")
+    return used.ru_utime + used.ru_stime, time.monotonic() - start
+
+
+def fastest(programs, kind, threads, which):
+    """Nanoseconds of an access of one thread, for each program: its long runs without its short ones."""
+    found = [([], []) for _ in programs]
+    for _ in range(RUNS):
+        for program, (short, long) in zip(programs, found):
+            short.append(run(program, kind, SHORT, threads)[which])
+            long.append(run(program, kind, LONG, threads)[which])
+    return [(min(long) - min(short)) / (LONG - SHORT) * 1e9 for short, long in found]
+
+
+def instructions(program, kind, count):
+    whole = ["valgrind", "--tool=callgrind", "--callgrind-out-file=/dev/null", program, kind, str(count), "1"]
+    done = subprocess.run(whole, stdout=subprocess.DEVNULL, stderr=subprocess.PIPE, check=True)
+    return int(re.search(rb"Collected : (\d+)", done.stderr).group(1))
+
+
+def of_an_access(program, kind):
+    return (instructions(program, kind, MANY) - instructions(program, kind, FEW)) / (MANY - FEW)
+
+
+def main():
+    programs = sys.argv[1:3]
+    for kind in KINDS:
+        ours, c = fastest(programs, kind, 1, 0)
+        line = f"{'a shared ' + kind:22} {ours:7.2f} ns, C {c:7.2f} ns, ratio {ours / c:.2f}"
+        if shutil.which("valgrind"):
+            ours, c = (of_an_access(program, kind) for program in programs)
+            line += f"; {ours:.0f} machine instructions, C {c:.0f}"
+        print(line, flush=True)
+    alone = [fastest(programs, "add", 1, which) for which in (0, 1)]
+    for threads in (2, 4):
+        if threads <= (os.cpu_count() or 1):
+            used, passed = ([a * share / b for a, b, share in zip(one, fastest(programs, "add", threads, which), (threads if which == 0 else 1,) * 2)] for which, one in enumerate(alone))
+            print(f"{threads} threads, own objects   {used[0]:.2f} of linear by processor time, C {used[1]:.2f}; {passed[0]:.2f} by time passed, C {passed[1]:.2f}", flush=True)
+
+
+main()

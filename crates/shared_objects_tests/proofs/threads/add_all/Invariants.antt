@@ -1,0 +1,5 @@
+use Rattle.shared_objects.specs.Tables.{IsActorOf}
+use Rattle.shared_objects_tests.proofs.threads.add_all.Given as goal
+
+abbrev pub invariant-loop : goal.invariant-loop
+invariant-loop l = IsActorOf l.table l.actor

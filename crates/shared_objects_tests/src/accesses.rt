@@ -1,0 +1,124 @@
+//! Accesses of actors, and the stamps that they get.
+
+use crate::stage::{LOAD, Stage, add};
+use far_store::OwnStore;
+use memory::{Op, Reach};
+use shared_objects::{Fetched, Leave};
+use std::test::Fail;
+
+/// The greatest stamp.
+const LAST: u64 = 281_474_976_710_655;
+
+#[test]
+fn an_entry_has_the_next_stamp_of_its_actor_and_object(rt: HostRuntime) -> Result<(), Fail> {
+    let mut stage: Stage<OwnStore> = Stage::open(rt.alloc(), 3, 4)?;
+    for (actor, number, stamp) in [(0, 1, 1), (1, 1, 2), (1, 2, 3), (0, 2, 4)] {
+        assert_eq!(rt; stage.touch(actor, number, &LOAD), Reach::Done(0));
+        assert_eq!(rt; stage.actors[actor].stamp(), stamp);
+    }
+    stage.learn(2, 9);
+    assert_eq!(rt; stage.touch(2, 3, &LOAD), Reach::Done(0));
+    assert_eq!(rt; stage.actors[2].stamp(), 10);
+    stage.learn(3, LAST);
+    assert_eq!(rt; stage.touch(3, 3, &LOAD), Reach::Worn);
+    assert_eq!(rt; stage.actors[3].stamp(), LAST);
+    assert_eq!(rt; stage.touch(2, 3, &LOAD), Reach::Done(0));
+    Ok(())
+}
+
+#[test]
+fn one_actor(rt: HostRuntime) -> Result<(), Fail> {
+    let mut stage: Stage<OwnStore> = Stage::open(rt.alloc(), 1, 1)?;
+    for sum in 0..3 {
+        assert_eq!(rt; stage.touch(0, 1, &add(1)), Reach::Done(sum));
+    }
+    assert!(rt; matches!(stage.begin_leave(1), Leave::Held));
+    stage.close_scopes(0);
+    assert!(rt; stage.may_leave(1));
+    assert_eq!(rt; stage.touch(0, 1, &LOAD), Reach::Done(3));
+    Ok(())
+}
+
+#[test]
+fn read_back(rt: HostRuntime) -> Result<(), Fail> {
+    let mut stage: Stage<OwnStore> = Stage::open(rt.alloc(), 2, 2)?;
+    assert_eq!(rt; stage.touch(0, 2, &LOAD), Reach::Done(0));
+    assert_eq!(rt; stage.put(0, 1, 0, &[7]), Reach::Done(0));
+    let stamp = stage.actors[0].stamp();
+    stage.learn(1, stamp);
+    assert_eq!(rt; stage.touch(1, 1, &LOAD), Reach::Done(7));
+    assert!(rt; stage.actors[1].stamp() > stamp);
+    Ok(())
+}
+
+#[test]
+fn a_fifth_object_closes_the_oldest_scope(rt: HostRuntime) -> Result<(), Fail> {
+    let mut stage: Stage<OwnStore> = Stage::open(rt.alloc(), 6, 1)?;
+    for number in [1, 2, 3, 4, 1] {
+        assert_eq!(rt; stage.touch(0, number, &LOAD), Reach::Done(0));
+    }
+    for number in 1..5 {
+        assert!(rt; !stage.may_leave(number));
+    }
+    assert_eq!(rt; stage.touch(0, 5, &LOAD), Reach::Done(0));
+    for (number, leaves) in [(1, true), (2, false), (3, false), (4, false), (5, false)] {
+        assert_eq!(rt; stage.may_leave(number), leaves);
+    }
+    assert_eq!(rt; stage.touch(0, 6, &LOAD), Reach::Done(0));
+    assert!(rt; stage.may_leave(2));
+    assert!(rt; !stage.may_leave(3));
+    Ok(())
+}
+
+/// What was fetched, where it was.
+fn fetched(found: Fetched) -> Option<Vec<u8>> {
+    match found {
+        Fetched::Done(bytes) => Some(bytes),
+        _ => None,
+    }
+}
+
+#[test]
+fn ranges(rt: HostRuntime) -> Result<(), Fail> {
+    let mut stage: Stage<OwnStore> = Stage::open(rt.alloc(), 2, 1)?;
+    assert_eq!(rt; stage.put(0, 2, 6, &[1, 2]), Reach::Done(0));
+    let bytes = fetched(stage.get(0, 2, 5, 3)?);
+    assert!(rt; bytes.is_some_and(|bytes| bytes.as_slice() == [0, 1, 2].as_slice()));
+    let whole = fetched(stage.get(0, 1, 0, 8)?);
+    assert!(rt; whole.is_some_and(|bytes| bytes.as_slice() == [0; 8].as_slice()));
+    assert_eq!(rt; stage.put(0, 2, 7, &[1, 2]), Reach::Outside);
+    assert_eq!(rt; stage.put(0, 3, 0, &[1]), Reach::Outside);
+    assert_eq!(rt; stage.put(0, 2, u32::MAX, &[1]), Reach::Outside);
+    assert!(rt; matches!(stage.get(0, 2, 1, 8)?, Fetched::Outside));
+    assert!(rt; matches!(stage.get(0, 0, 0, 0)?, Fetched::Outside));
+    Ok(())
+}
+
+#[test]
+fn outside_is_no_step(rt: HostRuntime) -> Result<(), Fail> {
+    let mut stage: Stage<OwnStore> = Stage::open(rt.alloc(), 1, 1)?;
+    let over = Op { offset: 1, ..LOAD };
+    assert_eq!(rt; stage.touch(0, 1, &over), Reach::Outside);
+    assert_eq!(rt; stage.touch(0, 0, &LOAD), Reach::Outside);
+    assert_eq!(rt; stage.touch(0, 2, &LOAD), Reach::Outside);
+    assert_eq!(rt; stage.actors[0].stamp(), 0);
+    assert_eq!(rt; stage.cool(1), Some(false));
+    assert!(rt; stage.may_leave(1));
+    Ok(())
+}
+
+#[test]
+fn a_touch_heats(rt: HostRuntime) -> Result<(), Fail> {
+    let mut stage: Stage<OwnStore> = Stage::open(rt.alloc(), 2, 1)?;
+    assert_eq!(rt; stage.touch(0, 1, &LOAD), Reach::Done(0));
+    for (number, hot) in [
+        (1, Some(true)),
+        (1, Some(false)),
+        (2, Some(false)),
+        (0, None),
+        (3, None),
+    ] {
+        assert_eq!(rt; stage.cool(number), hot);
+    }
+    Ok(())
+}

@@ -1,0 +1,88 @@
+//! Bodies that leave and come back.
+
+use crate::stage::{Careless, LOAD, Stage, add, number_of};
+use far_store::OwnStore;
+use memory::Reach;
+use shared_objects::{Ended, Fetched, Leave};
+use std::alloc::Global;
+use std::test::Fail;
+
+#[test]
+fn undo(rt: HostRuntime) -> Result<(), Fail> {
+    let mut stage: Stage<OwnStore> = Stage::open(rt.alloc(), 1, 1)?;
+    assert_eq!(rt; stage.touch(0, 1, &add(5)), Reach::Done(0));
+    stage.close_scopes(0);
+    assert!(rt; stage.may_leave(1));
+    assert_eq!(rt; stage.touch(0, 1, &LOAD), Reach::Done(5));
+    stage.close_scopes(0);
+    assert!(rt; matches!(stage.begin_leave(1), Leave::Taken(_)));
+    assert!(rt; stage.end_leave(1));
+    assert!(rt; stage.begin_return(1));
+    assert!(rt; stage.undo_return(1));
+    assert_eq!(rt; stage.touch(0, 1, &LOAD), Reach::Away);
+    assert!(rt; stage.begin_return(1));
+    Ok(())
+}
+
+#[test]
+fn an_object_that_is_out_is_away(rt: HostRuntime) -> Result<(), Fail> {
+    let mut stage: Stage<OwnStore> = Stage::open(rt.alloc(), 2, 1)?;
+    assert!(rt; matches!(stage.begin_leave(1), Leave::Taken(_)));
+    assert!(rt; matches!(stage.begin_leave(1), Leave::Held));
+    assert_eq!(rt; stage.touch(0, 1, &LOAD), Reach::Away);
+    assert!(rt; stage.end_leave(1));
+    assert_eq!(rt; stage.touch(0, 1, &LOAD), Reach::Away);
+    assert_eq!(rt; stage.put(0, 1, 0, &[1]), Reach::Away);
+    assert!(rt; matches!(stage.get(0, 1, 0, 1)?, Fetched::Away));
+    assert!(rt; matches!(stage.get(0, 1, 8, 1)?, Fetched::Outside));
+    assert!(rt; matches!(stage.begin_leave(1), Leave::Held));
+    assert!(rt; matches!(stage.begin_leave(3), Leave::NoObject));
+    assert_eq!(rt; stage.touch(0, 2, &LOAD), Reach::Done(0));
+    Ok(())
+}
+
+#[test]
+fn bytes_of_another_length_are_handed_back(rt: HostRuntime) -> Result<(), Fail> {
+    let mut stage: Stage<Careless> = Stage::open(rt.alloc(), 1, 1)?;
+    assert!(rt; matches!(stage.begin_leave(1), Leave::Taken(_)));
+    assert!(rt; stage.end_leave(1));
+    assert!(rt; stage.begin_return(1));
+    let Some(Err(back)) = stage.end_return(1, vec![in rt.alloc(); 1u8; 9]?) else {
+        panic!(rt; "nine bytes for eight")
+    };
+    assert_eq!(rt; back.as_slice(), [1; 9].as_slice());
+    assert_eq!(rt; stage.touch(0, 1, &LOAD), Reach::Away);
+    let others = vec![in rt.alloc(); 1u8; 8]?;
+    assert!(rt; matches!(stage.end_return(1, others), Some(Ok(()))));
+    assert_eq!(rt;
+        stage.touch(0, 1, &LOAD),
+        Reach::Done(0x0101_0101_0101_0101)
+    );
+    Ok(())
+}
+
+/// Three objects: one far with 1, one here with 2 and 40, one on its way.
+fn moved(alloc: Global) -> Result<Stage<OwnStore>, Fail> {
+    let mut stage: Stage<OwnStore> = Stage::open(alloc, 3, 2)?;
+    let _ = stage.touch(0, 1, &add(1));
+    let _ = stage.touch(0, 2, &add(2));
+    stage.close_scopes(0);
+    let _ = stage.touch(1, 2, &add(40));
+    let _ = stage.begin_leave(1);
+    stage.end_leave(1);
+    let _ = stage.begin_leave(3);
+    Ok(stage)
+}
+
+#[test]
+fn a_table_closes_with_what_is_out(rt: HostRuntime) -> Result<(), Fail> {
+    let ended = moved(rt.alloc())?.close()?;
+    let numbers: Vec<Option<u64>> = ended.iter().map(number_of).collect(rt.alloc())?;
+    assert_eq!(rt; numbers.as_slice(), [None, None, Some(42), None].as_slice());
+    let out: Vec<bool> = ended
+        .iter()
+        .map(|one| matches!(one, Ended::Out))
+        .collect(rt.alloc())?;
+    assert_eq!(rt; out.as_slice(), [false, true, false, true].as_slice());
+    Ok(())
+}

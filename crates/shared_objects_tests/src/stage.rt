@@ -1,0 +1,259 @@
+//! A table of objects of eight bytes, with all its seats.
+ghost use Rattle.std.specs.Prelude.{◌≡◌, ◌<◌, ◌≤◌, false, length, IfOk};
+ghost use Rattle.std.proofs.Props.{props};
+ghost use Rattle.far_store.specs.Calls.{own_called};
+ghost use Rattle.shared_objects.specs.Tables.{IsMoverOf};
+ghost use Rattle.shared_objects_tests.specs.Stages.{AreSeatsOf};
+
+use far_store::{FarStore, OwnParcel, OwnStore, StoreFault};
+use isa_table::{AtomicOp, Size, Width};
+use memory::{Action, Op, Reach};
+use shared_objects::{
+    ActorSeat, Ended, Fetched, Leave, MoverSeat, OpenFault, Phase, Shared, SharedTable,
+};
+use std::alloc::{AllocError, Global};
+
+/// Eight bytes, read.
+pub const LOAD: Op = Op {
+    offset: 0,
+    action: Action::Load { size: Size::Double },
+};
+
+/// Adds a number to eight bytes.
+pub fn add(number: u64) -> Op {
+    Op {
+        offset: 0,
+        action: Action::Atomic {
+            width: Width::W64,
+            op: AtomicOp::Add,
+            src: number,
+            r0: 0,
+        },
+    }
+}
+
+/// So many bodies of eight zero bytes.
+pub fn bodies(alloc: Global, count: usize) -> Result<Vec<Vec<u8>>, AllocError>
+    ensures { IfOk result (λ v. length v.items ≡ count) }
+{
+    let mut bodies = Vec::new(alloc);
+    while bodies.len() < count {
+        bodies.push(vec![in alloc; 0u8; 8]?)?;
+    }
+    Ok(bodies)
+}
+
+/// A far store that doesn't promise to give back what was put.
+#[derive(Drop)]
+pub struct Careless {
+    store: OwnStore,
+}
+
+impl FarStore for Careless {
+    ghost RETURNS = { false };
+
+    const RETURNS: bool = false;
+
+    type Parcel = OwnParcel;
+
+    ghost bytes_in = { λ p. p.bytes };
+
+    ghost faults_of = { λ s. s.store };
+
+    ghost called = { λ s call t. own_called s.store call t.store };
+
+    fn put(&mut self, bytes: Vec<u8>) -> Result<OwnParcel, (StoreFault, Vec<u8>)> {
+        self.store.put(bytes)
+    }
+
+    fn get(&mut self, parcel: &OwnParcel) -> Result<Vec<u8>, StoreFault> {
+        self.store.get(parcel)
+    }
+
+    fn forget(&mut self, parcel: OwnParcel) {
+        self.store.forget(parcel);
+    }
+
+    fn faults(&self) -> u64 {
+        self.store.faults()
+    }
+}
+
+/// A table with all its seats. The first actor has the index 0.
+#[derive(Drop)]
+pub struct Stage<F: FarStore> {
+    pub shared: Shared<F>,
+    pub actors: Vec<ActorSeat>,
+    pub mover: MoverSeat,
+    pub ghost seats: { AreSeatsOf shared.table actors.items mover } by { Prim.hlevel props },
+}
+
+impl<F: FarStore> Stage<F> {
+    pub fn open(alloc: Global, objects: usize, actors: usize) -> Result<Stage<F>, OpenFault>
+        requires { (objects ≤ 1024) × (actors ≤ 56) }
+        ensures { IfOk result (λ s. length s.actors.items ≡ actors) }
+    {
+        let Ok(bodies) = bodies(alloc, objects) else {
+            return Err(OpenFault::Memory);
+        };
+        let (shared, actors, mover) = Shared::open(alloc, bodies, actors)?;
+        Ok(Stage {
+            shared,
+            actors,
+            mover,
+        })
+    }
+
+    pub fn touch(&mut self, who: usize, number: u32, op: &Op) -> Reach
+        requires { who < length self.old.actors.items }
+        ensures { length self.new.actors.items ≡ length self.old.actors.items }
+    {
+        self.shared.table().touch(&mut self.actors[who], number, op)
+    }
+
+    pub fn put(&mut self, who: usize, number: u32, offset: u32, bytes: &[u8]) -> Reach
+        requires { who < length self.old.actors.items }
+        ensures { length self.new.actors.items ≡ length self.old.actors.items }
+    {
+        self.shared
+            .table()
+            .put(&mut self.actors[who], number, offset, bytes)
+    }
+
+    pub fn get(
+        &mut self,
+        who: usize,
+        number: u32,
+        offset: u32,
+        count: u32,
+    ) -> Result<Fetched, AllocError>
+        requires { who < length self.old.actors.items }
+        ensures { length self.new.actors.items ≡ length self.old.actors.items }
+    {
+        self.shared
+            .table()
+            .get(&mut self.actors[who], number, offset, count)
+    }
+
+    pub fn close_scopes(&mut self, who: usize)
+        requires { who < length self.old.actors.items }
+        ensures { length self.new.actors.items ≡ length self.old.actors.items }
+    {
+        self.shared.table().close_scopes(&mut self.actors[who]);
+    }
+
+    pub fn learn(&mut self, who: usize, stamp: u64)
+        requires { who < length self.old.actors.items }
+        ensures { length self.new.actors.items ≡ length self.old.actors.items }
+    {
+        self.actors[who].learn(stamp);
+    }
+
+    pub fn begin_leave(&mut self, number: u32) -> Leave
+        ensures { length self.new.actors.items ≡ length self.old.actors.items }
+    {
+        self.shared.table().begin_leave(&mut self.mover, number)
+    }
+
+    /// Where the body may leave it does, and comes home as it was.
+    pub fn may_leave(&mut self, number: u32) -> bool
+        ensures { length self.new.actors.items ≡ length self.old.actors.items }
+    {
+        may_leave(self.shared.table(), &mut self.mover, number)
+    }
+
+    pub fn end_leave(&mut self, number: u32) -> bool
+        ensures { length self.new.actors.items ≡ length self.old.actors.items }
+    {
+        let moving = self.mover.phase(number) == Phase::Moving;
+        if moving {
+            self.shared.table().end_leave(&mut self.mover, number);
+        }
+        moving
+    }
+
+    pub fn begin_return(&mut self, number: u32) -> bool
+        ensures { length self.new.actors.items ≡ length self.old.actors.items }
+    {
+        let far = self.mover.phase(number) == Phase::Far;
+        if far {
+            self.shared.table().begin_return(&mut self.mover, number);
+        }
+        far
+    }
+
+    pub fn undo_return(&mut self, number: u32) -> bool
+        ensures { length self.new.actors.items ≡ length self.old.actors.items }
+    {
+        let moving = self.mover.phase(number) == Phase::Moving;
+        if moving {
+            self.shared.table().undo_return(&mut self.mover, number);
+        }
+        moving
+    }
+
+    pub fn end_return(&mut self, number: u32, bytes: Vec<u8>) -> Option<Result<(), Vec<u8>>>
+        requires { F.RETURNS ≡ false }
+        ensures { length self.new.actors.items ≡ length self.old.actors.items }
+    {
+        if self.mover.phase(number) != Phase::Moving {
+            return None;
+        }
+        Some(
+            self.shared
+                .table()
+                .end_return(&mut self.mover, number, bytes),
+        )
+    }
+
+    pub fn cool(&mut self, number: u32) -> Option<bool>
+        ensures { length self.new.actors.items ≡ length self.old.actors.items }
+    {
+        self.shared.table().cool(&mut self.mover, number)
+    }
+
+    pub fn close(self) -> Result<Vec<Ended>, AllocError> {
+        let Stage {
+            shared,
+            actors,
+            mover,
+        } = self;
+        shared.close(mover, actors)
+    }
+}
+
+/// Where the body may leave it does, and comes home as it was.
+pub fn may_leave(table: &SharedTable, mover: &mut MoverSeat, number: u32) -> bool
+    requires { IsMoverOf table.now mover.old }
+    ensures mover { IsMoverOf table.now mover.new }
+    ensures others { (mover.new.seat.me.0.gathered ≡ mover.old.seat.me.0.gathered) × (mover.new.seat.me.0.alive ≡ mover.old.seat.me.0.alive) }
+{
+    let Leave::Taken(bytes) = table.begin_leave(mover, number) else {
+        return false;
+    };
+    table.undo_leave(mover, number, bytes);
+    true
+}
+
+/// The body goes to the far place and back, where it may leave.
+pub fn goes_and_returns(table: &SharedTable, mover: &mut MoverSeat, number: u32) -> bool
+    requires { IsMoverOf table.now mover.old }
+    ensures mover { IsMoverOf table.now mover.new }
+    ensures others { (mover.new.seat.me.0.gathered ≡ mover.old.seat.me.0.gathered) × (mover.new.seat.me.0.alive ≡ mover.old.seat.me.0.alive) }
+{
+    let Leave::Taken(bytes) = table.begin_leave(mover, number) else {
+        return false;
+    };
+    table.end_leave(mover, number);
+    table.begin_return(mover, number);
+    table.end_return(mover, number, bytes).is_ok()
+}
+
+/// The eight bytes of an object that is here as a number, the least first.
+pub fn number_of(ended: &Ended) -> Option<u64> {
+    let Ended::Here(bytes) = ended else {
+        return None;
+    };
+    let bytes: [u8; 8] = bytes.as_slice().try_into().ok()?;
+    Some(u64::from_le_bytes(bytes))
+}
