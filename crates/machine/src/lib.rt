@@ -6,6 +6,7 @@ mod grants;
 mod jumps;
 mod laws;
 mod machine;
+mod outcomes;
 mod registers;
 mod rows;
 mod state;

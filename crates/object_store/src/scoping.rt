@@ -1,6 +1,6 @@
 //! Which objects the windows hold.
 ghost use Rattle.std.specs.Prelude.{◌≡◌, ◌<◌, ◌≤◌, ◌+◌, ◌-◌, [], false, length, map, set, get_or, IfSome};
-ghost use Rattle.scopes.specs.Windows.{holds, noted};
+ghost use Rattle.scopes.specs.Windows.{holds, noted, pushed_out};
 ghost use Rattle.object_store.specs.Stores.{window_count, window_of};
 ghost use Rattle.object_store.specs.Bodies.{CountsHold, lessened, bytes_in, place_in, scopes_in, sent_in};
 
@@ -60,28 +60,27 @@ pub fn note<F: FarStore>(bodies: &mut [Body<F>], windows: &mut [Window], who: us
     ensures places { map place_in bodies.new ≡ map place_in bodies.old }
     ensures sent { map sent_in bodies.new ≡ map sent_in bodies.old }
 {
-    let window = &windows[who];
+    let window = &mut windows[who];
     if window.holds(number) {
         return;
     }
-    note_new(bodies, windows, who, number);
+    note_new(bodies, window, number);
 }
 
-/// Notes a number that the window of a machine doesn't hold.
+/// Notes a number that a window doesn't hold, and counts it in place of the one that it pushes out.
 #[cold]
 #[inline(never)]
-fn note_new<F: FarStore>(bodies: &mut [Body<F>], windows: &mut [Window], who: usize, number: u32)
-    requires machine { (who < length windows.old) × (length windows.old ≤ window_count) }
+fn note_new<F: FarStore>(bodies: &mut [Body<F>], window: &mut Window, number: u32)
     requires object { number < length bodies.old }
-    requires new { holds number (window_of windows.old who) ≡ false }
-    requires counts { CountsHold (map scopes_in bodies.old) windows.old }
-    ensures counts { CountsHold (map scopes_in bodies.new) windows.new }
-    ensures windows { windows.new ≡ set windows.old who (noted number (window_of windows.old who)) }
+    requires new { holds number window.old ≡ false }
+    requires held { IfSome (pushed_out number window.old) (λ n. 0 < get_or (map scopes_in bodies.old) n 0) }
+    requires fits { get_or (lessened (pushed_out number window.old) (map scopes_in bodies.old)) number 0 < 255 }
+    ensures window { window.new ≡ noted number window.old }
+    ensures counts { map scopes_in bodies.new ≡ set (lessened (pushed_out number window.old) (map scopes_in bodies.old)) number (get_or (lessened (pushed_out number window.old) (map scopes_in bodies.old)) number 0 + 1) }
     ensures bytes { map bytes_in bodies.new ≡ map bytes_in bodies.old }
     ensures places { map place_in bodies.new ≡ map place_in bodies.old }
     ensures sent { map sent_in bodies.new ≡ map sent_in bodies.old }
 {
-    let window = &mut windows[who];
     let out = window.note_new(number);
     end_pushed(bodies, out);
     open_scope(bodies, number as usize);
