@@ -91,7 +91,7 @@ module _ (returns : Bool) (key : List (List ℕ)) (s : St) (o : Kept returns key
 mark_more : (returns : Bool) (key : List (List ℕ)) (s : St) (o : Kept returns key s) (id : ℕ) (v : View) (new : Mark) → get_elem? s.views id ≡ some v → MarkFits o.logs new → (m : Mark) → Has (v.marks ++ new ∷ []) m → MarkFits o.logs m
 mark_more returns key s o id v new me h m has = ⊎_elim (λ old. (o.knows id v me).marks m old) (λ e. subst (MarkFits o.logs) e h) (has_snoc v.marks new m has)
 
--- K1
+-- open scope
 pub opens_ok : (returns : Bool) (key : List (List ℕ)) (slots id : ℕ) (m : Sat) (n : ℕ) → n < slots → has_open n m.0 + has_pass n m.0 ≡ 0 → m.0.live ≡ true → m.0.made ≡ 0 → m.0.turn ≡ None
     → Allows (Kept returns key) slots id m (word_of n) (λ x. (x + 256) % 2 ^ 64) (opens_scope (step slots (word_of n) 256 0 none) m)
 opens_ok returns key slots id m n lt shut alive_ young free s o wide me small =
@@ -163,7 +163,7 @@ opens_ok returns key slots id m n lt shut alive_ young free s o wide me small =
       ((λ q. let q' : x % 4 ≡ 0 = q in absurd (is_away (omega (arith, f.word_is, f.one_out, q')))), λ _. ap (λ j. (passed j v, m.1)) (sym (object_home n))),
     ))
 
--- K2, of a number that was open
+-- close scope, of a number that was open
 pub closes_ok : (returns : Bool) (key : List (List ℕ)) (slots id : ℕ) (m : Sat) (n : ℕ) → n < slots → has_open n m.0 ≡ 1 → m.0.live ≡ true → m.0.made ≡ 0 → m.0.turn ≡ None
     → Allows (Kept returns key) slots id m (word_of n) (λ x. (x + (2 ^ 64 - 256)) % 2 ^ 64) (closes_scope (step slots (word_of n) 256 0 none) m)
 closes_ok returns key slots id m n lt held alive_ young free s o wide me small =
@@ -201,7 +201,7 @@ closes_ok returns key slots id m n lt held alive_ young free s o wide me small =
       ap (λ j. (closed j v, m.1)) (sym (object_home n)),
     )
 
--- K2, of a number that was found away
+-- close scope, of a number that was found away
 pub leaves_ok : (returns : Bool) (key : List (List ℕ)) (slots id : ℕ) (m : Sat) (n : ℕ) → n < slots → has_pass n m.0 ≡ 1 → m.0.live ≡ true → m.0.made ≡ 0
     → Allows (Kept returns key) slots id m (word_of n) (λ x. (x + (2 ^ 64 - 256)) % 2 ^ 64) (leaves_pass (step slots (word_of n) 256 0 none) m)
 leaves_ok returns key slots id m n lt held alive_ young s o wide me small =
@@ -239,7 +239,7 @@ leaves_ok returns key slots id m n lt held alive_ young s o wide me small =
       ap (λ j. (left j v, m.1)) (sym (object_home n)),
     )
 
--- K3, of an object that is open
+-- take turn, of an object that is open
 pub turns_ok : (returns : Bool) (key : List (List ℕ)) (slots id : ℕ) (m : Sat) (n : ℕ) → n < slots → m.0.turn ≡ None → has_open n m.0 ≡ 1 → length m.0.scopes ≤ 4 → m.0.live ≡ true → m.0.made ≡ 0
     → Allows (Kept returns key) slots id m (word_of n) (λ x. bit_or x 12) (takes_turn (step slots (word_of n) 12 0 none) m)
 turns_ok returns key slots id m n lt free opened_ few_scopes alive_ young s o wide me small =
@@ -337,7 +337,7 @@ turns_ok returns key slots id m n lt free opened_ few_scopes alive_ young s o wi
       (refl, (λ zero. let q : x / 4 % 2 ≡ 0 = zero in absurd (omega (arith, f.one_turn, q))), λ _. ap (λ j. (marked (Busy j) v, m.1)) (sym (object_home n))),
     ))
 
--- K4: the turn ends with one entry more, which carries the bytes on
+-- give turn: it ends with one entry more, which carries the bytes on
 pub records_ok : (returns : Bool) (key : List (List ℕ)) (slots id : ℕ) (m : Sat) (t : Turn) (body : Body) (more : List (ℕ × Body)) (e : Entry) (k : ℕ)
     → t.object < slots → m.1 ≡ (t.object, body) ∷ more → m.0.turn ≡ Some t
     → e.actor ≡ m.0.actor → e.object ≡ t.object → e.found ≡ t.stamp → EndsInside e.deed (length t.bytes) → t.stamp < e.stamp → top 0 m.0.entries < e.stamp → e.stamp < 2 ^ 48
@@ -413,7 +413,7 @@ records_ok returns key slots id m t body more e k lt carried has by on found_is 
     let P : List (ℕ × Body) → Type 0 = λ c. (w : View) × (a : Act Body) × Rattle.atomic_table.specs.Table.Valid s.homes c a × Kept returns key (Rattle.atomic_table.specs.Table.stepped s (word_of n) ((x + k) % 2 ^ 64) id c w a) × gives_turn e (step slots (word_of n) k 0 none) (v, c) x (w, Rattle.atomic_table.specs.Table.carried_after c a) in
     subst P (sym carried) (w, gives, tt, kept, refl)
 
--- K4: the turn ends with no entry
+-- give turn: it ends with no entry
 pub wears_ok : (returns : Bool) (key : List (List ℕ)) (slots id : ℕ) (m : Sat) (t : Turn) (body : Body) (more : List (ℕ × Body))
     → t.object < slots → m.1 ≡ (t.object, body) ∷ more → m.0.turn ≡ Some t → body.bytes.items ≡ t.bytes → m.0.live ≡ true → m.0.made ≡ 0
     → Allows (Kept returns key) slots id m (word_of t.object) (λ x. (x + (2 ^ 64 - 4)) % 2 ^ 64) (gives_up_turn (step slots (word_of t.object) 4 0 none) m)

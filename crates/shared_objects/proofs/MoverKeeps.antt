@@ -43,7 +43,7 @@ altered returns key s o id v n p me alive_ wide stands = let k = o.knows id v me
     (λ ne. k.out m bytes (sym (ap taken (placed_else v n p m ne)) ∙ e)))
     k.opens_once
 
--- K5: the word was that of an object that is here, with no scope open and no turn held
+-- begin leave: the word was that of an object that is here, with no scope open and no turn held
 pub lifts_ok : (returns : Bool) (key : List (List ℕ)) (slots id : ℕ) (m : Sat) (n old next : ℕ) → n < slots → (old % 65536 ≡ 0) ⊎ (old % 65536 ≡ 8) → next ≡ old - old % 65536 + 1 → n < length m.0.out → m.0.live ≡ true
     → Allows (Kept returns key) slots id m (word_of n) (λ y. either (eqb y old) next y) (begins_leave (step slots (word_of n) old next none) m)
 lifts_ok returns key slots id m n old next lt quiet next_is wide alive_ s o long me small =
@@ -244,7 +244,7 @@ cools_ok returns key slots id m n lt alive_ s o long me small =
       (refl, ap (λ j. (cooled j (nat_eq (x / 8 % 2) 1) v, m.1)) (sym (object_home n))),
     )
 
--- K8: the body is back. It is as long as the opening bytes, and what was taken where the store gives back what was put
+-- end return: the body is back. It is as long as the opening bytes, and what was taken where the store gives back what was put
 pub lands_ok : (returns : Bool) (key : List (List ℕ)) (slots id : ℕ) (m : Sat) (n : ℕ) (bytes : List ℕ) (body : Body) (more : List (ℕ × Body)) → n < slots → m.1 ≡ (n, body) ∷ more
     → place_of m.0 n ≡ Moving bytes → (length bytes ≡ length (bytes_of key n) → length body.bytes.items ≡ length (bytes_of key n)) → (returns ≡ true → body.bytes.items ≡ bytes) → n < length m.0.out → m.0.live ≡ true
     → Allows (Kept returns key) slots id m (word_of n) (λ x. (x + (2 ^ 64 - 1)) % 2 ^ 64) (ends_return (step slots (word_of n) 1 0 none) m)
