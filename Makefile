@@ -46,11 +46,13 @@ C_RUNTIME := $(dir $(realpath $(RT)))../c/liblibc_c.a
 # machine instructions, which repeat exactly on a busy machine too.
 bench: $(PROGRAM)
 	@mkdir -p $(BENCH)
-	@cd crates/bench_steps && $(RT) lib >/dev/null
-	@$(CC) -O2 -o $(BENCH)/steps bench/steps.c bench/flat.c crates/bench_steps/out/libbench_steps.a $(C_RUNTIME)
+	@for side in steps runs; do (cd crates/bench_$$side && $(RT) lib >/dev/null) && $(CC) -O2 -o $(BENCH)/$$side bench/steps.c bench/flat.c crates/bench_$$side/out/libbench_$$side.a $(C_RUNTIME) || exit 1; done
 	@$(CC) -O2 -o $(BENCH)/lines bench/lines.c bench/flat.c
-	@python3 bench/counts.py $(BENCH)/steps bench/programs > $(BENCH)/counts
-	@$(BENCH)/steps bench/programs $(BENCH)/counts
+	@for side in steps runs; do python3 bench/counts.py $(BENCH)/$$side bench/programs > $(BENCH)/counts_$$side; done
+	@echo "Machine::step, called once an instruction"
+	@$(BENCH)/steps bench/programs $(BENCH)/counts_steps
+	@echo "Machine::run, called once a program"
+	@$(BENCH)/runs bench/programs $(BENCH)/counts_runs
 	@python3 -B bench/lines.py $(PROGRAM) $(BENCH)/lines
 	@python3 bench/assembly.py $(PROGRAM)
 	@cd crates/bench_shared && $(RT) run >/dev/null

@@ -4,7 +4,8 @@
 counts.py STEPS FOLDER > COUNTS
 
 For each program that STEPS measures a line: those of a step of the agent, those of a step of the flat interpreter in C, and the
-program's name; and one of a load of the agent in an open scope and in a new one. Each is the difference of two runs of different
+program's name; one of a load of the agent in an open scope and in a new one, and one of a
+load where all objects are granted and where 16 are. Each is the difference of two runs of different
 length by the instructions of the program that ran between them. Nothing is written where there is no valgrind.
 """
 import re
@@ -40,6 +41,7 @@ def main():
         return
     measured = [(name, ("agent", name), ("flat", name)) for name in PROGRAMS]
     measured.append(("loads, open and new scope", ("agent", "loads, open scope"), ("agent", "loads, new scope")))
+    measured.append(("loads, all and 16 granted", ("agent", "loads"), ("agent", "loads, 16 granted")))
     for name, *sides in measured:
         one, other = (of_a_step(sys.argv[1], sys.argv[2], *side) for side in sides)
         print(f"{one:.2f} {other:.2f} {name}", flush=True)

@@ -7,9 +7,9 @@
 #include <string.h>
 #include <time.h>
 
-/* The code in the last of so many machines, beside so many objects: the first of 65,536 bytes. Gives R0 as it stops, and how
-   many instructions ran. */
-uint64_t bpf_run(const uint8_t *code, size_t length, uint64_t fuel, uint64_t argument, uint32_t objects, size_t machines, uint64_t *steps);
+/* The code in the last of so many machines, beside so many objects: the first of 65,536 bytes. It is granted so many of them, or
+   all where that is 0. Gives R0 as it stops, and how many instructions ran. */
+uint64_t bpf_run(const uint8_t *code, size_t length, uint64_t fuel, uint64_t argument, uint32_t objects, size_t machines, size_t granted, uint64_t *steps);
 
 #define RUNS 101
 #define STEPS 400000
@@ -22,11 +22,11 @@ struct code {
     size_t length;
 };
 
-/* What R1 is, and beside how many objects and machines the code runs. */
+/* What R1 is, beside how many objects and machines the code runs, and how many objects are granted. */
 struct setting {
     uint64_t argument;
     uint32_t objects;
-    size_t machines;
+    size_t machines, granted;
 };
 
 /* R0 at the end, and how many instructions ran before the stop. */
@@ -89,9 +89,9 @@ static struct counts tell_counts(const char *name)
 static double ours(const struct code *c, uint64_t fuel, const struct setting *s, struct outcome *o)
 {
     double a = now();
-    bpf_run(c->bytes, c->length, 0, s->argument, s->objects, s->machines, &o->steps);
+    bpf_run(c->bytes, c->length, 0, s->argument, s->objects, s->machines, s->granted, &o->steps);
     double b = now();
-    o->result = bpf_run(c->bytes, c->length, fuel, s->argument, s->objects, s->machines, &o->steps);
+    o->result = bpf_run(c->bytes, c->length, fuel, s->argument, s->objects, s->machines, s->granted, &o->steps);
     return now() - b - (b - a);
 }
 
@@ -124,7 +124,7 @@ struct timed {
 /* One run of both. */
 static void run_both(struct timed *t, int k)
 {
-    static const struct setting one = { OBJECT(1), 1, 1 };
+    static const struct setting one = { OBJECT(1), 1, 1, 0 };
     struct outcome other;
     t->ours[k] = ours(&t->code, t->fuel, &one, &t->outcome);
     t->theirs[k] = theirs(t->decoded, t->fuel, &other);
@@ -312,15 +312,22 @@ static struct code loads_in_new(void)
 
 static const char *const compiled_names[COMPILED] = { "checksum", "gcd", "sieve", "sort", "table" };
 
-/* Programs made here: the first are those compared with C, the others load beside five objects. */
+/* Programs made here: the first are those compared with C, the others load beside five objects, or with 16 grants. */
 static const struct {
     const char *name;
     struct code (*code)(void);
     uint32_t objects;
+    size_t granted;
 } made[] = {
-    { "counting loop", counting, 1 },      { "straight arithmetic", straight, 1 },   { "nested calls", calls, 1 },
-    { "loads", loads, 1 },                 { "stores", stores, 1 },                  { "atomic operations", atomics, 1 },
-    { "loads, open scope", loads_in_open, 5 }, { "loads, new scope", loads_in_new, 5 },
+    { "counting loop", counting, 1, 0 },
+    { "straight arithmetic", straight, 1, 0 },
+    { "nested calls", calls, 1, 0 },
+    { "loads", loads, 1, 0 },
+    { "stores", stores, 1, 0 },
+    { "atomic operations", atomics, 1, 0 },
+    { "loads, open scope", loads_in_open, 5, 0 },
+    { "loads, new scope", loads_in_new, 5, 0 },
+    { "loads, 16 granted", loads, 1, 16 },
 };
 
 static void compiled(const char *folder)
@@ -353,13 +360,14 @@ static int run_once(const char *folder, const char *side, const char *name, uint
 {
     static struct code c;
     static struct flat_instr decoded[CODE_LIMIT / 8];
-    struct setting s = { OBJECT(1), 1, 1 };
+    struct setting s = { OBJECT(1), 1, 1, 0 };
     struct outcome o = { 0, 0 };
     size_t n = 0;
     while (n < sizeof made / sizeof *made && strcmp(made[n].name, name)) n++;
     if (n < sizeof made / sizeof *made) {
         c = made[n].code();
         s.objects = made[n].objects;
+        s.granted = made[n].granted;
     } else {
         stored(folder, name, &c);
     }
@@ -367,7 +375,7 @@ static int run_once(const char *folder, const char *side, const char *name, uint
         flat_decode(decoded, c.bytes, c.length / 8);
         theirs(decoded, fuel, &o);
     } else {
-        o.result = bpf_run(c.bytes, c.length, fuel, s.argument, s.objects, s.machines, &o.steps);
+        o.result = bpf_run(c.bytes, c.length, fuel, s.argument, s.objects, s.machines, s.granted, &o.steps);
     }
     printf("%llu %llu\n", (unsigned long long)o.steps, (unsigned long long)o.result);
     return 0;
@@ -375,12 +383,13 @@ static int run_once(const char *folder, const char *side, const char *name, uint
 
 static void growth(void)
 {
-    const struct setting alone = { OBJECT(1), 1, 1 }, many_objects = { OBJECT(1024), 1024, 1 };
-    const struct setting many_machines = { OBJECT(1), 1, 48 }, five_objects = { OBJECT(1), 5, 1 };
+    const struct setting alone = { OBJECT(1), 1, 1, 0 }, many_objects = { OBJECT(1024), 1024, 1, 0 };
+    const struct setting many_machines = { OBJECT(1), 1, 48, 0 }, five_objects = { OBJECT(1), 5, 1, 0 }, sixteen_grants = { OBJECT(1), 1, 1, 16 };
     const struct code c = loads(), same = loads_in_turn(0), other = loads_in_turn(1);
     scales("loads, 1 and 1024 objects", &c, alone, &c, many_objects);
     scales("loads, 1 and 48 machines", &c, alone, &c, many_machines);
     scales("loads, open and new scope", &same, five_objects, &other, five_objects);
+    scales("loads, all and 16 granted", &c, alone, &c, sixteen_grants);
 }
 
 /* steps FOLDER [COUNTS]: the folder has the code of the compiled programs, the file what was counted of each program.
