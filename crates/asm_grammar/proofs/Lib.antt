@@ -6,3 +6,4 @@ pub mod Rewritten
 pub mod Formed
 pub mod Unknown
 pub mod Ranges
+pub mod Blamed

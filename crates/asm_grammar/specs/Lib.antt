@@ -5,3 +5,4 @@ pub mod Reading
 pub mod Reasons
 pub mod Views
 pub mod Canonical
+pub mod Blame

@@ -1,6 +1,7 @@
 //! What a line of assembly says: its label, and its instruction under given labels.
 #![tactic(auto)]
 
+mod blame;
 mod gather;
 mod line;
 mod reading;
@@ -8,6 +9,7 @@ mod taking;
 mod why;
 mod written;
 
+pub use blame::blamed_token;
 pub use gather::{Gathered, Labels};
 pub use line::{outline, read_line};
 pub use why::Why;

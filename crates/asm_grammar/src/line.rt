@@ -37,7 +37,8 @@ fn finish(m: Mnemonic, gathered: Option<Gathered>) -> Result<Option<Instr>, Why>
 
 /// After `call`: with the word `local` it is `call local`.
 fn read_called<'a>(tokens: &mut Tokens<'a>) -> Mnemonic
-    ensures { after_call (lexemes_left tokens.old) ≡ (result, lexemes_left tokens.new) }
+    ensures called { after_call (lexemes_left tokens.old) ≡ (result, lexemes_left tokens.new) }
+    ensures line { tokens.new.line.now ≡ tokens.old.line.now }
 {
     let mut ahead = *tokens;
     if let Some(found) = ahead.next() {
@@ -52,8 +53,9 @@ fn read_called<'a>(tokens: &mut Tokens<'a>) -> Mnemonic
 }
 
 /// The mnemonic of which this token is the first.
-fn read_mnemonic<'a>(first: Token<'a>, tokens: &mut Tokens<'a>) -> Option<Mnemonic>
-    ensures { MatchOption result (mnemonic_at (lexeme_seen first.entry ∷ lexemes_left tokens.old) ≡ None) (λ m. mnemonic_at (lexeme_seen first.entry ∷ lexemes_left tokens.old) ≡ Some (m, lexemes_left tokens.new)) }
+pub(crate) fn read_mnemonic<'a>(first: Token<'a>, tokens: &mut Tokens<'a>) -> Option<Mnemonic>
+    ensures mnemonic { MatchOption result (mnemonic_at (lexeme_seen first.entry ∷ lexemes_left tokens.old) ≡ None) (λ m. mnemonic_at (lexeme_seen first.entry ∷ lexemes_left tokens.old) ≡ Some (m, lexemes_left tokens.new)) }
+    ensures line { tokens.new.line.now ≡ tokens.old.line.now }
 {
     match first {
         Token::Name(word) => match Mnemonic::named(word) {
@@ -84,9 +86,10 @@ fn read_body<'a>(
 }
 
 /// A line's label, and the tokens after it.
-fn split<'a>(line: &'a [u8]) -> (Option<&'a [u8]>, Tokens<'a>)
+pub(crate) fn split<'a>(line: &'a [u8]) -> (Option<&'a [u8]>, Tokens<'a>)
     ensures label { label_seen result.0 ≡ label_of (tokens line.now) }
     ensures rest { lexemes_left result.1 ≡ after_label (tokens line.now) }
+    ensures line { result.1.line.now ≡ line.now }
 {
     let mut rest = Tokens::new(line);
     match rest.next() {
@@ -105,7 +108,7 @@ fn split<'a>(line: &'a [u8]) -> (Option<&'a [u8]>, Tokens<'a>)
 }
 
 /// Whether a byte of the line begins no token.
-fn has_stray(line: &[u8]) -> bool
+pub(crate) fn has_stray(line: &[u8]) -> bool
     ensures { result ≡ has_stray (tokens line.now) }
 {
     let mut rest = Tokens::new(line);

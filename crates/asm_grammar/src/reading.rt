@@ -10,7 +10,8 @@ use asm_text::{Token, Tokens};
 
 /// The number after a sign.
 fn signed<'a>(tokens: &mut Tokens<'a>, sign: Sign) -> Option<Written<'a>>
-    ensures { MatchOption result (signed_at sign (lexemes_left tokens.old) ≡ None) (λ w. signed_at sign (lexemes_left tokens.old) ≡ Some (written_seen w, lexemes_left tokens.new)) }
+    ensures operand { MatchOption result (signed_at sign (lexemes_left tokens.old) ≡ None) (λ w. signed_at sign (lexemes_left tokens.old) ≡ Some (written_seen w, lexemes_left tokens.new)) }
+    ensures line { tokens.new.line.now ≡ tokens.old.line.now }
 {
     match tokens.next() {
         Some(found) => match found.token {
@@ -23,7 +24,8 @@ fn signed<'a>(tokens: &mut Tokens<'a>, sign: Sign) -> Option<Written<'a>>
 
 /// A closing bracket after an operand.
 fn close<'a>(tokens: &mut Tokens<'a>, w: Written<'a>) -> Option<Written<'a>>
-    ensures { MatchOption result (close_at (written_seen w.entry) (lexemes_left tokens.old) ≡ None) (λ v. close_at (written_seen w.entry) (lexemes_left tokens.old) ≡ Some (written_seen v, lexemes_left tokens.new)) }
+    ensures operand { MatchOption result (close_at (written_seen w.entry) (lexemes_left tokens.old) ≡ None) (λ v. close_at (written_seen w.entry) (lexemes_left tokens.old) ≡ Some (written_seen v, lexemes_left tokens.new)) }
+    ensures line { tokens.new.line.now ≡ tokens.old.line.now }
 {
     match tokens.next() {
         Some(found) => match found.token {
@@ -36,7 +38,8 @@ fn close<'a>(tokens: &mut Tokens<'a>, w: Written<'a>) -> Option<Written<'a>>
 
 /// A number and a closing bracket.
 fn offset<'a>(tokens: &mut Tokens<'a>, name: &'a [u8], sign: Sign) -> Option<Written<'a>>
-    ensures { MatchOption result (offset_at name.now sign (lexemes_left tokens.old) ≡ None) (λ v. offset_at name.now sign (lexemes_left tokens.old) ≡ Some (written_seen v, lexemes_left tokens.new)) }
+    ensures operand { MatchOption result (offset_at name.now sign (lexemes_left tokens.old) ≡ None) (λ v. offset_at name.now sign (lexemes_left tokens.old) ≡ Some (written_seen v, lexemes_left tokens.new)) }
+    ensures line { tokens.new.line.now ≡ tokens.old.line.now }
 {
     match tokens.next() {
         Some(found) => match found.token {
@@ -49,7 +52,8 @@ fn offset<'a>(tokens: &mut Tokens<'a>, name: &'a [u8], sign: Sign) -> Option<Wri
 
 /// What stands after the register in brackets.
 fn base<'a>(tokens: &mut Tokens<'a>, name: &'a [u8]) -> Option<Written<'a>>
-    ensures { MatchOption result (base_at name.now (lexemes_left tokens.old) ≡ None) (λ v. base_at name.now (lexemes_left tokens.old) ≡ Some (written_seen v, lexemes_left tokens.new)) }
+    ensures operand { MatchOption result (base_at name.now (lexemes_left tokens.old) ≡ None) (λ v. base_at name.now (lexemes_left tokens.old) ≡ Some (written_seen v, lexemes_left tokens.new)) }
+    ensures line { tokens.new.line.now ≡ tokens.old.line.now }
 {
     match tokens.next() {
         Some(found) => match found.token {
@@ -64,7 +68,8 @@ fn base<'a>(tokens: &mut Tokens<'a>, name: &'a [u8]) -> Option<Written<'a>>
 
 /// What stands after an opening bracket.
 fn memory<'a>(tokens: &mut Tokens<'a>) -> Option<Written<'a>>
-    ensures { MatchOption result (memory_at (lexemes_left tokens.old) ≡ None) (λ v. memory_at (lexemes_left tokens.old) ≡ Some (written_seen v, lexemes_left tokens.new)) }
+    ensures operand { MatchOption result (memory_at (lexemes_left tokens.old) ≡ None) (λ v. memory_at (lexemes_left tokens.old) ≡ Some (written_seen v, lexemes_left tokens.new)) }
+    ensures line { tokens.new.line.now ≡ tokens.old.line.now }
 {
     match tokens.next() {
         Some(found) => match found.token {
@@ -77,7 +82,8 @@ fn memory<'a>(tokens: &mut Tokens<'a>) -> Option<Written<'a>>
 
 /// The operand at the front.
 fn operand<'a>(tokens: &mut Tokens<'a>) -> Option<Written<'a>>
-    ensures { MatchOption result (operand_at (lexemes_left tokens.old) ≡ None) (λ v. operand_at (lexemes_left tokens.old) ≡ Some (written_seen v, lexemes_left tokens.new)) }
+    ensures operand { MatchOption result (operand_at (lexemes_left tokens.old) ≡ None) (λ v. operand_at (lexemes_left tokens.old) ≡ Some (written_seen v, lexemes_left tokens.new)) }
+    ensures line { tokens.new.line.now ≡ tokens.old.line.now }
 {
     match tokens.next() {
         Some(found) => match found.token {
@@ -94,7 +100,8 @@ fn operand<'a>(tokens: &mut Tokens<'a>) -> Option<Written<'a>>
 
 /// The operand at the front, after a comma unless it is the first.
 pub fn next_operand<'a>(tokens: &mut Tokens<'a>, first: bool) -> Option<Written<'a>>
-    ensures { MatchOption result (next_operand first (lexemes_left tokens.old) ≡ None) (λ v. next_operand first (lexemes_left tokens.old) ≡ Some (written_seen v, lexemes_left tokens.new)) }
+    ensures operand { MatchOption result (next_operand first (lexemes_left tokens.old) ≡ None) (λ v. next_operand first (lexemes_left tokens.old) ≡ Some (written_seen v, lexemes_left tokens.new)) }
+    ensures line { tokens.new.line.now ≡ tokens.old.line.now }
 {
     if first {
         return operand(tokens);

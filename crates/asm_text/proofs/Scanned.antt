@@ -1,6 +1,8 @@
 -- Tokens at the front of what is left of a line.
-use Rattle.std.proofs.Common.{◌≡◌, ℕ, ◌+◌, ◌-◌, ◌<◌, ◌≤◌, zero, suc, Bool, true, false, cond, List, [], ◌∷◌, length, take, drop, get_or, refl, sym, ap, ◌∙◌, arith}
+use Rattle.std.proofs.Common.{◌≡◌, ℕ, ◌+◌, ◌-◌, ◌<◌, ◌≤◌, zero, suc, Bool, true, false, cond, List, [], ◌∷◌, length, take, drop, get_or, refl, sym, ap, ◌∙◌, subst, length-drop, arith}
+use Rattle.std.proofs.Math.Logic.{∥∥₁_map}
 use Rattle.std.proofs.lemmas.List.{at_drop_more, at_drop_all, take_rest, drop-drop, nil_from_length}
+use Rattle.asm_text.specs.Places.{IsPlace, next_end, part_length}
 use Rattle.asm_text.specs.Tokens.{run, tokens, tokens_past, is_blank, begins_comment, comment_of, word_length, lexeme_of, next_start}
 
 -- one more byte of the class
@@ -70,6 +72,18 @@ first_of_list (x ∷ xs) h = refl
 pub start_is : (line : List ℕ) (at spaces : ℕ) → spaces ≡ run is_blank (take (length line - at) (drop at line)) → at + spaces ≡ next_start at line
 start_is line at spaces e = ap (λ k. at + k) (e ∙ ap (run is_blank) (take_rest line at))
 
+-- after the token that comes next at a place is a place
+pub place_next : (line : List ℕ) (at end : ℕ) → IsPlace line at → end ≡ next_end at line → IsPlace line end
+place_next line at end h e = ∥∥₁_map h (λ p. (suc p.0, e ∙ ap (λ k. next_end k line) p.1))
+
+part_comment : (xs : List ℕ) → begins_comment (get_or xs 0 0) ≡ true → part_length xs ≡ length xs
+part_comment [] e = refl
+part_comment (x ∷ ys) e = rw e refl
+
+part_word : (xs : List ℕ) → 0 < length xs → begins_comment (get_or xs 0 0) ≡ false → part_length xs ≡ word_length xs
+part_word [] h e = absurd (omega arith)
+part_word (x ∷ ys) h e = rw e refl
+
 -- ---- the same of a line that is read from a place on, where `spaces` bytes are blank
 module _ (line : List ℕ) (at spaces : ℕ) (blank : spaces ≡ run is_blank (take (length line - at) (drop at line))) where
   rest_is : take (length line - (at + spaces)) (drop (at + spaces) line) ≡ drop (run is_blank (drop at line)) (drop at line)
@@ -88,3 +102,18 @@ module _ (line : List ℕ) (at spaces : ℕ) (blank : spaces ≡ run is_blank (t
   left_next n h e w p =
       tokens_next (drop at line) _ _ _ n rest_is (first_of_list _ h) e w p
       ∙ ap (λ l. lexeme_of (take n (take (length line - (at + spaces)) (drop (at + spaces) line))) ∷ tokens l) (ap (drop n) (take_rest line (at + spaces)) ∙ drop-drop n (at + spaces) line)
+
+  pub ends_comment : 0 < length (take (length line - (at + spaces)) (drop (at + spaces) line)) → begins_comment (get_or (take (length line - (at + spaces)) (drop (at + spaces) line)) 0 0) ≡ true → length line ≡ next_end at line
+  ends_comment h e =
+      let r = take_rest line (at + spaces) in
+      let p = part_comment (drop (at + spaces) line) (subst (λ l. begins_comment (get_or l 0 0) ≡ true) r e) in
+      let some : 0 < length (drop (at + spaces) line) = subst (λ l. 0 < length l) r h in
+      let all : length line ≡ at + spaces + part_length (drop (at + spaces) line) = omega (arith, p, some, length-drop (at + spaces) line) in
+      all ∙ ap (λ k. k + part_length (drop k line)) (start_is line at spaces blank)
+
+  pub ends_next : (n : ℕ) → 0 < length (take (length line - (at + spaces)) (drop (at + spaces) line)) → begins_comment (get_or (take (length line - (at + spaces)) (drop (at + spaces) line)) 0 0) ≡ false
+      → n ≡ word_length (take (length line - (at + spaces)) (drop (at + spaces) line)) → at + spaces + n ≡ next_end at line
+  ends_next n h e w =
+      let r = take_rest line (at + spaces) in
+      let p = part_word (drop (at + spaces) line) (subst (λ l. 0 < length l) r h) (subst (λ l. begins_comment (get_or l 0 0) ≡ false) r e) in
+      ap (λ m. at + spaces + m) (w ∙ ap word_length r ∙ sym p) ∙ ap (λ k. k + part_length (drop k line)) (start_is line at spaces blank)

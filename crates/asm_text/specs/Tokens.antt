@@ -3,6 +3,8 @@
 use Rattle.std.specs.Prelude.{◌≡◌, ◌<◌, ℕ, zero, suc, ◌+◌, ◌-◌, ◌^◌, ◌==◌, ◌&&◌, ◌||◌, nat_lt, Bool, true, false, if◌then◌else◌, List, [], ◌∷◌, length, take, drop, get_or, Option, Some, None}
 use Rattle.std.specs.Char.{is_ascii_alphabetic, is_ascii_digit, is_ascii_hexdigit}
 use Rattle.std.specs.Str.Parse.{digits_value, IsNumeral}
+pub use Rattle.asm_text.specs.Places.{is_blank, is_letter, is_name_byte, begins_comment, is_ascii, run, begins_hex, next_start, next_end, IsPlace}
+unfoldable pub use Rattle.asm_text.specs.Places.{word_length}
 use Rattle.asm_text.specs.declared.cursor.Tokens.{Tokens}
 use Rattle.asm_text.specs.declared.token.Fault.{Fault}
 use Rattle.asm_text.specs.declared.token.Fault.TheVariants as fault
@@ -36,26 +38,6 @@ fault_number fault.Number = 2
 
 -- ---- classes of bytes
 
--- a space or a tab
-abbrev pub is_blank : ℕ → Bool
-is_blank b = b == 32 || b == 9
-
--- an ASCII letter or `_`
-abbrev pub is_letter : ℕ → Bool
-is_letter b = is_ascii_alphabetic b || b == 95
-
--- a letter or a decimal digit
-abbrev pub is_name_byte : ℕ → Bool
-is_name_byte b = is_letter b || is_ascii_digit b
-
--- `#` or `;`
-abbrev pub begins_comment : ℕ → Bool
-begins_comment b = b == 35 || b == 59
-
--- a byte below 128
-abbrev pub is_ascii : ℕ → Bool
-is_ascii b = nat_lt b 128
-
 -- the byte is of the class
 abbrev pub in_class : Class → ℕ → Bool
 in_class class.Blank b = is_blank b
@@ -64,27 +46,7 @@ in_class class.Digit b = is_ascii_digit b
 in_class class.HexDigit b = is_ascii_hexdigit b
 in_class class.Ascii b = is_ascii b
 
--- how many bytes at the front are of the class: the longest run
-abbrev pub run : (ℕ → Bool) → List ℕ → ℕ
-run p [] = 0
-run p (b ∷ bs) = if p b then suc (run p bs) else 0
-
 -- ---- one token
-
--- `x` and a hex digit
-abbrev pub begins_hex : List ℕ → Bool
-begins_hex [] = false
-begins_hex (x ∷ []) = false
-begins_hex (x ∷ d ∷ bs) = x == 120 && is_ascii_hexdigit d
-
--- The length of the token at the front: a letter and all name bytes after it; `0x` and all hex digits after it, at
--- least one; all digits; else one byte.
-unfoldable pub word_length : List ℕ → ℕ
-word_length [] = 0
-word_length (b ∷ bs) =
-    if is_letter b then suc (run is_name_byte bs) else
-    (if b == 48 && begins_hex bs then suc (suc (run is_ascii_hexdigit (drop 1 bs))) else
-    (if is_ascii_digit b then suc (run is_ascii_digit bs) else 1))
 
 -- the number, or nothing where it is above 2^64 - 1
 abbrev pub bounded : ℕ → Option ℕ
@@ -134,9 +96,9 @@ tokens_past zero (b ∷ bs) =
 abbrev pub tokens : List ℕ → List Lexeme
 tokens line = tokens_past 0 line
 
--- where the token that comes next at this place of a line begins
-abbrev pub next_start : ℕ → List ℕ → ℕ
-next_start at line = at + run is_blank (drop at line)
+-- The bytes of a line from start to end are the first of these tokens, with which the line ends.
+abbrev pub IsFirstOf : List Lexeme → List ℕ → ℕ → ℕ → Type 0
+IsFirstOf ts line start end = (at : ℕ) × IsPlace line at × (tokens (drop at line) ≡ ts) × (start ≡ next_start at line) × (end ≡ next_end at line)
 
 -- ---- the code's values
 

@@ -1,7 +1,7 @@
 //! Reads the tokens of a line.
 ghost use Rattle.std.specs.Prelude.{◌≡◌, ◌∷◌, ◌≤◌, ◌<◌, ◌+◌, ◌-◌, ◌⊎◌, List, [], length, drop, take, slice_range, IfSome, MatchOption, cond, IsTrue};
 ghost use Rattle.std.specs.Str.Parse.{IsNumeral, digits_value};
-ghost use Rattle.asm_text.specs.Tokens.{bounded, in_class, is_ascii, run, word_length, begins_hex, begins_comment, is_clean, lexeme_of, numeral_value, tokens, lexeme_seen, lexemes_left, next_start, IsNumberToken, IsToken};
+ghost use Rattle.asm_text.specs.Tokens.{bounded, in_class, is_ascii, run, word_length, begins_hex, begins_comment, is_clean, lexeme_of, numeral_value, tokens, lexeme_seen, lexemes_left, next_start, next_end, IsFirstOf, IsNumberToken, IsToken};
 ghost use Rattle.asm_text.specs.Tokens.Lexeme.{Stray};
 
 use crate::cursor::Tokens;
@@ -116,7 +116,8 @@ fn token<'a>(word: &'a [u8]) -> Token<'a>
 impl<'a> Tokens<'a> {
     /// All tokens of a line.
     pub fn new(line: &'a [u8]) -> Tokens<'a>
-        ensures { lexemes_left result ≡ tokens line.now }
+        ensures tokens { lexemes_left result ≡ tokens line.now }
+        ensures line { result.line.now ≡ line.now }
     {
         Tokens { line, at: 0 }
     }
@@ -129,6 +130,8 @@ impl<'a> Tokens<'a> {
         ensures tokens { MatchOption result (lexemes_left self.old ≡ []) (λ f. lexemes_left self.old ≡ lexeme_seen f.token ∷ lexemes_left self.new) }
         ensures start { IfSome result (λ f. f.start ≡ next_start self.old.at self.old.line.now) }
         ensures end { IfSome result (λ f. (f.start < f.end) × (f.end ≡ self.new.at) × (f.end ≤ length self.old.line.now)) }
+        // no token is cut in two
+        ensures whole { IfSome result (λ f. IsFirstOf (lexemes_left self.old) self.old.line.now f.start f.end) }
         // a comment reaches to the line's end
         ensures bytes { IfSome result (λ f. lexeme_seen f.token ≡ lexeme_of (slice_range self.old.line.now f.start f.end) ⊎ ((lexeme_seen f.token ≡ Stray) × (f.end ≡ length self.old.line.now))) }
         ensures line { self.new.line.now ≡ self.old.line.now }

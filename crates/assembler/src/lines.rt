@@ -1,6 +1,7 @@
 //! The lines of a text.
-ghost use Rattle.std.specs.Prelude.{◌≡◌, ◌≢◌, ◌∷◌, ◌++◌, ◌<◌, ◌+◌, List, [], length, take, drop, All, MatchOption, IfSome, IfNone};
+ghost use Rattle.std.specs.Prelude.{◌≡◌, ◌≢◌, ◌∷◌, ◌++◌, ◌<◌, ◌+◌, List, [], length, take, drop, All, MatchOption, IfSome, IfNone, Some, None};
 ghost use Rattle.std.specs.Str.Lines.{strip_carriage_return, lines};
+ghost use Rattle.assembler.specs.Numbered.{numbered};
 
 /// Where the byte stands first.
 fn find(byte: u8, text: &[u8]) -> Option<usize>
@@ -39,4 +40,19 @@ pub fn next_line<'a>(rest: &mut &'a [u8]) -> Option<&'a [u8]>
             Some(text)
         }
     }
+}
+
+/// The line of this number, counted from 0, if there is one.
+pub fn line_at<'a>(text: &'a [u8], number: usize) -> Option<&'a [u8]>
+    ensures { MatchOption result (numbered number (lines text.now) ≡ None) (λ line. numbered number (lines text.now) ≡ Some line.now) }
+{
+    let mut rest = text;
+    let mut left = number;
+    while let Some(line) = next_line(&mut rest) {
+        if left == 0 {
+            return Some(line);
+        }
+        left -= 1;
+    }
+    None
 }
