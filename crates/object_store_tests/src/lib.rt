@@ -8,4 +8,6 @@ mod objects;
 #[cfg(test)]
 mod parcels;
 #[cfg(test)]
+mod parts;
+#[cfg(test)]
 mod stores;

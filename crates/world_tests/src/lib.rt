@@ -16,4 +16,6 @@ mod moves;
 #[cfg(test)]
 mod objects;
 #[cfg(test)]
+mod parts;
+#[cfg(test)]
 mod rows;
