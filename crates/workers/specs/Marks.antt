@@ -1,0 +1,7 @@
+-- A name for no table.
+use Rattle.std.specs.Prelude.{[]}
+use Rattle.atomic_table.specs.Seated.{TableId}
+
+-- what a name stands for until a call picks its table
+abbrev pub no_table : TableId
+no_table = record { words = 0; slots = 0; views_name = 0; atom = 0; block = 0; offset = 0; slot_names = [] }

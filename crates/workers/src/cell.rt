@@ -1,0 +1,212 @@
+//! What lies under a cell's lock.
+ghost use Rattle.std.specs.Prelude.{◌≡◌, [], None, Some, is_some, not, ◌&&◌, IfSome, IfNone, max, true, false, if◌then◌else◌};
+ghost use Rattle.debugger.specs.Debuggees.{DebugsMachine, debuggee_start};
+ghost use Rattle.debugger.specs.Showing.{Shows};
+ghost use Rattle.machine.specs.MachineState.{granted_start};
+ghost use Rattle.workers.specs.Cells.{IsSeatOf, IsTableOf, seat_state, opened_as, FitsCell, StepsCell, DebugsCell, ShowsCell, may_queue, is_going};
+
+use crate::mark::Mark;
+use crate::running::Running;
+use debugger::{DebugCommand, Debugged, Debuggee, ShowCommand, ShowReply, Start, StepReply, Way};
+use loader::Program;
+use shared_objects::{ActorSeat, SharedTable};
+use std::alloc::Global;
+use std::marker::{Model, PhantomData};
+use std::sync::Mutex;
+
+/// A machine, or none, with its seat, under a lock.
+pub type MachineCell<K> = Mutex<Locked<K>>;
+
+/// The right to put a machine's number into the queue, once. Its cell gives it where the number isn't there, and it can't be
+/// copied.
+#[derive(Drop, Debug)]
+pub struct Ticket {
+    number: usize,
+}
+
+impl Ticket {
+    /// The number of the machine.
+    pub fn number(&self) -> usize
+        ensures { result ≡ self.now.number }
+    {
+        self.number
+    }
+}
+
+/// What a cell's lock lends: a seat of the table, and a machine or none. The machine is the replay of the seat's entries from
+/// its start: the state that the table was opened with, or that in which it was shipped.
+#[derive(Drop)]
+pub struct Locked<K: Mark> {
+    number: usize,
+    seat: ActorSeat,
+    running: Option<Running>,
+    queued: bool,
+    of: PhantomData<K>,
+}
+
+impl<K: Mark> Model for Locked<K> {
+    ghost use Rattle.std.specs.Prelude.{◌≡◌};
+    ghost use Rattle.workers.specs.Cells.{CellState, FitsCell, IsSeatOf, seat_state};
+
+    ghost Value = { CellState };
+
+    ghost view = { λ c. record { number = c.number; seat = seat_state c.seat; running = c.running; queued = c.queued } };
+
+    ghost invariant = { λ c. IsSeatOf K.table K.opening c.seat × (c.seat.seat.me.0.actor ≡ c.number) × FitsCell K.opening K.starts c.number (seat_state c.seat) c.running };
+}
+
+impl<K: Mark> Locked<K> {
+    /// The cell of this number, whose machine has not come yet.
+    pub fn empty(number: usize, seat: ActorSeat) -> Self
+        requires of { IsSeatOf K.table K.opening seat × (seat.seat.me.0.actor ≡ number) }
+        requires fresh { seat.seat.me.0.entries ≡ [] }
+        requires none { opened_as K.starts number ≡ None }
+        ensures { result ≡ record { number = number; seat = seat_state seat; running = None; queued = false } }
+    {
+        Locked {
+            number,
+            seat,
+            running: None,
+            queued: false,
+            of: PhantomData,
+        }
+    }
+
+    /// The cell of this number, with the machine that was there when the table was opened.
+    pub fn opened(number: usize, seat: ActorSeat, debuggee: Debuggee) -> Self
+        requires of { IsSeatOf K.table K.opening seat × (seat.seat.me.0.actor ≡ number) }
+        requires fresh { seat.seat.me.0.entries ≡ [] }
+        requires named { opened_as K.starts number ≡ Some debuggee.machine }
+        ensures { result ≡ record { number = number; seat = seat_state seat; running = Some (record { debuggee = debuggee; shipped = None }); queued = false } }
+    {
+        Locked {
+            number,
+            seat,
+            running: Some(Running::opened(debuggee)),
+            queued: false,
+            of: PhantomData,
+        }
+    }
+
+    /// The empty cell gets its machine, at the start of this program.
+    pub fn ship(&mut self, program: Program, start: Start)
+        requires { self.old.running ≡ None }
+        ensures { self.new ≡ record self.old { running = Some (record { debuggee = debuggee_start self.old.number program start; shipped = Some (granted_start self.old.number program start.fuel start.arguments start.grants) }) } }
+    {
+        self.running = Some(Running::shipped(program, self.number, start));
+    }
+
+    /// What the lock keeps: the seat is of the table and of this number, and the machine is the replay of its entries.
+    pub fn fact(&self)
+        ensures number { self.now.seat.view.actor ≡ self.now.number }
+        ensures opening { self.now.seat.view.opening ≡ K.opening }
+        ensures fits { FitsCell K.opening K.starts self.now.number self.now.seat self.now.running }
+    {
+        let _number = self.number;
+    }
+
+    /// The number of the machine, and of the seat's actor.
+    pub fn number(&self) -> usize
+        ensures { result ≡ self.now.number }
+    {
+        self.number
+    }
+
+    /// Whether the machine has come.
+    pub fn has_machine(&self) -> bool
+        ensures { result ≡ is_some self.now.running }
+    {
+        self.running.is_some()
+    }
+
+    /// Whether there is a machine that is neither paused nor stopped.
+    pub fn is_going(&self) -> bool
+        ensures { result ≡ is_going self.now.running }
+    {
+        match &self.running {
+            Some(running) => running.is_going(),
+            None => false,
+        }
+    }
+
+    /// The stamp up to which the seat has seen.
+    pub fn stamp(&self) -> u64
+        ensures { result ≡ self.now.seat.stamp }
+    {
+        self.seat.stamp()
+    }
+
+    /// What is seen up to this stamp stands before each later entry of the machine.
+    pub fn learn(&mut self, stamp: u64)
+        ensures { self.new ≡ record self.old { seat = record self.old.seat { stamp = max self.old.seat.stamp stamp } } }
+    {
+        self.seat.learn(stamp);
+    }
+
+    /// One step of the machine over its seat, or a pause in its place, if the machine has come.
+    pub fn step(&mut self, shared: &SharedTable, way: Way) -> Option<StepReply>
+        requires { IsTableOf K.table K.opening shared.now }
+        ensures none { IfNone result ((self.old.running ≡ None) × (self.new ≡ self.old)) }
+        ensures step { IfSome result (λ reply. StepsCell way self.old reply self.new) }
+    {
+        let running = self.running.as_mut()?;
+        Some(running.step(shared, &mut self.seat, way))
+    }
+
+    /// What is shown of the machine, if it has come: its state, as it is.
+    pub fn show(&self, alloc: Global, command: ShowCommand) -> Option<ShowReply>
+        ensures none { IfNone result (self.now.running ≡ None) }
+        ensures shows { IfSome result (λ reply. ShowsCell command self.now reply) }
+    {
+        let running = self.running.as_ref()?;
+        Some(running.debuggee().show(alloc, command))
+    }
+
+    /// Does a command of the debugger, if the machine has come.
+    pub fn debug(&mut self, command: DebugCommand) -> Option<Debugged>
+        ensures none { IfNone result ((self.old.running ≡ None) × (self.new ≡ self.old)) }
+        ensures debugs { IfSome result (λ reply. DebugsCell command self.old reply self.new) }
+    {
+        let running = self.running.as_mut()?;
+        Some(running.debug(command))
+    }
+
+    /// Marks the machine as queued and gives its ticket, if there is a machine that isn't in the queue.
+    pub fn enqueue(&mut self) -> Option<Ticket>
+        ensures ticket { result ≡ (if may_queue self.old then Some (record { number = self.old.number }) else None) }
+        ensures new { self.new ≡ (if may_queue self.old then record self.old { queued = true } else self.old) }
+    {
+        if self.queued || self.running.is_none() {
+            return None;
+        }
+        self.queued = true;
+        Some(Ticket {
+            number: self.number,
+        })
+    }
+
+    /// Takes the machine's ticket back: it is in the queue no more.
+    pub fn dequeue(&mut self, ticket: Ticket)
+        requires { ticket.number ≡ self.old.number }
+        ensures { self.new ≡ record self.old { queued = false } }
+    {
+        drop(ticket);
+        self.queued = false;
+    }
+
+    /// Number, seat and machine.
+    pub fn into_parts(self) -> (usize, ActorSeat, Option<Running>)
+        ensures of { IsSeatOf K.table K.opening result.1 × (result.1.seat.me.0.actor ≡ result.0) }
+        ensures fits { FitsCell K.opening K.starts result.0 (seat_state result.1) result.2 }
+        ensures same { (self.number ≡ result.0) × (self.seat ≡ seat_state result.1) × (self.running ≡ result.2) }
+    {
+        let Locked {
+            number,
+            seat,
+            running,
+            queued: _,
+            of: _,
+        } = self;
+        (number, seat, running)
+    }
+}

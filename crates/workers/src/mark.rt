@@ -1,0 +1,33 @@
+//! Which table it is.
+use std::marker::Brand;
+
+/// A name for one table, as a type: what carries it is of that table. A call picks it, once.
+pub trait Mark {
+    ghost use Rattle.std.specs.Prelude.{List, ℕ};
+    ghost use Rattle.atomic_table.specs.Seated.{TableId};
+    ghost use Rattle.machine.specs.MachineState.{MachineState};
+
+    ghost table: { TableId };
+
+    /// The bytes of each object when the table was opened.
+    ghost opening: { List (List ℕ) };
+
+    /// The machines that were there when it was opened, in order, from number 1 on.
+    ghost starts: { List MachineState };
+
+    /// How many actors' seats were made.
+    ghost seats: { ℕ };
+}
+
+impl Mark for Brand {
+    ghost use Rattle.std.specs.Prelude.{[]};
+    ghost use Rattle.workers.specs.Marks.{no_table};
+
+    ghost table = { no_table };
+
+    ghost opening = { [] };
+
+    ghost starts = { [] };
+
+    ghost seats = { 0 };
+}

@@ -1,0 +1,230 @@
+//! The table, the cells of its machines, and the queues.
+ghost use Rattle.std.specs.Prelude.{◌≡◌, ◌≤◌, ◌+◌, length, drop, All, IfOk, IfSome, IfNone, true, false, if◌then◌else◌};
+ghost use Rattle.std.specs.Vec.Iter.{into_iter_items};
+ghost use Rattle.shared_objects.specs.Kinds.{dealer};
+ghost use Rattle.shared_objects.specs.Opened.{AreFresh};
+ghost use Rattle.shared_objects.specs.Tables.{IsActorOf};
+ghost use Rattle.workers.specs.Cells.{IsTableOf, opened_as};
+ghost use Rattle.workers.specs.Pools.{IsNewSeat, AreSeats, machines_of, machine_of, QueuesCell};
+
+use crate::cell::{Locked, MachineCell, Ticket};
+use crate::gate::Gate;
+use crate::job::{Direction, Job};
+use crate::mark::Mark;
+use crossbeam_queue::ArrayQueue;
+use debugger::{Debuggee, StepReply, Way};
+use far_store::FarStore;
+use shared_objects::{ActorSeat, Shared, SharedTable};
+use std::alloc::{AllocError, Global};
+use std::sync::{Mutex, Wait};
+use std::thread::yield_now;
+use std::vec::IntoIter;
+
+/// How many places each queue has: this project's choice.
+pub const QUEUE_LIMIT: usize = 64;
+
+/// How many instructions a worker does in one turn of a machine at most: this project's choice.
+pub const TURN_LIMIT: u32 = 64;
+
+/// One table, the cells of its machines, the queue of machines to be run, and that of objects to be moved.
+#[derive(Drop)]
+pub struct Pool<F: FarStore, K: Mark> {
+    shared: Shared<F>,
+    // that of machine 1 first
+    cells: Vec<MachineCell<K>>,
+    runs: ArrayQueue<Job>,
+    moves: ArrayQueue<Job>,
+    pub ghost of: { IsTableOf K.table K.opening shared.table },
+}
+
+/// Puts the number of the cell's machine into the queue, unless it is there.
+fn queue_machine<K: Mark, R: Wait>(rt: &R, runs: &ArrayQueue<Job>, locked: &mut Locked<K>)
+    ensures { QueuesCell locked.old locked.new }
+{
+    let Some(ticket) = locked.enqueue() else {
+        return;
+    };
+    if let Err(Job::Run(ticket)) = runs.push(rt, Job::Run(ticket)) {
+        locked.dequeue(ticket);
+    }
+}
+
+/// The ticket goes back to its cell, if it is this one.
+fn take_back<K: Mark>(locked: &mut Locked<K>, ticket: Ticket) -> bool
+    ensures { locked.new ≡ (if result then record locked.old { queued = false } else locked.old) }
+{
+    let own = locked.number() == ticket.number();
+    if own {
+        locked.dequeue(ticket);
+    }
+    own
+}
+
+/// The cell of a number, with its machine, if there is one.
+fn cell_of<K: Mark>(number: usize, seat: ActorSeat, machine: Option<Debuggee>) -> Locked<K>
+    requires seat { IsNewSeat K.table K.opening number seat }
+    requires machine { opened_as K.starts number ≡ machine_of machine }
+{
+    match machine {
+        Some(debuggee) => Locked::opened(number, seat, debuggee),
+        None => Locked::empty(number, seat),
+    }
+}
+
+/// The next seat of those that are left, where so many went before.
+fn next_seat<K: Mark>(_before: usize, left: &mut IntoIter<ActorSeat>) -> Option<ActorSeat>
+    requires { AreSeats K.table K.opening (_before + 1) (into_iter_items left.old) }
+    ensures some { IfSome result (λ seat. IsNewSeat K.table K.opening (_before + 1) seat × AreSeats K.table K.opening (_before + 1 + 1) (into_iter_items left.new) × (length (into_iter_items left.old) ≡ length (into_iter_items left.new) + 1)) }
+    ensures none { IfNone result (length (into_iter_items left.old) ≡ 0) }
+{
+    left.next()
+}
+
+/// The next machine of those that are left, where so many went before, if there is one.
+fn next_machine<K: Mark>(_before: usize, left: &mut IntoIter<Debuggee>) -> Option<Debuggee>
+    requires { machines_of (into_iter_items left.old) ≡ drop _before K.starts }
+    ensures machine { opened_as K.starts (_before + 1) ≡ machine_of result }
+    ensures rest { machines_of (into_iter_items left.new) ≡ drop (_before + 1) K.starts }
+{
+    left.next()
+}
+
+/// A cell for each seat. The first ones have these machines, of which those that go on are queued.
+fn cells_of<K: Mark, R: Wait>(
+    rt: &R,
+    alloc: Global,
+    runs: &ArrayQueue<Job>,
+    seats: Vec<ActorSeat>,
+    machines: Vec<Debuggee>,
+) -> Result<Vec<MachineCell<K>>, AllocError>
+    requires seats { AreSeats K.table K.opening 1 seats.items }
+    requires machines { K.starts ≡ machines_of machines.items }
+    ensures { IfOk result (λ cells. length cells.items ≡ length seats.items) }
+{
+    let mut cells = Vec::new(alloc);
+    let mut seats_left = seats.into_iter();
+    let mut machines_left = machines.into_iter();
+    'cells: while let Some(seat) = next_seat::<K>(cells.len(), &mut seats_left) {
+        let machine = next_machine::<K>(cells.len(), &mut machines_left);
+        let mut locked: Locked<K> = cell_of(cells.len() + 1, seat, machine);
+        if locked.is_going() {
+            queue_machine(rt, runs, &mut locked);
+        }
+        cells.push(Mutex::new(locked))?;
+    }
+    Ok(cells)
+}
+
+impl<F: FarStore, K: Mark> Pool<F, K> {
+    /// A pool over a table that was opened, with a cell for each of these seats. The first ones have these machines, in order,
+    /// as K names them; those that are neither paused nor stopped are queued. On a refusal all is dropped.
+    pub fn new<R: Wait>(
+        rt: &R,
+        alloc: Global,
+        shared: Shared<F>,
+        seats: Vec<ActorSeat>,
+        machines: Vec<Debuggee>,
+    ) -> Result<Self, AllocError>
+        requires table { IsTableOf K.table K.opening shared.table }
+        requires seats { AreFresh (dealer F.RETURNS K.opening) seats.items × All (IsActorOf shared.table) seats.items }
+        requires machines { K.starts ≡ machines_of machines.items }
+        requires room { length machines.items ≤ length seats.items }
+        ensures { IfOk result (λ pool. (pool.shared ≡ shared) × (length pool.cells.items ≡ length seats.items)) }
+    {
+        let runs = ArrayQueue::new(alloc, QUEUE_LIMIT)?;
+        let moves = ArrayQueue::new(alloc, QUEUE_LIMIT)?;
+        let cells = cells_of(rt, alloc, &runs, seats, machines)?;
+        Ok(Pool {
+            shared,
+            cells,
+            runs,
+            moves,
+        })
+    }
+
+    /// The table.
+    pub fn table(&self) -> &SharedTable
+        ensures same { result.now ≡ self.now.shared.table }
+        ensures of { IsTableOf K.table K.opening result.now }
+    {
+        self.shared.table()
+    }
+
+    /// The cell of the machine of a number, if there are so many.
+    pub fn cell(&self, number: usize) -> Option<&MachineCell<K>> {
+        if number == 0 {
+            return None;
+        }
+        self.cells.get(number - 1)
+    }
+
+    /// Puts the number of the cell's machine into the queue of those to be run, unless it is there. Where the queue is full it
+    /// isn't put, and isn't marked as queued.
+    pub fn queue<R: Wait>(&self, rt: &R, locked: &mut Locked<K>)
+        ensures { QueuesCell locked.old locked.new }
+    {
+        queue_machine(rt, &self.runs, locked);
+    }
+
+    /// Asks the mover to move an object, and says whether there was room for that.
+    pub fn request<R: Wait>(&self, rt: &R, number: u32, direction: Direction) -> bool {
+        self.moves.push(rt, Job::Move { number, direction }).is_ok()
+    }
+
+    /// At most so many instructions of the cell's machine: whether it is to be queued again, since it waits or did them all.
+    fn run<R: Wait, G: Gate>(
+        &self,
+        rt: &R,
+        gate: &G,
+        worker: usize,
+        number: usize,
+        cell: &MachineCell<K>,
+    ) -> bool {
+        for _ in 0..TURN_LIMIT {
+            gate.before(worker, number);
+            let reply = cell.lock(rt).step(self.table(), Way::Step);
+            gate.after(worker, number);
+            match reply {
+                Some(StepReply::Ran(_)) => {}
+                Some(StepReply::Waiting(object)) => {
+                    self.request(rt, object, Direction::Return);
+                    return true;
+                }
+                _ => return false,
+            }
+        }
+        true
+    }
+
+    /// One turn of the machine of a ticket that was taken from the queue. The ticket is back before its first instruction.
+    fn turn<R: Wait, G: Gate>(&self, rt: &R, gate: &G, worker: usize, ticket: Ticket) {
+        let number = ticket.number();
+        let Some(cell) = self.cell(number) else {
+            return;
+        };
+        if !take_back(&mut cell.lock(rt), ticket) {
+            return;
+        }
+        if self.run(rt, gate, worker, number, cell) {
+            self.queue(rt, &mut cell.lock(rt));
+        }
+    }
+}
+
+/// Steps machines of the queue, each until it waits, pauses, stops or has done 64 instructions, as long as the gate lets it.
+pub fn work<F: FarStore, K: Mark, R: Wait, G: Gate>(
+    rt: &R,
+    gate: &G,
+    pool: &Pool<F, K>,
+    worker: usize,
+) {
+    for _ in rt.forever() {
+        if !gate.go_on() {
+            return;
+        }
+        match pool.runs.pop(rt) {
+            Some(Job::Run(ticket)) => pool.turn(rt, gate, worker, ticket),
+            _ => yield_now(),
+        }
+    }
+}
