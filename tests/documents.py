@@ -11,7 +11,7 @@ from sources import ROOT, crates
 PAGES = [ROOT / "README.md", ROOT / "examples/README.md", *sorted((ROOT / "docs").glob("*.md"))]
 PICTURE = "docs/ARCHITECTURE.md"
 DRAWN = re.compile(r"(?ms)(^```mermaid\n).*?(?=^```)")
-FOR_TESTS = re.compile(r"_tests$|^test_devices$|^conversations$|^bench_steps$|^bench_start$|^bench_runs$|^bench_shared$|^refused_run$|^refused_table$")
+FOR_TESTS = re.compile(r"_tests$|^test_devices$|^conversations$|^bench_\w+$|^refused_\w+$")
 PATH = re.compile(r"`((?:crates|tests|docs|examples|bench)/[\w./-]+)`")
 
 
