@@ -29,15 +29,22 @@ COMPILERS = ("(cd examples/c && make ", "llvm-", "make ")
 
 # Up to five arguments, so that a program that looks at fewer is found out.
 INVALID = [[], ["help"], ["serve"], ["run", "check"], ["run", "--budget", "67108865"], ["check", "x"], [b"\xff"], ["run", "--budget"],
-           ["run", "--budget", "8", "x"], ["run", "--budget", "8", "--budget", "8"], ["run", "--budget", "8", "asm", "dis"], ["dis", "--slots", "--slots"], ["asm", "--slots"], ["store", "--port", "65536"], ["store", "x"]]
+           ["run", "--budget", "8", "x"], ["run", "--budget", "8", "--budget", "8"], ["run", "--budget", "8", "asm", "dis"], ["dis", "--slots", "--slots"], ["asm", "--slots"],
+           ["dis", "--explain"], ["asm", "--explain", "--explain"], ["asm", "--explain", "x"], ["store", "--port", "65536"], ["store", "x"]]
 # What the help of each subcommand has to name: what it reads, what it writes, and what it returns.
 HELP = {"run": [b"PROTOCOL.md", b"67108864", b"Status 0", b"Status 3"], "check": [b"bytes, not hex", b"ok N", b"slot S: WHY", b"Status 1"],
-        "asm": [b"1048576", b"ASSEMBLY.md", b"line L: WHY", b"Status 1"], "dis": [b"bytes, not hex", b"--slots", b"slot S: WHY", b"Status 1"],
+        "asm": [b"1048576", b"ASSEMBLY.md", b"--explain", b"line L: WHY", b"Status 1"], "dis": [b"bytes, not hex", b"--slots", b"slot S: WHY", b"Status 1"],
         "store": [b"127.0.0.1", b"listening P", b"FAR-STREAM.md", b"client N: WHY", b"--port", b"Status 0", b"Status 3"]}
 # The longest lines on standard error: code that jumps into a wide instruction from its last slot, texts wrong at their end.
 WIDE = bytes.fromhex("18000000000000000000000000000000")
 LONGEST = [("check", WIDE + EXIT * 4093 + bytes.fromhex("050001f000000000"), b"slot 4095: JumpInside\n"), ("dis", WIDE + EXIT * 4093 + bytes.fromhex("050001f000000000"), b"slot 4095: JumpInside\n"),
            ("asm", b"\n" * 1048575 + b"x", b"line 1048576: Word\n"), ("asm", b"a:" + b"\n" * 1048572 + b"a:", b"line 1048573: TwiceLabel\n")]
+
+# What `--explain` adds to the line of an error: at most 200 bytes are quoted of a token and of its line.
+EXPLAINED = [(b"exit\nexot ; leave\n", b"line 2: Word\n", b"column 1: 'exot' in 'exot ; leave'\n"), (b"mov r0,", b"line 1: Operand\n", b"at the end of 'mov r0,'\n"),
+             (b"mov r0, " + b"9" * 300, b"line 1: Range\n", b"column 9: '" + b"9" * 200 + b"' in 'mov r0, " + b"9" * 192 + b"'\n"),
+             (b"\n" * 1048570 + b" ja +", b"line 1048571: Operand\n", b"at the end of ' ja +'\n"), (b" " * 1048570 + b"x\x1b[7m", b"line 1: Word\n", b"column 1048572: '?' in '" + b" " * 200 + b"'\n"),
+             (b"exit\n" * 4096 + b"x: exit", b"line 4097: TooLong\n", b"column 4: 'exit' in 'x: exit'\n"), (b"\n" * 1048577, b"input too long\n", b"")]
 
 
 def has_checks(program):
@@ -90,6 +97,11 @@ def show_statuses(program):
     for task, given, line in (("asm", b"exit\nexot\n", b"line 2: Word\n"), ("asm", b"\n" * 1048577, b"input too long\n"), ("dis", b"\x95\0", b"slot 0: Short\n")):
         found = call(program, [task], given)
         want(found == (1, b"", line), f"{task} of {given[:16]} ended with {found}")
+    is_done(program, ["asm", "--explain"], b"lddw r0, -1\nexit\n", ALL_ONES)
+    for given, line, explanation in EXPLAINED:
+        for arguments, errors in ((["asm"], line), (["asm", "--explain"], line + explanation)):
+            found = call(program, arguments, given)
+            want(found == (1, b"", errors), f"{arguments} of {given[-60:]} ended with {found}")
     for task, given, line in LONGEST:
         found = call(program, [task], given)
         want(found == (1, b"", line), f"{task} of the longest error ended with {found}")

@@ -39,7 +39,7 @@ SCRIPTS = [f"crates/conversations/data/{name}.script" for name in ("worked", "mo
 MAY_LACK_MEMORY = ("make ", "put ", "get ", "ship ", "ship2 ", "stack ", "line ")
 WIDE = bytes.fromhex("18000000ffffffff00000000ffffffff9500000000000000")
 TEXT = b"mov r0, 0\nagain: add r0, 1\njlt r0, 3, again\nexit\n"
-OTHERS = [(["check"], WIDE), (["asm"], TEXT), (["dis"], WIDE), (["dis", "--slots"], WIDE), (["--help"], b""), (["run", "--wrong"], b"")]
+OTHERS = [(["check"], WIDE), (["asm"], TEXT), (["asm", "--explain"], TEXT + b"\nexot"), (["dis"], WIDE), (["dis", "--slots"], WIDE), (["--help"], b""), (["run", "--wrong"], b"")]
 # so many allocations of one conversation after its first line are tried, spread over all of them, and so many before it
 MOST = 600
 BEFORE = 2

@@ -2,6 +2,7 @@ pub mod CheckedPrefix
 pub mod WholeInput
 pub mod Encoded
 pub mod OutOfMemory
+pub mod AsmReports
 pub mod ErrorShown
 pub mod Numbers
 pub mod ReadNumber

@@ -13,7 +13,7 @@ use Rattle.agent.specs.declared.failure.Failure.{Failure}
 use Rattle.agent.specs.declared.failure.Failure.TheVariants.{NoMemory}
 use Rattle.agent.specs.declared.failure.Status.{Status}
 
-only_memory : (kinds : Kinds) (error : Error) → kinds ≡ [] → HasKind kinds error → kind_of error ≡ kind.OutOfMemory
+pub only_memory : (kinds : Kinds) (error : Error) → kinds ≡ [] → HasKind kinds error → kind_of error ≡ kind.OutOfMemory
 only_memory [] error right (inl is) = is
 only_memory [] error right (inr among) = absurd among
 only_memory (k ∷ kinds) error right has = absurd (cc)

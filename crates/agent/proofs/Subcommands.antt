@@ -10,7 +10,7 @@ use Rattle.clap.specs.Simple.{App, Shape, built, entered, filled, names_of, new_
 use Rattle.clap.specs.Takes.{is_given}
 use Rattle.clap.specs.Walk.{Held, Row, Text, answers_to, finished, nothing_held, rows_after, settled, walk, walk_from}
 use Rattle.clap.proofs.OnLiterals.{clap_on_literals}
-use Rattle.agent.specs.CommandLine.{HasNumber, budget_limit, budget_limit_text, command_line, dis_shape, faults_of, flag_rule, port_limit, task_named, task_of}
+use Rattle.agent.specs.CommandLine.{HasNumber, asm_shape, budget_limit, budget_limit_text, command_line, dis_shape, faults_of, flag_rule, port_limit, task_named, task_of}
 use Rattle.agent.proofs.Numbers.{first_empty, rest_empty, help, number_built, has_number}
 
 last_empty : (first second third fourth last : Kinds) → or_else first (or_else second (or_else third (or_else fourth last))) ≡ [] → last ≡ []
@@ -52,6 +52,9 @@ run_built = number_built (codes "run") (codes "budget") budget_limit_text budget
 abbrev store_built : Shape
 store_built = number_built (codes "store") (codes "port") (codes "0") port_limit refl refl
 
+abbrev asm_built : Shape
+asm_built = record asm_shape { rules = filled (flag_rule (codes "explain")) ∷ help ∷ []; no_binary_name = true; disable_help_subcommand = true; is_built = true }
+
 abbrev dis_built : Shape
 dis_built = record dis_shape { rules = filled (flag_rule (codes "slots")) ∷ help ∷ []; no_binary_name = true; disable_help_subcommand = true; is_built = true }
 
@@ -59,8 +62,8 @@ abbrev other_built : Text → Shape
 other_built name = record (new_shape name) { rules = help ∷ []; no_binary_name = true; disable_help_subcommand = true; is_built = true }
 
 module _ (P : Option Shape → Type 0) where
-  among_at : (x y z w v : Bool) → P None → P (Some run_built) → P (Some (other_built (codes "check"))) → P (Some (other_built (codes "asm"))) → P (Some dis_built) → P (Some store_built)
-      → P (cond x (Some run_built) (cond y (Some (other_built (codes "check"))) (cond z (Some (other_built (codes "asm"))) (cond w (Some dis_built) (cond v (Some store_built) None)))))
+  among_at : (x y z w v : Bool) → P None → P (Some run_built) → P (Some (other_built (codes "check"))) → P (Some asm_built) → P (Some dis_built) → P (Some store_built)
+      → P (cond x (Some run_built) (cond y (Some (other_built (codes "check"))) (cond z (Some asm_built) (cond w (Some dis_built) (cond v (Some store_built) None)))))
   among_at true y z w v none run check asm dis store = run
   among_at false true z w v none run check asm dis store = check
   among_at false false true w v none run check asm dis store = asm
@@ -99,7 +102,7 @@ entered_good None f = tt
 entered_good (Some p) f =
     among_at (λ o. option_map_or (λ s. level_fault s [] nothing_held p.1 false []) o [] ≡ [] → IsEntered (option_map (λ s. rows_at s p.1) o))
     (answers_to p.0 (codes "run", [])) (answers_to p.0 (codes "check", [])) (answers_to p.0 (codes "asm", [])) (answers_to p.0 (codes "dis", [])) (answers_to p.0 (codes "store", []))
-    (λ _. tt) (run_entered p.1) (λ _. plain_entered (codes "check") 99 (rows_at (other_built (codes "check")) p.1).1 refl (omega arith) (omega arith) refl) (λ _. plain_entered (codes "asm") 97 (rows_at (other_built (codes "asm")) p.1).1 refl (omega arith) (omega arith) refl)
+    (λ _. tt) (run_entered p.1) (λ _. plain_entered (codes "check") 99 (rows_at (other_built (codes "check")) p.1).1 refl (omega arith) (omega arith) refl) (λ _. plain_entered (codes "asm") 97 (rows_at asm_built p.1).1 refl (omega arith) (omega arith) refl)
     (λ _. plain_entered (codes "dis") 100 (rows_at dis_built p.1).1 refl (omega arith) (omega arith) refl) (store_entered p.1) f
 
 -- right arguments enter a subcommand

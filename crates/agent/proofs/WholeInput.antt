@@ -7,7 +7,7 @@ use Rattle.agent.specs.declared.failure.Failure.{Failure}
 use Rattle.agent.specs.declared.failure.Failure.TheVariants.{Refused, WrongLine, InputTooLong, Read, Write, NoMemory}
 use Rattle.agent.proofs.CheckedPrefix.{short, longer, refused}
 
-assembled_whole : (limit : ℕ) (input : List ℕ) (result : Result (List ℕ) Failure) → limit ≡ 1048577 → Assembles (take limit input) result → Assembles input result
+pub assembled_whole : (limit : ℕ) (input : List ℕ) (result : Result (List ℕ) Failure) → limit ≡ 1048577 → Assembles (take limit input) result → Assembles input result
 assembled_whole limit input (Ok code) is h = subst (λ bytes. Assembles bytes (Ok code)) (short 1048576 limit input is h.0) h
 assembled_whole limit input (Err (WrongLine error)) is h = subst (λ bytes. Assembles bytes (Err (WrongLine error))) (short 1048576 limit input is h.0) h
 assembled_whole limit input (Err InputTooLong) is h = longer 1048576 limit input h

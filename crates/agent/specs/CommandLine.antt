@@ -39,6 +39,10 @@ run_shape = record (new_shape (codes "run")) { rules = budget_rule ∷ [] }
 abbrev pub flag_rule : Text → Rule
 flag_rule name = record (new_rule name) { long = Some name; action = Some SetTrue }
 
+-- `asm`, with its flag
+abbrev pub asm_shape : Shape
+asm_shape = record (new_shape (codes "asm")) { rules = flag_rule (codes "explain") ∷ [] }
+
 -- `dis`, with its flag
 abbrev pub dis_shape : Shape
 dis_shape = record (new_shape (codes "dis")) { rules = flag_rule (codes "slots") ∷ [] }
@@ -61,7 +65,7 @@ bare = record { top = record (new_shape (codes "bpfagent")) { no_binary_name = t
 
 -- the command line, as `clap` reads it
 abbrev pub command_line : App
-command_line = with_subcommand (with_subcommand (with_subcommand (with_subcommand (with_subcommand bare run_shape) (new_shape (codes "check"))) (new_shape (codes "asm"))) dis_shape) store_shape
+command_line = with_subcommand (with_subcommand (with_subcommand (with_subcommand (with_subcommand bare run_shape) (new_shape (codes "check"))) asm_shape) dis_shape) store_shape
 
 -- the kinds of error that these arguments may give: none, where they are right
 abbrev pub faults_of : List Text → Kinds
@@ -82,7 +86,7 @@ is_set name rows = option_map_or (λ text. bytes_eq text (codes "true")) (first_
 -- the task of this name, with these matches
 abbrev pub task_named : Text → List Row → Option Task
 task_named name rows = if bytes_eq name (codes "run") then option_map Run (number_in (codes "budget") rows) else (if bytes_eq name (codes "check") then Some Check
-    else (if bytes_eq name (codes "asm") then Some Assemble else (if bytes_eq name (codes "dis") then Some (Disassemble (is_set (codes "slots") rows))
+    else (if bytes_eq name (codes "asm") then Some (Assemble (is_set (codes "explain") rows)) else (if bytes_eq name (codes "dis") then Some (Disassemble (is_set (codes "slots") rows))
     else (if bytes_eq name (codes "store") then option_map Store (number_in (codes "port") rows) else None))))
 
 -- what right arguments ask for: the subcommand that they name

@@ -7,5 +7,6 @@ pub mod RunLeaves
 pub mod CommandLine
 pub mod Reports
 pub mod ErrorShown
+pub mod Explained
 pub mod Laws
 pub mod StoreLeaves

@@ -14,8 +14,8 @@ pub enum Task {
     Run { budget: u32 },
     /// To check raw code.
     Check,
-    /// To turn assembly into raw code.
-    Assemble,
+    /// To turn assembly into raw code, and to explain an error where that is asked for.
+    Assemble { explains: bool },
     /// To show raw code as assembly, each instruction after the number of its slot where that is
     /// asked for.
     Disassemble { has_slots: bool },
@@ -100,9 +100,15 @@ fn make_command<'a>(alloc: Global) -> Result<Command<'a>, AllocError>
     let check = Command::new(alloc, "check")
         .about("Check the raw code of standard input")
         .after_help(CHECK_HELP);
+    let explain = make_flag(
+        alloc,
+        "explain",
+        "Quote the line of an error, and name the token, in a second line",
+    );
     let asm = Command::new(alloc, "asm")
         .about("Turn the assembly of standard input into raw code")
-        .after_help(ASM_HELP);
+        .after_help(ASM_HELP)
+        .arg(explain)?;
     let slots = make_flag(
         alloc,
         "slots",
@@ -172,7 +178,9 @@ fn task_called<'a>(name: &str, matches: &ArgMatches<'a>) -> Option<Task>
             budget: read_budget(matches),
         }),
         "check" => Some(Task::Check),
-        "asm" => Some(Task::Assemble),
+        "asm" => Some(Task::Assemble {
+            explains: is_set(matches, "explain"),
+        }),
         "dis" => Some(Task::Disassemble {
             has_slots: is_set(matches, "slots"),
         }),

@@ -4,10 +4,15 @@ ghost use Rattle.std.specs.Char.{encode_utf8};
 ghost use Rattle.std.specs.String.{string_bytes};
 ghost use Rattle.bpf_codec.specs.Slots.{encoding};
 ghost use Rattle.loader.specs.Instructions.{encodings};
+ghost use Rattle.std.specs.Prelude.{⊤, Result, Bool, Option, List, ℕ};
 ghost use Rattle.agent.specs.AsmLeaves.{AsmLeaves, Assembles, asm_limit, char_text, text_of_bytes};
+ghost use Rattle.agent.specs.Explained.{ReportsAsm, ReportsExplained};
+ghost use Rattle.agent.specs.declared.failure.Failure.{Failure};
 ghost use Rattle.streams.specs.Streams.{ConsumesAtMost};
 
-use crate::failure::Failure;
+use crate::explaining::report_explained;
+use crate::failure::{Failure, Status};
+use crate::reporting::report;
 use assembler::{Why, assemble};
 use bpf_codec::encode;
 use isa_table::Instr;
@@ -104,4 +109,57 @@ pub fn asm<R: Read, W: Write>(alloc: Global, reader: &mut R, writer: &mut W) -> 
         Ok(()) => Ok(()),
         Err(_) => Err(Failure::Write),
     }
+}
+
+/// Writes the code that the input spells.
+fn put_code<W: Write>(alloc: Global, input: &[u8], writer: &mut W) -> Result<(), Failure>
+    ensures { AsmLeaves input.now (W.contents writer.old) (W.contents writer.new) result }
+{
+    let code = assemble_input(alloc, input)?;
+    match put_all(writer, &code) {
+        Ok(()) => Ok(()),
+        Err(_) => Err(Failure::Write),
+    }
+}
+
+/// Reads assembly, writes the code that it spells, and reports how that went: with an explanation of
+/// an error.
+fn asm_explained<R: Read, W: Write, E: Write>(
+    alloc: Global,
+    reader: &mut R,
+    writer: &mut W,
+    errors: &mut E,
+) -> Status
+    ensures reported { IfSome (R.remaining reader.old) (λ input. (outcome : Result ⊤ Failure)
+        × AsmLeaves input (W.contents writer.old) (W.contents writer.new) outcome
+        × ReportsExplained input (E.contents errors.old) (E.contents errors.new) outcome result) }
+    ensures consumed { ConsumesAtMost asm_limit (R.remaining reader.old) (R.remaining reader.new) }
+{
+    let input = match read_at_most(alloc, reader, TEXT_LIMIT + 1) {
+        Ok(input) => input,
+        Err(fault) => return report_explained(Failure::from(fault), b"", errors),
+    };
+    match put_code(alloc, &input, writer) {
+        Ok(()) => Status::Done,
+        Err(failure) => report_explained(failure, &input, errors),
+    }
+}
+
+/// The same, with an explanation or without.
+pub(crate) fn asm_reported<R: Read, W: Write, E: Write>(
+    alloc: Global,
+    explains: bool,
+    reader: &mut R,
+    writer: &mut W,
+    errors: &mut E,
+) -> Status
+    ensures reported { IfSome (R.remaining reader.old) (λ input. (outcome : Result ⊤ Failure)
+        × AsmLeaves input (W.contents writer.old) (W.contents writer.new) outcome
+        × ReportsAsm explains input (E.contents errors.old) (E.contents errors.new) outcome result) }
+    ensures consumed { ConsumesAtMost asm_limit (R.remaining reader.old) (R.remaining reader.new) }
+{
+    if explains {
+        return asm_explained(alloc, reader, writer, errors);
+    }
+    report(asm(alloc, reader, writer), errors)
 }

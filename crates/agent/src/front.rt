@@ -6,6 +6,7 @@ ghost use Rattle.agent.specs.AsmLeaves.{AsmLeaves, asm_limit};
 ghost use Rattle.agent.specs.CheckLeaves.{CheckLeaves, check_limit};
 ghost use Rattle.agent.specs.CommandLine.{faults_of, task_of};
 ghost use Rattle.agent.specs.DisLeaves.{DisLeaves};
+ghost use Rattle.agent.specs.Explained.{ReportsAsmOutcome};
 ghost use Rattle.agent.specs.ErrorShown.{Shows, ShowsError, ShowsHelp, ShowsOneOf};
 ghost use Rattle.agent.specs.Reports.{ReportsOutcome};
 ghost use Rattle.agent.specs.RunLeaves.{RunLeaves};
@@ -13,7 +14,7 @@ ghost use Rattle.agent.specs.StoreLeaves.{LeavesUndone};
 ghost use Rattle.streams.specs.Streams.{ConsumesAtMost};
 
 use crate::arguments::{Task, read_arguments};
-use crate::assembling::asm;
+use crate::assembling::asm_reported;
 use crate::checking::check;
 use crate::disassembling::dis;
 use crate::failure::{Failure, Status};
@@ -91,8 +92,8 @@ pub fn tool<'a, S: AsStr, R: Read, W: Write, E: Write>(
     ensures check { faults_of (map S.text arguments.entry.now) ≡ [] → task_of (map S.text arguments.entry.now) ≡ Some Task.Check
         → IfSome (R.remaining reader.old) (λ input. ReportsOutcome (CheckLeaves input (W.contents writer.old) (W.contents writer.new))
         (E.contents errors.old) (E.contents errors.new) result) }
-    ensures asm { faults_of (map S.text arguments.entry.now) ≡ [] → task_of (map S.text arguments.entry.now) ≡ Some Task.Assemble
-        → IfSome (R.remaining reader.old) (λ input. ReportsOutcome (AsmLeaves input (W.contents writer.old) (W.contents writer.new))
+    ensures asm { (explains : Bool) → faults_of (map S.text arguments.entry.now) ≡ [] → task_of (map S.text arguments.entry.now) ≡ Some (Task.Assemble explains)
+        → IfSome (R.remaining reader.old) (λ input. ReportsAsmOutcome explains input (AsmLeaves input (W.contents writer.old) (W.contents writer.new))
         (E.contents errors.old) (E.contents errors.new) result) }
     ensures dis { (has_slots : Bool) → faults_of (map S.text arguments.entry.now) ≡ [] → task_of (map S.text arguments.entry.now) ≡ Some (Task.Disassemble has_slots)
         → IfSome (R.remaining reader.old) (λ input. ReportsOutcome (DisLeaves has_slots input (W.contents writer.old) (W.contents writer.new))
@@ -101,7 +102,7 @@ pub fn tool<'a, S: AsStr, R: Read, W: Write, E: Write>(
         → IfSome (R.remaining reader.old) (λ input. ReportsOutcome (LeavesUndone input (W.contents writer.old) (W.contents writer.new) (R.remaining reader.new))
         (E.contents errors.old) (E.contents errors.new) result) }
     ensures consumed { task_of (map S.text arguments.entry.now) ≡ Some Task.Check → ConsumesAtMost check_limit (R.remaining reader.old) (R.remaining reader.new) }
-    ensures consumed_by_asm { task_of (map S.text arguments.entry.now) ≡ Some Task.Assemble → ConsumesAtMost asm_limit (R.remaining reader.old) (R.remaining reader.new) }
+    ensures consumed_by_asm { (explains : Bool) → task_of (map S.text arguments.entry.now) ≡ Some (Task.Assemble explains) → ConsumesAtMost asm_limit (R.remaining reader.old) (R.remaining reader.new) }
     ensures consumed_by_dis { (has_slots : Bool) → task_of (map S.text arguments.entry.now) ≡ Some (Task.Disassemble has_slots) → ConsumesAtMost check_limit (R.remaining reader.old) (R.remaining reader.new) }
     ensures invalid { faults_of (map S.text arguments.entry.now) ≢ []
         → ShowsOneOf (faults_of (map S.text arguments.entry.now)) (W.contents writer.old) (W.contents writer.new)
@@ -111,7 +112,9 @@ pub fn tool<'a, S: AsStr, R: Read, W: Write, E: Write>(
     match read_arguments(alloc, arguments) {
         Ok(Task::Run { budget }) => report(run(alloc, budget, reader, writer), errors).number(),
         Ok(Task::Check) => report(check(alloc, reader, writer), errors).number(),
-        Ok(Task::Assemble) => report(asm(alloc, reader, writer), errors).number(),
+        Ok(Task::Assemble { explains }) => {
+            asm_reported(alloc, explains, reader, writer, errors).number()
+        }
         Ok(Task::Disassemble { has_slots }) => {
             report(dis(alloc, has_slots, reader, writer), errors).number()
         }

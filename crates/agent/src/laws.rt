@@ -11,7 +11,7 @@ use clap::error::ErrorKind;
 pub fn right_arguments()
     ensures run { (faults_of (codes "run" ∷ []) ≡ []) × (task_of (codes "run" ∷ []) ≡ Some (Task.Run budget_limit)) }
     ensures check { (faults_of (codes "check" ∷ []) ≡ []) × (task_of (codes "check" ∷ []) ≡ Some Task.Check) }
-    ensures asm { (faults_of (codes "asm" ∷ []) ≡ []) × (task_of (codes "asm" ∷ []) ≡ Some Task.Assemble) }
+    ensures asm { (faults_of (codes "asm" ∷ []) ≡ []) × (task_of (codes "asm" ∷ []) ≡ Some (Task.Assemble false)) }
     ensures dis { (faults_of (codes "dis" ∷ []) ≡ []) × (task_of (codes "dis" ∷ []) ≡ Some (Task.Disassemble false)) }
     ensures store { (faults_of (codes "store" ∷ []) ≡ []) × (task_of (codes "store" ∷ []) ≡ Some (Task.Store 0)) }
     ensures help { faults_of (codes "--help" ∷ []) ≡ ErrorKind.DisplayHelp ∷ [] }
@@ -36,8 +36,9 @@ pub fn right_ports()
     ensures missing { faults_of (codes "store" ∷ codes "--port" ∷ []) ≢ [] }
 {}
 
-/// `--slots` asks `dis` for the slots.
+/// `--slots` asks `dis` for the slots, `--explain` asks `asm` for an explanation.
 pub fn right_flags()
+    ensures explain { (faults_of (codes "asm" ∷ codes "--explain" ∷ []) ≡ []) × (task_of (codes "asm" ∷ codes "--explain" ∷ []) ≡ Some (Task.Assemble true)) }
     ensures slots { (faults_of (codes "dis" ∷ codes "--slots" ∷ []) ≡ []) × (task_of (codes "dis" ∷ codes "--slots" ∷ []) ≡ Some (Task.Disassemble true)) }
 {}
 

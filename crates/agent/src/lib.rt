@@ -5,6 +5,7 @@ mod arguments;
 mod assembling;
 mod checking;
 mod disassembling;
+mod explaining;
 mod failure;
 mod front;
 mod laws;

@@ -70,6 +70,52 @@ fn a_wrong_line_goes_to_the_errors(rt: HostRuntime) {
 }
 
 #[test]
+fn an_explanation_names_the_token(rt: HostRuntime) {
+    let cases: [(&[u8], &[u8]); 8] = [
+        (
+            b"exit\n\texot ; leave",
+            b"line 2: Word\ncolumn 2: 'exot' in ' exot ; leave'\n",
+        ),
+        (
+            b"exit # \xc3\xa9\n",
+            b"line 1: Word\ncolumn 6: '# ??' in 'exit # ??'\n",
+        ),
+        (b"mov r0 ", b"line 1: Operand\nat the end of 'mov r0 '\n"),
+        (
+            b"x: mov r0, 5, 6",
+            b"line 1: Operand\ncolumn 13: ',' in 'x: mov r0, 5, 6'\n",
+        ),
+        (
+            b"ldxb r1, [r2+40000]",
+            b"line 1: Range\ncolumn 14: '40000' in 'ldxb r1, [r2+40000]'\n",
+        ),
+        (
+            b"jeq r1, 2, r3\n",
+            b"line 1: Label\ncolumn 12: 'r3' in 'jeq r1, 2, r3'\n",
+        ),
+        (
+            b"x: exit\n x:exit\n",
+            b"line 2: TwiceLabel\ncolumn 2: 'x' in ' x:exit'\n",
+        ),
+        (b"mov r11, 3", b"line 1: Operand\ncolumn 5: 'r11' in 'mov r11, 3'\n"),
+    ];
+    for (text, said) in cases {
+        let outcome = outcome_of(rt.alloc(), &["asm", "--explain"], text);
+        assert_eq!(rt; outcome.status, 1);
+        assert_eq!(rt; outcome.errors.as_slice(), said);
+        assert!(rt; outcome.output.is_empty());
+    }
+}
+
+#[test]
+fn nothing_is_explained_of_a_right_text(rt: HostRuntime) {
+    let outcome = outcome_of(rt.alloc(), &["asm", "--explain"], b"lddw r0, -1\nexit");
+    assert_eq!(rt; outcome.status, 0);
+    assert_eq!(rt; outcome.output.as_slice(), ALL_ONES);
+    assert!(rt; outcome.errors.is_empty());
+}
+
+#[test]
 fn code_that_is_refused_has_no_text(rt: HostRuntime) {
     let cases: [(&[u8], &[u8]); 2] = [(b"\x95\x00", b"slot 0: Short\n"), (b"", b"slot 0: Empty\n")];
     for (code, line) in cases {

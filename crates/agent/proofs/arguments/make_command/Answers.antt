@@ -6,7 +6,7 @@ use Rattle.clap.specs.Walk.{is_empty}
 use Rattle.clap.specs.declared.builder.arg.Arg.{Arg}
 use Rattle.clap.specs.declared.builder.command.Command.{Command}
 use Rattle.clap.specs.declared.builder.command.Command.TheOpen.{Command-F}
-use Rattle.agent.specs.CommandLine.{bare, budget_rule, dis_shape, flag_rule, port_rule, run_shape}
+use Rattle.agent.specs.CommandLine.{asm_shape, bare, budget_rule, dis_shape, flag_rule, port_rule, run_shape}
 use Rattle.agent.proofs.arguments.make_command.Goals as goal
 
 abbrev local_of : Command-F Command → Bool
@@ -57,16 +57,20 @@ returns c =
     ∙ ap₂ with_subcommand top_is (ap (λ (a : App). a.top) run_is) in
     let with_check : app_of c.in_ok-subcommand-2.field-0 ≡ with_subcommand (with_subcommand bare run_shape) (new_shape (codes "check")) = c.in_ok-subcommand-2.ensures.shape (ap local_of c.after_help-check.ensures ∙ (ap local_of c.about-2.ensures ∙ c.new-2.ensures.local))
     ∙ ap₂ with_subcommand with_run (ap (λ (a : App). a.top) (ap app_of_fields c.after_help-check.ensures ∙ (ap app_of_fields c.about-2.ensures ∙ c.new-2.ensures.app))) in
-    let with_asm : app_of c.in_ok-subcommand-3.field-0 ≡ with_subcommand (with_subcommand (with_subcommand bare run_shape) (new_shape (codes "check"))) (new_shape (codes "asm")) = c.in_ok-subcommand-3.ensures.shape (ap local_of c.after_help-asm.ensures ∙ (ap local_of c.about-3.ensures ∙ c.new-3.ensures.local))
-    ∙ ap₂ with_subcommand with_check (ap (λ (a : App). a.top) (ap app_of_fields c.after_help-asm.ensures ∙ (ap app_of_fields c.about-3.ensures ∙ c.new-3.ensures.app))) in
+    let explain_local = not_global c.make_flag-explain.result (flag_rule (codes "explain")) refl c.make_flag-explain.ensures in
+    let asm_is : app_of c.in_ok-asm.asm ≡ with_rule (new_app (codes "asm")) (flag_rule (codes "explain")) = c.in_ok-asm.ensures.shape explain_local
+    ∙ ap₂ with_rule (ap app_of_fields c.after_help-2.ensures ∙ (ap app_of_fields c.about-3.ensures ∙ c.new-3.ensures.app)) c.make_flag-explain.ensures in
+    let asm_local = c.in_ok-asm.ensures.globals ∙ ap₂ (λ a b. a || b) (ap local_of c.after_help-2.ensures ∙ (ap local_of c.about-3.ensures ∙ c.new-3.ensures.local)) explain_local in
+    let with_asm : app_of c.in_ok-subcommand-3.field-0 ≡ with_subcommand (with_subcommand (with_subcommand bare run_shape) (new_shape (codes "check"))) asm_shape = c.in_ok-subcommand-3.ensures.shape asm_local
+    ∙ ap₂ with_subcommand with_check (ap (λ (a : App). a.top) asm_is) in
     let slots_local = not_global c.make_flag-slots.result (flag_rule (codes "slots")) refl c.make_flag-slots.ensures in
     let dis_is : app_of c.in_ok-dis.dis ≡ with_rule (new_app (codes "dis")) (flag_rule (codes "slots")) = c.in_ok-dis.ensures.shape slots_local
-    ∙ ap₂ with_rule (ap app_of_fields c.after_help-2.ensures ∙ (ap app_of_fields c.about-4.ensures ∙ c.new-4.ensures.app)) c.make_flag-slots.ensures in
-    let dis_local = c.in_ok-dis.ensures.globals ∙ ap₂ (λ a b. a || b) (ap local_of c.after_help-2.ensures ∙ (ap local_of c.about-4.ensures ∙ c.new-4.ensures.local)) slots_local in
-    let with_dis : app_of c.in_ok-subcommand-4.field-0 ≡ with_subcommand (with_subcommand (with_subcommand (with_subcommand bare run_shape) (new_shape (codes "check"))) (new_shape (codes "asm"))) dis_shape = c.in_ok-subcommand-4.ensures.shape dis_local
+    ∙ ap₂ with_rule (ap app_of_fields c.after_help-3.ensures ∙ (ap app_of_fields c.about-4.ensures ∙ c.new-4.ensures.app)) c.make_flag-slots.ensures in
+    let dis_local = c.in_ok-dis.ensures.globals ∙ ap₂ (λ a b. a || b) (ap local_of c.after_help-3.ensures ∙ (ap local_of c.about-4.ensures ∙ c.new-4.ensures.local)) slots_local in
+    let with_dis : app_of c.in_ok-subcommand-4.field-0 ≡ with_subcommand (with_subcommand (with_subcommand (with_subcommand bare run_shape) (new_shape (codes "check"))) asm_shape) dis_shape = c.in_ok-subcommand-4.ensures.shape dis_local
     ∙ ap₂ with_subcommand with_asm (ap (λ (a : App). a.top) dis_is) in
     let port_local = not_global c.make_port.result port_rule refl c.make_port.ensures in
     let store_is : app_of c.in_ok-store.store ≡ with_rule (new_app (codes "store")) port_rule = c.in_ok-store.ensures.shape port_local
-    ∙ ap₂ with_rule (ap app_of_fields c.after_help-3.ensures ∙ (ap app_of_fields c.about-5.ensures ∙ c.new-5.ensures.app)) c.make_port.ensures in
-    let store_local = c.in_ok-store.ensures.globals ∙ ap₂ (λ a b. a || b) (ap local_of c.after_help-3.ensures ∙ (ap local_of c.about-5.ensures ∙ c.new-5.ensures.local)) port_local in
+    ∙ ap₂ with_rule (ap app_of_fields c.after_help-4.ensures ∙ (ap app_of_fields c.about-5.ensures ∙ c.new-5.ensures.app)) c.make_port.ensures in
+    let store_local = c.in_ok-store.ensures.globals ∙ ap₂ (λ a b. a || b) (ap local_of c.after_help-4.ensures ∙ (ap local_of c.about-5.ensures ∙ c.new-5.ensures.local)) port_local in
     IfOk-weaker c.subcommand-5.result _ _ (λ r adds. adds.shape store_local ∙ ap₂ with_subcommand with_dis (ap (λ (a : App). a.top) store_is)) c.subcommand-5.ensures

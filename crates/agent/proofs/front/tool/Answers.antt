@@ -5,11 +5,12 @@ use Rattle.agent.specs.Failures.{status_number}
 use Rattle.agent.specs.Reports.{Reports, ReportsOutcome}
 use Rattle.agent.specs.declared.failure.Failure.{Failure}
 use Rattle.agent.specs.declared.failure.Status.{Status}
-use Rattle.agent.specs.declared.arguments.Task.TheVariants.{Run, Disassemble}
-use Rattle.agent.specs.AsmLeaves.{AsmLeaves, asm_limit}
+use Rattle.agent.specs.declared.arguments.Task.TheVariants.{Assemble, Run, Disassemble}
+use Rattle.agent.specs.AsmLeaves.{asm_limit}
 use Rattle.agent.specs.CheckLeaves.{CheckLeaves, check_limit}
 use Rattle.agent.specs.DisLeaves.{DisLeaves}
 use Rattle.agent.specs.RunLeaves.{RunLeaves}
+use Rattle.agent.proofs.AsmReports.{memory_over, numbered_over}
 use Rattle.agent.specs.StoreLeaves.{LeavesUndone}
 use Rattle.agent.proofs.OutOfMemory.{reads_nothing, reported_over}
 use Rattle.agent.proofs.front.tool.Goals as goal
@@ -28,9 +29,8 @@ pub returns-in-Err-clause-consumed : goal.returns-in-Err-clause-consumed
 returns-in-Err-clause-consumed g c asked = reads_nothing check_limit (g.R.Read.remaining c.args.reader.now)
 
 pub returns-in-Err-clause-asm : goal.returns-in-Err-clause-asm
-returns-in-Err-clause-asm g c right asked =
-    reported_over (g.R.Read.remaining c.args.reader.now) _ c.in-Err.error _ _ _ _ c.show.result _ right c.in-Err.ensures.err c.show.ensures c.number-in-Err.ensures
-    (λ input. AsmLeaves input (g.W.Write.contents c.args.writer.now) (g.W.Write.contents c.show.new.writer)) (λ input unread kept. (tt, kept))
+returns-in-Err-clause-asm g c explains right asked =
+    memory_over (g.R.Read.remaining c.args.reader.now) explains _ c.in-Err.error _ _ _ _ c.show.result _ right c.in-Err.ensures.err c.show.ensures c.number-in-Err.ensures
 
 pub returns-in-Err-clause-dis : goal.returns-in-Err-clause-dis
 returns-in-Err-clause-dis g c has_slots right asked =
@@ -38,7 +38,7 @@ returns-in-Err-clause-dis g c has_slots right asked =
     (λ input. DisLeaves has_slots input (g.W.Write.contents c.args.writer.now) (g.W.Write.contents c.show.new.writer)) (λ input unread kept. (tt, kept))
 
 pub returns-in-Err-clause-consumed_by_asm : goal.returns-in-Err-clause-consumed_by_asm
-returns-in-Err-clause-consumed_by_asm g c asked = reads_nothing asm_limit (g.R.Read.remaining c.args.reader.now)
+returns-in-Err-clause-consumed_by_asm g c explains asked = reads_nothing asm_limit (g.R.Read.remaining c.args.reader.now)
 
 pub returns-in-Err-clause-consumed_by_dis : goal.returns-in-Err-clause-consumed_by_dis
 returns-in-Err-clause-consumed_by_dis g c has_slots asked = reads_nothing check_limit (g.R.Read.remaining c.args.reader.now)
@@ -78,3 +78,10 @@ pub returns-in-Ok-Store-clause-store : goal.returns-in-Ok-Store-clause-store
 returns-in-Ok-Store-clause-store g c port right asked =
     reported_run _ (λ input. LeavesUndone input (g.W.Write.contents c.args.writer.now) (g.W.Write.contents c.args.writer.now) (g.R.Read.remaining c.args.reader.now)) _ _ (Ok tt) _ _
     (undone (g.R.Read.remaining c.args.reader.now) (g.W.Write.contents c.args.writer.now)) c.report-in-Ok-Store.ensures c.number-in-Ok-Store.ensures
+
+pub returns-in-Ok-Assemble-clause-asm : goal.returns-in-Ok-Assemble-clause-asm
+returns-in-Ok-Assemble-clause-asm g c explains right asked =
+    let told : Some c.in-Ok-Assemble.field-0 ≡ Some (Assemble explains) = sym c.in-Ok-Assemble.ensures.ok.1 ∙ asked in
+    let is : c.in-Ok-Assemble.field-0 ≡ Assemble c.in-Ok-Assemble.explains = c.in-Ok-Assemble.field-0-is in
+    let same : explains ≡ c.in-Ok-Assemble.explains = cc in
+    rw same (numbered_over _ _ _ _ _ _ _ _ c.asm_reported.ensures.reported c.number-in-Ok-Assemble.ensures)

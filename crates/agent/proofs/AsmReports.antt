@@ -1,0 +1,113 @@
+-- What `asm` explains of the bytes that it has read, it explains of the whole input.
+use Rattle.std.proofs.Common.{◌≡◌, ◌≢◌, ◌⊎◌, ℕ, Bool, true, false, List, [], ◌∷◌, ◌++◌, take, subst, sym, refl, append-nil, Option, None, Some, IfSome, Result, Ok, Err, inl, inr}
+use Rattle.std.specs.Prelude.{⊤}
+use Rattle.std.specs.Io.KnownBytes.{Keeps}
+use Rattle.clap.specs.Words.{HasKind, Kinds, kind_of}
+use Rattle.clap.specs.declared.error.Error.{Error}
+use Rattle.streams.specs.Streams.{AppendsSome}
+use Rattle.agent.specs.AsmLeaves.{AsmLeaves}
+use Rattle.agent.specs.ErrorShown.{Shows}
+use Rattle.asm_text.specs.Tokens.{Lexeme, IsFirstOf}
+use Rattle.agent.specs.Explained.{Explains, ReportsAsm, ReportsAsmOutcome, ReportsExplained, SaysFirst, token_text}
+use Rattle.agent.specs.Failures.{failure_line, status_number}
+use Rattle.agent.specs.Reports.{Reports}
+use Rattle.agent.specs.declared.failure.Failure.{Failure}
+use Rattle.agent.specs.declared.failure.Failure.TheVariants.{Refused, WrongLine, InputTooLong, Read, Write, NoMemory}
+use Rattle.agent.specs.declared.failure.Status.{Status}
+use Rattle.agent.proofs.CheckedPrefix.{short}
+use Rattle.agent.proofs.OutOfMemory.{only_memory}
+use Rattle.agent.proofs.WholeInput.{assembled_whole}
+
+left_whole : (limit : ℕ) (input : List ℕ) (before after : Option (List ℕ)) (outcome : Result ⊤ Failure) → limit ≡ 1048577 → AsmLeaves (take limit input) before after outcome → AsmLeaves input before after outcome
+left_whole limit input before after (Ok done) is l = (l.0, assembled_whole limit input (Ok l.0) is l.1, l.2)
+left_whole limit input before after (Err Write) is l = (l.0, assembled_whole limit input (Ok l.0) is l.1, l.2)
+left_whole limit input before after (Err (Refused error)) is l = absurd l.0
+left_whole limit input before after (Err (WrongLine error)) is l = (assembled_whole limit input (Err (WrongLine error)) is l.0, l.1)
+left_whole limit input before after (Err InputTooLong) is l = (assembled_whole limit input (Err InputTooLong) is l.0, l.1)
+left_whole limit input before after (Err Read) is l = (tt, l.1)
+left_whole limit input before after (Err NoMemory) is l = (tt, l.1)
+
+explained_whole : (limit : ℕ) (input text : List ℕ) (before after : Option (List ℕ)) (failure : Failure) → limit ≡ 1048577 → AsmLeaves (take limit input) before after (Err failure) → Explains (take limit input) failure text → Explains input failure text
+explained_whole limit input text before after (WrongLine error) is l e = subst (λ bytes. Explains bytes (WrongLine error) text) (short 1048576 limit input is l.0.0) e
+explained_whole limit input text before after Write is l e = e
+explained_whole limit input text before after (Refused error) is l e = e
+explained_whole limit input text before after InputTooLong is l e = e
+explained_whole limit input text before after Read is l e = e
+explained_whole limit input text before after NoMemory is l e = e
+
+-- what is left and reported of an input
+abbrev pub IsReported : Option (List ℕ) → Option (List ℕ) → Option (List ℕ) → Option (List ℕ) → List ℕ → Status → Type 0
+IsReported before after told_before told_after input status = (outcome : Result ⊤ Failure) × AsmLeaves input before after outcome × ReportsExplained input told_before told_after outcome status
+
+-- the code was written
+pub done_over : (given before after told_before told_after : Option (List ℕ)) (status : Status) (limit : ℕ) (read : List ℕ) → limit ≡ 1048577 → IfSome given (λ input. read ≡ take limit input) → AsmLeaves read before after (Ok tt)
+    → Reports told_before told_after (Ok tt) status → IfSome given (λ input. IsReported before after told_before told_after input status)
+done_over None before after told_before told_after status limit read is read_is left says = tt
+done_over (Some input) before after told_before told_after status limit read is read_is left says =
+    (Ok tt, left_whole limit input before after (Ok tt) is (subst (λ bytes. AsmLeaves bytes before after (Ok tt)) read_is left), says)
+
+-- it wasn't, and that was explained
+pub failed_over : (given before after told_before told_after : Option (List ℕ)) (status : Status) (failure : Failure) (limit : ℕ) (read : List ℕ) → limit ≡ 1048577 → IfSome given (λ input. read ≡ take limit input) → AsmLeaves read before after (Err failure)
+    → ReportsExplained read told_before told_after (Err failure) status → IfSome given (λ input. IsReported before after told_before told_after input status)
+failed_over None before after told_before told_after status failure limit read is read_is left says = tt
+failed_over (Some input) before after told_before told_after status failure limit read is read_is left says =
+    let l = subst (λ bytes. AsmLeaves bytes before after (Err failure)) read_is left in
+    let s = subst (λ bytes. ReportsExplained bytes told_before told_after (Err failure) status) read_is says in
+    (Err failure, left_whole limit input before after (Err failure) is l, (s.0, explained_whole limit input s.0 before after failure is l s.1, s.2, s.3))
+
+pub stays : (known : Option (List ℕ)) → Keeps known known
+stays None = tt
+stays (Some bytes) = refl
+
+unread : (input : List ℕ) (out told_before told_after : Option (List ℕ)) (status : Status) (failure : Failure) → (failure ≡ Read) ⊎ (failure ≡ NoMemory)
+    → ReportsExplained [] told_before told_after (Err failure) status → IsReported out out told_before told_after input status
+unread input out told_before told_after status Read why says = (Err Read, (tt, stays out), says)
+unread input out told_before told_after status NoMemory why says = (Err NoMemory, (tt, stays out), says)
+unread input out told_before told_after status Write (inl e) says = absurd (cc)
+unread input out told_before told_after status Write (inr e) says = absurd (cc)
+unread input out told_before told_after status InputTooLong (inl e) says = absurd (cc)
+unread input out told_before told_after status InputTooLong (inr e) says = absurd (cc)
+unread input out told_before told_after status (Refused error) (inl e) says = absurd (cc)
+unread input out told_before told_after status (Refused error) (inr e) says = absurd (cc)
+unread input out told_before told_after status (WrongLine error) (inl e) says = absurd (cc)
+unread input out told_before told_after status (WrongLine error) (inr e) says = absurd (cc)
+
+-- the input couldn't be had
+pub unread_over : (given out told_before told_after : Option (List ℕ)) (status : Status) (failure : Failure) → (failure ≡ Read) ⊎ (failure ≡ NoMemory)
+    → ReportsExplained [] told_before told_after (Err failure) status → IfSome given (λ input. IsReported out out told_before told_after input status)
+unread_over None out told_before told_after status failure why says = tt
+unread_over (Some input) out told_before told_after status failure why says = unread input out told_before told_after status failure why says
+
+-- with an explanation or without
+pub explained_over : (given before after told_before told_after : Option (List ℕ)) (status : Status) → IfSome given (λ input. IsReported before after told_before told_after input status)
+    → IfSome given (λ input. (outcome : Result ⊤ Failure) × AsmLeaves input before after outcome × ReportsAsm true input told_before told_after outcome status)
+explained_over given before after told_before told_after status says = says
+
+pub plain_over : (given before after told_before told_after : Option (List ℕ)) (outcome : Result ⊤ Failure) (status : Status) → IfSome given (λ input. AsmLeaves input before after outcome) → Reports told_before told_after outcome status
+    → IfSome given (λ input. (outcome : Result ⊤ Failure) × AsmLeaves input before after outcome × ReportsAsm false input told_before told_after outcome status)
+plain_over None before after told_before told_after outcome status left says = tt
+plain_over (Some input) before after told_before told_after outcome status left says = (outcome, left, says)
+
+-- the status by its number
+pub numbered_over : (given before after told_before told_after : Option (List ℕ)) (explains : Bool) (status : Status) (number : ℕ)
+    → IfSome given (λ input. (outcome : Result ⊤ Failure) × AsmLeaves input before after outcome × ReportsAsm explains input told_before told_after outcome status) → number ≡ status_number status
+    → IfSome given (λ input. ReportsAsmOutcome explains input (AsmLeaves input before after) told_before told_after number)
+numbered_over None before after told_before told_after explains status number says is = tt
+numbered_over (Some input) before after told_before told_after explains status number says is = (says.0, status, says.1, says.2, is)
+
+explained_memory : (explains : Bool) (input : List ℕ) (told_before told_after : Option (List ℕ)) (status : Status) → Reports told_before told_after (Err NoMemory) status → ReportsAsm explains input told_before told_after (Err NoMemory) status
+explained_memory false input told_before told_after status says = says
+explained_memory true input told_before told_after status says = ([], refl, rw append-nil says.0, says.1)
+
+-- right arguments that are answered by an error: there was no memory to read them
+pub memory_over : (given : Option (List ℕ)) (explains : Bool) (kinds : Kinds) (error : Error) (before after told_before told_after : Option (List ℕ)) (status : Status) (number : ℕ)
+    → kinds ≡ [] → HasKind kinds error → Shows (kind_of error) before after told_before told_after status → number ≡ status_number status
+    → IfSome given (λ input. ReportsAsmOutcome explains input (AsmLeaves input before after) told_before told_after number)
+memory_over None explains kinds error before after told_before told_after status number right has shown is = tt
+memory_over (Some input) explains kinds error before after told_before told_after status number right has shown is =
+    let says = rw (only_memory kinds error right has) at shown in (Err NoMemory, status, (tt, says.0), explained_memory explains input told_before told_after status says.1, is)
+
+-- a token is named
+pub says_token : (ts : List Lexeme) (line : List ℕ) (start end : ℕ) → ts ≢ [] → IsFirstOf ts line start end → SaysFirst ts line (token_text line start end)
+says_token [] line start end some first = absurd (some refl)
+says_token (t ∷ ts) line start end some first = (start, end, first, refl)

@@ -1,0 +1,63 @@
+-- What `asm --explain` says beside the line of an error: the token that it is about, and the line that it stands in.
+use Rattle.std.specs.Prelude.{◌≡◌, ℕ, ◌+◌, ◌-◌, ◌==◌, nat_le, ◌&&◌, if◌then◌else◌, Bool, true, false, ⊤, List, [], ◌∷◌, ◌++◌, map, take, slice_range, codes, decimal, Option, Some, None, Result, Ok, Err}
+use Rattle.std.specs.Str.Lines.{lines}
+use Rattle.std.specs.Io.KnownBytes.{Keeps}
+use Rattle.asm_text.specs.Tokens.{Lexeme, tokens, IsFirstOf}
+use Rattle.asm_grammar.specs.declared.why.Why.{Why}
+use Rattle.asm_grammar.specs.Blame.{blamed}
+use Rattle.assembler.specs.Numbered.{numbered}
+use Rattle.streams.specs.Streams.{AppendsSome}
+use Rattle.agent.specs.Failures.{failure_line, status_number, status_of}
+use Rattle.agent.specs.Reports.{Reports}
+use Rattle.agent.specs.declared.failure.Failure.{Failure}
+use Rattle.agent.specs.declared.failure.Failure.TheVariants.{WrongLine}
+use Rattle.agent.specs.declared.failure.Status.{Status}
+
+-- so many bytes are quoted at most
+abbrev pub quote_limit : ℕ
+quote_limit = 200
+
+-- a byte as it is quoted: a space for a tab, and `?` for what is no printable ASCII character
+abbrev pub quoted_byte : ℕ → ℕ
+quoted_byte b = if b == 9 then 32 else (if nat_le 32 b && nat_le b 126 then b else 63)
+
+-- bytes as they are quoted
+abbrev pub quoted : List ℕ → List ℕ
+quoted bytes = 39 ∷ (map quoted_byte (take quote_limit bytes) ++ 39 ∷ [])
+
+-- what is said of the token from start to end of a line
+abbrev pub token_text : List ℕ → ℕ → ℕ → List ℕ
+token_text line start end = codes "column " ++ decimal (start + 1) ++ codes ": " ++ quoted (slice_range line start end) ++ codes " in " ++ quoted line ++ 10 ∷ []
+
+-- what is said of a line that ends too early
+abbrev pub end_text : List ℕ → List ℕ
+end_text line = codes "at the end of " ++ quoted line ++ 10 ∷ []
+
+-- what is said of the first of these tokens, with which the line ends
+abbrev pub SaysFirst : List Lexeme → List ℕ → List ℕ → Type 0
+SaysFirst [] line text = text ≡ end_text line
+SaysFirst (t ∷ ts) line text = (start end : ℕ) × IsFirstOf (t ∷ ts) line start end × (text ≡ token_text line start end)
+
+-- what is said of this line, if there is one, against which this reason is
+abbrev pub SaysOfLine : Option (List ℕ) → Why → List ℕ → Type 0
+SaysOfLine None why text = text ≡ []
+SaysOfLine (Some line) why text = SaysFirst (blamed why (tokens line)) line text
+
+-- What is said beside the line of a failure: nothing but of a line that isn't assembly.
+abbrev pub Explains : List ℕ → Failure → List ℕ → Type 0
+Explains input (WrongLine error) text = SaysOfLine (numbered (error.line - 1) (lines input)) error.why text
+Explains input _ text = text ≡ []
+
+-- Standard error, which was as before, and the status: nothing more and Done, or the failure's line and its explanation, as much of it as that stream takes, and its status.
+abbrev pub ReportsExplained : List ℕ → Option (List ℕ) → Option (List ℕ) → Result ⊤ Failure → Status → Type 0
+ReportsExplained input before after (Ok done) status = Reports before after (Ok done) status
+ReportsExplained input before after (Err failure) status = (text : List ℕ) × Explains input failure text × AppendsSome before after (failure_line failure ++ text) × (status ≡ status_of failure)
+
+-- the same with an explanation, or without
+abbrev pub ReportsAsm : Bool → List ℕ → Option (List ℕ) → Option (List ℕ) → Result ⊤ Failure → Status → Type 0
+ReportsAsm false input before after outcome status = Reports before after outcome status
+ReportsAsm true input before after outcome status = ReportsExplained input before after outcome status
+
+-- The work has such an outcome over this input, and standard error and the exit status report it, with an explanation or without.
+abbrev pub ReportsAsmOutcome : Bool → List ℕ → (Result ⊤ Failure → Type 0) → Option (List ℕ) → Option (List ℕ) → ℕ → Type 0
+ReportsAsmOutcome explains input work before after number = (outcome : Result ⊤ Failure) × (status : Status) × work outcome × ReportsAsm explains input before after outcome status × (number ≡ status_number status)
