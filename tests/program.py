@@ -43,7 +43,7 @@ LONGEST = [("check", WIDE + EXIT * 4093 + bytes.fromhex("050001f000000000"), b"s
 # What `--explain` adds to the line of an error: at most 200 bytes are quoted of a token and of its line.
 EXPLAINED = [(b"exit\nexot ; leave\n", b"line 2: Word\n", b"column 1: 'exot' in 'exot ; leave'\n"), (b"mov r0,", b"line 1: Operand\n", b"at the end of 'mov r0,'\n"),
              (b"mov r0, " + b"9" * 300, b"line 1: Range\n", b"column 9: '" + b"9" * 200 + b"' in 'mov r0, " + b"9" * 192 + b"'\n"),
-             (b"\n" * 1048570 + b" ja +", b"line 1048571: Operand\n", b"at the end of ' ja +'\n"), (b" " * 1048570 + b"x\x1b[7m", b"line 1: Word\n", b"column 1048572: '?' in '" + b" " * 200 + b"'\n"),
+             (b"\n" * 1048570 + b" ja +", b"line 1048571: Operand\n", b"column 5: '+' in ' ja +'\n"), (b" " * 1048570 + b"x\x1b[7m", b"line 1: Word\n", b"column 1048572: '?' in '" + b" " * 200 + b"'\n"),
              (b"exit\n" * 4096 + b"x: exit", b"line 4097: TooLong\n", b"column 4: 'exit' in 'x: exit'\n"), (b"\n" * 1048577, b"input too long\n", b"")]
 
 
