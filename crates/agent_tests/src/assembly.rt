@@ -97,7 +97,10 @@ fn an_explanation_names_the_token(rt: HostRuntime) {
             b"x: exit\n x:exit\n",
             b"line 2: TwiceLabel\ncolumn 2: 'x' in ' x:exit'\n",
         ),
-        (b"mov r11, 3", b"line 1: Operand\ncolumn 5: 'r11' in 'mov r11, 3'\n"),
+        (
+            b"mov r11, 3",
+            b"line 1: Operand\ncolumn 5: 'r11' in 'mov r11, 3'\n",
+        ),
     ];
     for (text, said) in cases {
         let outcome = outcome_of(rt.alloc(), &["asm", "--explain"], text);

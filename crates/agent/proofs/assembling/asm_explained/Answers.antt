@@ -16,5 +16,5 @@ returns-clause-reported g c =
     let failure = c.in-Err-put_code.failure in
     let left = subst (λ bytes. AsmLeaves bytes (g.W.Write.contents c.args.writer.now) (g.W.Write.contents c.put_code.new.writer) (Err failure)) c.deref.ensures.value c.in-Err-put_code.ensures in
     let says = subst (λ bytes. ReportsExplained bytes (g.E.Write.contents c.args.errors.now) (g.E.Write.contents c.report_explained-in-Err-put_code.new.errors) (Err failure) c.report_explained-in-Err-put_code.result)
-        c.deref-in-Err-put_code.ensures.value c.report_explained-in-Err-put_code.ensures in
+    c.deref-in-Err-put_code.ensures.value c.report_explained-in-Err-put_code.ensures in
     failed_over _ _ _ _ _ _ failure asm_limit _ refl c.in-Ok.ensures.whole left says

@@ -1,0 +1,11 @@
+//! The texts of errors as a program prints them, each once.
+#![tactic(auto)]
+
+#[cfg(test)]
+mod assembly;
+#[cfg(test)]
+mod code;
+#[cfg(test)]
+mod objects;
+#[cfg(test)]
+mod streams;
