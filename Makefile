@@ -10,7 +10,7 @@ PROGRAM := crates/bpfagent/out/bpfagent
 run:
 	@python3 tests/build.py $(RT) run
 
-# Without a proof: out/bpfagent-unproved, within a minute.
+# Without a proof: out/bpfagent-unproved, in a minute or two.
 try:
 	@python3 tests/build.py $(RT) try
 
