@@ -135,9 +135,7 @@ where
     I: Read + Send + Drop + 'static,
 {
     let theirs = Arc::try_clone(gate)?;
-    Ok(thread::spawn(&rt, move || {
-        watch(&rt, &theirs, address, input)
-    })?)
+    Ok(thread::spawn(&rt, move || { watch(&rt, &theirs, address, input) })?)
 }
 
 /// Says which port is listened on: the one that was asked for, or the bound one where that was 0.

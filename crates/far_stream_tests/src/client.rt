@@ -10,6 +10,7 @@ use std::test::Fail;
 
 /// The put of `abc` as id 1, byte for byte, and its answer.
 const PUT_ABC: [u8; 16] = [1, 0, 0, 0, 0, 0, 0, 0, 1, 0, 0, 0, 3, 0x61, 0x62, 0x63];
+
 const ANSWER: [u8; 13] = [0, 0, 0, 0, 0, 0, 0, 0, 1, 0, 0, 0, 0];
 /// The get of id 1.
 const GET_ONE: [u8; 13] = [2, 0, 0, 0, 0, 0, 0, 0, 1, 0, 0, 0, 0];
@@ -40,18 +41,66 @@ fn a_put_and_a_get_byte_for_byte(rt: HostRuntime) -> Result<(), Fail> {
 /// right answer follows.
 const GETS: [(&[u8], Result<(), StoreFault>, Result<(), StoreFault>); 13] = [
     (b"\x00\0\0\0\0\0\0\0\x01\0\0\0\x03abc", Ok(()), Ok(())),
-    (b"\x00\0\0\0\0\0\0\0\x01\0\0\0\x03abd", Err(StoreFault::Damaged), Ok(())),
-    (b"\x00\0\0\0\0\0\0\0\x01\0\0\0\x00", Err(StoreFault::Damaged), Ok(())),
-    (b"\x00\0\0\0\0\0\0\0\x01\0\0\0\x02ab", Err(StoreFault::Damaged), Ok(())),
-    (b"\x00\0\0\0\0\0\0\0\x01\0\0\0\x04abca", Err(StoreFault::Damaged), Ok(())),
-    (b"\x01\0\0\0\0\0\0\0\x01\0\0\0\x00", Err(StoreFault::Refused), Ok(())),
-    (b"\x02\0\0\0\0\0\0\0\x01\0\0\0\x00", Err(StoreFault::Refused), Ok(())),
-    (b"\x00\0\0\0\0\0\0\0\x02\0\0\0\x03abc", Err(StoreFault::Protocol), Err(StoreFault::Protocol)),
-    (b"\x00\x01\0\0\0\0\0\0\x01\0\0\0\x03abc", Err(StoreFault::Protocol), Err(StoreFault::Protocol)),
-    (b"\x03\0\0\0\0\0\0\0\x01\0\0\0\x00", Err(StoreFault::Protocol), Err(StoreFault::Protocol)),
-    (b"\x01\0\0\0\0\0\0\0\x01\0\0\0\x03abc", Err(StoreFault::Protocol), Err(StoreFault::Protocol)),
-    (b"\x00\0\0\0\0\0\0\0\x01\0\x01\0\x01", Err(StoreFault::Protocol), Err(StoreFault::Protocol)),
-    (b"\x00\0\0\0\0\0\0\0\x01\xff\xff\xff\xff", Err(StoreFault::Protocol), Err(StoreFault::Protocol)),
+    (
+        b"\x00\0\0\0\0\0\0\0\x01\0\0\0\x03abd",
+        Err(StoreFault::Damaged),
+        Ok(()),
+    ),
+    (
+        b"\x00\0\0\0\0\0\0\0\x01\0\0\0\x00",
+        Err(StoreFault::Damaged),
+        Ok(()),
+    ),
+    (
+        b"\x00\0\0\0\0\0\0\0\x01\0\0\0\x02ab",
+        Err(StoreFault::Damaged),
+        Ok(()),
+    ),
+    (
+        b"\x00\0\0\0\0\0\0\0\x01\0\0\0\x04abca",
+        Err(StoreFault::Damaged),
+        Ok(()),
+    ),
+    (
+        b"\x01\0\0\0\0\0\0\0\x01\0\0\0\x00",
+        Err(StoreFault::Refused),
+        Ok(()),
+    ),
+    (
+        b"\x02\0\0\0\0\0\0\0\x01\0\0\0\x00",
+        Err(StoreFault::Refused),
+        Ok(()),
+    ),
+    (
+        b"\x00\0\0\0\0\0\0\0\x02\0\0\0\x03abc",
+        Err(StoreFault::Protocol),
+        Err(StoreFault::Protocol),
+    ),
+    (
+        b"\x00\x01\0\0\0\0\0\0\x01\0\0\0\x03abc",
+        Err(StoreFault::Protocol),
+        Err(StoreFault::Protocol),
+    ),
+    (
+        b"\x03\0\0\0\0\0\0\0\x01\0\0\0\x00",
+        Err(StoreFault::Protocol),
+        Err(StoreFault::Protocol),
+    ),
+    (
+        b"\x01\0\0\0\0\0\0\0\x01\0\0\0\x03abc",
+        Err(StoreFault::Protocol),
+        Err(StoreFault::Protocol),
+    ),
+    (
+        b"\x00\0\0\0\0\0\0\0\x01\0\x01\0\x01",
+        Err(StoreFault::Protocol),
+        Err(StoreFault::Protocol),
+    ),
+    (
+        b"\x00\0\0\0\0\0\0\0\x01\xff\xff\xff\xff",
+        Err(StoreFault::Protocol),
+        Err(StoreFault::Protocol),
+    ),
 ];
 
 /// A get's outcome, where its bytes are `abc`.
@@ -91,7 +140,10 @@ fn what_a_get_may_be_answered(rt: HostRuntime) -> Result<(), Fail> {
 fn a_broken_stream_stays_broken(rt: HostRuntime) -> Result<(), Fail> {
     for (answer, fault) in [
         (b"\x00\0\0\0\0\0\0\0\x01".as_slice(), StoreFault::Io),
-        (b"\x04\0\0\0\0\0\0\0\x01\0\0\0\0".as_slice(), StoreFault::Protocol),
+        (
+            b"\x04\0\0\0\0\0\0\0\x01\0\0\0\0".as_slice(),
+            StoreFault::Protocol,
+        ),
     ] {
         let mut says = owned(rt.alloc(), &ANSWER)?;
         says.extend_from_slice(answer)?;
@@ -121,14 +173,50 @@ fn a_broken_stream_stays_broken(rt: HostRuntime) -> Result<(), Fail> {
 /// What a put may be answered, what comes of it, and whether the stream goes on.
 const PUTS: [(&[u8], Option<StoreFault>, bool); 8] = [
     (b"\x00\0\0\0\0\0\0\0\x01\0\0\0\0", None, true),
-    (b"\x01\0\0\0\0\0\0\0\x01\0\0\0\0", Some(StoreFault::Refused), true),
-    (b"\x02\0\0\0\0\0\0\0\x01\0\0\0\0", Some(StoreFault::Refused), true),
-    (b"\x03\0\0\0\0\0\0\0\x01\0\0\0\0", Some(StoreFault::Protocol), false),
-    (b"\x00\0\0\0\0\0\0\0\x00\0\0\0\0", Some(StoreFault::Protocol), false),
-    (b"\x00\0\0\0\0\0\0\0\x02\0\0\0\0", Some(StoreFault::Protocol), false),
-    (b"\x00\0\0\0\0\0\0\0\x01\0\0\0\x03abc", Some(StoreFault::Protocol), false),
+    (
+        b"\x01\0\0\0\0\0\0\0\x01\0\0\0\0",
+        Some(StoreFault::Refused),
+        true,
+    ),
+    (
+        b"\x02\0\0\0\0\0\0\0\x01\0\0\0\0",
+        Some(StoreFault::Refused),
+        true,
+    ),
+    (
+        b"\x03\0\0\0\0\0\0\0\x01\0\0\0\0",
+        Some(StoreFault::Protocol),
+        false,
+    ),
+    (
+        b"\x00\0\0\0\0\0\0\0\x00\0\0\0\0",
+        Some(StoreFault::Protocol),
+        false,
+    ),
+    (
+        b"\x00\0\0\0\0\0\0\0\x02\0\0\0\0",
+        Some(StoreFault::Protocol),
+        false,
+    ),
+    (
+        b"\x00\0\0\0\0\0\0\0\x01\0\0\0\x03abc",
+        Some(StoreFault::Protocol),
+        false,
+    ),
     (b"\x00\0\0\0\0\0\0\0\x01\0\0\0", Some(StoreFault::Io), false),
 ];
+
+/// Why a put failed, if it did, and whether its bytes came back then.
+fn put_fault<S: FarStore>(
+    store: &mut S,
+    bytes: Vec<u8>,
+    same: &[u8],
+) -> (Option<StoreFault>, bool) {
+    match store.put(bytes) {
+        Ok(_parcel) => (None, true),
+        Err((fault, back)) => (Some(fault), back.as_slice() == same),
+    }
+}
 
 #[test]
 fn what_a_put_may_be_answered(rt: HostRuntime) -> Result<(), Fail> {
@@ -139,16 +227,16 @@ fn what_a_put_may_be_answered(rt: HostRuntime) -> Result<(), Fail> {
         }
         let heard = Heard::new(rt.alloc());
         let mut store = StreamStore::new(rt.alloc(), Wire::new(&says, &heard));
-        let found = match store.put(owned(rt.alloc(), b"abc")?) {
-            Ok(_) => None,
-            Err((fault, bytes)) => {
-                assert_eq!(rt; bytes.as_slice(), b"abc".as_slice(), "{answer:?}");
-                Some(fault)
-            }
-        };
-        assert_eq!(rt; found, wanted, "{answer:?}");
+        let abc = owned(rt.alloc(), b"abc")?;
+        assert_eq!(rt;
+            put_fault(&mut store, abc, b"abc"),
+            (wanted, true),
+            "{answer:?}"
+        );
         assert!(rt; heard.is(&PUT_ABC));
-        assert_eq!(rt; store.put(owned(rt.alloc(), b"x")?).is_ok(), goes_on, "{answer:?}");
+        let x = owned(rt.alloc(), b"x")?;
+        let (second_fault, _) = put_fault(&mut store, x, b"x");
+        assert_eq!(rt; second_fault.is_none(), goes_on, "{answer:?}");
         let mut second = Vec::new(rt.alloc());
         if goes_on {
             add_frame(&mut second, PUT, 2, b"x")?;

@@ -9,10 +9,15 @@ use std::test::Fail;
 
 /// How many bytes the client writes for a put of `abc`, a get and a forget of it, and hears.
 const PUT_WRITES: usize = 16;
+
 const GET_WRITES: usize = 29;
+
 const ALL_WRITES: usize = 42;
+
 const PUT_HEARS: usize = 13;
+
 const GET_HEARS: usize = 29;
+
 const ALL_HEARS: usize = 42;
 
 /// The answers to a put of `abc`, a get and a forget of it.
@@ -95,7 +100,11 @@ fn each_read_fails(rt: HostRuntime) -> Result<(), Fail> {
         let found = asked(rt.alloc(), wire)?;
         let wanted = failed_after(good, PUT_HEARS, GET_HEARS, ALL_HEARS);
         assert_eq!(rt; found, wanted, "{good} reads");
-        assert_eq!(rt; heard.reads.get(), ALL_HEARS.min(good.saturating_add(1)), "{good} reads");
+        assert_eq!(rt;
+            heard.reads.get(),
+            ALL_HEARS.min(good.saturating_add(1)),
+            "{good} reads"
+        );
     }
     Ok(())
 }
@@ -129,7 +138,11 @@ fn pieces_of_each_size(rt: HostRuntime) -> Result<(), Fail> {
         let heard = Heard::new(rt.alloc());
         let mut wire = Wire::new(&says, &heard);
         wire.size = size;
-        assert_eq!(rt; asked(rt.alloc(), wire)?, (None, None, 0), "pieces of {size}");
+        assert_eq!(rt;
+            asked(rt.alloc(), wire)?,
+            (None, None, 0),
+            "pieces of {size}"
+        );
         assert!(rt; heard.is(&asks), "pieces of {size}");
     }
     Ok(())

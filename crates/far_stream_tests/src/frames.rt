@@ -4,12 +4,16 @@ use std::alloc::{AllocError, Global};
 
 /// A request's kind.
 pub const PUT: u8 = 1;
+
 pub const GET: u8 = 2;
+
 pub const FORGET: u8 = 3;
 
 /// An answer's status.
 pub const DONE: u8 = 0;
+
 pub const REFUSED_ID: u8 = 1;
+
 pub const NO_ROOM: u8 = 2;
 
 /// Adds the head of a frame: a kind or a status, an id and a length.
@@ -21,7 +25,10 @@ pub fn add_head(to: &mut Vec<u8>, kind: u8, id: u64, count: u32) -> Result<(), A
 
 /// Adds a frame.
 pub fn add_frame(to: &mut Vec<u8>, kind: u8, id: u64, bytes: &[u8]) -> Result<(), AllocError> {
-    add_head(to, kind, id, bytes.len() as u32)?;
+    let Ok(count) = u32::try_from(bytes.len()) else {
+        return Err(AllocError);
+    };
+    add_head(to, kind, id, count)?;
     to.extend_from_slice(bytes)
 }
 

@@ -121,7 +121,10 @@ fn each_request_is_answered(rt: HostRuntime) -> Result<(), Fail> {
 #[test]
 fn nothing_is_asked(rt: HostRuntime) {
     let heard = Heard::new(rt.alloc());
-    assert_eq!(rt; serve_store(rt.alloc(), &mut Wire::new(&[], &heard)), Ok(()));
+    assert_eq!(rt;
+        serve_store(rt.alloc(), &mut Wire::new(&[], &heard)),
+        Ok(())
+    );
     assert!(rt; heard.is(&[]));
 }
 
@@ -134,7 +137,11 @@ fn requests_cut_after_each_byte(rt: HostRuntime) -> Result<(), Fail> {
         let heard = Heard::new(rt.alloc());
         let mut wire = Wire::new(first(&talk.asks, count), &heard);
         let (said, whole) = talk.answered(count);
-        let wanted = if whole { Ok(()) } else { Err(StreamFault::Protocol) };
+        let wanted = if whole {
+            Ok(())
+        } else {
+            Err(StreamFault::Protocol)
+        };
         assert_eq!(rt; serve_store(rt.alloc(), &mut wire), wanted, "{count} bytes");
         assert!(rt; heard.is(first(&talk.says, said)), "{count} bytes");
     }
@@ -150,7 +157,11 @@ fn each_read_of_the_server_fails(rt: HostRuntime) -> Result<(), Fail> {
         wire.size = 1;
         wire.good_reads = good;
         let (said, _) = talk.answered(good);
-        assert_eq!(rt; serve_store(rt.alloc(), &mut wire), Err(StreamFault::Io), "{good} reads");
+        assert_eq!(rt;
+            serve_store(rt.alloc(), &mut wire),
+            Err(StreamFault::Io),
+            "{good} reads"
+        );
         assert!(rt; heard.is(first(&talk.says, said)), "{good} reads");
     }
     Ok(())
@@ -181,7 +192,11 @@ fn requests_in_pieces(rt: HostRuntime) -> Result<(), Fail> {
         let heard = Heard::new(rt.alloc());
         let mut wire = Wire::new(&talk.asks, &heard);
         wire.size = size;
-        assert_eq!(rt; serve_store(rt.alloc(), &mut wire), Ok(()), "pieces of {size}");
+        assert_eq!(rt;
+            serve_store(rt.alloc(), &mut wire),
+            Ok(()),
+            "pieces of {size}"
+        );
         assert!(rt; heard.is(&talk.says), "pieces of {size}");
     }
     Ok(())
@@ -265,7 +280,10 @@ fn a_conversation_keeps_nothing_for_the_next(rt: HostRuntime) -> Result<(), Fail
     next.get_refused(1)?;
     for talk in [talk, next] {
         let heard = Heard::new(rt.alloc());
-        assert_eq!(rt; serve_store(rt.alloc(), &mut Wire::new(&talk.asks, &heard)), Ok(()));
+        assert_eq!(rt;
+            serve_store(rt.alloc(), &mut Wire::new(&talk.asks, &heard)),
+            Ok(())
+        );
         assert!(rt; heard.is(&talk.says));
     }
     Ok(())

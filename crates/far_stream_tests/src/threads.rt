@@ -36,7 +36,8 @@ impl Write for Damaging {
         if let Some(last) = damaged.pop() {
             damaged.push(last ^ 1)?;
         }
-        self.stream.write(&damaged)
+        let taken = self.stream.write(&damaged)?;
+        Ok(taken.min(buf.len()))
     }
 
     fn flush(&mut self) -> IoResult<()> {
@@ -58,6 +59,28 @@ fn serve_one(alloc: Global, listener: TcpListener, good: usize) -> Result<(), St
     serve_store(alloc, &mut stream)
 }
 
+/// The parcel of so many bytes.
+fn put<S: FarStore>(alloc: Global, store: &mut S, count: usize) -> Result<S::Parcel, Fail> {
+    match store.put(pattern(alloc, count)?) {
+        Ok(parcel) => Ok(parcel),
+        Err((fault, _bytes)) => Err(Fail::new(fault)),
+    }
+}
+
+/// What comes of a get: nothing where these bytes come home, and else the fault.
+fn gets<S: FarStore>(
+    alloc: Global,
+    store: &mut S,
+    parcel: &S::Parcel,
+    count: usize,
+) -> Result<Option<StoreFault>, Fail> {
+    match store.get(parcel) {
+        Ok(bytes) if bytes == pattern(alloc, count)? => Ok(None),
+        Ok(_bytes) => Err(Fail::new("other bytes")),
+        Err(fault) => Ok(Some(fault)),
+    }
+}
+
 /// Three objects leave. One comes home damaged and is asked for again; the stream goes on.
 #[test]
 fn objects_leave_and_come_home(rt: HostRuntime) -> Result<(), Fail> {
@@ -66,21 +89,20 @@ fn objects_leave_and_come_home(rt: HostRuntime) -> Result<(), Fail> {
     let address = listener.local_addr()?;
     let server = thread::spawn(&rt, move || serve_one(alloc, listener, 4))?;
     let mut store = StreamStore::new(alloc, TcpStream::connect(&rt, address)?);
-    let mut parcels = Vec::new(alloc);
-    for count in [1usize, 64, 65_536] {
-        match store.put(pattern(alloc, count)?) {
-            Ok(parcel) => parcels.push(parcel)?,
-            Err(_) => return Err(Fail::new("the put failed")),
-        }
-    }
-    assert!(rt; store.get(&parcels[0])? == pattern(alloc, 1)?);
-    assert!(rt; matches!(store.get(&parcels[1]), Err(StoreFault::Damaged)));
-    assert!(rt; store.get(&parcels[1])? == pattern(alloc, 64)?);
-    assert!(rt; store.get(&parcels[2])? == pattern(alloc, 65_536)?);
+    let first = put(alloc, &mut store, 1)?;
+    let second = put(alloc, &mut store, 64)?;
+    let third = put(alloc, &mut store, 65_536)?;
+    assert_eq!(rt; gets(alloc, &mut store, &first, 1)?, None);
+    assert_eq!(rt;
+        gets(alloc, &mut store, &second, 64)?,
+        Some(StoreFault::Damaged)
+    );
+    assert_eq!(rt; gets(alloc, &mut store, &second, 64)?, None);
+    assert_eq!(rt; gets(alloc, &mut store, &third, 65_536)?, None);
     assert_eq!(rt; store.faults(), 1);
-    for parcel in parcels {
-        store.forget(parcel);
-    }
+    store.forget(first);
+    store.forget(second);
+    store.forget(third);
     assert_eq!(rt; store.faults(), 1);
     drop(store);
     assert_eq!(rt; server.join(&rt), Ok(()));
