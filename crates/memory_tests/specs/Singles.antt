@@ -48,16 +48,17 @@ each_reach P d o a b w Worn = w
 pub single_promises : KeepsPromises single_memory
 single_promises = record {
   answers = λ old new n op r. each_reach (λ r. single_reaches old n op r new → Promises (single_memory.length_of old n) op r ⊥)
-    (λ x h. let k = done old new n op x h in (k.0, (bytes_of (objects_of old) n, refl, k.1)))
-    (λ h. h.0) (λ h. absurd h) (λ h. absurd h) (λ h. absurd h) r;
+      (λ x h. let k = done old new n op x h in (k.0, (bytes_of (objects_of old) n, refl, k.1)))
+      (λ h. h.0) (λ h. absurd h) (λ h. absurd h) (λ h. absurd h) r;
   reaches = λ old new n op r h. record {
     adds = each_reach (λ r. single_reaches old n op r new → DoesAll (objects_of old) (entries_added n op r) (objects_of new))
-      (λ x d. map_adds (objects_of old) (objects_of new) n op (Done x) (done old new n op x d))
-      (λ o. ap objects_of o.1) (λ a. absurd a) (λ b. absurd b) (λ w. absurd w) r h;
+        (λ x d. map_adds (objects_of old) (objects_of new) n op (Done x) (done old new n op x d))
+        (λ o. ap objects_of o.1) (λ a. absurd a) (λ b. absurd b) (λ w. absurd w) r h;
     lengths = λ k. each_reach (λ r. single_reaches old n op r new → single_memory.length_of new k ≡ single_memory.length_of old k)
-      (λ x d. lengths (objects_of old) (objects_of new) n k op (Done x) (done old new n op x d))
-      (λ o. ap (λ (b : List ℕ). single_memory.length_of b k) o.1) (λ a. absurd a) (λ b. absurd b) (λ w. absurd w) r h;
-    worn = λ k w. w };
+        (λ x d. lengths (objects_of old) (objects_of new) n k op (Done x) (done old new n op x d))
+        (λ o. ap (λ (b : List ℕ). single_memory.length_of b k) o.1) (λ a. absurd a) (λ b. absurd b) (λ w. absurd w) r h;
+    worn = λ k w. w;
+  };
   closes = λ old new e. record { adds = ap objects_of e; lengths = λ k. ap (λ (b : List ℕ). single_memory.length_of b k) e; worn = λ k w. w };
   lengths = λ m n. refl;
 }

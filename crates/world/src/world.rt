@@ -81,7 +81,9 @@ impl<F: FarStore + Drop> World<F> {
         ensures refused { IfErr result (λ e. RefusesParts self.store e) }
     {
         let World {
-            machines, store, ..
+            machines,
+            store,
+            ..
         } = self;
         match store.into_parts() {
             Ok(parts) => Ok(WorldParts {
