@@ -8,4 +8,4 @@ mod code;
 #[cfg(test)]
 mod objects;
 #[cfg(test)]
-mod streams;
+mod stream_faults;
