@@ -1,0 +1,113 @@
+//! Tables, machines and gates. A slot of code is written as its bytes, first to last.
+
+use debugger::{Debuggee, Start};
+use loader::{Program, load};
+use std::alloc::{AllocError, Global};
+use std::sync::atomic::{AtomicBool, AtomicU64, Ordering};
+use std::test::Fail;
+use std::thread::yield_now;
+use workers::Gate;
+
+pub const EXIT: u64 = 0x9500_0000_0000_0000;
+
+/// aadd [r1], r2
+pub const ADD: u64 = 0xdb21_0000_0000_0000;
+
+/// ldxdw r0, [r1]
+pub const LOAD: u64 = 0x7910_0000_0000_0000;
+
+/// The address of object 1.
+pub const OBJECT: u64 = 0x0000_0001_0000_0000;
+
+/// How often is looked at a flag at most.
+pub const LOOKS: u64 = 10_000;
+
+/// So many objects of eight bytes, all zero.
+pub fn objects(alloc: Global, count: usize) -> Result<Vec<Vec<u8>>, AllocError> {
+    let mut bodies = Vec::new(alloc);
+    for _ in 0..count {
+        bodies.push(vec![in alloc; 0u8; 8]?)?;
+    }
+    Ok(bodies)
+}
+
+/// A program of these slots.
+pub fn code(alloc: Global, slots: &[u64]) -> Result<Program, Fail> {
+    let mut bytes = Vec::new(alloc);
+    for slot in slots {
+        bytes.extend_from_slice(&slot.to_be_bytes())?;
+    }
+    Ok(load(alloc, bytes.as_slice())?)
+}
+
+/// A machine of this number at the start of its code.
+pub fn machine(
+    alloc: Global,
+    number: usize,
+    fuel: u64,
+    arguments: [u64; 5],
+    slots: &[u64],
+) -> Result<Debuggee, Fail> {
+    Ok(Debuggee::new(code(alloc, slots)?, number, Start::new(fuel, arguments)))
+}
+
+/// Waits until a flag is set, for so many looks at most, and says whether it is.
+pub fn waits_for(flag: &AtomicBool) -> bool {
+    for _ in 0..LOOKS {
+        if flag.load(Ordering::SeqCst) {
+            return true;
+        }
+        yield_now();
+    }
+    false
+}
+
+/// Holds the first instruction of machine 1 until machine 2 has answered one, and the first worker until there are two.
+#[derive(Drop)]
+pub struct Holds {
+    pub asked: AtomicU64,
+    pub both: AtomicBool,
+    pub first: AtomicBool,
+    pub other: AtomicBool,
+    pub met: AtomicBool,
+    pub ends: AtomicBool,
+}
+
+impl Holds {
+    pub fn new() -> Self {
+        Holds {
+            asked: AtomicU64::new(0),
+            both: AtomicBool::new(false),
+            first: AtomicBool::new(false),
+            other: AtomicBool::new(false),
+            met: AtomicBool::new(false),
+            ends: AtomicBool::new(false),
+        }
+    }
+}
+
+impl Gate for Holds {
+    fn before(&self, _worker: usize, machine: usize) {
+        if machine == 1 && !self.first.swap(true, Ordering::SeqCst) {
+            self.met.store(waits_for(&self.other), Ordering::SeqCst);
+        }
+    }
+
+    fn after(&self, _worker: usize, machine: usize) {
+        if machine == 2 {
+            self.other.store(true, Ordering::SeqCst);
+        }
+    }
+
+    // The first that asks waits for the second, so both workers have come.
+    fn go_on(&self) -> bool {
+        match self.asked.fetch_add(1, Ordering::SeqCst) {
+            0 => {
+                waits_for(&self.both);
+            }
+            1 => self.both.store(true, Ordering::SeqCst),
+            _ => {}
+        }
+        !self.ends.load(Ordering::SeqCst)
+    }
+}

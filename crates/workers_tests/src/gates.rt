@@ -1,0 +1,144 @@
+//! Workers, and who is told of each instruction.
+ghost use Rattle.std.specs.Prelude.{◌≡◌, ◌≤◌, length, All};
+ghost use Rattle.shared_objects.specs.Kinds.{dealer};
+ghost use Rattle.shared_objects.specs.Opened.{AreFresh};
+ghost use Rattle.shared_objects.specs.Tables.{IsActorOf};
+ghost use Rattle.workers.specs.Cells.{IsTableOf};
+ghost use Rattle.workers.specs.Pools.{machines_of};
+
+use crate::common::{ADD, EXIT, Holds, LOAD, LOOKS, OBJECT, code, machine, objects};
+use debugger::{Debuggee, Start, StepReply, Way};
+use far_store::{FarStore, OwnStore};
+use loader::Program;
+use machine::Stop;
+use shared_objects::{ActorSeat, Shared};
+use std::alloc::{AllocError, Global};
+use std::marker::Brand;
+use std::sync::Wait;
+use std::sync::atomic::Ordering;
+use std::test::Fail;
+use std::thread;
+use std::thread::{Threads, yield_now};
+use workers::{Mark, Pool, work};
+
+/// What two workers left.
+#[derive(Drop)]
+struct Left {
+    made: usize,
+    /// Whether machines 1 and 2 came to their ends.
+    ended: bool,
+    /// What machine 3, shipped then, was answered to its two steps.
+    replies: [Option<StepReply>; 2],
+}
+
+/// Whether neither machine 1 nor machine 2 goes on, after so many looks at most.
+fn waits_for_ends<F: FarStore, K: Mark, R: Wait>(rt: &R, pool: &Pool<F, K>) -> bool {
+    for _ in 0..LOOKS {
+        if !goes(rt, pool, 1) && !goes(rt, pool, 2) {
+            return true;
+        }
+        yield_now();
+    }
+    false
+}
+
+fn goes<F: FarStore, K: Mark, R: Wait>(rt: &R, pool: &Pool<F, K>, number: usize) -> bool {
+    match pool.cell(number) {
+        Some(cell) => cell.lock(rt).is_going(),
+        None => false,
+    }
+}
+
+/// Two workers on threads of their own, until both machines came to their ends.
+fn run_two<F: FarStore + Send + Sync, K: Mark + Send + Sync, R: Threads + Wait + Sync>(
+    rt: &R,
+    gate: &Holds,
+    pool: &Pool<F, K>,
+) -> (usize, bool)
+where
+    F::Parcel: Send,
+{
+    thread::scope(thread::scope_env(), rt, |scope| {
+        let mut made: usize = 0;
+        for worker in 0..2 {
+            if scope.spawn(move || work(rt, gate, pool, worker)).is_ok() {
+                made = made.wrapping_add(1);
+            }
+        }
+        let ended = waits_for_ends(rt, pool);
+        gate.ends.store(true, Ordering::SeqCst);
+        (made, ended)
+    })
+}
+
+/// Ships a machine into cell 3, and steps it.
+fn ship_third<F: FarStore, K: Mark, R: Wait>(
+    rt: &R,
+    pool: &Pool<F, K>,
+    program: Program,
+) -> [Option<StepReply>; 2] {
+    let Some(cell) = pool.cell(3) else {
+        return [None, None];
+    };
+    let mut locked = cell.lock(rt);
+    if locked.has_machine() {
+        return [None, None];
+    }
+    locked.ship(program, Start::new(2, [OBJECT, 0, 0, 0, 0]));
+    let first = locked.step(pool.table(), Way::Step);
+    let second = locked.step(pool.table(), Way::Step);
+    [first, second]
+}
+
+fn run<F: FarStore + Drop + Send + Sync, K: Mark + Send + Sync, R: Threads + Wait + Sync>(
+    rt: &R,
+    alloc: Global,
+    gate: &Holds,
+    shared: Shared<F>,
+    seats: Vec<ActorSeat>,
+    machines: Vec<Debuggee>,
+    program: Program,
+) -> Result<Left, AllocError>
+where
+    F::Parcel: Send,
+    requires table { IsTableOf K.table K.opening shared.table }
+    requires seats { AreFresh (dealer F.RETURNS K.opening) seats.items × All (IsActorOf shared.table) seats.items }
+    requires machines { K.starts ≡ machines_of machines.items }
+    requires room { length machines.items ≤ length seats.items }
+{
+    let pool: Pool<F, K> = Pool::new(rt, alloc, shared, seats, machines)?;
+    let (made, ended) = run_two(rt, gate, &pool);
+    let replies = ship_third(rt, &pool, program);
+    Ok(Left {
+        made,
+        ended,
+        replies,
+    })
+}
+
+#[test]
+fn gate_two_workers(rt: HostRuntime) -> Result<(), Fail> {
+    let alloc = rt.alloc();
+    let mut machines = Vec::new(alloc);
+    machines.push(machine(alloc, 1, 10, [OBJECT, 1, 0, 0, 0], &[ADD, EXIT])?)?;
+    machines.push(machine(alloc, 2, 10, [OBJECT, 1, 0, 0, 0], &[ADD, EXIT])?)?;
+    let program = code(alloc, &[LOAD, EXIT])?;
+    let bodies = objects(alloc, 1)?;
+    assert_eq!(rt; bodies.len(), 1);
+    let (shared, seats, _mover) = Shared::<OwnStore>::open(alloc, bodies, 3)?;
+    assert!(rt; machines.len() <= seats.len());
+    let gate = Holds::new();
+    let left = run::<OwnStore, Brand, _>(&rt, alloc, &gate, shared, seats, machines, program)?;
+    assert_eq!(rt; left.made, 2);
+    assert!(rt; gate.both.load(Ordering::SeqCst));
+    assert!(rt; gate.met.load(Ordering::SeqCst));
+    assert!(rt; left.ended);
+    assert_eq!(rt;
+        left.replies,
+        [
+            Some(StepReply::Ran(1)),
+            Some(StepReply::Stopped(Stop::Exit(2)))
+        ]
+    );
+    Ok(())
+}

@@ -1,0 +1,7 @@
+//! Machines that workers step over one table, over public calls alone.
+#![tactic(auto)]
+
+#[cfg(test)]
+mod common;
+#[cfg(test)]
+mod gates;
