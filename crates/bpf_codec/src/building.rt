@@ -7,6 +7,7 @@ use isa_table::{Instr, Operand, Reg, registers};
 
 /// The register of the number, or R0 where there is none.
 #[tactic(auto, unfolding(crate::specs::Decoding::register))]
+#[inline(always)]
 fn register_at(n: u8) -> Reg
     ensures { result ≡ register n }
 {
@@ -29,6 +30,7 @@ pub struct Operands {
 
 /// The operands in a slot, and in the imm field of a second one.
 #[tactic(auto, unfolding(crate::specs::Decoding::operands))]
+#[inline(always)]
 pub fn operands_of(f: Slot, next_imm: u32) -> Operands
     ensures { result ≡ operands f next_imm }
 {
@@ -41,6 +43,7 @@ pub fn operands_of(f: Slot, next_imm: u32) -> Operands
     }
 }
 
+#[inline(always)]
 fn operand_of(row: Operand, o: Operands) -> Operand
     ensures { result ≡ built_operand row o }
 {
@@ -52,6 +55,7 @@ fn operand_of(row: Operand, o: Operands) -> Operand
 
 /// The row's instruction with these operands.
 #[tactic(auto, unfolding(crate::specs::Decoding::built))]
+#[inline(always)]
 pub fn build(row: Instr, o: Operands) -> Instr
     ensures { result ≡ built row o }
 {

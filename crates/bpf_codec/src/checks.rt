@@ -9,6 +9,7 @@ use crate::slot::Slot;
 use isa_table::Instr;
 
 /// Whether the number is a register's, where the field is read as one.
+#[inline(always)]
 fn is_register_in(field: Field, n: u32) -> bool
     ensures { result ≡ is_register field n }
 {
@@ -19,6 +20,7 @@ fn is_register_in(field: Field, n: u32) -> bool
 }
 
 /// Whether a field of this kind may hold the number.
+#[inline(always)]
 fn may_hold_in(field: Field, n: u32) -> bool
     ensures { result ≡ may_hold field n }
 {
@@ -40,6 +42,7 @@ fn holds_registers(f: Slot, l: Layout) -> bool
 
 /// Whether the slot has the layout's opcode, and each of its fields holds what that of the layout may hold.
 #[tactic(auto, unfolding(crate::specs::Faults::is_of))]
+#[inline(always)]
 fn fits_layout(f: Slot, l: Layout) -> bool
     ensures { result ≡ is_of f l }
 {
@@ -51,6 +54,7 @@ fn fits_layout(f: Slot, l: Layout) -> bool
 }
 
 /// The first of these rows that the slot is of.
+#[inline(always)]
 fn find_row(f: Slot, rows: &[Instr]) -> Option<Instr>
     ensures { result ≡ row_for f rows.now }
 {
@@ -88,6 +92,7 @@ fn is_of_platform(f: Slot) -> bool
 
 /// The row that the slot is of, by the rows of its opcode; none where the slot is the platform's.
 #[tactic(auto, unfolding(crate::specs::Decoding::checked))]
+#[inline(always)]
 pub fn check(f: Slot, rows: &[Instr]) -> Result<Option<Instr>, Fault>
     ensures { result ≡ checked f rows.now }
 {

@@ -33,6 +33,7 @@ pub struct Layout {
 
 const UNUSED: Field = Field::Only(0);
 
+#[inline(always)]
 fn alu_code_of(op: Binary) -> u8
     ensures { result ≡ alu_code op }
 {
@@ -52,6 +53,7 @@ fn alu_code_of(op: Binary) -> u8
     }
 }
 
+#[inline(always)]
 fn alu_offset_of(op: Binary) -> u32
     ensures { result ≡ alu_offset op }
 {
@@ -61,6 +63,7 @@ fn alu_offset_of(op: Binary) -> u32
     }
 }
 
+#[inline(always)]
 fn cond_code_of(cond: Cond) -> u8
     ensures { result ≡ cond_code cond }
 {
@@ -79,6 +82,7 @@ fn cond_code_of(cond: Cond) -> u8
     }
 }
 
+#[inline(always)]
 fn alu_class_of(width: Width) -> u8
     ensures { result ≡ alu_class width }
 {
@@ -88,6 +92,7 @@ fn alu_class_of(width: Width) -> u8
     }
 }
 
+#[inline(always)]
 fn jump_class_of(width: Width) -> u8
     ensures { result ≡ jump_class width }
 {
@@ -97,6 +102,7 @@ fn jump_class_of(width: Width) -> u8
     }
 }
 
+#[inline(always)]
 fn size_code_of(size: Size) -> u8
     ensures { result ≡ size_code size }
 {
@@ -108,6 +114,7 @@ fn size_code_of(size: Size) -> u8
     }
 }
 
+#[inline(always)]
 fn end_code_of(order: Order) -> u8
     ensures { result ≡ end_code order }
 {
@@ -118,6 +125,7 @@ fn end_code_of(order: Order) -> u8
     }
 }
 
+#[inline(always)]
 fn swap_bits_of(width: SwapWidth) -> u32
     ensures { result ≡ swap_bits width }
 {
@@ -128,6 +136,7 @@ fn swap_bits_of(width: SwapWidth) -> u32
     }
 }
 
+#[inline(always)]
 fn atomic_code_of(op: AtomicOp) -> u32
     ensures { result ≡ atomic_code op }
 {
@@ -145,6 +154,7 @@ fn atomic_code_of(op: AtomicOp) -> u32
     }
 }
 
+#[inline(always)]
 fn make_row(opcode: u8, dst: Field, src: Field, offset: Field, imm: Field) -> Layout
     ensures { result ≡ row opcode dst src offset imm }
 {
@@ -157,6 +167,7 @@ fn make_row(opcode: u8, dst: Field, src: Field, offset: Field, imm: Field) -> La
     }
 }
 
+#[inline(always)]
 fn alu_layout(width: Width, op: Binary, dst: Reg, src: Operand) -> Layout
     ensures { result ≡ layout (Alu width op dst src) }
 {
@@ -169,6 +180,7 @@ fn alu_layout(width: Width, op: Binary, dst: Reg, src: Operand) -> Layout
     }
 }
 
+#[inline(always)]
 fn jump_layout(width: Width, cond: Cond, dst: Reg, src: Operand, offset: i16) -> Layout
     ensures { result ≡ layout (Jump width cond dst src offset) }
 {
@@ -181,6 +193,7 @@ fn jump_layout(width: Width, cond: Cond, dst: Reg, src: Operand, offset: i16) ->
     }
 }
 
+#[inline(always)]
 fn store_layout(size: Size, dst: Reg, src: Operand, offset: i16) -> Layout
     ensures { result ≡ layout (Store size dst src offset) }
 {
@@ -194,6 +207,7 @@ fn store_layout(size: Size, dst: Reg, src: Operand, offset: i16) -> Layout
 }
 
 /// The layout of a row with a destination, and no source or offset.
+#[inline(always)]
 fn one_register(opcode: u8, dst: Reg, imm: Field) -> Layout
     ensures { result ≡ row opcode (Register dst) unused unused imm }
 {
@@ -201,6 +215,7 @@ fn one_register(opcode: u8, dst: Reg, imm: Field) -> Layout
 }
 
 /// The layout of a row with a destination and a source, and no number in the imm field.
+#[inline(always)]
 fn two_registers(opcode: u8, dst: Reg, src: Reg, offset: Field) -> Layout
     ensures { result ≡ row opcode (Register dst) (Register src) offset unused }
 {
@@ -213,6 +228,7 @@ fn two_registers(opcode: u8, dst: Reg, src: Reg, offset: Field) -> Layout
     )
 }
 
+#[inline(always)]
 fn atomic_layout(width: Width, op: AtomicOp, dst: Reg, src: Reg, offset: i16) -> Layout
     ensures { result ≡ layout (Atomic width op dst src offset) }
 {
@@ -230,6 +246,7 @@ fn atomic_layout(width: Width, op: AtomicOp, dst: Reg, src: Reg, offset: i16) ->
 
 /// What the fields of the instruction's first slot hold (RFC 9669, sections 3 to 5). Unused fields are zero, by this
 /// project's choice.
+#[inline(always)]
 pub fn layout_of(instr: Instr) -> Layout
     ensures { result ≡ layout instr }
 {

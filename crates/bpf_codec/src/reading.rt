@@ -15,6 +15,7 @@ use isa_table::{Instr, slots_of};
 
 /// The imm field of the second slot, or 0 where the opcode has none.
 #[tactic(auto, unfolding(crate::specs::Decoding::next_imm))]
+#[inline(always)]
 fn next_imm_at(opcode: u8, more: &[u8]) -> Result<u32, Fault>
     ensures { result ≡ next_imm opcode more.now }
 {
@@ -40,6 +41,7 @@ fn is_packet_opcode(opcode: u8) -> bool
 
 /// The instruction at the head of the bytes, or the least fault.
 #[tactic(auto, unfolding(crate::specs::Decoding::decoded))]
+#[inline(always)]
 fn read(bytes: &[u8]) -> Result<Instr, Fault>
     ensures { result ≡ decoded bytes.now }
 {
@@ -62,6 +64,7 @@ fn read(bytes: &[u8]) -> Result<Instr, Fault>
 
 /// As `decode_at`, by what the bytes from the slot on are read as.
 #[tactic(auto, using(crate::proofs::Encodings::past_the_end))]
+#[inline(always)]
 fn read_at(code: &[u8], slot: usize) -> Result<(Instr, usize), Fault>
     ensures { result ≡ with_slots (decoded (drop (8 * slot) code.now)) }
 {
@@ -78,6 +81,7 @@ fn read_at(code: &[u8], slot: usize) -> Result<(Instr, usize), Fault>
 ///
 /// Where no instruction is encoded there, the least fault of the bytes from the slot on. Any slot may be asked for: past
 /// the end of the code the fault is `Short`.
+#[inline(always)]
 pub fn decode_at(code: &[u8], slot: usize) -> Result<(Instr, usize), Fault>
     // What is read stands there.
     ensures found { IfOk result (λ x. Fits x.0 × Begins (drop (8 * slot) code.now) x.0 × (x.1 ≡ slots x.0)) }

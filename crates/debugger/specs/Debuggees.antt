@@ -16,7 +16,7 @@ use Rattle.debugger.specs.declared.start.Start.{Start}
 use Rattle.debugger.specs.declared.debuggee.Debuggee.{Debuggee}
 use Rattle.debugger.specs.DebugState.{DebugState, debug_start, hits}
 use Rattle.debugger.specs.Changes.{Debugs}
-use Rattle.debugger.specs.Steps.{is_to_pause, with_pause, debugged}
+use Rattle.debugger.specs.Pausing.{is_to_pause, with_pause, debugged}
 
 -- a machine at the start of its code, with nothing set
 abbrev pub debuggee_start : ℕ → List ℕ → Start → Debuggee

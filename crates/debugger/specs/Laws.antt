@@ -19,7 +19,7 @@ use Rattle.debugger.specs.declared.replies.Debugged.{Debugged}
 use Rattle.debugger.specs.declared.watch.Watch.{Watch}
 use Rattle.debugger.specs.DebugState.{DebugState, has_break, has_watch, hits}
 use Rattle.debugger.specs.Changes.{with_break, without_break, with_watch, without_watch, resumed, Debugs}
-use Rattle.debugger.specs.Steps.{is_to_pause, with_pause, after_run, debugged}
+use Rattle.debugger.specs.Pausing.{is_to_pause, with_pause, after_run, debugged}
 
 -- ---- breakpoints
 

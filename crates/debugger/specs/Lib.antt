@@ -1,7 +1,7 @@
 pub mod DebugState
 pub mod Refusals
 pub mod Changes
-pub mod Steps
+pub mod Pausing
 pub mod Showing
 pub mod Debuggees
 pub mod Laws

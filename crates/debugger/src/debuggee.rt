@@ -2,7 +2,7 @@
 ghost use Rattle.std.specs.Prelude.{◌≡◌, cond, if◌then◌else◌};
 ghost use Rattle.debugger.specs.DebugState.{hits};
 ghost use Rattle.debugger.specs.Changes.{Debugs};
-ghost use Rattle.debugger.specs.Steps.{with_pause, after_run, debugged};
+ghost use Rattle.debugger.specs.Pausing.{with_pause, after_run, debugged};
 ghost use Rattle.debugger.specs.Debuggees.{debuggee_start, holds_back, reply_after, AnswersStep, DebugsMachine};
 
 use crate::commands::{DebugCommand, Way};

@@ -3,8 +3,10 @@ ghost use Rattle.std.specs.Prelude.{◌≡◌, ◌≤◌, length};
 ghost use Rattle.std.specs.Str.{bytes_eq};
 ghost use Rattle.std.specs.Cmp.Rules.{comparing};
 ghost use Rattle.std.proofs.Common.{rules};
+ghost use Rattle.helpers.specs.Helpers.{emitted_limit};
 
 use arrayvec::ArrayVec;
+use helpers::EMITTED_LIMIT;
 use machine::Stop;
 use std::marker::Model;
 
@@ -131,13 +133,10 @@ impl Eq for LineText {
     ghost laws = { Prim.search (comparing, rules) };
 }
 
-/// How many values a machine keeps.
-const VALUE_LIMIT: usize = 64;
-
 /// What a machine has emitted, the oldest first.
 #[derive(Drop, Debug)]
 pub struct Values {
-    values: ArrayVec<u64, VALUE_LIMIT>,
+    values: ArrayVec<u64, EMITTED_LIMIT>,
 }
 
 impl Model for Values {
@@ -151,7 +150,7 @@ impl Model for Values {
 impl Values {
     /// These values.
     pub fn new(values: &[u64]) -> Self
-        requires { length values.now ≤ 64 }
+        requires { length values.now ≤ emitted_limit }
         ensures { result ≡ values.now }
     {
         let mut kept = ArrayVec::new();
@@ -159,10 +158,10 @@ impl Values {
         Values { values: kept }
     }
 
-    /// The values, of which there are at most 64.
+    /// The values.
     pub fn as_slice(&self) -> &[u64]
         ensures values { result.now ≡ self.now }
-        ensures count { length result.now ≤ 64 }
+        ensures count { length result.now ≤ emitted_limit }
     {
         self.values.as_slice()
     }

@@ -16,7 +16,8 @@ pub enum Helper {
 }
 
 impl Helper {
-    /// The helper of that number, if there is one: 1 to 4 in the order above.
+    /// The helper of that number, if there is one: 1 to 4 in the order above. RFC 9669, section 4.3.1, leaves the numbers
+    /// open.
     pub fn from_number(id: i32) -> Option<Helper>
         ensures { result ≡ helper_of id }
     {

@@ -7,4 +7,4 @@ mod side;
 
 pub use helper::Helper;
 pub use running::run;
-pub use side::Side;
+pub use side::{EMITTED_LIMIT, Side};

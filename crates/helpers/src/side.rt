@@ -5,8 +5,8 @@ ghost use Rattle.helpers.specs.Helpers.{SideState, emit_value, with_emitted, emi
 use arrayvec::ArrayVec;
 use std::marker::Model;
 
-/// How many values a machine may emit.
-const EMITTED_LIMIT: usize = 64;
+/// How many values a machine may emit (this project's choice).
+pub const EMITTED_LIMIT: usize = 64;
 
 /// The machine's number, and the values that it has emitted.
 #[derive(Drop)]
@@ -34,6 +34,18 @@ impl Side {
         Side {
             number,
             emitted: ArrayVec::new(),
+        }
+    }
+
+    /// The same once more. Takes no memory.
+    pub fn copied(&self) -> Self
+        ensures { result ≡ self.now }
+    {
+        let mut emitted = ArrayVec::new();
+        emitted.try_extend_from_slice(self.emitted()).unwrap();
+        Side {
+            number: self.number,
+            emitted,
         }
     }
 

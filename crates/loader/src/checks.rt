@@ -9,6 +9,7 @@ ghost use Rattle.loader.specs.Refusals.{IsLeastComplaint, IsFirstWrong};
 
 use crate::loading::{LoadError, Why};
 use crate::program::{Entry, entry_at};
+use helpers::Helper;
 use isa_table::{Instr, Reg, slots_of};
 
 /// The slot to which the instruction at the slot jumps or calls.
@@ -33,12 +34,12 @@ fn writes_frame_pointer(instr: Instr) -> bool
     matches!(instr.destination(), Some(Reg::R10))
 }
 
-/// Whether a helper function of another number than 1 to 4 is called (RFC 9669, section 4.3.1, leaves the numbers open).
+/// Whether a helper function is called of a number that no helper has.
 fn calls_missing_helper(instr: Instr) -> bool
     ensures { result ≡ calls_unknown_helper instr }
 {
     match instr {
-        Instr::CallHelper { id } => id < 1 || id > 4,
+        Instr::CallHelper { id } => Helper::from_number(id).is_none(),
         _ => false,
     }
 }

@@ -23,8 +23,8 @@ use Rattle.machine.specs.declared.state.Accessing.{Accessing}
 use Rattle.machine.specs.declared.state.Frame.{Frame}
 use Rattle.machine.specs.declared.state.Stop.{Stop}
 use Rattle.machine.specs.declared.state.Stepped.{Stepped}
-use Rattle.machine.specs.declared.state.Work.{Work}
-use Rattle.machine.specs.declared.state.Work.TheVariants.{Computes, Accesses, Measures}
+use Rattle.machine.specs.Rows.{Work}
+use Rattle.machine.specs.Rows.Work.{Computes, AccessesStack, Accesses, Measures}
 use Rattle.machine.specs.Grants.{GrantState, is_granted, is_listed, is_object_number, is_writing}
 use Rattle.machine.specs.MachineState.{MachineState, stack_size}
 use Rattle.machine.specs.Rows.{Request, MemoryAnswer, Outcome, read, asks, asks_for, told_for, told_own, told_call, exits, work_of, call_work, stop_before, is_aligned, is_too_deep, is_granted_work}
@@ -56,7 +56,7 @@ call_allowed : (h : Option Helper) (m : MachineState) → Allowed m.grants (asks
 call_allowed (Some Length) m = measured m.grants (read m.registers R1) _ refl
 call_allowed _ m = tt
 
-access_allowed : (g : GrantState) (own : Bool) (x : Accessing) → is_granted g (is_writing x.op.action) x.number ≡ true → Allowed g (cond own Nothing (Touch x.number x.op))
+access_allowed : (g : GrantState) (own : Bool) (x : Accessing) → is_granted_work g (cond own (AccessesStack x) (Accesses x)) ≡ true → Allowed g (asks_for (cond own (AccessesStack x) (Accesses x)))
 access_allowed g true x e = tt
 access_allowed g false x e = e
 
@@ -170,7 +170,8 @@ told_keeps (Accesses x) i old (Reached reach.Away) = refl
 told_keeps (Accesses x) i old (Reached reach.Busy) = refl
 told_keeps (Accesses x) i old (Reached reach.Outside) = refl
 told_keeps (Accesses x) i old (Reached reach.Worn) = refl
-told_keeps (Accesses x) i old _ = own_keeps (is_inside x.op stack_size) i x old
+told_keeps (Accesses x) i old _ = refl
+told_keeps (AccessesStack x) i old a = own_keeps (is_inside x.op stack_size) i x old
 told_keeps (Measures k) i old (Measured l) = refl
 told_keeps (Measures k) i old _ = refl
 told_keeps Computes Exit old a = exit_keeps old.frames old

@@ -1,11 +1,9 @@
 -- Grants that are kept in 16 bits each.
-use Rattle.std.proofs.Common.{◌≡◌, ℕ, zero, suc, ◌<◌, ◌≤◌, ◌+◌, ◌-◌, nat_eq, nat_le, Bool, true, false, not, if◌then◌else◌, ◌||◌, ◌&&◌, List, [], ◌∷◌, ◌++◌, length, replicate, slice_set, refl, ap, arith}
-use Rattle.std.specs.List.{list_any}
+use Rattle.std.proofs.Common.{◌≡◌, ℕ, zero, suc, ◌<◌, ◌≤◌, ◌+◌, ◌-◌, nat_eq, nat_le, Bool, true, false, List, [], ◌∷◌, ◌++◌, length, replicate, slice_set, refl, ap, arith}
 use Rattle.std.proofs.lemmas.Bool.Decides.{nat_tests}
 use Rattle.memory.specs.Objects.{object_limit}
 use Rattle.machine.specs.declared.grants.Grant.{Grant}
-use Rattle.machine.specs.Grants.{is_listed}
-use Rattle.machine.specs.GrantWords.{writing_bit, word_of, grant_in, grants_in, AreKept, is_either}
+use Rattle.machine.specs.GrantWords.{writing_bit, word_of, grant_in, grants_in, AreKept}
 
 -- so many grants are kept
 pub kept_count : (count : ℕ) (words : List ℕ) → AreKept count words → length (grants_in words) ≡ count
@@ -48,41 +46,3 @@ word_kept false n l h =
 
 pub kept_word : (g : Grant) → 1 ≤ g.number → g.number ≤ object_limit → (nat_eq (word_of g) 0 ≡ false) × (grant_in (word_of g) ≡ g)
 kept_word g l h = word_kept g.writes g.number l (omega (arith, h))
-
--- a word that keeps a grant is one of two, where the grant is of the object
-high_word : (writes : Bool) (n word : ℕ) → 0 < n → n < writing_bit → writing_bit ≤ word
-    → (nat_eq (word - writing_bit) n && (true || not writes)) ≡ is_either (n + writing_bit) (if writes then (n + writing_bit) else n) word
-high_word true n word l h w = grind (arith, nat_tests)
-high_word false n word l h w = grind (arith, nat_tests)
-
-low_word : (writes : Bool) (n word : ℕ) → 0 < n → n < writing_bit → word < writing_bit
-    → (nat_eq word n && (false || not writes)) ≡ is_either (n + writing_bit) (if writes then (n + writing_bit) else n) word
-low_word true n word l h w = grind (arith, nat_tests)
-low_word false n word l h w = grind (arith, nat_tests)
-
-by_bit : (b writes : Bool) (n word : ℕ) → nat_le writing_bit word ≡ b → 0 < n → n < writing_bit
-    → is_listed writes n (if b then (record { number = word - writing_bit; writes = true }) else (record { number = word; writes = false }))
-    ≡ is_either (n + writing_bit) (if writes then (n + writing_bit) else n) word
-by_bit true writes n word e l h = high_word writes n word l h (grind (arith, nat_tests))
-by_bit false writes n word e l h = low_word writes n word l h (grind (arith, nat_tests))
-
--- 0 is neither
-no_word : (writes : Bool) (n word : ℕ) → nat_eq word 0 ≡ true → 0 < n → is_either (n + writing_bit) (if writes then (n + writing_bit) else n) word ≡ false
-no_word true n word e l = grind (arith, nat_tests)
-no_word false n word e l = grind (arith, nat_tests)
-
-any_word : (empty : Bool) (writes : Bool) (n word : ℕ) (words : List ℕ) → nat_eq word 0 ≡ empty → 0 < n → n < writing_bit
-    → list_any (is_listed writes n) (grants_in words) ≡ list_any (is_either (n + writing_bit) (if writes then (n + writing_bit) else n)) words
-    → list_any (is_listed writes n) (if empty then (grants_in words) else (grant_in word ∷ grants_in words))
-    ≡ list_any (is_either (n + writing_bit) (if writes then (n + writing_bit) else n)) (word ∷ words)
-any_word true writes n word words e l h r = rw (no_word writes n word e l) r
-any_word false writes n word words e l h r =
-    let f = by_bit (nat_le writing_bit word) writes n word refl l h in
-    rw (f, r) refl
-
--- all words are compared with two
-pub listed_words : (writes : Bool) (n : ℕ) (words : List ℕ) → 1 ≤ n → n ≤ object_limit
-    → list_any (is_listed writes n) (grants_in words) ≡ list_any (is_either (n + writing_bit) (if writes then (n + writing_bit) else n)) words
-listed_words writes n [] l h = refl
-listed_words writes n (word ∷ words) l h =
-    any_word (nat_eq word 0) writes n word words refl l (omega (arith, h)) (listed_words writes n words l h)

@@ -1,5 +1,6 @@
 pub mod Words
 pub mod KeptGrants
+pub mod TableOfRights
 pub mod NextSlots
 pub mod FrameOrder
 pub mod DoneRows
@@ -18,3 +19,4 @@ pub mod SameReplays
 pub mod Confined
 pub mod Turning
 pub mod Running
+pub mod GrantedWork

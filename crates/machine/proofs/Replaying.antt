@@ -1,5 +1,5 @@
 -- A machine as the replay of its accesses.
-use Rattle.std.proofs.Common.{◌≡◌, ℕ, suc, Bool, true, false, cond, nat_eq, List, [], ◌++◌, Option, Some, None, refl, ap, sym, ◌∙◌, subst, append-nil, arith, inl, inr, ◌⊎◌}
+use Rattle.std.proofs.Common.{◌≡◌, ℕ, suc, Bool, true, false, List, [], ◌++◌, Option, Some, None, refl, ap, sym, ◌∙◌, subst, append-nil, arith, inl, inr, ◌⊎◌}
 use Rattle.isa_table.specs.declared.instr.Instr.{Instr}
 use Rattle.memory.specs.declared.access.Op.{Op}
 use Rattle.memory.specs.declared.access.Reach.{Reach}
@@ -10,13 +10,13 @@ use Rattle.memory.specs.Memories.{Memories, Did, KeepsPromises, entries_added}
 use Rattle.memory.proofs.Promised.{did_nothing, did_then}
 use Rattle.machine.specs.declared.state.Accessing.{Accessing}
 use Rattle.machine.specs.declared.state.Written.{Written}
-use Rattle.machine.specs.declared.state.Work.{Work}
-use Rattle.machine.specs.declared.state.Work.TheVariants.{Computes, Accesses, Measures}
+use Rattle.machine.specs.Rows.{Work}
+use Rattle.machine.specs.Rows.Work.{Computes, AccessesStack, Accesses, Measures}
 use Rattle.machine.specs.declared.state.Stop.{Stop}
 use Rattle.machine.specs.declared.state.Stop.TheVariants as stop
 use Rattle.machine.specs.declared.state.Stepped.{Stepped}
 use Rattle.machine.specs.declared.state.Stepped.TheVariants.{Ran, Waiting, Stopped}
-use Rattle.machine.specs.MachineState.{MachineState, own_stack}
+use Rattle.machine.specs.MachineState.{MachineState}
 use Rattle.machine.specs.Rows.{Request, MemoryAnswer, Outcome, asks_for, told, told_for, told_access, work_of}
 use Rattle.machine.specs.Rows.Request.{Nothing, Touch}
 use Rattle.machine.specs.Rows.MemoryAnswer.{NoAnswer, Reached, Measured}
@@ -81,15 +81,6 @@ record_reach mem lengths worn i x old es before mid reach.Worn p l k g h = recor
 record_reach mem lengths worn i x old es before mid reach.Away p l k g h = absurd (cc)
 record_reach mem lengths worn i x old es before mid reach.Busy p l k g h = absurd (cc)
 
-record_access : {M : Type 0} (mem : Memories M) (lengths : ℕ → ℕ) (worn : ℕ → Bool) (own : Bool) (i : Instr) (x : Accessing) (old : MachineState) (es : List Entry) (before mid : M) (said : MemoryAnswer)
-    → KeepsPromises mem → HasLengths mem before lengths → IsMarked mem mid worn → goes (told_access i x old said).answer ≡ true
-    → AnswersRequest mem (cond own Nothing (Touch x.number x.op)) before said mid
-    → Recorded mem lengths worn (cond own Nothing (Touch x.number x.op)) (told_access i x old said).answer es before said mid
-record_access mem lengths worn true i x old es before mid NoAnswer p l k g h = record_nothing mem lengths worn _ es before mid h
-record_access mem lengths worn true i x old es before mid _ p l k g h = absurd h
-record_access mem lengths worn false i x old es before mid (Reached r) p l k g h = record_reach mem lengths worn i x old es before mid r p l k g h
-record_access mem lengths worn false i x old es before mid _ p l k g h = absurd h
-
 record_request : {M : Type 0} (mem : Memories M) (lengths : ℕ → ℕ) (worn : ℕ → Bool) (w : Work) (i : Instr) (old : MachineState) (es : List Entry) (before mid : M) (said : MemoryAnswer)
     → KeepsPromises mem → HasLengths mem before lengths → IsMarked mem mid worn → goes (told_for w i old said).answer ≡ true → AnswersRequest mem (asks_for w) before said mid
     → Recorded mem lengths worn (asks_for w) (told_for w i old said).answer es before said mid
@@ -102,7 +93,10 @@ record_request mem lengths worn (Measures n) i old es before mid (Measured c) p 
   none = λ s e. refl;
 }
 record_request mem lengths worn (Measures n) i old es before mid _ p l k g h = absurd h
-record_request mem lengths worn (Accesses x) i old es before mid said p l k g h = record_access mem lengths worn (nat_eq x.number own_stack) i x old es before mid said p l k g h
+record_request mem lengths worn (AccessesStack x) i old es before mid NoAnswer p l k g h = record_nothing mem lengths worn _ es before mid h
+record_request mem lengths worn (AccessesStack x) i old es before mid _ p l k g h = absurd h
+record_request mem lengths worn (Accesses x) i old es before mid (Reached r) p l k g h = record_reach mem lengths worn i x old es before mid r p l k g h
+record_request mem lengths worn (Accesses x) i old es before mid _ p l k g h = absurd h
 
 -- ---- the replay after a step
 

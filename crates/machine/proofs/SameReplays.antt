@@ -1,5 +1,5 @@
 -- With the same entries a machine goes the same way.
-use Rattle.std.proofs.Common.{◌≡◌, ℕ, zero, suc, ◌+◌, Bool, true, false, cond, nat_eq, List, [], ◌∷◌, ◌++◌, refl, ap, sym, ◌∙◌, subst, append_assoc, arith, inl, inr}
+use Rattle.std.proofs.Common.{◌≡◌, ℕ, zero, suc, ◌+◌, Bool, true, false, List, [], ◌∷◌, ◌++◌, refl, ap, sym, ◌∙◌, subst, append_assoc, arith, inl, inr}
 use Rattle.isa_table.specs.declared.instr.Instr.{Instr}
 use Rattle.memory.specs.declared.access.Reach.{Reach}
 use Rattle.memory.specs.declared.access.Reach.TheVariants as reach
@@ -7,9 +7,9 @@ use Rattle.memory.specs.declared.deeds.Entry.{Entry}
 use Rattle.memory.specs.declared.deeds.Given.TheVariants.{Number}
 use Rattle.memory.specs.Memories.{entries_added}
 use Rattle.machine.specs.declared.state.Accessing.{Accessing}
-use Rattle.machine.specs.declared.state.Work.{Work}
-use Rattle.machine.specs.declared.state.Work.TheVariants.{Computes, Accesses, Measures}
-use Rattle.machine.specs.MachineState.{MachineState, own_stack}
+use Rattle.machine.specs.Rows.{Work}
+use Rattle.machine.specs.Rows.Work.{Computes, AccessesStack, Accesses, Measures}
+use Rattle.machine.specs.MachineState.{MachineState}
 use Rattle.machine.specs.Rows.{Request, MemoryAnswer, Outcome, asks, asks_for, told, told_for, told_access, work_of}
 use Rattle.machine.specs.Rows.Request.{Nothing, Touch, Measure}
 use Rattle.machine.specs.Rows.MemoryAnswer.{NoAnswer, Reached, Measured}
@@ -46,20 +46,16 @@ grown_reach lengths worn i x old es fs reach.Worn f h = absurd (omega arith)
 grown_reach lengths worn i x old es fs reach.Away f h = absurd h
 grown_reach lengths worn i x old es fs reach.Busy f h = absurd h
 
-grown_access : (lengths : ℕ → ℕ) (worn : ℕ → Bool) (own : Bool) (i : Instr) (x : Accessing) (old : MachineState) (es fs : List Entry) (said : MemoryAnswer) → (told_access i x old said).machine.fuel + 1 ≡ old.fuel
-    → AnswersRequest (recorded_memory lengths worn) (cond own Nothing (Touch x.number x.op)) es said fs → Grown lengths (cond own Nothing (Touch x.number x.op)) said es fs
-grown_access lengths worn true i x old es fs NoAnswer f h = record { more = []; fed = refl; grown = unchanged es fs h }
-grown_access lengths worn true i x old es fs _ f h = absurd h
-grown_access lengths worn false i x old es fs (Reached r) f h = grown_reach lengths worn i x old es fs r f h
-grown_access lengths worn false i x old es fs _ f h = absurd h
-
 grown_by : (lengths : ℕ → ℕ) (worn : ℕ → Bool) (w : Work) (i : Instr) (old : MachineState) (es fs : List Entry) (said : MemoryAnswer) → (told_for w i old said).machine.fuel + 1 ≡ old.fuel
     → AnswersRequest (recorded_memory lengths worn) (asks_for w) es said fs → Grown lengths (asks_for w) said es fs
 grown_by lengths worn Computes i old es fs NoAnswer f h = record { more = []; fed = refl; grown = unchanged es fs h }
 grown_by lengths worn Computes i old es fs _ f h = absurd h
 grown_by lengths worn (Measures n) i old es fs (Measured k) f h = record { more = []; fed = (refl, h.0); grown = unchanged es fs h.1 }
 grown_by lengths worn (Measures n) i old es fs _ f h = absurd h
-grown_by lengths worn (Accesses x) i old es fs said f h = grown_access lengths worn (nat_eq x.number own_stack) i x old es fs said f h
+grown_by lengths worn (AccessesStack x) i old es fs NoAnswer f h = record { more = []; fed = refl; grown = unchanged es fs h }
+grown_by lengths worn (AccessesStack x) i old es fs _ f h = absurd h
+grown_by lengths worn (Accesses x) i old es fs (Reached r) f h = grown_reach lengths worn i x old es fs r f h
+grown_by lengths worn (Accesses x) i old es fs _ f h = absurd h
 
 -- ---- an instruction that took fuel
 

@@ -1,5 +1,5 @@
 -- How grants are kept, in 16 bits each.
-use Rattle.std.specs.Prelude.{ℕ, zero, suc, ◌+◌, ◌-◌, ◌≡◌, nat_eq, nat_le, Bool, true, false, if◌then◌else◌, ◌||◌, List, [], ◌∷◌}
+use Rattle.std.specs.Prelude.{ℕ, zero, suc, ◌+◌, ◌-◌, ◌≡◌, nat_eq, nat_le, true, false, if◌then◌else◌, List, [], ◌∷◌}
 use Rattle.machine.specs.declared.grants.Grant.{Grant}
 
 -- the bit of a word that says that the object may be written; its number stands below
@@ -25,7 +25,3 @@ AreKept zero [] = Unit
 AreKept (suc count) [] = ⊥
 AreKept zero (word ∷ words) = (word ≡ 0) × AreKept zero words
 AreKept (suc count) (word ∷ words) = (nat_eq word 0 ≡ false) × AreKept count words
-
--- whether the word keeps the grant of an object, where its number alone and its number for writing are these words
-abbrev pub is_either : ℕ → ℕ → ℕ → Bool
-is_either written other word = nat_eq word written || nat_eq word other

@@ -1,5 +1,6 @@
 pub mod Grants
 pub mod GrantWords
+pub mod Rights
 pub mod MachineState
 pub mod Rows
 pub mod TableStep

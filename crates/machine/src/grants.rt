@@ -1,11 +1,10 @@
 //! Which objects a machine may reach.
-ghost use Rattle.std.specs.Prelude.{◌≡◌, ◌≤◌, ◌<◌, ◌++◌, ◌∷◌, [], false, true, length, nat_eq, nat_le, ◌&&◌, ◌||◌};
-ghost use Rattle.std.specs.List.{list_any};
+ghost use Rattle.std.specs.Prelude.{◌≡◌, ◌≤◌, ◌<◌, ◌++◌, ◌∷◌, [], false, length};
 ghost use Rattle.memory.specs.Objects.{object_limit};
-ghost use Rattle.machine.specs.Grants.{GrantState, all_granted, is_granted, is_listed, is_object_number, is_writing};
-ghost use Rattle.machine.specs.GrantWords.{grants_in, word_of};
+ghost use Rattle.machine.specs.Grants.{GrantState, all_granted, is_writing};
+ghost use Rattle.machine.specs.GrantWords.{grant_in, grants_in, word_of};
 
-use memory::{Action, OBJECT_LIMIT};
+use memory::Action;
 use std::marker::Model;
 
 /// How many objects are granted one by one at most.
@@ -23,8 +22,7 @@ pub struct Grant {
 
 /// The objects that a machine may reach: all, for writing, or some. Takes no memory.
 ///
-/// Each grant is kept in 16 bits, and behind the last one stands 0: so they are small where they are passed on, and all
-/// are compared at once.
+/// Each grant is kept in 16 bits, and behind the last one stands 0: so they are small where they are passed on.
 #[derive(Drop, Debug)]
 pub struct Grants {
     all: bool,
@@ -77,28 +75,30 @@ impl Grants {
         self.count = count + 1;
     }
 
-    /// Whether the object of the number may be read, or written too. What is no object's number needs no grant.
-    #[inline(always)]
-    pub fn allow(&self, number: u64, writes: bool) -> bool
-        ensures { result ≡ is_granted self.now writes number }
+    /// The same grants once more.
+    pub fn copied(&self) -> Self
+        ensures { result ≡ self.now }
     {
-        if self.all {
-            return true;
+        Grants {
+            all: self.all,
+            count: self.count,
+            words: self.words,
         }
-        self.allow_some(number, writes)
     }
 
-    /// The same, where not all objects are granted. It is a call, so that the other case costs one test.
-    #[cold]
-    #[inline(never)]
-    fn allow_some(&self, number: u64, writes: bool) -> bool
-        requires { self.now.all ≡ false }
-        ensures { result ≡ is_granted self.now writes number }
+    /// Whether all objects are granted.
+    pub fn is_all(&self) -> bool
+        ensures { result ≡ self.now.all }
     {
-        if number == 0 || number > OBJECT_LIMIT as u64 {
-            return true;
-        }
-        is_listed(&self.words, number as u32, writes)
+        self.all
+    }
+
+    /// The words that keep the grants one by one.
+    pub(crate) fn words(&self) -> &[u16; GRANT_LIMIT]
+        ensures listed { grants_in result.now ≡ self.now.listed }
+        ensures count { length result.now ≡ GRANT_LIMIT }
+    {
+        &self.words
     }
 }
 
@@ -115,22 +115,16 @@ fn word_of(grant: Grant) -> u16
     }
 }
 
-/// Whether the object of the number is listed, and for writing where that is asked. All words are compared, so that it
-/// is done without a jump for each.
-fn is_listed(words: &[u16; GRANT_LIMIT], number: u32, writes: bool) -> bool
-    requires { (1 ≤ number) × (number ≤ object_limit) }
-    ensures { result ≡ list_any (is_listed writes number) (grants_in words.now) }
+/// The grant that a word keeps.
+pub(crate) fn grant_in(word: u16) -> Grant
+    ensures { result ≡ grant_in word }
 {
-    let written = word_of(Grant {
-        number,
-        writes: true,
-    });
-    let other = word_of(Grant { number, writes });
-    let mut found = false;
-    for word in words {
-        found |= *word == written || *word == other;
+    let writes = word >= WRITING_BIT;
+    let number = if writes { word - WRITING_BIT } else { word };
+    Grant {
+        number: number as u32,
+        writes,
     }
-    found
 }
 
 /// Whether an action may write.

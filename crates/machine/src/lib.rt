@@ -8,6 +8,7 @@ mod laws;
 mod machine;
 mod outcomes;
 mod registers;
+mod rights;
 mod rows;
 mod state;
 
@@ -19,5 +20,5 @@ pub use laws::{
     steps_carry, steps_commute, steps_one_way, steps_protect, stopped_stays, stops_in_place,
     waiting_does_nothing, waits_in_place,
 };
-pub use machine::{Machine, STACK_SIZE};
-pub use state::{Accessing, Done, Ended, Frame, Point, Stepped, Stop, Work, Written};
+pub use machine::Machine;
+pub use state::{Accessing, Done, Ended, Frame, Point, STACK_SIZE, Stepped, Stop, Written};

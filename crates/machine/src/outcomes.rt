@@ -1,17 +1,36 @@
 //! What a step came to.
-ghost use Rattle.std.specs.Prelude.{◌≡◌, None, false};
+ghost use Rattle.std.specs.Prelude.{◌≡◌, None, false, true};
 
-use crate::state::{Done, Point, Stepped};
+use crate::state::{Done, Point, Stepped, Stop, Written};
 
 /// An instruction was done, and wrote no byte.
 #[inline(always)]
 pub fn ran(point: Point) -> Done
     ensures { result ≡ record { point = point; answer = Stepped.Ran None; closes = false } }
 {
+    wrote(point, None)
+}
+
+/// An instruction was done, and wrote these bytes, if any.
+#[inline(always)]
+pub fn wrote(point: Point, written: Option<Written>) -> Done
+    ensures { result ≡ record { point = point; answer = Stepped.Ran written; closes = false } }
+{
     Done {
         point,
-        answer: Stepped::Ran(None),
+        answer: Stepped::Ran(written),
         closes: false,
+    }
+}
+
+/// A helper was run, which closes all scopes or none.
+#[inline(always)]
+pub fn helped(point: Point, closes: bool) -> Done
+    ensures { result ≡ record { point = point; answer = Stepped.Ran None; closes = closes } }
+{
+    Done {
+        closes,
+        ..ran(point)
     }
 }
 
@@ -24,5 +43,17 @@ pub fn wait(point: Point, number: u32) -> Done
         point,
         answer: Stepped::Waiting(number),
         closes: false,
+    }
+}
+
+/// The machine stops, and all its scopes close.
+#[inline(always)]
+pub fn halted(point: Point, stop: Stop) -> Done
+    ensures { result ≡ record { point = point; answer = Stepped.Stopped stop; closes = true } }
+{
+    Done {
+        point,
+        answer: Stepped::Stopped(stop),
+        closes: true,
     }
 }

@@ -3,6 +3,15 @@
 use isa_table::Size;
 use memory::Op;
 
+/// How many calls may be open at a time: this project's choice.
+pub(crate) const DEPTH_LIMIT: usize = 8;
+
+/// How many bytes a machine's own stack has: this project's choice.
+pub const STACK_SIZE: usize = 4096;
+
+/// The number by which a running machine reaches its own stack.
+pub(crate) const OWN_STACK: u32 = 0xffff_ffff;
+
 /// Why a machine goes on no more.
 #[derive(Clone, Copy, Drop, Debug, PartialEq, Eq)]
 pub enum Stop {
@@ -57,17 +66,6 @@ pub enum Ended {
 pub struct Accessing {
     pub number: u32,
     pub op: Op,
-}
-
-/// What an instruction wants of memory.
-#[derive(Clone, Copy, Drop, Debug, PartialEq, Eq)]
-pub enum Work {
-    /// Nothing.
-    Computes,
-    /// One access. That to the machine's own stack is done without memory.
-    Accesses(Accessing),
-    /// How many bytes the object of that number has.
-    Measures(u64),
 }
 
 /// Where a machine is, and what fuel it has. While it runs both are kept apart from it, in registers of the processor.
