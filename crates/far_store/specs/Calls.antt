@@ -1,7 +1,7 @@
 -- What a far store is asked, and what it answers.
-use Rattle.std.specs.Prelude.{◌≡◌, ℕ, nat_eq, Bool, true, false, ◌&&◌, List, [], ◌∷◌, Option, Some, None, Result, Ok, Err}
+use Rattle.std.specs.Prelude.{◌≡◌, ℕ, nat_eq, Bool, true, false, ◌&&◌, List, [], ◌∷◌, length, Option, Some, None, Result, Ok, Err}
 use Rattle.far_store.specs.declared.fault.StoreFault.{StoreFault}
-use Rattle.far_store.specs.declared.fault.StoreFault.TheVariants.{Memory, Refused}
+use Rattle.far_store.specs.declared.fault.StoreFault.TheVariants.{Damaged, Memory, Refused}
 use Rattle.far_store.specs.Stores.{Rises}
 
 -- one call, with what came of it; a parcel is told by the bytes for which it stands
@@ -17,6 +17,24 @@ pub data Call : Type 0 where
 abbrev pub Calls : {X : Type 0} → (X → Call → X → Type 0) → X → List Call → X → Type 0
 Calls called old [] new = new ≡ old
 Calls {X} called old (c ∷ cs) new = (mid : X) × called old c mid × Calls called mid cs new
+
+-- ---- a get in vain
+
+-- the bytes for which the parcel stands that is kept
+abbrev pub parcel_of : Option (List ℕ) → List ℕ
+parcel_of None = []
+parcel_of (Some bytes) = bytes
+
+-- why bytes are not taken that were to be so many: the fault that came in their place, or that they are more or fewer
+abbrev pub Refuses : ℕ → Result (List ℕ) StoreFault → StoreFault → Type 0
+Refuses count (Err fault) f = f ≡ fault
+Refuses count (Ok came) f = (length came ≡ count → ⊥) × (f ≡ Damaged)
+
+-- The bytes of the parcel are asked for, once, and what comes is not taken.
+pub record AsksInVain {X : Type 0} (called : X → Call → X → Type 0) (old : X) (parcel : Option (List ℕ)) (count : ℕ) (f : StoreFault) (new : X) : Type 0 where
+  pub outcome : Result (List ℕ) StoreFault
+  pub asked : Calls called old (Get (parcel_of parcel) outcome ∷ []) new
+  pub refused : Refuses count outcome f
 
 -- ---- the stores
 

@@ -100,20 +100,16 @@ impl<S: Read + Write + Drop> StreamStore<S> {
         if bytes.is_empty() || bytes.len() > PAYLOAD_LIMIT as usize || self.puts == u64::MAX {
             return Err(StoreFault::Refused);
         }
-        let parcel = StreamParcel::new(self.puts + 1, bytes);
-        if lay_out(
-            &mut self.frame,
-            Kind::Put.head(parcel.id(), parcel.count()),
-            bytes,
-        )
-        .is_err()
-        {
+        let head = Kind::Put.head(self.puts + 1, bytes.len() as u32);
+        if lay_out(&mut self.frame, head, bytes).is_err() {
             return Err(StoreFault::Memory);
         }
         self.puts += 1;
         if put_all(&mut self.stream, &self.frame).is_err() {
             return Err(StoreFault::Io);
         }
+        // the server works meanwhile
+        let parcel = StreamParcel::new(self.puts, bytes);
         read_answer(&mut self.stream, parcel.id(), 0)?;
         Ok(parcel)
     }

@@ -1,12 +1,13 @@
 //! A server that listens, with clients that come one after the other.
 
-use crate::frames::{DONE, GET, PUT, REFUSED_ID, add_frame, add_head};
+use crate::frames::{ASKS, GET_ASKS, GET_SAYS, SAYS, first};
 use far_server::{ListenFault, listen};
-use std::alloc::{AllocError, Global};
+use std::alloc::Global;
 use std::io::{Error, ErrorKind, Read, Result as IoResult, Write};
-use std::net::{Ipv4Addr, SocketAddr, TcpListener, TcpStream};
+use std::net::{Ipv4Addr, Net, SocketAddr, TcpListener, TcpStream};
+use std::sync::Wait;
 use std::test::Fail;
-use std::thread;
+use std::thread::{self, Threads};
 
 /// The port in a line `listening P`.
 fn port_of(line: &[u8]) -> Option<u16> {
@@ -28,100 +29,146 @@ fn line_of(alloc: Global, reader: &mut TcpStream) -> IoResult<Vec<u8>> {
     Ok(line)
 }
 
-/// Whether the server of this port answers what is asked so.
-fn answers(stream: &mut TcpStream, asks: &[u8], wanted: &[u8], alloc: Global) -> IoResult<bool> {
+/// Whether the server answers what is asked so.
+fn answers(stream: &mut TcpStream, asks: &[u8], wanted: &[u8]) -> IoResult<bool> {
     stream.write_all(asks)?;
-    let mut heard = Vec::new(alloc);
-    heard.resize(wanted.len(), 0)?;
-    stream.read_exact(&mut heard)?;
-    Ok(heard.as_slice() == wanted)
+    let mut heard = [0u8; 64];
+    let n = wanted.len().min(heard.len());
+    stream.read_exact(&mut heard[..n])?;
+    Ok(&heard[..n] == wanted)
 }
 
-/// A put of `abc` and a get of it, and the answers.
-fn put_and_get(alloc: Global) -> Result<(Vec<u8>, Vec<u8>), AllocError> {
-    let mut asks = Vec::new(alloc);
-    add_frame(&mut asks, PUT, 1, b"abc")?;
-    add_head(&mut asks, GET, 1, 0)?;
-    let mut says = Vec::new(alloc);
-    add_head(&mut says, DONE, 1, 0)?;
-    add_frame(&mut says, DONE, 1, b"abc")?;
-    Ok((asks, says))
+/// Whether a client is served that puts `abc`, gets it and goes.
+fn is_served<R: Net<Stream = TcpStream>>(rt: &R, address: SocketAddr) -> IoResult<bool> {
+    let mut stream = TcpStream::connect(rt, address)?;
+    answers(&mut stream, first(ASKS, GET_ASKS), first(SAYS, GET_SAYS))
 }
 
-/// A get of id 1, where nothing is kept.
-fn get_nothing(alloc: Global) -> Result<(Vec<u8>, Vec<u8>), AllocError> {
-    let mut asks = Vec::new(alloc);
-    add_head(&mut asks, GET, 1, 0)?;
-    let mut says = Vec::new(alloc);
-    add_head(&mut says, REFUSED_ID, 1, 0)?;
-    Ok((asks, says))
+/// Whether a client is cut off that is served, and then asks what is no request.
+fn is_cut_off<R: Net<Stream = TcpStream>>(rt: &R, address: SocketAddr) -> IoResult<bool> {
+    let mut stream = TcpStream::connect(rt, address)?;
+    let is_served = answers(&mut stream, first(ASKS, GET_ASKS), first(SAYS, GET_SAYS))?;
+    stream.write_all(b"\x04\0\0\0\0\0\0\0\x01\0\0\0\0")?;
+    Ok(is_served && stream.read(&mut [0u8; 8])? == 0)
 }
 
-/// Four clients: one that is served, one that breaks the protocol, one that goes within a request, and
-/// one that is cut off by the end of the input. Each begins with nothing kept.
+/// A client that goes within a request.
+fn goes<R: Net<Stream = TcpStream>>(rt: &R, address: SocketAddr) -> IoResult<()> {
+    let mut stream = TcpStream::connect(rt, address)?;
+    stream.write_all(&[1, 0, 0])
+}
+
+/// Whether a client that finds nothing kept is cut off by the end of the input, which comes as `held`
+/// is dropped.
+fn is_ended<R: Net<Stream = TcpStream>>(
+    rt: &R,
+    address: SocketAddr,
+    held: TcpStream,
+) -> IoResult<bool> {
+    let mut stream = TcpStream::connect(rt, address)?;
+    let asks = b"\x02\0\0\0\0\0\0\0\x01\0\0\0\0";
+    let finds_nothing = answers(&mut stream, asks, b"\x01\0\0\0\0\0\0\0\x01\0\0\0\0")?;
+    drop(held);
+    Ok(finds_nothing && stream.read(&mut [0u8; 8])? == 0)
+}
+
+/// What four clients of a server on this port find: one that is served, one that breaks the protocol,
+/// one that goes within a request, and one that is cut off by the end of the input.
+fn four_clients<R: Net<Stream = TcpStream>>(
+    rt: &R,
+    port: u16,
+    held: TcpStream,
+) -> IoResult<[bool; 3]> {
+    let address = SocketAddr::from((Ipv4Addr::LOCALHOST, port));
+    let served = is_served(rt, address)?;
+    let cut_off = is_cut_off(rt, address)?;
+    goes(rt, address)?;
+    let ended = is_ended(rt, address, held)?;
+    Ok([served, cut_off, ended])
+}
+
+/// Both ends of a stream.
+fn ends<R: Net<Listener = TcpListener, Stream = TcpStream>>(
+    rt: &R,
+) -> IoResult<(TcpStream, TcpStream)> {
+    let listener = TcpListener::bind(rt, (Ipv4Addr::LOCALHOST, 0))?;
+    let near = TcpStream::connect(rt, listener.local_addr()?)?;
+    let (far, _) = listener.accept()?;
+    Ok((near, far))
+}
+
+/// Listens on any port, with this stream as input and output, and says how that ended and whether what
+/// was told of clients is this.
+fn listens<R>(
+    rt: &R,
+    alloc: Global,
+    stream: TcpStream,
+    told: &[u8],
+) -> (Result<(), ListenFault>, bool)
+where
+    R: Net<Listener = TcpListener, Stream = TcpStream> + Threads + Wait + Copy + Send + 'static,
+{
+    let mut errors = Vec::new(alloc);
+    let Ok(mut output) = stream.try_clone() else {
+        return (Err(ListenFault::Net), false);
+    };
+    let ended = listen(rt, alloc, 0, stream, &mut output, &mut errors);
+    (ended, errors.as_slice() == told)
+}
+
+/// What is told of the second and the third client.
+const TOLD: &[u8] = b"client 2: protocol fault\nclient 3: protocol fault\n";
+
+/// Each client begins with nothing kept, and those that break the protocol are told of.
 #[test]
 fn clients_are_served_one_after_another(rt: HostRuntime) -> Result<(), Fail> {
     let alloc = rt.alloc();
-    let control = TcpListener::bind(&rt, (Ipv4Addr::LOCALHOST, 0))?;
-    let input = TcpStream::connect(&rt, control.local_addr()?)?;
-    let mut output = input.try_clone()?;
-    let (mut held, _) = control.accept()?;
-    let server = thread::spawn(&rt, move || {
-        let mut errors = Vec::new(alloc);
-        let ended = listen(&rt, alloc, 0, input, &mut output, &mut errors);
-        (ended, errors)
-    })?;
-    let Some(port) = port_of(&line_of(alloc, &mut held)?) else {
-        return Err(Fail::new("no port"));
-    };
-    let address = SocketAddr::from((Ipv4Addr::LOCALHOST, port));
-
-    let (asks, says) = put_and_get(alloc)?;
-    let mut first = TcpStream::connect(&rt, address)?;
-    assert!(rt; answers(&mut first, &asks, &says, alloc)?);
-    drop(first);
-
-    let mut second = TcpStream::connect(&rt, address)?;
-    assert!(rt; answers(&mut second, &asks, &says, alloc)?);
-    second.write_all(b"\x04\0\0\0\0\0\0\0\x01\0\0\0\0")?;
-    assert!(rt; line_of(alloc, &mut second)?.is_empty());
-    drop(second);
-
-    let mut third = TcpStream::connect(&rt, address)?;
-    third.write_all(&[1, 0, 0])?;
-    drop(third);
-
-    let (asks, says) = get_nothing(alloc)?;
-    let mut last = TcpStream::connect(&rt, address)?;
-    assert!(rt; answers(&mut last, &asks, &says, alloc)?);
-    drop(held);
-    assert_eq!(rt; last.read(&mut [0u8; 8])?, 0);
-
-    let (ended, errors) = server.join(&rt);
-    assert_eq!(rt; ended, Ok(()));
-    assert_eq!(rt;
-        errors.as_slice(),
-        b"client 2: protocol fault\nclient 3: protocol fault\n".as_slice()
-    );
+    let (mut held, stream) = ends(&rt)?;
+    let server = thread::spawn(&rt, move || listens(&rt, alloc, stream, TOLD))?;
+    let port = port_of(&line_of(alloc, &mut held)?);
+    assert!(rt; port.is_some());
+    let found = four_clients(&rt, port.unwrap_or(0), held)?;
+    assert_eq!(rt; found, [true; 3]);
+    assert_eq!(rt; server.join(&rt), (Ok(()), true));
     Ok(())
+}
+
+/// How a server ends that is to listen on this port, where its input has ended, and on which port it
+/// says that it does.
+fn listens_on<R>(rt: &R, alloc: Global, port: u16) -> (Result<(), ListenFault>, Option<u16>)
+where
+    R: Net<Listener = TcpListener, Stream = TcpStream> + Threads + Wait + Copy + Send + 'static,
+{
+    let (mut output, mut errors) = (Vec::new(alloc), Vec::new(alloc));
+    let empty: &'static [u8] = b"";
+    let ended = listen(rt, alloc, port, empty, &mut output, &mut errors);
+    (
+        ended,
+        if errors.is_empty() {
+            port_of(&output)
+        } else {
+            None
+        },
+    )
+}
+
+/// A listener on any port, and which it is.
+fn taken<R: Net<Listener = TcpListener, Stream = TcpStream>>(
+    rt: &R,
+) -> IoResult<(TcpListener, u16)> {
+    let listener = TcpListener::bind(rt, (Ipv4Addr::LOCALHOST, 0))?;
+    let port = listener.local_addr()?.port();
+    Ok((listener, port))
 }
 
 /// The port that is asked for is the one that is listened on, and a second server can't have it.
 #[test]
 fn a_port_is_had_once(rt: HostRuntime) -> Result<(), Fail> {
     let alloc = rt.alloc();
-    let taken = TcpListener::bind(&rt, (Ipv4Addr::LOCALHOST, 0))?;
-    let port = taken.local_addr()?.port();
-    let (mut output, mut errors) = (Vec::new(alloc), Vec::new(alloc));
-    let empty: &'static [u8] = b"";
-    let ended = listen(&rt, alloc, port, empty, &mut output, &mut errors);
-    assert_eq!(rt; ended, Err(ListenFault::Net));
-    assert!(rt; output.is_empty());
-    drop(taken);
-    let ended = listen(&rt, alloc, port, empty, &mut output, &mut errors);
-    assert_eq!(rt; ended, Ok(()));
-    assert_eq!(rt; port_of(&output), Some(port));
-    assert!(rt; errors.is_empty());
+    let (holder, port) = taken(&rt)?;
+    assert_eq!(rt; listens_on(&rt, alloc, port), (Err(ListenFault::Net), None));
+    drop(holder);
+    assert_eq!(rt; listens_on(&rt, alloc, port), (Ok(()), Some(port)));
     Ok(())
 }
 
@@ -149,18 +196,33 @@ impl Write for Full {
     }
 }
 
-#[test]
-fn streams_of_a_server_that_fail(rt: HostRuntime) -> Result<(), Fail> {
-    let alloc = rt.alloc();
+/// How a server ends whose input fails, and whether it said before on which port it listens.
+fn listens_to_a_broken_one<R>(rt: &R, alloc: Global) -> (Result<(), ListenFault>, bool)
+where
+    R: Net<Listener = TcpListener, Stream = TcpStream> + Threads + Wait + Copy + Send + 'static,
+{
     let (mut output, mut errors) = (Vec::new(alloc), Vec::new(alloc));
-    let ended = listen(&rt, alloc, 0, Broken, &mut output, &mut errors);
-    assert_eq!(rt; ended, Err(ListenFault::Read));
-    assert!(rt; port_of(&output).is_some());
+    let ended = listen(rt, alloc, 0, Broken, &mut output, &mut errors);
+    (ended, port_of(&output).is_some() && errors.is_empty())
+}
+
+/// How a server ends whose output takes nothing, and whether it told nothing of clients.
+fn listens_with_a_full_one<R>(rt: &R, alloc: Global) -> (Result<(), ListenFault>, bool)
+where
+    R: Net<Listener = TcpListener, Stream = TcpStream> + Threads + Wait + Copy + Send + 'static,
+{
+    let mut errors = Vec::new(alloc);
     let empty: &'static [u8] = b"";
-    let ended = listen(&rt, alloc, 0, empty, &mut Full, &mut errors);
-    assert_eq!(rt; ended, Err(ListenFault::Write));
-    assert!(rt; errors.is_empty());
-    Ok(())
+    let ended = listen(rt, alloc, 0, empty, &mut Full, &mut errors);
+    (ended, errors.is_empty())
+}
+
+#[test]
+fn streams_of_a_server_that_fail(rt: HostRuntime) {
+    let broken = listens_to_a_broken_one(&rt, rt.alloc());
+    assert_eq!(rt; broken, (Err(ListenFault::Read), true));
+    let full = listens_with_a_full_one(&rt, rt.alloc());
+    assert_eq!(rt; full, (Err(ListenFault::Write), true));
 }
 
 #[test]

@@ -23,163 +23,138 @@ fn limits_and_numbers(rt: HostRuntime) -> Result<(), Fail> {
     Ok(())
 }
 
-/// Requests, what they are answered, and where each ends.
-#[derive(Drop)]
-struct Talk {
-    asks: Vec<u8>,
-    says: Vec<u8>,
-    /// how many bytes were asked and answered after each
-    ends: Vec<(usize, usize)>,
-}
-
-impl Talk {
-    fn new(alloc: Global) -> Self {
-        Talk {
-            asks: Vec::new(alloc),
-            says: Vec::new(alloc),
-            ends: Vec::new(alloc),
-        }
-    }
-
-    /// The request is whole, and so is its answer.
-    fn end(&mut self) -> Result<(), AllocError> {
-        self.ends.push((self.asks.len(), self.says.len()))?;
-        Ok(())
-    }
-
-    fn put(&mut self, id: u64, bytes: &[u8], status: u8) -> Result<(), AllocError> {
-        add_frame(&mut self.asks, PUT, id, bytes)?;
-        add_head(&mut self.says, status, id, 0)?;
-        self.end()
-    }
-
-    fn get(&mut self, id: u64, bytes: &[u8]) -> Result<(), AllocError> {
-        add_head(&mut self.asks, GET, id, 0)?;
-        add_frame(&mut self.says, DONE, id, bytes)?;
-        self.end()
-    }
-
-    fn get_refused(&mut self, id: u64) -> Result<(), AllocError> {
-        add_head(&mut self.asks, GET, id, 0)?;
-        add_head(&mut self.says, REFUSED_ID, id, 0)?;
-        self.end()
-    }
-
-    fn forget(&mut self, id: u64, status: u8) -> Result<(), AllocError> {
-        add_head(&mut self.asks, FORGET, id, 0)?;
-        add_head(&mut self.says, status, id, 0)?;
-        self.end()
-    }
-
-    /// How many bytes are answered to so many, and whether they end with a request.
-    fn answered(&self, asked: usize) -> (usize, bool) {
-        let mut said = 0;
-        let mut whole = asked == 0;
-        for (asks, says) in &self.ends {
-            if *asks <= asked {
-                said = *says;
-                whole = *asks == asked;
-            }
-        }
-        (said, whole)
-    }
-}
+/// A request, its kind, id and bytes, and its answer, status and bytes.
+type Step = (u8, u64, &'static [u8], u8, &'static [u8]);
 
 /// A conversation with each request and each answer, of short payloads.
-fn conversation(alloc: Global) -> Result<Talk, AllocError> {
-    let mut talk = Talk::new(alloc);
-    talk.put(1, b"abc", DONE)?;
-    talk.put(1, b"other", REFUSED_ID)?;
-    talk.get(1, b"abc")?;
-    talk.get_refused(2)?;
-    talk.put(u64::MAX, b"last", DONE)?;
-    talk.put(0, b"z", DONE)?;
-    talk.get(0, b"z")?;
-    talk.forget(1, DONE)?;
-    talk.forget(1, REFUSED_ID)?;
-    talk.get_refused(1)?;
-    talk.put(1, b"new", DONE)?;
-    talk.get(1, b"new")?;
-    talk.get(u64::MAX, b"last")?;
-    talk.forget(u64::MAX, DONE)?;
-    talk.get_refused(u64::MAX)?;
-    Ok(talk)
+const TALK: [Step; 15] = [
+    (PUT, 1, b"abc", DONE, b""),
+    (PUT, 1, b"other", REFUSED_ID, b""),
+    (GET, 1, b"", DONE, b"abc"),
+    (GET, 2, b"", REFUSED_ID, b""),
+    (PUT, u64::MAX, b"last", DONE, b""),
+    (PUT, 0, b"z", DONE, b""),
+    (GET, 0, b"", DONE, b"z"),
+    (FORGET, 1, b"", DONE, b""),
+    (FORGET, 1, b"", REFUSED_ID, b""),
+    (GET, 1, b"", REFUSED_ID, b""),
+    (PUT, 1, b"new", DONE, b""),
+    (GET, 1, b"", DONE, b"new"),
+    (GET, u64::MAX, b"", DONE, b"last"),
+    (FORGET, u64::MAX, b"", DONE, b""),
+    (GET, u64::MAX, b"", REFUSED_ID, b""),
+];
+
+/// The bytes of these requests.
+fn asks(alloc: Global, steps: &[Step]) -> Result<Vec<u8>, AllocError> {
+    let mut asks = Vec::new(alloc);
+    for (kind, id, bytes, _, _) in steps {
+        add_frame(&mut asks, *kind, *id, bytes)?;
+    }
+    Ok(asks)
+}
+
+/// The bytes of their answers.
+fn says(alloc: Global, steps: &[Step]) -> Result<Vec<u8>, AllocError> {
+    let mut says = Vec::new(alloc);
+    for (_, id, _, status, bytes) in steps {
+        add_frame(&mut says, *status, *id, bytes)?;
+    }
+    Ok(says)
+}
+
+/// How many bytes are answered to the first so many of the conversation, and whether they end with a
+/// request.
+fn answered(count: usize) -> (usize, bool) {
+    let mut asked = 0usize;
+    let mut said = 0usize;
+    for (_, _, bytes, _, gives) in &TALK {
+        let end = asked.saturating_add(13).saturating_add(bytes.len());
+        if count < end {
+            return (said, count == asked);
+        }
+        asked = end;
+        said = said.saturating_add(13).saturating_add(gives.len());
+    }
+    (said, true)
+}
+
+/// How a server ends that is asked this, where it answers so many bytes of what it should.
+fn served<'a>(
+    alloc: Global,
+    asks: &'a [u8],
+    says: &'a [u8],
+    count: usize,
+) -> Option<Result<(), StreamFault>> {
+    let heard = Heard::new();
+    let ended = serve_store(alloc, &mut Wire::new(asks, says, &heard));
+    heard.is(count).then_some(ended)
 }
 
 /// Each answer is one write.
 #[test]
 fn each_request_is_answered(rt: HostRuntime) -> Result<(), Fail> {
-    let talk = conversation(rt.alloc())?;
-    let heard = Heard::new(rt.alloc());
-    let mut wire = Wire::new(&talk.asks, &heard);
+    let (asks, says) = (asks(rt.alloc(), &TALK)?, says(rt.alloc(), &TALK)?);
+    let heard = Heard::new();
+    let mut wire = Wire::new(&asks, &says, &heard);
     assert_eq!(rt; serve_store(rt.alloc(), &mut wire), Ok(()));
-    assert!(rt; heard.is(&talk.says));
-    assert_eq!(rt; heard.writes.get(), talk.ends.len());
+    assert!(rt; heard.is(says.len()));
+    assert_eq!(rt; heard.writes.get(), TALK.len());
     Ok(())
 }
 
 #[test]
 fn nothing_is_asked(rt: HostRuntime) {
-    let heard = Heard::new(rt.alloc());
-    assert_eq!(rt;
-        serve_store(rt.alloc(), &mut Wire::new(&[], &heard)),
-        Ok(())
-    );
-    assert!(rt; heard.is(&[]));
+    assert_eq!(rt; served(rt.alloc(), &[], &[], 0), Some(Ok(())));
 }
 
 /// Input that ends between requests is its proper end, and within one it breaks the protocol. What was
 /// whole is answered.
 #[test]
 fn requests_cut_after_each_byte(rt: HostRuntime) -> Result<(), Fail> {
-    let talk = conversation(rt.alloc())?;
-    for count in 0..=talk.asks.len() {
-        let heard = Heard::new(rt.alloc());
-        let mut wire = Wire::new(first(&talk.asks, count), &heard);
-        let (said, whole) = talk.answered(count);
-        let wanted = if whole {
+    let (asks, says) = (asks(rt.alloc(), &TALK)?, says(rt.alloc(), &TALK)?);
+    for count in 0..=asks.len() {
+        let (said, is_whole) = answered(count);
+        let ended = served(rt.alloc(), first(&asks, count), &says, said);
+        let wanted = if is_whole {
             Ok(())
         } else {
             Err(StreamFault::Protocol)
         };
-        assert_eq!(rt; serve_store(rt.alloc(), &mut wire), wanted, "{count} bytes");
-        assert!(rt; heard.is(first(&talk.says, said)), "{count} bytes");
+        assert_eq!(rt; ended, Some(wanted), "{count} bytes");
     }
     Ok(())
 }
 
 #[test]
 fn each_read_of_the_server_fails(rt: HostRuntime) -> Result<(), Fail> {
-    let talk = conversation(rt.alloc())?;
-    for good in 0..=talk.asks.len() {
-        let heard = Heard::new(rt.alloc());
-        let mut wire = Wire::new(&talk.asks, &heard);
+    let (asks, says) = (asks(rt.alloc(), &TALK)?, says(rt.alloc(), &TALK)?);
+    for good in 0..=asks.len() {
+        let heard = Heard::new();
+        let mut wire = Wire::new(&asks, &says, &heard);
         wire.size = 1;
         wire.good_reads = good;
-        let (said, _) = talk.answered(good);
-        assert_eq!(rt;
-            serve_store(rt.alloc(), &mut wire),
-            Err(StreamFault::Io),
-            "{good} reads"
-        );
-        assert!(rt; heard.is(first(&talk.says, said)), "{good} reads");
+        let ended = serve_store(rt.alloc(), &mut wire);
+        assert_eq!(rt; ended, Err(StreamFault::Io), "{good} reads");
+        let (said, _) = answered(good);
+        assert!(rt; heard.is(said), "{good} reads");
     }
     Ok(())
 }
 
 #[test]
 fn each_write_of_the_server_fails(rt: HostRuntime) -> Result<(), Fail> {
-    let talk = conversation(rt.alloc())?;
+    let (asks, says) = (asks(rt.alloc(), &TALK)?, says(rt.alloc(), &TALK)?);
     for takes_nothing in [false, true] {
-        for good in 0..talk.says.len() {
-            let heard = Heard::new(rt.alloc());
-            let mut wire = Wire::new(&talk.asks, &heard);
+        for good in 0..says.len() {
+            let heard = Heard::new();
+            let mut wire = Wire::new(&asks, &says, &heard);
             wire.size = 1;
             wire.good_writes = good;
             wire.takes_nothing = takes_nothing;
             let ended = serve_store(rt.alloc(), &mut wire);
             assert_eq!(rt; ended, Err(StreamFault::Io), "{good} writes");
-            assert!(rt; heard.is(first(&talk.says, good)), "{good} writes");
+            assert!(rt; heard.is(good), "{good} writes");
         }
     }
     Ok(())
@@ -187,24 +162,33 @@ fn each_write_of_the_server_fails(rt: HostRuntime) -> Result<(), Fail> {
 
 #[test]
 fn requests_in_pieces(rt: HostRuntime) -> Result<(), Fail> {
-    let talk = conversation(rt.alloc())?;
+    let (asks, says) = (asks(rt.alloc(), &TALK)?, says(rt.alloc(), &TALK)?);
     for size in 1..=20usize {
-        let heard = Heard::new(rt.alloc());
-        let mut wire = Wire::new(&talk.asks, &heard);
+        let heard = Heard::new();
+        let mut wire = Wire::new(&asks, &says, &heard);
         wire.size = size;
-        assert_eq!(rt;
-            serve_store(rt.alloc(), &mut wire),
-            Ok(()),
-            "pieces of {size}"
-        );
-        assert!(rt; heard.is(&talk.says), "pieces of {size}");
+        let ended = serve_store(rt.alloc(), &mut wire);
+        assert_eq!(rt; ended, Ok(()), "pieces of {size}");
+        assert!(rt; heard.is(says.len()), "pieces of {size}");
     }
     Ok(())
 }
 
+/// How a server ends that has put `abc`, and then is asked what has this head; to that it answers
+/// nothing.
+fn served_after_a_put(alloc: Global, kind: u8, count: u32) -> Option<StreamFault> {
+    let mut asks = Vec::new(alloc);
+    let mut says = Vec::new(alloc);
+    add_frame(&mut asks, PUT, 1, b"abc").ok()?;
+    add_head(&mut says, DONE, 1, 0).ok()?;
+    add_head(&mut asks, kind, 2, count).ok()?;
+    asks.extend_from_slice(b"xyz").ok()?;
+    served(alloc, &asks, &says, says.len())?.err()
+}
+
 /// Heads that no request has: nothing is answered to them, and what came before is.
 #[test]
-fn what_is_no_request(rt: HostRuntime) -> Result<(), Fail> {
+fn what_is_no_request(rt: HostRuntime) {
     for (kind, count) in [
         (0u8, 0u32),
         (4, 0),
@@ -217,74 +201,98 @@ fn what_is_no_request(rt: HostRuntime) -> Result<(), Fail> {
         (GET, u32::MAX),
         (FORGET, 1),
     ] {
-        let mut talk = Talk::new(rt.alloc());
-        talk.put(1, b"abc", DONE)?;
-        add_head(&mut talk.asks, kind, 2, count)?;
-        talk.asks.extend_from_slice(b"xyz")?;
-        let heard = Heard::new(rt.alloc());
-        let mut wire = Wire::new(&talk.asks, &heard);
-        let ended = serve_store(rt.alloc(), &mut wire);
-        assert_eq!(rt; ended, Err(StreamFault::Protocol), "{kind} {count}");
-        assert!(rt; heard.is(&talk.says), "{kind} {count}");
+        let ended = served_after_a_put(rt.alloc(), kind, count);
+        assert_eq!(rt; ended, Some(StreamFault::Protocol), "{kind} {count}");
     }
-    Ok(())
+}
+
+/// Puts of one byte, of this payload and of one byte less under an id that is kept, and gets of both.
+fn lengths_asked(alloc: Global, whole: &[u8]) -> Result<Vec<u8>, AllocError> {
+    let mut asks = Vec::new(alloc);
+    add_frame(&mut asks, PUT, 1, b"a")?;
+    add_frame(&mut asks, PUT, 2, whole)?;
+    add_frame(&mut asks, PUT, 2, first(whole, 65_535))?;
+    add_head(&mut asks, GET, 2, 0)?;
+    add_head(&mut asks, GET, 1, 0)?;
+    Ok(asks)
+}
+
+/// Their answers.
+fn lengths_said(alloc: Global, whole: &[u8]) -> Result<Vec<u8>, AllocError> {
+    let mut says = Vec::new(alloc);
+    add_head(&mut says, DONE, 1, 0)?;
+    add_head(&mut says, DONE, 2, 0)?;
+    add_head(&mut says, REFUSED_ID, 2, 0)?;
+    add_frame(&mut says, DONE, 2, whole)?;
+    add_frame(&mut says, DONE, 1, b"a")?;
+    Ok(says)
 }
 
 /// The shortest and the longest payload.
 #[test]
 fn lengths_that_are_kept(rt: HostRuntime) -> Result<(), Fail> {
     let whole = pattern(rt.alloc(), 65_536)?;
-    let mut talk = Talk::new(rt.alloc());
-    talk.put(1, first(&whole, 1), DONE)?;
-    talk.put(2, &whole, DONE)?;
-    talk.put(2, first(&whole, 65_535), REFUSED_ID)?;
-    talk.get(2, &whole)?;
-    talk.get(1, first(&whole, 1))?;
-    let heard = Heard::new(rt.alloc());
-    let mut wire = Wire::new(&talk.asks, &heard);
-    assert_eq!(rt; serve_store(rt.alloc(), &mut wire), Ok(()));
-    assert!(rt; heard.is(&talk.says));
+    let asks = lengths_asked(rt.alloc(), &whole)?;
+    let says = lengths_said(rt.alloc(), &whole)?;
+    let ended = served(rt.alloc(), &asks, &says, says.len());
+    assert_eq!(rt; ended, Some(Ok(())));
     Ok(())
 }
 
-/// 1024 parcels are kept, and the next finds no room; an id that is kept is refused first.
+/// What is asked after 1024 puts, each of its id as eight bytes: the next finds no room; an id that is
+/// kept is refused first.
+const FULL: [Step; 10] = [
+    (PUT, 1025, b"late", NO_ROOM, b""),
+    (PUT, 5, b"again", REFUSED_ID, b""),
+    (GET, 1025, b"", REFUSED_ID, b""),
+    (GET, 1024, b"", DONE, b"\0\0\0\0\0\0\x04\0"),
+    (GET, 1, b"", DONE, b"\0\0\0\0\0\0\0\x01"),
+    (FORGET, 7, b"", DONE, b""),
+    (PUT, 1025, b"late", DONE, b""),
+    (PUT, 1026, b"later", NO_ROOM, b""),
+    (GET, 1025, b"", DONE, b"late"),
+    (GET, 7, b"", REFUSED_ID, b""),
+];
+
+/// The puts, and what is asked after them.
+fn many_asked(alloc: Global) -> Result<Vec<u8>, AllocError> {
+    let mut asked = Vec::new(alloc);
+    for id in 1..=1024u64 {
+        add_frame(&mut asked, PUT, id, &id.to_be_bytes())?;
+    }
+    asked.extend_from_slice(&asks(alloc, &FULL)?)?;
+    Ok(asked)
+}
+
+/// Their answers.
+fn many_said(alloc: Global) -> Result<Vec<u8>, AllocError> {
+    let mut said = Vec::new(alloc);
+    for id in 1..=1024u64 {
+        add_head(&mut said, DONE, id, 0)?;
+    }
+    said.extend_from_slice(&says(alloc, &FULL)?)?;
+    Ok(said)
+}
+
+/// 1024 parcels are kept, and the next finds no room.
 #[test]
 fn parcels_up_to_the_limit(rt: HostRuntime) -> Result<(), Fail> {
-    let mut talk = Talk::new(rt.alloc());
-    for id in 1..=1024u64 {
-        talk.put(id, &id.to_be_bytes(), DONE)?;
-    }
-    talk.put(1025, b"late", NO_ROOM)?;
-    talk.put(5, b"again", REFUSED_ID)?;
-    talk.get_refused(1025)?;
-    talk.get(1024, &1024u64.to_be_bytes())?;
-    talk.get(1, &1u64.to_be_bytes())?;
-    talk.forget(7, DONE)?;
-    talk.put(1025, b"late", DONE)?;
-    talk.put(1026, b"later", NO_ROOM)?;
-    talk.get(1025, b"late")?;
-    talk.get_refused(7)?;
-    let heard = Heard::new(rt.alloc());
-    let mut wire = Wire::new(&talk.asks, &heard);
-    assert_eq!(rt; serve_store(rt.alloc(), &mut wire), Ok(()));
-    assert!(rt; heard.is(&talk.says));
+    let (asks, says) = (many_asked(rt.alloc())?, many_said(rt.alloc())?);
+    let ended = served(rt.alloc(), &asks, &says, says.len());
+    assert_eq!(rt; ended, Some(Ok(())));
     Ok(())
 }
 
 /// A second client begins with nothing kept.
 #[test]
 fn a_conversation_keeps_nothing_for_the_next(rt: HostRuntime) -> Result<(), Fail> {
-    let mut talk = Talk::new(rt.alloc());
-    talk.put(1, b"abc", DONE)?;
-    let mut next = Talk::new(rt.alloc());
-    next.get_refused(1)?;
-    for talk in [talk, next] {
-        let heard = Heard::new(rt.alloc());
-        assert_eq!(rt;
-            serve_store(rt.alloc(), &mut Wire::new(&talk.asks, &heard)),
-            Ok(())
-        );
-        assert!(rt; heard.is(&talk.says));
+    for step in [
+        (PUT, 1u64, b"abc".as_slice(), DONE, b"".as_slice()),
+        TALK[9],
+    ] {
+        let (asks, says) = (asks(rt.alloc(), &[step])?, says(rt.alloc(), &[step])?);
+        let ended = served(rt.alloc(), &asks, &says, says.len());
+        assert_eq!(rt; ended, Some(Ok(())));
     }
     Ok(())
 }

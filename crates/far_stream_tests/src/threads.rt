@@ -1,7 +1,8 @@
 //! Both ends over TCP, each in a thread.
 
-use crate::frames::{owned, pattern};
-use far_store::{FarStore, StoreFault};
+use crate::calls::{Client, Outcome};
+use crate::frames::{first, owned, pattern};
+use far_store::StoreFault;
 use far_stream::{StreamFault, StreamStore, serve_store};
 use std::alloc::Global;
 use std::io::{Read, Result as IoResult, Write};
@@ -59,53 +60,43 @@ fn serve_one(alloc: Global, listener: TcpListener, good: usize) -> Result<(), St
     serve_store(alloc, &mut stream)
 }
 
-/// The parcel of so many bytes.
-fn put<S: FarStore>(alloc: Global, store: &mut S, count: usize) -> Result<S::Parcel, Fail> {
-    match store.put(pattern(alloc, count)?) {
-        Ok(parcel) => Ok(parcel),
-        Err((fault, _bytes)) => Err(Fail::new(fault)),
-    }
-}
-
-/// What comes of a get: nothing where these bytes come home, and else the fault.
-fn gets<S: FarStore>(
+/// Three objects leave and come home, where the second answer to a get is damaged: what comes of each
+/// call, and how many faults were counted before and after they are forgotten.
+fn there_and_back(
     alloc: Global,
-    store: &mut S,
-    parcel: &S::Parcel,
-    count: usize,
-) -> Result<Option<StoreFault>, Fail> {
-    match store.get(parcel) {
-        Ok(bytes) if bytes == pattern(alloc, count)? => Ok(None),
-        Ok(_bytes) => Err(Fail::new("other bytes")),
-        Err(fault) => Ok(Some(fault)),
-    }
+    stream: TcpStream,
+    longest: &[u8],
+) -> ([Outcome; 3], [Outcome; 4], [u64; 2]) {
+    let mut client = Client::new(alloc, StreamStore::new(alloc, stream));
+    let (short, middle) = (first(longest, 1), first(longest, 64));
+    let put = [client.put(short), client.put(middle), client.put(longest)];
+    let got = [
+        client.get(0, short),
+        client.get(1, middle),
+        client.get(1, middle),
+        client.get(2, longest),
+    ];
+    let faults = client.faults();
+    client.forget();
+    client.forget();
+    client.forget();
+    (put, got, [faults, client.faults()])
 }
 
 /// Three objects leave. One comes home damaged and is asked for again; the stream goes on.
 #[test]
 fn objects_leave_and_come_home(rt: HostRuntime) -> Result<(), Fail> {
     let alloc = rt.alloc();
+    let longest = pattern(alloc, 65_536)?;
     let listener = TcpListener::bind(&rt, "127.0.0.1:0")?;
-    let address = listener.local_addr()?;
+    let stream = TcpStream::connect(&rt, listener.local_addr()?)?;
     let server = thread::spawn(&rt, move || serve_one(alloc, listener, 4))?;
-    let mut store = StreamStore::new(alloc, TcpStream::connect(&rt, address)?);
-    let first = put(alloc, &mut store, 1)?;
-    let second = put(alloc, &mut store, 64)?;
-    let third = put(alloc, &mut store, 65_536)?;
-    assert_eq!(rt; gets(alloc, &mut store, &first, 1)?, None);
-    assert_eq!(rt;
-        gets(alloc, &mut store, &second, 64)?,
-        Some(StoreFault::Damaged)
-    );
-    assert_eq!(rt; gets(alloc, &mut store, &second, 64)?, None);
-    assert_eq!(rt; gets(alloc, &mut store, &third, 65_536)?, None);
-    assert_eq!(rt; store.faults(), 1);
-    store.forget(first);
-    store.forget(second);
-    store.forget(third);
-    assert_eq!(rt; store.faults(), 1);
-    drop(store);
+    let (put, got, faults) = there_and_back(alloc, stream, &longest);
     assert_eq!(rt; server.join(&rt), Ok(()));
+    assert_eq!(rt; put, [Outcome::Done; 3]);
+    let damaged = Outcome::Fault(StoreFault::Damaged);
+    assert_eq!(rt; got, [Outcome::Done, damaged, Outcome::Done, Outcome::Done]);
+    assert_eq!(rt; faults, [1, 1]);
     Ok(())
 }
 
@@ -114,9 +105,8 @@ fn objects_leave_and_come_home(rt: HostRuntime) -> Result<(), Fail> {
 fn a_client_that_goes(rt: HostRuntime) -> Result<(), Fail> {
     let alloc = rt.alloc();
     let listener = TcpListener::bind(&rt, "127.0.0.1:0")?;
-    let address = listener.local_addr()?;
+    let mut stream = TcpStream::connect(&rt, listener.local_addr()?)?;
     let server = thread::spawn(&rt, move || serve_one(alloc, listener, usize::MAX))?;
-    let mut stream = TcpStream::connect(&rt, address)?;
     stream.write_all(b"\x01\0\0\0\0\0\0\0\x01\0\0\0\x03ab")?;
     drop(stream);
     assert_eq!(rt; server.join(&rt), Err(StreamFault::Protocol));

@@ -1,37 +1,31 @@
-//! A stream whose other end says what it was told to say, whatever it hears.
+//! A stream whose other end says what it was told to say, and hears whether it is told what it should be.
 
-use std::alloc::Global;
-use std::cell::{Cell, RefCell};
+use std::cell::Cell;
 use std::io::{Error, ErrorKind, Read, Result, Write};
 
 /// What was heard over a wire, and how often it was asked.
 #[derive(Drop)]
 pub struct Heard {
-    bytes: RefCell<Vec<u8>>,
+    right: Cell<usize>,
+    is_wrong: Cell<bool>,
     pub reads: Cell<usize>,
     pub writes: Cell<usize>,
 }
 
 impl Heard {
     /// Nothing yet.
-    pub fn new(alloc: Global) -> Self {
+    pub fn new() -> Self {
         Heard {
-            bytes: RefCell::new(Vec::new(alloc)),
+            right: Cell::new(0),
+            is_wrong: Cell::new(false),
             reads: Cell::new(0),
             writes: Cell::new(0),
         }
     }
 
-    /// Whether these bytes were heard since the last time.
-    pub fn is(&self, wanted: &[u8]) -> bool {
-        match self.bytes.try_borrow_mut() {
-            Ok(mut bytes) => {
-                let same = bytes.as_slice() == wanted;
-                bytes.clear();
-                same
-            }
-            Err(_) => false,
-        }
+    /// Whether so many bytes were heard, all of them right, and nothing else.
+    pub fn is(&self, count: usize) -> bool {
+        !self.is_wrong.get() && self.right.get() == count
     }
 }
 
@@ -39,7 +33,10 @@ impl Heard {
 /// at most so many a call, too.
 #[derive(Drop)]
 pub struct Wire<'a> {
-    rest: &'a [u8],
+    /// What is still to be said.
+    says: &'a [u8],
+    /// What should be heard from now on.
+    hears: &'a [u8],
     heard: &'a Heard,
     /// The most bytes of a call.
     pub size: usize,
@@ -53,9 +50,10 @@ pub struct Wire<'a> {
 
 impl<'a> Wire<'a> {
     /// A wire that never fails, and takes and gives what it is asked for.
-    pub fn new(says: &'a [u8], heard: &'a Heard) -> Self {
+    pub fn new(says: &'a [u8], hears: &'a [u8], heard: &'a Heard) -> Self {
         Wire {
-            rest: says,
+            says,
+            hears,
             heard,
             size: usize::MAX,
             good_reads: usize::MAX,
@@ -77,9 +75,9 @@ impl<'a> Read for Wire<'a> {
         if count(&self.heard.reads) == self.good_reads {
             return Err(Error::from(ErrorKind::Interrupted));
         }
-        let n = self.rest.len().min(buf.len()).min(self.size);
-        buf[..n].copy_from_slice(&self.rest[..n]);
-        self.rest = &self.rest[n..];
+        let n = self.says.len().min(buf.len()).min(self.size);
+        buf[..n].copy_from_slice(&self.says[..n]);
+        self.says = &self.says[n..];
         Ok(n)
     }
 }
@@ -93,9 +91,13 @@ impl<'a> Write for Wire<'a> {
             };
         }
         let n = buf.len().min(self.size);
-        match self.heard.bytes.try_borrow_mut() {
-            Ok(mut bytes) => bytes.extend_from_slice(&buf[..n])?,
-            Err(_) => return Err(Error::from(ErrorKind::Other)),
+        match self.hears.strip_prefix(&buf[..n]) {
+            Some(rest) => {
+                self.hears = rest;
+                let right = self.heard.right.get().saturating_add(n);
+                self.heard.right.set(right);
+            }
+            None => self.heard.is_wrong.set(true),
         }
         Ok(n)
     }

@@ -4,8 +4,9 @@ use Rattle.std.specs.declared.alloc.Global.{Global}
 use Rattle.std.proofs.lemmas.Bool.{cases_lt}
 use Rattle.std.proofs.lemmas.List.{append-nil, length-map, map-append}
 use Rattle.far_store.specs.Calls.{Call, Calls}
-use Rattle.object_store.specs.declared.places.Place.{Place}
-use Rattle.object_store.specs.declared.places.Place.TheVariants.{Here}
+use Rattle.far_store.specs.declared.places.Place.{Place}
+use Rattle.far_store.specs.declared.places.Place.TheVariants.{Here}
+use Rattle.memory.specs.Objects.{number_count, object_limit}
 use Rattle.object_store.specs.Bodies.{Kept, bytes_in, place_in, sent_in}
 use Rattle.object_store.specs.Stores.{place_of}
 use Rattle.object_store.specs.Asking.{forgets}
@@ -83,5 +84,17 @@ pub alone_stays : (bodies : List (Vec ℕ Global)) → length bodies ≤ 1 → m
 alone_stays [] h = refl
 alone_stays (x ∷ []) h = refl
 alone_stays (x ∷ y ∷ ys) h = absurd (omega arith)
+
+few : (objects : List (List ℕ)) → length objects ≤ number_count → length (bodies_of objects) ≤ object_limit
+few [] h = omega arith
+few (x ∷ []) h = omega arith
+few (x ∷ y ∷ ys) h = omega (arith, h)
+
+-- as many bodies as objects may be made, at most
+pub few_bodies : (bodies : List (Vec ℕ Global)) (objects : List (List ℕ)) → map (λ (b : Vec ℕ Global). b.items) bodies ≡ bodies_of objects → length objects ≤ number_count → length bodies ≤ object_limit
+few_bodies bodies objects e h =
+    let l : length (map (λ (b : Vec ℕ Global). b.items) bodies) ≡ length bodies = length-map bodies (λ (b : Vec ℕ Global). b.items) in
+    let f : length (map (λ (b : Vec ℕ Global). b.items) bodies) ≤ object_limit = rw e (few objects h) in
+    omega (arith, l, f)
 
 pub ruleset number_steps = (first_gone, alone_stays)

@@ -3,8 +3,7 @@ use Rattle.std.proofs.Common.{◌≡◌, ℕ, List, [], ◌∷◌, ◌++◌, len
 use Rattle.far_store.specs.declared.fault.StoreFault.{StoreFault}
 use Rattle.far_store.specs.declared.fault.StoreFault.TheVariants.{Damaged}
 use Rattle.far_store.specs.Calls.Call.{Get}
-use Rattle.far_store.specs.Calls.{Call, Calls}
-use Rattle.object_store.specs.Asking.{AsksInVain}
+use Rattle.far_store.specs.Calls.{Call, Calls, AsksInVain}
 
 pub one_call : {X : Type 0} (called : X → Call → X → Type 0) (a b : X) (c : Call) → called a c b → Calls called a (c ∷ []) b
 one_call called a b c h = (b, h, refl)

@@ -7,10 +7,9 @@ use Rattle.memory.specs.Objects.{bytes_of}
 use Rattle.object_store.specs.Stores.{HasRisen}
 use Rattle.object_store.specs.Calls.{FailsToReturn}
 use Rattle.object_store.specs.Stores.{sent_of}
-use Rattle.object_store.specs.Asking.{parcel_of}
 use Rattle.object_store.specs.Bodies.{Kept, ReturnsTo, BytesBack, bytes_in, sent_in}
 use Rattle.far_store.specs.Calls.Call.{Get}
-use Rattle.far_store.specs.Calls.{Call, Calls}
+use Rattle.far_store.specs.Calls.{Call, Calls, parcel_of}
 use Rattle.object_store.proofs.Entries.{parcel_at}
 
 pub capped_rises : (a b : ℕ) → a ≤ b → capped (a + 1) ≤ capped (b + 1)

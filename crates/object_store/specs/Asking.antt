@@ -1,18 +1,17 @@
 -- What a store asks of its far store, call by call and in order, and what the far store has of each object then. A call of
 -- which nothing is said here asks nothing.
-use Rattle.std.specs.Prelude.{◌≡◌, ℕ, Bool, false, List, [], ◌∷◌, ◌++◌, length, set, if◌then◌else◌, Option, Some, None, Result, Ok, Err}
+use Rattle.std.specs.Prelude.{◌≡◌, ℕ, Bool, false, List, [], ◌∷◌, ◌++◌, length, set, if◌then◌else◌, Option, Some, None, Ok}
 use Rattle.far_store.specs.declared.fault.StoreFault.{StoreFault}
-use Rattle.far_store.specs.declared.fault.StoreFault.TheVariants.{Damaged}
 use Rattle.far_store.specs.Calls.Call.{Put, Get, Forget}
-use Rattle.far_store.specs.Calls.{Call, Calls}
+use Rattle.far_store.specs.Calls.{Call, Calls, AsksInVain, parcel_of}
 use Rattle.memory.specs.declared.access.Action.{Action}
 use Rattle.memory.specs.declared.access.Action.TheVariants.{Load}
 use Rattle.memory.specs.declared.access.Op.{Op}
 use Rattle.memory.specs.declared.access.Reach.{Reach}
 use Rattle.memory.specs.declared.access.Reach.TheVariants.{Done}
 use Rattle.memory.specs.Objects.{bytes_of}
-use Rattle.object_store.specs.declared.places.Moved.{Moved}
-use Rattle.object_store.specs.declared.places.Moved.TheVariants as moved
+use Rattle.far_store.specs.declared.places.Moved.{Moved}
+use Rattle.far_store.specs.declared.places.Moved.TheVariants as moved
 use Rattle.object_store.specs.Stores.{Sent, StoreWithin, unsent, sent_of}
 
 -- ---- the calls
@@ -26,22 +25,6 @@ forgets (Some bytes) = Forget bytes ∷ []
 -- are put, once.
 abbrev pub leave_calls : Sent → List ℕ → Option StoreFault → List Call
 leave_calls sent bytes outcome = if sent.clean then [] else (forgets sent.parcel ++ Put bytes outcome ∷ [])
-
--- the bytes for which the parcel stands that is kept
-abbrev pub parcel_of : Option (List ℕ) → List ℕ
-parcel_of None = []
-parcel_of (Some bytes) = bytes
-
--- why bytes are not taken that were to be so many: the fault that came in their place, or that they are more or fewer
-abbrev pub Refuses : ℕ → Result (List ℕ) StoreFault → StoreFault → Type 0
-Refuses count (Err fault) f = f ≡ fault
-Refuses count (Ok came) f = (length came ≡ count → ⊥) × (f ≡ Damaged)
-
--- The bytes of the parcel are asked for, once, and what comes is not taken.
-pub record AsksInVain {X : Type 0} (called : X → Call → X → Type 0) (old : X) (parcel : Option (List ℕ)) (count : ℕ) (f : StoreFault) (new : X) : Type 0 where
-  pub outcome : Result (List ℕ) StoreFault
-  pub asked : Calls called old (Get (parcel_of parcel) outcome ∷ []) new
-  pub refused : Refuses count outcome f
 
 -- ---- the calls of a store
 

@@ -3,8 +3,8 @@ use Rattle.std.specs.Prelude.{◌≡◌, ℕ, ◌+◌, ◌-◌, Bool, true, fals
 use Rattle.pointer_word.specs.declared.word.WordPlace.{WordPlace}
 use Rattle.pointer_word.specs.declared.word.WordPlace.TheVariants.{Local, Moving, Far as WordFar}
 use Rattle.pointer_word.specs.Words.{WordRecord}
-use Rattle.object_store.specs.declared.places.Place.{Place}
-use Rattle.object_store.specs.declared.places.Place.TheVariants.{Here, Leaving, Far, Returning}
+use Rattle.far_store.specs.declared.places.Place.{Place}
+use Rattle.far_store.specs.declared.places.Place.TheVariants.{Here, Leaving, Far, Returning}
 use Rattle.memory.specs.Objects.{AreObjects, bytes_of, with_bytes}
 use Rattle.object_store.specs.Stores.{Sent, window_count, holders, near_bytes}
 
@@ -26,11 +26,6 @@ pub record Kept : Type 0 where
 abbrev pub sent : {P : Type 0} → (P → List ℕ) → Option P → List ℕ
 sent stands_for None = []
 sent stands_for (Some p) = stands_for p
-
--- for which bytes a parcel stands, if there is one
-abbrev pub parcel_bytes : {P : Type 0} → (P → List ℕ) → Option P → Option (List ℕ)
-parcel_bytes stands_for None = None
-parcel_bytes stands_for (Some p) = Some (stands_for p)
 
 -- the bytes of an object that is out, or isn't
 abbrev pub contents : {P : Type 0} → (P → List ℕ) → Bool → List ℕ → Option P → List ℕ

@@ -1,11 +1,10 @@
 -- What the calls of a store do: the state before, the answer, and the state after. A refusal changes nothing; refusals are
 -- tested in the order in which they stand.
-use Rattle.std.specs.Prelude.{◌≡◌, ◌⊎◌, ℕ, ◌≤◌, Bool, true, false, List, [], ◌∷◌, ◌++◌, length, replicate, Result, Ok, Err, Vec}
-use Rattle.std.specs.declared.alloc.Global.{Global}
-use Rattle.object_store.specs.declared.places.Place.{Place}
-use Rattle.object_store.specs.declared.places.Place.TheVariants.{Here, Leaving, Far, Returning}
-use Rattle.object_store.specs.declared.places.Moved.{Moved}
-use Rattle.object_store.specs.declared.places.Moved.TheVariants.{Done, NoObject, Misplaced, Scoped, NoRoom, Fault}
+use Rattle.std.specs.Prelude.{◌≡◌, ◌⊎◌, ℕ, ◌≤◌, Bool, true, false, List, [], ◌∷◌, ◌++◌, length, replicate, Result, Ok, Err}
+use Rattle.far_store.specs.declared.places.Place.{Place}
+use Rattle.far_store.specs.declared.places.Place.TheVariants.{Here, Leaving, Far, Returning}
+use Rattle.far_store.specs.declared.places.Moved.{Moved}
+use Rattle.far_store.specs.declared.places.Moved.TheVariants.{Done, NoObject, Misplaced, Scoped, NoRoom, Fault}
 use Rattle.object_store.specs.declared.errors.MakeError.{MakeError}
 use Rattle.object_store.specs.declared.errors.MakeError.TheVariants as make_error
 use Rattle.object_store.specs.declared.errors.GetError.{GetError}
@@ -26,8 +25,8 @@ Makes old count (Err make_error.NoRoom) new = (IsFull old.objects → ⊥) × (H
 Makes old count (Err make_error.Memory) new = (IsFull old.objects → ⊥) × HasRoom old count × (new ≡ old)
 
 -- Reading a range.
-abbrev pub Gets : StoreState → ℕ → ℕ → ℕ → Result (Vec ℕ Global) GetError → Type 0
-Gets s n offset count (Ok v) = HasRange s.objects n offset count × (place_of s.places n ≡ Here) × (v.items ≡ range_of s.objects n offset count)
+abbrev pub Gets : StoreState → ℕ → ℕ → ℕ → Result (List ℕ) GetError → Type 0
+Gets s n offset count (Ok bytes) = HasRange s.objects n offset count × (place_of s.places n ≡ Here) × (bytes ≡ range_of s.objects n offset count)
 Gets s n offset count (Err get_error.Outside) = HasRange s.objects n offset count → ⊥
 Gets s n offset count (Err get_error.Away) = HasRange s.objects n offset count × (place_of s.places n ≡ Here → ⊥)
 Gets s n offset count (Err get_error.Memory) = HasRange s.objects n offset count × (place_of s.places n ≡ Here)

@@ -3,15 +3,15 @@ ghost use Rattle.std.specs.Prelude.{◌≡◌, ◌<◌, ◌≤◌, ◌+◌, ◌-
 ghost use Rattle.memory.specs.Access.{IsInside, answer, after, replaced};
 ghost use Rattle.object_store.specs.Stores.{HasRisen};
 ghost use Rattle.object_store.specs.Calls.{FailsToReturn};
-ghost use Rattle.object_store.specs.Bodies.{sent, parcel_bytes, sent_in, ReturnsTo};
-ghost use Rattle.object_store.specs.Asking.{forgets, leave_calls, parcel_of, clean_after, AsksInVain};
+ghost use Rattle.far_store.specs.Stores.{parcel_bytes};
+ghost use Rattle.object_store.specs.Bodies.{sent, sent_in, ReturnsTo};
+ghost use Rattle.object_store.specs.Asking.{forgets, leave_calls, clean_after};
 ghost use Rattle.far_store.specs.Calls.Call.{Put, Get};
-ghost use Rattle.far_store.specs.Calls.{Calls};
-ghost use Rattle.object_store.specs.declared.places.Place.TheVariants as place;
+ghost use Rattle.far_store.specs.Calls.{Calls, parcel_of, AsksInVain};
+ghost use Rattle.far_store.specs.declared.places.Place.TheVariants as place;
 ghost use Rattle.pointer_word.specs.declared.word.WordPlace.TheVariants.{Local, Moving, Far};
 
-use crate::places::Place;
-use far_store::{FarStore, StoreFault};
+use far_store::{FarStore, Place, StoreFault};
 use memory::{Action, Op, act, overwrite};
 use pointer_word::{Word, WordPlace};
 use std::alloc::{AllocError, Global};
@@ -39,7 +39,8 @@ pub struct Body<F: FarStore> {
 
 impl<F: FarStore> Model for Body<F> {
     ghost use Rattle.std.specs.Prelude.{vec_capacity};
-    ghost use Rattle.object_store.specs.Bodies.{Kept, IsKept, contents, parcel_bytes, place_by};
+    ghost use Rattle.far_store.specs.Stores.{parcel_bytes};
+    ghost use Rattle.object_store.specs.Bodies.{Kept, IsKept, contents, place_by};
 
     ghost Value = { Kept };
 

@@ -9,12 +9,11 @@ mod bodies;
 mod errors;
 mod moving;
 mod parts;
-mod places;
 mod scoping;
 mod standing;
 mod stores;
 
 pub use errors::{GetError, MakeError, PartsError, PutError};
+pub use far_store::{Moved, Place};
 pub use parts::Parts;
-pub use places::{Moved, Place};
 pub use stores::{MACHINE_LIMIT, ObjectStore, StoreMemory};

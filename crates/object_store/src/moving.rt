@@ -2,12 +2,12 @@
 ghost use Rattle.std.specs.Prelude.{◌≡◌, ◌<◌, ◌≤◌, ◌+◌, [], ◌∷◌, length, map, set, get_or, Some, None, Ok, true, false, IfErr, IsOk, OnOk, OnErr};
 ghost use Rattle.memory.specs.Objects.{bytes_of, with_bytes};
 ghost use Rattle.object_store.specs.Stores.{place_of, unsent, sent_of, HasRisen};
-ghost use Rattle.object_store.specs.Asking.{forgets, leave_calls, parcel_of, AsksInVain};
+ghost use Rattle.object_store.specs.Asking.{forgets, leave_calls};
 ghost use Rattle.far_store.specs.Calls.Call.{Get};
-ghost use Rattle.far_store.specs.Calls.{Calls};
+ghost use Rattle.far_store.specs.Calls.{Calls, parcel_of, AsksInVain};
 ghost use Rattle.object_store.specs.Calls.{FailsToReturn};
 ghost use Rattle.object_store.specs.Bodies.{bytes_in, place_in, scopes_in, sent_in, BytesBack};
-ghost use Rattle.object_store.specs.declared.places.Place.TheVariants as place;
+ghost use Rattle.far_store.specs.declared.places.Place.TheVariants as place;
 
 use crate::bodies::Body;
 use far_store::{FarStore, StoreFault};

@@ -6,11 +6,10 @@ ghost use Rattle.object_store.specs.Stores.{place_of, sent_of, near_bytes};
 ghost use Rattle.object_store.specs.Asking.{clean_after};
 ghost use Rattle.object_store.specs.Bodies.{bytes_in, place_in, scopes_in, sent_in};
 ghost use Rattle.object_store.specs.Standings.{Stands, StandsRange};
-ghost use Rattle.object_store.specs.declared.places.Place.TheVariants as place;
+ghost use Rattle.far_store.specs.declared.places.Place.TheVariants as place;
 
 use crate::bodies::Body;
-use crate::places::Place;
-use far_store::FarStore;
+use far_store::{FarStore, Place};
 use memory::Op;
 use std::alloc::{AllocError, Global};
 

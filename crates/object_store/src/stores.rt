@@ -1,6 +1,6 @@
 //! The objects of an agent.
-ghost use Rattle.std.specs.Prelude.{◌≡◌, ◌≤◌, [], ◌∷◌, ◌++◌, false, map, set, None, IfOk, IfErr, IfSome, OnOk, OnErr, length};
-ghost use Rattle.memory.specs.Objects.{AreObjects, IsLive, bytes_of, object_bytes};
+ghost use Rattle.std.specs.Prelude.{◌≡◌, ◌≤◌, [], ◌∷◌, ◌++◌, false, map, set, None, Ok, Err, IfOk, IfErr, IfSome, OnOk, OnErr, length};
+ghost use Rattle.memory.specs.Objects.{AreObjects, IsLive, bytes_of, object_bytes, object_limit};
 ghost use Rattle.object_store.specs.Stores.{HasWindow, IsStore, StandsAt, Touches, store_start, with_window, unsent, sent_of};
 ghost use Rattle.object_store.specs.Asking.{AsksNothing, AsksToFree, AsksToLeave, AsksToReturn, sent_after};
 ghost use Rattle.far_store.specs.Calls.{Calls};
@@ -11,12 +11,11 @@ use crate::bodies::Body;
 use crate::errors::{GetError, MakeError, PartsError, PutError};
 use crate::moving::{begin_leave_at, begin_return_at, end_leave_at, end_return_at, free_at};
 use crate::parts::{Parts, first_away, from_one, take_all};
-use crate::places::{Moved, Place};
 use crate::scoping::{close, note};
 use crate::standing::{
     Standing, act_at, copy_range, length_at, place_at, scopes_at, stand, stand_range, write_range,
 };
-use far_store::FarStore;
+use far_store::{FarStore, Moved, Place};
 use memory::{Memory, OBJECT_BYTES, OBJECT_LIMIT, Op, Reach};
 use scopes::Window;
 use std::alloc::{AllocError, Global};
@@ -41,7 +40,7 @@ pub struct ObjectStore<F: FarStore> {
 }
 
 impl<F: FarStore> Model for ObjectStore<F> {
-    ghost use Rattle.std.specs.Prelude.{map, ◌≤◌, vec_capacity};
+    ghost use Rattle.std.specs.Prelude.{map, ◌≡◌, vec_capacity};
     ghost use Rattle.memory.specs.Objects.{number_count};
     ghost use Rattle.object_store.specs.Stores.{StoreWithin};
     ghost use Rattle.object_store.specs.Bodies.{IsKeptStore, bytes_in, place_in, sent_in};
@@ -50,7 +49,7 @@ impl<F: FarStore> Model for ObjectStore<F> {
 
     ghost view = { λ s. record { state = record { objects = map bytes_in s.bodies.items; places = map place_in s.bodies.items; windows = s.windows; budget = s.budget; faults = F.faults_of s.store }; far = s.store; sent = map sent_in s.bodies.items } };
 
-    ghost invariant = { λ s. IsKeptStore s.bodies.items s.windows s.budget s.spare × (number_count ≤ vec_capacity s.bodies) };
+    ghost invariant = { λ s. IsKeptStore s.bodies.items s.windows s.budget s.spare × (vec_capacity s.bodies ≡ number_count) };
 }
 
 impl<F: FarStore + Drop> ObjectStore<F> {
@@ -76,6 +75,7 @@ impl<F: FarStore + Drop> ObjectStore<F> {
     pub fn into_parts(self) -> Result<Parts<F>, PartsError>
         ensures here { OnOk result (AllHere self.state.places) }
         ensures bodies { IfOk result (λ p. map (λ b. b.items) p.bodies.items ≡ bodies_of self.state.objects) }
+        ensures few { IfOk result (λ p. length p.bodies.items ≤ object_limit) }
         ensures calls { IfOk result (λ p. Calls F.called self.far (forgets_all self.sent) p.store) }
         ensures faults { IfOk result (λ p. self.state.faults ≤ F.faults_of p.store) }
         ensures refused { IfErr result (λ e. RefusesParts self.state e) }
@@ -166,7 +166,8 @@ impl<F: FarStore> ObjectStore<F> {
 
     /// Reads a range of an object.
     pub fn get(&self, number: u32, offset: u32, length: u32) -> Result<Vec<u8>, GetError>
-        ensures { Gets self.now.state number offset length result }
+        ensures got { IfOk result (λ v. Gets self.now.state number offset length (Ok v.items)) }
+        ensures refused { IfErr result (λ error. Gets self.now.state number offset length (Err error)) }
     {
         let bodies = self.bodies.as_slice();
         let (index, offset, count) = (number as usize, offset as usize, length as usize);

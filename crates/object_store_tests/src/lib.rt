@@ -11,3 +11,5 @@ mod parcels;
 mod parts;
 #[cfg(test)]
 mod stores;
+#[cfg(test)]
+mod trips;

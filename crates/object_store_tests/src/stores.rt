@@ -16,12 +16,25 @@ pub fn own_objects(alloc: Global) -> Result<ObjectStore<OwnStore>, AllocError> {
     ObjectStore::new(alloc, AMPLE, OwnStore::new(alloc))
 }
 
-/// How often a [`Counting`] store was asked.
+/// A call of a [`Counting`] store, with how many bytes were put or came.
+#[derive(Clone, Copy, Drop, Debug, PartialEq, Eq)]
+pub enum Call {
+    Put(usize),
+    Get(usize),
+    Forget,
+}
+
+/// How many calls are kept.
+pub const LOGGED: usize = 12;
+
+/// How often a [`Counting`] store was asked, and what it was asked first.
 #[derive(Drop)]
 pub struct Asked {
-    pub puts: Cell<u32>,
-    pub gets: Cell<u32>,
-    pub forgets: Cell<u32>,
+    puts: Cell<u32>,
+    gets: Cell<u32>,
+    forgets: Cell<u32>,
+    calls: Cell<[Option<Call>; LOGGED]>,
+    logged: Cell<usize>,
 }
 
 impl Asked {
@@ -30,6 +43,8 @@ impl Asked {
             puts: Cell::new(0),
             gets: Cell::new(0),
             forgets: Cell::new(0),
+            calls: Cell::new([None; LOGGED]),
+            logged: Cell::new(0),
         }
     }
 
@@ -37,13 +52,33 @@ impl Asked {
     pub fn counts(&self) -> (u32, u32, u32) {
         (self.puts.get(), self.gets.get(), self.forgets.get())
     }
+
+    /// The first calls, in their order.
+    pub fn calls(&self) -> [Option<Call>; LOGGED] {
+        self.calls.get()
+    }
+
+    fn log(&self, call: Call) {
+        match call {
+            Call::Put(_) => count(&self.puts),
+            Call::Get(_) => count(&self.gets),
+            Call::Forget => count(&self.forgets),
+        }
+        let at = self.logged.get();
+        let mut calls = self.calls.get();
+        if at < LOGGED {
+            calls[at] = Some(call);
+            self.logged.set(at + 1);
+        }
+        self.calls.set(calls);
+    }
 }
 
 fn count(cell: &Cell<u32>) {
     cell.set(cell.get().saturating_add(1));
 }
 
-/// A store in the agent's own memory that counts what it is asked.
+/// A store in the agent's own memory that counts and logs what it is asked.
 #[derive(Drop)]
 pub struct Counting {
     pub store: OwnStore,
@@ -64,21 +99,142 @@ impl FarStore for Counting {
     ghost called = { λ s call t. own_called s.store call t.store };
 
     fn put(&mut self, bytes: Vec<u8>) -> Result<OwnParcel, (StoreFault, Vec<u8>)> {
-        count(&self.asked.puts);
+        self.asked.log(Call::Put(bytes.len()));
         self.store.put(bytes)
     }
 
     fn get(&mut self, parcel: &OwnParcel) -> Result<Vec<u8>, StoreFault> {
-        count(&self.asked.gets);
-        self.store.get(parcel)
+        match self.store.get(parcel) {
+            Ok(bytes) => {
+                self.asked.log(Call::Get(bytes.len()));
+                Ok(bytes)
+            }
+            Err(fault) => Err(fault),
+        }
     }
 
     fn forget(&mut self, parcel: OwnParcel) {
-        count(&self.asked.forgets);
+        self.asked.log(Call::Forget);
         self.store.forget(parcel);
     }
 
     fn faults(&self) -> u64 {
         self.store.faults()
+    }
+}
+
+/// What stands for bytes in a [`Single`] store.
+#[derive(Drop)]
+pub struct Kept {
+    bytes: Vec<u8>,
+}
+
+/// A store with room for a single parcel. A put beside it is refused.
+#[derive(Drop)]
+pub struct Single {
+    alloc: Global,
+    full: bool,
+    faults: u64,
+}
+
+impl Single {
+    pub fn new(alloc: Global) -> Self {
+        Single {
+            alloc,
+            full: false,
+            faults: 0,
+        }
+    }
+}
+
+impl FarStore for Single {
+    ghost RETURNS = { true };
+
+    const RETURNS: bool = true;
+
+    type Parcel = Kept;
+
+    ghost bytes_in = { λ p. p.bytes.items };
+
+    ghost faults_of = { λ s. s.faults };
+
+    ghost called = { λ s call t. Unit };
+
+    fn put(&mut self, bytes: Vec<u8>) -> Result<Kept, (StoreFault, Vec<u8>)> {
+        if self.full {
+            self.faults = self.faults.saturating_add(1);
+            return Err((StoreFault::Refused, bytes));
+        }
+        self.full = true;
+        Ok(Kept { bytes })
+    }
+
+    fn get(&mut self, parcel: &Kept) -> Result<Vec<u8>, StoreFault> {
+        match parcel.bytes.to_vec(self.alloc) {
+            Ok(bytes) => Ok(bytes),
+            Err(_) => {
+                self.faults = self.faults.saturating_add(1);
+                Err(StoreFault::Memory)
+            }
+        }
+    }
+
+    fn forget(&mut self, parcel: Kept) {
+        self.full = false;
+        drop(parcel);
+    }
+
+    fn faults(&self) -> u64 {
+        self.faults
+    }
+}
+
+/// A store in the agent's own memory of which each `forget` fails, which is counted.
+#[derive(Drop)]
+pub struct Grudging {
+    alloc: Global,
+    faults: u64,
+}
+
+impl Grudging {
+    pub fn new(alloc: Global) -> Self {
+        Grudging { alloc, faults: 0 }
+    }
+}
+
+impl FarStore for Grudging {
+    ghost RETURNS = { true };
+
+    const RETURNS: bool = true;
+
+    type Parcel = Kept;
+
+    ghost bytes_in = { λ p. p.bytes.items };
+
+    ghost faults_of = { λ s. s.faults };
+
+    ghost called = { λ s call t. Unit };
+
+    fn put(&mut self, bytes: Vec<u8>) -> Result<Kept, (StoreFault, Vec<u8>)> {
+        Ok(Kept { bytes })
+    }
+
+    fn get(&mut self, parcel: &Kept) -> Result<Vec<u8>, StoreFault> {
+        match parcel.bytes.to_vec(self.alloc) {
+            Ok(bytes) => Ok(bytes),
+            Err(_) => {
+                self.faults = self.faults.saturating_add(1);
+                Err(StoreFault::Memory)
+            }
+        }
+    }
+
+    fn forget(&mut self, parcel: Kept) {
+        self.faults = self.faults.saturating_add(1);
+        drop(parcel);
+    }
+
+    fn faults(&self) -> u64 {
+        self.faults
     }
 }

@@ -1,6 +1,6 @@
 use Rattle.std.proofs.Common.{◌≡◌, ◌<◌, length, map, refl, arith, rules}
 use Rattle.std.proofs.lemmas.List.{with_items_is}
-use Rattle.object_store.specs.declared.places.Place.TheVariants.{Here, Leaving}
+use Rattle.far_store.specs.declared.places.Place.TheVariants.{Here, Leaving}
 use Rattle.object_store.specs.Stores.{place_of}
 use Rattle.object_store.specs.Bodies.{place_in}
 use Rattle.object_store.proofs.Keeping.{placed}

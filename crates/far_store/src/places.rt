@@ -1,6 +1,6 @@
 //! Where an object is, and what a move did.
 
-use far_store::StoreFault;
+use crate::fault::StoreFault;
 
 /// Where an object is.
 #[derive(Clone, Copy, Drop, Debug, PartialEq, Eq)]
