@@ -163,7 +163,7 @@ fn done<R: Threads + Sync>(rt: &R, alloc: Global, task: Task) -> Option<u64> {
     if actors.len() != threads {
         return None;
     }
-    let ended = shared.close(mover, actors).ok()?;
+    let ended = shared.close(actors, mover).ok()?;
     Some(sum_of(ended.as_slice()))
 }
 

@@ -61,6 +61,6 @@ fn main(rt: HostRuntime) -> io::Result<()> {
         return println!(rt; "no table");
     };
     let read = read(shared.table(), &mut actors[0]);
-    let closed = told(shared.close(mover, actors));
+    let closed = told(shared.close(actors, mover));
     println!(rt; "opened, {read}, {closed}")
 }

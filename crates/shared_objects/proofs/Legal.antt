@@ -213,7 +213,7 @@ module _ (returns : Bool) (opening : List (List ℕ)) (s : State Body View) (k :
           objects = λ n lt. subst (Rises 0) (sym (log n lt)) (chained_rises 0 (k.logs n) (k.fits n lt).chained);
           answers = λ n lt. subst (Answers (bytes_of opening n)) (sym (log n lt)) ((k.fits n lt).answers r);
         };
-        here = λ r n lt free. let f = k.fits n lt in let hot = f.one_hot in let turn = f.one_turn in let out = f.one_out in
-            let b = f.body_in (omega (arith, f.word_is, free, hot, turn, out)) in (b.0, b.1, b.2.1 r ∙ ap (fold (bytes_of opening n)) (sym (log n lt)));
-        out = λ r id n v bytes at lt is. ((k.knows id v at).out n bytes is).1 r ∙ ap (fold (bytes_of opening n)) (sym (log n lt));
+        here = λ n lt free. let f = k.fits n lt in let hot = f.one_hot in let turn = f.one_turn in let out = f.one_out in
+            let b = f.body_in (omega (arith, f.word_is, free, hot, turn, out)) in (b.0, b.1, (b.2.0, λ r. b.2.1 r ∙ ap (fold (bytes_of opening n)) (sym (log n lt))));
+        out = λ id n v bytes at lt is. let b = (k.knows id v at).out n bytes is in (b.0, λ r. b.1 r ∙ ap (fold (bytes_of opening n)) (sym (log n lt)));
       }

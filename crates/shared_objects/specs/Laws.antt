@@ -3,6 +3,7 @@ use Rattle.std.specs.Prelude.{◌≡◌, Bool, true, ℕ, ◌+◌, ◌*◌, ◌/
 use mathlib.Core.Option.{some}
 use lib.ListN.{get_elem?}
 use Rattle.atomic_table.specs.Table.{State}
+use Rattle.memory.specs.Objects.{bytes_of}
 use Rattle.pointer_word.specs.Words.{WordRecord, HasFields, place_number, bit, word_number}
 use Rattle.pointer_word.specs.declared.word.WordPlace.TheVariants.{Local}
 use Rattle.shared_objects.specs.History.{Has, top}
@@ -45,17 +46,22 @@ LegalHistoriesRun = (opening : List (List ℕ)) (history : List Entry) → Legal
 abbrev pub IsWrittenIn : State Body View → Entry → Type 0
 IsWrittenIn s e = (id : ℕ) × (v : View) × (get_elem? s.views id ≡ some v) × Written v e
 
--- Between any two steps all entries of all seats are one history. Where far stores give back what was put, it is legal, a body
--- that is here with no turn taken is its object's fold, and so are the bytes of one that is out. In any case the stamp of a
--- word is that of its object's last entry.
+-- The bytes are as long as those that the object was opened with; and where far stores give back what was put, they are its
+-- fold.
+abbrev pub IsLeft : Bool → List (List ℕ) → List Entry → ℕ → List ℕ → Type 0
+IsLeft returns opening history n bytes = (length bytes ≡ length (bytes_of opening n)) × (returns ≡ true → bytes ≡ fold_of opening history n)
+
+-- Between any two steps all entries of all seats are one history, the stamp of a word is that of its object's last entry, and
+-- a body that is here with no turn taken, or the bytes of one that is out, have the object's length. Where far stores give back
+-- what was put, the history is legal, and these bytes are the object's fold.
 pub record HasHistory (returns : Bool) (opening : List (List ℕ)) (s : State Body View) : Type 0 where
   pub history : List Entry
   pub only : (e : Entry) → Has history e → IsWrittenIn s e
   pub all : (e : Entry) → IsWrittenIn s e → Has history e
   pub stamps : (n : ℕ) → n < length opening → slice_index s.words (word_of n) / 65536 ≡ top 0 (entries_on n history)
   pub legal : returns ≡ true → Legal opening history
-  pub here : returns ≡ true → (n : ℕ) → n < length opening → slice_index s.words (word_of n) % 8 ≡ 0 → (body : Body) × (get_elem? s.homes n ≡ some (some body)) × (body.bytes.items ≡ fold_of opening history n)
-  pub out : returns ≡ true → (id n : ℕ) (v : View) (bytes : List ℕ) → get_elem? s.views id ≡ some v → n < length opening → taken (place_of v n) ≡ Some bytes → bytes ≡ fold_of opening history n
+  pub here : (n : ℕ) → n < length opening → slice_index s.words (word_of n) % 8 ≡ 0 → (body : Body) × (get_elem? s.homes n ≡ some (some body)) × IsLeft returns opening history n body.bytes.items
+  pub out : (id n : ℕ) (v : View) (bytes : List ℕ) → get_elem? s.views id ≡ some v → n < length opening → taken (place_of v n) ≡ Some bytes → IsLeft returns opening history n bytes
 
 -- Between any two steps there is such a history.
 abbrev pub TablesHaveHistories : Type 0

@@ -91,8 +91,8 @@ impl SharedTable {
     /// each answer, and the bytes of each object. An object is out exactly where the mover has it out, with these bytes.
     pub fn close(
         self,
-        mut mover: MoverSeat,
         actors: Vec<ActorSeat>,
+        mut mover: MoverSeat,
     ) -> Result<Vec<Ended>, AllocError>
         requires mover { IsMoverOf self mover × (mover.seat.me.0.gathered ≡ []) }
         requires all { mover.seat.me.0.alive ≡ length actors.items + 1 }

@@ -169,7 +169,8 @@ impl SharedTable {
         ensures mover { IsMoverOf self.now mover.new }
         ensures view { mover.new.seat.me.0 ≡ placed number Here mover.old.seat.me.0 }
     {
-        self.land(mover, number as usize, bytes);
+        let n = number as usize;
+        self.land(mover, n, bytes);
     }
 
     /// End return: a body is back, which is what was taken where far stores give back what was put. One of another length

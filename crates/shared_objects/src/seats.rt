@@ -71,6 +71,13 @@ pub struct MoverSeat {
 }
 
 impl MoverSeat {
+    /// How many numbers there are, of which 0 is no object's.
+    pub fn numbers(&self) -> usize
+        ensures { result ≡ length self.now.seat.me.0.opening }
+    {
+        self.phases.len()
+    }
+
     /// Where the object of that number is.
     pub fn phase(&self, number: u32) -> Phase
         ensures { result ≡ phase_of (place_of self.now.seat.me.0 number) }

@@ -65,13 +65,13 @@ impl<F: FarStore> Shared<F> {
     }
 
     /// All seats are handed back, as [`SharedTable::close`] says.
-    pub fn close(self, mover: MoverSeat, actors: Vec<ActorSeat>) -> Result<Vec<Ended>, AllocError>
+    pub fn close(self, actors: Vec<ActorSeat>, mover: MoverSeat) -> Result<Vec<Ended>, AllocError>
         requires mover { IsMoverOf self.table mover × (mover.seat.me.0.gathered ≡ []) }
         requires all { mover.seat.me.0.alive ≡ length actors.items + 1 }
         requires actors { All (IsActorOf self.table) actors.items }
         ensures { IfOk result (λ ended. Closes F.RETURNS (table_opening self.table) mover.seat.me.0 (map part_of actors.items) ended.items) }
     {
         let Shared { table, of: _ } = self;
-        table.close(mover, actors)
+        table.close(actors, mover)
     }
 }

@@ -278,7 +278,7 @@ impl SharedTable {
         requires { IsActorOf self.now actor.old }
         ensures actor { IsActorOf self.now actor.new }
         ensures get { IfOk result (λ f. Gets actor.old.seat.me.0 actor.old.stamp number offset count f actor.new.seat.me.0 actor.new.stamp) }
-        ensures refused { OnErr result (actor.new ≡ actor.old) }
+        ensures refused { OnErr result ((actor.new ≡ actor.old) × EndsInside (Reads offset count) (length (bytes_of actor.old.seat.me.0.opening number))) }
     {
         if !self.has_range(number, offset, count as usize) {
             return Ok(Fetched::Outside);

@@ -1,9 +1,9 @@
 //! Accesses of actors, and the stamps that they get.
 
-use crate::stage::{LOAD, Stage, add};
+use crate::stage::{LOAD, Stage};
 use far_store::OwnStore;
 use memory::{Op, Reach};
-use shared_objects::{Fetched, Leave};
+use shared_objects::Fetched;
 use std::test::Fail;
 
 /// The greatest stamp.
@@ -23,31 +23,6 @@ fn an_entry_has_the_next_stamp_of_its_actor_and_object(rt: HostRuntime) -> Resul
     assert_eq!(rt; stage.touch(3, 3, &LOAD), Reach::Worn);
     assert_eq!(rt; stage.actors[3].stamp(), LAST);
     assert_eq!(rt; stage.touch(2, 3, &LOAD), Reach::Done(0));
-    Ok(())
-}
-
-#[test]
-fn one_actor(rt: HostRuntime) -> Result<(), Fail> {
-    let mut stage: Stage<OwnStore> = Stage::open(rt.alloc(), 1, 1)?;
-    for sum in 0..3 {
-        assert_eq!(rt; stage.touch(0, 1, &add(1)), Reach::Done(sum));
-    }
-    assert!(rt; matches!(stage.begin_leave(1), Leave::Held));
-    stage.close_scopes(0);
-    assert!(rt; stage.may_leave(1));
-    assert_eq!(rt; stage.touch(0, 1, &LOAD), Reach::Done(3));
-    Ok(())
-}
-
-#[test]
-fn read_back(rt: HostRuntime) -> Result<(), Fail> {
-    let mut stage: Stage<OwnStore> = Stage::open(rt.alloc(), 2, 2)?;
-    assert_eq!(rt; stage.touch(0, 2, &LOAD), Reach::Done(0));
-    assert_eq!(rt; stage.put(0, 1, 0, &[7]), Reach::Done(0));
-    let stamp = stage.actors[0].stamp();
-    stage.learn(1, stamp);
-    assert_eq!(rt; stage.touch(1, 1, &LOAD), Reach::Done(7));
-    assert!(rt; stage.actors[1].stamp() > stamp);
     Ok(())
 }
 

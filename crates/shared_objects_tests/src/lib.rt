@@ -6,6 +6,8 @@ mod accesses;
 #[cfg(test)]
 mod moves;
 #[cfg(test)]
+mod pairs;
+#[cfg(test)]
 mod stage;
 #[cfg(test)]
 mod threads;

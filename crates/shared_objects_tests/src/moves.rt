@@ -8,23 +8,6 @@ use std::alloc::Global;
 use std::test::Fail;
 
 #[test]
-fn undo(rt: HostRuntime) -> Result<(), Fail> {
-    let mut stage: Stage<OwnStore> = Stage::open(rt.alloc(), 1, 1)?;
-    assert_eq!(rt; stage.touch(0, 1, &add(5)), Reach::Done(0));
-    stage.close_scopes(0);
-    assert!(rt; stage.may_leave(1));
-    assert_eq!(rt; stage.touch(0, 1, &LOAD), Reach::Done(5));
-    stage.close_scopes(0);
-    assert!(rt; matches!(stage.begin_leave(1), Leave::Taken(_)));
-    assert!(rt; stage.end_leave(1));
-    assert!(rt; stage.begin_return(1));
-    assert!(rt; stage.undo_return(1));
-    assert_eq!(rt; stage.touch(0, 1, &LOAD), Reach::Away);
-    assert!(rt; stage.begin_return(1));
-    Ok(())
-}
-
-#[test]
 fn an_object_that_is_out_is_away(rt: HostRuntime) -> Result<(), Fail> {
     let mut stage: Stage<OwnStore> = Stage::open(rt.alloc(), 2, 1)?;
     assert!(rt; matches!(stage.begin_leave(1), Leave::Taken(_)));

@@ -218,7 +218,7 @@ impl<F: FarStore> Stage<F> {
             actors,
             mover,
         } = self;
-        shared.close(mover, actors)
+        shared.close(actors, mover)
     }
 }
 
@@ -232,6 +232,20 @@ pub fn may_leave(table: &SharedTable, mover: &mut MoverSeat, number: u32) -> boo
         return false;
     };
     table.undo_leave(mover, number, bytes);
+    true
+}
+
+/// The body goes to the far place, where it may leave, and stays there, since its return is undone.
+pub fn stays_far(table: &SharedTable, mover: &mut MoverSeat, number: u32) -> bool
+    requires { IsMoverOf table.now mover.old }
+    ensures { IsMoverOf table.now mover.new }
+{
+    let Leave::Taken(_) = table.begin_leave(mover, number) else {
+        return false;
+    };
+    table.end_leave(mover, number);
+    table.begin_return(mover, number);
+    table.undo_return(mover, number);
     true
 }
 

@@ -4,7 +4,7 @@ ghost use Rattle.shared_objects.specs.Tables.{IsActorOf, IsMoverOf};
 ghost use Rattle.shared_objects_tests.specs.Stages.{AreSeatsOf};
 ghost use denote.Param.Send.{IsSync};
 
-use crate::stage::{LOAD, add, bodies, goes_and_returns, number_of};
+use crate::stage::{add, bodies, goes_and_returns, number_of};
 use far_store::OwnStore;
 use memory::Reach;
 use shared_objects::{ActorSeat, MoverSeat, Shared, SharedTable};
@@ -12,8 +12,8 @@ use std::alloc::AllocError;
 use std::test::Fail;
 use std::thread::{Threads, join, map_vec, yield_now};
 
-/// How often one that was busy or away tries again, in all.
-const TRIES: u32 = 1_000_000;
+/// How often an actor tries at most, in all.
+const TRIES: u32 = 500_000;
 
 /// Adds 1 so many times to each of so many objects, in turn. Where one isn't done it is tried again.
 fn add_all(table: &SharedTable, mut actor: ActorSeat, objects: u32, times: u32) -> ActorSeat
@@ -64,17 +64,19 @@ fn by_two<R: Threads + Sync>(
 #[test]
 fn two_threads_add(rt: HostRuntime) -> Result<(), Fail> {
     let bodies = bodies(rt.alloc(), 1)?;
-    let (shared, mut actors, _mover): (Shared<OwnStore>, Vec<ActorSeat>, MoverSeat) = Shared::open(
+    let (shared, mut actors, mover): (Shared<OwnStore>, Vec<ActorSeat>, MoverSeat) = Shared::open(
         rt.alloc(),
         bodies,
         2,
     )?;
     let two = actors.remove(1);
     let one = actors.remove(0);
-    let (mut one, two) = by_two(&rt, shared.table(), one, two);
-    assert_eq!(rt; shared.table().touch(&mut one, 1, &LOAD), Reach::Done(2000));
-    assert_eq!(rt; one.stamp(), 2001);
-    assert!(rt; two.stamp() <= 2000);
+    let (one, two) = by_two(&rt, shared.table(), one, two);
+    assert_eq!(rt; one.stamp().max(two.stamp()), 2000);
+    actors.push(one)?;
+    actors.push(two)?;
+    let ended = shared.close(actors, mover)?;
+    assert_eq!(rt; number_of(&ended[1]), Some(2000));
     Ok(())
 }
 
@@ -151,7 +153,7 @@ fn eight_threads_add_while_bodies_move(rt: HostRuntime) -> Result<(), Fail> {
         8,
     )?;
     let (actors, (mover, went)) = by_all(&rt, shared.table(), actors, mover);
-    let ended = shared.close(mover, actors?)?;
+    let ended = shared.close(actors?, mover)?;
     for number in 1..5 {
         assert_eq!(rt; number_of(&ended[number]), Some(2000));
     }
