@@ -30,7 +30,7 @@ lent_carries store loan who first = record {
   measured = λ before n. refl;
 }
 
-lent_step : {M : Type 0} (store : M → StoreState) (loan who : M → ℕ) (old new : MachineState) (before after : M) (a : Stepped)
+pub lent_step : {M : Type 0} (store : M → StoreState) (loan who : M → ℕ) (old new : MachineState) (before after : M) (a : Stepped)
     → TableStep (lent_memory store loan who) old before a new after → TableStep (store_memory (who before)) old (store before) a new (store after) × IsLent loan who before after
 lent_step store loan who old new before after a t =
     step_carries true (lent_memory store loan who) (store_memory (who before)) store (IsLent loan who before) (lent_carries store loan who before)

@@ -6,7 +6,7 @@ use Rattle.std.proofs.lemmas.Option.{get_or_from_slice_get}
 use Rattle.debugger.specs.declared.debuggee.Debuggee.{Debuggee}
 use Rattle.world.specs.WorldState.{machine_at, with_machine}
 
-set_same : (machines : List Debuggee) (n : ℕ) (d : Debuggee) → slice_get machines n ≡ Some d → slice_set machines n d ≡ machines
+pub set_same : (machines : List Debuggee) (n : ℕ) (d : Debuggee) → slice_get machines n ≡ Some d → slice_set machines n d ≡ machines
 set_same machines n d e = ap (λ (x : Debuggee). set machines n x) (sym (get_or_from_slice_get machines n d d e)) ∙ set-get_or machines n d
 
 -- a machine in its own place changes nothing

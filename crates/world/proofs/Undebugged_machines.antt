@@ -10,7 +10,7 @@ use Rattle.machine.specs.declared.state.Written.{Written}
 use Rattle.machine.specs.declared.state.Stepped.{Stepped}
 use Rattle.machine.specs.declared.state.Stepped.TheVariants as stepped
 use Rattle.debugger.specs.DebugState.{DebugState, debug_start, hits}
-use Rattle.debugger.specs.Steps.{is_to_pause, debugged}
+use Rattle.debugger.specs.Pausing.{is_to_pause, debugged}
 use Rattle.debugger.specs.Showing.{Shows, ShowsBytes, ShowsLine, state_of, shown_of}
 use Rattle.debugger.specs.Debuggees.{Walks, AnswersStep, reply_after}
 use Rattle.debugger.specs.declared.commands.Way.{Way}

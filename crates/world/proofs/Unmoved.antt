@@ -4,10 +4,10 @@ use Rattle.memory.specs.declared.access.Op.{Op}
 use Rattle.memory.specs.declared.access.Reach.{Reach}
 use Rattle.memory.specs.declared.access.Reach.TheVariants as reach
 use Rattle.memory.specs.MapMemory.{map_memory, map_reaches}
-use Rattle.object_store.specs.declared.places.Place.{Place}
-use Rattle.object_store.specs.declared.places.Place.TheVariants as place
-use Rattle.object_store.specs.declared.places.Moved.{Moved}
-use Rattle.object_store.specs.declared.places.Moved.TheVariants as moved
+use Rattle.far_store.specs.declared.places.Place.{Place}
+use Rattle.far_store.specs.declared.places.Place.TheVariants as place
+use Rattle.far_store.specs.declared.places.Moved.{Moved}
+use Rattle.far_store.specs.declared.places.Moved.TheVariants as moved
 use Rattle.object_store.specs.Stores.{StoreState, store_memory, Touches}
 use Rattle.object_store.specs.Calls.{Frees}
 use Rattle.machine.specs.declared.state.Stepped.{Stepped}
@@ -27,7 +27,7 @@ use Rattle.debugger.specs.declared.replies.Debugged.{Debugged}
 use Rattle.debugger.specs.declared.replies.Debugged.TheVariants as debugged
 use Rattle.debugger.specs.declared.debuggee.Debuggee.{Debuggee}
 use Rattle.debugger.specs.DebugState.{DebugState, hits}
-use Rattle.debugger.specs.Steps as steps
+use Rattle.debugger.specs.Pausing as pausing
 use Rattle.debugger.specs.Debuggees.{Walks, AnswersStep, reply_after}
 use Rattle.world.specs.declared.replies.Reply.{Reply}
 use Rattle.world.specs.declared.replies.Reply.TheVariants as reply
@@ -129,9 +129,9 @@ waited : (m n : ℕ) (way : Way) (old new : Debuggee) (before after : StoreState
 waited m n way old new before after h =
     let k = told_waits n h.answer h.machine.slot old.debugger h.told in
     let w = waits_in_place (store_memory m) old.machine h.machine before after n (subst (λ (a : Stepped). TableStep (store_memory m) old.machine before a h.machine after) k h.step) in
-    let d : steps.debugged way h.answer old.debugger ≡ old.debugger = ap (λ (a : Stepped). steps.debugged way a old.debugger) k in (
+    let d : pausing.debugged way h.answer old.debugger ≡ old.debugger = ap (λ (a : Stepped). pausing.debugged way a old.debugger) k in (
       h.changed
-          ∙ ap (λ (x : MachineState). debuggee x (steps.debugged way h.answer old.debugger)) w.0
+          ∙ ap (λ (x : MachineState). debuggee x (pausing.debugged way h.answer old.debugger)) w.0
           ∙ ap (λ (x : DebugState). debuggee old.machine x) d,
       waited_away m before after n w.1.1 w.1.2 w.1.6 w.1.5,
     )

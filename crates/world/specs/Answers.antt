@@ -3,15 +3,15 @@ use Rattle.std.specs.Prelude.{◌≡◌, ◌≢◌, ℕ, ◌+◌, List, [], ◌�
 use Rattle.loader.specs.ValidCode.{ValidCode}
 use Rattle.loader.specs.Refusals.{HasCodeSize, Refuses}
 use Rattle.loader.specs.declared.loading.Why.TheVariants as why
-use Rattle.memory.specs.Objects.{HasRange, range_of}
-use Rattle.object_store.specs.Stores.{StoreState, store_memory, place_of}
-use Rattle.object_store.specs.Calls.{Makes, Puts, Frees, BeginsLeave, EndsLeave, BeginsReturn, EndsReturn}
-use Rattle.object_store.specs.declared.places.Place.{Place}
-use Rattle.object_store.specs.declared.places.Place.TheVariants as place
-use Rattle.object_store.specs.declared.places.Moved.{Moved}
-use Rattle.object_store.specs.declared.places.Moved.TheVariants as moved
+use Rattle.object_store.specs.Stores.{StoreState, store_memory}
+use Rattle.object_store.specs.Calls.{Makes, Gets, Puts, Frees, BeginsLeave, EndsLeave, BeginsReturn, EndsReturn}
+use Rattle.far_store.specs.declared.places.Place.{Place}
+use Rattle.far_store.specs.declared.places.Place.TheVariants as place
+use Rattle.far_store.specs.declared.places.Moved.{Moved}
+use Rattle.far_store.specs.declared.places.Moved.TheVariants as moved
 use Rattle.object_store.specs.declared.errors.MakeError.TheVariants as make_error
 use Rattle.object_store.specs.declared.errors.PutError.TheVariants as put_error
+use Rattle.object_store.specs.declared.errors.GetError.TheVariants as get_error
 use Rattle.debugger.specs.declared.start.Start.{Start}
 use Rattle.debugger.specs.declared.debuggee.Debuggee.{Debuggee}
 use Rattle.debugger.specs.Debuggees.{debuggee_start}
@@ -50,10 +50,10 @@ AnswersPut old n offset bytes _ new = ⊥
 
 -- the object's bytes from the offset on
 abbrev pub AnswersGet : StoreState → ℕ → ℕ → ℕ → Reply → Type 0
-AnswersGet s n offset size Outside = HasRange s.objects n offset size → ⊥
-AnswersGet s n offset size (Away k) = (k ≡ n) × HasRange s.objects n offset size × (place_of s.places n ≡ place.Here → ⊥)
-AnswersGet s n offset size NoMemory = HasRange s.objects n offset size × (place_of s.places n ≡ place.Here)
-AnswersGet s n offset size (Bytes shown) = HasRange s.objects n offset size × (place_of s.places n ≡ place.Here) × (shown ≡ range_of s.objects n offset size)
+AnswersGet s n offset size Outside = Gets s n offset size (Err get_error.Outside)
+AnswersGet s n offset size (Away k) = (k ≡ n) × Gets s n offset size (Err get_error.Away)
+AnswersGet s n offset size NoMemory = Gets s n offset size (Err get_error.Memory)
+AnswersGet s n offset size (Bytes shown) = Gets s n offset size (Ok shown)
 AnswersGet s n offset size _ = ⊥
 
 -- ---- moves

@@ -7,3 +7,4 @@ pub mod Kept
 pub mod Plain
 pub mod Undebugged
 pub mod Unseen
+pub mod Running

@@ -5,6 +5,7 @@ mod events;
 mod laws;
 mod machines;
 mod replies;
+mod running;
 mod world;
 
 pub use debugger::{
@@ -15,4 +16,5 @@ pub use events::{Event, Move, ObjectCommand, ObjectLength};
 pub use laws::{debugging_changes_nothing, moving_changes_nothing, neither_changes_anything};
 pub use object_store::{MACHINE_LIMIT, PartsError, Place};
 pub use replies::Reply;
+pub use running::MachineRun;
 pub use world::{World, WorldParts};

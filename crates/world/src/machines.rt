@@ -5,8 +5,10 @@ ghost use Rattle.debugger.specs.declared.commands.MachineCommand.{MachineCommand
 ghost use Rattle.debugger.specs.Debuggees.{AnswersStep};
 ghost use Rattle.world.specs.WorldState.{machine_at};
 ghost use Rattle.world.specs.Machines.{AnswersMachine, AnswersCommand, reply_of};
+ghost use Rattle.world.specs.Running.{RunsMachine};
 
 use crate::replies::Reply;
+use crate::running::{MachineRun, run_over};
 use debugger::{Debuggee, MachineCommand, StepReply, Way};
 use far_store::FarStore;
 use object_store::{ObjectStore, StoreMemory};
@@ -25,7 +27,7 @@ fn index_of(machines: &[Debuggee], machine: usize) -> Option<usize>
 }
 
 /// One step of a machine over the objects. It is no `inline`: the step itself is inlined here, once.
-fn step_over<F: FarStore>(
+pub(crate) fn step_over<F: FarStore>(
     debuggee: &mut Debuggee,
     store: &mut ObjectStore<F>,
     who: usize,
@@ -51,6 +53,20 @@ pub(crate) fn step_machine<F: FarStore>(
 {
     let index = index_of(machines, machine)?;
     Some(step_over(&mut machines[index], store, machine, way))
+}
+
+/// At most so many steps of the machine of a number, if there is one.
+pub(crate) fn run_machine<F: FarStore>(
+    machines: &mut [Debuggee],
+    store: &mut ObjectStore<F>,
+    machine: usize,
+    most: u64,
+) -> Option<MachineRun>
+    requires { length machines.old ≤ machine_limit }
+    ensures { RunsMachine machine most (record { machines = machines.old; store = store.old.state }) result (record { machines = machines.new; store = store.new.state }) }
+{
+    let index = index_of(machines, machine)?;
+    Some(run_over(&mut machines[index], store, machine, most))
 }
 
 /// Does a command on one machine.

@@ -126,7 +126,7 @@ pub enum Reply {
 
 impl Reply {
     /// The reply of the machine of this number to a step.
-    pub(crate) fn to_step(machine: usize, reply: StepReply) -> Reply
+    pub fn to_step(machine: usize, reply: StepReply) -> Reply
         ensures { result ≡ reply_to_step machine reply }
     {
         match reply {
@@ -139,7 +139,7 @@ impl Reply {
     }
 
     /// The reply that shows something of the machine of this number.
-    pub(crate) fn to_show(machine: usize, reply: ShowReply) -> Reply
+    pub fn to_show(machine: usize, reply: ShowReply) -> Reply
         ensures { result ≡ reply_to_show machine reply }
     {
         match reply {
@@ -158,7 +158,7 @@ impl Reply {
     }
 
     /// The reply to a command of the debugger.
-    pub(crate) fn to_debug(done: Debugged) -> Reply
+    pub fn to_debug(done: Debugged) -> Reply
         ensures { result ≡ reply_to_debug done }
     {
         match done {

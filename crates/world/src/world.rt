@@ -1,6 +1,7 @@
 //! What the commands do.
-ghost use Rattle.std.specs.Prelude.{◌≡◌, ◌≤◌, ◌++◌, List, map, true, IfOk, IfErr, OnOk, OnErr};
-ghost use Rattle.object_store.specs.Stores.{store_memory};
+ghost use Rattle.std.specs.Prelude.{◌≡◌, ◌≤◌, ◌++◌, List, map, true, length, IfOk, IfErr, OnOk, OnErr};
+ghost use Rattle.memory.specs.Objects.{object_limit};
+ghost use Rattle.object_store.specs.Stores.{machine_limit, store_memory};
 ghost use Rattle.object_store.specs.Calls.{Frees};
 ghost use Rattle.object_store.specs.Parts.{AllHere, RefusesParts, bodies_of};
 ghost use Rattle.debugger.specs.declared.commands.MachineCommand.{MachineCommand};
@@ -9,12 +10,14 @@ ghost use Rattle.world.specs.declared.events.Event.{Event};
 ghost use Rattle.world.specs.Run.{Runs};
 ghost use Rattle.world.specs.WorldState.{world_start};
 ghost use Rattle.world.specs.Machines.{AnswersMachine, reply_of};
+ghost use Rattle.world.specs.Running.{RunsMachine};
 ghost use Rattle.world.specs.Unseen.{IsPlainRun};
 ghost use Rattle.world.specs.Answers.{Answers, AnswersMake, AnswersPut, AnswersGet, AnswersMove, AnswersObject, AnswersShip, Moves, moved_reply, place_before};
 
 use crate::events::{Event, Move, ObjectCommand, ObjectLength};
-use crate::machines::{answer_machine, step_machine};
+use crate::machines::{answer_machine, run_machine, step_machine};
 use crate::replies::Reply;
+use crate::running::MachineRun;
 use debugger::{Bytes, Debuggee, MachineCommand, Start, StepReply, Way};
 use far_store::FarStore;
 use loader::{Why, load};
@@ -53,7 +56,7 @@ impl<F: FarStore> Model for World<F> {
 
     ghost view = { λ w. record { machines = w.machines.items; store = w.store.state } };
 
-    ghost invariant = { λ w. (length w.machines.items ≤ machine_limit) × (machine_limit ≤ vec_capacity w.machines) × (F.RETURNS ≡ true) };
+    ghost invariant = { λ w. (length w.machines.items ≤ machine_limit) × (vec_capacity w.machines ≡ machine_limit) × (F.RETURNS ≡ true) };
 }
 
 impl<F: FarStore + Drop> World<F> {
@@ -77,6 +80,7 @@ impl<F: FarStore + Drop> World<F> {
         ensures here { OnOk result (AllHere self.store.places) }
         ensures machines { IfOk result (λ p. p.machines.items ≡ self.machines) }
         ensures bodies { IfOk result (λ p. map (λ b. b.items) p.bodies.items ≡ bodies_of self.store.objects) }
+        ensures few { IfOk result (λ p. (length p.machines.items ≤ machine_limit) × (length p.bodies.items ≤ object_limit)) }
         ensures faults { IfOk result (λ p. self.store.faults ≤ F.faults_of p.store) }
         ensures refused { IfErr result (λ e. RefusesParts self.store e) }
     {
@@ -159,7 +163,7 @@ impl<F: FarStore> World<F> {
     }
 
     /// Writes bytes into an object.
-    fn put(&mut self, object: u32, offset: u32, bytes: &[u8]) -> Reply
+    pub fn put(&mut self, object: u32, offset: u32, bytes: &[u8]) -> Reply
         ensures { AnswersPut self.old object offset bytes.now result self.new }
     {
         match self.store.put(object, offset, bytes) {
@@ -207,7 +211,7 @@ impl<F: FarStore> World<F> {
     // ---- machines
 
     /// Makes a machine of the code.
-    fn ship(&mut self, start: Start, code: &[u8]) -> Reply
+    pub fn ship(&mut self, start: Start, code: &[u8]) -> Reply
         ensures machines { AnswersShip self.old.machines start code.now result self.new.machines }
         ensures store { self.new.store ≡ self.old.store }
     {
@@ -245,5 +249,12 @@ impl<F: FarStore> World<F> {
         ensures { Answers self.old (Event.Machine machine (MachineCommand.Step way)) (reply_of machine result) self.new }
     {
         step_machine(self.machines.as_mut_slice(), &mut self.store, machine, way)
+    }
+    /// At most so many steps of a machine, if there is one of this number: what as many commands `step` do, up to the first
+    /// that doesn't run. The machine is found once.
+    pub fn run_machine(&mut self, machine: usize, most: u64) -> Option<MachineRun>
+        ensures { RunsMachine machine most self.old result self.new }
+    {
+        run_machine(self.machines.as_mut_slice(), &mut self.store, machine, most)
     }
 }

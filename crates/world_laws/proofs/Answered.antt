@@ -5,7 +5,7 @@ use Rattle.machine.specs.MachineState.{MachineState}
 use Rattle.machine.specs.TableStep.{TableStep}
 use Rattle.machine.specs.declared.state.Stepped.{Stepped}
 use Rattle.debugger.specs.DebugState.{DebugState}
-use Rattle.debugger.specs.Steps.{with_pause, debugged}
+use Rattle.debugger.specs.Pausing.{with_pause, debugged}
 use Rattle.debugger.specs.Debuggees.{Walks, AnswersStep, holds_back, reply_after}
 use Rattle.debugger.specs.declared.commands.Way.{Way}
 use Rattle.debugger.specs.declared.commands.MachineCommand.TheVariants.{Step}

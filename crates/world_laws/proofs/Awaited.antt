@@ -1,19 +1,19 @@
 -- A step waits exactly where its object isn't here.
-use Rattle.std.proofs.Common.{◌≡◌, ◌≢◌, ℕ, nat_eq, Bool, true, false, cond, List, refl, sym, ap, ◌∙◌, subst}
+use Rattle.std.proofs.Common.{◌≡◌, ◌≢◌, ℕ, Bool, true, false, cond, List, refl, sym, ap, ◌∙◌, subst}
 use Rattle.isa_table.specs.declared.instr.Instr.{Instr}
 use Rattle.memory.specs.declared.access.Op.{Op}
 use Rattle.memory.specs.declared.access.Reach.{Reach}
 use Rattle.memory.specs.declared.access.Reach.TheVariants as reach
 use Rattle.memory.specs.Objects.{Reaches}
-use Rattle.object_store.specs.declared.places.Place.TheVariants.{Here}
+use Rattle.far_store.specs.declared.places.Place.TheVariants.{Here}
 use Rattle.object_store.specs.Stores.{StoreState, store_memory, Touches, place_of}
 use Rattle.machine.specs.declared.state.Stepped.{Stepped}
 use Rattle.machine.specs.declared.state.Stepped.TheVariants as stepped
-use Rattle.machine.specs.declared.state.Work.{Work}
-use Rattle.machine.specs.declared.state.Work.TheVariants.{Computes, Accesses, Measures}
-use Rattle.machine.specs.MachineState.{MachineState, own_stack}
+use Rattle.machine.specs.Rows.{Work}
+use Rattle.machine.specs.Rows.Work.{Computes, AccessesStack, Accesses, Measures}
+use Rattle.machine.specs.MachineState.{MachineState}
 use Rattle.machine.specs.Rows.{Request, Outcome, asks, asks_for, told_for, waits, work_of}
-use Rattle.machine.specs.Rows.Request.{Nothing, Touch}
+use Rattle.machine.specs.Rows.Request.{Touch}
 use Rattle.machine.specs.Rows.MemoryAnswer.{Reached}
 use Rattle.machine.specs.TableStep as table
 use Rattle.machine.specs.TableStep.{TableStep, StepsFrom, Attempts}
@@ -22,7 +22,7 @@ use Rattle.machine.proofs.StepCases.{steps_told}
 use Rattle.machine.proofs.OneWay.{steps_one_way}
 use Rattle.machine.proofs.Stopping.{waits_in_place}
 use Rattle.debugger.specs.DebugState.{DebugState, hits}
-use Rattle.debugger.specs.Steps.{debugged}
+use Rattle.debugger.specs.Pausing.{debugged}
 use Rattle.debugger.specs.Debuggees.{holds_back, reply_after}
 use Rattle.debugger.specs.declared.commands.Way.{Way}
 use Rattle.debugger.specs.declared.replies.StepReply.TheVariants as step_reply
@@ -61,14 +61,11 @@ store_determined who = record { reached = λ x a b n op r s g h. touched_once wh
 touch_is : (a b : ℕ) (p q : Op) → Touch a p ≡ Touch b q → a ≡ b
 touch_is a b p q e = cc
 
-asked_number : (b : Bool) (k n : ℕ) (p q : Op) → cond b Nothing (Touch k p) ≡ Touch n q → k ≡ n
-asked_number true k n p q e = absurd (cc)
-asked_number false k n p q e = touch_is k n p q e
-
 away_waits : (w : Work) (i : Instr) (old : MachineState) (n : ℕ) (op : Op) → asks_for w ≡ Touch n op → told_for w i old (Reached reach.Away) ≡ waits n old
 away_waits Computes i old n op e = absurd (cc)
 away_waits (Measures k) i old n op e = absurd (cc)
-away_waits (Accesses x) i old n op e = ap (λ k. waits k old) (asked_number (nat_eq x.number own_stack) x.number n x.op op e)
+away_waits (AccessesStack x) i old n op e = absurd (cc)
+away_waits (Accesses x) i old n op e = ap (λ k. waits k old) (touch_is x.number n x.op op e)
 
 waiting_step : (who n : ℕ) (old : MachineState) (before : StoreState) (i : Instr) (op : Op) → Attempts old i → asks i old ≡ Touch n op → Reaches before.objects n op → place_of before.places n ≢ Here
     → TableStep (store_memory who) old before (stepped.Waiting n) old before

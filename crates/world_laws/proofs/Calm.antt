@@ -7,7 +7,7 @@ use Rattle.machine.specs.declared.state.Stop.{Stop}
 use Rattle.machine.specs.declared.state.Stepped.{Stepped}
 use Rattle.machine.specs.declared.state.Stepped.TheVariants as stepped
 use Rattle.debugger.specs.DebugState.{DebugState}
-use Rattle.debugger.specs.Steps.{debugged}
+use Rattle.debugger.specs.Pausing.{debugged}
 use Rattle.debugger.specs.declared.commands.Way.{Way}
 use Rattle.debugger.specs.declared.debuggee.Debuggee.{Debuggee}
 use Rattle.world.specs.declared.replies.Reply.{Reply}

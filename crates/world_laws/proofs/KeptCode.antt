@@ -9,8 +9,8 @@ use Rattle.isa_table.specs.declared.instr.Instr.TheVariants.{CallHelper, CallLoc
 use Rattle.machine.specs.declared.state.Stepped.{Stepped}
 use Rattle.machine.specs.declared.state.Accessing.{Accessing}
 use Rattle.machine.specs.declared.state.Frame.{Frame}
-use Rattle.machine.specs.declared.state.Work.{Work}
-use Rattle.machine.specs.declared.state.Work.TheVariants.{Computes, Accesses, Measures}
+use Rattle.machine.specs.Rows.{Work}
+use Rattle.machine.specs.Rows.Work.{Computes, AccessesStack, Accesses, Measures}
 use Rattle.machine.specs.MachineState.{MachineState}
 use Rattle.machine.specs.Rows.{MemoryAnswer, Outcome, told_for, told_access, told_own, told_call, computed, exits, work_of}
 use Rattle.machine.specs.Rows.MemoryAnswer.{Reached, Measured}
@@ -44,10 +44,11 @@ access_keeps i x m (Reached reach.Away) = refl
 access_keeps i x m (Reached reach.Busy) = refl
 access_keeps i x m (Reached reach.Outside) = refl
 access_keeps i x m (Reached reach.Worn) = refl
-access_keeps i x m _ = own_keeps _ i x m
+access_keeps i x m _ = refl
 
 told_keeps : (w : Work) (i : Instr) (m : MachineState) (a : MemoryAnswer) → KeepsCode m (told_for w i m a)
 told_keeps Computes i m a = computed_keeps i m
+told_keeps (AccessesStack x) i m a = own_keeps _ i x m
 told_keeps (Accesses x) i m a = access_keeps i x m a
 told_keeps (Measures n) i m (Measured k) = refl
 told_keeps (Measures n) i m _ = refl

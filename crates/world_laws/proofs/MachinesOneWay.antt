@@ -1,9 +1,11 @@
 -- Commands on machines have one answer.
-use Rattle.std.proofs.Common.{◌≡◌, ℕ, true, false, List, [], ◌∷◌, ◌++◌, ◌+◌, ◌≤◌, length, take, drop, inl, inr, refl, ap, sym, subst, ◌∙◌}
+use Rattle.std.proofs.Common.{◌≡◌, ◌≢◌, ℕ, true, false, List, [], ◌∷◌, ◌+◌, ◌≤◌, length, take, drop, inl, inr, refl, ap, sym, subst, ◌∙◌}
 use Rattle.isa_table.specs.declared.instr.Instr.{Instr}
 use Rattle.asm_table.specs.Canonical.{line_text}
 use Rattle.loader.specs.declared.loading.LoadError.{LoadError}
-use Rattle.loader.specs.ValidCode.{IsAt, IsRowAt}
+use Rattle.loader.specs.declared.loading.Why.TheVariants as why
+use Rattle.loader.specs.Refusals.{Refuses}
+use Rattle.loader.specs.ValidCode.{IsAt, IsRowAt, ValidCode}
 use Rattle.loader.proofs.Positions.{same_first}
 use Rattle.loader.proofs.OneReason.{one_refusal, no_refusal_of_valid}
 use Rattle.object_store.specs.Stores.{StoreState, store_memory}
@@ -13,9 +15,9 @@ use Rattle.machine.proofs.OneWay.{steps_one_way}
 use Rattle.debugger.specs.DebugState.{DebugState}
 use Rattle.debugger.specs.Refusals.{Decides}
 use Rattle.debugger.specs.Changes.{Needs, refusals_of, left_by, change_of}
-use Rattle.debugger.specs.Steps.{with_pause, debugged}
+use Rattle.debugger.specs.Pausing.{with_pause, debugged}
 use Rattle.debugger.specs.Showing.{Shows, ShowsBytes, ShowsLine, IsLineAt}
-use Rattle.debugger.specs.Debuggees.{Walks, AnswersStep, DebugsMachine, debuggee_start, holds_back, reply_after}
+use Rattle.debugger.specs.Debuggees.{Walks, AnswersStep, DebugsMachine, holds_back, reply_after}
 use Rattle.debugger.specs.declared.start.Start.{Start}
 use Rattle.debugger.specs.declared.commands.Way.{Way}
 use Rattle.debugger.specs.declared.commands.MachineCommand.{MachineCommand}
@@ -32,12 +34,12 @@ use Rattle.debugger.specs.declared.replies.Debugged.TheVariants as debug_reply
 use Rattle.debugger.specs.declared.debuggee.Debuggee.{Debuggee}
 use Rattle.world.specs.declared.replies.Reply.{Reply}
 use Rattle.world.specs.declared.replies.Reply.TheVariants.{Shipped, NoMemory, Full, Refused}
-use Rattle.world.specs.WorldState.{machine_at, with_machine}
+use Rattle.world.specs.WorldState.{AreAllShipped, machine_at, with_machine}
 use Rattle.world.specs.Machines.{AnswersCommand, AnswersMachine, Finds, reply_to_step, reply_to_show, reply_to_debug}
 use Rattle.world.specs.Answers.{AnswersShip}
 use Rattle.world_laws.specs.Replies.{is_settled}
 use Rattle.world_laws.proofs.Machines.{found_once, found_none}
-use Rattle.world_laws.proofs.Deciding.{decides_once}
+use Rattle.world_laws.proofs.Deciding.{HasOne, Unless, decides_once, this_once, unless_once}
 use Rattle.world_laws.proofs.Awaited.{store_determined}
 
 -- two answers to one command are the same
@@ -49,27 +51,45 @@ MachinesOneWay answers = (old new other : List Debuggee) (a b : Reply) → answe
 same_error : (d e : LoadError) → (d.slot ≡ e.slot) × (d.why ≡ e.why) → d ≡ e
 same_error d e h = rw (h.0, h.1) refl
 
+-- what code that isn't valid is answered
+abbrev TellsWhy : List ℕ → Reply → Type 0
+TellsWhy c r = (e : LoadError) × (r ≡ Refused e) × Refuses c e.slot e.why × (e.why ≢ why.Memory)
+
+one_reason : (c : List ℕ) → HasOne (TellsWhy c)
+one_reason c a b g h = g.1 ∙ ap Refused (same_error g.0 h.0 (one_refusal c g.0.slot h.0.slot g.0.why h.0.why g.2 h.2 g.3 h.3)) ∙ sym h.1
+
+-- the code is valid
+abbrev IsShipped : List ℕ → ℕ → Reply → Type 0
+IsShipped c count = Unless (ValidCode c) (TellsWhy c) (λ (r : Reply). r ≡ Shipped (count + 1))
+
+-- there is room for a machine, and the code is valid
+abbrev ShipsOrNot : List Debuggee → List ℕ → Reply → Type 0
+ShipsOrNot old c = Unless (AreAllShipped old → ⊥) (λ (r : Reply). r ≡ Full) (IsShipped c (length old))
+
+ship_first : (f : Start) (c : List ℕ) (old new : List Debuggee) (r : Reply) → AnswersShip old f c r new → is_settled r ≡ true → ShipsOrNot old c r
+ship_first f c old new Full g p = inl ((λ n. n g.0), refl)
+ship_first f c old new (Refused e) g p = inr (g.0, inl ((λ v. g.2 (no_refusal_of_valid c e.slot e.why v g.1).1), (e, refl, g.1, g.2)))
+ship_first f c old new (Shipped m) g p = inr (g.0, inr (g.1, ap Shipped g.2))
+ship_first f c old new NoMemory g p = absurd (cc)
+ship_first f c old new _ g p = absurd g
+
+ship_leads : (f : Start) (c : List ℕ) (old new other : List Debuggee) (r : Reply) → AnswersShip old f c r new → AnswersShip old f c r other → new ≡ other
+ship_leads f c old new other Full g h = g.1 ∙ sym h.1
+ship_leads f c old new other (Refused e) g h = g.3 ∙ sym h.3
+ship_leads f c old new other (Shipped m) g h = g.3 ∙ sym h.3
+ship_leads f c old new other NoMemory g h = g.2 ∙ sym h.2
+ship_leads f c old new other _ g h = absurd g
+
+ship_once : (old : List Debuggee) (c : List ℕ) → HasOne (ShipsOrNot old c)
+ship_once old c =
+    let n = length old in
+    unless_once (AreAllShipped old → ⊥) (λ (r : Reply). r ≡ Full) (IsShipped c n) (this_once Full)
+    (unless_once (ValidCode c) (TellsWhy c) (λ (r : Reply). r ≡ Shipped (n + 1)) (one_reason c) (this_once (Shipped (n + 1))))
+
 pub ship : (f : Start) (c : List ℕ) → MachinesOneWay (λ old x new. AnswersShip old f c x new)
-ship f c old new other (Shipped m) (Shipped n) g h p q =
-    let number : m ≡ n = g.2 ∙ sym h.2 in
-    (ap Shipped number, g.3 ∙ ap (λ k. old ++ debuggee_start k c f ∷ []) number ∙ sym h.3)
-ship f c old new other (Refused d) (Refused e) g h p q =
-    (ap Refused (same_error d e (one_refusal c d.slot e.slot d.why e.why g.1 h.1 g.2 h.2)), g.3 ∙ sym h.3)
-ship f c old new other Full Full g h p q = (refl, g.1 ∙ sym h.1)
-ship f c old new other (Shipped m) (Refused e) g h p q = absurd (h.2 (no_refusal_of_valid c e.slot e.why g.1 h.1).1)
-ship f c old new other (Refused e) (Shipped m) g h p q = absurd (g.2 (no_refusal_of_valid c e.slot e.why h.1 g.1).1)
-ship f c old new other (Shipped m) Full g h p q = absurd (g.0 h.0)
-ship f c old new other Full (Shipped m) g h p q = absurd (h.0 g.0)
-ship f c old new other (Refused e) Full g h p q = absurd (g.0 h.0)
-ship f c old new other Full (Refused e) g h p q = absurd (h.0 g.0)
-ship f c old new other NoMemory _ g h p q = absurd (cc)
-ship f c old new other (Shipped m) NoMemory g h p q = absurd (cc)
-ship f c old new other Full NoMemory g h p q = absurd (cc)
-ship f c old new other (Refused e) NoMemory g h p q = absurd (cc)
-ship f c old new other (Shipped m) _ g h p q = absurd h
-ship f c old new other Full _ g h p q = absurd h
-ship f c old new other (Refused e) _ g h p q = absurd h
-ship f c old new other _ _ g h p q = absurd g
+ship f c old new other a b g h p q =
+    let e = ship_once old c a b (ship_first f c old new a g p) (ship_first f c old other b h q) in
+    (e, ship_leads f c old new other b (subst (λ (x : Reply). AnswersShip old f c x new) e g) h)
 
 -- ---- showing
 
@@ -89,17 +109,19 @@ at_row bytes n i h = (h.code, h.is_code, (i, h.stands))
 same_line : (code : List ℕ) (n : ℕ) (t u : List ℕ) → IsLineAt code n t → IsLineAt code n u → t ≡ u
 same_line code n t u g h = g.spelled ∙ ap line_text (same_row code n g.instr h.instr g.row h.row) ∙ sym h.spelled
 
-line_once : (m : ℕ) (code : List ℕ) (n : ℕ) (a b : ShowReply) → ShowsLine code n a → ShowsLine code n b → is_settled (reply_to_show m a) ≡ true → is_settled (reply_to_show m b) ≡ true → a ≡ b
-line_once m code n (show_reply.Disassembled i t) (show_reply.Disassembled j u) g h p q = rw (g.0, h.0, same_line code n t u g.1 h.1) refl
-line_once m code n (show_reply.Disassembled i t) show_reply.NoSlot g h p q = absurd (h (at_row code n g.1.instr g.1.row))
-line_once m code n show_reply.NoSlot (show_reply.Disassembled j u) g h p q = absurd (g (at_row code n h.1.instr h.1.row))
-line_once m code n show_reply.NoSlot show_reply.NoSlot g h p q = refl
-line_once m code n show_reply.NoMemory b g h p q = absurd (cc)
-line_once m code n (show_reply.Disassembled i t) show_reply.NoMemory g h p q = absurd (cc)
-line_once m code n show_reply.NoSlot show_reply.NoMemory g h p q = absurd (cc)
-line_once m code n (show_reply.Disassembled i t) _ g h p q = absurd h
-line_once m code n show_reply.NoSlot _ g h p q = absurd h
-line_once m code n _ _ g h p q = absurd g
+-- the instruction at the slot, spelled
+abbrev TellsLine : List ℕ → ℕ → ShowReply → Type 0
+TellsLine code n r = (text : List ℕ) × (r ≡ show_reply.Disassembled n text) × IsLineAt code n text
+
+one_line : (code : List ℕ) (n : ℕ) → HasOne (TellsLine code n)
+one_line code n a b g h = g.1 ∙ ap (λ (t : List ℕ). show_reply.Disassembled n t) (same_line code n g.0 h.0 g.2 h.2) ∙ sym h.1
+
+line_first : (m : ℕ) (code : List ℕ) (n : ℕ) (r : ShowReply) → ShowsLine code n r → is_settled (reply_to_show m r) ≡ true
+    → Unless (IsAt code n) (λ (x : ShowReply). x ≡ show_reply.NoSlot) (TellsLine code n) r
+line_first m code n show_reply.NoSlot g p = inl (g, refl)
+line_first m code n (show_reply.Disassembled i t) g p = inr (at_row code n g.1.instr g.1.row, (t, ap (λ k. show_reply.Disassembled k t) g.0, g.1))
+line_first m code n show_reply.NoMemory g p = absurd (cc)
+line_first m code n _ g p = absurd g
 
 show_once : (m : ℕ) (c : ShowCommand) (d : Debuggee) (a b : ShowReply) → Shows c d a → Shows c d b → is_settled (reply_to_show m a) ≡ true → is_settled (reply_to_show m b) ≡ true → a ≡ b
 show_once m Regs d (show_reply.Registers s) (show_reply.Registers t) g h p q = ap show_reply.Registers (g ∙ sym h)
@@ -108,7 +130,9 @@ show_once m Out d (show_reply.Emitted v) (show_reply.Emitted u) g h p q = ap sho
 show_once m Out d (show_reply.Emitted v) _ g h p q = absurd h
 show_once m (Stack o z) d a b g h p q = decides_once (λ r. o + z ≤ length d.machine.stack) (show_reply.Outside ∷ []) (show_reply.Bytes (take z (drop o d.machine.stack))) a b
     (bytes_first m d.machine.stack o z a g p) (bytes_first m d.machine.stack o z b h q)
-show_once m (Line n) d a b g h p q = line_once m d.machine.code n a b g h p q
+show_once m (Line n) d a b g h p q =
+    let code = d.machine.code in
+    unless_once (IsAt code n) (λ (x : ShowReply). x ≡ show_reply.NoSlot) (TellsLine code n) (this_once show_reply.NoSlot) (one_line code n) a b (line_first m code n a g p) (line_first m code n b h q)
 show_once m _ d _ _ g h p q = absurd g
 
 -- ---- steps

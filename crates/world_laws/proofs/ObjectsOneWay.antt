@@ -3,10 +3,10 @@ use Rattle.std.proofs.Common.{◌≡◌, ℕ, true, List, [], ◌∷◌, length,
 use Rattle.memory.specs.Objects.{IsFull, HasRange, range_of}
 use Rattle.object_store.specs.Stores.{StoreState, HasRoom, place_of}
 use Rattle.object_store.specs.Calls.{Frees}
-use Rattle.object_store.specs.declared.places.Place.{Place}
-use Rattle.object_store.specs.declared.places.Place.TheVariants as place
-use Rattle.object_store.specs.declared.places.Moved.{Moved}
-use Rattle.object_store.specs.declared.places.Moved.TheVariants as moved
+use Rattle.far_store.specs.declared.places.Place.{Place}
+use Rattle.far_store.specs.declared.places.Place.TheVariants as place
+use Rattle.far_store.specs.declared.places.Moved.{Moved}
+use Rattle.far_store.specs.declared.places.Moved.TheVariants as moved
 use Rattle.debugger.specs.Refusals.{Decides}
 use Rattle.world.specs.declared.replies.Reply.{Reply}
 use Rattle.world.specs.declared.replies.Reply.TheVariants.{Made, Freed, Done, Bytes, NoMemory, Full, NoRoom, Outside, Away}
@@ -91,7 +91,7 @@ Gets n o z old r new = AnswersGet old.store n o z r × (new ≡ old)
 
 get_first : (n o z : ℕ) → Firsts (Gets n o z) (RangeNeeds n o z) (λ old. Outside ∷ Away n ∷ []) (λ old. Bytes (range_of old.store.objects n o z))
 get_first n o z old new Outside g p = inl (g.0, refl)
-get_first n o z old new (Away k) g p = inr (g.0.1, inl (g.0.2, ap Away g.0.0))
+get_first n o z old new (Away k) g p = inr (g.0.1.0, inl (g.0.1.1, ap Away g.0.0))
 get_first n o z old new (Bytes x) g p = inr (g.0.0, inr (g.0.1, ap Bytes g.0.2))
 get_first n o z old new NoMemory g p = absurd (cc)
 get_first n o z old new _ g p = absurd g.0

@@ -7,7 +7,7 @@ use Rattle.memory.specs.Access.{replaced}
 use Rattle.memory.specs.Objects.{bytes_of, HasRange, range_of, with_range}
 use Rattle.memory.proofs.Lengths.{length-replaced}
 use Rattle.object_store.specs.Stores.{StoreState, place_of}
-use Rattle.object_store.specs.declared.places.Place.TheVariants as place
+use Rattle.far_store.specs.declared.places.Place.TheVariants as place
 use Rattle.world.specs.declared.replies.Reply.{Reply}
 use Rattle.world.specs.declared.replies.Reply.TheVariants.{Done, Bytes, NoMemory, Outside, Away}
 use Rattle.world.specs.Answers.{AnswersGet}
@@ -51,7 +51,7 @@ got : (s t : StoreState) (n o : ℕ) (bytes : List ℕ) (reply : Reply) → HasR
 got s t n o bytes (Bytes shown) r p e h = inl (ap Bytes (h.2 ∙ ap (λ (x : StoreState). range_of x.objects n o (length bytes)) e ∙ got_back s.objects n o bytes r))
 got s t n o bytes NoMemory r p e h = inr refl
 got s t n o bytes Outside r p e h = absurd (h (subst (λ (x : StoreState). HasRange x.objects n o (length bytes)) (sym e) (still_there s.objects n o bytes r)))
-got s t n o bytes (Away k) r p e h = absurd (h.2 (ap (λ (x : StoreState). place_of x.places n) e ∙ p))
+got s t n o bytes (Away k) r p e h = absurd (h.1.1 (ap (λ (x : StoreState). place_of x.places n) e ∙ p))
 got s t n o bytes _ r p e h = absurd h
 
 pub gets_what_was_put : GetsWhatWasPut

@@ -8,8 +8,8 @@ use Rattle.memory.specs.declared.access.Op.{Op}
 use Rattle.memory.specs.declared.access.Reach.{Reach}
 use Rattle.memory.specs.declared.access.Reach.TheVariants as reach
 use Rattle.scopes.specs.Windows.{holds, noted, without_oldest}
-use Rattle.object_store.specs.declared.places.Place.{Place}
-use Rattle.object_store.specs.declared.places.Place.TheVariants.{Here}
+use Rattle.far_store.specs.declared.places.Place.{Place}
+use Rattle.far_store.specs.declared.places.Place.TheVariants.{Here}
 use Rattle.object_store.specs.Stores.{StoreState, window_count, IsScoped, Touches, holders, place_of, weight, window_of}
 use Rattle.object_store.proofs.Counting.{none_held}
 use Rattle.world.specs.declared.replies.Reply.{Reply}

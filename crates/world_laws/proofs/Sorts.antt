@@ -4,16 +4,16 @@ use Rattle.std.proofs.Common.{◌≡◌, ℕ, Bool, true, false, cond, List, [],
 use Rattle.memory.specs.Objects.{bytes_of}
 use Rattle.memory.specs.Access.{replaced}
 use Rattle.memory.proofs.Lengths.{length-replaced}
-use Rattle.object_store.specs.declared.places.Place.{Place}
-use Rattle.object_store.specs.declared.places.Place.TheVariants as place
-use Rattle.object_store.specs.declared.places.Moved.{Moved}
-use Rattle.object_store.specs.declared.places.Moved.TheVariants as moved
+use Rattle.far_store.specs.declared.places.Place.{Place}
+use Rattle.far_store.specs.declared.places.Place.TheVariants as place
+use Rattle.far_store.specs.declared.places.Moved.{Moved}
+use Rattle.far_store.specs.declared.places.Moved.TheVariants as moved
 use Rattle.object_store.specs.Stores.{StoreState, store_memory}
 use Rattle.object_store.specs.Calls.{Frees}
 use Rattle.machine.specs.declared.state.Stop.{Stop}
 use Rattle.debugger.specs.DebugState.{DebugState, has_break, has_watch, watch_at}
 use Rattle.debugger.specs.Changes.{change_of}
-use Rattle.debugger.specs.Steps.{with_pause}
+use Rattle.debugger.specs.Pausing.{with_pause}
 use Rattle.debugger.specs.Debuggees.{DebugsMachine, debuggee_start, holds_back}
 use Rattle.debugger.specs.declared.start.Start.{Start}
 use Rattle.debugger.specs.declared.commands.Way.{Way}

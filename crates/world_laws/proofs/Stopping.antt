@@ -15,8 +15,8 @@ use Rattle.machine.specs.declared.state.Stop.{Stop}
 use Rattle.machine.specs.declared.state.Stepped.{Stepped}
 use Rattle.machine.specs.declared.state.Stepped.TheVariants.{Stopped}
 use Rattle.machine.specs.declared.state.Accessing.{Accessing}
-use Rattle.machine.specs.declared.state.Work.{Work}
-use Rattle.machine.specs.declared.state.Work.TheVariants.{Computes, Accesses, Measures}
+use Rattle.machine.specs.Rows.{Work}
+use Rattle.machine.specs.Rows.Work.{Computes, AccessesStack, Accesses, Measures}
 use Rattle.machine.specs.MachineState.{MachineState, stack_size}
 use Rattle.machine.specs.Rows.{MemoryAnswer, Outcome, told_for, told_own, told_call, exits, work_of}
 use Rattle.machine.specs.Rows.MemoryAnswer.{Reached, Measured}
@@ -53,7 +53,8 @@ told_stops (Accesses x) i old (Reached reach.Busy) = inr refl
 told_stops (Accesses x) i old (Reached (reach.Done v)) = inr refl
 told_stops (Accesses x) i old (Reached reach.Outside) = inl (record { stop = _; answer = refl; closes = refl })
 told_stops (Accesses x) i old (Reached reach.Worn) = inl (record { stop = _; answer = refl; closes = refl })
-told_stops (Accesses x) i old _ = own_stops (is_inside x.op stack_size) i x old
+told_stops (Accesses x) i old _ = inl (record { stop = _; answer = refl; closes = refl })
+told_stops (AccessesStack x) i old a = own_stops (is_inside x.op stack_size) i x old
 told_stops (Measures k) i old (Measured l) = inr refl
 told_stops (Measures k) i old _ = inr refl
 told_stops Computes Exit old a = exits_stop old.frames old

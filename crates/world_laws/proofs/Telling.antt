@@ -10,14 +10,13 @@ use Rattle.memory.specs.MapMemory.{map_reaches}
 use Rattle.memory.proofs.Accesses.{bytes_stay, others, lengths}
 use Rattle.object_store.specs.Stores.{StoreState, store_memory, Touches}
 use Rattle.machine.specs.declared.state.Accessing.{Accessing}
-use Rattle.machine.specs.declared.state.Work.{Work}
-use Rattle.machine.specs.declared.state.Work.TheVariants.{Computes, Accesses, Measures}
+use Rattle.machine.specs.Rows.{Work}
+use Rattle.machine.specs.Rows.Work.{Computes, AccessesStack, Accesses, Measures}
 use Rattle.machine.specs.declared.state.Written.{Written}
 use Rattle.machine.specs.declared.state.Stepped.{Stepped}
 use Rattle.machine.specs.declared.state.Stepped.TheVariants.{Ran}
-use Rattle.machine.specs.MachineState.{MachineState, own_stack}
+use Rattle.machine.specs.MachineState.{MachineState}
 use Rattle.machine.specs.Rows.{MemoryAnswer, Outcome, asks_for, told_for, told_access, range, work_of}
-use Rattle.machine.specs.Rows.Request.{Nothing, Touch}
 use Rattle.machine.specs.Rows.MemoryAnswer.{NoAnswer, Reached, Measured}
 use Rattle.machine.specs.TableStep.{AnswersRequest, Closes}
 use Rattle.machine.proofs.StepCases.{StepCase, step_case}
@@ -60,20 +59,16 @@ reach_told who x i m _ a before mid h s = absurd h
 same_store : (a : Stepped) (before mid : StoreState) → mid ≡ before → ChangesTold a before.objects mid.objects
 same_store a before mid e = same_told a before.objects mid.objects (ap (λ (s : StoreState). s.objects) e)
 
-access_told : (who : ℕ) (own : Bool) (x : Accessing) (i : Instr) (m : MachineState) (said : MemoryAnswer) (a : Stepped) (before mid : StoreState)
-    → AnswersRequest (store_memory who) (cond own Nothing (Touch x.number x.op)) before said mid → a ≡ (told_access i x m said).answer → ChangesTold a before.objects mid.objects
-access_told who true x i m NoAnswer a before mid h s = same_store a before mid h
-access_told who true x i m _ a before mid h s = absurd h
-access_told who false x i m (Reached r) a before mid h s = reach_told who x i m r a before mid h s
-access_told who false x i m _ a before mid h s = absurd h
-
 work_told : (who : ℕ) (w : Work) (i : Instr) (m : MachineState) (said : MemoryAnswer) (a : Stepped) (before mid : StoreState)
     → AnswersRequest (store_memory who) (asks_for w) before said mid → a ≡ (told_for w i m said).answer → ChangesTold a before.objects mid.objects
 work_told who Computes i m NoAnswer a before mid h s = same_store a before mid h
 work_told who Computes i m _ a before mid h s = absurd h
 work_told who (Measures n) i m (Measured k) a before mid h s = same_store a before mid h.1
 work_told who (Measures n) i m _ a before mid h s = absurd h
-work_told who (Accesses x) i m said a before mid h s = access_told who (nat_eq x.number own_stack) x i m said a before mid h s
+work_told who (AccessesStack x) i m NoAnswer a before mid h s = same_store a before mid h
+work_told who (AccessesStack x) i m _ a before mid h s = absurd h
+work_told who (Accesses x) i m (Reached r) a before mid h s = reach_told who x i m r a before mid h s
+work_told who (Accesses x) i m _ a before mid h s = absurd h
 
 case_told : (who : ℕ) (m : MachineState) (before mid : StoreState) (o : Outcome) → StepCase (store_memory who) m before o mid → ChangesTold o.answer before.objects mid.objects
 case_told who m before mid o (inl d) = same_store o.answer before mid d.same

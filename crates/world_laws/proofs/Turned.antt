@@ -5,7 +5,7 @@ use Rattle.machine.specs.declared.state.Stepped.{Stepped}
 use Rattle.machine.specs.MachineState.{MachineState}
 use Rattle.machine.specs.TableStep.{TableStep}
 use Rattle.machine.specs.Laws.{AccessesNext}
-use Rattle.debugger.specs.Steps.{with_pause, debugged}
+use Rattle.debugger.specs.Pausing.{with_pause, debugged}
 use Rattle.debugger.specs.declared.commands.Way.{Way}
 use Rattle.debugger.specs.declared.commands.MachineCommand.TheVariants.{Step}
 use Rattle.debugger.specs.declared.debuggee.Debuggee.{Debuggee}

@@ -16,10 +16,10 @@ use Rattle.memory.proofs.Accesses.{set_commutes}
 use Rattle.scopes.specs.Windows.{noted}
 use Rattle.object_store.specs.Stores.{StoreState, store_memory, Touches, StandsAt, HasRoom, near_bytes, near_length, window_of}
 use Rattle.object_store.specs.Calls.{RefusesMove, Frees, BeginsLeave, EndsLeave, BeginsReturn, EndsReturn}
-use Rattle.object_store.specs.declared.places.Place.{Place}
-use Rattle.object_store.specs.declared.places.Place.TheVariants as place
-use Rattle.object_store.specs.declared.places.Moved.{Moved}
-use Rattle.object_store.specs.declared.places.Moved.TheVariants as moved
+use Rattle.far_store.specs.declared.places.Place.{Place}
+use Rattle.far_store.specs.declared.places.Place.TheVariants as place
+use Rattle.far_store.specs.declared.places.Moved.{Moved}
+use Rattle.far_store.specs.declared.places.Moved.TheVariants as moved
 use Rattle.machine.specs.Grants.{GrantState, is_granted}
 use Rattle.machine.specs.MachineState.{MachineState}
 use Rattle.machine.specs.Rows.{Request, MemoryAnswer, Outcome, asks}
@@ -346,7 +346,7 @@ module _ (n : ℕ) (b : List ℕ) (k : ℕ) (h : k ≢ n) where
 
   get : (s : StoreState) (o z : ℕ) (r : Reply) → AnswersGet s k o z r → AnswersGet (blind n b s) k o z r
   get s o z Outside g = λ i. g (subst (λ (y : List ℕ). EndsInside (Reads o z) (length y)) (other s.objects n k b h) i)
-  get s o z (Away j) g = (g.0, subst (λ (y : List ℕ). EndsInside (Reads o z) (length y)) (sym (other s.objects n k b h)) g.1, g.2)
+  get s o z (Away j) g = (g.0, (subst (λ (y : List ℕ). EndsInside (Reads o z) (length y)) (sym (other s.objects n k b h)) g.1.0, g.1.1))
   get s o z NoMemory g = (subst (λ (y : List ℕ). EndsInside (Reads o z) (length y)) (sym (other s.objects n k b h)) g.0, g.1)
   get s o z (Bytes x) g = (subst (λ (y : List ℕ). EndsInside (Reads o z) (length y)) (sym (other s.objects n k b h)) g.0, g.1, g.2 ∙ ap (part o z) (sym (other s.objects n k b h)))
   get s o z _ g = absurd g
