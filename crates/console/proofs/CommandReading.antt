@@ -3,10 +3,10 @@ use Rattle.std.proofs.Common.{◌≡◌, ℕ, ◌<◌, ◌≤◌, List, [], ◌�
 use Rattle.std.proofs.lemmas.List.{length-take}
 use Rattle.memory.specs.Objects.{bytes_of}
 use Rattle.machine.specs.Grants.{GrantState}
-use Rattle.object_store.specs.declared.places.Place.{Place}
-use Rattle.object_store.specs.declared.places.Place.TheVariants as place
-use Rattle.object_store.specs.declared.places.Moved.{Moved}
-use Rattle.object_store.specs.declared.places.Moved.TheVariants as moved
+use Rattle.far_store.specs.declared.places.Place.{Place}
+use Rattle.far_store.specs.declared.places.Place.TheVariants as place
+use Rattle.far_store.specs.declared.places.Moved.{Moved}
+use Rattle.far_store.specs.declared.places.Moved.TheVariants as moved
 use Rattle.object_store.specs.Stores.{StoreState, store_memory}
 use Rattle.debugger.specs.declared.commands.MachineCommand.{MachineCommand}
 use Rattle.debugger.specs.declared.commands.MachineCommand.TheVariants.{Step, Show, Debug}
@@ -123,15 +123,15 @@ moved_short : (m : WorldMove) (n : ℕ) → IsShort (moved_reply m n)
 moved_short move.Returned n = tt
 moved_short _ n = tt
 
-step_short : (m : ℕ) (told : StepReply) → IsShort (reply_to_step m told)
+pub step_short : (m : ℕ) (told : StepReply) → IsShort (reply_to_step m told)
 step_short m (step_reply.Stopped stop) = tt
 step_short m _ = tt
 
-debug_short : (told : Debugged) → IsShort (reply_to_debug told)
+pub debug_short : (told : Debugged) → IsShort (reply_to_debug told)
 debug_short debugged.Done = tt
 debug_short _ = tt
 
-show_short : (m : ℕ) (command : ShowCommand) (d : Debuggee) (told : ShowReply) → Shows command d told → AsksShort (Machine m (Show command)) → IsShort (reply_to_show m told)
+pub show_short : (m : ℕ) (command : ShowCommand) (d : Debuggee) (told : ShowReply) → Shows command d told → AsksShort (Machine m (Show command)) → IsShort (reply_to_show m told)
 show_short m (Stack offset size) d (show_reply.Bytes shown) s short = let e = ap length s.1 in let l = length-take size (drop offset d.machine.stack) in omega (arith, e, l, short)
 show_short m _ d (show_reply.Bytes shown) s short = absurd s
 show_short m command d _ s short = tt

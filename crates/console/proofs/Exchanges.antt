@@ -164,7 +164,8 @@ record Fed (rest taken : List ℕ) (held : Held) : Type 0 where
   bytes : rest ++ taken ≡ bytes_so_far line held.waits
   clipped : held.line ≡ clip line
 
-take_through_end : (piece more : List ℕ) (n : ℕ) → n ≡ length piece + 1 → take n (piece ++ 10 ∷ more) ≡ piece ++ 10 ∷ []
+-- the bytes up to and with the line end
+pub take_through_end : (piece more : List ℕ) (n : ℕ) → n ≡ length piece + 1 → take n (piece ++ 10 ∷ more) ≡ piece ++ 10 ∷ []
 take_through_end piece more n e = rw e (take-append-add piece (10 ∷ more) 1)
 
 fed : (old rest bytes : List ℕ) (n : ℕ) (h : Held) → IsLine rest → old ≡ clip rest → TakesBytes old bytes n h → Fed rest (take n bytes) h

@@ -6,3 +6,4 @@ pub mod CommandReading
 pub mod Clips
 pub mod Exchanges
 pub mod Endings
+pub mod CallsMade

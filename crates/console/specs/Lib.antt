@@ -7,3 +7,4 @@ pub mod Replies
 pub mod Held
 pub mod Conversations
 pub mod Agent
+pub mod StreamCalls
