@@ -1,3 +1,5 @@
 pub mod Seated
 pub mod Replayed
 pub mod Coming
+pub mod Placing
+pub mod Emptied

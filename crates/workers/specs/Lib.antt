@@ -1,3 +1,5 @@
 pub mod Marks
 pub mod Cells
 pub mod Pools
+pub mod Moves
+pub mod Closing

@@ -2,15 +2,22 @@
 #![tactic(auto)]
 
 mod cell;
+mod closing;
 mod gate;
 mod job;
 mod mark;
+mod movers;
 mod pool;
 mod running;
+mod threads;
 
 pub use cell::{Locked, MachineCell, Ticket};
+pub use closing::{ClosedCell, PoolParts};
+pub use far_store::{Moved, Place};
 pub use gate::Gate;
 pub use job::{Direction, Job};
 pub use mark::Mark;
+pub use movers::{Looked, Mover};
 pub use pool::{Pool, QUEUE_LIMIT, TURN_LIMIT, work};
 pub use running::{Begun, Running};
+pub use threads::{mover, run_all, run_workers};

@@ -1,13 +1,15 @@
 //! The table, the cells of its machines, and the queues.
-ghost use Rattle.std.specs.Prelude.{◌≡◌, ◌≤◌, ◌+◌, length, drop, All, IfOk, IfSome, IfNone, true, false, if◌then◌else◌};
+ghost use Rattle.std.specs.Prelude.{◌≡◌, ◌≤◌, ◌+◌, ◌-◌, Some, length, drop, slice_get, All, IfOk, IfSome, IfNone, true, false, if◌then◌else◌};
 ghost use Rattle.std.specs.Vec.Iter.{into_iter_items};
 ghost use Rattle.shared_objects.specs.Kinds.{dealer};
 ghost use Rattle.shared_objects.specs.Opened.{AreFresh};
-ghost use Rattle.shared_objects.specs.Tables.{IsActorOf};
+ghost use Rattle.shared_objects.specs.Tables.{IsActorOf, table_returns};
 ghost use Rattle.workers.specs.Cells.{IsTableOf, opened_as};
+ghost use Rattle.workers.specs.Closing.{WereCells};
 ghost use Rattle.workers.specs.Pools.{IsNewSeat, AreSeats, machines_of, machine_of, QueuesCell};
 
 use crate::cell::{Locked, MachineCell, Ticket};
+use crate::closing::{PoolParts, parts_of};
 use crate::gate::Gate;
 use crate::job::{Direction, Job};
 use crate::mark::Mark;
@@ -16,8 +18,9 @@ use debugger::{Debuggee, StepReply, Way};
 use far_store::FarStore;
 use shared_objects::{ActorSeat, Shared, SharedTable};
 use std::alloc::{AllocError, Global};
+use std::sync::atomic::{AtomicU64, Ordering};
 use std::sync::{Mutex, Wait};
-use std::thread::yield_now;
+use std::time::Duration;
 use std::vec::IntoIter;
 
 /// How many places each queue has: this project's choice.
@@ -25,6 +28,9 @@ pub const QUEUE_LIMIT: usize = 64;
 
 /// How many instructions a worker does in one turn of a machine at most: this project's choice.
 pub const TURN_LIMIT: u32 = 64;
+
+/// How many milliseconds a worker sleeps at most where no machine is queued, and the mover where it isn't asked to move anything.
+const IDLE_MILLIS: u64 = 10;
 
 /// One table, the cells of its machines, the queue of machines to be run, and that of objects to be moved.
 #[derive(Drop)]
@@ -34,6 +40,10 @@ pub struct Pool<F: FarStore, K: Mark> {
     cells: Vec<MachineCell<K>>,
     runs: ArrayQueue<Job>,
     moves: ArrayQueue<Job>,
+    // how often a machine was queued by others than workers
+    queued: AtomicU64,
+    // how often the mover was asked
+    asked: AtomicU64,
     pub ghost of: { IsTableOf K.table K.opening shared.table },
 }
 
@@ -139,6 +149,8 @@ impl<F: FarStore, K: Mark> Pool<F, K> {
             cells,
             runs,
             moves,
+            queued: AtomicU64::new(0),
+            asked: AtomicU64::new(0),
         })
     }
 
@@ -146,29 +158,84 @@ impl<F: FarStore, K: Mark> Pool<F, K> {
     pub fn table(&self) -> &SharedTable
         ensures same { result.now ≡ self.now.shared.table }
         ensures of { IsTableOf K.table K.opening result.now }
+        ensures returns { table_returns result.now ≡ F.RETURNS }
     {
         self.shared.table()
     }
 
     /// The cell of the machine of a number, if there are so many.
-    pub fn cell(&self, number: usize) -> Option<&MachineCell<K>> {
+    pub fn cell(&self, number: usize) -> Option<&MachineCell<K>>
+        ensures none { IfNone result ((1 ≤ number) × (number ≤ length self.now.cells.items) → ⊥) }
+        ensures some { IfSome result (λ cell. (1 ≤ number) × (slice_get self.now.cells.items (number - 1) ≡ Some cell.now)) }
+    {
         if number == 0 {
             return None;
         }
         self.cells.get(number - 1)
     }
 
-    /// Puts the number of the cell's machine into the queue of those to be run, unless it is there. Where the queue is full it
-    /// isn't put, and isn't marked as queued.
+    /// Puts the number of the cell's machine into the queue of those to be run, unless it is there, and wakes a worker that
+    /// sleeps. Where the queue is full it isn't put, and isn't marked as queued.
     pub fn queue<R: Wait>(&self, rt: &R, locked: &mut Locked<K>)
         ensures { QueuesCell locked.old locked.new }
     {
         queue_machine(rt, &self.runs, locked);
+        self.queued.fetch_add(1, Ordering::SeqCst);
+        self.queued.wake_one();
+    }
+
+    /// The ticket of the next machine in the queue, if there is one.
+    fn next_run<R: Wait>(&self, rt: &R) -> Option<Ticket> {
+        match self.runs.pop(rt) {
+            Some(Job::Run(ticket)) => Some(ticket),
+            _ => None,
+        }
+    }
+
+    /// The ticket of the next machine in the queue. Where there is none, it sleeps until one is queued, for 10 ms at most, and
+    /// looks again.
+    fn wait_for_run<R: Wait>(&self, rt: &R) -> Option<Ticket> {
+        let seen = self.queued.load(Ordering::SeqCst);
+        if let Some(ticket) = self.next_run(rt) {
+            return Some(ticket);
+        }
+        self.queued.park_timeout(
+            rt,
+            (seen % (1 << 32)) as u32,
+            Duration::from_millis(IDLE_MILLIS),
+        );
+        self.next_run(rt)
     }
 
     /// Asks the mover to move an object, and says whether there was room for that.
     pub fn request<R: Wait>(&self, rt: &R, number: u32, direction: Direction) -> bool {
-        self.moves.push(rt, Job::Move { number, direction }).is_ok()
+        let room = self.moves.push(rt, Job::Move { number, direction }).is_ok();
+        self.asked.fetch_add(1, Ordering::SeqCst);
+        self.asked.wake_one();
+        room
+    }
+
+    /// The next object that the mover was asked to move, if there is one.
+    fn next_move<R: Wait>(&self, rt: &R) -> Option<(u32, Direction)> {
+        match self.moves.pop(rt) {
+            Some(Job::Move { number, direction }) => Some((number, direction)),
+            _ => None,
+        }
+    }
+
+    /// The next object that the mover was asked to move. Where there is none, it sleeps until it is asked, for 10 ms at most,
+    /// and looks again.
+    pub(crate) fn wait_for_move<R: Wait>(&self, rt: &R) -> Option<(u32, Direction)> {
+        let seen = self.asked.load(Ordering::SeqCst);
+        if let Some(asked) = self.next_move(rt) {
+            return Some(asked);
+        }
+        self.asked.park_timeout(
+            rt,
+            (seen % (1 << 32)) as u32,
+            Duration::from_millis(IDLE_MILLIS),
+        );
+        self.next_move(rt)
     }
 
     /// At most so many instructions of the cell's machine: whether it is to be queued again, since it waits or did them all.
@@ -205,9 +272,31 @@ impl<F: FarStore, K: Mark> Pool<F, K> {
         if !take_back(&mut cell.lock(rt), ticket) {
             return;
         }
+        // no worker is woken for it, since this one looks at the queue next
         if self.run(rt, gate, worker, number, cell) {
-            self.queue(rt, &mut cell.lock(rt));
+            queue_machine(rt, &self.runs, &mut cell.lock(rt));
         }
+    }
+
+    /// Takes the pool apart. Requests and machines that are queued are dropped. Where memory runs out all is dropped.
+    pub fn into_parts(self, alloc: Global) -> Result<PoolParts<F>, AllocError>
+        ensures { IfOk result (λ parts. (parts.shared ≡ self.shared) × IsTableOf K.table K.opening parts.shared.table
+            × WereCells K.table K.opening K.starts parts.seats.items parts.cells.items × (length parts.seats.items ≡ length self.cells.items)) }
+    {
+        let Pool {
+            shared,
+            cells,
+            runs: _,
+            moves: _,
+            queued: _,
+            asked: _,
+        } = self;
+        let (seats, cells) = parts_of(alloc, cells)?;
+        Ok(PoolParts {
+            shared,
+            seats,
+            cells,
+        })
     }
 }
 
@@ -222,9 +311,8 @@ pub fn work<F: FarStore, K: Mark, R: Wait, G: Gate>(
         if !gate.go_on() {
             return;
         }
-        match pool.runs.pop(rt) {
-            Some(Job::Run(ticket)) => pool.turn(rt, gate, worker, ticket),
-            _ => yield_now(),
+        if let Some(ticket) = pool.wait_for_run(rt) {
+            pool.turn(rt, gate, worker, ticket);
         }
     }
 }

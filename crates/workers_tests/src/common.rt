@@ -1,12 +1,15 @@
 //! Tables, machines and gates. A slot of code is written as its bytes, first to last.
+ghost use Rattle.std.specs.Prelude.{◌≡◌, length, IfOk};
 
 use debugger::{Debuggee, Start};
+use far_store::FarStore;
 use loader::{Program, load};
 use std::alloc::{AllocError, Global};
+use std::sync::Wait;
 use std::sync::atomic::{AtomicBool, AtomicU64, Ordering};
 use std::test::Fail;
 use std::thread::yield_now;
-use workers::Gate;
+use workers::{Gate, Mark, Pool};
 
 pub const EXIT: u64 = 0x9500_0000_0000_0000;
 
@@ -16,6 +19,12 @@ pub const ADD: u64 = 0xdb21_0000_0000_0000;
 /// ldxdw r0, [r1]
 pub const LOAD: u64 = 0x7910_0000_0000_0000;
 
+/// ja -1
+pub const JUMP: u64 = 0x0500_ffff_0000_0000;
+
+/// call 4
+pub const CLOSE: u64 = 0x8500_0000_0400_0000;
+
 /// The address of object 1.
 pub const OBJECT: u64 = 0x0000_0001_0000_0000;
 
@@ -23,9 +32,11 @@ pub const OBJECT: u64 = 0x0000_0001_0000_0000;
 pub const LOOKS: u64 = 10_000;
 
 /// So many objects of eight bytes, all zero.
-pub fn objects(alloc: Global, count: usize) -> Result<Vec<Vec<u8>>, AllocError> {
+pub fn objects(alloc: Global, count: usize) -> Result<Vec<Vec<u8>>, AllocError>
+    ensures { IfOk result (λ v. length v.items ≡ count) }
+{
     let mut bodies = Vec::new(alloc);
-    for _ in 0..count {
+    while bodies.len() < count {
         bodies.push(vec![in alloc; 0u8; 8]?)?;
     }
     Ok(bodies)
@@ -51,13 +62,28 @@ pub fn machine(
     Ok(Debuggee::new(code(alloc, slots)?, number, Start::new(fuel, arguments)))
 }
 
+/// Whether the machine of this number goes on.
+pub fn goes<F: FarStore, K: Mark, R: Wait>(rt: &R, pool: &Pool<F, K>, number: usize) -> bool {
+    match pool.cell(number) {
+        Some(cell) => cell.lock(rt).is_going(),
+        None => false,
+    }
+}
+
+/// Lets other threads run: one yield alone ends too soon on a machine whose processors all have other work.
+pub fn rest() {
+    for _ in 0..1000 {
+        yield_now();
+    }
+}
+
 /// Waits until a flag is set, for so many looks at most, and says whether it is.
 pub fn waits_for(flag: &AtomicBool) -> bool {
     for _ in 0..LOOKS {
         if flag.load(Ordering::SeqCst) {
             return true;
         }
-        yield_now();
+        rest();
     }
     false
 }
@@ -109,5 +135,60 @@ impl Gate for Holds {
             _ => {}
         }
         !self.ends.load(Ordering::SeqCst)
+    }
+}
+
+/// Notes whether two workers are at an instruction of one machine at a time, how many instructions were done, and how many
+/// workers were told to end.
+#[derive(Drop)]
+pub struct Crowd {
+    pub first: AtomicU64,
+    pub other: AtomicU64,
+    pub met: AtomicBool,
+    pub done: AtomicU64,
+    pub ends: AtomicBool,
+    pub ended: AtomicU64,
+}
+
+impl Crowd {
+    pub fn new() -> Self {
+        Crowd {
+            first: AtomicU64::new(0),
+            other: AtomicU64::new(0),
+            met: AtomicBool::new(false),
+            done: AtomicU64::new(0),
+            ends: AtomicBool::new(false),
+            ended: AtomicU64::new(0),
+        }
+    }
+
+    /// How many workers are at an instruction of this machine.
+    fn inside(&self, machine: usize) -> &AtomicU64 {
+        if machine == 1 {
+            &self.first
+        } else {
+            &self.other
+        }
+    }
+}
+
+impl Gate for Crowd {
+    fn before(&self, _worker: usize, machine: usize) {
+        if self.inside(machine).fetch_add(1, Ordering::SeqCst) > 0 {
+            self.met.store(true, Ordering::SeqCst);
+        }
+    }
+
+    fn after(&self, _worker: usize, machine: usize) {
+        self.inside(machine).fetch_sub(1, Ordering::SeqCst);
+        self.done.fetch_add(1, Ordering::SeqCst);
+    }
+
+    fn go_on(&self) -> bool {
+        let ends = self.ends.load(Ordering::SeqCst);
+        if ends {
+            self.ended.fetch_add(1, Ordering::SeqCst);
+        }
+        !ends
     }
 }

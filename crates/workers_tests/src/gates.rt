@@ -6,7 +6,9 @@ ghost use Rattle.shared_objects.specs.Tables.{IsActorOf};
 ghost use Rattle.workers.specs.Cells.{IsTableOf};
 ghost use Rattle.workers.specs.Pools.{machines_of};
 
-use crate::common::{ADD, EXIT, Holds, LOAD, LOOKS, OBJECT, code, machine, objects};
+use crate::common::{
+    ADD, Crowd, EXIT, Holds, JUMP, LOAD, LOOKS, OBJECT, code, goes, machine, objects, rest,
+};
 use debugger::{Debuggee, Start, StepReply, Way};
 use far_store::{FarStore, OwnStore};
 use loader::Program;
@@ -18,7 +20,7 @@ use std::sync::Wait;
 use std::sync::atomic::Ordering;
 use std::test::Fail;
 use std::thread;
-use std::thread::{Threads, yield_now};
+use std::thread::Threads;
 use workers::{Mark, Pool, work};
 
 /// What two workers left.
@@ -32,21 +34,14 @@ struct Left {
 }
 
 /// Whether neither machine 1 nor machine 2 goes on, after so many looks at most.
-fn waits_for_ends<F: FarStore, K: Mark, R: Wait>(rt: &R, pool: &Pool<F, K>) -> bool {
-    for _ in 0..LOOKS {
+fn waits_for_ends<F: FarStore, K: Mark, R: Wait>(rt: &R, pool: &Pool<F, K>, looks: u64) -> bool {
+    for _ in 0..looks {
         if !goes(rt, pool, 1) && !goes(rt, pool, 2) {
             return true;
         }
-        yield_now();
+        rest();
     }
     false
-}
-
-fn goes<F: FarStore, K: Mark, R: Wait>(rt: &R, pool: &Pool<F, K>, number: usize) -> bool {
-    match pool.cell(number) {
-        Some(cell) => cell.lock(rt).is_going(),
-        None => false,
-    }
 }
 
 /// Two workers on threads of their own, until both machines came to their ends.
@@ -65,7 +60,30 @@ where
                 made = made.wrapping_add(1);
             }
         }
-        let ended = waits_for_ends(rt, pool);
+        let ended = waits_for_ends(rt, pool, LOOKS);
+        gate.ends.store(true, Ordering::SeqCst);
+        (made, ended)
+    })
+}
+
+/// So many workers on threads of their own, until both machines came to their ends.
+fn run_crowd<F: FarStore + Send + Sync, K: Mark + Send + Sync, R: Threads + Wait + Sync>(
+    rt: &R,
+    gate: &Crowd,
+    pool: &Pool<F, K>,
+    workers: usize,
+) -> (usize, bool)
+where
+    F::Parcel: Send,
+{
+    thread::scope(thread::scope_env(), rt, |scope| {
+        let mut made: usize = 0;
+        for worker in 0..workers {
+            if scope.spawn(move || work(rt, gate, pool, worker)).is_ok() {
+                made = made.wrapping_add(1);
+            }
+        }
+        let ended = waits_for_ends(rt, pool, 100 * LOOKS);
         gate.ends.store(true, Ordering::SeqCst);
         (made, ended)
     })
@@ -124,7 +142,6 @@ fn gate_two_workers(rt: HostRuntime) -> Result<(), Fail> {
     machines.push(machine(alloc, 2, 10, [OBJECT, 1, 0, 0, 0], &[ADD, EXIT])?)?;
     let program = code(alloc, &[LOAD, EXIT])?;
     let bodies = objects(alloc, 1)?;
-    assert_eq!(rt; bodies.len(), 1);
     let (shared, seats, _mover) = Shared::<OwnStore>::open(alloc, bodies, 3)?;
     assert!(rt; machines.len() <= seats.len());
     let gate = Holds::new();
@@ -140,5 +157,41 @@ fn gate_two_workers(rt: HostRuntime) -> Result<(), Fail> {
             Some(StepReply::Stopped(Stop::Exit(2)))
         ]
     );
+    Ok(())
+}
+
+fn crowd<F: FarStore + Drop + Send + Sync, K: Mark + Send + Sync, R: Threads + Wait + Sync>(
+    rt: &R,
+    alloc: Global,
+    gate: &Crowd,
+    shared: Shared<F>,
+    seats: Vec<ActorSeat>,
+    machines: Vec<Debuggee>,
+) -> Result<(usize, bool), AllocError>
+where
+    F::Parcel: Send,
+    requires table { IsTableOf K.table K.opening shared.table }
+    requires seats { AreFresh (dealer F.RETURNS K.opening) seats.items × All (IsActorOf shared.table) seats.items }
+    requires machines { K.starts ≡ machines_of machines.items }
+    requires room { length machines.items ≤ length seats.items }
+{
+    let pool: Pool<F, K> = Pool::new(rt, alloc, shared, seats, machines)?;
+    Ok(run_crowd(rt, gate, &pool, 4))
+}
+
+#[test]
+fn each_machine_is_run_by_one_worker_at_a_time(rt: HostRuntime) -> Result<(), Fail> {
+    let alloc = rt.alloc();
+    let mut machines = Vec::new(alloc);
+    machines.push(machine(alloc, 1, 2000, [0; 5], &[JUMP])?)?;
+    machines.push(machine(alloc, 2, 2000, [0; 5], &[JUMP])?)?;
+    let (shared, seats, _mover) = Shared::<OwnStore>::open(alloc, objects(alloc, 1)?, 2)?;
+    let gate = Crowd::new();
+    let (made, ended) = crowd::<OwnStore, Brand, _>(&rt, alloc, &gate, shared, seats, machines)?;
+    assert_eq!(rt; made, 4);
+    assert!(rt; ended);
+    assert!(rt; !gate.met.load(Ordering::SeqCst));
+    assert_eq!(rt; gate.done.load(Ordering::SeqCst), 4002);
+    assert_eq!(rt; gate.ended.load(Ordering::SeqCst), 4);
     Ok(())
 }

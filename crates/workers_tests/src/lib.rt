@@ -5,3 +5,9 @@
 mod common;
 #[cfg(test)]
 mod gates;
+#[cfg(test)]
+mod leaving;
+#[cfg(test)]
+mod moving;
+#[cfg(test)]
+mod turns;

@@ -1,0 +1,245 @@
+//! What is done with a mover and what came of it, as plain values.
+ghost use Rattle.std.specs.Prelude.{◌≡◌, ◌≤◌, length, All, IfOk};
+ghost use Rattle.shared_objects.specs.Kinds.{dealer};
+ghost use Rattle.shared_objects.specs.Opened.{AreFresh, seated};
+ghost use Rattle.shared_objects.specs.Tables.{IsActorOf};
+ghost use Rattle.workers.specs.Cells.{IsTableOf};
+ghost use Rattle.workers.specs.Pools.{machines_of};
+
+use crate::common::{adding, objects};
+use debugger::{Debuggee, StepReply, Way};
+use far_store::{FarStore, Moved, OwnStore};
+use shared_objects::{ActorSeat, MoverSeat, Phase, Shared};
+use std::alloc::{AllocError, Global};
+use std::marker::Brand;
+use std::sync::Wait;
+use std::sync::atomic::{AtomicU64, Ordering};
+use std::test::Fail;
+use workers::{Direction, Gate, Looked, Mark, Mover, Pool, mover};
+
+/// What is done.
+#[derive(Clone, Copy, Drop)]
+pub enum Act {
+    /// The mover is to take the object of this number away.
+    Leave(u32),
+    /// It is to bring it back.
+    Return(u32),
+    /// It looks at the next object.
+    Look,
+    /// The machine of this number makes a step.
+    Step(usize),
+    /// The pool is asked to have an object moved.
+    Request(u32, Direction),
+    /// The mover serves so many rounds of requests, or looks where there is none.
+    Serve { rounds: u64, sweep: bool },
+}
+
+/// What came of it.
+#[derive(Clone, Copy, Drop, Debug, PartialEq, Eq)]
+pub enum Answer {
+    Moved(Moved),
+    Looked(Looked),
+    /// No reply: there is no such machine.
+    Replied(Option<StepReply>),
+    /// Whether there was room for the request.
+    Requested(bool),
+    Served,
+}
+
+/// A move that was done.
+pub const DONE: Answer = Answer::Moved(Moved::Done);
+
+/// What a mover left.
+#[derive(Drop)]
+pub struct Left {
+    /// What came of each act.
+    pub answers: Vec<Answer>,
+    /// Where objects 1 to 3 are.
+    pub phases: [Phase; 3],
+    /// For which number the parcel stands that is kept of each of them, if one is.
+    pub kept: [Option<u64>; 3],
+    /// How many faults the far store counted.
+    pub faults: u64,
+}
+
+impl Left {
+    /// The answers after so many.
+    pub fn after(&self, count: usize) -> &[Answer] {
+        self.answers.get(count..).unwrap_or(&[])
+    }
+
+    /// The answers from one place up to another.
+    pub fn between(&self, from: usize, to: usize) -> &[Answer] {
+        self.answers.get(from..to).unwrap_or(&[])
+    }
+}
+
+/// Lets the mover have so many rounds.
+#[derive(Drop)]
+struct Rounds {
+    left: AtomicU64,
+}
+
+impl Gate for Rounds {
+    fn before(&self, _worker: usize, _machine: usize) {}
+
+    fn after(&self, _worker: usize, _machine: usize) {}
+
+    fn go_on(&self) -> bool {
+        self.left.fetch_sub(1, Ordering::SeqCst) > 0
+    }
+}
+
+/// The number that eight bytes are.
+fn number_of(bytes: &[u8]) -> Option<u64> {
+    Some(u64::from_le_bytes(bytes.try_into().ok()?))
+}
+
+/// The number for which the parcel of an object stands, if one is kept.
+fn kept_of<F: FarStore>(
+    store: &mut F,
+    parcels: &[Option<F::Parcel>],
+    number: usize,
+) -> Option<u64> {
+    let parcel = parcels.get(number)?.as_ref()?;
+    let bytes = store.get(parcel).ok()?;
+    number_of(&bytes)
+}
+
+/// A step of the machine of a number.
+fn step<F: FarStore, K: Mark, R: Wait>(
+    rt: &R,
+    pool: &Pool<F, K>,
+    number: usize,
+) -> Option<StepReply> {
+    let cell = pool.cell(number)?;
+    cell.lock(rt).step(pool.table(), Way::Step)
+}
+
+/// What comes of one act.
+fn answer_to<F: FarStore, K: Mark, R: Wait>(
+    rt: &R,
+    pool: &Pool<F, K>,
+    served: &mut Mover<F, K>,
+    act: Act,
+) -> Answer {
+    match act {
+        Act::Leave(number) => Answer::Moved(served.one(pool, number, Direction::Leave)),
+        Act::Return(number) => Answer::Moved(served.one(pool, number, Direction::Return)),
+        Act::Look => Answer::Looked(served.look(pool)),
+        Act::Step(number) => Answer::Replied(step(rt, pool, number)),
+        Act::Request(number, direction) => {
+            Answer::Requested(pool.request(rt, number, direction))
+        }
+        Act::Serve { rounds, sweep } => {
+            let gate = Rounds {
+                left: AtomicU64::new(rounds),
+            };
+            mover(rt, &gate, pool, served, sweep);
+            Answer::Served
+        }
+    }
+}
+
+/// What a mover leaves, beside its answers.
+fn left_of<F: FarStore + Drop, K: Mark>(served: Mover<F, K>, answers: Vec<Answer>) -> Left {
+    let (seat, mut store, parcels) = served.into_parts();
+    let faults = store.faults();
+    let kept = [
+        kept_of(&mut store, parcels.as_slice(), 1),
+        kept_of(&mut store, parcels.as_slice(), 2),
+        kept_of(&mut store, parcels.as_slice(), 3),
+    ];
+    Left {
+        answers,
+        phases: [seat.phase(1), seat.phase(2), seat.phase(3)],
+        kept,
+        faults,
+    }
+}
+
+/// A table with its seats and its far store.
+#[derive(Drop)]
+struct Parts<F: FarStore> {
+    shared: Shared<F>,
+    seats: Vec<ActorSeat>,
+    mover: MoverSeat,
+    store: F,
+}
+
+fn run<F: FarStore + Drop, K: Mark, R: Wait>(
+    rt: &R,
+    alloc: Global,
+    parts: Parts<F>,
+    machines: Vec<Debuggee>,
+    acts: &[Act],
+) -> Result<Left, AllocError>
+    requires table { IsTableOf K.table K.opening parts.shared.table }
+    requires seats { AreFresh (dealer F.RETURNS K.opening) parts.seats.items × All (IsActorOf parts.shared.table) parts.seats.items }
+    requires mover { (parts.mover.seat.table_id ≡ K.table) × (parts.mover.seat.me.0 ≡ seated K.seats (dealer F.RETURNS K.opening)) }
+    requires machines { K.starts ≡ machines_of machines.items }
+    requires room { length machines.items ≤ length parts.seats.items }
+{
+    let Parts {
+        shared,
+        seats,
+        mover,
+        store,
+    } = parts;
+    let pool: Pool<F, K> = Pool::new(rt, alloc, shared, seats, machines)?;
+    let mut served: Mover<F, K> = Mover::new(alloc, mover, store)?;
+    let mut answers = Vec::new(alloc);
+    for act in acts {
+        answers.push(answer_to(rt, &pool, &mut served, *act))?;
+    }
+    Ok(left_of(served, answers))
+}
+
+/// Two machines, which add 5 and 6 to objects 1 and 2.
+fn two_machines(alloc: Global) -> Result<Vec<Debuggee>, Fail>
+    ensures { IfOk result (λ v. length v.items ≡ 2) }
+{
+    let one = adding(alloc, 1, 5)?;
+    let two = adding(alloc, 2, 6)?;
+    Ok(vec![in alloc; one, two]?)
+}
+
+/// What comes of these acts over a table of these objects.
+fn tried_over<F: FarStore + Drop, R: Wait>(
+    rt: &R,
+    alloc: Global,
+    store: F,
+    bodies: Vec<Vec<u8>>,
+    acts: &[Act],
+) -> Result<Left, Fail>
+    requires { length bodies.items ≤ 1024 }
+{
+    let machines = two_machines(alloc)?;
+    let (shared, seats, mover) = Shared::<F>::open(alloc, bodies, 2)?;
+    let parts = Parts {
+        shared,
+        seats,
+        mover,
+        store,
+    };
+    Ok(run::<F, Brand, R>(rt, alloc, parts, machines, acts)?)
+}
+
+/// What comes of these acts over two objects of eight bytes, which go to this far store. Machine 1 adds 5 to object 1, and
+/// machine 2 adds 6 to object 2.
+pub fn tried<F: FarStore + Drop, R: Wait>(
+    rt: &R,
+    alloc: Global,
+    store: F,
+    acts: &[Act],
+) -> Result<Left, Fail> {
+    let bodies = objects(alloc, 2)?;
+    tried_over(rt, alloc, store, bodies, acts)
+}
+
+/// What comes of these acts over objects 1 and 3, which stay within the agent. There is no object 2.
+pub fn tried_with_a_gap<R: Wait>(rt: &R, alloc: Global, acts: &[Act]) -> Result<Left, Fail> {
+    let mut bodies = objects(alloc, 2)?;
+    bodies.insert(1, Vec::new(alloc))?;
+    tried_over(rt, alloc, OwnStore::new(alloc), bodies, acts)
+}

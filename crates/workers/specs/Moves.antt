@@ -1,0 +1,133 @@
+-- What the mover of a table keeps between two requests, and what it does with one.
+use Rattle.std.specs.Prelude.{◌≡◌, ◌≢◌, ◌⊎◌, ℕ, ◌+◌, ◌≤◌, nat_lt, Bool, true, false, if◌then◌else◌, ◌&&◌, List, [], ◌∷◌, length, slice_index_or, Option, Some, None, Ok}
+use Rattle.atomic_table.specs.Seated.{TableId}
+use Rattle.memory.specs.Objects.{bytes_of, object_limit}
+use Rattle.far_store.specs.Stores.{Rises}
+use Rattle.far_store.specs.Calls.{Call, Calls, AsksInVain}
+use Rattle.far_store.specs.Calls.Call.{Put, Get, Forget}
+use Rattle.far_store.specs.declared.fault.StoreFault.{StoreFault}
+use Rattle.far_store.specs.declared.fault.StoreFault.TheVariants.{Damaged}
+use Rattle.far_store.specs.declared.places.Place.{Place}
+use Rattle.far_store.specs.declared.places.Place.TheVariants as told
+use Rattle.far_store.specs.declared.places.Moved.{Moved}
+use Rattle.far_store.specs.declared.places.Moved.TheVariants.{Done, NoObject, Misplaced, Scoped, NoRoom, Fault}
+use Rattle.shared_objects.specs.Kinds.{placed, cooled}
+use Rattle.shared_objects.specs.Phases.{IsObject, phase_of}
+use Rattle.shared_objects.specs.Rule.{place_of, taken}
+use Rattle.shared_objects.specs.declared.seats.MoverSeat.{MoverSeat}
+use Rattle.shared_objects.specs.declared.seats.Phase.{Phase}
+use Rattle.shared_objects.specs.declared.seats.Phase.TheVariants as phases
+use Rattle.shared_objects.specs.declared.view.Place.{Place as ViewPlace}
+use Rattle.shared_objects.specs.declared.view.Place.TheVariants.{Here, Moving, Far}
+use Rattle.shared_objects.specs.declared.view.View.{View}
+use Rattle.workers.specs.declared.job.Direction.{Direction}
+use Rattle.workers.specs.declared.job.Direction.TheVariants.{Leave, Return}
+use Rattle.workers.specs.declared.movers.Looked.{Looked}
+use Rattle.workers.specs.declared.movers.Looked.TheVariants as looked
+
+-- ---- what a mover keeps
+
+-- A mover, as its callers see it.
+pub record MoverState (X : Type 0) : Type 0 where
+  -- what its seat knows
+  pub view : View
+  -- the far store
+  pub store : X
+  -- by number, for which bytes the parcel stands that is kept of the object, if one is
+  pub parcels : List (Option (List ℕ))
+  -- the object at which it looked last of its own accord
+  pub last : ℕ
+
+-- It knows the opening bytes and the kind of far store, made so many other seats, and took none of them in.
+abbrev pub IsMoverView : List (List ℕ) → Bool → ℕ → View → Type 0
+IsMoverView opening returns seats v = (v.opening ≡ opening) × (v.returns ≡ returns) × (v.alive ≡ seats + 1) × (v.gathered ≡ [])
+
+-- The mover's seat of the table of this name.
+abbrev pub IsMoverSeat : TableId → List (List ℕ) → Bool → ℕ → MoverSeat → Type 0
+IsMoverSeat table opening returns seats seat = (seat.seat.table_id ≡ table) × IsMoverView opening returns seats seat.seat.me.0
+
+-- A parcel is kept of an object exactly where it is far, and stands for the bytes with which it was taken, which are as long as
+-- the opening ones. No object is on its way.
+abbrev pub KeepsParcel : List ℕ → ViewPlace → Option (List ℕ) → Type 0
+KeepsParcel opening Here parcel = parcel ≡ None
+KeepsParcel opening (Moving bytes) parcel = ⊥
+KeepsParcel opening (Far bytes) parcel = (parcel ≡ Some bytes) × (length bytes ≡ length opening)
+
+-- So it is with each object.
+abbrev pub KeepsParcels : View → List (Option (List ℕ)) → Type 0
+KeepsParcels v parcels = (length parcels ≡ length v.opening) × ((n : ℕ) → KeepsParcel (bytes_of v.opening n) (place_of v n) (slice_index_or parcels n None))
+
+-- ---- what a request does to places
+
+-- The place that is told of an object: none is on its way.
+abbrev pub IsTold : ViewPlace → Place → Type 0
+IsTold Here p = p ≡ told.Here
+IsTold (Moving bytes) p = ⊥
+IsTold (Far bytes) p = p ≡ told.Far
+
+-- There is no such object, or it isn't in the phase from which it would be moved. Nothing changes.
+abbrev pub RefusesRequest : Phase → View → ℕ → Moved → View → Type 0
+RefusesRequest from v n NoObject w = (IsObject v.opening n → ⊥) × (w ≡ v)
+RefusesRequest from v n (Misplaced p) w = IsObject v.opening n × (phase_of (place_of v n) ≢ from) × IsTold (place_of v n) p × (w ≡ v)
+RefusesRequest from v n _ w = ⊥
+
+-- An object that is here goes to the far store, with bytes as long as the opening ones. Where it is held, as by a scope, or
+-- the far store fails, it stays here.
+abbrev pub LeavesFor : View → ℕ → Moved → View → Type 0
+LeavesFor v n Done w = IsObject v.opening n × (place_of v n ≡ Here) × ((bytes : List ℕ) × (length bytes ≡ length (bytes_of v.opening n)) × (w ≡ placed n (Far bytes) v))
+LeavesFor v n Scoped w = IsObject v.opening n × (place_of v n ≡ Here) × (w ≡ v)
+LeavesFor v n (Fault f) w = IsObject v.opening n × (place_of v n ≡ Here) × (w ≡ v)
+LeavesFor v n moved w = RefusesRequest phases.In v n moved w
+
+-- An object that is far comes back. Where the far store fails it stays far.
+abbrev pub ReturnsFrom : View → ℕ → Moved → View → Type 0
+ReturnsFrom v n Done w = IsObject v.opening n × (phase_of (place_of v n) ≡ phases.Far) × (w ≡ placed n Here v)
+ReturnsFrom v n (Fault f) w = IsObject v.opening n × (phase_of (place_of v n) ≡ phases.Far) × (w ≡ v)
+ReturnsFrom v n moved w = RefusesRequest phases.Far v n moved w
+
+-- One request: the mover's view before, the object, what became of it, and the view after.
+abbrev pub MovesOne : Direction → View → ℕ → Moved → View → Type 0
+MovesOne Leave v n moved w = LeavesFor v n moved w
+MovesOne Return v n moved w = ReturnsFrom v n moved w
+
+-- ---- what a request asks of the far store
+
+-- Nothing is asked.
+abbrev pub AsksNothing : {X : Type 0} → X → X → Type 0
+AsksNothing old new = new ≡ old
+
+-- An object that leaves: its bytes are put, once. They are those with which it is far then.
+abbrev pub AsksToLeave : {X : Type 0} → (X → Call → X → Type 0) → (X → ℕ) → View → X → ℕ → Moved → View → X → Type 0
+AsksToLeave called faults v old n Done w new = ((bytes : List ℕ) × (place_of w n ≡ Far bytes) × Calls called old (Put bytes None ∷ []) new) × (faults new ≡ faults old)
+AsksToLeave called faults v old n (Fault f) w new = ((bytes : List ℕ) × (length bytes ≡ length (bytes_of v.opening n)) × Calls called old (Put bytes (Some f) ∷ []) new) × Rises (faults old) (faults new)
+AsksToLeave called faults v old n _ w new = AsksNothing old new
+
+-- The far store's faults rose by one; or it doesn't promise to return what was put, and gave more bytes or fewer.
+abbrev pub FailsToBring : Bool → ℕ → StoreFault → ℕ → Type 0
+FailsToBring returns old f new = Rises old new ⊎ ((returns ≡ false) × (f ≡ Damaged) × (new ≡ old))
+
+-- An object that returns: the bytes with which it was taken are got, once. Where as many came, its parcel is forgotten then.
+abbrev pub AsksToReturn : {X : Type 0} → Bool → (X → Call → X → Type 0) → (X → ℕ) → View → X → ℕ → Moved → View → X → Type 0
+AsksToReturn returns called faults v old n Done w new =
+    ((bytes came : List ℕ) × (place_of v n ≡ Far bytes) × (length came ≡ length bytes) × Calls called old (Get bytes (Ok came) ∷ Forget bytes ∷ []) new) × (faults old ≤ faults new)
+AsksToReturn returns called faults v old n (Fault f) w new =
+    ((bytes : List ℕ) × (place_of v n ≡ Far bytes) × AsksInVain called old (Some bytes) (length bytes) f new) × FailsToBring returns (faults old) f (faults new)
+AsksToReturn returns called faults v old n _ w new = AsksNothing old new
+
+-- What one request asks of the far store, call by call and in order, and what becomes of its count of faults: whether it returns
+-- what was put, its calls, its faults, the mover's view and the store before, the object, what became of it, and both after.
+abbrev pub AsksOne : {X : Type 0} → Bool → (X → Call → X → Type 0) → (X → ℕ) → Direction → View → X → ℕ → Moved → View → X → Type 0
+AsksOne returns called faults Leave v old n moved w new = AsksToLeave called faults v old n moved w new
+AsksOne returns called faults Return v old n moved w new = AsksToReturn returns called faults v old n moved w new
+
+-- ---- looking
+
+-- the number of the object after the last, among so many numbers: after the greatest it is 1
+abbrev pub number_after : ℕ → ℕ → ℕ
+number_after count last = if nat_lt (last + 1) count && nat_lt last object_limit then (last + 1) else 1
+
+-- A mover looks at an object: one that was hot is cooled and stays; one that was cold is asked to leave.
+abbrev pub LooksAt : {X : Type 0} → (X → Call → X → Type 0) → (X → ℕ) → View → X → ℕ → Looked → View → X → Type 0
+LooksAt called faults v old n looked.NoObject w new = (IsObject v.opening n → ⊥) × (w ≡ v) × (new ≡ old)
+LooksAt called faults v old n looked.Hot w new = IsObject v.opening n × (w ≡ cooled n true v) × (new ≡ old)
+LooksAt called faults v old n (looked.Cold moved) w new = IsObject v.opening n × LeavesFor (cooled n false v) n moved w × AsksToLeave called faults (cooled n false v) old n moved w new
