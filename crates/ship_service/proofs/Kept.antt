@@ -1,0 +1,55 @@
+-- The cell keeps its number.
+use Rattle.std.proofs.Common.{◌≡◌, ℕ, List, refl, ap, ◌∙◌, subst, inl, inr}
+use Rattle.debugger.specs.declared.start.Start.{Start}
+use Rattle.debugger.specs.declared.commands.MachineCommand.{MachineCommand}
+use Rattle.debugger.specs.declared.commands.MachineCommand.TheVariants.{Step, Show, Debug}
+use Rattle.debugger.specs.declared.commands.DebugCommand.{DebugCommand}
+use Rattle.debugger.specs.declared.commands.DebugCommand.TheVariants.{Resume}
+use Rattle.debugger.specs.declared.replies.Debugged.{Debugged}
+use Rattle.debugger.specs.declared.replies.Debugged.TheVariants as debugged
+use Rattle.machine.specs.MachineState.{MachineState}
+use Rattle.workers.specs.Cells.{SeatState, CellState, FitsCell}
+use Rattle.world.specs.declared.replies.Reply.{Reply}
+use Rattle.world.specs.declared.replies.Reply.TheVariants as reply
+use Rattle.ship_service.specs.Lent.{informed, Requeues, AnswersCell, AnswersLent, ShipsCell}
+use Rattle.ship_service.specs.Served.{IsCell}
+
+abbrev number_of : CellState → ℕ
+number_of c = c.number
+
+-- the type's fact, of a cell of this number
+pub cell_now : (opening : List (List ℕ)) (starts : List MachineState) (m : ℕ) (c : CellState) → c.number ≡ m → c.seat.view.actor ≡ c.number → c.seat.view.opening ≡ opening → FitsCell opening starts c.number c.seat c.running
+    → IsCell opening starts m c
+cell_now opening starts m c number actor opens fits = record {
+  number_is = number;
+  actor_is = actor ∙ number;
+  opening_is = opens;
+  fits = subst (λ n. FitsCell opening starts n c.seat c.running) number fits;
+}
+
+requeued_number : (command : DebugCommand) (outcome : Debugged) (mid after : CellState) → Requeues command outcome mid after → after.number ≡ mid.number
+requeued_number Resume debugged.Done mid after h = ap number_of h.0.1
+requeued_number command outcome mid after h = ap number_of h
+
+cell_number : (command : MachineCommand) (before : CellState) (m : ℕ) (told : Reply) (after : CellState) → AnswersCell command before m told after → after.number ≡ before.number
+cell_number (Step way) before m told after h = ap number_of h.2.becomes
+cell_number (Show command) before m told after h = ap number_of h.3
+cell_number (Debug command) before m told after h = requeued_number command h.0 h.2.0 after h.2.2 ∙ ap number_of h.2.1.becomes
+
+informed_number : (command : MachineCommand) (old : SeatState) (before : CellState) → (informed command old before).number ≡ before.number
+informed_number (Step way) old before = refl
+informed_number (Show command) old before = refl
+informed_number (Debug command) old before = refl
+
+-- a command on its machine
+pub answered_number : (command : MachineCommand) (old : SeatState) (before : CellState) (m : ℕ) (told : Reply) (new : SeatState) (after : CellState) → AnswersLent command old before m told new after
+    → after.number ≡ before.number
+answered_number command old before m told new after (inl h) = ap number_of h.left
+answered_number command old before m told new after (inr h) = cell_number command (informed command old before) m told after h.answers ∙ informed_number command old before
+
+-- a machine that comes
+pub shipped_number : (start : Start) (code : List ℕ) (before : CellState) (told : Reply) (after : CellState) → ShipsCell start code before told after → after.number ≡ before.number
+shipped_number start code before (reply.Shipped m) after h = ap number_of h.2.0.1
+shipped_number start code before (reply.Refused e) after h = ap number_of h.2
+shipped_number start code before reply.NoMemory after h = ap number_of h.1
+shipped_number start code before told after h = absurd h

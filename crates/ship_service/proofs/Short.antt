@@ -1,0 +1,96 @@
+-- A reply has no more bytes to show than were asked for.
+use Rattle.std.proofs.Common.{◌≡◌, ℕ, ◌≤◌, List, length, drop, sym, ap, subst, arith, inl, inr}
+use Rattle.std.proofs.lemmas.List.{length-take}
+use Rattle.memory.specs.declared.access.Reach.{Reach}
+use Rattle.memory.specs.declared.access.Reach.TheVariants as reach
+use Rattle.memory.specs.declared.deeds.Given.TheVariants.{Bytes}
+use Rattle.memory.specs.Access.{part}
+use Rattle.shared_objects.specs.Touches.{Gets}
+use Rattle.shared_objects.specs.declared.touching.Fetched.{Fetched}
+use Rattle.shared_objects.specs.declared.touching.Fetched.TheVariants as fetched
+use Rattle.machine.specs.MachineState.{MachineState}
+use Rattle.debugger.specs.declared.commands.MachineCommand.{MachineCommand}
+use Rattle.debugger.specs.declared.commands.MachineCommand.TheVariants.{Step, Show, Debug}
+use Rattle.workers.specs.Cells.{SeatState, CellState}
+use Rattle.world.specs.declared.events.Event.{Event}
+use Rattle.world.specs.declared.events.Event.TheVariants as event
+use Rattle.world.specs.declared.events.ObjectCommand.{ObjectCommand}
+use Rattle.world.specs.declared.events.ObjectCommand.TheVariants as object
+use Rattle.world.specs.declared.events.Move.TheVariants as move
+use Rattle.world.specs.declared.replies.Reply.{Reply}
+use Rattle.world.specs.declared.replies.Reply.TheVariants as reply
+use Rattle.console.specs.Replies.{IsShort}
+use Rattle.console.specs.Commands.{range_limit}
+use Rattle.console.proofs.CommandReading.{AsksShort, step_short, show_short, debug_short}
+use Rattle.ship_service.specs.declared.replies.ServiceReply.{ServiceReply}
+use Rattle.ship_service.specs.declared.replies.ServiceReply.TheVariants.{Plain}
+use Rattle.ship_service.specs.Replies.{IsShortReply}
+use Rattle.ship_service.specs.Ranges.{reply_to_put, reply_to_get, ServesGet, AsksMover}
+use Rattle.ship_service.specs.Lent.{AnswersCell, AnswersLent, ShipsCell, informed}
+use Rattle.ship_service.specs.Served.{Serves, ServesObject, ServesMachine, ServesShip}
+use Rattle.debugger.specs.declared.start.Start.{Start}
+
+put_short : (n : ℕ) (r : Reach) → IsShortReply (reply_to_put n r)
+put_short n (reach.Done x) = tt
+put_short n reach.Away = tt
+put_short n reach.Busy = tt
+put_short n reach.Outside = tt
+put_short n reach.Worn = tt
+
+bytes_are : (xs ys : List ℕ) → Bytes xs ≡ Bytes ys → xs ≡ ys
+bytes_are xs ys e = cc
+
+get_short : (old new : SeatState) (n offset size : ℕ) (f : Fetched) → Gets old.view old.stamp n offset size f new.view new.stamp → size ≤ range_limit → IsShortReply (reply_to_get n f)
+get_short old new n offset size (fetched.Done bytes) h short =
+    let b = h.1 in let e = ap length (bytes_are bytes.items (part offset size b.0) b.2) in let l = length-take size (drop offset b.0) in omega (arith, e, l, short)
+get_short old new n offset size fetched.Away h short = tt
+get_short old new n offset size fetched.Busy h short = tt
+get_short old new n offset size fetched.Outside h short = tt
+get_short old new n offset size fetched.Worn h short = tt
+
+get_tells_short : (old new : SeatState) (n offset size : ℕ) (told : ServiceReply) → ServesGet old n offset size told new → size ≤ range_limit → IsShortReply told
+get_tells_short old new n offset size told (inl h) short = subst IsShortReply (sym h.told_is) tt
+get_tells_short old new n offset size told (inr h) short = subst IsShortReply (sym h.told_is) (get_short old new n offset size h.outcome h.gets short)
+
+asked_short : (opening : List (List ℕ)) (n : ℕ) (told : ServiceReply) → AsksMover opening n told → IsShortReply told
+asked_short opening n (Plain (reply.Bytes b)) h = absurd h
+asked_short opening n _ h = tt
+
+object_short : (old new : SeatState) (n : ℕ) (c : ObjectCommand) (told : ServiceReply) → ServesObject old n c told new → AsksShort (event.Object n c) → IsShortReply told
+object_short old new n (object.Put offset bytes) told h short = subst IsShortReply (sym h.told_is) (put_short n h.outcome)
+object_short old new n (object.Get offset size) told h short = get_tells_short old new n offset size told h short
+object_short old new n object.Free told h short = subst IsShortReply (sym h.0) tt
+object_short old new n (object.Move move.Leave) told h short = asked_short old.view.opening n told h.0
+object_short old new n (object.Move move.Return) told h short = asked_short old.view.opening n told h.0
+object_short old new n (object.Move move.Left) told h short = subst IsShortReply (sym h.0) tt
+object_short old new n (object.Move move.Returned) told h short = subst IsShortReply (sym h.0) tt
+
+cell_short : (before after : CellState) (m : ℕ) (c : MachineCommand) (told : Reply) → AnswersCell c before m told after → AsksShort (event.Machine m c) → IsShort told
+cell_short before after m (Step way) told h short = subst IsShort (sym h.1) (step_short m h.0)
+cell_short before after m (Show command) told h short = subst IsShort (sym h.1) (show_short m command h.2.0.debuggee h.0 h.2.2 short)
+cell_short before after m (Debug command) told h short = subst IsShort (sym h.1) (debug_short h.0)
+
+lent_short : (old new : SeatState) (before after : CellState) (m : ℕ) (c : MachineCommand) (told : Reply) → AnswersLent c old before m told new after → AsksShort (event.Machine m c) → IsShort told
+lent_short old new before after m c told (inl h) short = subst IsShort (sym h.told_is) tt
+lent_short old new before after m c told (inr h) short = cell_short (informed c old before) after m c told h.answers short
+
+machine_short : (opening : List (List ℕ)) (starts : List MachineState) (old new : SeatState) (m : ℕ) (c : MachineCommand) (told : ServiceReply)
+    → ServesMachine opening starts old m c told new → AsksShort (event.Machine m c) → IsShortReply told
+machine_short opening starts old new m c told (inl h) short = subst IsShortReply (sym h.told_is) tt
+machine_short opening starts old new m c told (inr h) short = subst IsShortReply (sym h.told_is) (lent_short old new h.before h.after m c h.said h.answers short)
+
+shipped_short : (start : Start) (code : List ℕ) (before after : CellState) (said : Reply) → ShipsCell start code before said after → IsShort said
+shipped_short start code before after (reply.Bytes b) h = absurd h
+shipped_short start code before after _ h = tt
+
+ship_short : (opening : List (List ℕ)) (starts : List MachineState) (start : Start) (code : List ℕ) (told : ServiceReply) → ServesShip opening starts start code told → IsShortReply told
+ship_short opening starts start code told (inl h) = subst IsShortReply (sym h.told_is) tt
+ship_short opening starts start code told (inr h) = subst IsShortReply (sym h.told_is) (shipped_short start code h.before h.after h.said h.ships)
+
+-- a reply fits its line
+pub serves_short : (opening : List (List ℕ)) (starts : List MachineState) (old new : SeatState) (c : Event) (told : ServiceReply)
+    → Serves opening starts old c told new → AsksShort c → IsShortReply told
+serves_short opening starts old new (event.Make size) told h short = subst IsShortReply (sym h.0) tt
+serves_short opening starts old new (event.Ship start code) told h short = ship_short opening starts start code told h.0
+serves_short opening starts old new (event.Object n c) told h short = object_short old new n c told h short
+serves_short opening starts old new (event.Machine m c) told h short = machine_short opening starts old new m c told h short

@@ -1,0 +1,157 @@
+-- The replies are the answers of the entries that are added.
+use Rattle.std.proofs.Common.{◌≡◌, ℕ, ◌≤◌, max, List, [], ◌∷◌, ◌++◌, map, refl, sym, ap, ◌∙◌, append_assoc, append-nil, subst, arith, inl, inr}
+use Rattle.std.proofs.lemmas.List.{map-append}
+use Rattle.std.proofs.Math.Nat.{le-max_left}
+use Rattle.memory.specs.declared.access.Reach.{Reach}
+use Rattle.memory.specs.declared.access.Reach.TheVariants as reach
+use Rattle.memory.specs.declared.deeds.Entry.{Entry as OwnEntry}
+use Rattle.memory.specs.declared.deeds.Deed.{Deed}
+use Rattle.memory.specs.declared.deeds.Deed.TheVariants.{Reads, Writes}
+use Rattle.memory.specs.declared.deeds.Given.{Given}
+use Rattle.memory.specs.declared.deeds.Given.TheVariants.{Bytes, Nothing}
+use Rattle.shared_objects.specs.History.{entry}
+use Rattle.shared_objects.specs.SeatMemories.{own_entry}
+use Rattle.shared_objects.specs.Touches.{Puts, Gets, Does}
+use Rattle.shared_objects.specs.declared.touching.Fetched.{Fetched}
+use Rattle.shared_objects.specs.declared.touching.Fetched.TheVariants as fetched
+use Rattle.shared_objects.specs.declared.view.Entry.{Entry}
+use Rattle.shared_objects.specs.declared.view.View.{View}
+use Rattle.machine.specs.MachineState.{MachineState}
+use Rattle.debugger.specs.declared.commands.MachineCommand.{MachineCommand}
+use Rattle.workers.specs.Cells.{SeatState}
+use Rattle.world.specs.Run.{Runs}
+use Rattle.world.specs.declared.events.Event.{Event}
+use Rattle.world.specs.declared.events.Event.TheVariants as event
+use Rattle.world.specs.declared.events.ObjectCommand.{ObjectCommand}
+use Rattle.world.specs.declared.events.ObjectCommand.TheVariants as object
+use Rattle.world.specs.declared.events.Move.TheVariants as move
+use Rattle.console.specs.Conversations.{turn_commands, turn_replies}
+use Rattle.ship_service.specs.declared.replies.ServiceReply.{ServiceReply}
+use Rattle.ship_service.specs.Ranges.{reply_to_put, reply_to_get, ServesGet}
+use Rattle.ship_service.specs.Lent.{AnswersLent}
+use Rattle.ship_service.specs.Served.{Serves, ServesObject, ServesMachine, ServesTurn, service}
+use Rattle.ship_service.specs.Telling.{added, RiseTo, TellsEntries, RepliesAreEntries, ReplyIsEntry}
+
+-- what a command adds
+record Tells (old : SeatState) (whats : List OwnEntry) (new : SeatState) : Type 0 where
+  more : List Entry
+  entries : new.view.entries ≡ old.view.entries ++ more
+  tells : map own_entry more ≡ whats
+  stamps : RiseTo old.view.actor old.stamp more new.stamp
+  actor : new.view.actor ≡ old.view.actor
+
+-- ---- one command
+
+nothing : (old new : SeatState) → new.view.entries ≡ old.view.entries → old.stamp ≤ new.stamp → new.view.actor ≡ old.view.actor → Tells old [] new
+nothing old new e s a = record { more = []; entries = e ∙ sym (append-nil old.view.entries); tells = refl; stamps = s; actor = a }
+
+same : (old new : SeatState) → new ≡ old → Tells old [] new
+same old new e = nothing old new (ap (λ (s : SeatState). s.view.entries) e) (let k = ap (λ (s : SeatState). s.stamp) e in omega (arith, k)) (ap (λ (s : SeatState). s.view.actor) e)
+
+learnt : (old new : SeatState) (stamp : ℕ) → new ≡ record old { stamp = max old.stamp stamp } → Tells old [] new
+learnt old new stamp e =
+    nothing old new (ap (λ (s : SeatState). s.view.entries) e)
+    (let k = ap (λ (s : SeatState). s.stamp) e in let l = le-max_left old.stamp stamp in omega (arith, k, l)) (ap (λ (s : SeatState). s.view.actor) e)
+
+-- the view is another, but its entries and its actor
+unmoved : (old new : SeatState) (v : View) → new.stamp ≡ old.stamp → new.view ≡ v → v.entries ≡ old.view.entries → v.actor ≡ old.view.actor → Tells old [] new
+unmoved old new v s e entries actor = nothing old new (ap (λ (u : View). u.entries) e ∙ entries) (omega (arith, s)) (ap (λ (u : View). u.actor) e ∙ actor)
+
+one : (old new : SeatState) (n : ℕ) (deed : Deed) (given : Given) → Does old.view old.stamp n deed given new.view new.stamp
+    → Tells old (record { number = n; deed = deed; given = given } ∷ []) new
+one old new n deed given h = let t = h.2 in let l = le-max_left old.stamp t.0 in record {
+  more = entry old.view.actor new.stamp t.0 n deed given ∷ [];
+  entries = ap (λ (u : View). u.entries) t.3;
+  tells = refl;
+  stamps = (refl, omega (arith, t.1, l), omega arith);
+  actor = ap (λ (u : View). u.actor) t.3;
+}
+
+put_adds : (old new : SeatState) (n offset : ℕ) (bytes : List ℕ) (r : Reach) → Puts old.view old.stamp n offset bytes r new.view new.stamp
+    → Tells old (added (event.Object n (object.Put offset bytes)) (reply_to_put n r)) new
+put_adds old new n offset bytes (reach.Done x) h = one old new n (Writes offset bytes) Nothing h.1
+put_adds old new n offset bytes reach.Away h = unmoved old new _ h.1 h.2 refl refl
+put_adds old new n offset bytes reach.Busy h = unmoved old new _ h.1 h.2 refl refl
+put_adds old new n offset bytes reach.Outside h = unmoved old new _ h.1 h.2 refl refl
+put_adds old new n offset bytes reach.Worn h = unmoved old new _ h.1 h.2.2 refl refl
+
+get_adds : (old new : SeatState) (n offset size : ℕ) (f : Fetched) → Gets old.view old.stamp n offset size f new.view new.stamp
+    → Tells old (added (event.Object n (object.Get offset size)) (reply_to_get n f)) new
+get_adds old new n offset size (fetched.Done bytes) h = one old new n (Reads offset size) (Bytes bytes.items) h
+get_adds old new n offset size fetched.Away h = unmoved old new _ h.1 h.2 refl refl
+get_adds old new n offset size fetched.Busy h = unmoved old new _ h.1 h.2 refl refl
+get_adds old new n offset size fetched.Outside h = unmoved old new _ h.1 h.2 refl refl
+get_adds old new n offset size fetched.Worn h = unmoved old new _ h.1 h.2.2 refl refl
+
+get_tells : (old new : SeatState) (n offset size : ℕ) (told : ServiceReply) → ServesGet old n offset size told new → Tells old (added (event.Object n (object.Get offset size)) told) new
+get_tells old new n offset size told (inl h) = subst (λ r. Tells old (added (event.Object n (object.Get offset size)) r) new) (sym h.told_is) (same old new h.same)
+get_tells old new n offset size told (inr h) = subst (λ r. Tells old (added (event.Object n (object.Get offset size)) r) new) (sym h.told_is) (get_adds old new n offset size h.outcome h.gets)
+
+object_tells : (old new : SeatState) (n : ℕ) (c : ObjectCommand) (told : ServiceReply) → ServesObject old n c told new → Tells old (added (event.Object n c) told) new
+object_tells old new n (object.Put offset bytes) told h =
+    subst (λ r. Tells old (added (event.Object n (object.Put offset bytes)) r) new) (sym h.told_is) (put_adds old new n offset bytes h.outcome h.puts)
+object_tells old new n (object.Get offset size) told h = get_tells old new n offset size told h
+object_tells old new n object.Free told h = same old new h.1
+object_tells old new n (object.Move move.Leave) told h = same old new h.1
+object_tells old new n (object.Move move.Return) told h = same old new h.1
+object_tells old new n (object.Move move.Left) told h = same old new h.1
+object_tells old new n (object.Move move.Returned) told h = same old new h.1
+
+machine_tells : (opening : List (List ℕ)) (starts : List MachineState) (old new : SeatState) (m : ℕ) (c : MachineCommand) (told : ServiceReply)
+    → ServesMachine opening starts old m c told new → Tells old [] new
+machine_tells opening starts old new m c told (inl h) = same old new h.same
+machine_tells opening starts old new m c told (inr h) = go h.answers where
+  go : AnswersLent c old h.before m h.said new h.after → Tells old [] new
+  go (inl t) = same old new t.same
+  go (inr t) = learnt old new _ t.learns
+
+serves_tells : (opening : List (List ℕ)) (starts : List MachineState) (old new : SeatState) (c : Event) (told : ServiceReply)
+    → Serves opening starts old c told new → Tells old (added c told) new
+serves_tells opening starts old new (event.Make size) told h = same old new h.1
+serves_tells opening starts old new (event.Ship start code) told h = same old new h.1
+serves_tells opening starts old new (event.Object n c) told h = object_tells old new n c told h
+serves_tells opening starts old new (event.Machine m c) told h = machine_tells opening starts old new m c told h
+
+-- ---- one after the other
+
+rise_from : (actor low mid high : ℕ) (es : List Entry) → low ≤ mid → RiseTo actor mid es high → RiseTo actor low es high
+rise_from actor low mid high [] h r = omega (arith, h, r)
+rise_from actor low mid high (e ∷ es) h r = let k = r.1 in (r.0, omega (arith, h, k), r.2)
+
+rise_join : (actor low mid high : ℕ) (es fs : List Entry) → RiseTo actor low es mid → RiseTo actor mid fs high → RiseTo actor low (es ++ fs) high
+rise_join actor low mid high [] fs r s = rise_from actor low mid high fs r s
+rise_join actor low mid high (e ∷ es) fs r s = (r.0, r.1, rise_join actor e.stamp mid high es fs r.2 s)
+
+turn_tells : (opening : List (List ℕ)) (starts : List MachineState) (old new : SeatState) (c : Event) (told : ServiceReply) → ServesTurn opening starts old c told new → Tells old (added c told) new
+turn_tells opening starts old new c told h = subst (λ (s : SeatState). Tells old (added c told) s) (sym h.2) (
+    let t = serves_tells opening starts old h.0 c told h.1 in
+    record { more = t.more; entries = t.entries; tells = t.tells; stamps = t.stamps; actor = t.actor })
+
+runs_tell : (opening : List (List ℕ)) (starts : List MachineState) (old new : SeatState) (cs : List Event) (rs : List ServiceReply) → Runs (ServesTurn opening starts) old cs rs new → TellsEntries old cs rs new
+runs_tell opening starts old new [] [] h =
+    let t = same old new h in
+    record { more = t.more; entries = t.entries; tells = t.tells; stamps = t.stamps; actor = t.actor }
+runs_tell opening starts old new (c ∷ cs) (r ∷ rs) h =
+    let mid = h.0 in
+    let t = turn_tells opening starts old mid c r h.1 in
+    let u = runs_tell opening starts mid new cs rs h.2 in
+    record {
+      more = t.more ++ u.more;
+      entries = u.entries ∙ ap (λ l. l ++ u.more) t.entries ∙ append_assoc old.view.entries t.more u.more;
+      tells = map-append own_entry t.more u.more ∙ ap (λ l. l ++ map own_entry u.more) t.tells ∙ ap (λ l. added c r ++ l) u.tells;
+      stamps = rise_join old.view.actor old.stamp mid.stamp new.stamp t.more u.more t.stamps (subst (λ a. RiseTo a mid.stamp u.more new.stamp) t.actor u.stamps);
+      actor = u.actor ∙ t.actor;
+    }
+runs_tell opening starts old new [] (r ∷ rs) h = absurd h
+runs_tell opening starts old new (c ∷ cs) [] h = absurd h
+
+pub replies_are_entries : (opening : List (List ℕ)) (starts : List MachineState) → RepliesAreEntries opening starts
+replies_are_entries opening starts old new input output rest e = runs_tell opening starts old new _ _ e.run
+
+pub reply_is_entry : (opening : List (List ℕ)) (starts : List MachineState) → ReplyIsEntry opening starts
+reply_is_entry opening starts old new line bytes a =
+    let cs = turn_commands (service opening starts) a.0 in
+    let rs = turn_replies (service opening starts) a.0 in
+    runs_tell opening starts old new cs rs
+    (subst (λ l. Runs (ServesTurn opening starts) old cs l new) (append-nil rs)
+    (subst (λ l. Runs (ServesTurn opening starts) old l (rs ++ []) new) (append-nil cs) a.3))

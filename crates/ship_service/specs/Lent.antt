@@ -1,0 +1,75 @@
+-- Commands on machines, on what a cell's lock lends: the connection's seat and the cell before, the reply, and both after.
+use Rattle.std.specs.Prelude.{◌≡◌, ◌≢◌, ◌⊎◌, ℕ, max, List, Some, None}
+use Rattle.loader.specs.ValidCode.{ValidCode}
+use Rattle.loader.specs.Refusals.{HasCodeSize, Refuses}
+use Rattle.loader.specs.declared.loading.Why.TheVariants as why
+use Rattle.machine.specs.MachineState.{granted_start}
+use Rattle.debugger.specs.declared.start.Start.{Start}
+use Rattle.debugger.specs.declared.commands.MachineCommand.{MachineCommand}
+use Rattle.debugger.specs.declared.commands.MachineCommand.TheVariants.{Step, Show, Debug}
+use Rattle.debugger.specs.declared.commands.DebugCommand.{DebugCommand}
+use Rattle.debugger.specs.declared.commands.DebugCommand.TheVariants.{Resume}
+use Rattle.debugger.specs.declared.replies.StepReply.{StepReply}
+use Rattle.debugger.specs.declared.replies.ShowReply.{ShowReply}
+use Rattle.debugger.specs.declared.replies.Debugged.{Debugged}
+use Rattle.debugger.specs.declared.replies.Debugged.TheVariants as debugged
+use Rattle.debugger.specs.Debuggees.{debuggee_start}
+use Rattle.workers.specs.Cells.{SeatState, CellState, RunningState, StepsCell, ShowsCell, DebugsCell}
+use Rattle.workers.specs.Pools.{QueuesCell}
+use Rattle.world.specs.Machines.{reply_to_step, reply_to_show, reply_to_debug}
+use Rattle.world.specs.declared.replies.Reply.{Reply}
+use Rattle.world.specs.declared.replies.Reply.TheVariants as reply
+
+-- ---- stamps
+
+-- the seat learns a stamp
+abbrev pub learning : ℕ → SeatState → SeatState
+learning stamp s = record s { stamp = max s.stamp stamp }
+
+-- the cell as the command finds it: before a step its seat learns the connection's stamp
+abbrev pub informed : MachineCommand → SeatState → CellState → CellState
+informed (Step way) s c = record c { seat = learning s.stamp c.seat }
+informed _ s c = c
+
+-- ---- commands on a machine
+
+-- a machine that was paused and goes on again is put into the queue; no other command queues one
+abbrev pub Requeues : DebugCommand → Debugged → CellState → CellState → Type 0
+Requeues Resume debugged.Done mid after = QueuesCell mid after
+Requeues _ _ mid after = after ≡ mid
+
+-- the reply of machine m, which the cell has, to a command
+abbrev pub AnswersCell : MachineCommand → CellState → ℕ → Reply → CellState → Type 0
+AnswersCell (Step way) before m told after = (outcome : StepReply) × (told ≡ reply_to_step m outcome) × StepsCell way before outcome after
+AnswersCell (Show command) before m told after = (outcome : ShowReply) × (told ≡ reply_to_show m outcome) × ShowsCell command before outcome × (after ≡ before)
+AnswersCell (Debug command) before m told after = (outcome : Debugged) × (told ≡ reply_to_debug outcome)
+    × ((mid : CellState) × DebugsCell command before outcome mid × Requeues command outcome mid after)
+
+-- The cell has a machine, which answers; then the connection's seat learns the stamp of the machine's.
+pub record FindsMachine (command : MachineCommand) (old : SeatState) (before : CellState) (m : ℕ) (told : Reply) (new : SeatState) (after : CellState) : Type 0 where
+  pub answers : AnswersCell command (informed command old before) m told after
+  pub learns : new ≡ learning after.seat.stamp old
+
+-- The cell has no machine: nothing changes.
+pub record MissesMachine (old : SeatState) (before : CellState) (told : Reply) (new : SeatState) (after : CellState) : Type 0 where
+  pub none : before.running ≡ None
+  pub told_is : told ≡ reply.Missing
+  pub same : new ≡ old
+  pub left : after ≡ before
+
+-- a command on what the lock of machine m's cell lends
+abbrev pub AnswersLent : MachineCommand → SeatState → CellState → ℕ → Reply → SeatState → CellState → Type 0
+AnswersLent command old before m told new after = MissesMachine old before told new after ⊎ FindsMachine command old before m told new after
+
+-- ---- ship
+
+-- a machine at the start of its code
+abbrev pub shipped_at : ℕ → List ℕ → Start → RunningState
+shipped_at m code s = record { debuggee = debuggee_start m code s; shipped = Some (granted_start m code s.fuel s.arguments s.grants) }
+
+-- `ship` on what the lock of a cell without a machine lends: the machine that comes is of the cell's number, and is put into the queue
+abbrev pub ShipsCell : Start → List ℕ → CellState → Reply → CellState → Type 0
+ShipsCell start code before (reply.Shipped m) after = (m ≡ before.number) × ValidCode code × QueuesCell (record before { running = Some (shipped_at before.number code start) }) after
+ShipsCell start code before (reply.Refused e) after = Refuses code e.slot e.why × (e.why ≢ why.Memory) × (after ≡ before)
+ShipsCell start code before reply.NoMemory after = HasCodeSize code × (after ≡ before)
+ShipsCell start code before _ after = ⊥

@@ -1,0 +1,9 @@
+pub mod Replies
+pub mod Ranges
+pub mod Lent
+pub mod Served
+pub mod Telling
+pub mod Opening
+pub mod Closing
+pub mod ClosingLines
+pub mod Listening

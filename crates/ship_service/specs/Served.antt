@@ -1,0 +1,130 @@
+-- The service: which reply a command may have at a connection's seat, and what it does to the seat. Of a cell, whose machine
+-- others may step at any time, it is told what its lock lends: what the type of the cell says of it before and after, and
+-- what the command did in between.
+use Rattle.std.specs.Prelude.{◌≡◌, ◌⊎◌, ℕ, zero, suc, ◌+◌, ◌<◌, ◌≤◌, List, Some, None, true, is_some}
+use Rattle.object_store.specs.Stores.{machine_limit}
+use Rattle.shared_objects.specs.Kinds.{shut}
+use Rattle.machine.specs.MachineState.{MachineState}
+use Rattle.debugger.specs.declared.start.Start.{Start}
+use Rattle.debugger.specs.declared.commands.MachineCommand.{MachineCommand}
+use Rattle.workers.specs.Cells.{SeatState, CellState, FitsCell, opened_as}
+use Rattle.world.specs.declared.replies.Reply.{Reply}
+use Rattle.world.specs.declared.replies.Reply.TheVariants as reply
+use Rattle.world.specs.declared.events.Event.{Event}
+use Rattle.world.specs.declared.events.Event.TheVariants as event
+use Rattle.world.specs.declared.events.ObjectCommand.{ObjectCommand}
+use Rattle.world.specs.declared.events.ObjectCommand.TheVariants as object
+use Rattle.world.specs.declared.events.Move.TheVariants as move
+use Rattle.console.specs.Conversations.{Protocol}
+use Rattle.ship_service.specs.declared.replies.ServiceReply.{ServiceReply}
+use Rattle.ship_service.specs.declared.replies.ServiceReply.TheVariants.{Plain, Unserved}
+use Rattle.ship_service.specs.Replies.{service_text}
+use Rattle.ship_service.specs.Ranges.{ServesPut, ServesGet, AsksMover}
+use Rattle.ship_service.specs.Lent.{AnswersLent, ShipsCell}
+
+-- ---- cells
+
+-- What the type of a cell says of what its lock lends: the seat is that of the number's actor, and the machine, if there is
+-- one, is the replay of the seat's entries from its start.
+pub record IsCell (opening : List (List ℕ)) (starts : List MachineState) (number : ℕ) (c : CellState) : Type 0 where
+  pub number_is : c.number ≡ number
+  pub actor_is : c.seat.view.actor ≡ number
+  pub opening_is : c.seat.view.opening ≡ opening
+  pub fits : FitsCell opening starts number c.seat c.running
+
+-- The cell of this number was lent with a machine in it.
+pub record IsTaken (opening : List (List ℕ)) (starts : List MachineState) (number : ℕ) : Type 0 where
+  pub cell : CellState
+  pub is_cell : IsCell opening starts number cell
+  pub taken : is_some cell.running ≡ true
+
+-- So were the cells of the numbers 1 to count.
+abbrev pub AreTaken : List (List ℕ) → List MachineState → ℕ → Type 0
+AreTaken opening starts zero = Unit {0}
+AreTaken opening starts (suc count) = AreTaken opening starts count × IsTaken opening starts (count + 1)
+
+-- ---- machines
+
+-- A command on machine m, on what the lock of its cell lends.
+pub record OnCell (opening : List (List ℕ)) (starts : List MachineState) (old : SeatState) (m : ℕ) (command : MachineCommand) (told : ServiceReply) (new : SeatState) : Type 0 where
+  pub before : CellState
+  pub after : CellState
+  pub said : Reply
+  pub before_is : IsCell opening starts m before
+  pub after_is : IsCell opening starts m after
+  pub told_is : told ≡ Plain said
+  pub answers : AnswersLent command old before m said new after
+
+-- There can be no machine of this number.
+pub record NoCell (old : SeatState) (m : ℕ) (told : ServiceReply) (new : SeatState) : Type 0 where
+  pub none : (1 ≤ m) × (m ≤ machine_limit) → ⊥
+  pub told_is : told ≡ Plain reply.Missing
+  pub same : new ≡ old
+
+-- a command on machine m
+abbrev pub ServesMachine : List (List ℕ) → List MachineState → SeatState → ℕ → MachineCommand → ServiceReply → SeatState → Type 0
+ServesMachine opening starts old m command told new = NoCell old m told new ⊎ OnCell opening starts old m command told new
+
+-- All cells have machines.
+pub record NoRoom (opening : List (List ℕ)) (starts : List MachineState) (told : ServiceReply) : Type 0 where
+  pub told_is : told ≡ Plain reply.Full
+  pub taken : AreTaken opening starts machine_limit
+
+-- The code comes into the first cell without a machine: those of the lesser numbers have one.
+pub record IntoCell (opening : List (List ℕ)) (starts : List MachineState) (start : Start) (code : List ℕ) (told : ServiceReply) : Type 0 where
+  pub lesser : ℕ
+  pub before : CellState
+  pub after : CellState
+  pub said : Reply
+  pub taken : AreTaken opening starts lesser
+  pub exists : lesser < machine_limit
+  pub before_is : IsCell opening starts (lesser + 1) before
+  pub after_is : IsCell opening starts (lesser + 1) after
+  pub empty : before.running ≡ None
+  pub told_is : told ≡ Plain said
+  pub ships : ShipsCell start code before said after
+
+-- `ship`
+abbrev pub ServesShip : List (List ℕ) → List MachineState → Start → List ℕ → ServiceReply → Type 0
+ServesShip opening starts start code told = NoRoom opening starts told ⊎ IntoCell opening starts start code told
+
+-- ---- commands
+
+-- The service doesn't do it.
+abbrev pub IsUnserved : SeatState → ServiceReply → SeatState → Type 0
+IsUnserved old told new = (told ≡ Unserved) × (new ≡ old)
+
+-- a command on object n
+abbrev pub ServesObject : SeatState → ℕ → ObjectCommand → ServiceReply → SeatState → Type 0
+ServesObject old n object.Free told new = IsUnserved old told new
+ServesObject old n (object.Put offset bytes) told new = ServesPut old n offset bytes told new
+ServesObject old n (object.Get offset size) told new = ServesGet old n offset size told new
+ServesObject old n (object.Move move.Leave) told new = AsksMover old.view.opening n told × (new ≡ old)
+ServesObject old n (object.Move move.Return) told new = AsksMover old.view.opening n told × (new ≡ old)
+ServesObject old n (object.Move move.Left) told new = IsUnserved old told new
+ServesObject old n (object.Move move.Returned) told new = IsUnserved old told new
+
+-- what a command is answered, and what it does to the seat
+abbrev pub Serves : List (List ℕ) → List MachineState → SeatState → Event → ServiceReply → SeatState → Type 0
+Serves opening starts old (event.Make size) told new = IsUnserved old told new
+Serves opening starts old (event.Ship start code) told new = ServesShip opening starts start code told × (new ≡ old)
+Serves opening starts old (event.Object n command) told new = ServesObject old n command told new
+Serves opening starts old (event.Machine m command) told new = ServesMachine opening starts old m command told new
+
+-- no scope is open
+abbrev pub shut_seat : SeatState → SeatState
+shut_seat s = record s { view = shut s.view }
+
+-- After each command the seat's scopes are closed.
+abbrev pub ServesTurn : List (List ℕ) → List MachineState → SeatState → Event → ServiceReply → SeatState → Type 0
+ServesTurn opening starts old command told new = (mid : SeatState) × Serves opening starts old command told mid × (new ≡ shut_seat mid)
+
+-- the protocol of a service whose table was opened with these bytes and these machines: its states are what the connection's
+-- seat knows
+abbrev pub service : List (List ℕ) → List MachineState → Protocol
+service opening starts = record { State = SeatState; Reply = ServiceReply; step = ServesTurn opening starts; text = service_text }
+
+-- Of a machine that was there when the table was opened no command is answered that there is none.
+abbrev pub OpenedMachinesStay : List (List ℕ) → List MachineState → Type 0
+OpenedMachinesStay opening starts = (old new : SeatState) (m : ℕ) (command : MachineCommand) (start : MachineState) → 1 ≤ m → m ≤ machine_limit → opened_as starts m ≡ Some start
+    → ServesMachine opening starts old m command (Plain reply.Missing) new → ⊥

@@ -1,0 +1,95 @@
+//! Commands on machines by their numbers, each under the lock of the machine's cell.
+ghost use Rattle.std.specs.Prelude.{◌≡◌, ◌≤◌, ◌<◌, ◌+◌, ℕ, None, IfSome, IfNone};
+ghost use Rattle.std.specs.Sync.Mutex.{mutex_guard_value};
+ghost use Rattle.object_store.specs.Stores.{machine_limit};
+ghost use Rattle.workers.specs.Cells.{seat_state};
+ghost use Rattle.ship_service.specs.Served.{IsCell, AreTaken, ServesMachine, ServesShip};
+
+use crate::lent::{answer_lent, ship_lent};
+use crate::replies::ServiceReply;
+use crate::shared_agent::Agent;
+use debugger::{MachineCommand, Start};
+use far_store::FarStore;
+use object_store::MACHINE_LIMIT;
+use shared_objects::ActorSeat;
+use std::alloc::Global;
+use std::sync::{MutexGuard, Wait};
+use workers::{Locked, Mark};
+use world::Reply;
+
+/// The lock of the cell of this number, if there can be such a machine.
+fn lend<'a, F: FarStore, K: Mark, R: Wait>(
+    rt: &R,
+    agent: &'a Agent<F, K>,
+    machine: usize,
+) -> Option<MutexGuard<'a, Locked<K>>>
+    ensures some { IfSome result (λ guard. IsCell K.opening K.starts machine (mutex_guard_value guard)) }
+    ensures none { IfNone result ((1 ≤ machine) × (machine ≤ machine_limit) → ⊥) }
+{
+    let cell = agent.pool().cell(machine)?;
+    // the first round is the last, since the cells stand in the order of their numbers: of a lock no type can say which it is
+    for _ in rt.forever() {
+        let locked = cell.lock(rt);
+        locked.fact();
+        if locked.number() == machine {
+            return Some(locked);
+        }
+    }
+    unreachable!()
+}
+
+/// Does a command on the machine of a number, if there is one.
+pub(crate) fn answer_machine<F: FarStore, K: Mark, R: Wait>(
+    rt: &R,
+    alloc: Global,
+    agent: &Agent<F, K>,
+    seat: &mut ActorSeat,
+    machine: usize,
+    command: MachineCommand,
+) -> ServiceReply
+    ensures seat { seat.new.seat ≡ seat.old.seat }
+    ensures serves { ServesMachine K.opening K.starts (seat_state seat.old) machine command result (seat_state seat.new) }
+{
+    let Some(mut locked) = lend(rt, agent, machine) else {
+        return ServiceReply::Plain(Reply::Missing);
+    };
+    let said = answer_lent(rt, alloc, agent.pool(), &mut locked, seat, machine, command);
+    locked.fact();
+    ServiceReply::Plain(said)
+}
+
+/// The lock of the first cell that has no machine.
+fn lend_empty<'a, F: FarStore, K: Mark, R: Wait>(
+    rt: &R,
+    agent: &'a Agent<F, K>,
+) -> Option<MutexGuard<'a, Locked<K>>>
+    ensures some { IfSome result (λ guard. (lesser : ℕ) × AreTaken K.opening K.starts lesser × (lesser < machine_limit)
+        × IsCell K.opening K.starts (lesser + 1) (mutex_guard_value guard) × ((mutex_guard_value guard).running ≡ None)) }
+    ensures none { IfNone result (AreTaken K.opening K.starts machine_limit) }
+{
+    for lesser in 0..MACHINE_LIMIT {
+        let locked = lend(rt, agent, lesser + 1)?;
+        if !locked.has_machine() {
+            return Some(locked);
+        }
+    }
+    None
+}
+
+/// Makes the code a machine, in the first cell that has none.
+pub(crate) fn ship<F: FarStore, K: Mark, R: Wait>(
+    rt: &R,
+    alloc: Global,
+    agent: &Agent<F, K>,
+    start: Start,
+    code: &[u8],
+) -> ServiceReply
+    ensures { ServesShip K.opening K.starts start code.now result }
+{
+    let Some(mut locked) = lend_empty(rt, agent) else {
+        return ServiceReply::Plain(Reply::Full);
+    };
+    let said = ship_lent(rt, alloc, agent.pool(), &mut locked, start, code);
+    locked.fact();
+    ServiceReply::Plain(said)
+}

@@ -1,0 +1,56 @@
+//! Connections.
+ghost use Rattle.std.specs.Prelude.{◌≡◌, IfOk};
+ghost use Rattle.console.specs.Held.{nothing_held};
+ghost use Rattle.workers.specs.Cells.{IsSeatOf};
+
+use console::Console;
+use shared_objects::ActorSeat;
+use std::alloc::{AllocError, Global};
+use std::marker::PhantomData;
+use workers::Mark;
+
+/// A connection: its seat, and the line that is coming.
+#[derive(Drop)]
+pub struct Connection<K: Mark> {
+    pub(crate) post: Post<K>,
+    pub(crate) console: Console,
+}
+
+/// The seat of a connection, which answers its commands.
+#[derive(Drop)]
+pub struct Post<K: Mark> {
+    pub(crate) alloc: Global,
+    pub(crate) seat: ActorSeat,
+    of: PhantomData<K>,
+    pub ghost seated: { IsSeatOf K.table K.opening seat },
+}
+
+impl<K: Mark> Connection<K> {
+    /// One with this seat. All the memory that it needs for lines is taken here.
+    pub fn new(alloc: Global, seat: ActorSeat) -> Result<Self, AllocError>
+        requires { IsSeatOf K.table K.opening seat }
+        ensures { IfOk result (λ c. (c.post.seat ≡ seat) × (c.console ≡ nothing_held)) }
+    {
+        let console = Console::new(alloc)?;
+        let post = Post {
+            alloc,
+            seat,
+            of: PhantomData,
+        };
+        Ok(Connection { post, console })
+    }
+
+    /// Gives the seat back.
+    pub fn into_seat(self) -> ActorSeat
+        ensures same { result ≡ self.post.seat }
+        ensures of { IsSeatOf K.table K.opening result }
+    {
+        let Connection { post, console: _ } = self;
+        let Post {
+            alloc: _,
+            seat,
+            of: _,
+        } = post;
+        seat
+    }
+}

@@ -1,0 +1,28 @@
+//! What the definitions say, apart from any call.
+ghost use Rattle.ship_service.specs.Closing.{MachinesReplayTheList};
+ghost use Rattle.ship_service.specs.Served.{OpenedMachinesStay};
+ghost use Rattle.ship_service.specs.Telling.{RepliesAreEntries, ReplyIsEntry};
+
+use far_store::FarStore;
+use workers::Mark;
+
+/// In a conversation the `ok` of `put` and the `bytes` of `get` are, in order, the answers of the entries that are added at
+/// the connection's seat.
+pub fn replies_are_entries<K: Mark>()
+    ensures { RepliesAreEntries K.opening K.starts }
+{}
+
+/// So it is for a line whose reply is written in part.
+pub fn reply_is_entry<K: Mark>()
+    ensures { ReplyIsEntry K.opening K.starts }
+{}
+
+/// A machine that was there when the table was opened is never answered to be none.
+pub fn opened_machines_stay<K: Mark>()
+    ensures { OpenedMachinesStay K.opening K.starts }
+{}
+
+/// Each machine that a closed service leaves is the replay of its own share of the one list.
+pub fn machines_replay_the_list<F: FarStore, K: Mark>()
+    ensures { MachinesReplayTheList F F.RETURNS K.table K.opening K.starts }
+{}

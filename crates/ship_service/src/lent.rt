@@ -1,0 +1,137 @@
+//! Commands on machines, on what the lock of a cell lends.
+ghost use Rattle.std.specs.Prelude.{◌≡◌, None};
+ghost use Rattle.debugger.specs.declared.commands.MachineCommand.{MachineCommand};
+ghost use Rattle.workers.specs.Cells.{IsTableOf, seat_state};
+ghost use Rattle.ship_service.specs.Lent.{AnswersLent, Requeues, ShipsCell};
+
+use debugger::{DebugCommand, Debugged, MachineCommand, ShowCommand, Start, Way};
+use far_store::FarStore;
+use loader::{Why, load};
+use shared_objects::{ActorSeat, SharedTable};
+use std::alloc::Global;
+use std::sync::Wait;
+use workers::{Locked, Mark, Pool};
+use world::Reply;
+
+/// One step of the cell's machine, whose seat learns this seat's stamp before it, and this one that one's after it.
+fn step<K: Mark>(
+    table: &SharedTable,
+    locked: &mut Locked<K>,
+    seat: &mut ActorSeat,
+    machine: usize,
+    way: Way,
+) -> Reply
+    requires { IsTableOf K.table K.opening table.now }
+    ensures seat { seat.new.seat ≡ seat.old.seat }
+    ensures answers { AnswersLent (MachineCommand.Step way) (seat_state seat.old) locked.old machine result (seat_state seat.new) locked.new }
+{
+    if !locked.has_machine() {
+        return Reply::Missing;
+    }
+    locked.learn(seat.stamp());
+    match locked.step(table, way) {
+        Some(reply) => {
+            seat.learn(locked.stamp());
+            Reply::to_step(machine, reply)
+        }
+        None => unreachable!(),
+    }
+}
+
+/// Shows something of the cell's machine, whose stamp the seat learns.
+fn show<K: Mark>(
+    alloc: Global,
+    locked: &Locked<K>,
+    seat: &mut ActorSeat,
+    machine: usize,
+    command: ShowCommand,
+) -> Reply
+    ensures seat { seat.new.seat ≡ seat.old.seat }
+    ensures answers { AnswersLent (MachineCommand.Show command) (seat_state seat.old) locked.now machine result (seat_state seat.new) locked.now }
+{
+    let Some(reply) = locked.show(alloc, command) else {
+        return Reply::Missing;
+    };
+    seat.learn(locked.stamp());
+    Reply::to_show(machine, reply)
+}
+
+/// Puts the number of a machine that goes on again into the queue.
+fn requeue<F: FarStore, K: Mark, R: Wait>(
+    rt: &R,
+    pool: &Pool<F, K>,
+    locked: &mut Locked<K>,
+    command: DebugCommand,
+    done: Debugged,
+)
+    ensures { Requeues command done locked.old locked.new }
+{
+    if let (DebugCommand::Resume, Debugged::Done) = (command, done) {
+        pool.queue(rt, locked);
+    }
+}
+
+/// Does a command of the debugger on the cell's machine, whose stamp the seat learns.
+fn debug<F: FarStore, K: Mark, R: Wait>(
+    rt: &R,
+    pool: &Pool<F, K>,
+    locked: &mut Locked<K>,
+    seat: &mut ActorSeat,
+    machine: usize,
+    command: DebugCommand,
+) -> Reply
+    ensures seat { seat.new.seat ≡ seat.old.seat }
+    ensures answers { AnswersLent (MachineCommand.Debug command) (seat_state seat.old) locked.old machine result (seat_state seat.new) locked.new }
+{
+    let Some(done) = locked.debug(command) else {
+        return Reply::Missing;
+    };
+    requeue(rt, pool, locked, command, done);
+    seat.learn(locked.stamp());
+    Reply::to_debug(done)
+}
+
+/// Does a command on the machine of the cell, if it has one.
+pub(crate) fn answer_lent<F: FarStore, K: Mark, R: Wait>(
+    rt: &R,
+    alloc: Global,
+    pool: &Pool<F, K>,
+    locked: &mut Locked<K>,
+    seat: &mut ActorSeat,
+    machine: usize,
+    command: MachineCommand,
+) -> Reply
+    ensures seat { seat.new.seat ≡ seat.old.seat }
+    ensures answers { AnswersLent command (seat_state seat.old) locked.old machine result (seat_state seat.new) locked.new }
+{
+    match command {
+        MachineCommand::Step(way) => step(pool.table(), locked, seat, machine, way),
+        MachineCommand::Show(command) => show(alloc, locked, seat, machine, command),
+        MachineCommand::Debug(command) => debug(rt, pool, locked, seat, machine, command),
+    }
+}
+
+/// Makes the code a machine of the cell, and puts it into the queue.
+pub(crate) fn ship_lent<F: FarStore, K: Mark, R: Wait>(
+    rt: &R,
+    alloc: Global,
+    pool: &Pool<F, K>,
+    locked: &mut Locked<K>,
+    start: Start,
+    code: &[u8],
+) -> Reply
+    requires { locked.old.running ≡ None }
+    ensures { ShipsCell start code.now locked.old result locked.new }
+{
+    match load(alloc, code) {
+        Ok(program) => {
+            locked.ship(program, start);
+            pool.queue(rt, locked);
+            Reply::Shipped {
+                machine: locked.number(),
+            }
+        }
+        Err(error) if error.why == Why::Memory => Reply::NoMemory,
+        Err(error) => Reply::Refused(error),
+    }
+}

@@ -1,0 +1,30 @@
+//! The service: conversations of many connections over one table of objects and the machines that work on them.
+#![tactic(auto)]
+
+mod cells;
+mod closing;
+mod closing_lines;
+mod connection;
+mod laws;
+mod lent;
+mod listening;
+mod opened;
+mod ranges;
+mod replies;
+mod serving;
+mod shared_agent;
+mod texts;
+mod threads;
+
+pub use closing::Closed;
+pub use closing_lines::{print_machine, print_object, write_closing_lines};
+pub use connection::{Connection, Post};
+pub use laws::{
+    machines_replay_the_list, opened_machines_stay, replies_are_entries, reply_is_entry,
+};
+pub use listening::{ListenFault, listen};
+pub use opened::{CONNECTION_LIMIT, OpenAgent, Opened};
+pub use replies::ServiceReply;
+pub use serving::{Service, serve};
+pub use shared_agent::Agent;
+pub use threads::{Plan, Served, ThreadFault, serve_all};

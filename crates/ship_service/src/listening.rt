@@ -1,0 +1,148 @@
+//! A service that listens.
+ghost use Rattle.std.specs.Prelude.{◌≡◌, ◌+◌, length, OnErr, OnOk, IfOk};
+ghost use Rattle.std.specs.Io.KnownBytes.{Appends};
+ghost use Rattle.streams.specs.Streams.{AppendsPart};
+ghost use Rattle.object_store.specs.Stores.{machine_limit};
+ghost use Rattle.ship_service.specs.Listening.{FindsHere, OpensAll, SaysAs, SaysClosing, TellsClosing, TellsClosingOf, listening_line};
+ghost use Rattle.ship_service.specs.Opening.{IsNamed};
+
+use crate::closing_lines::write_closing_lines;
+use crate::connection::Connection;
+use crate::opened::{OpenAgent, Opened};
+use crate::shared_agent::Agent;
+use crate::texts::{closed_line, listening};
+use crate::threads::{Plan, ThreadFault, serve_all};
+use far_store::FarStore;
+use std::alloc::Global;
+use std::io::Write;
+use std::marker::Brand;
+use std::net::TcpListener;
+use std::sync::Wait;
+use std::thread::Threads;
+use streams::{WriteFault, put_all};
+use thiserror::Error;
+use workers::{Mark, Mover};
+use world::World;
+
+/// Why a service ended otherwise than with its connections.
+#[derive(Clone, Copy, Drop, Debug, PartialEq, Eq, Error)]
+pub enum ListenFault {
+    /// The object of this number isn't here, the least one.
+    #[error("object {0} isn't here")]
+    NotHere(u32),
+    /// Out of memory, or a thread can't be made.
+    #[error("no memory")]
+    Memory,
+    /// A connection can't be accepted.
+    #[error("net fault")]
+    Net,
+    /// The output failed.
+    #[error("write fault")]
+    Write,
+}
+
+/// Says which port is listened on.
+fn announce<W: Write>(port: u16, writer: &mut W) -> Result<(), WriteFault>
+    ensures ok { OnOk result (Appends (W.contents writer.old) (W.contents writer.new) (listening_line port)) }
+    ensures err { OnErr result (AppendsPart (W.contents writer.old) (W.contents writer.new) (listening_line port)) }
+{
+    put_all(writer, &listening(port))
+}
+
+/// Closes with all its connections, and says what is left.
+fn close<F: FarStore + Drop, K: Mark, W: Write>(
+    alloc: Global,
+    writer: &mut W,
+    agent: Agent<F, K>,
+    connections: Vec<Connection<K>>,
+    mover: Mover<F, K>,
+) -> Result<(), ListenFault>
+    requires all { K.seats ≡ machine_limit + length connections.items }
+    ensures { SaysClosing (TellsClosing F F.RETURNS K.table K.opening K.starts) (W.contents writer.old) (W.contents writer.new) result }
+{
+    let Ok(closed) = agent.close(alloc, connections, mover) else {
+        return Err(ListenFault::Memory);
+    };
+    let Ok(()) = put_all(writer, closed_line()) else {
+        return Err(ListenFault::Write);
+    };
+    let Ok(()) = write_closing_lines(writer, &closed) else {
+        return Err(ListenFault::Write);
+    };
+    Ok(())
+}
+
+/// Serves what was opened.
+fn listen_opened<
+    F: FarStore + Drop + Send + Sync,
+    K: Mark + Send + Sync,
+    W: Write,
+    R: Threads + Wait + Sync,
+>(
+    rt: &R,
+    alloc: Global,
+    listener: TcpListener,
+    writer: &mut W,
+    opened: Opened<F>,
+    plan: Plan,
+) -> Result<(), ListenFault>
+where
+    F::Parcel: Send,
+    requires { IsNamed K.table K.opening K.starts K.seats opened.shared.table opened.machines.items }
+    ensures says { SaysAs (TellsClosing F F.RETURNS K.table K.opening K.starts) (W.contents writer.old) (W.contents writer.new) result }
+    ensures here { OpensAll result }
+{
+    let Ok(address) = listener.local_addr() else {
+        return Err(ListenFault::Net);
+    };
+    let Ok((agent, connections, mut mover)) = Agent::<F, K>::open(rt, alloc, opened) else {
+        return Err(ListenFault::Memory);
+    };
+    let Ok(()) = announce(address.port(), writer) else {
+        return Err(ListenFault::Write);
+    };
+    let Ok(served) = serve_all(rt, alloc, &agent, connections, &mut mover, &listener, plan) else {
+        return Err(ListenFault::Memory);
+    };
+    match served.outcome {
+        Ok(()) => {}
+        Err(ThreadFault::Net) => return Err(ListenFault::Net),
+        Err(ThreadFault::Memory) => return Err(ListenFault::Memory),
+    }
+    close(alloc, writer, agent, served.connections, mover)
+}
+
+/// Shares the objects and machines of a world, which all have to be here, with so many connections, at most eight, on a
+/// listener that was bound: says on the writer which port it listens on, serves each connection on a thread of its own
+/// beside so many workers and a mover, and when all have ended closes and says what is left: a line for each object, in order,
+/// and then the `regs` line of each machine. With `sweep` the mover takes objects away of its own accord.
+///
+/// What goes wrong with a connection ends that connection alone. Where one can't be accepted or a thread can't be made,
+/// connections, workers and mover end first.
+pub fn listen<F: FarStore + Drop + Send + Sync, W: Write, R: Threads + Wait + Sync>(
+    rt: &R,
+    alloc: Global,
+    listener: TcpListener,
+    writer: &mut W,
+    world: World<F>,
+    connections: usize,
+    workers: usize,
+    sweep: bool,
+) -> Result<(), ListenFault>
+where
+    F::Parcel: Send,
+    ensures says { SaysAs (TellsClosingOf F F.RETURNS world) (W.contents writer.old) (W.contents writer.new) result }
+    ensures here { FindsHere world.store.places result }
+{
+    let opened = match Opened::new(alloc, world) {
+        Ok(opened) => opened,
+        Err(OpenAgent::NotHere(number)) => return Err(ListenFault::NotHere(number)),
+        Err(OpenAgent::Memory) => return Err(ListenFault::Memory),
+    };
+    let plan = Plan {
+        connections,
+        workers,
+        sweep,
+    };
+    listen_opened::<F, Brand, W, R>(rt, alloc, listener, writer, opened, plan)
+}

@@ -1,0 +1,161 @@
+//! A world is opened for many connections.
+ghost use Rattle.std.specs.Prelude.{◌≡◌, ◌≤◌, ◌+◌, length, map, All, IfOk, IfErr, OnOk};
+ghost use Rattle.console.specs.Held.{nothing_held};
+ghost use Rattle.object_store.specs.Parts.{AllHere};
+ghost use Rattle.object_store.specs.Stores.{machine_limit};
+ghost use Rattle.memory.specs.Objects.{object_limit};
+ghost use Rattle.shared_objects.specs.Kinds.{dealer};
+ghost use Rattle.shared_objects.specs.Opened.{AreFresh, seated};
+ghost use Rattle.shared_objects.specs.Opening.{opening_bytes};
+ghost use Rattle.shared_objects.specs.Tables.{IsActorOf, IsMoverOf, table_opening};
+ghost use Rattle.workers.specs.Cells.{IsSeatOf};
+ghost use Rattle.ship_service.specs.Opening.{AreFreshSeats, IsNamed, RefusesWorld, connection_limit, first_mover, opened_bytes, seat_count};
+
+use crate::connection::Connection;
+use crate::shared_agent::Agent;
+use debugger::Debuggee;
+use far_store::FarStore;
+use object_store::{MACHINE_LIMIT, PartsError};
+use shared_objects::{ActorSeat, MoverSeat, OpenFault, Shared};
+use std::alloc::{AllocError, Global};
+use std::sync::Wait;
+use thiserror::Error;
+use workers::{Mark, Mover, Pool};
+use world::{World, WorldParts};
+
+/// How many connections there are: this project's choice.
+pub const CONNECTION_LIMIT: usize = 8;
+
+/// How many actors have seats: the machines, and then the connections.
+const SEAT_COUNT: usize = MACHINE_LIMIT + CONNECTION_LIMIT;
+
+/// Why no agent is opened. What it was to be opened with is dropped.
+#[derive(Clone, Copy, Drop, Debug, PartialEq, Eq, Error)]
+pub enum OpenAgent {
+    /// The object of this number isn't here, the least one.
+    #[error("object {0} isn't here")]
+    NotHere(u32),
+    /// Out of memory.
+    #[error("no memory")]
+    Memory,
+}
+
+/// What a world became: a table of its objects that nobody uses yet, with the seats of all who will, its machines, and its far
+/// store.
+#[derive(Drop)]
+pub struct Opened<F: FarStore> {
+    shared: Shared<F>,
+    // those of the machines, and then those of the connections
+    seats: Vec<ActorSeat>,
+    mover: MoverSeat,
+    machines: Vec<Debuggee>,
+    store: F,
+    pub ghost fresh: { AreFresh (dealer F.RETURNS (table_opening shared.table)) seats.items × All (IsActorOf shared.table) seats.items },
+    pub ghost all: { length seats.items ≡ seat_count },
+    pub ghost moving: { IsMoverOf shared.table mover × (mover.seat.me.0 ≡ seated seat_count (dealer F.RETURNS (table_opening shared.table))) },
+    pub ghost few: { length machines.items ≤ machine_limit },
+}
+
+/// The parts of a world, with its objects as a table.
+fn open_parts<F: FarStore + Drop>(
+    alloc: Global,
+    parts: WorldParts<F>,
+) -> Result<Opened<F>, OpenFault>
+    requires few { (length parts.machines.items ≤ machine_limit) × (length parts.bodies.items ≤ object_limit) }
+    ensures opening { IfOk result (λ opened. table_opening opened.shared.table ≡ opening_bytes parts.bodies) }
+    ensures machines { IfOk result (λ opened. opened.machines ≡ parts.machines) }
+    ensures store { IfOk result (λ opened. opened.store ≡ parts.store) }
+{
+    let WorldParts {
+        machines,
+        bodies,
+        store,
+    } = parts;
+    let (shared, seats, mover) = Shared::open(alloc, bodies, SEAT_COUNT)?;
+    Ok(Opened {
+        shared,
+        seats,
+        mover,
+        machines,
+        store,
+    })
+}
+
+impl<F: FarStore + Drop> Opened<F> {
+    /// Opens a table of the world's objects, which all have to be here. A number whose object was freed has no bytes; where no
+    /// object was ever made, the table has one body without bytes. The machines and their debug states stay as they are; no scope
+    /// is open. On a refusal all is dropped.
+    pub fn new(alloc: Global, world: World<F>) -> Result<Opened<F>, OpenAgent>
+        ensures here { OnOk result (AllHere world.store.places) }
+        ensures opening { IfOk result (λ opened. table_opening opened.shared.table ≡ opened_bytes world) }
+        ensures machines { IfOk result (λ opened. opened.machines.items ≡ world.machines) }
+        ensures store { IfOk result (λ opened. world.store.faults ≤ F.faults_of opened.store) }
+        ensures refused { IfErr result (λ why. RefusesWorld world why) }
+    {
+        let parts = match world.into_parts() {
+            Ok(parts) => parts,
+            Err(PartsError::NotHere(number)) => return Err(OpenAgent::NotHere(number)),
+            Err(PartsError::Memory) => return Err(OpenAgent::Memory),
+        };
+        match open_parts(alloc, parts) {
+            Ok(opened) => Ok(opened),
+            Err(_) => Err(OpenAgent::Memory),
+        }
+    }
+}
+
+/// A connection with each of these seats, in order.
+fn connections_of<K: Mark>(
+    alloc: Global,
+    seats: Vec<ActorSeat>,
+) -> Result<Vec<Connection<K>>, AllocError>
+    requires { All (IsSeatOf K.table K.opening) seats.items }
+    ensures seats { IfOk result (λ connections. map (λ c. c.post.seat) connections.items ≡ seats.items) }
+    ensures empty { IfOk result (λ connections. All (λ c. c.console ≡ nothing_held) connections.items) }
+{
+    let mut connections = Vec::new(alloc);
+    for seat in seats {
+        connections.push(Connection::new(alloc, seat)?)?;
+    }
+    Ok(connections)
+}
+
+impl<F: FarStore + Drop, K: Mark> Agent<F, K> {
+    /// The agent of what was opened, its connections, and the mover of its table. The machines have their cells, in order; those
+    /// that are neither paused nor stopped are queued. Each connection has a seat of its own, which has seen and done nothing,
+    /// and the mover has no parcel. On a refusal all is dropped.
+    pub fn open<R: Wait>(
+        rt: &R,
+        alloc: Global,
+        opened: Opened<F>,
+    ) -> Result<(Agent<F, K>, Vec<Connection<K>>, Mover<F, K>), OpenAgent>
+        requires { IsNamed K.table K.opening K.starts K.seats opened.shared.table opened.machines.items }
+        ensures agent { IfOk result (λ r. r.0.pool.shared ≡ opened.shared) }
+        ensures seats { IfOk result (λ r. AreFreshSeats K.table F.RETURNS K.opening (machine_limit + 1) (map (λ c. c.post.seat) r.1.items)) }
+        ensures connections { IfOk result (λ r. (length r.1.items ≡ connection_limit) × All (λ c. c.console ≡ nothing_held) r.1.items) }
+        ensures mover { IfOk result (λ r. r.2 ≡ first_mover F.RETURNS K.opening opened.store) }
+        ensures refused { IfErr result (λ why. why ≡ OpenAgent.Memory) }
+    {
+        let Opened {
+            shared,
+            mut seats,
+            mover,
+            machines,
+            store,
+        } = opened;
+        let Ok(posts) = seats.split_off(MACHINE_LIMIT) else {
+            return Err(OpenAgent::Memory);
+        };
+        let Ok(connections) = connections_of(alloc, posts) else {
+            return Err(OpenAgent::Memory);
+        };
+        let Ok(mover) = Mover::new(alloc, mover, store) else {
+            return Err(OpenAgent::Memory);
+        };
+        mover.fact();
+        match Pool::new(rt, alloc, shared, seats, machines) {
+            Ok(pool) => Ok((Agent::new(pool), connections, mover)),
+            Err(_) => Err(OpenAgent::Memory),
+        }
+    }
+}

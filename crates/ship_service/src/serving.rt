@@ -1,0 +1,120 @@
+//! Conversations with the service.
+ghost use Rattle.std.specs.Prelude.{◌≡◌, OnOk, IfSome};
+ghost use Rattle.std.specs.Result.{IsErrOf};
+ghost use Rattle.console.specs.Held.{nothing_held};
+ghost use Rattle.console.specs.Conversations.{AnswersAll, StopsReading, StopsWriting};
+ghost use Rattle.workers.specs.Cells.{IsSeatOf, seat_state};
+ghost use Rattle.ship_service.specs.Served.{Serves, ServesObject, service};
+
+use crate::cells::{answer_machine, ship};
+use crate::connection::{Connection, Post};
+use crate::ranges::{ask, get, put};
+use crate::replies::{ServiceReply, print_service_reply};
+use crate::shared_agent::Agent;
+use console::{Answerer, DriveFault, ReplyLine, converse};
+use far_store::FarStore;
+use shared_objects::ActorSeat;
+use std::alloc::Global;
+use std::io::{Read, Write};
+use std::sync::Wait;
+use workers::{Direction, Mark};
+use world::{Event, Move, ObjectCommand};
+
+/// What all connections share, and the runtime by which one may wait for a machine that is being stepped.
+#[derive(Drop)]
+pub struct Service<'a, R, F: FarStore, K: Mark> {
+    rt: &'a R,
+    agent: &'a Agent<F, K>,
+}
+
+/// Does a command on an object.
+fn answer_object<F: FarStore, K: Mark, R: Wait>(
+    rt: &R,
+    agent: &Agent<F, K>,
+    seat: &mut ActorSeat,
+    object: u32,
+    command: ObjectCommand,
+) -> ServiceReply
+    requires { IsSeatOf K.table K.opening seat.old }
+    ensures of { IsSeatOf K.table K.opening seat.new }
+    ensures serves { ServesObject (seat_state seat.old) object command result (seat_state seat.new) }
+{
+    let pool = agent.pool();
+    match command {
+        ObjectCommand::Put { offset, bytes } => {
+            put(pool.table(), seat, object, offset, bytes.as_slice())
+        }
+        ObjectCommand::Get { offset, length } => get(pool.table(), seat, object, offset, length),
+        ObjectCommand::Move(Move::Leave) => ask(rt, pool, object, Direction::Leave),
+        ObjectCommand::Move(Move::Return) => ask(rt, pool, object, Direction::Return),
+        _ => ServiceReply::Unserved,
+    }
+}
+
+/// Does a command.
+fn answer<F: FarStore, K: Mark, R: Wait>(
+    rt: &R,
+    alloc: Global,
+    agent: &Agent<F, K>,
+    seat: &mut ActorSeat,
+    event: Event,
+) -> ServiceReply
+    requires { IsSeatOf K.table K.opening seat.old }
+    ensures of { IsSeatOf K.table K.opening seat.new }
+    ensures serves { Serves K.opening K.starts (seat_state seat.old) event result (seat_state seat.new) }
+{
+    match event {
+        Event::Make { .. } => ServiceReply::Unserved,
+        Event::Ship { start, code } => ship(rt, alloc, agent, start, code.as_slice()),
+        Event::Object { object, command } => answer_object(rt, agent, seat, object, command),
+        Event::Machine { machine, command } => {
+            answer_machine(rt, alloc, agent, seat, machine, command)
+        }
+    }
+}
+
+impl<'a, R: Wait, F: FarStore, K: Mark> Answerer<Service<'a, R, F, K>> for Post<K> {
+    ghost use Rattle.workers.specs.Cells.{seat_state};
+    ghost use Rattle.ship_service.specs.Served.{service};
+
+    ghost protocol = { service K.opening K.starts };
+
+    ghost state = { λ post. seat_state post.seat };
+
+    fn perform(&mut self, shared: &Service<'a, R, F, K>, event: Event, reply: &mut ReplyLine) {
+        let pool = shared.agent.pool();
+        let told = answer(shared.rt, self.alloc, shared.agent, &mut self.seat, event);
+        pool.table().close_scopes(&mut self.seat);
+        if let Some(object) = told.missed() {
+            pool.request(shared.rt, object, Direction::Return);
+        }
+        print_service_reply(&told, reply);
+    }
+}
+
+/// Answers each line of one connection, from its first byte to its end. What an earlier conversation left of a line is
+/// dropped.
+pub fn serve<F: FarStore, K: Mark, R: Wait, I: Read, O: Write>(
+    rt: &R,
+    reader: &mut I,
+    writer: &mut O,
+    agent: &Agent<F, K>,
+    connection: &mut Connection<K>,
+) -> Result<(), DriveFault>
+    ensures ok { OnOk result (IfSome (I.remaining reader.old) (λ input.
+        AnswersAll (service K.opening K.starts) (seat_state connection.old.post.seat) input (O.contents writer.old) (O.contents writer.new) (seat_state connection.new.post.seat))) }
+    ensures read { IsErrOf result DriveFault.Read → IfSome (I.remaining reader.old) (λ input.
+        StopsReading (service K.opening K.starts) (seat_state connection.old.post.seat) input (O.contents writer.old) (O.contents writer.new) (seat_state connection.new.post.seat) connection.new.console (I.remaining reader.new)) }
+    ensures write { IsErrOf result DriveFault.Write → IfSome (I.remaining reader.old) (λ input.
+        StopsWriting (service K.opening K.starts) (seat_state connection.old.post.seat) input (O.contents writer.old) (O.contents writer.new) (seat_state connection.new.post.seat) (I.remaining reader.new)) }
+{
+    connection.console.clear();
+    let service = Service { rt, agent };
+    converse(
+        reader,
+        writer,
+        &mut connection.console,
+        &service,
+        &mut connection.post,
+    )
+}

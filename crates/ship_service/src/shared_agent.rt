@@ -1,0 +1,38 @@
+//! What all connections share.
+ghost use Rattle.std.specs.Prelude.{◌≡◌, length};
+ghost use Rattle.object_store.specs.Stores.{machine_limit};
+
+use far_store::FarStore;
+use workers::{Mark, Pool};
+
+/// The agent that connections share: a pool with a cell for each machine that there may be.
+#[derive(Drop)]
+pub struct Agent<F: FarStore, K: Mark> {
+    pool: Pool<F, K>,
+    pub ghost whole: { length pool.cells.items ≡ machine_limit },
+}
+
+impl<F: FarStore, K: Mark> Agent<F, K> {
+    /// One over this pool.
+    pub fn new(pool: Pool<F, K>) -> Self
+        requires { length pool.cells.items ≡ machine_limit }
+        ensures { result.pool ≡ pool }
+    {
+        Agent { pool }
+    }
+
+    /// The pool.
+    pub fn pool(&self) -> &Pool<F, K>
+        ensures { result.now ≡ self.now.pool }
+    {
+        &self.pool
+    }
+
+    /// Gives the pool back.
+    pub fn into_pool(self) -> Pool<F, K>
+        ensures { result ≡ self.pool }
+    {
+        let Agent { pool } = self;
+        pool
+    }
+}

@@ -1,0 +1,306 @@
+//! The threads of a service: one for each connection, its workers and its mover.
+ghost use Rattle.std.specs.Prelude.{◌≡◌, length, IfOk};
+ghost use denote.Param.Send.{IsSend};
+
+use crate::connection::Connection;
+use crate::serving::serve;
+use crate::shared_agent::Agent;
+use far_store::FarStore;
+use std::alloc::{AllocError, Global};
+use std::io::{self, Error, ErrorKind};
+use std::net::{Shutdown, TcpListener, TcpStream};
+use std::sync::atomic::{AtomicBool, Ordering};
+use std::sync::{Mutex, Wait};
+use std::thread;
+use std::thread::Threads;
+use workers::{Gate, Mark, Mover, mover, work};
+
+/// Why a service ended before all its connections had.
+#[derive(Clone, Copy, Drop, Debug, PartialEq, Eq)]
+pub enum ThreadFault {
+    /// A connection can't be accepted.
+    Net,
+    /// A thread can't be made.
+    Memory,
+}
+
+/// How many connections a service takes, and who works for it.
+#[derive(Clone, Copy, Drop, Debug, PartialEq, Eq)]
+pub struct Plan {
+    /// How many connections are accepted in all, at most as many as there are.
+    pub connections: usize,
+    pub workers: usize,
+    /// Whether the mover looks for objects to send away of its own accord.
+    pub sweep: bool,
+}
+
+/// What a service leaves when all its threads have ended.
+#[derive(Drop)]
+pub struct Served<K: Mark> {
+    /// All connections, those too that nobody came to.
+    pub connections: Vec<Connection<K>>,
+    pub outcome: Result<(), ThreadFault>,
+}
+
+/// Lets workers and mover go on until it is told that the service ends.
+#[derive(Drop)]
+struct UntilEnd {
+    ended: AtomicBool,
+}
+
+impl UntilEnd {
+    fn new() -> Self {
+        UntilEnd {
+            ended: AtomicBool::new(false),
+        }
+    }
+
+    /// From now on workers and mover end.
+    fn end(&self) {
+        self.ended.store(true, Ordering::SeqCst);
+    }
+}
+
+impl Gate for UntilEnd {
+    fn before(&self, _worker: usize, _machine: usize) {}
+
+    fn after(&self, _worker: usize, _machine: usize) {}
+
+    fn go_on(&self) -> bool {
+        !self.ended.load(Ordering::SeqCst)
+    }
+}
+
+/// What all threads of a service share.
+#[derive(Drop)]
+struct Tools<'a, R: Wait, F: FarStore, K: Mark> {
+    rt: &'a R,
+    gate: &'a UntilEnd,
+    agent: &'a Agent<F, K>,
+    sweep: bool,
+}
+
+/// Where connections come from, and what serves them.
+#[derive(Drop)]
+struct Front<'a, K: Mark> {
+    alloc: Global,
+    listener: &'a TcpListener,
+    locks: &'a [Mutex<Connection<K>>],
+}
+
+/// Whether a client went before it was accepted, or a signal came: the next may be accepted.
+fn is_passing(error: &Error) -> bool {
+    matches!(
+        error.kind(),
+        ErrorKind::ConnectionAborted | ErrorKind::Interrupted
+    )
+}
+
+/// The next client's stream, twice: one to be served, and one by which it can be cut off.
+fn accept<R: Wait>(rt: &R, listener: &TcpListener) -> io::Result<(TcpStream, TcpStream)> {
+    for _ in rt.forever() {
+        match listener.accept() {
+            Ok((stream, _)) => {
+                let _ = stream.set_nodelay(true);
+                let shown = stream.try_clone()?;
+                return Ok((stream, shown));
+            }
+            Err(error) if is_passing(&error) => {}
+            Err(error) => return Err(error),
+        }
+    }
+    unreachable!()
+}
+
+/// Answers all that a client says. What goes wrong on its stream ends its connection alone.
+fn serve_client<R: Wait, F: FarStore, K: Mark>(
+    tools: &Tools<R, F, K>,
+    lock: &Mutex<Connection<K>>,
+    stream: TcpStream,
+) {
+    let mut connection = lock.lock(tools.rt);
+    let mut reader = &stream;
+    let mut writer = &stream;
+    let _ = serve(
+        tools.rt,
+        &mut reader,
+        &mut writer,
+        tools.agent,
+        &mut connection,
+    );
+    let _ = stream.shutdown(Shutdown::Both);
+}
+
+/// Ends the connections of these streams.
+fn cut_off(streams: &[TcpStream]) {
+    for stream in streams {
+        let _ = stream.shutdown(Shutdown::Both);
+    }
+}
+
+/// Accepts one client for each connection of the front, each served on a thread of its own, and waits for the ends of all.
+/// Where one can't be, those that are there are cut off.
+fn serve_clients<F: FarStore + Send + Sync, K: Mark + Send + Sync, R: Threads + Wait + Sync>(
+    tools: &Tools<R, F, K>,
+    front: &Front<K>,
+) -> Result<(), ThreadFault>
+where
+    F::Parcel: Send,
+{
+    thread::scope(
+        thread::scope_env(),
+        tools.rt,
+        |scope| -> Result<(), ThreadFault> {
+            let mut streams = Vec::new(front.alloc);
+            for lock in front.locks {
+                let Ok((stream, shown)) = accept(tools.rt, front.listener) else {
+                    cut_off(&streams);
+                    return Err(ThreadFault::Net);
+                };
+                let room = streams.push(shown).is_ok();
+                if !room
+                    || scope
+                        .spawn(move || serve_client(tools, lock, stream))
+                        .is_err()
+                {
+                    cut_off(&streams);
+                    return Err(ThreadFault::Memory);
+                }
+            }
+            Ok(())
+        },
+    )
+}
+
+fn step_machines<R: Wait, F: FarStore, K: Mark>(tools: &Tools<R, F, K>, worker: usize) {
+    work(tools.rt, tools.gate, tools.agent.pool(), worker);
+}
+
+fn move_objects<R: Wait, F: FarStore, K: Mark>(tools: &Tools<R, F, K>, served: &mut Mover<F, K>) {
+    mover(
+        tools.rt,
+        tools.gate,
+        tools.agent.pool(),
+        served,
+        tools.sweep,
+    );
+}
+
+/// Serves clients beside so many workers, which end with the last connection, as the mover does.
+fn serve_beside_workers<F: FarStore + Send + Sync, K: Mark + Send + Sync, R: Threads + Wait + Sync>(
+    tools: &Tools<R, F, K>,
+    front: &Front<K>,
+    workers: usize,
+) -> Result<(), ThreadFault>
+where
+    F::Parcel: Send,
+{
+    thread::scope(
+        thread::scope_env(),
+        tools.rt,
+        |scope| -> Result<(), ThreadFault>
+            requires { IsSend F.row × IsSend K.row × IsSend F.Parcel.row }
+        {
+            for worker in 0..workers {
+                if scope.spawn(move || step_machines(tools, worker)).is_err() {
+                    tools.gate.end();
+                    return Err(ThreadFault::Memory);
+                }
+            }
+            let outcome = serve_clients(tools, front);
+            tools.gate.end();
+            outcome
+        },
+    )
+}
+
+/// Serves clients beside the mover and so many workers.
+fn serve_beside_mover<F: FarStore + Send + Sync, K: Mark + Send + Sync, R: Threads + Wait + Sync>(
+    tools: &Tools<R, F, K>,
+    front: &Front<K>,
+    served: &mut Mover<F, K>,
+    workers: usize,
+) -> Result<(), ThreadFault>
+where
+    F::Parcel: Send,
+{
+    let served = &mut *served;
+    thread::scope(
+        thread::scope_env(),
+        tools.rt,
+        |scope| -> Result<(), ThreadFault>
+            requires { IsSend F.row × IsSend K.row × IsSend F.Parcel.row }
+        {
+            if scope.spawn(move || move_objects(tools, served)).is_err() {
+                return Err(ThreadFault::Memory);
+            }
+            serve_beside_workers(tools, front, workers)
+        },
+    )
+}
+
+/// Each connection behind a lock of its own.
+fn locked<K: Mark>(
+    alloc: Global,
+    connections: Vec<Connection<K>>,
+) -> Result<Vec<Mutex<Connection<K>>>, AllocError>
+    ensures { IfOk result (λ locks. length locks.items ≡ length connections.items) }
+{
+    let mut locks = Vec::new(alloc);
+    for connection in connections {
+        locks.push(Mutex::new(connection))?;
+    }
+    Ok(locks)
+}
+
+/// The connections without their locks, which nobody holds.
+fn unlocked<K: Mark>(
+    alloc: Global,
+    locks: Vec<Mutex<Connection<K>>>,
+) -> Result<Vec<Connection<K>>, AllocError>
+    ensures { IfOk result (λ connections. length connections.items ≡ length locks.items) }
+{
+    let mut connections = Vec::new(alloc);
+    for lock in locks {
+        connections.push(lock.into_inner())?;
+    }
+    Ok(connections)
+}
+
+/// Serves as many clients as are planned, one after another as they come and each on a thread of its own, beside workers and
+/// mover, until all have ended. Where a client can't be accepted or a thread can't be made, those that are there are cut off.
+/// All threads have ended then, so agent and mover can be closed, with all connections, which come back. Out of memory
+/// is an error before the first thread or after the last, and drops them.
+pub fn serve_all<F: FarStore + Send + Sync, K: Mark + Send + Sync, R: Threads + Wait + Sync>(
+    rt: &R,
+    alloc: Global,
+    agent: &Agent<F, K>,
+    connections: Vec<Connection<K>>,
+    mover: &mut Mover<F, K>,
+    listener: &TcpListener,
+    plan: Plan,
+) -> Result<Served<K>, AllocError>
+where
+    F::Parcel: Send,
+    ensures { IfOk result (λ served. length served.connections.items ≡ length connections.items) }
+{
+    let locks = locked(alloc, connections)?;
+    let gate = UntilEnd::new();
+    let tools = Tools {
+        rt,
+        gate: &gate,
+        agent,
+        sweep: plan.sweep,
+    };
+    let front = Front {
+        alloc,
+        listener,
+        locks: &locks[..plan.connections.min(locks.len())],
+    };
+    let outcome = serve_beside_mover(&tools, &front, mover, plan.workers);
+    let connections = unlocked(alloc, locks)?;
+    Ok(Served {
+        connections,
+        outcome,
+    })
+}

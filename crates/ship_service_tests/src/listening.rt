@@ -1,0 +1,133 @@
+//! Services that listen. What a client says is on its way before the service begins, so that no thread is needed for it.
+
+use console::{Console, drive};
+use far_store::OwnStore;
+use ship_service::{ListenFault, listen};
+use std::alloc::Global;
+use std::io::{Read, Write};
+use std::net::{Ipv4Addr, Net, Shutdown, TcpListener, TcpStream};
+use std::sync::Wait;
+use std::test::Fail;
+use std::thread::Threads;
+use test_devices::Narrow;
+use world::World;
+
+/// aadd [r1], r2 · exit
+const SETUP: &[u8] = b"make 8\nship 10 0x100000000 1 0 0 0 db210000000000009500000000000000\n";
+
+const SAID: &[u8] =
+    b"step 1\nget 1 0 1\nleft 1\nleave 1\nstep 1\nship 10 0 0 0 0 0 9500000000000000\nline 2 0\nstack 2 0 1\nbreak 2 0\nwatch 2 0x100000000 1\nstep 2\nget 1";
+
+const TOLD: &[u8] =
+    b"ran 1 1\nbytes 01\nunserved\nasked 1\nstopped 1 exit 0000000000000000\nshipped 2\nline 2 0 exit\nbytes 00\nok\nok\npaused 2 0\ncut\n";
+
+/// What is left of it when the service has closed, where the mover came to the object's request while the machine had it in scope,
+/// so that it stays. The digest is that of `sha256sum`.
+const LEFT_HERE: &[u8] =
+    b"\nclosed\nobject 1 8 7c9fa136d4413fa6173637e883b6998d32e1d675f88cddff9dcbcf331820f4b8\nregs 1 1 8 exit 0000000000000000 0000000100000000 0000000000000001 0000000000000000 0000000000000000 0000000000000000 0000000000000000 0000000000000000 0000000000000000 0000000000000000 ffffffff00001000\nregs 2 0 10 paused 0000000000000000 0000000000000000 0000000000000000 0000000000000000 0000000000000000 0000000000000000 0000000000000000 0000000000000000 0000000000000000 0000000000000000 ffffffff00001000\n";
+
+/// The same where the mover came later, and the object left.
+const LEFT_OUT: &[u8] =
+    b"\nclosed\nobject 1 out\nregs 1 1 8 exit 0000000000000000 0000000100000000 0000000000000001 0000000000000000 0000000000000000 0000000000000000 0000000000000000 0000000000000000 0000000000000000 0000000000000000 ffffffff00001000\nregs 2 0 10 paused 0000000000000000 0000000000000000 0000000000000000 0000000000000000 0000000000000000 0000000000000000 0000000000000000 0000000000000000 0000000000000000 0000000000000000 ffffffff00001000\n";
+
+/// The world that these commands leave.
+fn world_after(alloc: Global, setup: &[u8]) -> Result<World<OwnStore>, Fail> {
+    let mut world = World::new(alloc, 64, OwnStore::new(alloc))?;
+    let mut console = Console::new(alloc)?;
+    let mut input = setup;
+    let mut output = Vec::new(alloc);
+    let _ = drive(&mut input, &mut output, &mut console, &mut world);
+    Ok(world)
+}
+
+/// A client that has said this, and says nothing more.
+fn client_of<R: Net<Listener = TcpListener, Stream = TcpStream>>(
+    rt: &R,
+    listener: &TcpListener,
+    said: &[u8],
+) -> Result<TcpStream, Fail> {
+    let mut client = TcpStream::connect(rt, listener.local_addr()?)?;
+    client.write_all(said)?;
+    client.shutdown(Shutdown::Write)?;
+    Ok(client)
+}
+
+/// What the client hears until its stream ends.
+fn heard(alloc: Global, client: &mut TcpStream) -> Result<Vec<u8>, Fail> {
+    let mut bytes = Vec::new(alloc);
+    client.read_to_end(&mut bytes)?;
+    Ok(bytes)
+}
+
+#[test]
+fn a_client_without_workers(rt: HostRuntime) -> Result<(), Fail> {
+    let alloc = rt.alloc();
+    let listener = TcpListener::bind(&rt, (Ipv4Addr::LOCALHOST, 0))?;
+    let mut client = client_of(&rt, &listener, SAID)?;
+    let mut output = Vec::new(alloc);
+    let world = world_after(alloc, SETUP)?;
+    let ended = listen(&rt, alloc, listener, &mut output, world, 1, 0, false);
+    assert_eq!(rt; ended, Ok(()));
+    assert!(rt; output.starts_with(b"listening "));
+    assert!(rt; output.ends_with(LEFT_HERE) || output.ends_with(LEFT_OUT));
+    assert_eq!(rt; heard(alloc, &mut client)?.as_slice(), TOLD);
+    Ok(())
+}
+
+#[test]
+fn a_client_that_cannot_be_accepted(rt: HostRuntime) -> Result<(), Fail> {
+    let alloc = rt.alloc();
+    let listener = TcpListener::bind(&rt, (Ipv4Addr::LOCALHOST, 0))?;
+    // its second `accept` fails, since nobody waits
+    listener.set_nonblocking(true)?;
+    let mut client = TcpStream::connect(&rt, listener.local_addr()?)?;
+    let mut output = Vec::new(alloc);
+    let world = world_after(alloc, SETUP)?;
+    let ended = listen(&rt, alloc, listener, &mut output, world, 2, 2, true);
+    assert_eq!(rt; ended, Err(ListenFault::Net));
+    assert!(rt; output.starts_with(b"listening "));
+    assert!(rt; !output.windows(6).any(|part| part == b"closed".as_slice()));
+    // the first client is cut off
+    assert!(rt; heard(alloc, &mut client)?.is_empty());
+    Ok(())
+}
+
+#[test]
+fn objects_that_are_not_here(rt: HostRuntime) -> Result<(), Fail> {
+    let alloc = rt.alloc();
+    let listener = TcpListener::bind(&rt, (Ipv4Addr::LOCALHOST, 0))?;
+    let mut output = Vec::new(alloc);
+    let world = world_after(alloc, b"make 8\nmake 8\nmake 8\nleave 3\nleave 2\nleft 2\n")?;
+    let ended = listen(&rt, alloc, listener, &mut output, world, 1, 2, false);
+    assert_eq!(rt; ended, Err(ListenFault::NotHere(2)));
+    assert!(rt; output.is_empty());
+    Ok(())
+}
+
+/// How a service ends whose output takes so many bytes, and how many it took.
+fn ends_with_room<R>(
+    rt: &R,
+    alloc: Global,
+    room: usize,
+) -> Result<(Result<(), ListenFault>, usize), Fail>
+where
+    R: Net<Listener = TcpListener, Stream = TcpStream> + Threads + Wait + Sync,
+{
+    let listener = TcpListener::bind(rt, (Ipv4Addr::LOCALHOST, 0))?;
+    let _client = client_of(rt, &listener, b"")?;
+    let mut output = Narrow::new(alloc, usize::MAX, room);
+    let world = world_after(alloc, SETUP)?;
+    let ended = listen(rt, alloc, listener, &mut output, world, 1, 1, false);
+    Ok((ended, output.taken.len()))
+}
+
+#[test]
+fn an_output_that_fails(rt: HostRuntime) -> Result<(), Fail> {
+    // in the first line, and in the last
+    for room in [0, 5, 18] {
+        let (ended, taken) = ends_with_room(&rt, rt.alloc(), room)?;
+        assert_eq!(rt; ended, Err(ListenFault::Write));
+        assert_eq!(rt; taken, room);
+    }
+    Ok(())
+}
