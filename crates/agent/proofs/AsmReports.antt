@@ -1,15 +1,14 @@
 -- What `asm` explains of the bytes that it has read, it explains of the whole input.
-use Rattle.std.proofs.Common.{◌≡◌, ◌≢◌, ◌⊎◌, ℕ, Bool, true, false, List, [], ◌∷◌, ◌++◌, take, subst, sym, refl, append-nil, Option, None, Some, IfSome, Result, Ok, Err, inl, inr}
+use Rattle.std.proofs.Common.{◌≡◌, ◌≢◌, ◌⊎◌, ℕ, Bool, true, false, List, [], ◌∷◌, take, subst, refl, append-nil, Option, None, Some, IfSome, Result, Ok, Err, inl, inr}
 use Rattle.std.specs.Prelude.{⊤}
 use Rattle.std.specs.Io.KnownBytes.{Keeps}
 use Rattle.clap.specs.Words.{HasKind, Kinds, kind_of}
 use Rattle.clap.specs.declared.error.Error.{Error}
-use Rattle.streams.specs.Streams.{AppendsSome}
 use Rattle.agent.specs.AsmLeaves.{AsmLeaves}
 use Rattle.agent.specs.ErrorShown.{Shows}
 use Rattle.asm_text.specs.Tokens.{Lexeme, IsFirstOf}
 use Rattle.agent.specs.Explained.{Explains, ReportsAsm, ReportsAsmOutcome, ReportsExplained, SaysFirst, token_text}
-use Rattle.agent.specs.Failures.{failure_line, status_number}
+use Rattle.agent.specs.Failures.{status_number}
 use Rattle.agent.specs.Reports.{Reports}
 use Rattle.agent.specs.declared.failure.Failure.{Failure}
 use Rattle.agent.specs.declared.failure.Failure.TheVariants.{Refused, WrongLine, InputTooLong, Read, Write, NoMemory}

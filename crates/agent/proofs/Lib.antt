@@ -8,3 +8,5 @@ pub mod Numbers
 pub mod ReadNumber
 pub mod Started
 pub mod Subcommands
+pub mod Setup
+pub mod Globals

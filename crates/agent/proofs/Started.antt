@@ -11,12 +11,8 @@ module _ (P : WorldState → List ℕ → Type 0) (old start : WorldState) (held
   started (Some input) h = subst (λ (k : Held). P start (held_bytes k ++ input)) none (subst (λ (s : WorldState). P s (held_bytes held ++ input)) same h)
 
 module _ (old start end : WorldState) (before after : Option (List ℕ)) (held : Held) (same : old ≡ start) (none : held ≡ nothing_held) (o : Option (List ℕ)) where
-  pub answers_all : IfSome o (λ input. AnswersAll agent old (held_bytes held ++ input) before after end) → IfSome o (λ input. (e : WorldState) × AnswersAll agent start input before after e)
-  answers_all h = ending o (started (λ s input. AnswersAll agent s input before after end) old start held same none o h)
-    where
-      ending : (p : Option (List ℕ)) → IfSome p (λ input. AnswersAll agent start input before after end) → IfSome p (λ input. (e : WorldState) × AnswersAll agent start input before after e)
-      ending None h = tt
-      ending (Some input) h = (end, h)
+  pub answered : IfSome o (λ input. AnswersAll agent old (held_bytes held ++ input) before after end) → IfSome o (λ input. AnswersAll agent start input before after end)
+  answered h = started (λ s input. AnswersAll agent s input before after end) old start held same none o h
 
   pub stops_reading : (kept : Held) (unread : Option (List ℕ)) → IfSome o (λ input. StopsReading agent old (held_bytes held ++ input) before after end kept unread)
       → IfSome o (λ input. (e : WorldState) × (k : Held) × StopsReading agent start input before after e k unread)
@@ -34,3 +30,9 @@ module _ (old start end : WorldState) (before after : Option (List ℕ)) (held :
       ending : (p : Option (List ℕ)) → IfSome p (λ input. StopsWriting agent start input before after end unread) → IfSome p (λ input. (e : WorldState) × StopsWriting agent start input before after e unread)
       ending None h = tt
       ending (Some input) h = (end, h)
+
+-- the end of a conversation is some state
+pub ended : (start end : WorldState) (before after : Option (List ℕ)) (o : Option (List ℕ)) → IfSome o (λ input. AnswersAll agent start input before after end)
+    → IfSome o (λ input. (e : WorldState) × AnswersAll agent start input before after e)
+ended start end before after None h = tt
+ended start end before after (Some input) h = (end, h)

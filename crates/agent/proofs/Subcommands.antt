@@ -8,10 +8,10 @@ use Rattle.clap.specs.Kinds.{Kinds, check_kinds, or_else}
 use Rattle.clap.specs.Faults.{built_fault, check_fault, defaults_fault, entered_fault, level_fault, settle_fault, walk_fault}
 use Rattle.clap.specs.Simple.{App, Shape, built, entered, filled, names_of, new_shape, rows_at, subcommand_of}
 use Rattle.clap.specs.Takes.{is_given}
-use Rattle.clap.specs.Walk.{Held, Row, Text, answers_to, finished, nothing_held, rows_after, settled, walk, walk_from}
+use Rattle.clap.specs.Walk.{Held, Row, Rule, Text, answers_to, finished, nothing_held, rows_after, settled, walk, walk_from}
 use Rattle.clap.proofs.OnLiterals.{clap_on_literals}
-use Rattle.agent.specs.CommandLine.{HasNumber, asm_shape, budget_limit, budget_limit_text, command_line, dis_shape, faults_of, flag_rule, port_limit, task_named, task_of}
-use Rattle.agent.proofs.Numbers.{first_empty, rest_empty, help, number_built, has_number}
+use Rattle.agent.specs.CommandLine.{HasNumber, HasServing, asm_shape, budget_limit, budget_limit_text, budget_rule, command_line, connections_limit, connections_rule, dis_shape, faults_of, flag_rule, port_limit, port_rule, task_named, task_of, workers_limit, workers_rule}
+use Rattle.agent.proofs.Numbers.{first_empty, rest_empty, help, options_built, fits_help, fits_other, has_number}
 
 last_empty : (first second third fourth last : Kinds) → or_else first (or_else second (or_else third (or_else fourth last))) ≡ [] → last ≡ []
 last_empty first second third fourth last right =
@@ -41,16 +41,23 @@ subcommand_entered app held words required right =
     (last_empty (walk_fault s (names_of app) (walk_from held) words) (entered_fault app stop) (settle_fault s.rules s.args_override_self end)
     (defaults_fault (settled s.rules end).rows s.rules) (check_fault s rows has) right)
 
--- what is entered has a task, and `run` has its budget and `store` its port
+-- what is entered has a task, and `run` has its budget, `store` its port and `serve` all its numbers
 abbrev pub IsEntered : Option (Text × List Row) → Type 0
 IsEntered None = Unit {0}
-IsEntered (Some p) = IsSome (task_named p.0 p.1) × (p.0 ≡ codes "run" → HasNumber (codes "budget") budget_limit p.1) × (p.0 ≡ codes "store" → HasNumber (codes "port") port_limit p.1)
+IsEntered (Some p) = IsSome (task_named p.0 p.1) × (p.0 ≡ codes "run" → HasNumber (codes "budget") 0 budget_limit p.1) × (p.0 ≡ codes "store" → HasNumber (codes "port") 0 port_limit p.1)
+    × (p.0 ≡ codes "serve" → HasServing p.1)
 
 abbrev run_built : Shape
-run_built = number_built (codes "run") (codes "budget") budget_limit_text budget_limit refl refl
+run_built = options_built (codes "run") (filled budget_rule ∷ help ∷ [])
 
 abbrev store_built : Shape
-store_built = number_built (codes "store") (codes "port") (codes "0") port_limit refl refl
+store_built = options_built (codes "store") (filled port_rule ∷ help ∷ [])
+
+abbrev sweep : Rule
+sweep = filled (flag_rule (codes "sweep"))
+
+abbrev serve_built : Shape
+serve_built = options_built (codes "serve") (filled port_rule ∷ filled connections_rule ∷ filled workers_rule ∷ filled budget_rule ∷ sweep ∷ help ∷ [])
 
 abbrev asm_built : Shape
 asm_built = record asm_shape { rules = filled (flag_rule (codes "explain")) ∷ help ∷ []; no_binary_name = true; disable_help_subcommand = true; is_built = true }
@@ -62,48 +69,98 @@ abbrev other_built : Text → Shape
 other_built name = record (new_shape name) { rules = help ∷ []; no_binary_name = true; disable_help_subcommand = true; is_built = true }
 
 module _ (P : Option Shape → Type 0) where
-  among_at : (x y z w v : Bool) → P None → P (Some run_built) → P (Some (other_built (codes "check"))) → P (Some asm_built) → P (Some dis_built) → P (Some store_built)
-      → P (cond x (Some run_built) (cond y (Some (other_built (codes "check"))) (cond z (Some asm_built) (cond w (Some dis_built) (cond v (Some store_built) None)))))
-  among_at true y z w v none run check asm dis store = run
-  among_at false true z w v none run check asm dis store = check
-  among_at false false true w v none run check asm dis store = asm
-  among_at false false false true v none run check asm dis store = dis
-  among_at false false false false true none run check asm dis store = store
-  among_at false false false false false none run check asm dis store = none
+  among_at : (x y z w v u : Bool) → P None → P (Some run_built) → P (Some (other_built (codes "check"))) → P (Some asm_built) → P (Some dis_built) → P (Some store_built) → P (Some serve_built)
+      → P (cond x (Some run_built) (cond y (Some (other_built (codes "check"))) (cond z (Some asm_built) (cond w (Some dis_built) (cond v (Some store_built) (cond u (Some serve_built) None))))))
+  among_at true y z w v u none run check asm dis store serve = run
+  among_at false true z w v u none run check asm dis store serve = check
+  among_at false false true w v u none run check asm dis store serve = asm
+  among_at false false false true v u none run check asm dis store serve = dis
+  among_at false false false false true u none run check asm dis store serve = store
+  among_at false false false false false true none run check asm dis store serve = serve
+  among_at false false false false false false none run check asm dis store serve = none
 
--- two names that begin with other letters
-other_name : (name wanted : Text) (n m : ℕ) → slice_index name 0 ≡ n → slice_index wanted 0 ≡ m → n ≢ m → name ≡ wanted → ⊥
-other_name name wanted n m first letter other e = other (sym first ∙ ap (λ l. slice_index l 0) e ∙ letter)
+-- two names with another letter at some place
+other_name : (k : ℕ) (name wanted : Text) (n m : ℕ) → slice_index name k ≡ n → slice_index wanted k ≡ m → n ≢ m → name ≡ wanted → ⊥
+other_name k name wanted n m first letter other e = other (sym first ∙ ap (λ l. slice_index l k) e ∙ letter)
 
--- neither of the two with a number
+-- none of those with a number
 plain_entered : (name : Text) (n : ℕ) (rows : List Row) → slice_index name 0 ≡ n → n ≢ 114 → n ≢ 115 → IsSome (task_named name rows) → IsEntered (Some (name, rows))
-plain_entered name n rows first not_r not_s some =
-    (some, λ e. absurd (other_name name (codes "run") n 114 first refl not_r e), λ e. absurd (other_name name (codes "store") n 115 first refl not_s e))
+plain_entered name n rows first not_r not_s some = (
+  some,
+  λ e. absurd (other_name 0 name (codes "run") n 114 first refl not_r e),
+  λ e. absurd (other_name 0 name (codes "store") n 115 first refl not_s e),
+  λ e. absurd (other_name 0 name (codes "serve") n 115 first refl not_s e),
+)
 
-run_named : (rows : List Row) → HasNumber (codes "budget") budget_limit rows → IsSome (task_named (codes "run") rows)
+run_named : (rows : List Row) → HasNumber (codes "budget") 0 budget_limit rows → IsSome (task_named (codes "run") rows)
 run_named rows b = rw b.2 refl
 
-store_named : (rows : List Row) → HasNumber (codes "port") port_limit rows → IsSome (task_named (codes "store") rows)
+store_named : (rows : List Row) → HasNumber (codes "port") 0 port_limit rows → IsSome (task_named (codes "store") rows)
 store_named rows b = rw b.2 refl
+
+serve_named : (rows : List Row) → HasServing rows → IsSome (task_named (codes "serve") rows)
+serve_named rows b = rw (b.port.2, b.connections.2, b.workers.2, b.budget.2) refl
 
 run_entered : (words : List Text) → level_fault run_built [] nothing_held words false [] ≡ [] → IsEntered (Some (rows_at run_built words))
 run_entered words f =
-    let b = has_number (codes "run") (codes "budget") budget_limit_text budget_limit refl refl words f in
-    (run_named (rows_after run_built.rules [] words) b, λ _. b, λ e. absurd (other_name (codes "run") (codes "store") 114 115 refl refl (omega arith) e))
+    let b = has_number (codes "budget") budget_limit_text 0 budget_limit refl refl (codes "run") [] (help ∷ []) tt (fits_help (codes "budget") budget_limit_text 0 budget_limit refl refl, tt) words f in (
+      run_named (rows_after run_built.rules [] words) b,
+      λ _. b,
+      λ e. absurd (other_name 0 (codes "run") (codes "store") 114 115 refl refl (omega arith) e),
+      λ e. absurd (other_name 0 (codes "run") (codes "serve") 114 115 refl refl (omega arith) e),
+    )
 
 store_entered : (words : List Text) → level_fault store_built [] nothing_held words false [] ≡ [] → IsEntered (Some (rows_at store_built words))
 store_entered words f =
-    let b = has_number (codes "store") (codes "port") (codes "0") port_limit refl refl words f in
-    (store_named (rows_after store_built.rules [] words) b, λ e. absurd (other_name (codes "store") (codes "run") 115 114 refl refl (omega arith) e), λ _. b)
+    let b = has_number (codes "port") (codes "0") 0 port_limit refl refl (codes "store") [] (help ∷ []) tt (fits_help (codes "port") (codes "0") 0 port_limit refl refl, tt) words f in (
+      store_named (rows_after store_built.rules [] words) b,
+      λ e. absurd (other_name 0 (codes "store") (codes "run") 115 114 refl refl (omega arith) e),
+      λ _. b,
+      λ e. absurd (other_name 1 (codes "store") (codes "serve") 116 101 refl refl (omega arith) e),
+    )
+
+-- all numbers of `serve`, each beside the others
+serving : (words : List Text) → level_fault serve_built [] nothing_held words false [] ≡ [] → HasServing (rows_after serve_built.rules [] words)
+serving words f =
+    let port = filled port_rule in
+    let connections = filled connections_rule in
+    let workers = filled workers_rule in
+    let budget = filled budget_rule in
+    record {
+      port = has_number (codes "port") (codes "0") 0 port_limit refl refl (codes "serve") [] (connections ∷ workers ∷ budget ∷ sweep ∷ help ∷ []) tt
+          (let other = fits_other (codes "port") (codes "0") 0 port_limit refl refl in
+          (other connections refl refl (λ _ _. refl), (other workers refl refl (λ _ _. refl), (other budget refl refl (λ _ _. refl), (other sweep refl refl (λ _ _. refl), (fits_help (codes "port") (codes "0") 0 port_limit refl refl, tt)))))) words f;
+      connections = has_number (codes "connections") (codes "1") 1 connections_limit refl refl (codes "serve") (port ∷ []) (workers ∷ budget ∷ sweep ∷ help ∷ [])
+          (fits_other (codes "connections") (codes "1") 1 connections_limit refl refl port refl refl (λ _ _. refl), tt)
+          (let other = fits_other (codes "connections") (codes "1") 1 connections_limit refl refl in
+          (other workers refl refl (λ _ _. refl), (other budget refl refl (λ _ _. refl), (other sweep refl refl (λ _ _. refl), (fits_help (codes "connections") (codes "1") 1 connections_limit refl refl, tt))))) words f;
+      workers = has_number (codes "workers") (codes "2") 0 workers_limit refl refl (codes "serve") (port ∷ connections ∷ []) (budget ∷ sweep ∷ help ∷ [])
+          (let other = fits_other (codes "workers") (codes "2") 0 workers_limit refl refl in (other port refl refl (λ _ _. refl), (other connections refl refl (λ _ _. refl), tt)))
+          (let other = fits_other (codes "workers") (codes "2") 0 workers_limit refl refl in
+          (other budget refl refl (λ _ _. refl), (other sweep refl refl (λ _ _. refl), (fits_help (codes "workers") (codes "2") 0 workers_limit refl refl, tt)))) words f;
+      budget = has_number (codes "budget") budget_limit_text 0 budget_limit refl refl (codes "serve") (port ∷ connections ∷ workers ∷ []) (sweep ∷ help ∷ [])
+          (let other = fits_other (codes "budget") budget_limit_text 0 budget_limit refl refl in (other port refl refl (λ _ _. refl), (other connections refl refl (λ _ _. refl), (other workers refl refl (λ _ _. refl), tt))))
+          (let other = fits_other (codes "budget") budget_limit_text 0 budget_limit refl refl in
+          (other sweep refl refl (λ _ _. refl), (fits_help (codes "budget") budget_limit_text 0 budget_limit refl refl, tt))) words f;
+    }
+
+serve_entered : (words : List Text) → level_fault serve_built [] nothing_held words false [] ≡ [] → IsEntered (Some (rows_at serve_built words))
+serve_entered words f =
+    let b = serving words f in (
+      serve_named (rows_after serve_built.rules [] words) b,
+      λ e. absurd (other_name 0 (codes "serve") (codes "run") 115 114 refl refl (omega arith) e),
+      λ e. absurd (other_name 1 (codes "serve") (codes "store") 101 116 refl refl (omega arith) e),
+      λ _. b,
+    )
 
 entered_good : (stop : Option (Text × List Text)) → entered_fault (built command_line) stop ≡ [] → IsEntered (entered (built command_line) stop)
 unfolding clap_on_literals
 entered_good None f = tt
 entered_good (Some p) f =
     among_at (λ o. option_map_or (λ s. level_fault s [] nothing_held p.1 false []) o [] ≡ [] → IsEntered (option_map (λ s. rows_at s p.1) o))
-    (answers_to p.0 (codes "run", [])) (answers_to p.0 (codes "check", [])) (answers_to p.0 (codes "asm", [])) (answers_to p.0 (codes "dis", [])) (answers_to p.0 (codes "store", []))
+    (answers_to p.0 (codes "run", [])) (answers_to p.0 (codes "check", [])) (answers_to p.0 (codes "asm", [])) (answers_to p.0 (codes "dis", [])) (answers_to p.0 (codes "store", [])) (answers_to p.0 (codes "serve", []))
     (λ _. tt) (run_entered p.1) (λ _. plain_entered (codes "check") 99 (rows_at (other_built (codes "check")) p.1).1 refl (omega arith) (omega arith) refl) (λ _. plain_entered (codes "asm") 97 (rows_at asm_built p.1).1 refl (omega arith) (omega arith) refl)
-    (λ _. plain_entered (codes "dis") 100 (rows_at dis_built p.1).1 refl (omega arith) (omega arith) refl) (store_entered p.1) f
+    (λ _. plain_entered (codes "dis") 100 (rows_at dis_built p.1).1 refl (omega arith) (omega arith) refl) (store_entered p.1) (serve_entered p.1) f
 
 -- right arguments enter a subcommand
 pub right_enters : (arguments : List Text) → faults_of arguments ≡ [] → (is_some (subcommand_of command_line arguments) ≡ true) × IsEntered (subcommand_of command_line arguments)

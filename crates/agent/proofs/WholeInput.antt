@@ -1,7 +1,8 @@
 -- What is found about the longest text or code and one byte more is found about the whole input.
 use Rattle.std.proofs.Common.{◌≡◌, ◌≤◌, ℕ, Bool, true, false, List, length, take, subst, Option, None, Some, IfSome, Result, Ok, Err, IfOk, IfErr}
 use Rattle.disassembler.specs.TextOf.{IsShownAs}
-use Rattle.agent.specs.AsmLeaves.{Assembles}
+use Rattle.streams.specs.Streams.{AppendsPart}
+use Rattle.agent.specs.AsmLeaves.{Assembles, AsmLeaves}
 use Rattle.agent.specs.DisLeaves.{Disassembles}
 use Rattle.agent.specs.declared.failure.Failure.{Failure}
 use Rattle.agent.specs.declared.failure.Failure.TheVariants.{Refused, WrongLine, InputTooLong, Read, Write, NoMemory}
@@ -66,3 +67,9 @@ pub text_err : {A : Type 0} (has_slots : Bool) (limit : ℕ) (given : Option (Li
     → limit ≡ 32769 → IfSome given (λ input. read ≡ take limit input) → IfErr result (λ e. Disassembles has_slots read (Err e))
     → IfSome given (λ input. IfErr result (λ e. Disassembles has_slots input (Err e)))
 text_err has_slots limit given read result is = found_err (Disassembles has_slots) limit given read result (λ input found. shown_whole has_slots limit input found is)
+
+-- the code was found, and not all of it written
+pub write_failed : (given before after : Option (List ℕ)) (code : List ℕ) → IfSome given (λ input. Assembles input (Ok code)) → AppendsPart before after code
+    → IfSome given (λ input. AsmLeaves input before after (Err Write))
+write_failed None before after code found part = tt
+write_failed (Some input) before after code found part = (code, found, part)

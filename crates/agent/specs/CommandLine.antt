@@ -6,10 +6,13 @@ use Rattle.std.specs.Str.Parse.{digits_value, without_leading_plus}
 use Rattle.clap.specs.Words.{Accepts, App, Kinds, Row, Rule, Shape, Text, fault_of, first_of, new_rule, one_of, subcommand_of, with_subcommand, without_minus}
 use Rattle.clap.specs.Simple.{new_shape}
 use Rattle.clap.specs.declared.builder.action.ArgAction.TheVariants.{SetTrue}
+use Rattle.clap.specs.declared.builder.command.Command.{Command}
+use Rattle.clap.specs.declared.builder.command.Command.TheViews.{out-Command}
 use Rattle.clap.specs.declared.builder.value_parser.ValueParser.{ValueParser}
 use Rattle.clap.specs.declared.builder.value_parser.ValueParser.TheVariants.{Signed}
 use Rattle.agent.specs.declared.arguments.Task.{Task}
-use Rattle.agent.specs.declared.arguments.Task.TheVariants.{Run, Check, Assemble, Disassemble, Store}
+use Rattle.agent.specs.declared.arguments.Task.TheVariants.{Run, Check, Assemble, Disassemble, Store, Serve}
+use Rattle.agent.specs.declared.arguments.Serving.{Serving}
 
 -- the greatest budget: 64 MiB
 abbrev pub budget_limit : ℕ
@@ -19,17 +22,17 @@ budget_limit = 67108864
 abbrev pub budget_limit_text : Text
 budget_limit_text = codes "67108864"
 
--- a number from 0 to this limit
-abbrev pub number_parser : ℕ → ValueParser
-number_parser limit = Signed (pos 0) (pos limit)
+-- a number from the one to the other
+abbrev pub number_parser : ℕ → ℕ → ValueParser
+number_parser least limit = Signed (pos least) (pos limit)
 
 -- an option that is a number: `--NAME N`, which is `default` where it is left out
-abbrev pub number_rule : Text → ℕ → Text → Rule
-number_rule name limit default = record (new_rule name) { long = Some name; value_names = 1; defaults = default ∷ []; parser = Some (number_parser limit) }
+abbrev pub number_rule : Text → ℕ → ℕ → Text → Rule
+number_rule name least limit default = record (new_rule name) { long = Some name; value_names = 1; defaults = default ∷ []; parser = Some (number_parser least limit) }
 
 -- `--budget N`, which is the greatest where it is left out
 abbrev pub budget_rule : Rule
-budget_rule = number_rule (codes "budget") budget_limit budget_limit_text
+budget_rule = number_rule (codes "budget") 0 budget_limit budget_limit_text
 
 -- `run`, with its option
 abbrev pub run_shape : Shape
@@ -53,11 +56,39 @@ port_limit = 65535
 
 -- `--port P`, which is 0, any free one, where it is left out
 abbrev pub port_rule : Rule
-port_rule = number_rule (codes "port") port_limit (codes "0")
+port_rule = number_rule (codes "port") 0 port_limit (codes "0")
 
 -- `store`, with its option
 abbrev pub store_shape : Shape
 store_shape = record (new_shape (codes "store")) { rules = port_rule ∷ [] }
+
+-- the most connections
+abbrev pub connections_limit : ℕ
+connections_limit = 8
+
+-- the most workers
+abbrev pub workers_limit : ℕ
+workers_limit = 16
+
+-- `--connections N`, which is 1 where it is left out
+abbrev pub connections_rule : Rule
+connections_rule = number_rule (codes "connections") 1 connections_limit (codes "1")
+
+-- `--workers W`, which is 2 where it is left out
+abbrev pub workers_rule : Rule
+workers_rule = number_rule (codes "workers") 0 workers_limit (codes "2")
+
+-- `serve`, with its options
+abbrev pub serve_shape : Shape
+serve_shape = record (new_shape (codes "serve")) { rules = port_rule ∷ connections_rule ∷ workers_rule ∷ budget_rule ∷ flag_rule (codes "sweep") ∷ [] }
+
+-- `serve` alone, as it becomes a subcommand
+abbrev pub serve_app : App
+serve_app = record { top = serve_shape; subs = [] }
+
+-- a command that passes no argument on to its subcommands
+abbrev pub IsLocal : Command → Type 0
+IsLocal c = (out-Command c).has_globals ≡ false
 
 -- `bpfagent` with no subcommand yet: the arguments are those after the program's name, one of the subcommands is wanted, and none is `help`
 abbrev pub bare : App
@@ -65,15 +96,22 @@ bare = record { top = record (new_shape (codes "bpfagent")) { no_binary_name = t
 
 -- the command line, as `clap` reads it
 abbrev pub command_line : App
-command_line = with_subcommand (with_subcommand (with_subcommand (with_subcommand (with_subcommand bare run_shape) (new_shape (codes "check"))) asm_shape) dis_shape) store_shape
+command_line = with_subcommand (with_subcommand (with_subcommand (with_subcommand (with_subcommand (with_subcommand bare run_shape) (new_shape (codes "check"))) asm_shape) dis_shape) store_shape) serve_shape
 
 -- the kinds of error that these arguments may give: none, where they are right
 abbrev pub faults_of : List Text → Kinds
 faults_of arguments = fault_of command_line arguments
 
--- these matches have a number of this name, which is at most the limit
-abbrev pub HasNumber : Text → ℕ → List Row → Type 0
-HasNumber name limit rows = (text : Text) × Accepts false (number_parser limit) text × (one_of name rows ≡ Some (without_minus text))
+-- these matches have a number of this name, which is from the one to the other
+abbrev pub HasNumber : Text → ℕ → ℕ → List Row → Type 0
+HasNumber name least limit rows = (text : Text) × Accepts false (number_parser least limit) text × (one_of name rows ≡ Some (without_minus text))
+
+-- These matches have all numbers of `serve`.
+pub record HasServing (rows : List Row) : Type 0 where
+  pub port : HasNumber (codes "port") 0 port_limit rows
+  pub connections : HasNumber (codes "connections") 1 connections_limit rows
+  pub workers : HasNumber (codes "workers") 0 workers_limit rows
+  pub budget : HasNumber (codes "budget") 0 budget_limit rows
 
 -- the number of this name that they give
 abbrev pub number_in : Text → List Row → Option ℕ
@@ -83,11 +121,20 @@ number_in name rows = option_map (λ text. digits_value 10 (without_leading_plus
 abbrev pub is_set : Text → List Row → Bool
 is_set name rows = option_map_or (λ text. bytes_eq text (codes "true")) (first_of name rows) false
 
+-- how these numbers, and the flag, ask to serve
+abbrev pub serving_of : Bool → Option ℕ → Option ℕ → Option ℕ → Option ℕ → Option Serving
+serving_of sweep (Some port) (Some connections) (Some workers) (Some budget) = Some (record { port = port; connections = connections; workers = workers; budget = budget; sweep = sweep })
+serving_of sweep _ _ _ _ = None
+
+-- how these matches ask to serve
+abbrev pub serving_in : List Row → Option Serving
+serving_in rows = serving_of (is_set (codes "sweep") rows) (number_in (codes "port") rows) (number_in (codes "connections") rows) (number_in (codes "workers") rows) (number_in (codes "budget") rows)
+
 -- the task of this name, with these matches
 abbrev pub task_named : Text → List Row → Option Task
 task_named name rows = if bytes_eq name (codes "run") then option_map Run (number_in (codes "budget") rows) else (if bytes_eq name (codes "check") then Some Check
     else (if bytes_eq name (codes "asm") then Some (Assemble (is_set (codes "explain") rows)) else (if bytes_eq name (codes "dis") then Some (Disassemble (is_set (codes "slots") rows))
-    else (if bytes_eq name (codes "store") then option_map Store (number_in (codes "port") rows) else None))))
+    else (if bytes_eq name (codes "store") then option_map Store (number_in (codes "port") rows) else (if bytes_eq name (codes "serve") then option_map Serve (serving_in rows) else None)))))
 
 -- what right arguments ask for: the subcommand that they name
 abbrev pub task_of : List Text → Option Task

@@ -1,7 +1,6 @@
 -- What `asm --explain` says beside the line of an error: the token that it is about, and the line that it stands in.
 use Rattle.std.specs.Prelude.{◌≡◌, ℕ, ◌+◌, ◌-◌, ◌==◌, nat_le, ◌&&◌, if◌then◌else◌, Bool, true, false, ⊤, List, [], ◌∷◌, ◌++◌, map, take, slice_range, codes, decimal, Option, Some, None, Result, Ok, Err}
 use Rattle.std.specs.Str.Lines.{lines}
-use Rattle.std.specs.Io.KnownBytes.{Keeps}
 use Rattle.asm_text.specs.Tokens.{Lexeme, tokens, IsFirstOf}
 use Rattle.asm_grammar.specs.declared.why.Why.{Why}
 use Rattle.asm_grammar.specs.Blame.{blamed}

@@ -1,6 +1,8 @@
 -- What the program says where it gives up, and the status that it ends with.
-use Rattle.std.specs.Prelude.{ℕ, List, [], ◌∷◌, ◌++◌, codes, decimal}
+use Rattle.std.specs.Prelude.{◌≡◌, ◌≢◌, ◌⊎◌, ℕ, List, [], ◌∷◌, ◌++◌, codes, decimal}
 use Rattle.loader.specs.Refusals.{why_name}
+use Rattle.loader.specs.declared.loading.LoadError.{LoadError}
+use Rattle.loader.specs.declared.loading.Why.TheVariants as why
 use Rattle.asm_grammar.specs.Reasons as reasons
 use Rattle.agent.specs.declared.failure.Status.{Status}
 use Rattle.agent.specs.declared.failure.Status.TheVariants.{Done, Refused, InvalidArguments, Failed}
@@ -22,6 +24,10 @@ status_of failure.InputTooLong = Refused
 status_of failure.Read = Failed
 status_of failure.Write = Failed
 status_of failure.NoMemory = Failed
+
+-- Code that can't be loaded is refused, unless memory ran out.
+abbrev pub FailsToLoad : LoadError → Failure → Type 0
+FailsToLoad error failed = ((error.why ≡ why.Memory) × (failed ≡ failure.NoMemory)) ⊎ ((error.why ≢ why.Memory) × (failed ≡ failure.Refused error))
 
 -- what is said of a failure
 abbrev pub failure_text : Failure → List ℕ

@@ -1,8 +1,17 @@
 -- Laws of the command line.
-use Rattle.std.specs.Prelude.{◌≡◌, [], List, IsSome}
+use Rattle.std.specs.Prelude.{◌≡◌, [], ◌∷◌, List, IsSome, codes, false}
 use Rattle.clap.specs.Words.{Text}
-use Rattle.agent.specs.CommandLine.{faults_of, task_of}
+use Rattle.agent.specs.CommandLine.{budget_limit, faults_of, task_of}
+use Rattle.agent.specs.declared.arguments.Serving.{Serving}
 
 -- right arguments name a task
 abbrev pub RightArgumentsNameATask : Type 0
 RightArgumentsNameATask = (arguments : List Text) → faults_of arguments ≡ [] → IsSome (task_of arguments)
+
+-- what `serve` alone asks for
+abbrev pub plain_serving : Serving
+plain_serving = record { port = 0; connections = 1; workers = 2; budget = budget_limit; sweep = false }
+
+-- `serve` with all its options
+abbrev pub all_of_serve : List Text
+all_of_serve = codes "serve" ∷ codes "--workers" ∷ codes "0" ∷ codes "--port=7070" ∷ codes "--sweep" ∷ codes "--budget" ∷ codes "64" ∷ codes "--connections" ∷ codes "8" ∷ []

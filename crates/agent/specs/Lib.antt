@@ -10,3 +10,5 @@ pub mod ErrorShown
 pub mod Explained
 pub mod Laws
 pub mod StoreLeaves
+pub mod ServeLeaves
+pub mod Servers

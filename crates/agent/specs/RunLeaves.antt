@@ -17,3 +17,8 @@ RunLeaves budget input before after unread (Err NoMemory) = Keeps before after �
 RunLeaves budget input before after unread (Err (Refused error)) = ⊥
 RunLeaves budget input before after unread (Err (WrongLine error)) = ⊥
 RunLeaves budget input before after unread (Err InputTooLong) = ⊥
+
+-- The same of the commands and the world that they leave.
+abbrev pub CommandsLeave : ℕ → List ℕ → Option (List ℕ) → Option (List ℕ) → Option (List ℕ) → Result WorldState Failure → Type 0
+CommandsLeave budget input before after unread (Ok end) = AnswersAll agent (world_start budget 0) input before after end
+CommandsLeave budget input before after unread (Err failure) = RunLeaves budget input before after unread (Err failure)

@@ -1,7 +1,7 @@
 //! The arguments of the command line.
 ghost use Rattle.std.specs.Prelude.{◌≡◌, [], Some, map, codes, IfOk, IfErr};
 ghost use Rattle.clap.specs.Words.{app_of, found_of, rows_of, rule_of, HasKind};
-ghost use Rattle.agent.specs.CommandLine.{HasNumber, budget_limit, budget_rule, command_line, faults_of, flag_rule, is_set, number_in, port_limit, port_rule, task_named, task_of};
+ghost use Rattle.agent.specs.CommandLine.{HasNumber, HasServing, IsLocal, budget_limit, budget_rule, command_line, connections_limit, connections_rule, faults_of, flag_rule, is_set, number_in, port_limit, port_rule, serve_app, serving_in, task_named, task_of, workers_limit, workers_rule};
 
 use clap::{Arg, ArgAction, ArgMatches, Command, Error, value_parser};
 use std::alloc::{AllocError, Global};
@@ -21,6 +21,23 @@ pub enum Task {
     Disassemble { has_slots: bool },
     /// To keep what clients send away, listening on this port, or on any free one where it is 0.
     Store { port: u16 },
+    /// To do the commands of the input, and then those of clients.
+    Serve(Serving),
+}
+
+/// How `serve` serves.
+#[derive(Clone, Copy, Debug, PartialEq, Eq)]
+pub struct Serving {
+    /// The port to listen on, or 0 for any free one.
+    pub port: u16,
+    /// How many connections are taken in all.
+    pub connections: u8,
+    /// How many workers step machines.
+    pub workers: u8,
+    /// The most bytes that the objects that aren't far may have before connections are taken.
+    pub budget: u32,
+    /// Whether objects that nobody uses are sent away.
+    pub sweep: bool,
 }
 
 /// `--budget N`: the most bytes that the objects that aren't far may have.
@@ -45,6 +62,30 @@ fn make_port<'a>(alloc: Global) -> Arg<'a>
         .value_parser(value_parser!(u16))
         .default_value("0")
         .help("The port to listen on, 0 to 65535, where 0 is any free one")
+}
+
+/// `--connections N`: how many connections are taken.
+fn make_connections<'a>(alloc: Global) -> Arg<'a>
+    ensures { rule_of result ≡ connections_rule }
+{
+    Arg::new(alloc, "connections")
+        .long("connections")
+        .value_name("N")
+        .value_parser(value_parser!(u8).range(1..=8))
+        .default_value("1")
+        .help("How many connections are taken in all, 1 to 8")
+}
+
+/// `--workers W`: how many workers there are.
+fn make_workers<'a>(alloc: Global) -> Arg<'a>
+    ensures { rule_of result ≡ workers_rule }
+{
+    Arg::new(alloc, "workers")
+        .long("workers")
+        .value_name("W")
+        .value_parser(value_parser!(u8).range(0..=16))
+        .default_value("2")
+        .help("How many workers step machines, 0 to 16")
 }
 
 /// `--NAME`, which is given or not.
@@ -89,6 +130,35 @@ and is sent. A client that breaks the protocol is given up: standard error has '
 Status 0: standard input has ended. Status 3: the port can't be had, a stream failed, or out of memory; standard error \
 says which.";
 
+/// What help says of `serve`.
+const SERVE_HELP: &str =
+    "Does the commands of standard input first, as 'run' does, and writes their replies. Then listens \
+on 127.0.0.1, writes 'listening P' to standard output, P the port, and takes N connections in all, each a conversation of \
+its own over the objects and machines that are there. Workers step the machines that are neither paused nor stopped, and \
+a mover takes objects away and brings them back. When all connections have ended, 'closed' is written. docs/PROTOCOL.md \
+describes the commands.\n\nStatus 0: all connections have ended. Status 1: an object is on its way or far when standard \
+input ends; standard error has \"object N isn't here\". Status 3: the port can't be had, a stream failed, or out of \
+memory; standard error says which.";
+
+/// `serve`, with its options.
+fn make_serve<'a>(alloc: Global) -> Result<Command<'a>, AllocError>
+    ensures { IfOk result (λ c. (app_of c ≡ serve_app) × IsLocal c) }
+{
+    let sweep = make_flag(
+        alloc,
+        "sweep",
+        "Send away objects that nobody has used for a while",
+    );
+    Command::new(alloc, "serve")
+        .about("Share objects and machines with clients")
+        .after_help(SERVE_HELP)
+        .arg(make_port(alloc))?
+        .arg(make_connections(alloc))?
+        .arg(make_workers(alloc))?
+        .arg(make_budget(alloc))?
+        .arg(sweep)
+}
+
 /// The command line of the program.
 fn make_command<'a>(alloc: Global) -> Result<Command<'a>, AllocError>
     ensures { IfOk result (λ c. app_of c ≡ command_line) }
@@ -132,12 +202,13 @@ fn make_command<'a>(alloc: Global) -> Result<Command<'a>, AllocError>
         .subcommand(check)?
         .subcommand(asm)?
         .subcommand(dis)?
-        .subcommand(store)
+        .subcommand(store)?
+        .subcommand(make_serve(alloc)?)
 }
 
 /// The budget that the matches of `run` give.
 fn read_budget<'a>(matches: &ArgMatches<'a>) -> u32
-    requires { HasNumber (codes "budget") budget_limit (rows_of (found_of matches.now)) }
+    requires { HasNumber (codes "budget") 0 budget_limit (rows_of (found_of matches.now)) }
     ensures { number_in (codes "budget") (rows_of (found_of matches.now)) ≡ Some result }
 {
     let Some(budget) = matches.get_one::<u32>("budget") else {
@@ -148,13 +219,35 @@ fn read_budget<'a>(matches: &ArgMatches<'a>) -> u32
 
 /// The port that the matches of `store` give.
 fn read_port<'a>(matches: &ArgMatches<'a>) -> u16
-    requires { HasNumber (codes "port") port_limit (rows_of (found_of matches.now)) }
+    requires { HasNumber (codes "port") 0 port_limit (rows_of (found_of matches.now)) }
     ensures { number_in (codes "port") (rows_of (found_of matches.now)) ≡ Some result }
 {
     let Some(port) = matches.get_one::<u16>("port") else {
         unreachable!()
     };
     port
+}
+
+/// The number of connections that the matches of `serve` give.
+fn read_connections<'a>(matches: &ArgMatches<'a>) -> u8
+    requires { HasNumber (codes "connections") 1 connections_limit (rows_of (found_of matches.now)) }
+    ensures { number_in (codes "connections") (rows_of (found_of matches.now)) ≡ Some result }
+{
+    let Some(connections) = matches.get_one::<u8>("connections") else {
+        unreachable!()
+    };
+    connections
+}
+
+/// The number of workers that the matches of `serve` give.
+fn read_workers<'a>(matches: &ArgMatches<'a>) -> u8
+    requires { HasNumber (codes "workers") 0 workers_limit (rows_of (found_of matches.now)) }
+    ensures { number_in (codes "workers") (rows_of (found_of matches.now)) ≡ Some result }
+{
+    let Some(workers) = matches.get_one::<u8>("workers") else {
+        unreachable!()
+    };
+    workers
 }
 
 /// Whether the flag of this name is given.
@@ -167,10 +260,25 @@ fn is_set<'a>(matches: &ArgMatches<'a>, name: &str) -> bool
     }
 }
 
+/// How the matches of `serve` ask to serve.
+fn read_serving<'a>(matches: &ArgMatches<'a>) -> Serving
+    requires { HasServing (rows_of (found_of matches.now)) }
+    ensures { serving_in (rows_of (found_of matches.now)) ≡ Some result }
+{
+    Serving {
+        port: read_port(matches),
+        connections: read_connections(matches),
+        workers: read_workers(matches),
+        budget: read_budget(matches),
+        sweep: is_set(matches, "sweep"),
+    }
+}
+
 /// The task of this name, with these matches.
 fn task_called<'a>(name: &str, matches: &ArgMatches<'a>) -> Option<Task>
-    requires run { name.now ≡ codes "run" → HasNumber (codes "budget") budget_limit (rows_of (found_of matches.now)) }
-    requires store { name.now ≡ codes "store" → HasNumber (codes "port") port_limit (rows_of (found_of matches.now)) }
+    requires run { name.now ≡ codes "run" → HasNumber (codes "budget") 0 budget_limit (rows_of (found_of matches.now)) }
+    requires store { name.now ≡ codes "store" → HasNumber (codes "port") 0 port_limit (rows_of (found_of matches.now)) }
+    requires serve { name.now ≡ codes "serve" → HasServing (rows_of (found_of matches.now)) }
     ensures { result ≡ task_named name.now (rows_of (found_of matches.now)) }
 {
     match name {
@@ -187,6 +295,7 @@ fn task_called<'a>(name: &str, matches: &ArgMatches<'a>) -> Option<Task>
         "store" => Some(Task::Store {
             port: read_port(matches),
         }),
+        "serve" => Some(Task::Serve(read_serving(matches))),
         _ => None,
     }
 }

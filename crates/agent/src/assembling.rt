@@ -73,18 +73,14 @@ fn assemble_input(alloc: Global, input: &[u8]) -> Result<Vec<u8>, Failure>
     if input.len() > TEXT_LIMIT {
         return Err(Failure::InputTooLong);
     }
-    let Ok(text) = text_of(alloc, input) else {
-        return Err(Failure::NoMemory);
-    };
+    let text = text_of(alloc, input)?;
     let instrs = match assemble(alloc, text.as_str()) {
         Ok(instrs) => instrs,
         Err(error) if error.why == Why::Memory => return Err(Failure::NoMemory),
         Err(error) => return Err(Failure::WrongLine(error)),
     };
-    match encode_all(alloc, &instrs) {
-        Ok(code) => Ok(code),
-        Err(_) => Err(Failure::NoMemory),
-    }
+    let code = encode_all(alloc, &instrs)?;
+    Ok(code)
 }
 
 /// The code that the input of the reader spells.
@@ -105,10 +101,8 @@ pub fn asm<R: Read, W: Write>(alloc: Global, reader: &mut R, writer: &mut W) -> 
     ensures consumed { ConsumesAtMost asm_limit (R.remaining reader.old) (R.remaining reader.new) }
 {
     let code = find_code(alloc, reader)?;
-    match put_all(writer, &code) {
-        Ok(()) => Ok(()),
-        Err(_) => Err(Failure::Write),
-    }
+    put_all(writer, &code)?;
+    Ok(())
 }
 
 /// Writes the code that the input spells.
@@ -116,10 +110,8 @@ fn put_code<W: Write>(alloc: Global, input: &[u8], writer: &mut W) -> Result<(),
     ensures { AsmLeaves input.now (W.contents writer.old) (W.contents writer.new) result }
 {
     let code = assemble_input(alloc, input)?;
-    match put_all(writer, &code) {
-        Ok(()) => Ok(()),
-        Err(_) => Err(Failure::Write),
-    }
+    put_all(writer, &code)?;
+    Ok(())
 }
 
 /// Reads assembly, writes the code that it spells, and reports how that went: with an explanation of

@@ -5,7 +5,7 @@ ghost use Rattle.streams.specs.Streams.{ConsumesAtMost};
 
 use crate::failure::Failure;
 use arrayvec::ArrayVec;
-use loader::{CODE_LIMIT, Why, load};
+use loader::{CODE_LIMIT, load};
 use std::alloc::Global;
 use std::io::{Read, Write};
 use streams::{put_all, read_at_most};
@@ -21,11 +21,8 @@ type OkLine = ArrayVec<u8, 32>;
 fn count_slots(alloc: Global, code: &[u8]) -> Result<usize, Failure>
     ensures { Finds code.now result }
 {
-    match load(alloc, code) {
-        Ok(program) => Ok(program.slots()),
-        Err(error) if error.why == Why::Memory => Err(Failure::NoMemory),
-        Err(error) => Err(Failure::Refused(error)),
-    }
+    let program = load(alloc, code)?;
+    Ok(program.slots())
 }
 
 /// What is found about the code that the reader has.
@@ -61,8 +58,6 @@ pub fn check<R: Read, W: Write>(
     ensures consumed { ConsumesAtMost check_limit (R.remaining reader.old) (R.remaining reader.new) }
 {
     let slots = find(alloc, reader)?;
-    match put_all(writer, &ok_line_of(slots)) {
-        Ok(()) => Ok(()),
-        Err(_) => Err(Failure::Write),
-    }
+    put_all(writer, &ok_line_of(slots))?;
+    Ok(())
 }

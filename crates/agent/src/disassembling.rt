@@ -7,7 +7,7 @@ ghost use Rattle.streams.specs.Streams.{ConsumesAtMost};
 use crate::checking::CHECK_LIMIT;
 use crate::failure::Failure;
 use disassembler::listing;
-use loader::{Why, load};
+use loader::load;
 use std::alloc::Global;
 use std::io::{Read, Write};
 use streams::{put_all, read_at_most};
@@ -17,15 +17,9 @@ fn show_code(alloc: Global, has_slots: bool, code: &[u8]) -> Result<Vec<u8>, Fai
     ensures ok { IfOk result (λ shown. Disassembles has_slots code.now (Ok shown.items)) }
     ensures err { IfErr result (λ failure. Disassembles has_slots code.now (Err failure)) }
 {
-    let program = match load(alloc, code) {
-        Ok(program) => program,
-        Err(error) if error.why == Why::Memory => return Err(Failure::NoMemory),
-        Err(error) => return Err(Failure::Refused(error)),
-    };
-    match listing(alloc, has_slots, &program) {
-        Ok(shown) => Ok(shown),
-        Err(_) => Err(Failure::NoMemory),
-    }
+    let program = load(alloc, code)?;
+    let shown = listing(alloc, has_slots, &program)?;
+    Ok(shown)
 }
 
 /// The canonical text of the code that the reader has.
@@ -51,8 +45,6 @@ pub fn dis<R: Read, W: Write>(
     ensures consumed { ConsumesAtMost check_limit (R.remaining reader.old) (R.remaining reader.new) }
 {
     let shown = find_text(alloc, has_slots, reader)?;
-    match put_all(writer, &shown) {
-        Ok(()) => Ok(()),
-        Err(_) => Err(Failure::Write),
-    }
+    put_all(writer, &shown)?;
+    Ok(())
 }

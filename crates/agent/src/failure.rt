@@ -1,13 +1,14 @@
 //! What the program ends with.
 ghost use Rattle.std.specs.Prelude.{◌≡◌, ◌⊎◌, ◌≤◌, length};
 ghost use Rattle.asm_grammar.specs.Reasons.{why_name};
-ghost use Rattle.agent.specs.Failures.{status_number, failure_line, status_of};
-ghost use Rattle.agent.specs.declared.failure.Failure.TheVariants.{Read as ReadFailed, NoMemory as OutOfMemory};
+ghost use Rattle.agent.specs.Failures.{FailsToLoad, status_number, failure_line, status_of};
+ghost use Rattle.agent.specs.declared.failure.Failure.TheVariants.{Read as ReadFailed, Write as WriteFailed, NoMemory as OutOfMemory};
 
 use arrayvec::ArrayVec;
 use assembler::{AsmError, Why};
 use loader::LoadError;
-use streams::InputFault;
+use std::alloc::AllocError;
+use streams::{InputFault, WriteFault};
 use thiserror::Error;
 
 /// How the program ended.
@@ -63,6 +64,33 @@ impl From<InputFault> for Failure {
             InputFault::Read => Failure::Read,
             InputFault::NoMemory => Failure::NoMemory,
         }
+    }
+}
+
+impl From<WriteFault> for Failure {
+    ghost from_gives = { λ _ failure. failure ≡ WriteFailed };
+
+    fn from(_fault: WriteFault) -> Failure {
+        Failure::Write
+    }
+}
+
+impl From<LoadError> for Failure {
+    ghost from_gives = { FailsToLoad };
+
+    fn from(error: LoadError) -> Failure {
+        if error.why != loader::Why::Memory {
+            return Failure::Refused(error);
+        }
+        Failure::NoMemory
+    }
+}
+
+impl From<AllocError> for Failure {
+    ghost from_gives = { λ _ failure. failure ≡ OutOfMemory };
+
+    fn from(_error: AllocError) -> Failure {
+        Failure::NoMemory
     }
 }
 

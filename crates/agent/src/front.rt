@@ -11,6 +11,7 @@ ghost use Rattle.agent.specs.ErrorShown.{Shows, ShowsError, ShowsHelp, ShowsOneO
 ghost use Rattle.agent.specs.Reports.{ReportsOutcome};
 ghost use Rattle.agent.specs.RunLeaves.{RunLeaves};
 ghost use Rattle.agent.specs.StoreLeaves.{LeavesUndone};
+ghost use Rattle.agent.specs.declared.arguments.Serving.{Serving};
 ghost use Rattle.streams.specs.Streams.{ConsumesAtMost};
 
 use crate::arguments::{Task, read_arguments};
@@ -77,8 +78,8 @@ fn show<W: Write, E: Write>(alloc: Global, error: Error, writer: &mut W, errors:
 /// exit status.
 ///
 /// Each subcommand tells in the status how it ended, and on `errors` why it gave up. Invalid
-/// arguments, and those that ask for help, read no input. For `store` it does nothing: who has the
-/// network calls [`store`](crate::store).
+/// arguments, and those that ask for help, read no input. For `store` and `serve` it does nothing: who
+/// has the network calls [`store`](crate::store) and [`serve`](crate::serve).
 pub fn tool<'a, S: AsStr, R: Read, W: Write, E: Write>(
     alloc: Global,
     arguments: &'a [S],
@@ -101,6 +102,9 @@ pub fn tool<'a, S: AsStr, R: Read, W: Write, E: Write>(
     ensures store { (port : ℕ) → faults_of (map S.text arguments.entry.now) ≡ [] → task_of (map S.text arguments.entry.now) ≡ Some (Task.Store port)
         → IfSome (R.remaining reader.old) (λ input. ReportsOutcome (LeavesUndone input (W.contents writer.old) (W.contents writer.new) (R.remaining reader.new))
         (E.contents errors.old) (E.contents errors.new) result) }
+    ensures serve { (serving : Serving) → faults_of (map S.text arguments.entry.now) ≡ [] → task_of (map S.text arguments.entry.now) ≡ Some (Task.Serve serving)
+        → IfSome (R.remaining reader.old) (λ input. ReportsOutcome (LeavesUndone input (W.contents writer.old) (W.contents writer.new) (R.remaining reader.new))
+        (E.contents errors.old) (E.contents errors.new) result) }
     ensures consumed { task_of (map S.text arguments.entry.now) ≡ Some Task.Check → ConsumesAtMost check_limit (R.remaining reader.old) (R.remaining reader.new) }
     ensures consumed_by_asm { (explains : Bool) → task_of (map S.text arguments.entry.now) ≡ Some (Task.Assemble explains) → ConsumesAtMost asm_limit (R.remaining reader.old) (R.remaining reader.new) }
     ensures consumed_by_dis { (has_slots : Bool) → task_of (map S.text arguments.entry.now) ≡ Some (Task.Disassemble has_slots) → ConsumesAtMost check_limit (R.remaining reader.old) (R.remaining reader.new) }
@@ -119,6 +123,7 @@ pub fn tool<'a, S: AsStr, R: Read, W: Write, E: Write>(
             report(dis(alloc, has_slots, reader, writer), errors).number()
         }
         Ok(Task::Store { .. }) => report(Ok(()), errors).number(),
+        Ok(Task::Serve(_)) => report(Ok(()), errors).number(),
         Err(error) => show(alloc, error, writer, errors).number(),
     }
 }

@@ -1,12 +1,12 @@
 //! What the command line takes, apart from any call.
 ghost use Rattle.std.specs.Prelude.{◌≡◌, ◌≢◌, [], ◌∷◌, Some, codes, true, false};
 ghost use Rattle.agent.specs.CommandLine.{budget_limit, budget_limit_text, faults_of, port_limit, task_of};
-ghost use Rattle.agent.specs.Laws.{RightArgumentsNameATask};
+ghost use Rattle.agent.specs.Laws.{RightArgumentsNameATask, all_of_serve, plain_serving};
 
 use crate::arguments::Task;
 use clap::error::ErrorKind;
 
-/// `run`, `check`, `asm`, `dis` and `store` alone are right arguments, and ask for what they are called; `--help` asks for
+/// `run`, `check`, `asm`, `dis`, `store` and `serve` alone are right arguments, and ask for what they are called; `--help` asks for
 /// help.
 pub fn right_arguments()
     ensures run { (faults_of (codes "run" ∷ []) ≡ []) × (task_of (codes "run" ∷ []) ≡ Some (Task.Run budget_limit)) }
@@ -14,6 +14,7 @@ pub fn right_arguments()
     ensures asm { (faults_of (codes "asm" ∷ []) ≡ []) × (task_of (codes "asm" ∷ []) ≡ Some (Task.Assemble false)) }
     ensures dis { (faults_of (codes "dis" ∷ []) ≡ []) × (task_of (codes "dis" ∷ []) ≡ Some (Task.Disassemble false)) }
     ensures store { (faults_of (codes "store" ∷ []) ≡ []) × (task_of (codes "store" ∷ []) ≡ Some (Task.Store 0)) }
+    ensures serve { (faults_of (codes "serve" ∷ []) ≡ []) × (task_of (codes "serve" ∷ []) ≡ Some (Task.Serve plain_serving)) }
     ensures help { faults_of (codes "--help" ∷ []) ≡ ErrorKind.DisplayHelp ∷ [] }
 {}
 
@@ -36,6 +37,15 @@ pub fn right_ports()
     ensures missing { faults_of (codes "store" ∷ codes "--port" ∷ []) ≢ [] }
 {}
 
+/// The options of `serve`, and numbers that are too small or too great for them.
+pub fn right_services()
+    ensures all { (faults_of all_of_serve ≡ []) × (task_of all_of_serve ≡ Some (Task.Serve (record { port = 7070; connections = 8; workers = 0; budget = 64; sweep = true }))) }
+    ensures no_connection { faults_of (codes "serve" ∷ codes "--connections" ∷ codes "0" ∷ []) ≢ [] }
+    ensures nine_connections { faults_of (codes "serve" ∷ codes "--connections=9" ∷ []) ≢ [] }
+    ensures too_many_workers { faults_of (codes "serve" ∷ codes "--workers" ∷ codes "17" ∷ []) ≢ [] }
+    ensures of_run { faults_of (codes "run" ∷ codes "--workers" ∷ codes "1" ∷ []) ≢ [] }
+{}
+
 /// `--slots` asks `dis` for the slots, `--explain` asks `asm` for an explanation.
 pub fn right_flags()
     ensures explain { (faults_of (codes "asm" ∷ codes "--explain" ∷ []) ≡ []) × (task_of (codes "asm" ∷ codes "--explain" ∷ []) ≡ Some (Task.Assemble true)) }
@@ -46,7 +56,7 @@ pub fn right_flags()
 /// invalid.
 pub fn invalid_arguments()
     ensures none { faults_of [] ≢ [] }
-    ensures other { faults_of (codes "serve" ∷ []) ≢ [] }
+    ensures other { faults_of (codes "steps" ∷ []) ≢ [] }
     ensures help { faults_of (codes "help" ∷ []) ≢ [] }
     ensures second { faults_of (codes "run" ∷ codes "check" ∷ []) ≢ [] }
     ensures option { faults_of (codes "check" ∷ codes "--budget" ∷ codes "8" ∷ []) ≢ [] }

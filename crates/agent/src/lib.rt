@@ -9,11 +9,13 @@ mod explaining;
 mod failure;
 mod front;
 mod laws;
+mod network;
 mod reporting;
 mod running;
+mod serving;
 mod storing;
 
-pub use arguments::Task;
+pub use arguments::{Serving, Task};
 pub use assembling::asm;
 pub use checking::check;
 pub use disassembling::dis;
@@ -21,8 +23,10 @@ pub use failure::{Failure, Status};
 pub use front::tool;
 pub use laws::{
     invalid_arguments, invalid_budgets, right_arguments, right_arguments_name_a_task,
-    right_budgets, right_flags, right_ports,
+    right_budgets, right_flags, right_ports, right_services,
 };
+pub use network::{Server, asked_server};
 pub use reporting::refuse_arguments;
 pub use running::run;
-pub use storing::{store, store_port};
+pub use serving::{ServeFault, serve};
+pub use storing::store;

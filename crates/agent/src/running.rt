@@ -1,7 +1,7 @@
 //! `run`: commands in, replies out.
 ghost use Rattle.std.specs.Prelude.{◌≡◌, IfOk, IfSome};
 ghost use Rattle.world.specs.WorldState.{world_start};
-ghost use Rattle.agent.specs.RunLeaves.{RunLeaves};
+ghost use Rattle.agent.specs.RunLeaves.{CommandsLeave, RunLeaves};
 
 use crate::failure::Failure;
 use console::{Console, DriveFault, drive};
@@ -17,6 +17,25 @@ fn make_world(alloc: Global, budget: u32) -> Result<World<OwnStore>, AllocError>
     World::new(alloc, budget, OwnStore::new(alloc))
 }
 
+/// Does the commands that the reader has, from a world with no machine and no object, writes their replies, and gives the
+/// world that they leave. Out of memory before the first line reads no input.
+pub(crate) fn do_commands<R: Read, W: Write>(
+    alloc: Global,
+    budget: u32,
+    reader: &mut R,
+    writer: &mut W,
+) -> Result<World<OwnStore>, Failure>
+    ensures { IfSome (R.remaining reader.old) (λ input. CommandsLeave budget input (W.contents writer.old) (W.contents writer.new) (R.remaining reader.new) result) }
+{
+    let mut world = make_world(alloc, budget)?;
+    let mut console = Console::new(alloc)?;
+    match drive(reader, writer, &mut console, &mut world) {
+        Ok(()) => Ok(world),
+        Err(DriveFault::Read) => Err(Failure::Read),
+        Err(DriveFault::Write) => Err(Failure::Write),
+    }
+}
+
 /// Does the commands that the reader has, from a world with no machine and no object, and writes
 /// their replies. The objects that aren't far have at most `budget` bytes. Out of memory before the
 /// first line reads no input.
@@ -28,15 +47,9 @@ pub fn run<R: Read, W: Write>(
 ) -> Result<(), Failure>
     ensures { IfSome (R.remaining reader.old) (λ input. RunLeaves budget input (W.contents writer.old) (W.contents writer.new) (R.remaining reader.new) result) }
 {
-    let Ok(mut world) = make_world(alloc, budget) else {
-        return Err(Failure::NoMemory);
+    let _world = match do_commands(alloc, budget, reader, writer) {
+        Ok(world) => world,
+        Err(failure) => return Err(failure),
     };
-    let Ok(mut console) = Console::new(alloc) else {
-        return Err(Failure::NoMemory);
-    };
-    match drive(reader, writer, &mut console, &mut world) {
-        Ok(()) => Ok(()),
-        Err(DriveFault::Read) => Err(Failure::Read),
-        Err(DriveFault::Write) => Err(Failure::Write),
-    }
+    Ok(())
 }

@@ -1,35 +1,15 @@
 //! `store`: keeps what clients send away.
-ghost use Rattle.std.specs.Prelude.{◌≡◌, ◌≢◌, ◌++◌, ◌∷◌, [], ◌≤◌, ℕ, length, None, Some, IfOk, IfSome, map};
-ghost use Rattle.agent.specs.CommandLine.{faults_of, task_of};
+ghost use Rattle.std.specs.Prelude.{◌≡◌, ◌++◌, ◌∷◌, [], ◌≤◌, length};
 ghost use Rattle.agent.specs.StoreLeaves.{ReportsServer, StoreLeaves, listen_text};
 
-use crate::arguments::{Task, read_arguments};
 use crate::failure::{FailureLine, Status};
 use crate::reporting::say;
-use clap::error::ErrorKind;
 use far_server::{ListenFault, listen};
-use std::alloc::{AllocError, Global};
-use std::convert::AsStr;
+use std::alloc::Global;
 use std::io::{Read, Write};
 use std::net::{Net, TcpListener, TcpStream};
 use std::sync::Wait;
 use std::thread::Threads;
-
-/// The port to listen on, where the arguments ask for `store`. Out of memory is an error.
-pub fn store_port<'a, S: AsStr>(
-    alloc: Global,
-    arguments: &'a [S],
-) -> Result<Option<u16>, AllocError>
-    ensures some { IfOk result (λ asked. IfSome asked (λ port. (faults_of (map S.text arguments.entry.now) ≡ []) × (task_of (map S.text arguments.entry.now) ≡ Some (Task.Store port)))) }
-    ensures none { IfOk result (λ asked. asked ≡ None → (port : ℕ) → faults_of (map S.text arguments.entry.now) ≡ [] → task_of (map S.text arguments.entry.now) ≢ Some (Task.Store port)) }
-{
-    match read_arguments(alloc, arguments) {
-        Ok(Task::Store { port }) => Ok(Some(port)),
-        Ok(_) => Ok(None),
-        Err(error) if error.kind() == ErrorKind::OutOfMemory => Err(AllocError),
-        Err(_) => Ok(None),
-    }
-}
 
 /// What is said of a server that ended otherwise than with its input.
 fn text_of(fault: ListenFault) -> &'static [u8]

@@ -15,6 +15,7 @@ Commands:
   asm    Turn the assembly of standard input into raw code
   dis    Show the raw code of standard input as assembly
   store  Keep the objects of other agents
+  serve  Share objects and machines with clients
 
 Options:
   -h, --help  Print help
@@ -59,14 +60,14 @@ Status 0: standard input has ended. Status 3: the port can't be had, a stream fa
 ";
 
 const NO_SUBCOMMAND: &str = "error: 'bpfagent' requires a subcommand but one was not provided
-  [subcommands: run, check, asm, dis, store]
+  [subcommands: run, check, asm, dis, store, serve]
 
 Usage: bpfagent <COMMAND>
 
 For more information, try '--help'.
 ";
 
-const UNKNOWN: &str = "error: unrecognized subcommand 'serve'
+const UNKNOWN: &str = "error: unrecognized subcommand 'stor'
 
   tip: a similar subcommand exists: 'store'
 
@@ -127,7 +128,7 @@ For more information, try '--help'.
 fn invalid_arguments_are_named(rt: HostRuntime) {
     let cases: [(&[&str], &str); 10] = [
         (&[], NO_SUBCOMMAND),
-        (&["serve"], UNKNOWN),
+        (&["stor"], UNKNOWN),
         (&["help"], HELP_SUBCOMMAND),
         (&["check", "--budget", "8"], OPTION),
         (&["run", "--budget", "67108865"], TOO_GREAT),

@@ -16,4 +16,6 @@ mod outcome;
 #[cfg(test)]
 mod running;
 #[cfg(test)]
+mod servers;
+#[cfg(test)]
 mod storing;

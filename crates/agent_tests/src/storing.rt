@@ -1,29 +1,11 @@
-//! `store`: its arguments, and how it ends.
+//! `store`: how it ends.
 
 use crate::outcome::outcome_of;
-use agent::{store, store_port};
+use agent::store;
 use std::io::{Error, ErrorKind, Read, Result as IoResult};
 use std::net::{Ipv4Addr, TcpListener};
 use std::test::Fail;
 use test_devices::Narrow;
-
-#[test]
-fn the_port_that_is_asked_for(rt: HostRuntime) -> Result<(), Fail> {
-    let cases: [(&[&str], Option<u16>); 8] = [
-        (&["store"], Some(0)),
-        (&["store", "--port", "7070"], Some(7070)),
-        (&["store", "--port=65535"], Some(65_535)),
-        (&["store", "--port=65536"], None),
-        (&["store", "--help"], None),
-        (&["run"], None),
-        (&["check", "--port", "1"], None),
-        (&[], None),
-    ];
-    for (arguments, port) in cases {
-        assert_eq!(rt; store_port(rt.alloc(), arguments)?, port, "{arguments:?}");
-    }
-    Ok(())
-}
 
 /// The work of `store` is its caller's: `tool` reads and writes nothing.
 #[test]

@@ -1,7 +1,7 @@
 //! The program. All that it does is in the crate `agent`.
 #![tactic(auto)]
 
-use agent::{refuse_arguments, store, store_port, tool};
+use agent::{Server, asked_server, refuse_arguments, serve, store, tool};
 use std::process::ExitCode;
 use std::rt::Env;
 use std::{env, io};
@@ -17,12 +17,20 @@ fn main(rt: HostRuntime) -> ExitCode {
         Ok(arguments) => arguments,
         Err(error) => return ExitCode::from(refuse_arguments(&error, &mut errors)),
     };
-    let status = match store_port(rt.alloc(), arguments.as_slice()) {
-        Ok(Some(port)) => store(
+    let status = match asked_server(rt.alloc(), arguments.as_slice()) {
+        Ok(Some(Server::Store { port })) => store(
             &rt,
             rt.alloc(),
             port,
             rt.stdin(),
+            &mut rt.stdout(),
+            &mut errors,
+        ),
+        Ok(Some(Server::Serve(serving))) => serve(
+            &rt,
+            rt.alloc(),
+            serving,
+            &mut rt.stdin(),
             &mut rt.stdout(),
             &mut errors,
         ),

@@ -1,16 +1,10 @@
-use Rattle.std.proofs.Common.{◌≡◌, ◌∙◌, ◌&&◌, ◌||◌, not, is_some, ap, ap₂, refl, true, false, codes, Bool}
+use Rattle.std.proofs.Common.{◌≡◌, ◌∙◌, ◌||◌, ap, ap₂, refl, true, codes}
 use Rattle.std.proofs.lemmas.Result.{IfOk-weaker}
-use Rattle.clap.specs.Words.{App, Rule, app_of, new_app, rule_of, with_rule, with_subcommand}
+use Rattle.clap.specs.Words.{App, app_of, new_app, with_rule, with_subcommand}
 use Rattle.clap.specs.Simple.{app_of_fields, new_shape}
-use Rattle.clap.specs.Walk.{is_empty}
-use Rattle.clap.specs.declared.builder.arg.Arg.{Arg}
-use Rattle.clap.specs.declared.builder.command.Command.{Command}
-use Rattle.clap.specs.declared.builder.command.Command.TheOpen.{Command-F}
-use Rattle.agent.specs.CommandLine.{asm_shape, bare, budget_rule, dis_shape, flag_rule, port_rule, run_shape}
+use Rattle.agent.specs.CommandLine.{asm_shape, bare, budget_rule, dis_shape, flag_rule, port_rule, run_shape, store_shape}
+use Rattle.agent.proofs.Globals.{local_of, not_global}
 use Rattle.agent.proofs.arguments.make_command.Goals as goal
-
-abbrev local_of : Command-F Command → Bool
-local_of f = f.has_globals
 
 abbrev with_no_name : App → App
 with_no_name a = record { top = record a.top { no_binary_name = true }; subs = a.subs }
@@ -20,28 +14,6 @@ without_help a = record { top = record a.top { disable_help_subcommand = true };
 
 abbrev with_required : App → App
 with_required a = record { top = record a.top { subcommand_required = true }; subs = a.subs }
-
-is_last : (a b c d e f g h i j : Bool) → (a && (b && (c && (d && (e && (f && (g && (h && (i && j))))))))) ≡ true → j ≡ true
-is_last true true true true true true true true true j h = h
-is_last false b c d e f g h i j k = absurd (cc)
-is_last true false c d e f g h i j k = absurd (cc)
-is_last true true false d e f g h i j k = absurd (cc)
-is_last true true true false e f g h i j k = absurd (cc)
-is_last true true true true false f g h i j k = absurd (cc)
-is_last true true true true true false g h i j k = absurd (cc)
-is_last true true true true true true false h i j k = absurd (cc)
-is_last true true true true true true true false i j k = absurd (cc)
-is_last true true true true true true true true false j k = absurd (cc)
-
-not_true : (b : Bool) → not b ≡ true → b ≡ false
-not_true true h = absurd (cc)
-not_true false h = refl
-
--- a simple argument is not global
-not_global : (a : Arg) (rule : Rule) → rule.is_simple ≡ true → rule_of a ≡ rule → a.global ≡ false
-not_global a rule simple is = not_true a.global (is_last (is_empty a.overrides.items) (is_empty a.default_vals_ifs.items) (is_empty a.groups.items)
-    (not (is_some a.val_delim)) (not (is_some a.terminator)) (not a.allow_hyphen_values) (not a.allow_negative_numbers) (not a.require_equals) (not a.last) (not a.global)
-    (ap (λ (r : Rule). r.is_simple) is ∙ simple))
 
 pub returns : goal.returns
 returns c =
@@ -73,4 +45,6 @@ returns c =
     let store_is : app_of c.in_ok-store.store ≡ with_rule (new_app (codes "store")) port_rule = c.in_ok-store.ensures.shape port_local
     ∙ ap₂ with_rule (ap app_of_fields c.after_help-4.ensures ∙ (ap app_of_fields c.about-5.ensures ∙ c.new-5.ensures.app)) c.make_port.ensures in
     let store_local = c.in_ok-store.ensures.globals ∙ ap₂ (λ a b. a || b) (ap local_of c.after_help-4.ensures ∙ (ap local_of c.about-5.ensures ∙ c.new-5.ensures.local)) port_local in
-    IfOk-weaker c.subcommand-5.result _ _ (λ r adds. adds.shape store_local ∙ ap₂ with_subcommand with_dis (ap (λ (a : App). a.top) store_is)) c.subcommand-5.ensures
+    let with_store : app_of c.in_ok-subcommand-5.field-0 ≡ with_subcommand (with_subcommand (with_subcommand (with_subcommand (with_subcommand bare run_shape) (new_shape (codes "check"))) asm_shape) dis_shape) store_shape = c.in_ok-subcommand-5.ensures.shape store_local
+    ∙ ap₂ with_subcommand with_dis (ap (λ (a : App). a.top) store_is) in
+    IfOk-weaker c.subcommand-6.result _ _ (λ r adds. adds.shape c.in_ok-make_serve.ensures.1 ∙ ap₂ with_subcommand with_store (ap (λ (a : App). a.top) c.in_ok-make_serve.ensures.0)) c.subcommand-6.ensures

@@ -1,6 +1,7 @@
 use Rattle.std.proofs.Common.{◌≡◌, [], IsSome, subst, ◌∙◌, ap, ap₂, refl, sym, true, false, is_some, map, Option, None, Some, option_map}
 use Rattle.std.specs.Prelude.{option_and_then}
-use Rattle.clap.specs.Words.{App, fault_of, is_simple, is_simple_and_free, subcommand_of}
+use Rattle.std.proofs.lemmas.Result.{err_from_is_err_and}
+use Rattle.clap.specs.Words.{App, app_of, fault_of, is_simple, is_simple_and_free, subcommand_of}
 use Rattle.clap.proofs.OnLiterals.{clap_on_literals}
 use Rattle.agent.specs.CommandLine.{command_line, faults_of, task_named}
 use Rattle.agent.proofs.Subcommands.{IsEntered, right_enters}
@@ -47,7 +48,7 @@ task_called-requires g c =
     let seen = joined _ _ _ _ (c.subcommand.ensures.name ∙ firsts _ _ _) c.subcommand.ensures.rows ∙ met in
     let pair = rw c.in-Some.is at seen in
     let entered = subst IsEntered (sym pair) (right_enters words right).1 in
-    record { run = entered.1; store = entered.2 }
+    record { run = entered.1; store = entered.2; serve = entered.3 }
 
 pub unreachable-requires-in_default-task_called : goal.unreachable-requires-in_default-task_called
 unreachable-requires-in_default-task_called g c =
@@ -72,3 +73,12 @@ returns-clause-ok g c =
     let seen = joined _ _ _ _ (c.subcommand.ensures.name ∙ firsts _ _ _) c.subcommand.ensures.rows ∙ met in
     let pair = rw c.in-Some.is at seen in
     (right, ap (option_and_then (λ p. task_named p.0 p.1)) (sym pair) ∙ sym c.task_called.ensures ∙ c.in-Some-task_called.is)
+
+pub returns-in_err-matches-clause-err : goal.returns-in_err-matches-clause-err
+returns-in_err-matches-clause-err g c =
+    let words = map g.S.AsStr.text c.args.arguments.now in
+    let line_is = c.in_ok-make_command.ensures in
+    let p = err_from_is_err_and c.from_residual-in_err-matches.result c.from_residual-in_err-matches.ensures.1 in
+    let fails = c.in_err-matches.ensures.kinds (ap is_simple_and_free line_is ∙ free) in
+    let same : fault_of (app_of c.in_ok-make_command.field-0) words ≡ faults_of words = ap (λ (a : App). fault_of a words) line_is in
+    rw (p.1, p.2, sym same) fails

@@ -10,7 +10,7 @@ pub unreachable-requires : goal.unreachable-requires
 unreachable-requires c =
     let f = found_of c.args.matches.now in
     let got = number_read _ (λ bs r. ParsesUnsigned 16 10 bs r × ExplainsUnsignedError 10 bs r × HasUnsignedDigitsIfOk bs r) 16 (λ text x g. g.0)
-    (codes "port") port_limit (omega arith) (rows_of f) c.requires c.get_one.result
+    (codes "port") 0 port_limit (omega arith) (rows_of f) c.requires c.get_one.result
     (λ text e. c.get_one.ensures.value text (one_text-rows f (codes "port") ∙ e)) in
     let bad : None ≡ Some got.0 = sym c.in_default.is ∙ got.1 in
     cc
@@ -19,6 +19,6 @@ pub returns : goal.returns
 returns c =
     let f = found_of c.args.matches.now in
     let got = number_read _ (λ bs r. ParsesUnsigned 16 10 bs r × ExplainsUnsignedError 10 bs r × HasUnsignedDigitsIfOk bs r) 16 (λ text x g. g.0)
-    (codes "port") port_limit (omega arith) (rows_of f) c.requires c.get_one.result
+    (codes "port") 0 port_limit (omega arith) (rows_of f) c.requires c.get_one.result
     (λ text e. c.get_one.ensures.value text (one_text-rows f (codes "port") ∙ e)) in
     got.2 ∙ sym got.1 ∙ c.in-Some.is

@@ -48,6 +48,11 @@ returns-in-Err-clause-store g c port right asked =
     reported_over (g.R.Read.remaining c.args.reader.now) _ c.in-Err.error _ _ _ _ c.show.result _ right c.in-Err.ensures.err c.show.ensures c.number-in-Err.ensures
     (λ input. LeavesUndone input (g.W.Write.contents c.args.writer.now) (g.W.Write.contents c.show.new.writer) (g.R.Read.remaining c.args.reader.now)) (λ input unread kept. (kept, unread))
 
+pub returns-in-Err-clause-serve : goal.returns-in-Err-clause-serve
+returns-in-Err-clause-serve g c serving right asked =
+    reported_over (g.R.Read.remaining c.args.reader.now) _ c.in-Err.error _ _ _ _ c.show.result _ right c.in-Err.ensures.err c.show.ensures c.number-in-Err.ensures
+    (λ input. LeavesUndone input (g.W.Write.contents c.args.writer.now) (g.W.Write.contents c.show.new.writer) (g.R.Read.remaining c.args.reader.now)) (λ input unread kept. (kept, unread))
+
 reported_run : (given : Option (List ℕ)) (work : List ℕ → Result ⊤ Failure → Type 0) (before after : Option (List ℕ)) (outcome : Result ⊤ Failure) (status : Status) (number : ℕ)
     → IfSome given (λ input. work input outcome) → Reports before after outcome status → number ≡ status_number status
     → IfSome given (λ input. ReportsOutcome (work input) before after number)
@@ -78,6 +83,11 @@ pub returns-in-Ok-Store-clause-store : goal.returns-in-Ok-Store-clause-store
 returns-in-Ok-Store-clause-store g c port right asked =
     reported_run _ (λ input. LeavesUndone input (g.W.Write.contents c.args.writer.now) (g.W.Write.contents c.args.writer.now) (g.R.Read.remaining c.args.reader.now)) _ _ (Ok tt) _ _
     (undone (g.R.Read.remaining c.args.reader.now) (g.W.Write.contents c.args.writer.now)) c.report-in-Ok-Store.ensures c.number-in-Ok-Store.ensures
+
+pub returns-in-Ok-Serve-clause-serve : goal.returns-in-Ok-Serve-clause-serve
+returns-in-Ok-Serve-clause-serve g c serving right asked =
+    reported_run _ (λ input. LeavesUndone input (g.W.Write.contents c.args.writer.now) (g.W.Write.contents c.args.writer.now) (g.R.Read.remaining c.args.reader.now)) _ _ (Ok tt) _ _
+    (undone (g.R.Read.remaining c.args.reader.now) (g.W.Write.contents c.args.writer.now)) c.report-in-Ok-Serve.ensures c.number-in-Ok-Serve.ensures
 
 pub returns-in-Ok-Assemble-clause-asm : goal.returns-in-Ok-Assemble-clause-asm
 returns-in-Ok-Assemble-clause-asm g c explains right asked =

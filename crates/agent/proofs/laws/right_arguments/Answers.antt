@@ -10,5 +10,6 @@ returns c = record {
   asm = (refl, refl);
   dis = (refl, refl);
   store = (refl, refl);
+  serve = (refl, refl);
   help = refl;
 }

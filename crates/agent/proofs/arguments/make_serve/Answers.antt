@@ -1,0 +1,26 @@
+use Rattle.std.proofs.Common.{◌≡◌, ◌∙◌, ◌||◌, ap, ap₂, refl, codes}
+use Rattle.std.proofs.lemmas.Result.{IfOk-weaker}
+use Rattle.clap.specs.Words.{app_of, new_app, with_rule}
+use Rattle.clap.specs.Simple.{app_of_fields}
+use Rattle.agent.specs.CommandLine.{budget_rule, connections_rule, flag_rule, port_rule, workers_rule}
+use Rattle.agent.proofs.Globals.{local_of, not_global}
+use Rattle.agent.proofs.arguments.make_serve.Goals as goal
+
+pub returns : goal.returns
+returns c =
+    let base : app_of c.after_help.result ≡ new_app (codes "serve") = ap app_of_fields c.after_help.ensures ∙ (ap app_of_fields c.about.ensures ∙ c.new.ensures.app) in
+    let base_local = ap local_of c.after_help.ensures ∙ (ap local_of c.about.ensures ∙ c.new.ensures.local) in
+    let port_local = not_global c.make_port.result port_rule refl c.make_port.ensures in
+    let with_port = c.in_ok-arg.ensures.shape port_local ∙ ap₂ with_rule base c.make_port.ensures in
+    let local_port = c.in_ok-arg.ensures.globals ∙ ap₂ (λ a b. a || b) base_local port_local in
+    let connections_local = not_global c.make_connections.result connections_rule refl c.make_connections.ensures in
+    let with_connections = c.in_ok-arg-2.ensures.shape connections_local ∙ ap₂ with_rule with_port c.make_connections.ensures in
+    let local_connections = c.in_ok-arg-2.ensures.globals ∙ ap₂ (λ a b. a || b) local_port connections_local in
+    let workers_local = not_global c.make_workers.result workers_rule refl c.make_workers.ensures in
+    let with_workers = c.in_ok-arg-3.ensures.shape workers_local ∙ ap₂ with_rule with_connections c.make_workers.ensures in
+    let local_workers = c.in_ok-arg-3.ensures.globals ∙ ap₂ (λ a b. a || b) local_connections workers_local in
+    let budget_local = not_global c.make_budget.result budget_rule refl c.make_budget.ensures in
+    let with_budget = c.in_ok-arg-4.ensures.shape budget_local ∙ ap₂ with_rule with_workers c.make_budget.ensures in
+    let local_budget = c.in_ok-arg-4.ensures.globals ∙ ap₂ (λ a b. a || b) local_workers budget_local in
+    let sweep_local = not_global c.make_flag-sweep.result (flag_rule (codes "sweep")) refl c.make_flag-sweep.ensures in
+    IfOk-weaker c.arg-5.result _ _ (λ r adds. (adds.shape sweep_local ∙ ap₂ with_rule with_budget c.make_flag-sweep.ensures, adds.globals ∙ ap₂ (λ a b. a || b) local_budget sweep_local)) c.arg-5.ensures

@@ -1,0 +1,167 @@
+//! `serve`: shares objects and machines with clients.
+ghost use Rattle.std.specs.Prelude.{◌≡◌, ◌++◌, ◌∷◌, [], ◌≤◌, length, IfSome};
+ghost use Rattle.agent.specs.ServeLeaves.{ReportsServe, ReportsService, ServeLeaves, listen_text, serve_status, serve_text};
+
+use crate::arguments::Serving;
+use crate::failure::{Failure, Status};
+use crate::reporting::say;
+use crate::running::do_commands;
+use arrayvec::ArrayVec;
+use far_store::OwnStore;
+use ship_service::{ListenFault, listen};
+use std::alloc::Global;
+use std::io::{self, Read, Write};
+use std::net::{Ipv4Addr, Net, SocketAddr, TcpListener, TcpStream};
+use std::sync::Wait;
+use std::thread::Threads;
+use world::World;
+
+/// Why a service ended otherwise than with its connections.
+#[derive(Clone, Copy, Drop, Debug, PartialEq, Eq)]
+pub enum ServeFault {
+    /// The commands of the input weren't all done.
+    Setup(Failure),
+    /// The port can't be had.
+    Bind,
+    /// It ended later, for this reason.
+    Listen(ListenFault),
+}
+
+/// A line about the end of a service.
+type FaultLine = ArrayVec<u8, 48>;
+
+/// Puts the line of a service that ended otherwise than with its connections into an empty one.
+fn put_fault(fault: ListenFault, line: &mut FaultLine)
+    requires { line.old.items ≡ [] }
+    ensures { line.new.items ≡ listen_text fault ++ 10 ∷ [] }
+{
+    match fault {
+        ListenFault::NotHere(number) => {
+            let mut digits = itoa::Buffer::new();
+            let _ = line.try_extend_from_slice(b"object ");
+            let _ = line.try_extend_from_slice(digits.format(number).as_bytes());
+            let _ = line.try_extend_from_slice(b" isn't here");
+            let _ = line.try_push(b'\n');
+        }
+        ListenFault::Memory => {
+            let _ = line.try_extend_from_slice(b"no memory\n");
+        }
+        ListenFault::Net => {
+            let _ = line.try_extend_from_slice(b"net fault\n");
+        }
+        ListenFault::Write => {
+            let _ = line.try_extend_from_slice(b"write fault\n");
+        }
+    }
+}
+
+/// The line of a service that ended otherwise than with its connections.
+fn line_of(fault: ListenFault) -> FaultLine
+    ensures { result.items ≡ listen_text fault ++ 10 ∷ [] }
+{
+    let mut line = FaultLine::new();
+    put_fault(fault, &mut line);
+    line
+}
+
+impl ServeFault {
+    /// The status that the program ends with.
+    fn status(self) -> Status
+        ensures { result ≡ serve_status self }
+    {
+        match self {
+            ServeFault::Setup(failure) => failure.status(),
+            ServeFault::Listen(ListenFault::NotHere(_)) => Status::Refused,
+            ServeFault::Bind | ServeFault::Listen(_) => Status::Failed,
+        }
+    }
+
+    /// The line that tells of it.
+    fn line(self) -> FaultLine
+        ensures { result.items ≡ serve_text self ++ 10 ∷ [] }
+    {
+        match self {
+            ServeFault::Setup(failure) => failure.line(),
+            ServeFault::Bind => line_of(ListenFault::Net),
+            ServeFault::Listen(fault) => line_of(fault),
+        }
+    }
+}
+
+/// Reports how a service ended, and gives the status. What the stream doesn't take of the line is lost.
+fn report_service<E: Write>(outcome: Result<(), ServeFault>, errors: &mut E) -> u8
+    ensures { ReportsService (E.contents errors.old) (E.contents errors.new) outcome result }
+{
+    match outcome {
+        Ok(()) => Status::Done.number(),
+        Err(fault) => {
+            let _told = say(&fault.line(), errors);
+            fault.status().number()
+        }
+    }
+}
+
+/// A listener on this port of 127.0.0.1, or on any free one where it is 0.
+fn bind<R: Net<Listener = TcpListener, Stream = TcpStream>>(
+    rt: &R,
+    port: u16,
+) -> io::Result<TcpListener> {
+    TcpListener::bind(rt, SocketAddr::from((Ipv4Addr::LOCALHOST, port)))
+}
+
+/// Does the commands of the reader, and then those of clients, until all connections have ended.
+fn serve_over<R, I: Read, W: Write>(
+    rt: &R,
+    alloc: Global,
+    serving: Serving,
+    reader: &mut I,
+    writer: &mut W,
+) -> Result<(), ServeFault>
+where
+    R: Net<Listener = TcpListener, Stream = TcpStream> + Threads + Wait + Sync,
+    ensures { IfSome (I.remaining reader.old) (λ input. ServeLeaves serving.budget input (W.contents writer.old) (W.contents writer.new) (I.remaining reader.new) result) }
+{
+    let world: World<OwnStore> = match do_commands(alloc, serving.budget, reader, writer) {
+        Ok(world) => world,
+        Err(failure) => return Err(ServeFault::Setup(failure)),
+    };
+    let Ok(listener) = bind(rt, serving.port) else {
+        return Err(ServeFault::Bind);
+    };
+    let outcome = listen(
+        rt,
+        alloc,
+        listener,
+        writer,
+        world,
+        serving.connections as usize,
+        serving.workers as usize,
+        serving.sweep,
+    );
+    match outcome {
+        Ok(()) => Ok(()),
+        Err(fault) => Err(ServeFault::Listen(fault)),
+    }
+}
+
+/// Does the commands of the reader to its end, as [`run`](crate::run) does, and writes their replies. Then listens on the
+/// port of 127.0.0.1, or on any free one where it is 0, says which on the writer, and shares the objects and machines that
+/// there are with as many connections as are asked for. Gives the exit status when all have ended.
+///
+/// What went wrong is told on `errors`: the first of a reader or a writer that failed in the input's commands, a port that
+/// can't be had, an object that isn't here, and then whatever came first.
+pub fn serve<R, I: Read, W: Write, E: Write>(
+    rt: &R,
+    alloc: Global,
+    serving: Serving,
+    reader: &mut I,
+    writer: &mut W,
+    errors: &mut E,
+) -> u8
+where
+    R: Net<Listener = TcpListener, Stream = TcpStream> + Threads + Wait + Sync,
+    ensures { IfSome (I.remaining reader.old) (λ input. ReportsServe (ServeLeaves serving.budget input (W.contents writer.old) (W.contents writer.new) (I.remaining reader.new)) (E.contents errors.old) (E.contents errors.new) result) }
+{
+    let outcome = serve_over(rt, alloc, serving, reader, writer);
+    report_service(outcome, errors)
+}

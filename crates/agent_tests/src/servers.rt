@@ -1,0 +1,76 @@
+//! Servers that the arguments ask for.
+
+use crate::outcome::outcome_of;
+use agent::{Server, Serving, asked_server};
+use std::test::Fail;
+
+/// What `serve` alone asks for.
+const PLAIN: Serving = Serving {
+    port: 0,
+    connections: 1,
+    workers: 2,
+    budget: 67_108_864,
+    sweep: false,
+};
+
+/// `serve` with all its options.
+const ALL: Serving = Serving {
+    port: 7070,
+    connections: 8,
+    workers: 16,
+    budget: 0,
+    sweep: true,
+};
+
+#[test]
+fn the_server_that_is_asked_for(rt: HostRuntime) -> Result<(), Fail> {
+    let cases: [(&[&str], Option<Server>); 12] = [
+        (&["store"], Some(Server::Store { port: 0 })),
+        (
+            &["store", "--port", "7070"],
+            Some(Server::Store { port: 7070 }),
+        ),
+        (
+            &["store", "--port=65535"],
+            Some(Server::Store { port: 65_535 }),
+        ),
+        (&["store", "--port=65536"], None),
+        (&["store", "--help"], None),
+        (&["serve"], Some(Server::Serve(PLAIN))),
+        (
+            &[
+                "serve",
+                "--workers=16",
+                "--sweep",
+                "--connections",
+                "8",
+                "--budget",
+                "0",
+                "--port=7070",
+            ],
+            Some(Server::Serve(ALL)),
+        ),
+        (&["serve", "--connections", "9"], None),
+        (&["serve", "--help"], None),
+        (&["run"], None),
+        (&["check", "--port", "1"], None),
+        (&[], None),
+    ];
+    for (arguments, server) in cases {
+        assert_eq!(rt;
+            asked_server(rt.alloc(), arguments)?,
+            server,
+            "{arguments:?}"
+        );
+    }
+    Ok(())
+}
+
+/// The work of `serve` is its caller's: `tool` reads and writes nothing.
+#[test]
+fn tool_leaves_it_to_its_caller(rt: HostRuntime) {
+    let outcome = outcome_of(rt.alloc(), &["serve", "--connections", "2"], b"step 1\n");
+    assert_eq!(rt; outcome.status, 0);
+    assert!(rt; outcome.output.is_empty());
+    assert!(rt; outcome.errors.is_empty());
+}
