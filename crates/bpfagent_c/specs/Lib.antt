@@ -1,0 +1,4 @@
+pub mod Handle
+pub mod Codes
+pub mod Told
+pub mod Shown
