@@ -10,9 +10,12 @@ ship.py run BPFAGENT CODE [--fuel N] [A ..]
 An argument is a number; for `run` it may also be an object, whose address is given: +N is one of N zero bytes, @FILE one
 of a file's bytes, =TEXT one of a text's.
 """
+import pathlib
 import struct
-import subprocess
 import sys
+
+sys.path.append(str(pathlib.Path(__file__).resolve().parent.parent / "client"))
+import bpfagent
 
 BPF = 247
 ALLOCATED, CODE = 2, 4
@@ -20,7 +23,6 @@ SYMBOLS, RELOCATIONS = 2, (4, 9)
 KINDS = {1: "the address of", 10: "a call of"}
 ENTRY = "program"
 FUEL = 1000000
-PART = 4096
 
 
 class Refused(Exception):
@@ -97,26 +99,6 @@ def ship_line(code, fuel, arguments):
     return " ".join(["ship", fuel, *arguments, *["0"] * (5 - len(arguments)), code.hex()])
 
 
-class Agent:
-    """A conversation with `bpfagent run`."""
-
-    def __init__(self, program):
-        self.process = subprocess.Popen([program, "run"], stdin=subprocess.PIPE, stdout=subprocess.PIPE, text=True)
-
-    def tell(self, command):
-        self.process.stdin.write(command + "\n")
-        self.process.stdin.flush()
-        return self.process.stdout.readline().rstrip("\n")
-
-    def make(self, content):
-        reply = self.tell(f"make {len(content)}")
-        if not reply.startswith("made "):
-            raise Refused(f"an object of {len(content)} bytes: {reply}")
-        for at in range(0, len(content), PART):
-            self.tell(f"put {reply[5:]} {at} {content[at : at + PART].hex()}")
-        return int(reply[5:])
-
-
 def number_of(text):
     try:
         number = int(text, 0)
@@ -151,48 +133,49 @@ def contents_of(arguments):
     return found
 
 
-def step_to_end(agent):
-    """The stop, and how many instructions were done."""
-    steps = 0
-    while True:
-        reply = agent.tell("step 1")
-        if not reply.startswith("ran "):
-            return reply, steps + reply.startswith("stopped 1 exit")
-        steps += 1
+def made(agent, content):
+    """The number of a new object of these bytes."""
+    try:
+        return agent.make_of(content)
+    except bpfagent.Refused as why:
+        raise Refused(f"an object of {len(content)} bytes: {why}") from None
 
 
-def whole(agent, number, length):
-    """All bytes of an object, in pieces."""
-    pieces = (agent.tell(f"get {number} {at} {min(length - at, PART)}") for at in range(0, length, PART))
-    return "".join(piece.removeprefix("bytes ") for piece in pieces)
-
-
-def show_stop(agent, reply, steps):
+def show_stop(agent, run):
     """The stop; where the program didn't come to its end, at which instruction."""
-    print(f"{reply}\n{steps} instructions")
-    if not reply.startswith("stopped 1 exit"):
-        slot = agent.tell("regs 1").split()[2]
-        print(f"at slot {slot}: {agent.tell(f'line 1 {slot}').removeprefix(f'line 1 {slot} ')}")
+    stop = run.last
+    if stop.why == "exit":
+        print(f"stopped 1 exit {stop.value:016x}\n{run.instructions + 1} instructions")
+    else:
+        slot = agent.regs(1).slot
+        print(f"stopped 1 {stop.why}\n{run.instructions} instructions\nat slot {slot}: {agent.line(1, slot)}")
+
+
+def converse(agent, path, fuel, arguments):
+    """Makes the objects, ships the code, runs it and shows what has come of it."""
+    objects, numbers = [], []
+    for argument, content in zip(arguments, contents_of(arguments)):
+        if content is not None:
+            objects.append((made(agent, content), len(content)))
+        numbers.append(bpfagent.address(objects[-1][0]) if content is not None else number_of(argument))
+    with open(path, "rb") as file:
+        code = file.read()
+    try:
+        machine = agent.ship(code, fuel, *numbers)
+    except bpfagent.Refused as why:
+        raise Refused(f"{path}: {why}") from None
+    show_stop(agent, agent.run_until(machine))
+    emitted = agent.out(machine)
+    if emitted:
+        print("emitted", *[f"{value:016x}" for value in emitted])
+    for number, length in objects:
+        content = agent.read(number, length)
+        print(f"object {number}: {content.hex()}{as_text(content)}")
 
 
 def run(program, path, fuel, arguments):
-    agent, objects, numbers = Agent(program), [], []
-    for argument, content in zip(arguments, contents_of(arguments)):
-        if content is not None:
-            objects.append((agent.make(content), len(content)))
-            argument = f"0x{objects[-1][0] << 32:x}"
-        numbers.append(argument)
-    with open(path, "rb") as file:
-        reply = agent.tell(ship_line(file.read(), str(fuel), numbers))
-    if reply != "shipped 1":
-        raise Refused(f"{path}: {reply}")
-    show_stop(agent, *step_to_end(agent))
-    emitted = agent.tell("out 1").removeprefix("out 1")
-    if emitted:
-        print(f"emitted{emitted}")
-    for number, length in objects:
-        shown = whole(agent, number, length)
-        print(f"object {number}: {shown}{as_text(bytes.fromhex(shown))}")
+    with bpfagent.Agent.start(program) as agent:
+        converse(agent, path, fuel, arguments)
 
 
 def as_text(content):
@@ -226,7 +209,7 @@ def main():
             run(sys.argv[2], sys.argv[3], fuel, words)
         else:
             sys.exit(__doc__)
-    except (Refused, OSError) as why:
+    except (Refused, bpfagent.Broken, OSError) as why:
         sys.exit(f"{sys.argv[-1] if sys.argv[1] == 'check' else 'ship.py'}: {why}")
 
 

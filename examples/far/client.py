@@ -12,6 +12,7 @@ import sys
 HEAD = struct.Struct(">BQI")
 PUT, GET, FORGET = 1, 2, 3
 DONE = 0
+LIMIT = 65_536
 
 
 class Broken(Exception):
@@ -33,9 +34,12 @@ class Store:
         if len(head) < HEAD.size:
             raise Broken("the stream has ended")
         status, answered, length = HEAD.unpack(head)
-        if answered != number or status > 2 or (length and (kind, status) != (GET, DONE)):
+        if answered != number or status > 2 or length > (LIMIT if (kind, status) == (GET, DONE) else 0):
             raise Broken(f"status {status}, id {answered}, length {length} to a request of id {number}")
-        return status, self.stream.read(length)
+        payload = self.stream.read(length)
+        if len(payload) < length:
+            raise Broken("the stream has ended")
+        return status, payload
 
     def put(self, text):
         """What stands for the text: its number, or None where the store refused it, and its digest."""
@@ -56,7 +60,9 @@ def main():
     store = Store(int(sys.argv[1]))
     parcels = [store.put(text.encode()) for text in sys.argv[2:]]
     for number, digest in parcels:
-        text = store.get(number, digest)
+        text = store.get(number, digest) if number else None
+        if text is None:
+            sys.exit(f"the store hasn't got {digest.hex()}")
         print(number, len(text), digest.hex())
         store.forget(number)
 
