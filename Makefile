@@ -42,8 +42,8 @@ vectors:
 BENCH := out/bench
 C_RUNTIME := $(dir $(realpath $(RT)))../c/liblibc_c.a
 
-# Steps, lines and accesses to shared objects beside plain C, as ratios in one run, and the time of a line of assembly. Where there is valgrind, each with its
-# machine instructions, which repeat exactly on a busy machine too.
+# Steps, lines, accesses to shared objects, a far store over TCP and a service beside plain C, as ratios in one run, and the time of a line of assembly. Where there is
+# valgrind, each with its machine instructions, which repeat exactly on a busy machine too.
 bench: $(PROGRAM)
 	@mkdir -p $(BENCH)
 	@for side in steps runs; do (cd crates/bench_$$side && $(RT) lib >/dev/null) && $(CC) -O2 -o $(BENCH)/$$side bench/steps.c bench/flat.c crates/bench_$$side/out/libbench_$$side.a $(C_RUNTIME) || exit 1; done
@@ -53,8 +53,18 @@ bench: $(PROGRAM)
 	@$(BENCH)/steps bench/programs $(BENCH)/counts_steps
 	@echo "Machine::run, called once a program"
 	@$(BENCH)/runs bench/programs $(BENCH)/counts_runs
+	@(cd crates/bpfagent_c && $(RT) lib >/dev/null) && $(CC) -O2 -Iinclude -o $(BENCH)/embed bench/embed.c crates/bpfagent_c/out/libbpfagent_c.a crates/bench_steps/out/libbench_steps.a $(C_RUNTIME)
+	@echo "the library for C"
+	@$(BENCH)/embed bench/programs
+	@python3 -B bench/embed.py $(BENCH)/embed bench/programs
 	@python3 -B bench/lines.py $(PROGRAM) $(BENCH)/lines
 	@python3 bench/assembly.py $(PROGRAM)
 	@cd crates/bench_shared && $(RT) run >/dev/null
 	@$(CC) -O2 -pthread -o $(BENCH)/shared bench/shared.c
 	@python3 bench/shared.py crates/bench_shared/out/bench_shared $(BENCH)/shared
+	@cd crates/bench_far && $(RT) run >/dev/null
+	@$(CC) -O2 -pthread -o $(BENCH)/far bench/far.c
+	@python3 bench/far.py crates/bench_far/out/bench_far $(BENCH)/far
+	@$(CC) -O2 -pthread -o $(BENCH)/service bench/service.c bench/flat.c
+	@python3 bench/service.py $(PROGRAM) $(BENCH)/service
+	@python3 bench/stores.py $(PROGRAM)

@@ -2,7 +2,7 @@
 """Writes docs/DEFINITIONS-INDEX.md, the list of every definition that a public clause depends on, each with the comment
 above it: definitions.py --write. Without --write the page is compared with what it would be.
 
-A public clause is one of a `pub fn`, of a method of a trait's impl, or of a `pub trait`, and what a public type says of
+A public clause is one of a `pub fn`, of an export to C, of a method of a trait's impl, or of a `pub trait`, and what a public type says of
 itself (its Model, its ghost items). From the names in these clauses the script follows the imports: the `ghost use`
 lines of src/, then the `use` lines of specs/, through the crates of this repository. The crates stand in the order in
 which the guide, docs/DEFINITIONS.md, names them in its table, and it has to name each.
@@ -75,6 +75,10 @@ def exported(crate):
     return names
 
 
+# An export to C, in a blanked text.
+EXPORT = r'(?m)^pub extern "." fn (\w+)'
+
+
 def clauses_in(text, begin):
     """The clauses of the functions that begin so."""
     return [clause for _, clauses, _ in functions(text, begin) for clause in clauses]
@@ -89,6 +93,7 @@ def public_clauses(text, names):
     found = []
     for function, clauses, _ in functions(text, r"(?m)^pub (?:const )?fn (\w+)"):
         found += clauses if function in names else []
+    found += clauses_in(text, EXPORT)
     for item in IMPL.finditer(text):
         inside = text[item.end() : block(text, item.end())]
         if (item[1] or item[3]) in names:

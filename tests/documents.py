@@ -8,7 +8,7 @@ import sys
 from build import crates_below
 from sources import ROOT, crates
 
-PAGES = [ROOT / "README.md", ROOT / "examples/README.md", *sorted((ROOT / "docs").glob("*.md"))]
+PAGES = [ROOT / "README.md", ROOT / "examples/README.md", ROOT / "examples/client/README.md", *sorted((ROOT / "docs").glob("*.md"))]
 PICTURE = "docs/ARCHITECTURE.md"
 DRAWN = re.compile(r"(?ms)(^```mermaid\n).*?(?=^```)")
 FOR_TESTS = re.compile(r"_tests$|^test_devices$|^conversations$|^bench_\w+$|^refused_\w+$")

@@ -1,7 +1,7 @@
 /* For LD_PRELOAD: the allocation with the number in FAIL_AT fails, counted from 1. As the program ends, the file named in
-   COUNT_IN, where there is one, gets the number of allocations, the bytes of the largest, the number of reads from standard
-   input, the fewest bytes that one asked for, and the number of writes to standard output and of flushes. It is compiled
-   without the C library's headers, which the kit doesn't bring. */
+   COUNT_IN, where there is one, gets the number of allocations, the bytes of the largest and of all together, the number of
+   reads from standard input, the fewest bytes that one asked for, and the number of writes to standard output and of flushes.
+   It is compiled without the C library's headers, which the kit doesn't bring. */
 typedef unsigned long size_t;
 typedef long ssize_t;
 
@@ -11,11 +11,13 @@ long atol(const char *);
 int open(const char *, int, ...);
 int dprintf(int, const char *, ...);
 int close(int);
+int *__errno_location(void);
 
+#define OUT_OF_MEMORY 12 /* ENOMEM */
 #define NEXT ((void *)-1L)
 #define WRITE_ONLY 1
 
-static unsigned long count, largest, reads, writes, flushes, fewest = ~0ul;
+static unsigned long count, largest, total, reads, writes, flushes, fewest = ~0ul;
 
 static int fails(size_t size)
 {
@@ -25,7 +27,10 @@ static int fails(size_t size)
         at = text ? atol(text) : 0;
     }
     if (size > largest) largest = size;
-    return ++count == (unsigned long)at;
+    __atomic_add_fetch(&total, size, __ATOMIC_SEQ_CST);
+    if (__atomic_add_fetch(&count, 1, __ATOMIC_SEQ_CST) != (unsigned long)at) return 0;
+    *__errno_location() = OUT_OF_MEMORY;
+    return 1;
 }
 
 void *malloc(size_t size)
@@ -87,7 +92,7 @@ __attribute__((destructor)) static void tell(void)
     const char *name = getenv("COUNT_IN");
     int file = name ? open(name, WRITE_ONLY) : -1;
     if (file < 0) return;
-    dprintf(file, "%lu %lu %lu %lu %lu %lu\n", count, largest, reads, fewest, writes, flushes);
+    dprintf(file, "%lu %lu %lu %lu %lu %lu %lu\n", count, largest, total, reads, fewest, writes, flushes);
     close(file);
 }
 

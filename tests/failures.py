@@ -13,7 +13,7 @@ from build import crates_below
 from sources import ROOT, block, blanked, function_places, uncommented
 
 LIST = ROOT / "tests/failures.txt"
-WORDS = re.compile(r"\b(?:AllocError|AllocFailed|NoMemory|OutOfMemory|ReadFault|WriteFault|(?:Why|Self|Failure|\w+Error|\w+Fault)::(?:Memory|Read|Write|Io))\b")
+WORDS = re.compile(r"\b(?:AllocError|AllocFailed|NoMemory|OutOfMemory|ReadFault|WriteFault|(?:Why|Self|Failure|OpenAgent|\w+Error|\w+Fault)::(?:Memory|Read|Write|Io))\b")
 ROOM = re.compile(r"\b(?:with_capacity\w*|(?:try_)?reserve\w*|resize\w*|repeat|vec!)\s*[(\[]")
 # What follows a pattern, which answers nothing.
 PATTERN = re.compile(r"[\s)}]*(?:\||=>|if\b)|[\s)]*=[^=]")

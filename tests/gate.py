@@ -26,8 +26,8 @@ def failures_of(calls):
 
 def of_program(rt):
     """What is run on the program that was built."""
-    calls = [[script, program] for program in BUILT for script in ("tests/program.py", "tests/store.py")]
-    return calls + [["tests/sweep.py", BUILT[0]], ["tests/refusals.py", rt], ["tests/build.py", rt, "stamp"]]
+    calls = [[script, program] for program in BUILT for script in ("tests/program.py", "tests/store.py", "tests/service.py")]
+    return calls + [["tests/shipping.py", BUILT[0]], ["tests/client.py", BUILT[0]], ["tests/gateway.py"], ["tests/sweep.py", BUILT[0]], ["tests/refusals.py", rt], ["tests/embed.py", rt], ["tests/build.py", rt, "stamp"]]
 
 
 def progress(start, proved, tests):

@@ -117,7 +117,8 @@ def passes_gate(last, status, variables):
         rt.write_text(f"#!/bin/sh\necho '{last}'\nexit {status}\n")
         rt.chmod(0o755)
         env = dict(os.environ, PATH=f"{rt.parent}:{os.environ['PATH']}", **variables)
-        return subprocess.run([copy / ".ci/run"], cwd=copy, env=env, capture_output=True).returncode == 0
+        # Read by bash and not executed itself: while another thread starts a program, that one still has the new file open.
+        return subprocess.run(["bash", copy / ".ci/run"], cwd=copy, env=env, capture_output=True).returncode == 0
 
 
 def main():

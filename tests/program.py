@@ -28,13 +28,15 @@ COMPILERS = ("(cd examples/c && make ", "llvm-", "make ")
 
 
 # Up to five arguments, so that a program that looks at fewer is found out.
-INVALID = [[], ["help"], ["serve"], ["run", "check"], ["run", "--budget", "67108865"], ["check", "x"], [b"\xff"], ["run", "--budget"],
+INVALID = [[], ["help"], ["steps"], ["run", "check"], ["run", "--budget", "67108865"], ["check", "x"], [b"\xff"], ["run", "--budget"],
            ["run", "--budget", "8", "x"], ["run", "--budget", "8", "--budget", "8"], ["run", "--budget", "8", "asm", "dis"], ["dis", "--slots", "--slots"], ["asm", "--slots"],
-           ["dis", "--explain"], ["asm", "--explain", "--explain"], ["asm", "--explain", "x"], ["store", "--port", "65536"], ["store", "x"]]
+           ["dis", "--explain"], ["asm", "--explain", "--explain"], ["asm", "--explain", "x"], ["store", "--port", "65536"], ["store", "x"], ["store", "--workers", "1"],
+           ["serve", "x"], ["serve", "--connections", "0"], ["serve", "--connections", "9"], ["serve", "--workers", "17"], ["serve", "--sweep", "--sweep"], ["run", "--workers", "1"]]
 # What the help of each subcommand has to name: what it reads, what it writes, and what it returns.
 HELP = {"run": [b"PROTOCOL.md", b"67108864", b"Status 0", b"Status 3"], "check": [b"bytes, not hex", b"ok N", b"slot S: WHY", b"Status 1"],
         "asm": [b"1048576", b"ASSEMBLY.md", b"--explain", b"line L: WHY", b"Status 1"], "dis": [b"bytes, not hex", b"--slots", b"slot S: WHY", b"Status 1"],
-        "store": [b"127.0.0.1", b"listening P", b"FAR-STREAM.md", b"client N: WHY", b"--port", b"Status 0", b"Status 3"]}
+        "store": [b"127.0.0.1", b"listening P", b"FAR-STREAM.md", b"client N: WHY", b"--port", b"Status 0", b"Status 3"],
+        "serve": [b"127.0.0.1", b"listening P", b"PROTOCOL.md", b"--port", b"--connections", b"--workers", b"--budget", b"--sweep", b"closed", b"Status 0", b"Status 1", b"Status 3"]}
 # The longest lines on standard error: code that jumps into a wide instruction from its last slot, texts wrong at their end.
 WIDE = bytes.fromhex("18000000000000000000000000000000")
 LONGEST = [("check", WIDE + EXIT * 4093 + bytes.fromhex("050001f000000000"), b"slot 4095: JumpInside\n"), ("dis", WIDE + EXIT * 4093 + bytes.fromhex("050001f000000000"), b"slot 4095: JumpInside\n"),

@@ -11,30 +11,41 @@ worked conversations, of those of moves, of debugging and of grants, and of the 
 
 `refused_run` does a list of commands in one call: where an allocation fails there is no reply, and the world is as before.
 `refused_table` opens a table of shared objects, reads from it and closes it: where an allocation fails there is no table, or a
-read that can be done again, or nothing is left of it.
+read that can be done again, or nothing is left of it. `refused_stream` sends objects over a stream to a server in another thread,
+and fetches them home: where an allocation fails at either end, one call is answered with a fault, and the same call after it is done;
+but for those of the program's own before a call. `refused_pool` makes a pool over a table, and a mover that takes an object away
+and brings it back: where an allocation fails there is no pool, or no mover, or a return that is done when it is asked for again.
+`refused_service` opens a world for connections, of which one steps the machine and
+reads, and closes: where an allocation fails there is no table, or no agent, or a read that can be done again, or nothing is left. So it is of `bpfagent serve` with a client over TCP, which ends with `no memory` where it can't go on.
 
 Of the allocations before the first line, which are the same in each conversation, all are tried once, and then two of
 each; of those after it all, up to 600, spread over all of them.
 
-It also counts, for each command, how many allocations it makes, and how many reads and writes a conversation takes: one
+It also counts, for each command, how many allocations it makes, and of how many bytes, and how many reads and writes a conversation takes: one
 read for what has come, one write for a reply, and no flush.
 
 The programs are those that `rt ci` has built; the compiler is that of the kit.
 """
 import collections
 import concurrent.futures
+import contextlib
 import os
 import pathlib
+import socket
 import subprocess
 import sys
 import tempfile
 
+from program import has_checks
 from scripts import conversations
 from sources import ROOT
 
 PROGRAM = pathlib.Path(sys.argv[2]).resolve() if len(sys.argv) > 2 else ROOT / "crates/bpfagent/out/bpfagent"
 RUN = ROOT / "crates/refused_run/out/refused_run"
 TABLE = ROOT / "crates/refused_table/out/refused_table"
+STREAM = ROOT / "crates/refused_stream/out/refused_stream"
+POOL = ROOT / "crates/refused_pool/out/refused_pool"
+SERVICE = ROOT / "crates/refused_service/out/refused_service"
 SCRIPTS = [f"crates/conversations/data/{name}.script" for name in ("worked", "moves", "debugging", "grants", "protocol")]
 MAY_LACK_MEMORY = ("make ", "put ", "get ", "ship ", "ship2 ", "stack ", "line ")
 WIDE = bytes.fromhex("18000000ffffffff00000000ffffffff9500000000000000")
@@ -58,7 +69,7 @@ def shim(rt, folder):
     return made
 
 
-Counts = collections.namedtuple("Counts", "allocations largest reads fewest writes flushes")
+Counts = collections.namedtuple("Counts", "allocations largest bytes reads fewest writes flushes")
 
 
 class Failing:
@@ -149,24 +160,31 @@ def before_a_line(failing):
     return start
 
 
-# A conversation with a command of each kind, and how many allocations each makes.
+# A conversation with a command of each kind: how many allocations each makes, and of how many bytes. `ship` asks for the
+# bytes of its code and for its entries, of which none is longer than ENTRY; `line` asks for a text of at most LINE.
 CODE = "7b0a000000000000" + "95" + "00" * 7
+ENTRY, LINE = 32, 64
 COUNTED = [
-    ("make 64", 1), ("put 1 0 0102", 1), ("get 1 0 2", 1), ("get 1 63 2", 0), (f"ship 9 0 0 0 0 0 {CODE}", 2), ("step 1", 0), ("one 1", 0), ("regs 1", 0), ("out 1", 0),
-    ("stack 1 0 8", 1), ("line 1 0", 1), ("break 1 1", 0), ("watch 1 0x100000000 8", 0), ("unbreak 1 1", 0), ("leave 1", 0), ("left 1", 0), ("return 1", 0),
-    ("returned 1", 1), ("free 1", 0), ("nothing", 0), ("put 1 0 zz", 0), ("x" * 69_000, 0),
+    ("make 64", 1, 64), ("put 1 0 0102", 1, 2), ("get 1 0 2", 1, 2), ("get 1 63 2", 0, 0), (f"ship 9 0 0 0 0 0 {CODE}", 2, 16 + 2 * ENTRY), ("step 1", 0, 0), ("one 1", 0, 0),
+    ("regs 1", 0, 0), ("out 1", 0, 0), ("stack 1 0 8", 1, 8), ("line 1 0", 1, LINE), ("break 1 1", 0, 0), ("watch 1 0x100000000 8", 0, 0), ("unbreak 1 1", 0, 0), ("leave 1", 0, 0),
+    ("left 1", 0, 0), ("return 1", 0, 0), ("returned 1", 1, 64), ("free 1", 0, 0), ("nothing", 0, 0), ("put 1 0 zz", 0, 0), ("x" * 69_000, 0, 0),
 ]
+# Where the bytes are a bound, and not the very number.
+BOUNDED = ("ship ", "line ")
 
 
 def counted_commands(failing):
-    """How many allocations each of the commands makes: exactly so many, and a step, a reply and the reading of a line none."""
+    """How many allocations each of the commands makes, and of how many bytes: exactly so many, and a step, a reply and the
+    reading of a line none."""
     made = []
     for k in range(len(COUNTED) + 1):
-        given = "".join(line + "\n" for line, _ in COUNTED[:k]).encode()
-        made.append(failing.allocations(PROGRAM, ["run"], given)[1])
-    for (line, wanted), before, after in zip(COUNTED, made, made[1:]):
-        if after - before != wanted:
-            raise Failed(f"{line[:40]} makes {after - before} allocations, and not {wanted}")
+        given = "".join(line + "\n" for line, _, _ in COUNTED[:k]).encode()
+        made.append(failing.counted(PROGRAM, ["run"], given)[1])
+    for (line, wanted, size), before, after in zip(COUNTED, made, made[1:]):
+        count, found = after.allocations - before.allocations, after.bytes - before.bytes
+        is_so = found <= size if line.startswith(BOUNDED) else found == size
+        if count != wanted or not is_so:
+            raise Failed(f"{line[:40]} makes {count} allocations of {found} bytes, and not {wanted} of {size}")
 
 
 def counted_streams(failing):
@@ -209,17 +227,65 @@ def refused_run(failing):
     return found.count(REFUSED)
 
 
-# The last is what a table does whose allocations are all granted.
+# What comes of a program where one allocation fails; the last is what it does where all are granted.
 OF_A_TABLE = ["no bodies", "no table", "opened, read again, closed", "opened, read, not closed", "opened, read, closed"]
+OF_A_POOL = ["no bodies", "no machines", "no table", "no pool", "no mover", "came home, asked again", "came home"]
+OF_A_SERVICE = ["no world", "not opened", "no agent", "opened, read again, closed", "opened, read once, closed", "opened, read, not closed", "opened, read, closed"]
+OF_A_STREAM = ["no server"] + [
+    f"{came}, {memory} without memory, {refused} refused, 0 otherwise, {memory + refused} faults, served"
+    for came, memory, refused in [("not all left", 0, 0), ("all came home", 1, 0), ("all came home", 0, 1), ("all came home", 0, 0)]
+]
 
 
-def refused_table(failing):
-    """How often a table wasn't opened, read from or closed."""
-    (status, output, _), total = failing.allocations(TABLE, [], b"")
-    found = [failing.call(TABLE, [], b"", at)[1].decode().strip() for at in range(1, total + 1)]
-    if (status, output.decode().strip()) != (0, OF_A_TABLE[-1]) or set(found) - set(OF_A_TABLE) or set(OF_A_TABLE[:-1]) - set(found):
-        raise Failed(f"refused_table: {sorted(set(found))}")
-    return total - found.count(OF_A_TABLE[-1])
+def served(failing, at=0, count=None):
+    """A service with one client: its status, what it writes before it listens, what the client is answered, what it writes then, and
+    standard error."""
+    env = dict(os.environ, LD_PRELOAD=failing.library, FAIL_AT=str(at), **({"COUNT_IN": count} if count else {}))
+    pipe, before, answers = subprocess.PIPE, [], b""
+    process = subprocess.Popen([PROGRAM, "serve", "--workers", "1"], stdin=pipe, stdout=pipe, stderr=pipe, env=env)
+    # it may have ended already
+    with contextlib.suppress(BrokenPipeError), process.stdin as given:
+        given.write(b"make 8\n")
+    for line in iter(process.stdout.readline, b""):
+        if line.startswith(b"listening "):
+            with contextlib.suppress(OSError), socket.create_connection(("127.0.0.1", int(line.split()[1])), timeout=60) as client:
+                client.sendall(b"get 1 0 1\nget 1 0 1\n")
+                client.shutdown(socket.SHUT_WR)
+                while came := client.recv(4096):
+                    answers += came
+            break
+        before.append(line)
+    after, errors = process.stdout.read(), process.stderr.read()
+    return process.wait(60), b"".join(before), answers, after, errors
+
+
+def refused_service(failing):
+    """How often memory of a running service was refused: it ends with `no memory`, or its client is answered `nomem` once."""
+    with tempfile.NamedTemporaryFile() as file:
+        whole = served(failing, count=file.name)
+        total = int(file.read().split()[0])
+    status, before, answers, after, errors = whole
+    if (status, before, answers, errors) != (0, b"made 1\n", b"bytes 00\n" * 2, b"") or not after.startswith(b"closed\nobject 1 8 "):
+        raise Failed(f"a service says {whole}")
+    others = [(0, before, answers.replace(b"bytes 00", b"nomem", 1), after, b""), (0, before, b"bytes 00\nnomem\n", after, b""), (0, b"nomem\n", b"outside\n" * 2, b"closed\n", b"")]
+    found = [served(failing, at) for at in range(1, total + 1)]
+    for at, done in enumerate(found, 1):
+        ended = (done[0], done[4]) == (3, b"no memory\n") and before.startswith(done[1]) and answers.startswith(done[2]) and after.startswith(done[3])
+        if not ended and done != whole and done not in others:
+            raise Failed(f"a service whose allocation {at} fails says {done}")
+    ends = [done for done in found if done[0] == 3]
+    if not any(done[2] for done in ends) or not any(done[1] and not done[2] for done in ends) or any(other not in found for other in others[1:]):
+        raise Failed(f"a service ended so: {sorted(set(found))}")
+    return total - found.count(whole)
+
+
+def refused_program(failing, program, outcomes):
+    """How often something of a program was refused: each of these outcomes comes, and no other."""
+    (status, output, _), total = failing.allocations(program, [], b"")
+    found = [failing.call(program, [], b"", at)[1].decode().strip() for at in range(1, total + 1)]
+    if (status, output.decode().strip()) != (0, outcomes[-1]) or set(found) - set(outcomes) or set(outcomes[:-1]) - set(found):
+        raise Failed(f"{program.name}: {sorted(set(found))}")
+    return total - found.count(outcomes[-1])
 
 
 def show(failing):
@@ -232,13 +298,18 @@ def show(failing):
     said = ", ".join(f"{found.count(what)} {what}" for what in sorted(set(found)))
     gave_up = sum(refused_input(failing, arguments, given) for arguments, given in OTHERS)
     runs = refused_run(failing)
-    tables = refused_table(failing)
+    tables = refused_program(failing, TABLE, OF_A_TABLE)
+    streams = refused_program(failing, STREAM, OF_A_STREAM)
+    pools = refused_program(failing, POOL, OF_A_POOL)
+    services = refused_program(failing, SERVICE, OF_A_SERVICE) + refused_service(failing)
     if not gave_up or not runs or not {word.strip() for word in MAY_LACK_MEMORY} | {"returned"} <= set(found):
         raise Failed(f"not every command was refused: {said}; {gave_up} inputs, {runs} runs")
-    print(f"refused_growth: {len(found)} allocations of {len(talks)} conversations failed in turn: {said}; {gave_up} of other inputs, {runs} of a run, {tables} of a table")
+    print(f"refused_growth: {len(found)} allocations of {len(talks)} conversations failed in turn: {said}; {gave_up} of other inputs, {runs} of a run, {tables} of a table, {streams} of a stream, {pools} of a pool, {services} of a service")
 
 
 def main():
+    if has_checks(PROGRAM):
+        sys.exit(f"{PROGRAM} is a program of `make try`, which brings an allocator of its own: only a proved program's allocations can be made to fail")
     with tempfile.TemporaryDirectory() as folder:
         try:
             show(Failing(shim(sys.argv[1], folder)))

@@ -15,7 +15,8 @@ import threading
 
 from sources import ROOT
 
-sys.path.append(str(ROOT / "examples/far"))
+# Before tests/, which has a client.py of its own.
+sys.path.insert(0, str(ROOT / "examples/far"))
 from client import DONE, FORGET, GET, HEAD, PUT, Broken, Store
 
 SECONDS = 30
@@ -171,7 +172,7 @@ def show_example(program):
     want(store.get(number, digest) is None, "the client's forget")
     store.stream.close()
     want(server.end() == (0, b"", b""), "the example's clients")
-    for answer, taken in ((frame(DONE, 1, b"abc"), b"abc"), (frame(DONE, 1, b"abd"), None), (frame(REFUSED_ID, 1), None), (frame(DONE, 2, b"abc"), Broken), (frame(3, 1), Broken), (frame(DONE, 1)[:5], Broken)):
+    for answer, taken in ((frame(DONE, 1, b"abc"), b"abc"), (frame(DONE, 1, b"abd"), None), (frame(REFUSED_ID, 1), None), (frame(DONE, 2, b"abc"), Broken), (frame(3, 1), Broken), (frame(DONE, 1, length=LIMIT + 1), Broken), (frame(DONE, 1, b"abc")[:-1], Broken), (frame(DONE, 1)[:5], Broken)):
         want(lied_to(answer) == taken, f"the example over a store that answers {answer}")
 
 

@@ -1,0 +1,105 @@
+#!/usr/bin/env python3
+"""A service beside plain C, in one run: service.py PROGRAM C_PROGRAM
+
+An instruction of a machine that one worker runs, under the machine's lock, beside a flat interpreter that takes a mutex for each
+instruction: processor time, as what the machine's fuel says was done between two looks at it. And the round trip of a `get` of
+eight bytes over TCP, beside a server that answers this command alone: the time that passed. Runs are interleaved, and of each the
+fastest counts.
+"""
+import os
+import pathlib
+import socket
+import struct
+import subprocess
+import sys
+import time
+
+RUNS = 5
+SECONDS = 0.3
+SHORT, LONG = 1_000_000, 11_000_000
+TRIPS = 5_000
+FUEL = 1 << 62
+# r1 += 7; goto -2
+ADDITIONS = struct.pack("<BBhi", 0x07, 1, 0, 7).hex() + struct.pack("<BBhi", 0x05, 0, -2, 0).hex()
+LINE = b"get 1 0 8\n"
+
+
+def started(command, setup=""):
+    """A server, and a client of it."""
+    process = subprocess.Popen(command, stdin=subprocess.PIPE, stdout=subprocess.PIPE)
+    process.stdin.write(setup.encode())
+    process.stdin.close()
+    while not (line := process.stdout.readline()).startswith(b"listening "):
+        if not line:
+            sys.exit(f"{command} doesn't listen")
+    client = socket.create_connection(("127.0.0.1", int(line.split()[1])))
+    client.setsockopt(socket.IPPROTO_TCP, socket.TCP_NODELAY, 1)
+    return process, client
+
+
+def ask(client, line):
+    client.sendall(line)
+    reply = client.recv(65536)
+    while not reply.endswith(b"\n"):
+        reply += client.recv(65536)
+    return reply
+
+
+def end(process, client):
+    client.close()
+    process.stdout.read()
+    process.stdout.close()
+    process.wait()
+
+
+def processor_time(pid):
+    """The seconds that all threads of a process have run."""
+    return sum(int(pathlib.Path(f"/proc/{pid}/task/{thread}/schedstat").read_text().split()[0]) for thread in os.listdir(f"/proc/{pid}/task")) / 1e9
+
+
+def under_a_lock(program):
+    """Nanoseconds of an instruction that a worker does."""
+    process, client = started([program, "serve", "--workers", "1"], f"ship {FUEL} 0 0 0 0 0 {ADDITIONS}\n")
+    looks = []
+    for pause in (0.05, SECONDS):
+        time.sleep(pause)
+        looks.append((int(ask(client, b"regs 1\n").split()[3]), processor_time(process.pid)))
+    end(process, client)
+    return (looks[1][1] - looks[0][1]) / (looks[0][0] - looks[1][0]) * 1e9
+
+
+def under_a_mutex(program):
+    """The same in C: a long run without a short one."""
+    spent = []
+    for count in (SHORT, LONG):
+        process = subprocess.Popen([program, "lock", str(count)], stdout=subprocess.DEVNULL)
+        _, status, used = os.wait4(process.pid, 0)
+        if status:
+            sys.exit(f"{program} lock: status {status}")
+        spent.append(used.ru_utime + used.ru_stime)
+    return (spent[1] - spent[0]) / (LONG - SHORT) * 1e9
+
+
+def round_trip(command, setup=""):
+    """Microseconds until a line is answered."""
+    process, client = started(command, setup)
+    if ask(client, LINE) != b"bytes 0000000000000000\n":
+        sys.exit(f"{command} answers otherwise")
+    start = time.perf_counter()
+    for _ in range(TRIPS):
+        ask(client, LINE)
+    spent = time.perf_counter() - start
+    end(process, client)
+    return spent / TRIPS * 1e6
+
+
+def main():
+    program, c_program = sys.argv[1:3]
+    rounds = [(under_a_lock(program), under_a_mutex(c_program), round_trip([program, "serve", "--workers", "0"], "make 64\n"), round_trip([c_program, "trip"])) for _ in range(RUNS)]
+    ours, c, trip, c_trip = (min(values) for values in zip(*rounds))
+    print(f"an instruction under a lock      {ours:7.2f} ns, C {c:7.2f} ns, ratio {ours / c:.2f}")
+    print(f"round trip of a get of 8 bytes   {trip:7.2f} us, C {c_trip:7.2f} us, ratio {trip / c_trip:.2f}")
+
+
+if __name__ == "__main__":
+    main()

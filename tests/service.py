@@ -1,0 +1,405 @@
+#!/usr/bin/env python3
+"""Runs `bpfagent serve` with clients over TCP: service.py PROGRAM
+
+The conversations of examples/serve with their clients, workers and the mover at work, eight clients at once over a counter
+that leaves and returns, conversations that are cut off, each status, and what is left when the service has closed.
+"""
+import hashlib
+import os
+import pathlib
+import re
+import socket
+import subprocess
+import sys
+import threading
+import time
+
+from sources import ROOT
+
+SECONDS = 60
+LOOKS = 10_000
+# how often a machine that is debugged adds
+TIMES = 2_000
+EXAMPLES = ROOT / "examples/serve"
+EXIT = "9500000000000000"
+# aadd [r1], r2 · exit
+ADD = "db21000000000000" + EXIT
+# mov r3, 100 · aadd [r1], r2 · add r3, -1 · jne r3, 0, -3 · exit
+ADDS = "b703000064000000" "db21000000000000" "07030000ffffffff" "5503fdff00000000" + EXIT
+COUNTER = (ROOT / "examples/c/counter.code").read_bytes().hex()
+
+
+class Failed(Exception):
+    """What the program did otherwise than it should."""
+
+
+def want(is_so, text):
+    if not is_so:
+        raise Failed(text)
+
+
+class Service:
+    """The program, listening after these commands of its input."""
+
+    def __init__(self, program, *arguments, setup=()):
+        pipe = subprocess.PIPE
+        self.process = subprocess.Popen([program, "serve", *map(str, arguments)], stdin=pipe, stdout=pipe, stderr=pipe)
+        self.process.stdin.write("".join(f"{command}\n" for command in setup).encode())
+        self.process.stdin.close()
+        self.told = []
+        while (line := self.process.stdout.readline().decode()) and not line.startswith("listening "):
+            self.told.append(line.rstrip("\n"))
+        found = re.fullmatch(r"listening (\d+)\n", line)
+        self.port = int(found[1]) if found else None
+
+    def end(self):
+        """When it has ended: the status, what else it wrote, and standard error."""
+        output, errors = self.process.stdout.read(), self.process.stderr.read()
+        return self.process.wait(SECONDS), output.decode(), errors.decode()
+
+    def ends_with(self, lines):
+        """Whether it ended by itself, and said that it closed, and then these lines."""
+        status, output, errors = self.end()
+        return status == 0 and output == "".join(f"{line}\n" for line in ["closed", *lines]) and errors == ""
+
+    def ends_well(self, objects=None, machines=(), may_be_out=False):
+        """Whether it ended by itself, and left these objects, by number, and machines, by their `regs` lines. The mover may
+        still have taken an object away that it was asked for."""
+        objects = objects or {}
+        status, output, errors = self.end()
+        said, lines = output.splitlines(), [object_line(number, held) for number, held in objects.items()]
+        if may_be_out and len(said) > len(lines):
+            lines = [out if found == out else line for line, found, out in zip(lines, said[1:], [f"object {number} out" for number in objects])]
+        return status == 0 and errors == "" and output.endswith("\n") and said == ["closed", *lines, *machines]
+
+
+class Client:
+    """A connection that is asked line by line."""
+
+    def __init__(self, service):
+        self.stream = socket.create_connection(("127.0.0.1", service.port), timeout=SECONDS)
+        self.replies = self.stream.makefile("r", newline="\n")
+
+    def ask(self, command):
+        self.stream.sendall(f"{command}\n".encode())
+        return self.replies.readline().rstrip("\n")
+
+    def ask_until(self, command, wanted, looks=LOOKS, pause=0.0):
+        """The first reply that begins so, of so many at most, with a pause before each."""
+        for _ in range(looks):
+            time.sleep(pause)
+            reply = self.ask(command)
+            if reply.startswith(wanted):
+                return reply
+        raise Failed(f"{command} is answered {reply}, and not {wanted}")
+
+    def end(self):
+        """It says that nothing more comes, and hears the end."""
+        self.stream.shutdown(socket.SHUT_WR)
+        rest = self.replies.read()
+        self.stream.close()
+        return rest
+
+
+def object_line(number, held):
+    """How an object with these bytes is told of when the service has closed."""
+    return f"object {number} {len(held)} {hashlib.sha256(held).hexdigest()}"
+
+
+def of_eight(number):
+    """An object of eight bytes that holds this number."""
+    return number.to_bytes(8, "little")
+
+
+def is_stopped(reply):
+    return reply.split()[4] not in ("run", "paused")
+
+
+def stopped(client, machine):
+    """The `regs` of a machine when it has stopped."""
+    for _ in range(LOOKS):
+        reply = client.ask(f"regs {machine}")
+        if is_stopped(reply):
+            return reply
+        time.sleep(0.001)
+    raise Failed(f"machine {machine} didn't stop: {reply}")
+
+
+def parts(text):
+    """Of an example the arguments, for the input and each client the commands with their replies, in order, and the lines of what
+    is left."""
+    arguments, talks, command, left = [], [("setup", [])], None, []
+    for line in text.splitlines():
+        if line.startswith("--- --"):
+            arguments = line.split()[1:]
+        elif line.startswith("--- "):
+            talks.append((line[4:], []))
+        elif line.startswith("> "):
+            talks[-1][1].append((command, line[2:]))
+        elif line.startswith("= "):
+            left.append(line[2:])
+        elif line and not line.startswith("#"):
+            command = line
+    return arguments, talks, left
+
+
+def show_examples(program):
+    """Each example, its clients connected at once and asked in turn."""
+    examples = sorted(EXAMPLES.glob("*.script"))
+    want(examples, "there is no example of serve")
+    for example in examples:
+        arguments, ((_, setup), *talks), left = parts(example.read_text())
+        service = Service(program, *arguments, setup=[command for command, _ in setup])
+        want(service.told == [reply for _, reply in setup], f"{example.name}: the input is answered {service.told}")
+        clients = {}
+        for name, talk in talks:
+            if name not in clients:
+                clients[name] = Client(service)
+            for command, reply in talk:
+                found = clients[name].ask(command)
+                want(found == reply, f"{example.name}: {name} asks {command}, and is answered {found}")
+        want(all(client.end() == "" for client in clients.values()), f"{example.name}: more than the replies")
+        want(service.ends_with(left), f"{example.name} ended otherwise")
+
+
+def show_row(program):
+    """Without workers a machine is stepped by its clients alone."""
+    service = Service(program, "--workers", 0, setup=["make 8", f"ship 10 0x100000000 1 0 0 0 {ADD}"])
+    want(service.told == ["made 1", "shipped 1"], f"the input is answered {service.told}")
+    said = ["step 1", "get 1 0 1", "left 1", "leave 1", "step 1", f"ship 10 0 0 0 0 0 {EXIT}", "line 2 0", "stack 2 0 1", "break 2 0", "watch 2 0x100000000 1", "step 2"]
+    told = ["ran 1 1", "bytes 01", "unserved", "asked 1", "stopped 1 exit 0000000000000000", "shipped 2", "line 2 0 exit", "bytes 00", "ok", "ok", "paused 2 0"]
+    client = Client(service)
+    found = [client.ask(command) for command in said]
+    want(found == told, f"the client is answered {found}")
+    shown = [client.ask("regs 1"), client.ask("regs 2")]
+    want(client.end() == "" and service.ends_well({1: of_eight(1)}, shown, may_be_out=True), "the end of a service without workers")
+
+
+def show_digest(program):
+    """An object of three bytes closes with their SHA-256, which NIST gives as an example of FIPS 180-4."""
+    service = Service(program, "--workers", 0, setup=["make 3", "put 1 0 616263"])
+    want(service.told == ["made 1", "ok"], f"the input is answered {service.told}")
+    client = Client(service)
+    want(client.ask("get 1 0 3") == "bytes 616263", "the object of the input")
+    want(client.end() == "", "more than the reply")
+    want(service.ends_with(["object 1 3 ba7816bf8f01cfea414140de5dae2223b00361a396177a9cb410ff61f20015ad"]), "the digest of abc")
+
+
+def close_two(program):
+    """Two machines that two workers run add 200 times to an object that is asked to leave meanwhile."""
+    ships = [f"ship 1000 0x100000000 1 0 0 0 {ADDS}"] * 2
+    service = Service(program, "--workers", 2, setup=["make 8", *ships])
+    client = Client(service)
+    for _ in range(20):
+        asked = client.ask("leave 1")
+        want(asked in ("asked 1", "full"), f"leave is answered {asked}")
+    shown = [stopped(client, 1), stopped(client, 2)]
+    want(all(" exit " in reply for reply in shown), f"the machines stop so: {shown}")
+    want(client.end() == "" and service.ends_well({1: of_eight(200)}, shown, may_be_out=True), "the end of a service in which two machines added")
+
+
+def service_runs(program):
+    """Two workers run a loop of 100 atomic adds."""
+    service = Service(program, "--workers", 2, setup=["make 8", f"ship 1000 0x100000000 1 0 0 0 {ADDS}"])
+    client = Client(service)
+    shown = stopped(client, 1)
+    want(" exit " in shown, "the machine's stop")
+    want(client.ask("get 1 0 8") == "bytes 6400000000000000", "the object after 100 adds")
+    want(client.end() == "" and service.ends_well({1: of_eight(100)}, [shown]), "the end of a service with workers")
+
+
+def there_and_back(client, held):
+    """Object 1, which has these bytes, is asked to leave until it is away, and read until it is here again."""
+    for _ in range(LOOKS):
+        asked = client.ask("leave 1")
+        want(asked in ("asked 1", "full"), f"leave is answered {asked}")
+        if (found := client.ask("get 1 0 8")) == "away 1":
+            break
+        want(found in (held, "busy 1"), f"get is answered {found}")
+    want(found == "away 1", "the object doesn't leave")
+    found = client.ask_until("get 1 0 8", "bytes")
+    want(found == held, f"the object returned with {found}")
+
+
+def service_moves(program):
+    """An object leaves when it is asked to, and returns when it is missed."""
+    service = Service(program, setup=["make 8", "put 1 0 2a"])
+    client = Client(service)
+    there_and_back(client, "bytes 2a00000000000000")
+    want(client.end() == "" and service.ends_well({1: of_eight(42)}, may_be_out=True), "the end of a service that moves")
+
+
+def service_sweeps(program):
+    """An object that nobody uses leaves by itself, and returns when it is missed."""
+    service = Service(program, "--sweep", setup=["make 8", "put 1 0 2a"])
+    client = Client(service)
+    client.ask_until("get 1 0 1", "away 1", looks=100, pause=0.1)
+    want(client.ask_until("get 1 0 1", "bytes") == "bytes 2a", "the object that returned")
+    want(client.end() == "" and service.ends_well({1: of_eight(42)}, may_be_out=True), "the end of a service that sweeps")
+
+
+def show_without_sweep(program):
+    """Without --sweep it stays."""
+    service = Service(program, setup=["make 8", "put 1 0 2a"])
+    client = Client(service)
+    for _ in range(5):
+        time.sleep(0.1)
+        want(client.ask("get 1 0 1") == "bytes 2a", "an object leaves that nobody asked to")
+    want(client.end() == "" and service.ends_well({1: of_eight(42)}), "the end of a service that doesn't sweep")
+
+
+def ship_counter(service, times, told):
+    """One of many clients: it ships a counter, moves the object meanwhile, and waits until the machine has stopped."""
+    try:
+        client = Client(service)
+        machine = client.ask(f"ship {10 * times + 10} 0x100000000 {times} 0 0 0 {COUNTER}").split()[1]
+        for _ in range(20):
+            asked = client.ask("leave 1")
+            want(asked in ("asked 1", "full"), f"leave is answered {asked}")
+            client.ask("get 1 0 8")
+        reply = stopped(client, machine)
+        want(f" exit {times:016x}" in reply, f"machine {machine}: {reply}")
+        client.ask_until("get 1 0 8", "bytes")
+        told.append(client.end())
+    except (Failed, OSError) as error:
+        told.append(error)
+
+
+def show_crowd(program):
+    """Eight clients, whose machines four workers run, count in one object while it leaves and returns. It is read when all
+    have counted: each client ends before the service does, so the ninth reading is that of the first."""
+    times, told = 200, []
+    service = Service(program, "--connections", 8, "--workers", 4, setup=["make 8"])
+    clients = [threading.Thread(target=ship_counter, args=(service, times, told)) for _ in range(7)]
+    reader = Client(service)
+    for client in clients:
+        client.start()
+    for client in clients:
+        client.join()
+    want(told == [""] * 7, f"the clients ended with {told}")
+    shown = [stopped(reader, machine) for machine in range(1, 8)]
+    want(all(" exit " in reply for reply in shown), f"the machines stop so: {shown}")
+    found = reader.ask_until("get 1 0 8", "bytes")
+    want(found == f"bytes {(7 * times).to_bytes(8, 'little').hex()}", f"seven counters of {times} count {found}")
+    there_and_back(reader, found)
+    want(reader.end() == "" and service.ends_well({1: of_eight(7 * times)}, shown, may_be_out=True), "the end of a service with eight clients")
+
+
+def long_adds(times):
+    """Adds R2 to the object at R1, so often."""
+    # mov r3, times · aadd [r1], r2 · add r3, -1 · jne r3, 0, -3 · exit
+    return f"b7030000{times.to_bytes(4, 'little').hex()}" "db21000000000000" "07030000ffffffff" "5503fdff00000000" + EXIT
+
+
+def debug_machine(service, machine, told):
+    """One of many clients: workers ran its machine to the breakpoint that the input set. It looks at it, does one instruction, and
+    lets it go."""
+    try:
+        client = Client(service)
+        words = client.ask_until(f"regs {machine}", f"regs {machine} 1 ", pause=0.001).split()
+        want(words[4] == "paused" and int(words[7], 16) == machine and int(words[8], 16) == TIMES, f"machine {machine} at its breakpoint: {words}")
+        reply = client.ask_until(f"one {machine}", f"ran {machine} ", pause=0.001)
+        want(reply == f"ran {machine} 2", f"one instruction: {reply}")
+        want(client.ask(f"stack {machine} 0 4") == "bytes 00000000" and client.ask(f"out {machine}") == f"out {machine}", "its stack, and what it gave out")
+        want(client.ask(f"line {machine} 4") == f"line {machine} 4 exit", "its last line")
+        want(client.ask(f"watch {machine} 0x100000000 8") == "ok" and client.ask(f"unwatch {machine} 0x100000000 8") == "ok", "a watched range")
+        want(client.ask("leave 1") in ("asked 1", "full"), "a request to the mover")
+        want(client.ask(f"unbreak {machine} 1") == "ok" and client.ask(f"resume {machine}") == "ok", "it goes on")
+        told.append((machine, stopped(client, machine), client.end()))
+    except (Failed, OSError, ValueError, IndexError) as error:
+        told.append(error)
+
+
+def show_debuggers(program):
+    """Eight clients, of which seven debug a machine each while four workers run them all and the object is asked to leave: machine m
+    adds m, as often as it should."""
+    told, setup = [], ["make 8"]
+    for machine in range(1, 8):
+        setup += [f"ship {4 * TIMES + 10} 0x100000000 {machine} 0 0 0 {long_adds(TIMES)}", f"break {machine} 1"]
+    service = Service(program, "--connections", 8, "--workers", 4, setup=setup)
+    clients = [threading.Thread(target=debug_machine, args=(service, machine, told)) for machine in range(1, 8)]
+    reader = Client(service)
+    for client in clients:
+        client.start()
+    for client in clients:
+        client.join()
+    wrong = [entry for entry in told if not isinstance(entry, tuple) or entry[2] or " exit " not in entry[1]]
+    want(not wrong and len(told) == 7, f"the clients ended with {wrong}")
+    shown = [reply for _, reply, _ in sorted(told)]
+    want([reader.ask(f"regs {machine}") for machine in range(1, 8)] == shown, "machines that have stopped stay as they are")
+    want(reader.end() == "" and service.ends_well({1: of_eight(sum(range(1, 8)) * TIMES)}, shown, may_be_out=True), "the end of a service whose machines were debugged")
+
+
+def show_lost(program):
+    """A client that is cut off, or breaks off in a line, ends its connection alone."""
+    service = Service(program, "--connections", 3, "--workers", 0, setup=["make 8"])
+    stays, goes, breaks = Client(service), Client(service), Client(service)
+    want([client.ask("get 1 0 1") for client in (stays, goes, breaks)] == ["bytes 00"] * 3, "three clients")
+    goes.stream.setsockopt(socket.SOL_SOCKET, socket.SO_LINGER, b"\1\0\0\0\0\0\0\0")
+    goes.replies.close()
+    goes.stream.close()
+    breaks.stream.sendall(b"get 1 0")
+    want(breaks.end() == "cut\n", "a line that is broken off")
+    want(stays.ask("put 1 0 05") == "ok" and stays.ask("get 1 0 1") == "bytes 05", "the client that stays")
+    want(stays.end() == "" and service.ends_well({1: of_eight(5)}), "the end of a service that lost clients")
+
+
+def ended(program, *arguments, setup="", **streams):
+    """The status, standard output and standard error of a service that takes no connection."""
+    streams.setdefault("stdout", subprocess.PIPE)
+    if "stdin" not in streams:
+        streams["input"] = setup.encode()
+    done = subprocess.run([program, "serve", *map(str, arguments)], stderr=subprocess.PIPE, timeout=SECONDS, **streams)
+    return done.returncode, None if done.stdout is None else done.stdout.decode(), done.stderr.decode()
+
+
+def show_statuses(program):
+    """What goes wrong before a connection, in this order: words, setup, bind, an object that isn't here."""
+    leaving = "make 8\nmake 8\nleave 2\n"
+    want(ended(program, setup=leaving) == (1, "made 1\nmade 2\nleaving 2\n", "object 2 isn't here\n"), "an object that is leaving")
+    want(ended(program, setup=leaving + "left 2\n") == (1, "made 1\nmade 2\nleaving 2\nleft 2\n", "object 2 isn't here\n"), "an object that is far")
+    want(ended(program, setup=leaving + "leave 1\n") == (1, "made 1\nmade 2\nleaving 2\nleaving 1\n", "object 1 isn't here\n"), "two objects that aren't here")
+    with socket.create_server(("127.0.0.1", 0)) as taken:
+        port = taken.getsockname()[1]
+        want(ended(program, "--port", port, setup=leaving) == (3, "made 1\nmade 2\nleaving 2\n", "net fault\n"), "a port that is taken")
+        want(ended(program, "--port", port, "--budget", 1, setup="make 2\n") == (3, "noroom\n", "net fault\n"), "the budget of the input")
+        status, output, errors = ended(program, "--port", port, "--connections", 9, setup=leaving)
+        want((status, output) == (2, "") and errors.startswith("error: "), "words that are wrong come first")
+    with open("/dev/full", "wb") as full:
+        want(ended(program, setup="make 8\n", stdout=full) == (3, None, "write fault\n"), "a full device, in the input's commands")
+        want(ended(program, stdout=full) == (3, None, "write fault\n"), "a full device, as it listens")
+    want(ended(program, stdin=os.open("/", os.O_RDONLY)) == (3, "", "read fault\n"), "an input that fails")
+    for words in (["--connections", "0"], ["--connections=9"], ["--workers", "17"], ["--workers=-1"], ["--port", "65536"], ["--budget", "67108865"], ["--sweep", "--sweep"], ["--connections"], ["--workers", "x"], ["x"], ["--sweep=true"]):
+        status, output, errors = ended(program, *words)
+        want((status, output) == (2, "") and errors.startswith("error: "), f"{words} ended with {status}, {output}, {errors}")
+    done = subprocess.run([program, "serve", "--help"], capture_output=True, timeout=SECONDS)
+    wanted = [b"--port", b"--connections", b"--workers", b"--budget", b"--sweep", b"PROTOCOL.md", b"listening P", b"closed", b"Status 1", b"Status 3"]
+    want(done.returncode == 0 and done.stderr == b"" and all(word in done.stdout for word in wanted), f"help: {done}")
+
+
+def show_port(program):
+    """The port that is asked for, and the last words where the output fails."""
+    service = Service(program, "--connections", 2)
+    port = service.port
+    first, second = Client(service), Client(service)
+    want(first.end() == "" and second.end() == "" and service.ends_well(), "clients that say nothing")
+    again = Service(program, "--port", port, "--workers", 16)
+    want(again.port == port and Client(again).end() == "" and again.ends_well(), "the port that is asked for")
+
+
+SHOWN = [show_examples, show_row, show_digest, close_two, service_runs, service_moves, service_sweeps, show_without_sweep, show_crowd, show_debuggers, show_lost, show_statuses, show_port]
+
+
+def main():
+    program = str(pathlib.Path(sys.argv[1]).resolve())
+    for show in SHOWN:
+        try:
+            show(program)
+        except Failed as error:
+            print(f"{show.__name__}: {error}")
+            sys.exit(1)
+    print(f"service: {len(SHOWN)} parts as they should be on {sys.argv[1]}")
+
+
+if __name__ == "__main__":
+    main()
