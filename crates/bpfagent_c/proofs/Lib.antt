@@ -1,3 +1,4 @@
 pub mod Granting
 pub mod HeldValues
+pub mod Reading
 pub mod Values

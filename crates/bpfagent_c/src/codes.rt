@@ -1,14 +1,25 @@
 //! Replies, places and stops as the numbers that the header names.
-ghost use Rattle.std.specs.Prelude.{◌≡◌, Some};
+ghost use Rattle.std.specs.Prelude.{◌≡◌, ℕ, Some};
+ghost use Rattle.world.specs.Answers.{refused_get};
 ghost use Rattle.bpfagent_c.specs.Codes.{code_of, code_of_end, code_of_fault, code_of_place, code_of_reply, code_of_state, code_of_step, code_of_stop, stop_of_state, value_of_stop};
 
 use debugger::{State, StepReply};
 use far_store::Place;
 use machine::Stop;
+use object_store::GetError;
 use world::Reply;
+
+/// The command was done.
+pub(crate) const OK: u32 = 0;
 
 /// Out of memory.
 pub(crate) const NO_MEMORY: u32 = 10;
+
+/// The bytes aren't inside an object.
+pub(crate) const OUTSIDE: u32 = 13;
+
+/// The object isn't here.
+pub(crate) const AWAY: u32 = 14;
 
 /// There is no agent in the handle.
 pub(crate) const NO_AGENT: u32 = 30;
@@ -42,8 +53,8 @@ fn code_of_reply(reply: &Reply) -> u32
         Reply::NoMemory => NO_MEMORY,
         Reply::Full => 11,
         Reply::NoRoom => 12,
-        Reply::Outside => 13,
-        Reply::Away { .. } => 14,
+        Reply::Outside => OUTSIDE,
+        Reply::Away { .. } => AWAY,
         Reply::Misplaced { place, .. } => code_of_place(*place),
         Reply::Scoped { .. } => 19,
         Reply::Faulted { place, .. } => code_of_fault(*place),
@@ -52,7 +63,18 @@ fn code_of_reply(reply: &Reply) -> u32
         Reply::NotPaused => 24,
         Reply::Refused(_) => 25,
         Reply::Missing => MISSING,
-        _ => 0,
+        _ => OK,
+    }
+}
+
+/// The number of a reading that is refused.
+pub(crate) fn code_of_get(error: GetError) -> u32
+    ensures { (object : ℕ) → result ≡ code_of_reply (refused_get object error) }
+{
+    match error {
+        GetError::Outside => OUTSIDE,
+        GetError::Away => AWAY,
+        GetError::Memory => NO_MEMORY,
     }
 }
 

@@ -9,9 +9,8 @@ ghost use Rattle.bpfagent_c.specs.Codes.{code_of};
 ghost use Rattle.bpfagent_c.specs.Told.{Commanded, Told};
 ghost use Rattle.bpfagent_c.specs.Shown.{made_of, bytes_of};
 
-use crate::codes::{BAD, code_of};
+use crate::codes::{BAD, NO_AGENT, OK, code_of, code_of_get};
 use crate::handle::{Agent, give, take};
-use crate::shown::write_bytes;
 use crate::telling::{command, tell_move, tell_object};
 use std::alloc::Global;
 use world::{Event, Move, ObjectCommand, ObjectLength, Reply};
@@ -105,6 +104,21 @@ pub extern "C" fn bpfagent_put(
     code_of(&given)
 }
 
+/// Copies bytes of an object over these, as many as they are, and tells the number of the reply.
+fn get(agent: &mut Agent, alloc: Global, object: u32, offset: u32, bytes: &mut [u8]) -> u32
+    ensures told { (given : Option Reply) × Commanded agent.old (Event.Object object (ObjectCommand.Get offset (length bytes.old))) given agent.new × (result ≡ code_of given) × (bytes.new ≡ bytes_of given bytes.old) }
+{
+    let Some(world) = take(agent, alloc) else {
+        return NO_AGENT;
+    };
+    let number = match world.read(object, offset, bytes) {
+        Ok(()) => OK,
+        Err(error) => code_of_get(error),
+    };
+    give(agent, alloc, world);
+    number
+}
+
 /// Reads bytes of an object: as many as there is room for.
 #[unsafe(no_mangle)]
 pub extern "C" fn bpfagent_get(
@@ -116,14 +130,6 @@ pub extern "C" fn bpfagent_get(
 ) -> u32
     ensures told { (given : Option Reply) × Commanded agent.old (Event.Object object (ObjectCommand.Get offset (min (length bytes.old) 65537))) given agent.new × (result ≡ code_of given) × (bytes.new ≡ bytes_of given bytes.old) }
 {
-    let length = bytes.len().min(TOO_MANY) as u32;
-    let event = Event::Object {
-        object,
-        command: ObjectCommand::Get { offset, length },
-    };
-    let given = command(agent, alloc, event);
-    if let Some(Reply::Bytes(shown)) = &given {
-        write_bytes(bytes, shown.as_slice());
-    }
-    code_of(&given)
+    let count = bytes.len().min(TOO_MANY);
+    get(agent, alloc, object, offset, &mut bytes[..count])
 }

@@ -261,6 +261,15 @@ impl<F: FarStore> Body<F> {
         Vec::from_slice(alloc, &self.bytes[offset..offset + count])
     }
 
+    /// Copies a range over these bytes, which are as many.
+    pub fn read(&self, offset: usize, into: &mut [u8])
+        requires here { self.now.place ≡ place.Here }
+        requires inside { offset + length into.old ≤ length self.now.bytes }
+        ensures { into.new ≡ take (length into.old) (drop offset self.now.bytes) }
+    {
+        into.copy_from_slice(&self.bytes[offset..offset + into.len()]);
+    }
+
     /// Writes over a range.
     pub fn write(&mut self, offset: usize, bytes: &[u8])
         requires here { self.old.place ≡ place.Here }

@@ -125,6 +125,17 @@ pub fn copy_range<F: FarStore>(
     bodies[number].copy(alloc, offset, count)
 }
 
+/// Copies a range over these bytes, which are as many.
+#[tactic(auto, using(crate::proofs::Entries::at_steps))]
+pub fn read_range<F: FarStore>(bodies: &[Body<F>], number: usize, offset: usize, into: &mut [u8])
+    requires found { number < length bodies.now }
+    requires here { place_of (map place_in bodies.now) number ≡ place.Here }
+    requires inside { HasRange (map bytes_in bodies.now) number offset (length into.old) }
+    ensures { into.new ≡ range_of (map bytes_in bodies.now) number offset (length into.old) }
+{
+    bodies[number].read(offset, into);
+}
+
 /// Writes over a range.
 #[tactic(auto, using(crate::proofs::Entries::at_steps))]
 pub fn write_range<F: FarStore>(bodies: &mut [Body<F>], number: usize, offset: usize, bytes: &[u8])

@@ -1,10 +1,11 @@
 //! The objects of an agent.
-ghost use Rattle.std.specs.Prelude.{◌≡◌, ◌≤◌, [], ◌∷◌, ◌++◌, false, map, set, None, Ok, Err, IfOk, IfErr, IfSome, OnOk, OnErr, length};
+ghost use Rattle.std.specs.Prelude.{◌≡◌, ◌≢◌, ◌≤◌, [], ◌∷◌, ◌++◌, false, map, set, None, Ok, Err, IfOk, IfErr, IfSome, OnOk, OnErr, length};
 ghost use Rattle.memory.specs.Objects.{AreObjects, IsLive, bytes_of, object_bytes, object_limit};
 ghost use Rattle.object_store.specs.Stores.{HasWindow, IsStore, StandsAt, Touches, store_start, with_window, unsent, sent_of};
 ghost use Rattle.object_store.specs.Asking.{AsksNothing, AsksToFree, AsksToLeave, AsksToReturn, sent_after};
 ghost use Rattle.far_store.specs.Calls.{Calls};
 ghost use Rattle.object_store.specs.Parts.{AllHere, RefusesParts, bodies_of, forgets_all};
+ghost use Rattle.object_store.specs.declared.errors.GetError.{GetError};
 ghost use Rattle.object_store.specs.Calls.{Makes, Frees, Gets, Puts, BeginsLeave, EndsLeave, BeginsReturn, EndsReturn};
 
 use crate::bodies::Body;
@@ -13,7 +14,8 @@ use crate::moving::{begin_leave_at, begin_return_at, end_leave_at, end_return_at
 use crate::parts::{Parts, first_away, from_one, take_all};
 use crate::scoping::{close, note};
 use crate::standing::{
-    Standing, act_at, copy_range, length_at, place_at, scopes_at, stand, stand_range, write_range,
+    Standing, act_at, copy_range, length_at, place_at, read_range, scopes_at, stand, stand_range,
+    write_range,
 };
 use far_store::{FarStore, Moved, Place};
 use memory::{Memory, OBJECT_BYTES, OBJECT_LIMIT, Op, Reach};
@@ -178,6 +180,24 @@ impl<F: FarStore> ObjectStore<F> {
                 Ok(bytes) => Ok(bytes),
                 Err(_) => Err(GetError::Memory),
             },
+        }
+    }
+
+    /// Copies a range of an object over these bytes, as many as they are. It takes no memory, and on a refusal the bytes stay.
+    pub fn read(&self, number: u32, offset: u32, into: &mut [u8]) -> Result<(), GetError>
+        ensures got { OnOk result (Gets self.now.state number offset (length into.old) (Ok into.new)) }
+        ensures refused { IfErr result (λ error. Gets self.now.state number offset (length into.old) (Err error) × (error ≢ GetError.Memory)) }
+        ensures kept { OnErr result (into.new ≡ into.old) }
+    {
+        let bodies = self.bodies.as_slice();
+        let (index, offset) = (number as usize, offset as usize);
+        match stand_range(bodies, index, offset, into.len()) {
+            Standing::Outside => Err(GetError::Outside),
+            Standing::Away => Err(GetError::Away),
+            Standing::Here => {
+                read_range(bodies, index, offset, into);
+                Ok(())
+            }
         }
     }
 

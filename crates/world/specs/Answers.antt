@@ -11,6 +11,7 @@ use Rattle.far_store.specs.declared.places.Moved.{Moved}
 use Rattle.far_store.specs.declared.places.Moved.TheVariants as moved
 use Rattle.object_store.specs.declared.errors.MakeError.TheVariants as make_error
 use Rattle.object_store.specs.declared.errors.PutError.TheVariants as put_error
+use Rattle.object_store.specs.declared.errors.GetError.{GetError}
 use Rattle.object_store.specs.declared.errors.GetError.TheVariants as get_error
 use Rattle.debugger.specs.declared.start.Start.{Start}
 use Rattle.debugger.specs.declared.debuggee.Debuggee.{Debuggee}
@@ -47,6 +48,12 @@ AnswersPut old n offset bytes Outside new = InStore (λ s t. Puts s n offset byt
 AnswersPut old n offset bytes (Away k) new = (k ≡ n) × InStore (λ s t. Puts s n offset bytes (Err put_error.Away) t) old new
 AnswersPut old n offset bytes Done new = InStore (λ s t. Puts s n offset bytes (Ok tt) t) old new
 AnswersPut old n offset bytes _ new = ⊥
+
+-- the reply to a reading that was refused
+abbrev pub refused_get : ℕ → GetError → Reply
+refused_get n get_error.Outside = Outside
+refused_get n get_error.Away = Away n
+refused_get n get_error.Memory = NoMemory
 
 -- the object's bytes from the offset on
 abbrev pub AnswersGet : StoreState → ℕ → ℕ → ℕ → Reply → Type 0

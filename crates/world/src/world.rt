@@ -1,5 +1,5 @@
 //! What the commands do.
-ghost use Rattle.std.specs.Prelude.{◌≡◌, ◌≤◌, ◌++◌, List, map, true, length, IfOk, IfErr, OnOk, OnErr};
+ghost use Rattle.std.specs.Prelude.{◌≡◌, ◌≢◌, ◌≤◌, ◌++◌, List, map, true, length, IfOk, IfErr, OnOk, OnErr};
 ghost use Rattle.memory.specs.Objects.{object_limit};
 ghost use Rattle.object_store.specs.Stores.{machine_limit, store_memory};
 ghost use Rattle.object_store.specs.Calls.{Frees};
@@ -12,7 +12,8 @@ ghost use Rattle.world.specs.WorldState.{world_start};
 ghost use Rattle.world.specs.Machines.{AnswersMachine, reply_of};
 ghost use Rattle.world.specs.Running.{RunsMachine};
 ghost use Rattle.world.specs.Unseen.{IsPlainRun};
-ghost use Rattle.world.specs.Answers.{Answers, AnswersMake, AnswersPut, AnswersGet, AnswersMove, AnswersObject, AnswersShip, Moves, moved_reply, place_before};
+ghost use Rattle.object_store.specs.declared.errors.GetError.{GetError};
+ghost use Rattle.world.specs.Answers.{Answers, AnswersMake, AnswersPut, AnswersGet, refused_get, AnswersMove, AnswersObject, AnswersShip, Moves, moved_reply, place_before};
 
 use crate::events::{Event, Move, ObjectCommand, ObjectLength};
 use crate::machines::{answer_machine, run_machine, step_machine};
@@ -171,6 +172,16 @@ impl<F: FarStore> World<F> {
             Err(PutError::Outside) => Reply::Outside,
             Err(PutError::Away) => Reply::Away { object },
         }
+    }
+
+    /// Copies bytes of an object over these, as many as they are, which the command `get` would show. Where it is refused, the
+    /// bytes stay. It takes no memory.
+    pub fn read(&self, object: u32, offset: u32, into: &mut [u8]) -> Result<(), GetError>
+        ensures shown { OnOk result (AnswersGet self.now.store object offset (length into.old) (Reply.Bytes into.new)) }
+        ensures refused { IfErr result (λ error. AnswersGet self.now.store object offset (length into.old) (refused_get object error) × (error ≢ GetError.Memory)) }
+        ensures kept { OnErr result (into.new ≡ into.old) }
+    {
+        self.store.read(object, offset, into)
     }
 
     /// Bytes of an object.

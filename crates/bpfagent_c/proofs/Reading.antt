@@ -1,0 +1,20 @@
+-- What was read into as many bytes stands over all of them.
+use Rattle.std.proofs.Common.{◌≡◌, ◌≤◌, ℕ, min, length, List, [], ◌++◌, Some, take, drop, refl, sym, ap, ◌∙◌, arith}
+use Rattle.std.proofs.Math.Nat.{min-eq_left}
+use Rattle.std.proofs.lemmas.List.{append-nil, take_all, drop_all}
+use Rattle.object_store.specs.declared.errors.GetError.{GetError}
+use Rattle.object_store.specs.declared.errors.GetError.TheVariants.{Outside, Away, Memory}
+use Rattle.world.specs.Answers.{refused_get}
+use Rattle.bpfagent_c.specs.Shown.{over, bytes_of}
+
+pub over_as_many : (shown old : List ℕ) → length shown ≡ length old → shown ≡ over shown old
+over_as_many shown old same =
+    let m : min (length shown) (length old) ≡ length shown = min-eq_left (omega (arith, same)) in
+    let all : take (min (length shown) (length old)) shown ≡ shown = take_all _ shown (omega (arith, m)) in
+    let none : drop (min (length shown) (length old)) old ≡ [] = drop_all _ old (omega (arith, m, same)) in
+    sym (ap (λ (t : List ℕ). t ++ drop (min (length shown) (length old)) old) all ∙ ap (λ (d : List ℕ). shown ++ d) none ∙ append-nil shown)
+
+pub refused_shows_nothing : (n : ℕ) (why : GetError) (old : List ℕ) → old ≡ bytes_of (Some (refused_get n why)) old
+refused_shows_nothing n Outside old = refl
+refused_shows_nothing n Away old = refl
+refused_shows_nothing n Memory old = refl

@@ -1,0 +1,22 @@
+use Rattle.std.proofs.Common.{rules, ◌≡◌, length, true, Some, subst, ◌∙◌}
+use Rattle.world.specs.WorldState.{WorldState}
+use Rattle.world.specs.Answers.{AnswersGet, refused_get}
+use Rattle.world.specs.declared.replies.Reply.TheVariants.{Bytes}
+use Rattle.bpfagent_c.proofs.Reading.{over_as_many, refused_shows_nothing}
+use Rattle.bpfagent_c.proofs.objects.get.Goals as goal
+use Rattle.bpfagent_c.proofs.objects.get.Goals.{in-Ok, in-Err}
+
+-- src/objects.rt:108:1
+pub returns : goal.returns
+returns c =
+    let same : c.deref.result.now ≡ c.args.agent.now.held.state = search rules in
+    let live : c.args.agent.now.live ≡ true = search rules in
+    let after : c.give.new.agent.held.state ≡ c.args.agent.now.held.state = search rules in
+    elim c.match-read.branch [
+      | in-Ok w ↦
+          let shown : AnswersGet c.deref.result.now.store c.args.object c.args.offset (length c.args.bytes.now) (Bytes c.read.new.into) = search rules in
+          record { told = (Some (Bytes c.read.new.into), (live, c.give.ensures.live, (subst (λ (x : WorldState). AnswersGet x.store c.args.object c.args.offset (length c.args.bytes.now) (Bytes c.read.new.into)) same shown, after)), w.number-is, over_as_many c.read.new.into c.args.bytes.now (search rules)) }
+      | in-Err w ↦
+          let refused : AnswersGet c.deref.result.now.store c.args.object c.args.offset (length c.args.bytes.now) (refused_get c.args.object w.in-Err.error) = search rules in
+          record { told = (Some (refused_get c.args.object w.in-Err.error), (live, c.give.ensures.live, (subst (λ (x : WorldState). AnswersGet x.store c.args.object c.args.offset (length c.args.bytes.now) (refused_get c.args.object w.in-Err.error)) same refused, after)), w.number-is ∙ w.code_of_get-number.ensures c.args.object, search rules ∙ refused_shows_nothing c.args.object w.in-Err.error c.args.bytes.now) }
+    ]
