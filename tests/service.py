@@ -1,7 +1,7 @@
 #!/usr/bin/env python3
 """Runs `bpfagent serve` with clients over TCP: service.py PROGRAM
 
-The conversations of examples/serve with their clients, workers and the mover at work, eight clients at once over a counter
+The conversations of README.md, docs/PROTOCOL.md and examples/serve with their clients, workers and the mover at work, eight clients at once over a counter
 that leaves and returns, conversations that are cut off, each status, and what is left when the service has closed.
 """
 import hashlib
@@ -143,22 +143,50 @@ def parts(text):
     return arguments, talks, left
 
 
+def talk_in_turn(service, talks, where):
+    """The clients of a conversation, each connected when it first speaks, asked in turn, and ended."""
+    clients = {}
+    for name, talk in talks:
+        if name not in clients:
+            clients[name] = Client(service)
+        for command, reply in talk:
+            found = clients[name].ask(command)
+            want(found == reply, f"{where}: {name} asks {command}, and is answered {found}")
+    want(all(client.end() == "" for client in clients.values()), f"{where}: more than the replies")
+
+
+def show_readme(program):
+    """The second conversation of README.md, started as it says but on a free port: 5 is added once, by two instructions."""
+    page = (ROOT / "README.md").read_text()
+    given, words, conversation = re.search(r"(?s)^printf '([^']*)' \| \S+ serve --port 7070 ([^\n]*)\n.*?^```text\n(.*?)^```", page, re.M).groups()
+    service = Service(program, *words.split(), setup=given.split("\\n")[:-1])
+    want(service.told == ["made 1", "shipped 1"], f"README.md: the input is answered {service.told}")
+    talk_in_turn(service, parts(conversation)[1][1:], "README.md")
+    registers = [0, 1 << 32, 5, *[0] * 7, 0xFFFF_FFFF_0000_1000]
+    want(service.ends_well({1: of_eight(5)}, ["regs 1 1 8 exit " + " ".join(f"{value:016x}" for value in registers)]), "README.md: it ended otherwise")
+
+
+def show_protocol(program):
+    """The conversation of docs/PROTOCOL.md."""
+    page = (ROOT / "docs/PROTOCOL.md").read_text()
+    words, conversation = re.search(r"(?s)`bpfagent serve (--connections [^`]*)`; a line `---` says who speaks\..*?^```text\n(.*?)^```", page, re.M).groups()
+    _, (_, setup), *talks = parts(conversation)[1]
+    service = Service(program, *words.split(), setup=[command for command, _ in setup])
+    want(service.told == [reply for _, reply in setup], f"PROTOCOL.md: the input is answered {service.told}")
+    talk_in_turn(service, talks, "PROTOCOL.md")
+    status, output, errors = service.end()
+    want(status == 0 and output.startswith("closed\n") and errors == "", f"PROTOCOL.md: it ended with {status}, {output}, {errors}")
+
+
 def show_examples(program):
-    """Each example, its clients connected at once and asked in turn."""
+    """Each example."""
     examples = sorted(EXAMPLES.glob("*.script"))
     want(examples, "there is no example of serve")
     for example in examples:
         arguments, ((_, setup), *talks), left = parts(example.read_text())
         service = Service(program, *arguments, setup=[command for command, _ in setup])
         want(service.told == [reply for _, reply in setup], f"{example.name}: the input is answered {service.told}")
-        clients = {}
-        for name, talk in talks:
-            if name not in clients:
-                clients[name] = Client(service)
-            for command, reply in talk:
-                found = clients[name].ask(command)
-                want(found == reply, f"{example.name}: {name} asks {command}, and is answered {found}")
-        want(all(client.end() == "" for client in clients.values()), f"{example.name}: more than the replies")
+        talk_in_turn(service, talks, example.name)
         want(service.ends_with(left), f"{example.name} ended otherwise")
 
 
@@ -387,7 +415,7 @@ def show_port(program):
     want(again.port == port and Client(again).end() == "" and again.ends_well(), "the port that is asked for")
 
 
-SHOWN = [show_examples, show_row, show_digest, close_two, service_runs, service_moves, service_sweeps, show_without_sweep, show_crowd, show_debuggers, show_lost, show_statuses, show_port]
+SHOWN = [show_readme, show_protocol, show_examples, show_row, show_digest, close_two, service_runs, service_moves, service_sweeps, show_without_sweep, show_crowd, show_debuggers, show_lost, show_statuses, show_port]
 
 
 def main():

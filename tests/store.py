@@ -1,7 +1,7 @@
 #!/usr/bin/env python3
 """Runs `bpfagent store` with clients of another language: store.py PROGRAM
 
-The client of examples/far, byte for byte what docs/FAR-STREAM.md shows, clients that break the protocol, a store that lies
+The client of examples/far, with the commands of the pages that name it, byte for byte what docs/FAR-STREAM.md shows, clients that break the protocol, a store that lies
 (here, to the client), 1025 parcels, the end of standard input while a client is connected, and each status.
 """
 import hashlib
@@ -176,6 +176,19 @@ def show_example(program):
         want(lied_to(answer) == taken, f"the example over a store that answers {answer}")
 
 
+def show_pages(program):
+    """The client as the pages start it, but on a free port: it prints what docs/FAR-STREAM.md says."""
+    pages = {page: (ROOT / page).read_text() for page in ("docs/FAR-STREAM.md", "docs/FAR-MEMORY.md", "examples/README.md")}
+    printed = re.search(r"the put's number, the length and the digest: `([^`]*)`", pages["docs/FAR-STREAM.md"])[1]
+    for page, text in pages.items():
+        asked = re.search(r"`python3 (examples/far/client\.py) 7070 (\w+)`", text)
+        want(asked and "bpfagent store --port 7070" in text, f"{page} doesn't say how server and client are started")
+        server = Server(program, "--port", "0")
+        done = subprocess.run([sys.executable, ROOT / asked[1], str(server.port), asked[2]], capture_output=True, text=True, timeout=SECONDS)
+        want((done.returncode, done.stdout) == (0, printed + "\n"), f"{page}: the client ended with {done}")
+        want(server.end() == (0, b"", b""), f"{page}: the server's end")
+
+
 def lied_to(answer):
     """What the client of the example takes a get of `abc` for, that has this answer."""
     with socket.create_server(("127.0.0.1", 0)) as listener:
@@ -199,7 +212,7 @@ def lied_to(answer):
             store.stream.close()
 
 
-SHOWN = [show_frames, show_limits, show_broken_clients, show_end, show_statuses, show_example]
+SHOWN = [show_frames, show_limits, show_broken_clients, show_end, show_statuses, show_example, show_pages]
 
 
 def main():
