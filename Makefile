@@ -26,16 +26,8 @@ test:
 
 # Makes the test vectors again, by an interpreter of RFC 9669 of its own, and compares; it also says
 # whether the replies of the other scripts are those that the interpreter gives.
-SCRIPTS := crates/conversations/data
-REFERENCE := tests/reference
-
 vectors:
-	@python3 $(REFERENCE)/make_vectors.py | cmp - $(SCRIPTS)/vectors.script
-	@python3 $(REFERENCE)/make_moves_vectors.py | cmp - $(SCRIPTS)/moves_vectors.script
-	@python3 $(REFERENCE)/make_grants_vectors.py | cmp - $(SCRIPTS)/grants_vectors.script
-	@python3 $(REFERENCE)/make_vectors.py --check $(SCRIPTS)/*.script examples/*.script examples/c/*.script
-	@python3 tests/generated.py
-	@echo "vectors and lists of tests are what they are made from, and the replies of all scripts are those of the interpreter"
+	@python3 tests/generated.py --vectors
 
 # Outside the gate. These need a C compiler and Python.
 

@@ -9,7 +9,7 @@ import re
 import sys
 
 from scripts import conversations
-from sources import ROOT, blanked, crates, uncommented
+from sources import ROOT, blanked, crates, pages, uncommented
 
 LIST = ROOT / "tests/counts.txt"
 # What a crate's folder has: sources, statements, proofs, edits, what a program is run on, and scripts that write sources.
@@ -90,7 +90,7 @@ def of_scripts():
 def of_documents():
     """How many rows of examples the page on assembly has, and how many commands the documents show."""
     yield "table rows in docs/ASSEMBLY.md", len(re.findall(r"(?m)^\|(?!---)", (ROOT / "docs/ASSEMBLY.md").read_text()))
-    for path in [ROOT / "README.md", *sorted((ROOT / "docs").glob("*.md"))]:
+    for path in pages():
         shown = len(re.findall(r"(?m)^\$ ", path.read_text()))
         if shown:
             yield f"commands in {path.relative_to(ROOT)}", shown

@@ -1,16 +1,18 @@
 #!/usr/bin/env python3
 """Checks that documents are true of the repository as far as a script can see it: each link leads to a file and a heading,
-each file and crate that is named is there, each line of Rust that is quoted stands in the file that is named before it,
-and the picture of the crates has each crate, with what it stands on by crates.txt; --write draws it."""
+each file and crate that is named is there, each line of Rust that is quoted, or that a script in Python prints, stands in the
+file that is named before it; the picture of the crates has each crate, with what it stands on by crates.txt, and the table of how
+many files name a variant is right. With --write the script draws and counts."""
 import re
+import subprocess
 import sys
 
 from build import crates_below
-from sources import ROOT, crates
+from sources import ROOT, crates, pages
 
-PAGES = [ROOT / "README.md", ROOT / "examples/README.md", ROOT / "examples/client/README.md", *sorted((ROOT / "docs").glob("*.md"))]
 PICTURE = "docs/ARCHITECTURE.md"
 DRAWN = re.compile(r"(?ms)(^```mermaid\n).*?(?=^```)")
+COUNTED = re.compile(r"(?m)^(\| [^|]*: `(\w+)` \|) \d+ \| \d+ \| \d+ \| \d+ \|$")
 FOR_TESTS = re.compile(r"_tests$|^test_devices$|^conversations$|^bench_\w+$|^refused_\w+$")
 PATH = re.compile(r"`((?:crates|tests|docs|examples|bench)/[\w./-]+)`")
 
@@ -41,14 +43,24 @@ def wrong_paths(text):
             yield f"names {named}, which isn't there"
 
 
+def missing_lines(before, lines):
+    """Those of these lines of Rust that don't stand in the file that is named last before them."""
+    named = [path for path in PATH.findall(before) if path.endswith(".rt")]
+    source = " ".join((ROOT / named[-1]).read_text().split()) if named and (ROOT / named[-1]).is_file() else ""
+    for line in lines.splitlines():
+        if line.strip() and " ".join(line.split()) not in source:
+            yield f"{line.strip()!r}, which isn't in {named[-1] if named else 'any file'}"
+
+
 def wrong_quotes(text):
-    """Lines of Rust that don't stand in the file that is named last before them."""
     for found in re.finditer(r"(?ms)^```rust\n(.*?)^```", text):
-        named = [path for path in PATH.findall(text[: found.start()]) if path.endswith(".rt")]
-        source = " ".join((ROOT / named[-1]).read_text().split()) if named and (ROOT / named[-1]).is_file() else ""
-        for line in found[1].splitlines():
-            if line.strip() and " ".join(line.split()) not in source:
-                yield f"quotes {line.strip()!r}, which isn't in {named[-1] if named else 'any file'}"
+        yield from (f"quotes {line}" for line in missing_lines(text[: found.start()], found[1]))
+
+
+def wrong_scripts(text):
+    for found in re.finditer(r"(?ms)^python3 - <<'PY'\n(.*?)^PY$", text):
+        printed = subprocess.run([sys.executable, "-c", found[1]], cwd=ROOT, stdout=subprocess.PIPE, text=True).stdout
+        yield from (f"has a script that prints {line}" for line in missing_lines(text[: found.start()], printed or "nothing"))
 
 
 def edges(names):
@@ -66,27 +78,52 @@ def picture():
     return "graph TD\n" + "".join(f"  {name} --> {other}\n" for name, other in sorted(edges(names)))
 
 
+def kind_of(path):
+    """0 for code with its definitions, 1 for a proof, 2 for a test."""
+    name = str(path.relative_to(ROOT))
+    is_test = name.startswith(("tests/", "crates/conversations/")) or name.endswith("/tests.rt") or "_tests/" in name
+    return 1 if "/proofs/" in name else 2 if is_test else 0
+
+
+def files_with(names):
+    """How many files of each kind have each of these names as a word."""
+    found = {name: [0, 0, 0] for name in names}
+    paths = [path for top in ("crates", "tests", "bench") for path in (ROOT / top).rglob("*.*") if path.suffix in (".rt", ".antt", ".py", ".script")]
+    for path in paths:
+        if "out" not in path.relative_to(ROOT).parts:
+            words = set(re.findall(r"\w+", path.read_text()))
+            for name in words.intersection(names):
+                found[name][kind_of(path)] += 1
+    return found
+
+
+def counted(text):
+    """The page with its table of how many files name a variant."""
+    files = files_with({name for _, name in COUNTED.findall(text)})
+    return COUNTED.sub(lambda row: f"{row[1]} {' | '.join(map(str, [*files[row[2]], sum(files[row[2]])]))} |", text)
+
+
 def wrong_picture(is_written):
     path = ROOT / PICTURE
     text = path.read_text()
-    wanted = DRAWN.sub(lambda found: found[1] + picture(), text)
+    wanted = counted(DRAWN.sub(lambda found: found[1] + picture(), text))
     if is_written:
         path.write_text(wanted)
-    elif wanted != text or not DRAWN.search(text):
-        yield f"{PICTURE}: the picture isn't what crates.txt says: tests/documents.py --write makes it so"
+    elif wanted != text or not DRAWN.search(text) or not COUNTED.search(text):
+        yield f"{PICTURE}: the picture isn't what crates.txt says, or the table what the files say: tests/documents.py --write makes it so"
 
 
 def main():
     wrong = list(wrong_picture(sys.argv[1:] == ["--write"]))
-    for page in PAGES:
+    for page in pages():
         text = page.read_text()
-        said = [*wrong_links(page, text), *wrong_paths(text), *wrong_quotes(text)]
+        said = [*wrong_links(page, text), *wrong_paths(text), *wrong_quotes(text), *wrong_scripts(text)]
         wrong += [f"{page.relative_to(ROOT)} {what}" for what in said]
     for said in wrong:
         print(said)
     if wrong:
         sys.exit(1)
-    print(f"links, files, quotes and the picture of the crates in {len(PAGES)} documents are right")
+    print(f"links, files, quotes, scripts, the picture of the crates and the counts of files in {len(pages())} documents are right")
 
 
 if __name__ == "__main__":

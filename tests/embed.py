@@ -3,11 +3,13 @@
 
 The header and the exports of crates/bpfagent_c have to be alike: names, parameters, results and the fields of structs. Then the
 library is built by `rt lib`, over what earlier checks have kept, and linked with the programs of examples/embed/, which say by
-themselves whether all is as it should be. Where there is no C compiler this is said, and nothing is built.
+themselves whether all is as it should be; the commands of docs/EMBEDDING.md are run, and its piece of C is compiled. Where there
+is no C compiler this is said, and nothing is built.
 """
 import os
 import pathlib
 import re
+import shlex
 import shutil
 import subprocess
 import sys
@@ -18,6 +20,7 @@ from sources import ROOT, uncommented
 CRATE = ROOT / "crates/bpfagent_c"
 HEADER = ROOT / "include/bpfagent.h"
 EXAMPLES = ROOT / "examples/embed"
+PAGE = ROOT / "docs/EMBEDDING.md"
 LOOKUP = ROOT / "examples/c/hash_table.lookup.code"
 STRICT = ["-O2", "-Wall", "-Wextra", "-Wpedantic", "-Werror"]
 WRAPPED = "-Wl,--wrap=malloc,--wrap=realloc,--wrap=free"
@@ -122,6 +125,20 @@ def show_programs(compiler, linked, room):
         print(run([room / name, *words], timeout=300))
 
 
+def show_page(compiler, rt, runtime, room):
+    """The commands of the page, with this compiler, rt and C runtime, and its piece of C as the body of a function."""
+    page = PAGE.read_text()
+    commands = re.search(r"(?s)^```\n(\(cd crates/bpfagent_c .*?)^```", page, re.M)[1]
+    for named, used in (("rt lib", f"{shlex.quote(rt)} lib"), ("cc -O2", f"{shlex.quote(compiler)} -O2"), ("/opt/rattle/c/liblibc_c.a", shlex.quote(str(runtime))), ("out/table", shlex.quote(str(room / "shown")))):
+        if named not in commands:
+            raise Failed(f"{PAGE.name} doesn't say {named}")
+        commands = commands.replace(named, used)
+    run(["sh", "-ec", commands], cwd=ROOT, timeout=300)
+    piece = re.search(r"(?s)^```c\n(.*?)^```", page, re.M)[1]
+    (room / "piece.c").write_text(f'#include "bpfagent.h"\nint piece(const uint8_t *code, size_t length);\nint piece(const uint8_t *code, size_t length)\n{{\n{piece}return 0;\n}}\n')
+    run([compiler, *STRICT, f"-I{HEADER.parent}", "-c", "-o", room / "piece.o", room / "piece.c"])
+
+
 def show_header_in_cxx(room):
     """That the header is C++ too, where there is a compiler of it."""
     compiler = shutil.which("c++")
@@ -143,6 +160,7 @@ def main():
         linked = archives(sys.argv[1])
         with tempfile.TemporaryDirectory(prefix="embed-") as room:
             show_programs(compiler, linked, pathlib.Path(room))
+            show_page(compiler, sys.argv[1], linked[1], pathlib.Path(room))
             show_header_in_cxx(pathlib.Path(room))
     except Failed as error:
         print(f"embed: {error}")

@@ -1,6 +1,7 @@
 #!/usr/bin/env python3
 """Compares the lists of tests that scripts write with what their scripts write now; how they are laid out doesn't count.
-The long scripts of crates/conversations are compared by `make vectors`."""
+With --vectors it also makes the long scripts of crates/conversations again, by an interpreter of RFC 9669 of its own, and says
+whether the replies of the other scripts are those that the interpreter gives."""
 import pathlib
 import re
 import subprocess
@@ -16,6 +17,8 @@ WRITTEN = {
     f"{ASSEMBLY}/src/form_list.rt": [f"{ASSEMBLY}/make_forms.py"],
 }
 TABLES = "crates/isa_table_tests"
+REFERENCE = "tests/reference"
+VECTORS = {name: f"crates/conversations/data/{name}.script" for name in ("vectors", "moves_vectors", "grants_vectors")}
 
 
 def output(call):
@@ -40,11 +43,25 @@ def differing():
                 yield f"{TABLES}/src/{path.name} isn't what {TABLES}/vectors.py writes"
 
 
+def differing_vectors():
+    for name, script in VECTORS.items():
+        if (ROOT / script).read_text() != output([f"{REFERENCE}/make_{name}.py"]):
+            yield f"{script} isn't what {REFERENCE}/make_{name}.py writes"
+    scripts = [*ROOT.glob("crates/conversations/data/*.script"), *ROOT.glob("examples/*.script"), *ROOT.glob("examples/c/*.script")]
+    done = subprocess.run([sys.executable, f"{REFERENCE}/make_vectors.py", "--check", *sorted(map(str, scripts))], cwd=ROOT, capture_output=True, text=True)
+    if done.returncode:
+        yield f"not all replies are those of the interpreter: {done.stdout}{done.stderr}"
+
+
 def main():
-    found = list(differing())
+    has_vectors = sys.argv[1:] == ["--vectors"]
+    found = [*differing(), *(differing_vectors() if has_vectors else [])]
     for line in found:
         print(line)
-    sys.exit(1 if found else 0)
+    if found:
+        sys.exit(1)
+    if has_vectors:
+        print("vectors and lists of tests are what they are made from, and the replies of all scripts are those of the interpreter")
 
 
 main()

@@ -16,8 +16,8 @@ import sys
 import tempfile
 
 from scripts import conversations
+from sources import ROOT, pages
 
-ROOT = pathlib.Path(__file__).resolve().parent.parent
 EXIT = bytes.fromhex("9500000000000000")
 ALL_ONES = bytes.fromhex("18000000ffffffff00000000ffffffff") + EXIT
 SECONDS = 20
@@ -54,6 +54,11 @@ def has_checks(program):
     return b"AddressSanitizer" in pathlib.Path(program).read_bytes()
 
 
+def seconds(program):
+    """How long one run of the program, or a command with it, may take."""
+    return SECONDS * (20 if has_checks(program) else 1)
+
+
 def limited(program, data):
     """What limits a child process to so many bytes of data."""
     return None if has_checks(program) else lambda: resource.setrlimit(resource.RLIMIT_DATA, (data, data))
@@ -73,7 +78,7 @@ def call(program, arguments, given=b"", **streams):
     if "stdin" not in streams:
         streams["input"] = given
     streams.setdefault("stdout", subprocess.PIPE)
-    done = subprocess.run([program, *arguments], stderr=subprocess.PIPE, timeout=SECONDS * (20 if has_checks(program) else 1), **streams)
+    done = subprocess.run([program, *arguments], stderr=subprocess.PIPE, timeout=seconds(program), **streams)
     return done.returncode, done.stdout, done.stderr
 
 
@@ -210,13 +215,13 @@ def show_documents(program):
     `$ ` in a block of its own, is run at the top of the repository, and may go on after a backslash."""
     count = 0
     (ROOT / "out").mkdir(exist_ok=True)
-    for path in [ROOT / "README.md", *sorted((ROOT / "docs").glob("*.md"))]:
+    for path in pages():
         shown = re.findall(r"^\$ ((?:.*\\\n)*.*)\n((?:(?!\$ |```).*\n)*)", path.read_text(), re.M)
         for command, output in shown:
             if command.startswith(COMPILERS):
                 continue
             command = command.replace(PROGRAM, shlex.quote(program))
-            done = subprocess.run(["sh", "-c", command], cwd=ROOT, stdin=subprocess.DEVNULL, stdout=subprocess.PIPE, stderr=subprocess.STDOUT, text=True, timeout=SECONDS)
+            done = subprocess.run(["sh", "-c", command], cwd=ROOT, stdin=subprocess.DEVNULL, stdout=subprocess.PIPE, stderr=subprocess.STDOUT, text=True, timeout=seconds(program))
             want(done.stdout == output, f"{path.name}: {command} printed {done.stdout}")
             count += 1
     return count

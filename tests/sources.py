@@ -11,6 +11,11 @@ def crates():
     return [line.split(":")[0].split()[0] for line in lines if ":" in line and not line.startswith("#")]
 
 
+def pages():
+    """The documents: README, those of examples/, and those of docs/."""
+    return [ROOT / "README.md", *sorted(ROOT.glob("examples/**/README.md")), *sorted((ROOT / "docs").glob("*.md"))]
+
+
 # A comment, a text or a character, in the order in which they are tried.
 LITERAL = re.compile(r"""//[^\n]*|/\*.*?\*/|b?r(#*)".*?"\1|b?"(?:[^"\\]|\\.)*"|b?'(?:[^'\\\n]|\\u\{[0-9a-fA-F]+\}|\\.)'""", re.S)
 
