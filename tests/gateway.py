@@ -15,8 +15,9 @@ import tempfile
 import threading
 import time
 
+from parts import Failed, want
 from sources import ROOT
-from store import CLIENT, KEPT, LIMIT, NO_ROOM, REFUSED_ID, SECONDS, Failed, frame, talk, unanswered, want
+from store import CLIENT, KEPT, LIMIT, NO_ROOM, REFUSED_ID, SECONDS, frame, talk, unanswered
 
 # Before tests/, which has a client.py of its own.
 sys.path.insert(0, str(ROOT / "examples/far"))

@@ -15,6 +15,7 @@ import subprocess
 import sys
 import tempfile
 
+from parts import Failed, want
 from scripts import conversations
 from sources import ROOT, pages
 
@@ -62,15 +63,6 @@ def seconds(program):
 def limited(program, data):
     """What limits a child process to so many bytes of data."""
     return None if has_checks(program) else lambda: resource.setrlimit(resource.RLIMIT_DATA, (data, data))
-
-
-class Failed(Exception):
-    """What the program did otherwise than it should."""
-
-
-def want(is_so, text):
-    if not is_so:
-        raise Failed(text)
 
 
 def call(program, arguments, given=b"", **streams):

@@ -6,14 +6,13 @@ that leaves and returns, conversations that are cut off, each status, and what i
 """
 import hashlib
 import os
-import pathlib
 import re
 import socket
 import subprocess
-import sys
 import threading
 import time
 
+from parts import Failed, run_parts, want
 from sources import ROOT
 
 SECONDS = 60
@@ -27,15 +26,6 @@ ADD = "db21000000000000" + EXIT
 # mov r3, 100 · aadd [r1], r2 · add r3, -1 · jne r3, 0, -3 · exit
 ADDS = "b703000064000000" "db21000000000000" "07030000ffffffff" "5503fdff00000000" + EXIT
 COUNTER = (ROOT / "examples/c/counter.code").read_bytes().hex()
-
-
-class Failed(Exception):
-    """What the program did otherwise than it should."""
-
-
-def want(is_so, text):
-    if not is_so:
-        raise Failed(text)
 
 
 class Service:
@@ -418,16 +408,5 @@ def show_port(program):
 SHOWN = [show_readme, show_protocol, show_examples, show_row, show_digest, close_two, service_runs, service_moves, service_sweeps, show_without_sweep, show_crowd, show_debuggers, show_lost, show_statuses, show_port]
 
 
-def main():
-    program = str(pathlib.Path(sys.argv[1]).resolve())
-    for show in SHOWN:
-        try:
-            show(program)
-        except Failed as error:
-            print(f"{show.__name__}: {error}")
-            sys.exit(1)
-    print(f"service: {len(SHOWN)} parts as they should be on {sys.argv[1]}")
-
-
 if __name__ == "__main__":
-    main()
+    run_parts("service", SHOWN)

@@ -6,13 +6,13 @@ The client of examples/far, with the commands of the pages that name it, byte fo
 """
 import hashlib
 import os
-import pathlib
 import re
 import socket
 import subprocess
 import sys
 import threading
 
+from parts import run_parts, want
 from sources import ROOT
 
 # Before tests/, which has a client.py of its own.
@@ -24,15 +24,6 @@ CLIENT = ROOT / "examples/far/client.py"
 REFUSED_ID, NO_ROOM = 1, 2
 LIMIT = 65_536
 KEPT = 1024
-
-
-class Failed(Exception):
-    """What the program did otherwise than it should."""
-
-
-def want(is_so, text):
-    if not is_so:
-        raise Failed(text)
 
 
 class Server:
@@ -215,16 +206,5 @@ def lied_to(answer):
 SHOWN = [show_frames, show_limits, show_broken_clients, show_end, show_statuses, show_example, show_pages]
 
 
-def main():
-    program = str(pathlib.Path(sys.argv[1]).resolve())
-    for show in SHOWN:
-        try:
-            show(program)
-        except Failed as error:
-            print(f"{show.__name__}: {error}")
-            sys.exit(1)
-    print(f"store: {len(SHOWN)} parts as they should be on {sys.argv[1]}")
-
-
 if __name__ == "__main__":
-    main()
+    run_parts("store", SHOWN)
