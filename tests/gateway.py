@@ -129,8 +129,13 @@ def show_frames(address):
 
 
 def show_example(address):
-    """The client of examples/far, as its page says."""
-    gateway = Gateway(address)
+    """Gateway and client of examples/far, as docs/FAR-MEMORY.md starts them, but for the ports."""
+    page = (ROOT / "docs/FAR-MEMORY.md").read_text()
+    want("\npython3 examples/far/gateway.py --port 7070 --redis 127.0.0.1:6379\n" in page, "the page starts the gateway otherwise")
+    with socket.create_server(("127.0.0.1", 0)) as listener:
+        port = listener.getsockname()[1]
+    gateway = Gateway(address, "--port", str(port))
+    want(gateway.port == port, "the port that is asked for")
     texts = ["hello", "é" * 1000]
     done = subprocess.run([sys.executable, str(CLIENT), str(gateway.port), *texts], capture_output=True, timeout=SECONDS)
     lines = [f"{k} {len(text.encode())} {hashlib.sha256(text.encode()).hexdigest()}" for k, text in enumerate(texts, 1)]
