@@ -2,9 +2,9 @@
 """The library for C: embed.py RT, or embed.py --header for what needs no compiler.
 
 The header and the exports of crates/bpfagent_c have to be alike: names, parameters, results and the fields of structs. Then the
-library is built by `rt lib`, over what earlier checks have kept, and linked with the programs of examples/embed/, which say by
-themselves whether all is as it should be; the commands of docs/EMBEDDING.md are run, and its piece of C is compiled. Where there
-is no C compiler this is said, and nothing is built.
+library is built by the commands of docs/EMBEDDING.md, over what earlier checks have kept, and linked with the programs of
+examples/embed/, which say by themselves whether all is as it should be; the page's piece of C is compiled. Where there is no C
+compiler this is said, and nothing is built.
 """
 import os
 import pathlib
@@ -110,8 +110,7 @@ def run(words, **how):
 
 
 def archives(rt):
-    """The library, built, and the C runtime of the toolchain, which lies beside the page that `rt doc` names."""
-    run([rt, "lib"], cwd=CRATE)
+    """The library, and the C runtime of the toolchain, which lies beside the page that `rt doc` names."""
     return [CRATE / "out/libbpfagent_c.a", pathlib.Path(run([rt, "doc"])).parent / "c/liblibc_c.a"]
 
 
@@ -126,14 +125,15 @@ def show_programs(compiler, linked, room):
 
 
 def show_page(compiler, rt, runtime, room):
-    """The commands of the page, with this compiler, rt and C runtime, and its piece of C as the body of a function."""
+    """The commands of the page, with this compiler, rt and C runtime: they build the library. And its piece of C as the body of a
+    function."""
     page = PAGE.read_text()
     commands = re.search(r"(?s)^```\n(\(cd crates/bpfagent_c .*?)^```", page, re.M)[1]
     for named, used in (("rt lib", f"{shlex.quote(rt)} lib"), ("cc -O2", f"{shlex.quote(compiler)} -O2"), ("/opt/rattle/c/liblibc_c.a", shlex.quote(str(runtime))), ("out/table", shlex.quote(str(room / "shown")))):
         if named not in commands:
             raise Failed(f"{PAGE.name} doesn't say {named}")
         commands = commands.replace(named, used)
-    run(["sh", "-ec", commands], cwd=ROOT, timeout=300)
+    run(["sh", "-ec", commands], cwd=ROOT)
     piece = re.search(r"(?s)^```c\n(.*?)^```", page, re.M)[1]
     (room / "piece.c").write_text(f'#include "bpfagent.h"\nint piece(const uint8_t *code, size_t length);\nint piece(const uint8_t *code, size_t length)\n{{\n{piece}return 0;\n}}\n')
     run([compiler, *STRICT, f"-I{HEADER.parent}", "-c", "-o", room / "piece.o", room / "piece.c"])
@@ -159,8 +159,8 @@ def main():
             return
         linked = archives(sys.argv[1])
         with tempfile.TemporaryDirectory(prefix="embed-") as room:
-            show_programs(compiler, linked, pathlib.Path(room))
             show_page(compiler, sys.argv[1], linked[1], pathlib.Path(room))
+            show_programs(compiler, linked, pathlib.Path(room))
             show_header_in_cxx(pathlib.Path(room))
     except Failed as error:
         print(f"embed: {error}")

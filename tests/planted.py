@@ -30,6 +30,8 @@ EDITS = [
     ("the guide sends to another file", "definitions.py", "docs/DEFINITIONS.md", r"\*\*`Slots`\*\*", "**`Slot`**"),
     ("a definition without its comment", "definitions.py", "crates/isa_table/specs/Table.antt", r"\n--[^\n]*\nabbrev pub alu_row", "\nabbrev pub alu_row"),
     ("an example with another reply", "protocol.py", "docs/PROTOCOL.md", r"> made 1\n", "> made 2\n"),
+    ("a count of files that isn't so", "documents.py", "docs/ARCHITECTURE.md", r"(a command that ships: `\w+` \|) 2", r"\1 3"),
+    ("a table that isn't what a page's script prints", "documents.py", "crates/bpf_codec/src/places.rt", r"0, 0, 0, 0, 0, 1, 2, 3", "0, 0, 0, 0, 1, 1, 2, 3"),
     ("out of memory beside a real one", "failures.py", "crates/streams/src/reading.rt", r"if (input\.extend_from_slice\(&piece\[\.\.n\]\)\.is_err\(\))", r"if n == 3333 || \1"),
     ("out of memory by another name", "failures.py", "crates/loader/src/loading.rt", r"\n(?=\nimpl |\npub struct )", "\nuse Why::Memory as Nothing;\n"),
     ("out of memory as a constant", "failures.py", "crates/streams/src/reading.rt", r"\n(?=\n/// )", "\nconst GONE: Failure = Failure::NoMemory;\n"),
