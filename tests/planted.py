@@ -22,7 +22,7 @@ EDITS = [
     ("a table of vectors is empty", "counts.py", "crates/isa_table_tests/src/single.rt", r"(const NEG64[^=]*= \[)[^\]]*\]", r"\1]"),
     ("a test is no test", "counts.py", "crates/loader_tests/src/tests.rt", r"#\[test\]", ""),
     ("a test is a comment", "counts.py", "crates/loader_tests/src/tests.rt", r"#\[test\]", "// #[test]"),
-    ("an edit that can't be made", "counts.py", "crates/agent/src/reporting.rt", r"put_all\(errors, text\)", "put_all(errors,text)"),
+    ("an edit that can't be made", "counts.py", "crates/agent/src/reporting.rt", r"error\.kind\(\) == ", "error.kind()== "),
     ("a blank in a text of a list", "generated.py", "crates/asm_tests/src/form_list.rt", r'"add r1, r4"', '"add r1,  r4"'),
     ("a row of the page without backticks", "generated.py", "docs/ASSEMBLY.md", r"\| `add r1, 3` \|", "| add r1, 3 |"),
     ("a row of the page and of its list without an example", "counts.py", "docs/ASSEMBLY.md", r"\n\| `sub` `sub32` [^\n]*", ""),
