@@ -6,6 +6,8 @@ mod breakpoints;
 #[cfg(test)]
 mod common;
 #[cfg(test)]
+mod compared;
+#[cfg(test)]
 mod shown;
 #[cfg(test)]
 mod watches;

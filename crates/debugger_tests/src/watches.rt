@@ -1,6 +1,7 @@
 //! Watched ranges.
 
 use crate::common::{EXIT, MOV, OBJECT, STACK, one, resume, session_of, step, unwatch, watch};
+use crate::compared::same;
 use debugger::{Debugged, StepReply, WATCH_LIMIT, Way};
 use isa_table::Size;
 use machine::Written;
@@ -20,10 +21,10 @@ fn a_write_of_a_watched_byte_hits(rt: HostRuntime) -> Result<(), Fail> {
     // stxb [r1+2], r2
     let slots = [0x7321_0200_0000_0000, EXIT];
     let mut s = session_of(rt.alloc(), 10, [OBJECT, 5, 0, 0, 0], &slots)?;
-    assert_eq!(rt; watch(&mut s, OBJECT + 2, 1), Debugged::Done);
-    assert_eq!(rt; step(&mut s), StepReply::Hit(1));
-    assert_eq!(rt; step(&mut s), StepReply::Paused(1));
-    assert_eq!(rt; s.store.get(1, 0, 4)?.as_slice(), [0, 0, 5, 0].as_slice());
+    same!(rt; watch(&mut s, OBJECT + 2, 1), Debugged::Done);
+    same!(rt; step(&mut s), StepReply::Hit(1));
+    same!(rt; step(&mut s), StepReply::Paused(1));
+    same!(rt; s.store.get(1, 0, 4)?.as_slice(), [0, 0, 5, 0].as_slice());
     Ok(())
 }
 
@@ -32,10 +33,10 @@ fn one_tells_a_hit(rt: HostRuntime) -> Result<(), Fail> {
     // stxb [r1+2], r2
     let slots = [0x7321_0200_0000_0000, MOV, EXIT];
     let mut s = session_of(rt.alloc(), 10, [OBJECT, 5, 0, 0, 0], &slots)?;
-    assert_eq!(rt; watch(&mut s, OBJECT, 4), Debugged::Done);
-    assert_eq!(rt; one(&mut s), StepReply::Hit(1));
-    assert_eq!(rt; one(&mut s), StepReply::Ran(2));
-    assert_eq!(rt; step(&mut s), StepReply::Paused(2));
+    same!(rt; watch(&mut s, OBJECT, 4), Debugged::Done);
+    same!(rt; one(&mut s), StepReply::Hit(1));
+    same!(rt; one(&mut s), StepReply::Ran(2));
+    same!(rt; step(&mut s), StepReply::Paused(2));
     Ok(())
 }
 
@@ -44,35 +45,23 @@ fn the_end_of_the_stack_is_watched(rt: HostRuntime) -> Result<(), Fail> {
     // stw [r10-4], -1; ldxsw r0, [r10-4]
     let slots = [0x620a_fcff_ffff_ffff, 0x81a0_fcff_0000_0000, EXIT];
     let mut s = session_of(rt.alloc(), 10, [0; 5], &slots)?;
-    assert_eq!(rt; watch(&mut s, STACK + 4092, 4), Debugged::Done);
-    assert_eq!(rt; step(&mut s), StepReply::Hit(1));
-    assert_eq!(rt; resume(&mut s), Debugged::Done);
-    assert_eq!(rt; step(&mut s), StepReply::Ran(2));
+    same!(rt; watch(&mut s, STACK + 4092, 4), Debugged::Done);
+    same!(rt; step(&mut s), StepReply::Hit(1));
+    same!(rt; resume(&mut s), Debugged::Done);
+    same!(rt; step(&mut s), StepReply::Ran(2));
     Ok(())
 }
 
 #[test]
 fn what_is_written_hits_changed_or_not(rt: HostRuntime) -> Result<(), Fail> {
     // ldxdw r0, [r1]
-    assert_eq!(rt;
-        watched_step(rt.alloc(), 0, 0x7910_0000_0000_0000)?,
-        StepReply::Ran(1)
-    );
+    same!(rt; watched_step(rt.alloc(), 0, 0x7910_0000_0000_0000)?, StepReply::Ran(1));
     // aadd [r1], r2
-    assert_eq!(rt;
-        watched_step(rt.alloc(), 0, 0xdb21_0000_0000_0000)?,
-        StepReply::Hit(1)
-    );
+    same!(rt; watched_step(rt.alloc(), 0, 0xdb21_0000_0000_0000)?, StepReply::Hit(1));
     // acmpxchg [r1], r2, where R0 and the object are 0
-    assert_eq!(rt;
-        watched_step(rt.alloc(), 0, 0xdb21_0000_f100_0000)?,
-        StepReply::Hit(1)
-    );
+    same!(rt; watched_step(rt.alloc(), 0, 0xdb21_0000_f100_0000)?, StepReply::Hit(1));
     // stxb [r1+1], r2
-    assert_eq!(rt;
-        watched_step(rt.alloc(), 9, 0x7321_0100_0000_0000)?,
-        StepReply::Ran(1)
-    );
+    same!(rt; watched_step(rt.alloc(), 9, 0x7321_0100_0000_0000)?, StepReply::Ran(1));
     Ok(())
 }
 
@@ -81,9 +70,9 @@ fn a_failed_exchange_hits_nothing(rt: HostRuntime) -> Result<(), Fail> {
     // mov r0, 7; acmpxchg [r1], r2
     let slots = [MOV, 0xdb21_0000_f100_0000, EXIT];
     let mut s = session_of(rt.alloc(), 10, [OBJECT, 5, 0, 0, 0], &slots)?;
-    assert_eq!(rt; watch(&mut s, OBJECT, 8), Debugged::Done);
-    assert_eq!(rt; step(&mut s), StepReply::Ran(1));
-    assert_eq!(rt; step(&mut s), StepReply::Ran(2));
+    same!(rt; watch(&mut s, OBJECT, 8), Debugged::Done);
+    same!(rt; step(&mut s), StepReply::Ran(1));
+    same!(rt; step(&mut s), StepReply::Ran(2));
     Ok(())
 }
 
@@ -107,7 +96,7 @@ fn one_byte_is_enough(rt: HostRuntime) -> Result<(), Fail> {
         assert!(rt; !hits(rt.alloc(), 2 * OBJECT + offset, length)?, "{offset}");
         assert!(rt; !hits(rt.alloc(), STACK + offset, length)?, "{offset}");
     }
-    for (offset, length) in [(0, 8), (16, 1), (7, 1), (10, 0), (0xffff_ffff, 1)] {
+    for &(offset, length) in &[(0, 8), (16, 1), (7, 1), (10, 0), (0xffff_ffff, 1)] {
         assert!(rt; !hits(rt.alloc(), OBJECT + offset, length)?, "{offset}");
     }
     Ok(())
@@ -116,15 +105,12 @@ fn one_byte_is_enough(rt: HostRuntime) -> Result<(), Fail> {
 #[test]
 fn a_range_ends_within_its_number(rt: HostRuntime) -> Result<(), Fail> {
     let mut s = session_of(rt.alloc(), 10, [0; 5], &[EXIT])?;
-    assert_eq!(rt; watch(&mut s, 0x1_ffff_ffff, 1), Debugged::Done);
-    assert_eq!(rt; watch(&mut s, 0x1_ffff_ffff, 2), Debugged::Outside);
-    assert_eq!(rt; watch(&mut s, 0xffff_ffff_ffff_f000, 4096), Debugged::Done);
-    assert_eq!(rt;
-        watch(&mut s, 0xffff_ffff_ffff_f001, 4096),
-        Debugged::Outside
-    );
-    assert_eq!(rt; unwatch(&mut s, 0x1_ffff_ffff, 2), Debugged::NoWatch);
-    assert_eq!(rt; s.debuggee.debugger.watches().len(), 2);
+    same!(rt; watch(&mut s, 0x1_ffff_ffff, 1), Debugged::Done);
+    same!(rt; watch(&mut s, 0x1_ffff_ffff, 2), Debugged::Outside);
+    same!(rt; watch(&mut s, 0xffff_ffff_ffff_f000, 4096), Debugged::Done);
+    same!(rt; watch(&mut s, 0xffff_ffff_ffff_f001, 4096), Debugged::Outside);
+    same!(rt; unwatch(&mut s, 0x1_ffff_ffff, 2), Debugged::NoWatch);
+    same!(rt; s.debuggee.debugger.watches().len(), 2);
     Ok(())
 }
 
@@ -133,18 +119,18 @@ fn eight_ranges_are_watched_and_no_more(rt: HostRuntime) -> Result<(), Fail> {
     let mut s = session_of(rt.alloc(), 10, [0; 5], &[EXIT])?;
     // They overlap.
     for length in 1..9 {
-        assert_eq!(rt; watch(&mut s, OBJECT, length), Debugged::Done);
+        same!(rt; watch(&mut s, OBJECT, length), Debugged::Done);
     }
-    assert_eq!(rt; s.debuggee.debugger.watches().len(), WATCH_LIMIT);
-    assert_eq!(rt; watch(&mut s, OBJECT, 9), Debugged::Full);
-    assert_eq!(rt; watch(&mut s, OBJECT + 1, 8), Debugged::Full);
-    assert_eq!(rt; watch(&mut s, 0x1_ffff_ffff, 2), Debugged::Outside);
-    assert_eq!(rt; watch(&mut s, OBJECT, 5), Debugged::Done);
-    assert_eq!(rt; unwatch(&mut s, OBJECT + 1, 5), Debugged::NoWatch);
-    assert_eq!(rt; unwatch(&mut s, OBJECT, 5), Debugged::Done);
-    assert_eq!(rt; unwatch(&mut s, OBJECT, 5), Debugged::NoWatch);
-    assert_eq!(rt; watch(&mut s, OBJECT, 9), Debugged::Done);
-    assert_eq!(rt; watch(&mut s, OBJECT, 5), Debugged::Full);
-    assert_eq!(rt; s.debuggee.debugger.watches().len(), WATCH_LIMIT);
+    same!(rt; s.debuggee.debugger.watches().len(), WATCH_LIMIT);
+    same!(rt; watch(&mut s, OBJECT, 9), Debugged::Full);
+    same!(rt; watch(&mut s, OBJECT + 1, 8), Debugged::Full);
+    same!(rt; watch(&mut s, 0x1_ffff_ffff, 2), Debugged::Outside);
+    same!(rt; watch(&mut s, OBJECT, 5), Debugged::Done);
+    same!(rt; unwatch(&mut s, OBJECT + 1, 5), Debugged::NoWatch);
+    same!(rt; unwatch(&mut s, OBJECT, 5), Debugged::Done);
+    same!(rt; unwatch(&mut s, OBJECT, 5), Debugged::NoWatch);
+    same!(rt; watch(&mut s, OBJECT, 9), Debugged::Done);
+    same!(rt; watch(&mut s, OBJECT, 5), Debugged::Full);
+    same!(rt; s.debuggee.debugger.watches().len(), WATCH_LIMIT);
     Ok(())
 }
