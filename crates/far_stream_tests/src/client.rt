@@ -1,6 +1,7 @@
 //! What a client takes, and what it doesn't.
 
 use crate::calls::{Client, Outcome};
+use crate::compared::same;
 use crate::frames::{
     ALL_ASKS, ASKS, DONE, DONE_ONE, GET_ASKS, GIVES_ABC, PUT, PUT_ASKS, SAYS, add_frame, frame,
     joined, pattern,
@@ -41,12 +42,12 @@ fn there_and_back(alloc: Global) -> ([Outcome; 2], [bool; 3], u64) {
 #[test]
 fn a_put_and_a_get_byte_for_byte(rt: HostRuntime) {
     let found = there_and_back(rt.alloc());
-    assert_eq!(rt; found, ([Outcome::Done; 2], [true; 3], 0));
+    same!(rt; found, ([Outcome::Done; 2], [true; 3], 0));
 }
 
 /// What a get of `abc` may be answered, what comes of it, and what comes of the next get, for which the
 /// right answer follows.
-const GETS: [(&[u8], Outcome, Outcome); 13] = [
+const GETS: &[(&[u8], Outcome, Outcome)] = &[
     (
         b"\x00\0\0\0\0\0\0\0\x01\0\0\0\x03abc",
         Outcome::Done,
@@ -151,11 +152,11 @@ fn got_after(alloc: Global, answer: &[u8]) -> [Option<(Outcome, u64)>; 2] {
 
 #[test]
 fn what_a_get_may_be_answered(rt: HostRuntime) {
-    for (answer, outcome, next) in GETS {
+    for &(answer, outcome, next) in GETS {
         let faults = if outcome == Outcome::Done { 0u64 } else { 1 };
         let later = if next == Outcome::Done { faults } else { 2 };
         let wanted = [Some((outcome, faults)), Some((next, later))];
-        assert_eq!(rt; got_after(rt.alloc(), answer), wanted, "{answer:?}");
+        same!(rt; got_after(rt.alloc(), answer), wanted, answer);
     }
 }
 
@@ -176,7 +177,7 @@ fn asked_again(alloc: Global, says: &[u8]) -> ([Outcome; 3], [u64; 2], bool) {
 }
 
 /// The answer to the put, and an answer to the get that is cut off, or has a status that there isn't.
-const BROKEN: [(&[u8], StoreFault); 2] = [
+const BROKEN: &[(&[u8], StoreFault)] = &[
     (
         b"\0\0\0\0\0\0\0\0\x01\0\0\0\0\0\0\0\0\0\0\0\0\x01",
         StoreFault::Io,
@@ -190,14 +191,14 @@ const BROKEN: [(&[u8], StoreFault); 2] = [
 /// After `Io` and `Protocol` each call answers that fault, counts it, writes nothing and reads nothing.
 #[test]
 fn a_broken_stream_stays_broken(rt: HostRuntime) {
-    for (says, fault) in BROKEN {
+    for &(says, fault) in BROKEN {
         let found = asked_again(rt.alloc(), says);
-        assert_eq!(rt; found, ([Outcome::Fault(fault); 3], [3, 4], true));
+        same!(rt; found, ([Outcome::Fault(fault); 3], [3, 4], true));
     }
 }
 
 /// What a put may be answered, what comes of it, and whether the stream goes on.
-const PUTS: [(&[u8], Outcome, bool); 8] = [
+const PUTS: &[(&[u8], Outcome, bool)] = &[
     (b"\x00\0\0\0\0\0\0\0\x01\0\0\0\0", Outcome::Done, true),
     (
         b"\x01\0\0\0\0\0\0\0\x01\0\0\0\0",
@@ -262,16 +263,16 @@ fn put_after(alloc: Global, answer: &[u8], next: &[u8]) -> Option<(Outcome, Outc
 
 #[test]
 fn what_a_put_may_be_answered(rt: HostRuntime) {
-    for (answer, outcome, goes_on) in PUTS {
+    for &(answer, outcome, goes_on) in PUTS {
         let second = if goes_on { Outcome::Done } else { outcome };
         let next = if goes_on { DONE_TWO } else { &[] };
         let found = put_after(rt.alloc(), answer, next);
-        assert_eq!(rt; found, Some((outcome, second)), "{answer:?}");
+        same!(rt; found, Some((outcome, second)), answer);
     }
 }
 
 /// What a forget may be answered, and how many faults were counted after it and one more put.
-const FORGETS: [(&[u8], u64); 6] = [
+const FORGETS: &[(&[u8], u64)] = &[
     (b"\x00\0\0\0\0\0\0\0\x01\0\0\0\x00", 0),
     (b"\x01\0\0\0\0\0\0\0\x01\0\0\0\x00", 0),
     (b"\x02\0\0\0\0\0\0\0\x01\0\0\0\x00", 0),
@@ -307,9 +308,9 @@ fn forgotten_after(alloc: Global, answer: &[u8]) -> Option<(bool, u64)> {
 /// A forget takes a refusal for done; any other answer is a fault.
 #[test]
 fn what_a_forget_may_be_answered(rt: HostRuntime) {
-    for (answer, faults) in FORGETS {
+    for &(answer, faults) in FORGETS {
         let found = forgotten_after(rt.alloc(), answer);
-        assert_eq!(rt; found, Some((faults == 0, faults)), "{answer:?}");
+        same!(rt; found, Some((faults == 0, faults)), answer);
     }
 }
 
@@ -327,11 +328,11 @@ fn put_before(alloc: Global, bytes: &[u8]) -> ([Outcome; 2], bool) {
 /// Bytes that no frame can carry are refused: nothing is written, and no number is taken.
 #[test]
 fn lengths_that_no_put_has(rt: HostRuntime) -> Result<(), Fail> {
-    for count in [0usize, 65_537, 1_048_576] {
+    for &count in &[0usize, 65_537, 1_048_576] {
         let bytes = pattern(rt.alloc(), count)?;
         let found = put_before(rt.alloc(), &bytes);
         let refused = Outcome::Fault(StoreFault::Refused);
-        assert_eq!(rt; found, ([refused, Outcome::Done], true), "{count} bytes");
+        same!(rt; found, ([refused, Outcome::Done], true), count);
     }
     Ok(())
 }
@@ -358,7 +359,7 @@ fn lengths_of_a_put(rt: HostRuntime) -> Result<(), Fail> {
     let longest = pattern(rt.alloc(), 65_536)?;
     let hears = shortest_and_longest(rt.alloc(), &longest)?;
     let found = put_both(rt.alloc(), &longest, &hears);
-    assert_eq!(rt; found, ([Outcome::Done; 2], true));
+    same!(rt; found, ([Outcome::Done; 2], true));
     Ok(())
 }
 
@@ -393,9 +394,9 @@ const DAMAGED: [Option<(Outcome, u64)>; 2] = [
 /// A get of the greatest length, after one that is answered with another: the stream goes on.
 #[test]
 fn lengths_of_a_get(rt: HostRuntime) {
-    for other in [DONE_ONE, GIVES_ABC] {
+    for &other in &[DONE_ONE, GIVES_ABC] {
         let found = longest_got_after(rt.alloc(), other);
-        assert_eq!(rt; found, Some(DAMAGED));
+        same!(rt; found, Some(DAMAGED));
     }
 }
 
@@ -404,7 +405,7 @@ fn lengths_of_a_get(rt: HostRuntime) {
 fn a_get_that_answers_too_much(rt: HostRuntime) -> Result<(), Fail> {
     let longest = pattern(rt.alloc(), 65_536)?;
     let answer = frame(rt.alloc(), DONE, 1, &longest)?;
-    assert_eq!(rt; got_after(rt.alloc(), &answer), DAMAGED);
+    same!(rt; got_after(rt.alloc(), &answer), DAMAGED);
     Ok(())
 }
 
@@ -439,5 +440,5 @@ fn last_numbers(alloc: Global) -> ([Outcome; 4], [bool; 3]) {
 fn the_last_number(rt: HostRuntime) {
     let refused = Outcome::Fault(StoreFault::Refused);
     let wanted = [Outcome::Done, refused, refused, Outcome::Done];
-    assert_eq!(rt; last_numbers(rt.alloc()), (wanted, [true; 3]));
+    same!(rt; last_numbers(rt.alloc()), (wanted, [true; 3]));
 }

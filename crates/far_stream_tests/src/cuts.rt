@@ -1,6 +1,7 @@
 //! A client over a stream that ends, fails or gives bytes in pieces.
 
 use crate::calls::{Client, Outcome};
+use crate::compared::same;
 use crate::frames::{
     ALL_ASKS, ALL_SAYS, ASKS, GET_ASKS, GET_SAYS, PUT_ASKS, PUT_SAYS, SAYS, first,
 };
@@ -47,7 +48,7 @@ fn answers_cut_after_each_byte(rt: HostRuntime) {
         let heard = Heard::new();
         let wire = Wire::new(first(SAYS, count), ASKS, &heard);
         let wanted = failed_after(count, PUT_SAYS, GET_SAYS, ALL_SAYS);
-        assert_eq!(rt; asked(rt.alloc(), wire), wanted, "{count} bytes");
+        same!(rt; asked(rt.alloc(), wire), wanted, count);
     }
 }
 
@@ -59,16 +60,16 @@ fn each_read_fails(rt: HostRuntime) {
         wire.size = 1;
         wire.good_reads = good;
         let wanted = failed_after(good, PUT_SAYS, GET_SAYS, ALL_SAYS);
-        assert_eq!(rt; asked(rt.alloc(), wire), wanted, "{good} reads");
+        same!(rt; asked(rt.alloc(), wire), wanted, good);
         let reads = ALL_SAYS.min(good.saturating_add(1));
-        assert_eq!(rt; heard.reads.get(), reads, "{good} reads");
+        same!(rt; heard.reads.get(), reads, good);
     }
 }
 
 /// What was written is the beginning of the requests up to where the writer failed.
 #[test]
 fn each_write_fails(rt: HostRuntime) {
-    for takes_nothing in [false, true] {
+    for &takes_nothing in &[false, true] {
         for good in 0..=ALL_ASKS {
             let heard = Heard::new();
             let mut wire = Wire::new(SAYS, ASKS, &heard);
@@ -76,7 +77,7 @@ fn each_write_fails(rt: HostRuntime) {
             wire.good_writes = good;
             wire.takes_nothing = takes_nothing;
             let wanted = failed_after(good, PUT_ASKS, GET_ASKS, ALL_ASKS);
-            assert_eq!(rt; asked(rt.alloc(), wire), wanted, "{good} writes");
+            same!(rt; asked(rt.alloc(), wire), wanted, good);
             assert!(rt; heard.is(good), "{good} writes");
         }
     }
@@ -89,7 +90,7 @@ fn pieces_of_each_size(rt: HostRuntime) {
         let mut wire = Wire::new(SAYS, ASKS, &heard);
         wire.size = size;
         let wanted = (Outcome::Done, Some(Outcome::Done), 0);
-        assert_eq!(rt; asked(rt.alloc(), wire), wanted, "pieces of {size}");
+        same!(rt; asked(rt.alloc(), wire), wanted, size);
         assert!(rt; heard.is(ALL_ASKS), "pieces of {size}");
     }
 }
@@ -114,6 +115,6 @@ fn a_dropped_payload_cut_after_each_byte(rt: HostRuntime) {
             (StoreFault::Damaged, 1)
         };
         let wanted = (Outcome::Done, Some(Outcome::Fault(fault)), faults);
-        assert_eq!(rt; asked(rt.alloc(), wire), wanted, "{count} bytes");
+        same!(rt; asked(rt.alloc(), wire), wanted, count);
     }
 }

@@ -7,6 +7,8 @@ mod calls;
 #[cfg(test)]
 mod client;
 #[cfg(test)]
+mod compared;
+#[cfg(test)]
 mod cuts;
 #[cfg(test)]
 mod frames;

@@ -1,5 +1,6 @@
 //! A server that listens, with clients that come one after the other.
 
+use crate::compared::same;
 use crate::frames::{ASKS, GET_ASKS, GET_SAYS, SAYS, first};
 use far_server::{ListenFault, listen};
 use std::alloc::Global;
@@ -128,8 +129,8 @@ fn clients_are_served_one_after_another(rt: HostRuntime) -> Result<(), Fail> {
     let port = port_of(&line_of(alloc, &mut held)?);
     assert!(rt; port.is_some());
     let found = four_clients(&rt, port.unwrap_or(0), held)?;
-    assert_eq!(rt; found, [true; 3]);
-    assert_eq!(rt; server.join(&rt), (Ok(()), true));
+    same!(rt; found, [true; 3]);
+    same!(rt; server.join(&rt), (Ok(()), true));
     Ok(())
 }
 
@@ -166,9 +167,9 @@ fn taken<R: Net<Listener = TcpListener, Stream = TcpStream>>(
 fn a_port_is_had_once(rt: HostRuntime) -> Result<(), Fail> {
     let alloc = rt.alloc();
     let (holder, port) = taken(&rt)?;
-    assert_eq!(rt; listens_on(&rt, alloc, port), (Err(ListenFault::Net), None));
+    same!(rt; listens_on(&rt, alloc, port), (Err(ListenFault::Net), None));
     drop(holder);
-    assert_eq!(rt; listens_on(&rt, alloc, port), (Ok(()), Some(port)));
+    same!(rt; listens_on(&rt, alloc, port), (Ok(()), Some(port)));
     Ok(())
 }
 
@@ -220,20 +221,20 @@ where
 #[test]
 fn streams_of_a_server_that_fail(rt: HostRuntime) {
     let broken = listens_to_a_broken_one(&rt, rt.alloc());
-    assert_eq!(rt; broken, (Err(ListenFault::Read), true));
+    same!(rt; broken, (Err(ListenFault::Read), true));
     let full = listens_with_a_full_one(&rt, rt.alloc());
-    assert_eq!(rt; full, (Err(ListenFault::Write), true));
+    same!(rt; full, (Err(ListenFault::Write), true));
 }
 
 #[test]
 fn texts_of_a_server(rt: HostRuntime) -> Result<(), Fail> {
-    for (fault, text) in [
+    for &(fault, text) in &[
         (ListenFault::Net, "net fault"),
         (ListenFault::Read, "read fault"),
         (ListenFault::Write, "write fault"),
         (ListenFault::NoMemory, "no memory"),
     ] {
-        assert_eq!(rt; format!(in rt.alloc(); "{fault}")?.as_str(), text);
+        same!(rt; format!(in rt.alloc(); "{fault}")?.as_str(), text);
     }
     Ok(())
 }

@@ -1,5 +1,6 @@
 //! What a server answers.
 
+use crate::compared::same;
 use crate::frames::{
     DONE, FORGET, GET, NO_ROOM, PUT, REFUSED_ID, add_frame, add_head, first, pattern,
 };
@@ -10,15 +11,15 @@ use std::test::Fail;
 
 #[test]
 fn limits_and_numbers(rt: HostRuntime) -> Result<(), Fail> {
-    assert_eq!(rt; KEPT_LIMIT, 1024);
-    assert_eq!(rt; PAYLOAD_LIMIT, 65_536);
-    for (fault, number, text) in [
+    same!(rt; KEPT_LIMIT, 1024);
+    same!(rt; PAYLOAD_LIMIT, 65_536);
+    for &(fault, number, text) in &[
         (StreamFault::Io, 1u8, "the stream failed"),
         (StreamFault::Damaged, 2, "damaged bytes"),
         (StreamFault::Protocol, 3, "protocol broken"),
     ] {
-        assert_eq!(rt; fault.number(), number);
-        assert_eq!(rt; format!(in rt.alloc(); "{fault}")?.as_str(), text);
+        same!(rt; fault.number(), number);
+        same!(rt; format!(in rt.alloc(); "{fault}")?.as_str(), text);
     }
     Ok(())
 }
@@ -27,7 +28,7 @@ fn limits_and_numbers(rt: HostRuntime) -> Result<(), Fail> {
 type Step = (u8, u64, &'static [u8], u8, &'static [u8]);
 
 /// A conversation with each request and each answer, of short payloads.
-const TALK: [Step; 15] = [
+const TALK: &[Step] = &[
     (PUT, 1, b"abc", DONE, b""),
     (PUT, 1, b"other", REFUSED_ID, b""),
     (GET, 1, b"", DONE, b"abc"),
@@ -63,12 +64,17 @@ fn says(alloc: Global, steps: &[Step]) -> Result<Vec<u8>, AllocError> {
     Ok(says)
 }
 
+/// The bytes of the conversation's requests and of its answers.
+fn talk(alloc: Global) -> Result<(Vec<u8>, Vec<u8>), AllocError> {
+    Ok((asks(alloc, TALK)?, says(alloc, TALK)?))
+}
+
 /// How many bytes are answered to the first so many of the conversation, and whether they end with a
 /// request.
 fn answered(count: usize) -> (usize, bool) {
     let mut asked = 0usize;
     let mut said = 0usize;
-    for (_, _, bytes, _, gives) in &TALK {
+    for (_, _, bytes, _, gives) in TALK {
         let end = asked.saturating_add(13).saturating_add(bytes.len());
         if count < end {
             return (said, count == asked);
@@ -94,25 +100,25 @@ fn served<'a>(
 /// Each answer is one write.
 #[test]
 fn each_request_is_answered(rt: HostRuntime) -> Result<(), Fail> {
-    let (asks, says) = (asks(rt.alloc(), &TALK)?, says(rt.alloc(), &TALK)?);
+    let (asks, says) = talk(rt.alloc())?;
     let heard = Heard::new();
     let mut wire = Wire::new(&asks, &says, &heard);
-    assert_eq!(rt; serve_store(rt.alloc(), &mut wire), Ok(()));
+    same!(rt; serve_store(rt.alloc(), &mut wire), Ok(()));
     assert!(rt; heard.is(says.len()));
-    assert_eq!(rt; heard.writes.get(), TALK.len());
+    same!(rt; heard.writes.get(), TALK.len());
     Ok(())
 }
 
 #[test]
 fn nothing_is_asked(rt: HostRuntime) {
-    assert_eq!(rt; served(rt.alloc(), &[], &[], 0), Some(Ok(())));
+    same!(rt; served(rt.alloc(), &[], &[], 0), Some(Ok(())));
 }
 
 /// Input that ends between requests is its proper end, and within one it breaks the protocol. What was
 /// whole is answered.
 #[test]
 fn requests_cut_after_each_byte(rt: HostRuntime) -> Result<(), Fail> {
-    let (asks, says) = (asks(rt.alloc(), &TALK)?, says(rt.alloc(), &TALK)?);
+    let (asks, says) = talk(rt.alloc())?;
     for count in 0..=asks.len() {
         let (said, is_whole) = answered(count);
         let ended = served(rt.alloc(), first(&asks, count), &says, said);
@@ -121,55 +127,87 @@ fn requests_cut_after_each_byte(rt: HostRuntime) -> Result<(), Fail> {
         } else {
             Err(StreamFault::Protocol)
         };
-        assert_eq!(rt; ended, Some(wanted), "{count} bytes");
+        same!(rt; ended, Some(wanted), count);
     }
     Ok(())
+}
+
+/// How a server ends whose reads fail after so many good ones, and whether it answers so many bytes of what it should.
+fn served_with_reads(
+    alloc: Global,
+    asks: &[u8],
+    says: &[u8],
+    good: usize,
+    count: usize,
+) -> (Result<(), StreamFault>, bool) {
+    let heard = Heard::new();
+    let mut wire = Wire::new(asks, says, &heard);
+    wire.size = 1;
+    wire.good_reads = good;
+    let ended = serve_store(alloc, &mut wire);
+    (ended, heard.is(count))
 }
 
 #[test]
 fn each_read_of_the_server_fails(rt: HostRuntime) -> Result<(), Fail> {
-    let (asks, says) = (asks(rt.alloc(), &TALK)?, says(rt.alloc(), &TALK)?);
+    let (asks, says) = talk(rt.alloc())?;
     for good in 0..=asks.len() {
-        let heard = Heard::new();
-        let mut wire = Wire::new(&asks, &says, &heard);
-        wire.size = 1;
-        wire.good_reads = good;
-        let ended = serve_store(rt.alloc(), &mut wire);
-        assert_eq!(rt; ended, Err(StreamFault::Io), "{good} reads");
         let (said, _) = answered(good);
-        assert!(rt; heard.is(said), "{good} reads");
+        let found = served_with_reads(rt.alloc(), &asks, &says, good, said);
+        same!(rt; found, (Err(StreamFault::Io), true), good);
     }
     Ok(())
+}
+
+/// How a server ends whose writes fail, or take nothing, after so many good ones, and whether it answers so many bytes.
+fn served_with_writes(
+    alloc: Global,
+    asks: &[u8],
+    says: &[u8],
+    good: usize,
+    takes_nothing: bool,
+) -> (Result<(), StreamFault>, bool) {
+    let heard = Heard::new();
+    let mut wire = Wire::new(asks, says, &heard);
+    wire.size = 1;
+    wire.good_writes = good;
+    wire.takes_nothing = takes_nothing;
+    let ended = serve_store(alloc, &mut wire);
+    (ended, heard.is(good))
 }
 
 #[test]
 fn each_write_of_the_server_fails(rt: HostRuntime) -> Result<(), Fail> {
-    let (asks, says) = (asks(rt.alloc(), &TALK)?, says(rt.alloc(), &TALK)?);
-    for takes_nothing in [false, true] {
-        for good in 0..says.len() {
-            let heard = Heard::new();
-            let mut wire = Wire::new(&asks, &says, &heard);
-            wire.size = 1;
-            wire.good_writes = good;
-            wire.takes_nothing = takes_nothing;
-            let ended = serve_store(rt.alloc(), &mut wire);
-            assert_eq!(rt; ended, Err(StreamFault::Io), "{good} writes");
-            assert!(rt; heard.is(good), "{good} writes");
-        }
+    let (asks, says) = talk(rt.alloc())?;
+    for good in 0..says.len() {
+        let fails = served_with_writes(rt.alloc(), &asks, &says, good, false);
+        same!(rt; fails, (Err(StreamFault::Io), true), good);
+        let takes_nothing = served_with_writes(rt.alloc(), &asks, &says, good, true);
+        same!(rt; takes_nothing, (Err(StreamFault::Io), true), good);
     }
     Ok(())
 }
 
+/// How a server ends whose stream gives and takes so many bytes a call, and whether it answers all that it should.
+fn served_in_pieces(
+    alloc: Global,
+    asks: &[u8],
+    says: &[u8],
+    size: usize,
+) -> (Result<(), StreamFault>, bool) {
+    let heard = Heard::new();
+    let mut wire = Wire::new(asks, says, &heard);
+    wire.size = size;
+    let ended = serve_store(alloc, &mut wire);
+    (ended, heard.is(says.len()))
+}
+
 #[test]
 fn requests_in_pieces(rt: HostRuntime) -> Result<(), Fail> {
-    let (asks, says) = (asks(rt.alloc(), &TALK)?, says(rt.alloc(), &TALK)?);
+    let (asks, says) = talk(rt.alloc())?;
     for size in 1..=20usize {
-        let heard = Heard::new();
-        let mut wire = Wire::new(&asks, &says, &heard);
-        wire.size = size;
-        let ended = serve_store(rt.alloc(), &mut wire);
-        assert_eq!(rt; ended, Ok(()), "pieces of {size}");
-        assert!(rt; heard.is(says.len()), "pieces of {size}");
+        let found = served_in_pieces(rt.alloc(), &asks, &says, size);
+        same!(rt; found, (Ok(()), true), size);
     }
     Ok(())
 }
@@ -189,7 +227,7 @@ fn served_after_a_put(alloc: Global, kind: u8, count: u32) -> Option<StreamFault
 /// Heads that no request has: nothing is answered to them, and what came before is.
 #[test]
 fn what_is_no_request(rt: HostRuntime) {
-    for (kind, count) in [
+    for &(kind, count) in &[
         (0u8, 0u32),
         (4, 0),
         (4, 3),
@@ -202,7 +240,7 @@ fn what_is_no_request(rt: HostRuntime) {
         (FORGET, 1),
     ] {
         let ended = served_after_a_put(rt.alloc(), kind, count);
-        assert_eq!(rt; ended, Some(StreamFault::Protocol), "{kind} {count}");
+        same!(rt; ended, Some(StreamFault::Protocol), (kind, count));
     }
 }
 
@@ -235,13 +273,13 @@ fn lengths_that_are_kept(rt: HostRuntime) -> Result<(), Fail> {
     let asks = lengths_asked(rt.alloc(), &whole)?;
     let says = lengths_said(rt.alloc(), &whole)?;
     let ended = served(rt.alloc(), &asks, &says, says.len());
-    assert_eq!(rt; ended, Some(Ok(())));
+    same!(rt; ended, Some(Ok(())));
     Ok(())
 }
 
 /// What is asked after 1024 puts, each of its id as eight bytes: the next finds no room; an id that is
 /// kept is refused first.
-const FULL: [Step; 10] = [
+const FULL: &[Step] = &[
     (PUT, 1025, b"late", NO_ROOM, b""),
     (PUT, 5, b"again", REFUSED_ID, b""),
     (GET, 1025, b"", REFUSED_ID, b""),
@@ -260,7 +298,7 @@ fn many_asked(alloc: Global) -> Result<Vec<u8>, AllocError> {
     for id in 1..=1024u64 {
         add_frame(&mut asked, PUT, id, &id.to_be_bytes())?;
     }
-    asked.extend_from_slice(&asks(alloc, &FULL)?)?;
+    asked.extend_from_slice(&asks(alloc, FULL)?)?;
     Ok(asked)
 }
 
@@ -270,7 +308,7 @@ fn many_said(alloc: Global) -> Result<Vec<u8>, AllocError> {
     for id in 1..=1024u64 {
         add_head(&mut said, DONE, id, 0)?;
     }
-    said.extend_from_slice(&says(alloc, &FULL)?)?;
+    said.extend_from_slice(&says(alloc, FULL)?)?;
     Ok(said)
 }
 
@@ -279,20 +317,22 @@ fn many_said(alloc: Global) -> Result<Vec<u8>, AllocError> {
 fn parcels_up_to_the_limit(rt: HostRuntime) -> Result<(), Fail> {
     let (asks, says) = (many_asked(rt.alloc())?, many_said(rt.alloc())?);
     let ended = served(rt.alloc(), &asks, &says, says.len());
-    assert_eq!(rt; ended, Some(Ok(())));
+    same!(rt; ended, Some(Ok(())));
     Ok(())
+}
+
+/// How a server ends that is asked this alone, where it answers what it should.
+fn served_alone(alloc: Global, step: Step) -> Result<Option<Result<(), StreamFault>>, AllocError> {
+    let (asks, says) = (asks(alloc, &[step])?, says(alloc, &[step])?);
+    Ok(served(alloc, &asks, &says, says.len()))
 }
 
 /// A second client begins with nothing kept.
 #[test]
 fn a_conversation_keeps_nothing_for_the_next(rt: HostRuntime) -> Result<(), Fail> {
-    for step in [
-        (PUT, 1u64, b"abc".as_slice(), DONE, b"".as_slice()),
-        TALK[9],
-    ] {
-        let (asks, says) = (asks(rt.alloc(), &[step])?, says(rt.alloc(), &[step])?);
-        let ended = served(rt.alloc(), &asks, &says, says.len());
-        assert_eq!(rt; ended, Some(Ok(())));
-    }
+    let put = served_alone(rt.alloc(), (PUT, 1, b"abc", DONE, b""))?;
+    same!(rt; put, Some(Ok(())));
+    let got = served_alone(rt.alloc(), (GET, 1, b"", REFUSED_ID, b""))?;
+    same!(rt; got, Some(Ok(())));
     Ok(())
 }

@@ -1,6 +1,7 @@
 //! Both ends over TCP, each in a thread.
 
 use crate::calls::{Client, Outcome};
+use crate::compared::same;
 use crate::frames::{first, owned, pattern};
 use far_store::StoreFault;
 use far_stream::{StreamFault, StreamStore, serve_store};
@@ -92,11 +93,11 @@ fn objects_leave_and_come_home(rt: HostRuntime) -> Result<(), Fail> {
     let stream = TcpStream::connect(&rt, listener.local_addr()?)?;
     let server = thread::spawn(&rt, move || serve_one(alloc, listener, 4))?;
     let (put, got, faults) = there_and_back(alloc, stream, &longest);
-    assert_eq!(rt; server.join(&rt), Ok(()));
-    assert_eq!(rt; put, [Outcome::Done; 3]);
+    same!(rt; server.join(&rt), Ok(()));
+    same!(rt; put, [Outcome::Done; 3]);
     let damaged = Outcome::Fault(StoreFault::Damaged);
-    assert_eq!(rt; got, [Outcome::Done, damaged, Outcome::Done, Outcome::Done]);
-    assert_eq!(rt; faults, [1, 1]);
+    same!(rt; got, [Outcome::Done, damaged, Outcome::Done, Outcome::Done]);
+    same!(rt; faults, [1, 1]);
     Ok(())
 }
 
@@ -109,6 +110,6 @@ fn a_client_that_goes(rt: HostRuntime) -> Result<(), Fail> {
     let server = thread::spawn(&rt, move || serve_one(alloc, listener, usize::MAX))?;
     stream.write_all(b"\x01\0\0\0\0\0\0\0\x01\0\0\0\x03ab")?;
     drop(stream);
-    assert_eq!(rt; server.join(&rt), Err(StreamFault::Protocol));
+    same!(rt; server.join(&rt), Err(StreamFault::Protocol));
     Ok(())
 }
