@@ -5,7 +5,7 @@ use isa_table::{
     slots_of,
 };
 
-const ENCODINGS: [([u8; 8], Instr); 22] = [
+const ENCODINGS: &[([u8; 8], Instr)] = &[
     (
         [0xb7, 0x00, 0x00, 0x00, 0xf3, 0xff, 0xff, 0xff],
         Instr::Alu {
@@ -189,7 +189,7 @@ fn padded(bytes: [u8; 8]) -> [u8; 16] {
 
 #[test]
 fn reads_and_writes_the_same_bytes(rt: HostRuntime) {
-    for (bytes, instr) in ENCODINGS {
+    for &(bytes, instr) in ENCODINGS {
         assert!(rt; first(bytes) == Ok((instr, 1)), "read {bytes:?}");
         assert!(rt; encode(&instr) == (padded(bytes), 1), "written {bytes:?}");
     }
@@ -211,7 +211,7 @@ fn reads_and_writes_the_wide_encoding(rt: HostRuntime) {
 }
 
 /// The opcodes of the instruction table and of packet access, from the tables of RFC 9669.
-const OPCODES: [u8; 125] = [
+const OPCODES: &[u8] = &[
     0x04, 0x05, 0x06, 0x07, 0x0c, 0x0f, 0x14, 0x15, 0x16, 0x17, 0x18, 0x1c, 0x1d, 0x1e, 0x1f, 0x24,
     0x25, 0x26, 0x27, 0x2c, 0x2d, 0x2e, 0x2f, 0x34, 0x35, 0x36, 0x37, 0x3c, 0x3d, 0x3e, 0x3f, 0x44,
     0x45, 0x46, 0x47, 0x4c, 0x4d, 0x4e, 0x4f, 0x54, 0x55, 0x56, 0x57, 0x5c, 0x5d, 0x5e, 0x5f, 0x61,
@@ -231,7 +231,7 @@ fn knows_the_opcodes(rt: HostRuntime) {
     }
 }
 
-const FAULTS: [([u8; 8], Fault); 51] = [
+const FAULTS: &[([u8; 8], Fault)] = &[
     // Neither in the table nor one of packet access, whatever the fields hold.
     (
         [0x8d, 0x00, 0x00, 0x00, 0x00, 0x00, 0x00, 0x00],
@@ -447,12 +447,12 @@ const FAULTS: [([u8; 8], Fault); 51] = [
 
 #[test]
 fn answers_the_least_fault_of_a_slot(rt: HostRuntime) {
-    for (bytes, fault) in FAULTS {
+    for &(bytes, fault) in FAULTS {
         assert!(rt; first(bytes) == Err(fault), "at {bytes:?}");
     }
 }
 
-const WIDE_FAULTS: [([u8; 16], Fault); 6] = [
+const WIDE_FAULTS: &[([u8; 16], Fault)] = &[
     // Sources 1 to 6 are the platform's, and both imm fields may hold anything.
     (
         [0x18, 0x10, 0, 0, 1, 0, 0, 0, 0, 0, 0, 0, 2, 0, 0, 0],
@@ -483,7 +483,7 @@ const WIDE_FAULTS: [([u8; 16], Fault); 6] = [
 
 #[test]
 fn answers_the_least_fault_of_two_slots(rt: HostRuntime) {
-    for (bytes, fault) in WIDE_FAULTS {
+    for &(bytes, fault) in WIDE_FAULTS {
         assert!(rt; decode_at(&bytes, 0) == Err(fault), "at {bytes:?}");
     }
     // The second slot is looked at only where it is there whole.
@@ -497,7 +497,7 @@ fn reads_at_any_slot(rt: HostRuntime) {
         0xb7, 0, 0, 0, 7, 0, 0, 0, 0x95, 0, 0, 0, 0, 0, 0, 0, 0x95, 0,
     ];
     assert!(rt; decode_at(&code, 1) == Ok((Instr::Exit, 1)));
-    for slot in [2, 3, 1 << 61, usize::MAX] {
+    for &slot in &[2, 3, 1 << 61, usize::MAX] {
         assert!(rt; decode_at(&code, slot) == Err(Fault::Short), "at {slot}");
     }
     assert!(rt; decode_at(&[], 0) == Err(Fault::Short));
@@ -505,7 +505,7 @@ fn reads_at_any_slot(rt: HostRuntime) {
 
 #[test]
 fn numbers_and_names_faults(rt: HostRuntime) {
-    let faults: [(Fault, u8, &str); 7] = [
+    let faults: &[(Fault, u8, &str)] = &[
         (Fault::Opcode, 1, "Opcode"),
         (Fault::Register, 2, "Register"),
         (Fault::Field, 3, "Field"),
@@ -514,7 +514,7 @@ fn numbers_and_names_faults(rt: HostRuntime) {
         (Fault::Platform, 6, "Platform"),
         (Fault::Short, 7, "Short"),
     ];
-    for (fault, number, name) in faults {
+    for &(fault, number, name) in faults {
         assert_eq!(rt; fault.number(), number);
         assert!(rt; fault.name() == name.as_bytes());
         let text = format!(in rt.alloc(); "{fault}");
