@@ -1,6 +1,7 @@
 //! Loads and stores, in objects and on the stack.
 
 use crate::common::{EXIT, OBJECT, STACK, first_step, machine_of, objects, step, store_of};
+use crate::compared::same;
 use isa_table::Size;
 use machine::{Stepped, Stop, Written};
 use object_store::Moved;
@@ -16,28 +17,22 @@ fn an_access_over_the_last_byte_changes_nothing(rt: HostRuntime) -> Result<(), F
     let mut store = store_of(rt.alloc(), [1, 2, 3, 4, 5, 6, 7, 8])?;
     let mut machine = machine_of(rt.alloc(), 10, [OBJECT, 0, 0, 0, 0], &[LOAD_AT_1, EXIT])?;
     for _ in 0..2 {
-        assert_eq!(rt; step(&mut machine, &mut store), OUTSIDE);
-        assert_eq!(rt; (machine.slot(), machine.fuel()), (0, 10));
-        assert_eq!(rt; machine.stop(), Some(Stop::Outside));
-        assert_eq!(rt;
-            (machine.registers()[0], machine.registers()[1]),
-            (0, OBJECT)
-        );
+        same!(rt; step(&mut machine, &mut store), OUTSIDE);
+        same!(rt; (machine.slot(), machine.fuel()), (0, 10));
+        same!(rt; machine.stop(), Some(Stop::Outside));
+        same!(rt; (machine.registers()[0], machine.registers()[1]), (0, OBJECT));
     }
     // stxdw [r1+1], r2 writes none of its bytes.
     let stored = first_step(rt.alloc(), &mut store, OBJECT, 9, 0x7b21_0100_0000_0000)?;
-    assert_eq!(rt; stored, OUTSIDE);
-    assert_eq!(rt;
-        store.get(1, 0, 8)?.as_slice(),
-        [1, 2, 3, 4, 5, 6, 7, 8].as_slice()
-    );
+    same!(rt; stored, OUTSIDE);
+    same!(rt; store.get(1, 0, 8)?.as_slice(), [1, 2, 3, 4, 5, 6, 7, 8].as_slice());
     Ok(())
 }
 
 #[test]
 fn loads_of_each_size(rt: HostRuntime) -> Result<(), Fail> {
     // The bytes are f1 82 73 84 65 86 77 88. A load of R0 at r1, and what it gives.
-    let cases: [(u64, u64); 7] = [
+    let cases: &[(u64, u64)] = &[
         (0x7110_0000_0000_0000, 0xf1),
         (0x6910_0000_0000_0000, 0x82f1),
         (0x6110_0000_0000_0000, 0x8473_82f1),
@@ -47,15 +42,12 @@ fn loads_of_each_size(rt: HostRuntime) -> Result<(), Fail> {
         (0x8110_0000_0000_0000, 0xffff_ffff_8473_82f1),
     ];
     let bytes = [0xf1, 0x82, 0x73, 0x84, 0x65, 0x86, 0x77, 0x88];
-    for (load, value) in cases {
+    for &(load, value) in cases {
         let mut store = store_of(rt.alloc(), bytes)?;
         let mut machine = machine_of(rt.alloc(), 10, [OBJECT, 0, 0, 0, 0], &[load, EXIT])?;
-        assert_eq!(rt; step(&mut machine, &mut store), Stepped::Ran(None));
-        assert_eq!(rt;
-            step(&mut machine, &mut store),
-            Stepped::Stopped(Stop::Exit(value))
-        );
-        assert_eq!(rt; store.get(1, 0, 8)?.as_slice(), bytes.as_slice());
+        same!(rt; step(&mut machine, &mut store), Stepped::Ran(None));
+        same!(rt; step(&mut machine, &mut store), Stepped::Stopped(Stop::Exit(value)));
+        same!(rt; store.get(1, 0, 8)?.as_slice(), bytes.as_slice());
     }
     Ok(())
 }
@@ -63,16 +55,16 @@ fn loads_of_each_size(rt: HostRuntime) -> Result<(), Fail> {
 #[test]
 fn loads_of_positive_numbers_with_sign(rt: HostRuntime) -> Result<(), Fail> {
     // ldxsb, ldxsh, ldxsw at r1 plus 1, over bytes whose sign bits are clear
-    let cases: [(u64, u64); 3] = [
+    let cases: &[(u64, u64)] = &[
         (0x9110_0100_0000_0000, 0x02),
         (0x8910_0100_0000_0000, 0x0302),
         (0x8110_0100_0000_0000, 0x0504_0302),
     ];
-    for (load, value) in cases {
+    for &(load, value) in cases {
         let mut store = store_of(rt.alloc(), [1, 2, 3, 4, 5, 6, 7, 8])?;
         let mut machine = machine_of(rt.alloc(), 10, [OBJECT, 0, 0, 0, 0], &[load, EXIT])?;
-        assert_eq!(rt; step(&mut machine, &mut store), Stepped::Ran(None));
-        assert_eq!(rt; machine.registers()[0], value);
+        same!(rt; step(&mut machine, &mut store), Stepped::Ran(None));
+        same!(rt; machine.registers()[0], value);
     }
     Ok(())
 }
@@ -80,7 +72,7 @@ fn loads_of_positive_numbers_with_sign(rt: HostRuntime) -> Result<(), Fail> {
 #[test]
 fn stores_of_each_size(rt: HostRuntime) -> Result<(), Fail> {
     // A store of -2 or of r2 at r1 plus 1, its size, and the bytes after it.
-    let cases: [(u64, Size, [u8; 8]); 8] = [
+    let cases: &[(u64, Size, [u8; 8])] = &[
         (
             0x7201_0000_feff_ffff,
             Size::Byte,
@@ -122,7 +114,7 @@ fn stores_of_each_size(rt: HostRuntime) -> Result<(), Fail> {
             [0x88, 0x77, 0x66, 0x55, 0x44, 0x33, 0x22, 0x11],
         ),
     ];
-    for (stores, size, bytes) in cases {
+    for &(stores, size, bytes) in cases {
         let mut store = store_of(rt.alloc(), [0; 8])?;
         let told = first_step(
             rt.alloc(),
@@ -136,8 +128,8 @@ fn stores_of_each_size(rt: HostRuntime) -> Result<(), Fail> {
             offset: 0,
             size,
         };
-        assert_eq!(rt; told, Stepped::Ran(Some(written)));
-        assert_eq!(rt; store.get(1, 0, 8)?.as_slice(), bytes.as_slice());
+        same!(rt; told, Stepped::Ran(Some(written)));
+        same!(rt; store.get(1, 0, 8)?.as_slice(), bytes.as_slice());
     }
     Ok(())
 }
@@ -145,20 +137,20 @@ fn stores_of_each_size(rt: HostRuntime) -> Result<(), Fail> {
 #[test]
 fn the_last_byte(rt: HostRuntime) -> Result<(), Fail> {
     // Loads of 1, 2, 4 and 8 bytes at r1.
-    let cases: [(u64, u64); 4] = [
+    let cases: &[(u64, u64)] = &[
         (0x7110_0000_0000_0000, 1),
         (0x6910_0000_0000_0000, 2),
         (0x6110_0000_0000_0000, 4),
         (0x7910_0000_0000_0000, 8),
     ];
     let mut store = store_of(rt.alloc(), [0; 8])?;
-    for (load, size) in cases {
-        for (end, place) in [(8, OBJECT), (4096, STACK)] {
+    for &(load, size) in cases {
+        for &(end, place) in &[(8, OBJECT), (4096, STACK)] {
             let last = place.wrapping_add(end).wrapping_sub(size);
             let inside = first_step(rt.alloc(), &mut store, last, 0, load)?;
-            assert_eq!(rt; inside, Stepped::Ran(None));
+            same!(rt; inside, Stepped::Ran(None));
             let over = first_step(rt.alloc(), &mut store, last.wrapping_add(1), 0, load)?;
-            assert_eq!(rt; over, OUTSIDE);
+            same!(rt; over, OUTSIDE);
         }
     }
     Ok(())
@@ -169,7 +161,7 @@ fn addresses_are_taken_modulo_two_to_the_64(rt: HostRuntime) -> Result<(), Fail>
     // r1, a load of a byte at r1 plus 1 or minus 1, and whether it is inside: object 1 has eight bytes.
     const NEXT: u64 = 0x7110_0100_0000_0000;
     const LAST: u64 = 0x7110_ffff_0000_0000;
-    let cases: [(u64, u64, bool); 8] = [
+    let cases: &[(u64, u64, bool)] = &[
         // address 0
         (0xffff_ffff_ffff_ffff, NEXT, false),
         // the last of all addresses, which the stack doesn't reach
@@ -184,11 +176,11 @@ fn addresses_are_taken_modulo_two_to_the_64(rt: HostRuntime) -> Result<(), Fail>
         (0x0000_0001_0000_0007, NEXT, false),
         (0x0000_0001_0000_0008, LAST, true),
     ];
-    for (r1, load, inside) in cases {
+    for &(r1, load, inside) in cases {
         let mut store = store_of(rt.alloc(), [0; 8])?;
         let told = first_step(rt.alloc(), &mut store, r1, 0, load)?;
-        assert_eq!(rt; told == Stepped::Ran(None), inside, "at {r1}");
-        assert_eq!(rt; told == OUTSIDE, !inside, "at {r1}");
+        same!(rt; told == Stepped::Ran(None), inside, r1);
+        same!(rt; told == OUTSIDE, !inside, r1);
     }
     Ok(())
 }
@@ -196,24 +188,15 @@ fn addresses_are_taken_modulo_two_to_the_64(rt: HostRuntime) -> Result<(), Fail>
 #[test]
 fn numbers_that_are_no_object(rt: HostRuntime) -> Result<(), Fail> {
     const LOAD: u64 = 0x7110_0000_0000_0000;
-    for number in [0_u64, 2, 1024, 1025, 0xffff_fffe] {
+    for &number in &[0_u64, 2, 1024, 1025, 0xffff_fffe] {
         let mut store = store_of(rt.alloc(), [0; 8])?;
-        assert_eq!(rt;
-            first_step(rt.alloc(), &mut store, number << 32, 0, LOAD)?,
-            OUTSIDE
-        );
+        same!(rt; first_step(rt.alloc(), &mut store, number << 32, 0, LOAD)?, OUTSIDE);
     }
     let mut store = store_of(rt.alloc(), [0; 8])?;
-    assert_eq!(rt;
-        first_step(rt.alloc(), &mut store, OBJECT, 0, LOAD)?,
-        Stepped::Ran(None)
-    );
+    same!(rt; first_step(rt.alloc(), &mut store, OBJECT, 0, LOAD)?, Stepped::Ran(None));
     store.close_scopes(1);
-    assert_eq!(rt; store.free(1), Moved::Done);
-    assert_eq!(rt;
-        first_step(rt.alloc(), &mut store, OBJECT, 0, LOAD)?,
-        OUTSIDE
-    );
+    same!(rt; store.free(1), Moved::Done);
+    same!(rt; first_step(rt.alloc(), &mut store, OBJECT, 0, LOAD)?, OUTSIDE);
     Ok(())
 }
 
@@ -223,23 +206,20 @@ fn the_stack_is_the_machine_s_own(rt: HostRuntime) -> Result<(), Fail> {
     let slots = [0x620a_fcff_ffff_ffff, 0x81a0_fcff_0000_0000, EXIT];
     let mut store = objects(rt.alloc())?;
     let mut machine = machine_of(rt.alloc(), 10, [0; 5], &slots)?;
-    assert_eq!(rt; machine.stack().len(), 4096);
+    same!(rt; machine.stack().len(), 4096);
     assert!(rt; machine.stack().iter().all(|&byte| byte == 0));
     let written = Written {
         number: 0xffff_ffff,
         offset: 4092,
         size: Size::Word,
     };
-    assert_eq!(rt; step(&mut machine, &mut store), Stepped::Ran(Some(written)));
-    assert_eq!(rt; step(&mut machine, &mut store), Stepped::Ran(None));
+    same!(rt; step(&mut machine, &mut store), Stepped::Ran(Some(written)));
+    same!(rt; step(&mut machine, &mut store), Stepped::Ran(None));
     let end = Stepped::Stopped(Stop::Exit(0xffff_ffff_ffff_ffff));
-    assert_eq!(rt; step(&mut machine, &mut store), end);
-    assert_eq!(rt;
-        &machine.stack()[4091..],
-        [0, 0xff, 0xff, 0xff, 0xff].as_slice()
-    );
+    same!(rt; step(&mut machine, &mut store), end);
+    same!(rt; &machine.stack()[4091..], [0, 0xff, 0xff, 0xff, 0xff].as_slice());
     let other = machine_of(rt.alloc(), 10, [0; 5], &slots)?;
-    assert_eq!(rt; &other.stack()[4092..], [0; 4].as_slice());
+    same!(rt; &other.stack()[4092..], [0; 4].as_slice());
     Ok(())
 }
 
@@ -259,8 +239,8 @@ fn two_machines_reach_one_object(rt: HostRuntime) -> Result<(), Fail> {
         offset: 2,
         size: Size::Byte,
     };
-    assert_eq!(rt; stored, Stepped::Ran(Some(written)));
-    assert_eq!(rt; step(&mut reader, &mut store), Stepped::Ran(None));
-    assert_eq!(rt; reader.registers()[0], 5);
+    same!(rt; stored, Stepped::Ran(Some(written)));
+    same!(rt; step(&mut reader, &mut store), Stepped::Ran(None));
+    same!(rt; reader.registers()[0], 5);
     Ok(())
 }

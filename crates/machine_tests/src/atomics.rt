@@ -1,6 +1,7 @@
 //! Atomic operations, of both widths, in objects and on the stack.
 
 use crate::common::{EXIT, OBJECT, STACK, first_step, machine_of, objects, step, store_of};
+use crate::compared::same;
 use isa_table::Size;
 use machine::{Machine, Stepped, Stop, Written};
 use std::alloc::Global;
@@ -18,7 +19,7 @@ struct Left {
 }
 
 /// The ten operations as the imm field has them.
-const OPERATIONS: [u64; 10] = [0x00, 0x40, 0x50, 0xa0, 0x01, 0x41, 0x51, 0xa1, 0xe1, 0xf1];
+const OPERATIONS: &[u64] = &[0x00, 0x40, 0x50, 0xa0, 0x01, 0x41, 0x51, 0xa1, 0xe1, 0xf1];
 
 /// The operation at [r1 + 8] with r2; 32 bits wide, or 64.
 fn slot_of(operation: u64, double: bool) -> u64 {
@@ -81,11 +82,11 @@ fn check(
     } else {
         Some(written)
     };
-    assert_eq!(rt; told, Stepped::Ran(expected), "at {slot}");
-    assert_eq!(rt; step(&mut machine, &mut store), Stepped::Ran(None));
-    assert_eq!(rt; machine.registers()[5], left.bytes, "at {slot}");
-    assert_eq!(rt; machine.registers()[2], left.r2, "at {slot}");
-    assert_eq!(rt; machine.registers()[0], left.r0, "at {slot}");
+    same!(rt; told, Stepped::Ran(expected), slot);
+    same!(rt; step(&mut machine, &mut store), Stepped::Ran(None));
+    same!(rt; machine.registers()[5], left.bytes, slot);
+    same!(rt; machine.registers()[2], left.r2, slot);
+    same!(rt; machine.registers()[0], left.r0, slot);
     Ok(())
 }
 
@@ -94,7 +95,7 @@ fn operations_of_64_bits(rt: HostRuntime) -> Result<(), Fail> {
     const SOURCE: u64 = 0xaaaa_aaaa_1234_5678;
     const OLD: u64 = 0x8000_0001_f000_000f;
     // The bytes and R2 after each operation. R0 stays 7, but for the last.
-    let cases: [(u64, u64, u64); 9] = [
+    let cases: &[(u64, u64, u64)] = &[
         (0x00, 0x2aaa_aaac_0234_5687, SOURCE),
         (0x40, 0xaaaa_aaab_f234_567f, SOURCE),
         (0x50, 0x8000_0000_1000_0008, SOURCE),
@@ -105,8 +106,8 @@ fn operations_of_64_bits(rt: HostRuntime) -> Result<(), Fail> {
         (0xa1, 0x2aaa_aaab_e234_5677, OLD),
         (0xe1, SOURCE, OLD),
     ];
-    for place in [OBJECT, STACK] {
-        for (operation, bytes, r2) in cases {
+    for &place in &[OBJECT, STACK] {
+        for &(operation, bytes, r2) in cases {
             let left = Left { bytes, r2, r0: 7 };
             check(&rt, rt.alloc(), place, slot_of(operation, true), 7, &left)?;
         }
@@ -138,7 +139,7 @@ fn operations_of_32_bits(rt: HostRuntime) -> Result<(), Fail> {
     const SOURCE: u64 = 0xaaaa_aaaa_1234_5678;
     const OLD: u64 = 0x8000_0001_f000_000f;
     // The eight bytes, of which the lower four are changed, and R2 after each operation.
-    let cases: [(u64, u64, u64); 9] = [
+    let cases: &[(u64, u64, u64)] = &[
         (0x00, 0x8000_0001_0234_5687, SOURCE),
         (0x40, 0x8000_0001_f234_567f, SOURCE),
         (0x50, 0x8000_0001_1000_0008, SOURCE),
@@ -149,8 +150,8 @@ fn operations_of_32_bits(rt: HostRuntime) -> Result<(), Fail> {
         (0xa1, 0x8000_0001_e234_5677, 0xf000_000f),
         (0xe1, 0x8000_0001_1234_5678, 0xf000_000f),
     ];
-    for place in [OBJECT, STACK] {
-        for (operation, bytes, r2) in cases {
+    for &place in &[OBJECT, STACK] {
+        for &(operation, bytes, r2) in cases {
             let left = Left { bytes, r2, r0: 7 };
             check(&rt, rt.alloc(), place, slot_of(operation, false), 7, &left)?;
         }
@@ -196,28 +197,25 @@ fn an_exchange_of_words(rt: HostRuntime) -> Result<(), Fail> {
     ];
     let mut store = store_of(rt.alloc(), [0x44, 0x33, 0x22, 0x11, 0, 0, 0, 0])?;
     let mut machine = machine_of(rt.alloc(), 10, [OBJECT, 0x5566_7788, 0, 0, 0], &slots)?;
-    assert_eq!(rt; step(&mut machine, &mut store), Stepped::Ran(None));
-    assert_eq!(rt; machine.slot(), 2);
+    same!(rt; step(&mut machine, &mut store), Stepped::Ran(None));
+    same!(rt; machine.slot(), 2);
     let written = Written {
         number: 1,
         offset: 0,
         size: Size::Word,
     };
-    assert_eq!(rt; step(&mut machine, &mut store), Stepped::Ran(Some(written)));
-    assert_eq!(rt;
-        step(&mut machine, &mut store),
-        Stepped::Stopped(Stop::Exit(0x1122_3344))
-    );
+    same!(rt; step(&mut machine, &mut store), Stepped::Ran(Some(written)));
+    same!(rt; step(&mut machine, &mut store), Stepped::Stopped(Stop::Exit(0x1122_3344)));
     let bytes = [0x88, 0x77, 0x66, 0x55, 0, 0, 0, 0];
-    assert_eq!(rt; store.get(1, 0, 8)?.as_slice(), bytes.as_slice());
+    same!(rt; store.get(1, 0, 8)?.as_slice(), bytes.as_slice());
     Ok(())
 }
 
 #[test]
 fn misaligned_by_the_address_alone(rt: HostRuntime) -> Result<(), Fail> {
     // In an object, on the stack, and at numbers that are no object, where an aligned one would be outside.
-    for place in [OBJECT, STACK, 0, 0x0000_0401_0000_0000] {
-        for operation in OPERATIONS {
+    for &place in &[OBJECT, STACK, 0, 0x0000_0401_0000_0000] {
+        for &operation in OPERATIONS {
             let mut store = store_of(rt.alloc(), [0; 8])?;
             for offset in 1..4 {
                 let told = first_step(
@@ -227,7 +225,7 @@ fn misaligned_by_the_address_alone(rt: HostRuntime) -> Result<(), Fail> {
                     0,
                     slot_of(operation, false),
                 )?;
-                assert_eq!(rt; told, MISALIGNED);
+                same!(rt; told, MISALIGNED);
             }
             for offset in 1..8 {
                 let told = first_step(
@@ -237,10 +235,10 @@ fn misaligned_by_the_address_alone(rt: HostRuntime) -> Result<(), Fail> {
                     0,
                     slot_of(operation, true),
                 )?;
-                assert_eq!(rt; told, MISALIGNED);
+                same!(rt; told, MISALIGNED);
             }
             let bytes = store.get(1, 0, 8)?;
-            assert_eq!(rt; bytes.as_slice(), [0; 8].as_slice());
+            same!(rt; bytes.as_slice(), [0; 8].as_slice());
         }
     }
     Ok(())
@@ -256,37 +254,25 @@ fn the_offset_of_the_address_is_aligned_not_that_of_the_instruction(
     const STORE: u64 = 0x7b21_0400_0000_0000;
     let mut store = objects(rt.alloc())?;
     let _ = store.make(16)?;
-    assert_eq!(rt;
-        first_step(rt.alloc(), &mut store, OBJECT, 1, ADD)?,
-        MISALIGNED
-    );
+    same!(rt; first_step(rt.alloc(), &mut store, OBJECT, 1, ADD)?, MISALIGNED);
     let written = Written {
         number: 1,
         offset: 4,
         size: Size::Double,
     };
-    assert_eq!(rt;
-        first_step(rt.alloc(), &mut store, OBJECT, 1, STORE)?,
-        Stepped::Ran(Some(written))
-    );
+    same!(rt; first_step(rt.alloc(), &mut store, OBJECT, 1, STORE)?, Stepped::Ran(Some(written)));
     let word = Written {
         number: 1,
         offset: 4,
         size: Size::Word,
     };
-    assert_eq!(rt;
-        first_step(rt.alloc(), &mut store, OBJECT, 1, ADD32)?,
-        Stepped::Ran(Some(word))
-    );
+    same!(rt; first_step(rt.alloc(), &mut store, OBJECT, 1, ADD32)?, Stepped::Ran(Some(word)));
     let moved = Written {
         number: 1,
         offset: 8,
         size: Size::Double,
     };
-    assert_eq!(rt;
-        first_step(rt.alloc(), &mut store, OBJECT + 4, 1, ADD)?,
-        Stepped::Ran(Some(moved))
-    );
+    same!(rt; first_step(rt.alloc(), &mut store, OBJECT + 4, 1, ADD)?, Stepped::Ran(Some(moved)));
     Ok(())
 }
 
@@ -300,10 +286,7 @@ fn an_aligned_one_may_be_outside(rt: HostRuntime) -> Result<(), Fail> {
         (STACK + 4088, slot_of(0x00, true)),
         (0x0000_0401_0000_0000, slot_of(0xf1, true)),
     ] {
-        assert_eq!(rt;
-            first_step(rt.alloc(), &mut store, place, 0, slot)?,
-            outside
-        );
+        same!(rt; first_step(rt.alloc(), &mut store, place, 0, slot)?, outside);
     }
     Ok(())
 }

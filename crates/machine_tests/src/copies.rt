@@ -1,6 +1,7 @@
 //! Copies of machines.
 
 use crate::common::{EXIT, OBJECT, machine_of, objects, step, store_of};
+use crate::compared::same;
 use far_store::OwnStore;
 use loader::load;
 use machine::{Grant, Grants, Machine, Stepped, Stop};
@@ -22,14 +23,14 @@ const SLOTS: [u64; 7] = [
 
 /// Both machines are the same.
 fn assert_same(rt: &impl Abort, one: &Machine, other: &Machine) {
-    assert_eq!(rt; one.number(), other.number());
-    assert_eq!(rt; *one.registers(), *other.registers());
-    assert_eq!(rt; one.slot(), other.slot());
-    assert_eq!(rt; one.frames(), other.frames());
+    same!(rt; one.number(), other.number());
+    same!(rt; *one.registers(), *other.registers());
+    same!(rt; one.slot(), other.slot());
+    same!(rt; one.frames(), other.frames());
     assert!(rt; one.stack()[..] == other.stack()[..]);
-    assert_eq!(rt; one.emitted(), other.emitted());
-    assert_eq!(rt; one.fuel(), other.fuel());
-    assert_eq!(rt; one.stop(), other.stop());
+    same!(rt; one.emitted(), other.emitted());
+    same!(rt; one.fuel(), other.fuel());
+    same!(rt; one.stop(), other.stop());
 }
 
 #[test]
@@ -41,8 +42,8 @@ fn a_copy_has_all_of_a_machine(rt: HostRuntime) -> Result<(), Fail> {
     }
     let copy = machine.copied(rt.alloc())?;
     assert_same(&rt, &machine, &copy);
-    assert_eq!(rt; (copy.slot(), copy.fuel(), copy.frames().len()), (5, 6, 1));
-    assert_eq!(rt; (copy.stack()[4088], copy.emitted()), (5, [9].as_slice()));
+    same!(rt; (copy.slot(), copy.fuel(), copy.frames().len()), (5, 6, 1));
+    same!(rt; (copy.stack()[4088], copy.emitted()), (5, [9].as_slice()));
     Ok(())
 }
 
@@ -55,15 +56,12 @@ fn a_copy_runs_by_itself(rt: HostRuntime) -> Result<(), Fail> {
         assert!(rt; matches!(step(&mut copy, &mut store), Stepped::Ran(_)));
     }
     let exit = Stepped::Stopped(Stop::Exit(7));
-    assert_eq!(rt; step(&mut copy, &mut store), exit);
-    assert_eq!(rt;
-        (machine.slot(), machine.fuel(), machine.stop()),
-        (0, 10, None)
-    );
+    same!(rt; step(&mut copy, &mut store), exit);
+    same!(rt; (machine.slot(), machine.fuel(), machine.stop()), (0, 10, None));
     for _ in 0..6 {
         assert!(rt; matches!(step(&mut machine, &mut store), Stepped::Ran(_)));
     }
-    assert_eq!(rt; step(&mut machine, &mut store), exit);
+    same!(rt; step(&mut machine, &mut store), exit);
     assert_same(&rt, &machine, &copy);
     let stopped = copy.copied(rt.alloc())?;
     assert_same(&rt, &copy, &stopped);
@@ -77,7 +75,7 @@ fn first_of_copy(
     r1: u64,
 ) -> Result<Stepped, Fail> {
     let mut bytes = Vec::new(alloc);
-    for slot in [0x7110_0000_0000_0000, EXIT] {
+    for &slot in &[0x7110_0000_0000_0000, EXIT] {
         bytes.extend_from_slice(&u64::to_be_bytes(slot))?;
     }
     let mut grants = Grants::none();
@@ -95,10 +93,10 @@ fn first_of_copy(
 fn a_copy_has_the_same_rights(rt: HostRuntime) -> Result<(), Fail> {
     let mut store = store_of(rt.alloc(), [0; 8])?;
     let second = store.make(8)?;
-    assert_eq!(rt; second, 2);
+    same!(rt; second, 2);
     let refused = first_of_copy(rt.alloc(), &mut store, OBJECT)?;
-    assert_eq!(rt; refused, Stepped::Stopped(Stop::NotGranted));
+    same!(rt; refused, Stepped::Stopped(Stop::NotGranted));
     let read = first_of_copy(rt.alloc(), &mut store, 2 * OBJECT)?;
-    assert_eq!(rt; read, Stepped::Ran(None));
+    same!(rt; read, Stepped::Ran(None));
     Ok(())
 }

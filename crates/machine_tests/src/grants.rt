@@ -3,6 +3,7 @@ ghost use Rattle.std.specs.Prelude.{◌≤◌};
 
 use crate::atomics::MISALIGNED;
 use crate::common::{EXIT, OBJECT, STACK, objects, step, store_of};
+use crate::compared::same;
 use far_store::OwnStore;
 use loader::load;
 use machine::{GRANT_LIMIT, Grant, Grants, Machine, Stepped, Stop};
@@ -67,10 +68,10 @@ fn first(
 #[test]
 fn loads_need_a_grant_and_all_else_one_to_write(rt: HostRuntime) -> Result<(), Fail> {
     let mut store = store_of(rt.alloc(), [5, 0, 0, 0, 0, 0, 0, 0])?;
-    for slot in [LOAD, STORE, EXCHANGE] {
+    for &slot in &[LOAD, STORE, EXCHANGE] {
         for grants in [Grants::none(), one(2, true)] {
             let answer = first(rt.alloc(), &mut store, grants, OBJECT, slot)?;
-            assert_eq!(rt; answer, NOT_GRANTED);
+            same!(rt; answer, NOT_GRANTED);
         }
         for grants in [Grants::all(), one(1, true)] {
             let answer = first(rt.alloc(), &mut store, grants, OBJECT, slot)?;
@@ -78,10 +79,10 @@ fn loads_need_a_grant_and_all_else_one_to_write(rt: HostRuntime) -> Result<(), F
         }
     }
     let read = first(rt.alloc(), &mut store, one(1, false), OBJECT, LOAD)?;
-    assert_eq!(rt; read, Stepped::Ran(None));
-    for slot in [STORE, EXCHANGE] {
+    same!(rt; read, Stepped::Ran(None));
+    for &slot in &[STORE, EXCHANGE] {
         let answer = first(rt.alloc(), &mut store, one(1, false), OBJECT, slot)?;
-        assert_eq!(rt; answer, NOT_GRANTED);
+        same!(rt; answer, NOT_GRANTED);
     }
     Ok(())
 }
@@ -90,30 +91,30 @@ fn loads_need_a_grant_and_all_else_one_to_write(rt: HostRuntime) -> Result<(), F
 fn the_grant_comes_after_alignment_and_before_the_object(rt: HostRuntime) -> Result<(), Fail> {
     let mut store = store_of(rt.alloc(), [0; 8])?;
     let misaligned = first(rt.alloc(), &mut store, Grants::none(), OBJECT + 4, EXCHANGE)?;
-    assert_eq!(rt; misaligned, MISALIGNED);
+    same!(rt; misaligned, MISALIGNED);
     let outside = first(rt.alloc(), &mut store, Grants::none(), OBJECT + 8, LOAD)?;
-    assert_eq!(rt; outside, NOT_GRANTED);
-    assert_eq!(rt; store.leave(1), Moved::Done);
+    same!(rt; outside, NOT_GRANTED);
+    same!(rt; store.leave(1), Moved::Done);
     let away = first(rt.alloc(), &mut store, Grants::none(), OBJECT, LOAD)?;
-    assert_eq!(rt; away, NOT_GRANTED);
+    same!(rt; away, NOT_GRANTED);
     let waiting = first(rt.alloc(), &mut store, one(1, false), OBJECT, LOAD)?;
-    assert_eq!(rt; waiting, Stepped::Waiting(1));
+    same!(rt; waiting, Stepped::Waiting(1));
     Ok(())
 }
 
 #[test]
 fn numbers_of_no_object_need_no_grant(rt: HostRuntime) -> Result<(), Fail> {
     let mut store = objects(rt.alloc())?;
-    for number in [1_u64, 2, 1024] {
+    for &number in &[1_u64, 2, 1024] {
         let answer = first(rt.alloc(), &mut store, Grants::none(), number << 32, LOAD)?;
-        assert_eq!(rt; answer, NOT_GRANTED);
+        same!(rt; answer, NOT_GRANTED);
     }
-    for number in [0_u64, 1025, 0xffff_fffe] {
+    for &number in &[0_u64, 1025, 0xffff_fffe] {
         let answer = first(rt.alloc(), &mut store, Grants::none(), number << 32, LOAD)?;
-        assert_eq!(rt; answer, Stepped::Stopped(Stop::Outside));
+        same!(rt; answer, Stepped::Stopped(Stop::Outside));
     }
     let stack = first(rt.alloc(), &mut store, Grants::none(), STACK, LOAD)?;
-    assert_eq!(rt; stack, Stepped::Ran(None));
+    same!(rt; stack, Stepped::Ran(None));
     Ok(())
 }
 
@@ -130,8 +131,8 @@ fn helper_1_tells_the_length_of_what_is_granted(rt: HostRuntime) -> Result<(), F
     ];
     for (grants, length) in cases {
         let mut machine = machine_with(rt.alloc(), grants, 1, LENGTH)?;
-        assert_eq!(rt; step(&mut machine, &mut store), Stepped::Ran(None));
-        assert_eq!(rt; machine.registers()[0], length);
+        same!(rt; step(&mut machine, &mut store), Stepped::Ran(None));
+        same!(rt; machine.registers()[0], length);
     }
     Ok(())
 }
@@ -142,13 +143,13 @@ fn sixteen_objects_are_granted_one_by_one(rt: HostRuntime) -> Result<(), Fail> {
     for _ in 0..17 {
         store.make(8)?;
     }
-    for (number, answer) in [
+    for &(number, answer) in &[
         (1_u64, Stepped::Ran(None)),
         (16, Stepped::Ran(None)),
         (17, NOT_GRANTED),
     ] {
         let found = first(rt.alloc(), &mut store, sixteen(), number << 32, LOAD)?;
-        assert_eq!(rt; found, answer);
+        same!(rt; found, answer);
     }
     Ok(())
 }

@@ -1,6 +1,7 @@
 //! Calls of the four helpers.
 
 use crate::common::{EXIT, machine_of, objects, step, store_of};
+use crate::compared::same;
 use far_store::OwnStore;
 use helpers::Helper;
 use machine::{Machine, Stepped, Stop};
@@ -25,11 +26,8 @@ fn answer(
 ) -> Result<u64, Fail> {
     let mut machine = machine_with(alloc, r1, call)?;
     for count in 1..3 {
-        assert_eq!(rt; step(&mut machine, store), Stepped::Ran(None));
-        assert_eq!(rt;
-            (machine.slot(), machine.fuel()),
-            (count as usize, 10 - count)
-        );
+        same!(rt; step(&mut machine, store), Stepped::Ran(None));
+        same!(rt; (machine.slot(), machine.fuel()), (count as usize, 10 - count));
     }
     let registers = [
         machine.registers()[0],
@@ -44,31 +42,27 @@ fn answer(
         0,
         0xffff_ffff_0000_1000,
     ];
-    assert_eq!(rt; *machine.registers(), registers);
+    same!(rt; *machine.registers(), registers);
     let value = machine.registers()[0];
-    assert_eq!(rt;
-        step(&mut machine, store),
-        Stepped::Stopped(Stop::Exit(value))
-    );
+    same!(rt; step(&mut machine, store), Stepped::Stopped(Stop::Exit(value)));
     Ok(value)
 }
 
 #[test]
 fn each_helper_has_a_number(rt: HostRuntime) -> Result<(), Fail> {
-    let numbers = [-1, 0, 1, 2, 3, 4, 5, i32::MAX, i32::MIN];
-    let expected = [
-        None,
-        None,
-        Some(Helper::Length),
-        Some(Helper::Number),
-        Some(Helper::Emit),
-        Some(Helper::CloseScopes),
-        None,
-        None,
-        None,
+    let cases: &[(i32, Option<Helper>)] = &[
+        (-1, None),
+        (0, None),
+        (1, Some(Helper::Length)),
+        (2, Some(Helper::Number)),
+        (3, Some(Helper::Emit)),
+        (4, Some(Helper::CloseScopes)),
+        (5, None),
+        (i32::MAX, None),
+        (i32::MIN, None),
     ];
-    for (number, helper) in numbers.into_iter().zip(expected) {
-        assert_eq!(rt; Helper::from_number(number), helper);
+    for &(number, helper) in cases {
+        same!(rt; Helper::from_number(number), helper, number);
     }
     Ok(())
 }
@@ -79,7 +73,7 @@ fn lengths_of_objects(rt: HostRuntime) -> Result<(), Fail> {
     let mut store = store_of(rt.alloc(), [0; 8])?;
     let _ = store.make(65536)?;
     // All 64 bits of R1 are the number: an address is none.
-    let cases: [(u64, u64); 7] = [
+    let cases: &[(u64, u64)] = &[
         (1, 8),
         (2, 65536),
         (0, 0),
@@ -88,29 +82,19 @@ fn lengths_of_objects(rt: HostRuntime) -> Result<(), Fail> {
         (0xffff_ffff, 0),
         (u64::MAX, 0),
     ];
-    for (number, length) in cases {
-        assert_eq!(rt;
-            answer(&rt, rt.alloc(), &mut store, number, LENGTH)?,
-            length,
-            "of {number}"
-        );
+    for &(number, length) in cases {
+        same!(rt; answer(&rt, rt.alloc(), &mut store, number, LENGTH)?, length, number);
     }
-    assert_eq!(rt; store.free(1), Moved::Done);
-    assert_eq!(rt; answer(&rt, rt.alloc(), &mut store, 1, LENGTH)?, 0);
+    same!(rt; store.free(1), Moved::Done);
+    same!(rt; answer(&rt, rt.alloc(), &mut store, 1, LENGTH)?, 0);
     Ok(())
 }
 
 #[test]
 fn the_number_of_the_machine_and_the_end_of_scopes(rt: HostRuntime) -> Result<(), Fail> {
     let mut store = store_of(rt.alloc(), [0; 8])?;
-    assert_eq!(rt;
-        answer(&rt, rt.alloc(), &mut store, 7, 0x8500_0000_0200_0000)?,
-        1
-    );
-    assert_eq!(rt;
-        answer(&rt, rt.alloc(), &mut store, 7, 0x8500_0000_0400_0000)?,
-        0
-    );
+    same!(rt; answer(&rt, rt.alloc(), &mut store, 7, 0x8500_0000_0200_0000)?, 1);
+    same!(rt; answer(&rt, rt.alloc(), &mut store, 7, 0x8500_0000_0400_0000)?, 0);
     Ok(())
 }
 
@@ -126,17 +110,17 @@ fn values_are_emitted_while_there_is_room(rt: HostRuntime) -> Result<(), Fail> {
     let mut machine = machine_of(rt.alloc(), 1000, [100, 0, 0, 0, 0], &slots)?;
     assert!(rt; machine.emitted().is_empty());
     for count in 0..66_u64 {
-        assert_eq!(rt; step(&mut machine, &mut store), Stepped::Ran(None));
+        same!(rt; step(&mut machine, &mut store), Stepped::Ran(None));
         let refused = if count < 64 { 0 } else { 1 };
-        assert_eq!(rt; machine.registers()[0], refused, "after {count}");
-        assert_eq!(rt; machine.registers()[1], 100 + count);
-        assert_eq!(rt; machine.emitted().len() as u64, 64.min(count + 1));
+        same!(rt; machine.registers()[0], refused, count);
+        same!(rt; machine.registers()[1], 100 + count);
+        same!(rt; machine.emitted().len() as u64, 64.min(count + 1));
         for _ in 0..2 {
-            assert_eq!(rt; step(&mut machine, &mut store), Stepped::Ran(None));
+            same!(rt; step(&mut machine, &mut store), Stepped::Ran(None));
         }
     }
-    assert_eq!(rt; machine.emitted().first().copied(), Some(100));
-    assert_eq!(rt; machine.emitted().last().copied(), Some(163));
-    assert_eq!(rt; machine.fuel(), 1000 - 3 * 66);
+    same!(rt; machine.emitted().first().copied(), Some(100));
+    same!(rt; machine.emitted().last().copied(), Some(163));
+    same!(rt; machine.fuel(), 1000 - 3 * 66);
     Ok(())
 }

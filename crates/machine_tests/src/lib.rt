@@ -8,6 +8,8 @@ mod atomics;
 #[cfg(test)]
 mod common;
 #[cfg(test)]
+mod compared;
+#[cfg(test)]
 mod copies;
 #[cfg(test)]
 mod grants;

@@ -1,6 +1,7 @@
 //! Programs by hand, without objects.
 
 use crate::common::{EXIT, machine_of, objects, step};
+use crate::compared::same;
 use isa_table::Instr;
 use loader::load;
 use machine::{Frame, Machine, Stepped, Stop};
@@ -24,23 +25,20 @@ fn run(alloc: Global, first: u64, slots: &[u64]) -> Result<(Option<Stop>, u64), 
 fn an_exit_is_answered_again(rt: HostRuntime) -> Result<(), Fail> {
     let mut store = objects(rt.alloc())?;
     let mut machine = machine_of(rt.alloc(), 10, [0; 5], &[0xb700_0000_0700_0000, EXIT])?;
-    assert_eq!(rt; machine.number(), 1);
-    assert_eq!(rt; machine.program().slots(), 2);
-    assert_eq!(rt; machine.program().at(1), Some(Instr::Exit));
-    assert_eq!(rt; machine.slot(), 0);
-    assert_eq!(rt; machine.stop(), None);
-    assert_eq!(rt; step(&mut machine, &mut store), Stepped::Ran(None));
-    assert_eq!(rt; (machine.slot(), machine.fuel()), (1, 9));
+    same!(rt; machine.number(), 1);
+    same!(rt; machine.program().slots(), 2);
+    same!(rt; machine.program().at(1), Some(Instr::Exit));
+    same!(rt; machine.slot(), 0);
+    same!(rt; machine.stop(), None);
+    same!(rt; step(&mut machine, &mut store), Stepped::Ran(None));
+    same!(rt; (machine.slot(), machine.fuel()), (1, 9));
     for _ in 0..2 {
-        assert_eq!(rt;
-            step(&mut machine, &mut store),
-            Stepped::Stopped(Stop::Exit(7))
-        );
-        assert_eq!(rt; (machine.slot(), machine.fuel()), (1, 8));
-        assert_eq!(rt; machine.stop(), Some(Stop::Exit(7)));
+        same!(rt; step(&mut machine, &mut store), Stepped::Stopped(Stop::Exit(7)));
+        same!(rt; (machine.slot(), machine.fuel()), (1, 8));
+        same!(rt; machine.stop(), Some(Stop::Exit(7)));
     }
     let registers = [7, 0, 0, 0, 0, 0, 0, 0, 0, 0, STACK_TOP];
-    assert_eq!(rt; *machine.registers(), registers);
+    same!(rt; *machine.registers(), registers);
     assert!(rt; machine.frames().is_empty());
     Ok(())
 }
@@ -49,19 +47,16 @@ fn an_exit_is_answered_again(rt: HostRuntime) -> Result<(), Fail> {
 fn a_machine_starts_with_its_arguments(rt: HostRuntime) -> Result<(), Fail> {
     let program = load(rt.alloc(), &EXIT.to_be_bytes())?;
     let machine = Machine::new(program, 48, 3, [1, 2, 3, 4, 5]);
-    assert_eq!(rt; machine.number(), 48);
-    assert_eq!(rt; machine.fuel(), 3);
-    assert_eq!(rt;
-        *machine.registers(),
-        [0, 1, 2, 3, 4, 5, 0, 0, 0, 0, STACK_TOP]
-    );
+    same!(rt; machine.number(), 48);
+    same!(rt; machine.fuel(), 3);
+    same!(rt; *machine.registers(), [0, 1, 2, 3, 4, 5, 0, 0, 0, 0, STACK_TOP]);
     Ok(())
 }
 
 #[test]
 fn arithmetic(rt: HostRuntime) -> Result<(), Fail> {
     // R1, the code before EXIT, what it exits with, how many instructions that takes.
-    let cases: [(u64, &[u64], u64, u64); 12] = [
+    let cases: &[(u64, &[u64], u64, u64)] = &[
         // lddw r0, 0x8000000000000000; sdiv r0, -1
         (
             0,
@@ -147,11 +142,11 @@ fn arithmetic(rt: HostRuntime) -> Result<(), Fail> {
             3,
         ),
     ];
-    for (first, code, value, count) in cases {
+    for &(first, code, value, count) in cases {
         let mut slots = code.to_vec(rt.alloc())?;
         slots.push(EXIT)?;
         let stopped = run(rt.alloc(), first, slots.as_slice())?;
-        assert_eq!(rt; stopped, (Some(Stop::Exit(value)), count), "at {value}");
+        same!(rt; stopped, (Some(Stop::Exit(value)), count), value);
     }
     Ok(())
 }
@@ -160,7 +155,7 @@ fn arithmetic(rt: HostRuntime) -> Result<(), Fail> {
 fn jumps(rt: HostRuntime) -> Result<(), Fail> {
     const MINUS_ONE: u64 = u64::MAX;
     // R1, a jump over EXIT, whether it is taken.
-    let cases: [(u64, u64, bool); 14] = [
+    let cases: &[(u64, u64, bool)] = &[
         // ja, ja32
         (0, 0x0500_0100_0000_0000, true),
         (0, 0x0600_0000_0100_0000, true),
@@ -182,15 +177,11 @@ fn jumps(rt: HostRuntime) -> Result<(), Fail> {
         (6, 0x4501_0100_0400_0000, true),
         (3, 0x4501_0100_0400_0000, false),
     ];
-    for (first, jump, taken) in cases {
+    for &(first, jump, taken) in cases {
         let slots = [jump, EXIT, 0xb700_0000_0100_0000, EXIT];
         let stopped = run(rt.alloc(), first, &slots)?;
         let expected = if taken { (1, 3) } else { (0, 2) };
-        assert_eq!(rt;
-            stopped,
-            (Some(Stop::Exit(expected.0)), expected.1),
-            "at {jump}"
-        );
+        same!(rt; stopped, (Some(Stop::Exit(expected.0)), expected.1), jump);
     }
     Ok(())
 }
@@ -211,7 +202,7 @@ fn a_call_gives_its_registers_back(rt: HostRuntime) -> Result<(), Fail> {
     let mut store = objects(rt.alloc())?;
     let mut machine = machine_of(rt.alloc(), 20, [3, 0, 0, 0, 0], &slots)?;
     for _ in 0..5 {
-        assert_eq!(rt; step(&mut machine, &mut store), Stepped::Ran(None));
+        same!(rt; step(&mut machine, &mut store), Stepped::Ran(None));
     }
     let kept = Frame {
         slot: 2,
@@ -221,25 +212,16 @@ fn a_call_gives_its_registers_back(rt: HostRuntime) -> Result<(), Fail> {
         r9: 0,
         r10: STACK_TOP,
     };
-    assert_eq!(rt; machine.frames(), [kept].as_slice());
+    same!(rt; machine.frames(), [kept].as_slice());
     let lower = 0xffff_ffff_0000_0e00;
-    assert_eq!(rt;
-        *machine.registers(),
-        [0, 3, 0, 0, 0, 5, 34, 0, 0, lower, lower]
-    );
-    assert_eq!(rt; step(&mut machine, &mut store), Stepped::Ran(None));
-    assert_eq!(rt; (machine.slot(), machine.fuel()), (2, 14));
+    same!(rt; *machine.registers(), [0, 3, 0, 0, 0, 5, 34, 0, 0, lower, lower]);
+    same!(rt; step(&mut machine, &mut store), Stepped::Ran(None));
+    same!(rt; (machine.slot(), machine.fuel()), (2, 14));
     assert!(rt; machine.frames().is_empty());
-    assert_eq!(rt;
-        *machine.registers(),
-        [0, 3, 0, 0, 0, 5, 17, 0, 0, 0, STACK_TOP]
-    );
-    assert_eq!(rt; step(&mut machine, &mut store), Stepped::Ran(None));
-    assert_eq!(rt;
-        step(&mut machine, &mut store),
-        Stepped::Stopped(Stop::Exit(17))
-    );
-    assert_eq!(rt; machine.fuel(), 12);
+    same!(rt; *machine.registers(), [0, 3, 0, 0, 0, 5, 17, 0, 0, 0, STACK_TOP]);
+    same!(rt; step(&mut machine, &mut store), Stepped::Ran(None));
+    same!(rt; step(&mut machine, &mut store), Stepped::Stopped(Stop::Exit(17)));
+    same!(rt; machine.fuel(), 12);
     Ok(())
 }
 
@@ -249,17 +231,14 @@ fn the_ninth_call_stops(rt: HostRuntime) -> Result<(), Fail> {
     let mut store = objects(rt.alloc())?;
     let mut machine = machine_of(rt.alloc(), 100, [0; 5], &[0x8510_0000_ffff_ffff, EXIT])?;
     for _ in 0..8 {
-        assert_eq!(rt; step(&mut machine, &mut store), Stepped::Ran(None));
-        assert_eq!(rt; machine.slot(), 0);
+        same!(rt; step(&mut machine, &mut store), Stepped::Ran(None));
+        same!(rt; machine.slot(), 0);
     }
     for _ in 0..2 {
-        assert_eq!(rt;
-            step(&mut machine, &mut store),
-            Stepped::Stopped(Stop::Depth)
-        );
-        assert_eq!(rt; (machine.slot(), machine.fuel()), (0, 92));
-        assert_eq!(rt; machine.registers()[10], 0xffff_ffff_0000_0000);
-        assert_eq!(rt; machine.frames().len(), 8);
+        same!(rt; step(&mut machine, &mut store), Stepped::Stopped(Stop::Depth));
+        same!(rt; (machine.slot(), machine.fuel()), (0, 92));
+        same!(rt; machine.registers()[10], 0xffff_ffff_0000_0000);
+        same!(rt; machine.frames().len(), 8);
     }
     Ok(())
 }
@@ -268,22 +247,16 @@ fn the_ninth_call_stops(rt: HostRuntime) -> Result<(), Fail> {
 fn fuel_runs_out(rt: HostRuntime) -> Result<(), Fail> {
     let mut store = objects(rt.alloc())?;
     let mut machine = machine_of(rt.alloc(), 0, [0; 5], &[EXIT])?;
-    assert_eq!(rt;
-        step(&mut machine, &mut store),
-        Stepped::Stopped(Stop::Spent)
-    );
+    same!(rt; step(&mut machine, &mut store), Stepped::Stopped(Stop::Spent));
     // Before a call that would be the ninth, too: fuel comes first.
     let mut caller = machine_of(rt.alloc(), 8, [0; 5], &[0x8510_0000_ffff_ffff, EXIT])?;
     for _ in 0..8 {
-        assert_eq!(rt; step(&mut caller, &mut store), Stepped::Ran(None));
+        same!(rt; step(&mut caller, &mut store), Stepped::Ran(None));
     }
     for _ in 0..2 {
-        assert_eq!(rt;
-            step(&mut caller, &mut store),
-            Stepped::Stopped(Stop::Spent)
-        );
-        assert_eq!(rt; (caller.slot(), caller.fuel()), (0, 0));
-        assert_eq!(rt; caller.stop(), Some(Stop::Spent));
+        same!(rt; step(&mut caller, &mut store), Stepped::Stopped(Stop::Spent));
+        same!(rt; (caller.slot(), caller.fuel()), (0, 0));
+        same!(rt; caller.stop(), Some(Stop::Spent));
     }
     Ok(())
 }
