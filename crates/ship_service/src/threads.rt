@@ -62,6 +62,8 @@ impl UntilEnd {
 }
 
 impl Gate for UntilEnd {
+    const IS_TOLD: bool = false;
+
     fn before(&self, _worker: usize, _machine: usize) {}
 
     fn after(&self, _worker: usize, _machine: usize) {}

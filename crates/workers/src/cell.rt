@@ -12,10 +12,47 @@ use loader::Program;
 use shared_objects::{ActorSeat, SharedTable};
 use std::alloc::Global;
 use std::marker::{Model, PhantomData};
-use std::sync::Mutex;
+use std::sync::atomic::{AtomicU64, Ordering};
+use std::sync::{Mutex, MutexGuard, Wait};
 
-/// A machine, or none, with its seat, under a lock.
-pub type MachineCell<K> = Mutex<Locked<K>>;
+/// A machine, or none, with its seat, under a lock. Whoever keeps the lock for more than one instruction can see whether another
+/// wants it.
+#[derive(Drop)]
+pub struct MachineCell<K: Mark> {
+    locked: Mutex<Locked<K>>,
+    // how many want the lock and haven't got it yet
+    wanting: AtomicU64,
+}
+
+impl<K: Mark> MachineCell<K> {
+    /// What the lock is to lend, which nobody wants yet.
+    pub fn new(locked: Locked<K>) -> Self {
+        MachineCell {
+            locked: Mutex::new(locked),
+            wanting: AtomicU64::new(0),
+        }
+    }
+
+    /// The lock, once nobody else has it.
+    pub fn lock<R: Wait>(&self, rt: &R) -> MutexGuard<'_, Locked<K>> {
+        self.wanting.fetch_add(1, Ordering::SeqCst);
+        let guard = self.locked.lock(rt);
+        self.wanting.fetch_sub(1, Ordering::SeqCst);
+        guard
+    }
+
+    /// Whether somebody wants the lock and hasn't got it yet.
+    #[inline]
+    pub(crate) fn is_wanted(&self) -> bool {
+        self.wanting.load(Ordering::SeqCst) != 0
+    }
+
+    /// What the lock lent, which nobody has any more.
+    pub(crate) fn into_inner(self) -> Locked<K> {
+        let MachineCell { locked, wanting: _ } = self;
+        locked.into_inner()
+    }
+}
 
 /// The right to put a machine's number into the queue, once. Its cell gives it where the number isn't there, and it can't be
 /// copied.

@@ -1,7 +1,12 @@
 //! Who is told of each instruction that a worker does.
 
-/// Told of each instruction, before and after it, while no cell's lock is held; and asked whether to go on.
+/// Told of each instruction, before and after it, while no cell's lock is held, unless it says that it isn't; and asked whether to
+/// go on.
 pub trait Gate {
+    /// Whether it is told of instructions. One that isn't is only asked whether to go on, and a worker keeps a cell's lock in its
+    /// turn until another wants it.
+    const IS_TOLD: bool = true;
+
     /// This worker comes to an instruction of the machine of this number.
     fn before(&self, worker: usize, machine: usize);
 

@@ -18,8 +18,8 @@ use debugger::{Debuggee, StepReply, Way};
 use far_store::FarStore;
 use shared_objects::{ActorSeat, Shared, SharedTable};
 use std::alloc::{AllocError, Global};
+use std::sync::Wait;
 use std::sync::atomic::{AtomicU64, Ordering};
-use std::sync::{Mutex, Wait};
 use std::time::Duration;
 use std::vec::IntoIter;
 
@@ -120,7 +120,7 @@ fn cells_of<K: Mark, R: Wait>(
         if locked.is_going() {
             queue_machine(rt, runs, &mut locked);
         }
-        cells.push(Mutex::new(locked))?;
+        cells.push(MachineCell::new(locked))?;
     }
     Ok(cells)
 }
@@ -238,8 +238,20 @@ impl<F: FarStore, K: Mark> Pool<F, K> {
         self.next_move(rt)
     }
 
-    /// At most so many instructions of the cell's machine: whether it is to be queued again, since it waits or did them all.
-    fn run<R: Wait, G: Gate>(
+    /// After a step of a turn: nothing where the turn goes on, else whether the machine is to be queued again.
+    fn end_after<R: Wait>(&self, rt: &R, reply: Option<StepReply>) -> Option<bool> {
+        match reply {
+            Some(StepReply::Ran(_)) => None,
+            Some(StepReply::Waiting(object)) => {
+                self.request(rt, object, Direction::Return);
+                Some(true)
+            }
+            _ => Some(false),
+        }
+    }
+
+    /// At most so many instructions of the cell's machine, of each of which the gate is told: whether it is to be queued again.
+    fn run_told<R: Wait, G: Gate>(
         &self,
         rt: &R,
         gate: &G,
@@ -251,13 +263,24 @@ impl<F: FarStore, K: Mark> Pool<F, K> {
             gate.before(worker, number);
             let reply = cell.lock(rt).step(self.table(), Way::Step);
             gate.after(worker, number);
-            match reply {
-                Some(StepReply::Ran(_)) => {}
-                Some(StepReply::Waiting(object)) => {
-                    self.request(rt, object, Direction::Return);
-                    return true;
-                }
-                _ => return false,
+            if let Some(again) = self.end_after(rt, reply) {
+                return again;
+            }
+        }
+        true
+    }
+
+    /// The same with no gate to be told. The lock is kept until another wants it, who then waits for one instruction.
+    fn run_untold<R: Wait>(&self, rt: &R, cell: &MachineCell<K>) -> bool {
+        let mut locked = cell.lock(rt);
+        for _ in 0..TURN_LIMIT {
+            let reply = locked.step(self.table(), Way::Step);
+            if let Some(again) = self.end_after(rt, reply) {
+                return again;
+            }
+            if cell.is_wanted() {
+                drop(locked);
+                locked = cell.lock(rt);
             }
         }
         true
@@ -273,7 +296,12 @@ impl<F: FarStore, K: Mark> Pool<F, K> {
             return;
         }
         // no worker is woken for it, since this one looks at the queue next
-        if self.run(rt, gate, worker, number, cell) {
+        let again = if G::IS_TOLD {
+            self.run_told(rt, gate, worker, number, cell)
+        } else {
+            self.run_untold(rt, cell)
+        };
+        if again {
             queue_machine(rt, &self.runs, &mut cell.lock(rt));
         }
     }

@@ -43,10 +43,32 @@ impl Gate for Turns {
     }
 }
 
+/// The same turns, without being told of instructions.
+#[derive(Drop)]
+struct Untold<'a> {
+    turns: &'a Turns,
+}
+
+impl Gate for Untold<'_> {
+    const IS_TOLD: bool = false;
+
+    fn before(&self, worker: usize, machine: usize) {
+        self.turns.before(worker, machine);
+    }
+
+    fn after(&self, _worker: usize, _machine: usize) {}
+
+    fn go_on(&self) -> bool {
+        self.turns.go_on()
+    }
+}
+
 /// What is done before the worker has its turns, and after them.
 #[derive(Clone, Copy, Drop)]
 struct Plan {
     turns: u64,
+    /// Whether the gate is told of instructions.
+    told: bool,
     /// Whether object 1 is on its way.
     away: bool,
     /// How often both machines are queued beforehand, beside that they are queued when the pool is made.
@@ -59,6 +81,7 @@ struct Plan {
 
 const PLAN: Plan = Plan {
     turns: 3,
+    told: true,
     away: false,
     queued: 0,
     requests: 0,
@@ -119,14 +142,18 @@ fn have_turns<F: FarStore, K: Mark, R: Wait>(
     rt: &R,
     alloc: Global,
     pool: &Pool<F, K>,
-    count: u64,
+    plan: Plan,
 ) -> Left {
     let gate = Turns {
-        left: AtomicU64::new(count),
+        left: AtomicU64::new(plan.turns),
         first: AtomicU64::new(0),
         other: AtomicU64::new(0),
     };
-    work(rt, &gate, pool, 0);
+    if plan.told {
+        work(rt, &gate, pool, 0);
+    } else {
+        work(rt, &Untold { turns: &gate }, pool, 0);
+    }
     let came = [
         gate.first.load(Ordering::SeqCst),
         gate.other.load(Ordering::SeqCst),
@@ -153,12 +180,12 @@ fn left_by<F: FarStore, K: Mark, R: Wait>(
     for _ in 0..plan.requests {
         pool.request(rt, 2, Direction::Leave);
     }
-    let first = have_turns(rt, alloc, pool, plan.turns);
+    let first = have_turns(rt, alloc, pool, plan);
     if !plan.resumed {
         return [first, first];
     }
     queue_both(rt, pool, true);
-    [first, have_turns(rt, alloc, pool, plan.turns)]
+    [first, have_turns(rt, alloc, pool, plan)]
 }
 
 fn run<F: FarStore + Drop, K: Mark, R: Wait>(
@@ -291,6 +318,47 @@ fn a_machine_waits_and_its_object_is_asked_for(rt: HostRuntime) -> Result<(), Fa
         plan,
     )?;
     assert_eq!(rt; away.came, [2, 1]);
+    let exit = State::Stopped(Stop::Exit(0));
+    assert_eq!(rt;
+        away.machines,
+        [Some((0, 1000, State::Running)), Some((0, 999, exit))]
+    );
+    assert!(rt; !away.room);
+    Ok(())
+}
+
+#[test]
+fn a_gate_that_is_not_told_changes_no_turn(rt: HostRuntime) -> Result<(), Fail> {
+    let alloc = rt.alloc();
+    let plan = Plan {
+        told: false,
+        requests: 63,
+        ..PLAN
+    };
+    let [ran, _] = left_of_two(
+        &rt,
+        alloc,
+        counting(alloc, 1, &[JUMP])?,
+        counting(alloc, 2, &[JUMP])?,
+        plan,
+    )?;
+    assert_eq!(rt; ran.came, [0, 0]);
+    assert_eq!(rt;
+        ran.machines,
+        [
+            Some((0, 872, State::Running)),
+            Some((0, 936, State::Running))
+        ]
+    );
+    assert!(rt; ran.room);
+    let plan = Plan { away: true, ..plan };
+    let [away, _] = left_of_two(
+        &rt,
+        alloc,
+        counting(alloc, 1, &[LOAD, EXIT])?,
+        counting(alloc, 2, &[EXIT])?,
+        plan,
+    )?;
     let exit = State::Stopped(Stop::Exit(0));
     assert_eq!(rt;
         away.machines,
