@@ -59,4 +59,6 @@ bench: $(PROGRAM)
 	@python3 bench/far.py crates/bench_far/out/bench_far $(BENCH)/far
 	@$(CC) -O2 -pthread -o $(BENCH)/service bench/service.c bench/flat.c
 	@python3 bench/service.py $(PROGRAM) $(BENCH)/service
+	@cd crates/bench_turns && $(RT) run >/dev/null
+	@python3 -B bench/turns.py crates/bench_turns/out/bench_turns
 	@python3 bench/stores.py $(PROGRAM)
