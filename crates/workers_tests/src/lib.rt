@@ -11,3 +11,5 @@ mod leaving;
 mod moving;
 #[cfg(test)]
 mod turns;
+#[cfg(test)]
+mod untold;
