@@ -22,7 +22,7 @@ pub use connection::{Connection, Post};
 pub use laws::{
     machines_replay_the_list, opened_machines_stay, replies_are_entries, reply_is_entry,
 };
-pub use listening::{ListenFault, listen};
+pub use listening::{ListenFault, listen, listen_over};
 pub use opened::{CONNECTION_LIMIT, OpenAgent, Opened};
 pub use replies::ServiceReply;
 pub use serving::{Service, serve};

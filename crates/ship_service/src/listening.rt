@@ -146,3 +146,31 @@ where
     };
     listen_opened::<F, Brand, W, R>(rt, alloc, listener, writer, opened, plan)
 }
+
+/// The same over another far store than the world's, which is dropped: objects that leave go to this one.
+pub fn listen_over<
+    F: FarStore + Drop,
+    S: FarStore + Drop + Send + Sync,
+    W: Write,
+    R: Threads + Wait + Sync,
+>(
+    rt: &R,
+    alloc: Global,
+    listener: TcpListener,
+    writer: &mut W,
+    world: World<F>,
+    store: S,
+    plan: Plan,
+) -> Result<(), ListenFault>
+where
+    S::Parcel: Send,
+    ensures says { SaysAs (TellsClosingOf S S.RETURNS world) (W.contents writer.old) (W.contents writer.new) result }
+    ensures here { FindsHere world.store.places result }
+{
+    let opened = match Opened::over(alloc, world, store) {
+        Ok(opened) => opened,
+        Err(OpenAgent::NotHere(number)) => return Err(ListenFault::NotHere(number)),
+        Err(OpenAgent::Memory) => return Err(ListenFault::Memory),
+    };
+    listen_opened::<S, Brand, W, R>(rt, alloc, listener, writer, opened, plan)
+}

@@ -81,6 +81,22 @@ fn open_parts<F: FarStore + Drop>(
     })
 }
 
+/// The parts of a world, whose objects all have to be here. On a refusal it is dropped.
+fn take_apart<F: FarStore + Drop>(world: World<F>) -> Result<WorldParts<F>, OpenAgent>
+    ensures here { OnOk result (AllHere world.store.places) }
+    ensures bodies { IfOk result (λ parts. opening_bytes parts.bodies ≡ opened_bytes world) }
+    ensures machines { IfOk result (λ parts. parts.machines.items ≡ world.machines) }
+    ensures few { IfOk result (λ parts. (length parts.machines.items ≤ machine_limit) × (length parts.bodies.items ≤ object_limit)) }
+    ensures store { IfOk result (λ parts. world.store.faults ≤ F.faults_of parts.store) }
+    ensures refused { IfErr result (λ why. RefusesWorld world why) }
+{
+    match world.into_parts() {
+        Ok(parts) => Ok(parts),
+        Err(PartsError::NotHere(number)) => Err(OpenAgent::NotHere(number)),
+        Err(PartsError::Memory) => Err(OpenAgent::Memory),
+    }
+}
+
 impl<F: FarStore + Drop> Opened<F> {
     /// Opens a table of the world's objects, which all have to be here. A number whose object was freed has no bytes; where no
     /// object was ever made, the table has one body without bytes. The machines and their debug states stay as they are; no scope
@@ -92,10 +108,40 @@ impl<F: FarStore + Drop> Opened<F> {
         ensures store { IfOk result (λ opened. world.store.faults ≤ F.faults_of opened.store) }
         ensures refused { IfErr result (λ why. RefusesWorld world why) }
     {
-        let parts = match world.into_parts() {
+        let parts = match take_apart(world) {
             Ok(parts) => parts,
-            Err(PartsError::NotHere(number)) => return Err(OpenAgent::NotHere(number)),
-            Err(PartsError::Memory) => return Err(OpenAgent::Memory),
+            Err(why) => return Err(why),
+        };
+        match open_parts(alloc, parts) {
+            Ok(opened) => Ok(opened),
+            Err(_) => Err(OpenAgent::Memory),
+        }
+    }
+
+    /// The same over another far store than the world's, which is dropped.
+    pub fn over<G: FarStore + Drop>(
+        alloc: Global,
+        world: World<G>,
+        store: F,
+    ) -> Result<Opened<F>, OpenAgent>
+        ensures here { OnOk result (AllHere world.store.places) }
+        ensures opening { IfOk result (λ opened. table_opening opened.shared.table ≡ opened_bytes world) }
+        ensures machines { IfOk result (λ opened. opened.machines.items ≡ world.machines) }
+        ensures store { IfOk result (λ opened. opened.store ≡ store) }
+        ensures refused { IfErr result (λ why. RefusesWorld world why) }
+    {
+        let WorldParts {
+            machines,
+            bodies,
+            ..
+        } = match take_apart(world) {
+            Ok(parts) => parts,
+            Err(why) => return Err(why),
+        };
+        let parts = WorldParts {
+            machines,
+            bodies,
+            store,
         };
         match open_parts(alloc, parts) {
             Ok(opened) => Ok(opened),

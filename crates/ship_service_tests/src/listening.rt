@@ -2,7 +2,7 @@
 
 use console::{Console, drive};
 use far_store::OwnStore;
-use ship_service::{ListenFault, listen};
+use ship_service::{ListenFault, Plan, listen, listen_over};
 use std::alloc::Global;
 use std::io::{Read, Write};
 use std::net::{Ipv4Addr, Net, Shutdown, TcpListener, TcpStream};
@@ -71,6 +71,52 @@ fn a_client_without_workers(rt: HostRuntime) -> Result<(), Fail> {
     assert!(rt; output.starts_with(b"listening "));
     assert!(rt; output.ends_with(LEFT_HERE) || output.ends_with(LEFT_OUT));
     assert_eq!(rt; heard(alloc, &mut client)?.as_slice(), TOLD);
+    Ok(())
+}
+
+/// How a service ends over a store that isn't the world's, without workers, and what it says.
+fn ends_over_another<R>(
+    rt: &R,
+    alloc: Global,
+    listener: TcpListener,
+    world: World<OwnStore>,
+) -> (Result<(), ListenFault>, Vec<u8>)
+where
+    R: Net<Listener = TcpListener, Stream = TcpStream> + Threads + Wait + Sync,
+{
+    let plan = Plan {
+        connections: 1,
+        workers: 0,
+        sweep: false,
+    };
+    let mut output = Vec::new(alloc);
+    let store = OwnStore::new(alloc);
+    let ended = listen_over(rt, alloc, listener, &mut output, world, store, plan);
+    (ended, output)
+}
+
+#[test]
+fn a_client_over_another_store(rt: HostRuntime) -> Result<(), Fail> {
+    let alloc = rt.alloc();
+    let listener = TcpListener::bind(&rt, (Ipv4Addr::LOCALHOST, 0))?;
+    let mut client = client_of(&rt, &listener, SAID)?;
+    let world = world_after(alloc, SETUP)?;
+    let (ended, output) = ends_over_another(&rt, alloc, listener, world);
+    assert_eq!(rt; ended, Ok(()));
+    assert!(rt; output.starts_with(b"listening "));
+    assert!(rt; output.ends_with(LEFT_HERE) || output.ends_with(LEFT_OUT));
+    assert_eq!(rt; heard(alloc, &mut client)?.as_slice(), TOLD);
+    Ok(())
+}
+
+#[test]
+fn an_object_that_is_not_here_over_another_store(rt: HostRuntime) -> Result<(), Fail> {
+    let alloc = rt.alloc();
+    let listener = TcpListener::bind(&rt, (Ipv4Addr::LOCALHOST, 0))?;
+    let world = world_after(alloc, b"make 8\nmake 8\nleave 2\nleft 2\n")?;
+    let (ended, output) = ends_over_another(&rt, alloc, listener, world);
+    assert_eq!(rt; ended, Err(ListenFault::NotHere(2)));
+    assert!(rt; output.is_empty());
     Ok(())
 }
 
