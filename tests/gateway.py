@@ -1,9 +1,9 @@
 #!/usr/bin/env python3
-"""Runs examples/far/gateway.py over a stand-in for Redis, and over redis-server where it is installed.
+"""Runs examples/far/gateway.py over a stand-in for Redis, and over redis-server where it is installed: gateway.py [PROGRAM]
 
 Byte for byte what docs/FAR-STREAM.md shows, clients that break the protocol, two clients at once, keys that are gone when a
 client or the gateway has ended, a Redis that is full, goes away, lies or answers nonsense, and one that sends its clients on,
-as a cluster does.
+as a cluster does. With a program also `bpfagent serve`, whose objects leave for the gateway.
 """
 import hashlib
 import shutil
@@ -16,6 +16,7 @@ import threading
 import time
 
 from parts import Failed, want
+from service import Client, Service, away, object_line
 from sources import ROOT
 from store import CLIENT, KEPT, LIMIT, NO_ROOM, REFUSED_ID, SECONDS, frame, talk, unanswered
 
@@ -219,6 +220,26 @@ def show_redirections():
     far.end()
 
 
+def show_service(program):
+    """An object of `bpfagent serve` that leaves is in Redis, and comes home; where Redis gives other bytes it stays away until it
+    gives the right ones."""
+    redis, held = Redis(), bytes(range(8))
+    gateway = Gateway(redis.address)
+    service = Service(program, "--far", f"127.0.0.1:{gateway.port}", "--workers", 0, setup=["make 8", f"put 1 0 {held.hex()}"])
+    client = Client(service)
+    want(client.ask("leave 1") == "asked 1", "a request to the mover")
+    eventually(lambda: list(redis.kept.values()) == [held], f"the object is in Redis: {redis.kept}")
+    redis.instead += [b"$8\r\nabcdefgh\r\n", b"-OOM\r\n"]
+    want(client.ask("get 1 0 8") == "away 1", "an object that is away")
+    want(client.ask_until("get 1 0 8", "bytes", pause=0.001) == f"bytes {held.hex()}" and redis.instead == [], "the object that came home at the third time")
+    eventually(lambda: redis.kept == {}, f"what is in Redis of an object that is home: {redis.kept}")
+    away(client, f"bytes {held.hex()}")
+    client.ask_until("get 1 0 8", "bytes", pause=0.001)
+    want(client.end() == "" and service.ends_with([object_line(1, held)]), "the end of a service over the gateway")
+    want(gateway.end()[0] == 0 and redis.kept == {}, "the gateway of a service")
+    redis.end()
+
+
 def show_redis(program):
     """The same over Redis itself."""
     with socket.create_server(("127.0.0.1", 0)) as listener:
@@ -253,6 +274,8 @@ def main():
         want(redis.kept == {}, f"keys that are left: {redis.kept}")
         for show in (show_keys, show_faults, show_absence, show_redirections):
             show()
+        if sys.argv[1:]:
+            show_service(sys.argv[1])
         if program:
             show_redis(program)
     except (Failed, OSError, subprocess.TimeoutExpired) as wrong:

@@ -2,7 +2,8 @@
 """Runs `bpfagent serve` with clients over TCP: service.py PROGRAM
 
 The conversations of README.md, docs/PROTOCOL.md and examples/serve with their clients, workers and the mover at work, eight clients at once over a counter
-that leaves and returns, conversations that are cut off, each status, and what is left when the service has closed.
+that leaves and returns, conversations that are cut off, objects that are kept by `bpfagent store`, also when that is killed, each
+status, and what is left when the service has closed.
 """
 import hashlib
 import os
@@ -14,6 +15,7 @@ import time
 
 from parts import Failed, run_parts, want
 from sources import ROOT
+from store import Server
 
 SECONDS = 60
 LOOKS = 10_000
@@ -226,15 +228,20 @@ def service_runs(program):
     want(client.end() == "" and service.ends_well({1: of_eight(100)}, [shown]), "the end of a service with workers")
 
 
-def there_and_back(client, held):
-    """Object 1, which has these bytes, is asked to leave until it is away, and read until it is here again."""
+def away(client, held):
+    """Object 1, which has these bytes, is asked to leave until it is away. The reading that finds it so asks for it."""
     for _ in range(LOOKS):
         asked = client.ask("leave 1")
         want(asked in ("asked 1", "full"), f"leave is answered {asked}")
         if (found := client.ask("get 1 0 8")) == "away 1":
-            break
+            return
         want(found in (held, "busy 1"), f"get is answered {found}")
-    want(found == "away 1", "the object doesn't leave")
+    raise Failed("the object doesn't leave")
+
+
+def there_and_back(client, held):
+    """Object 1, which has these bytes, is asked to leave until it is away, and read until it is here again."""
+    away(client, held)
     found = client.ask_until("get 1 0 8", "bytes")
     want(found == held, f"the object returned with {found}")
 
@@ -283,11 +290,11 @@ def ship_counter(service, times, told):
         told.append(error)
 
 
-def show_crowd(program):
+def show_crowd(program, *arguments):
     """Eight clients, whose machines four workers run, count in one object while it leaves and returns. It is read when all
     have counted: each client ends before the service does, so the ninth reading is that of the first."""
     times, told = 200, []
-    service = Service(program, "--connections", 8, "--workers", 4, setup=["make 8"])
+    service = Service(program, "--connections", 8, "--workers", 4, *arguments, setup=["make 8"])
     clients = [threading.Thread(target=ship_counter, args=(service, times, told)) for _ in range(7)]
     reader = Client(service)
     for client in clients:
@@ -301,6 +308,63 @@ def show_crowd(program):
     want(found == f"bytes {(7 * times).to_bytes(8, 'little').hex()}", f"seven counters of {times} count {found}")
     there_and_back(reader, found)
     want(reader.end() == "" and service.ends_well({1: of_eight(7 * times)}, shown, may_be_out=True), "the end of a service with eight clients")
+
+
+def show_far(program):
+    """Objects that leave are kept by `bpfagent store`, which serves one service after the other."""
+    server = Server(program)
+    far = f"127.0.0.1:{server.port}"
+    service = Service(program, "--far", far, "--workers", 1, setup=["make 8", "put 1 0 2a"])
+    client = Client(service)
+    for _ in range(5):
+        there_and_back(client, "bytes 2a00000000000000")
+    shipped = client.ask(f"ship 1000 0x100000000 1 0 0 0 {ADDS}")
+    client.ask("leave 1")
+    shown = stopped(client, 1)
+    want(shipped == "shipped 1" and " exit " in shown, f"a machine whose object leaves: {shown}")
+    there_and_back(client, "bytes 8e00000000000000")
+    want(client.end() == "" and service.ends_well({1: of_eight(142)}, [shown], may_be_out=True), "the end of a service over a far server")
+    show_crowd(program, "--far", far)
+    want(server.end() == (0, b"", b""), "the far server of two services")
+
+
+def show_lost_server(program):
+    """The far server is killed. What it kept stays far, and a machine waits for it; what is here stays here."""
+    server = Server(program)
+    setup = ["make 8", "put 1 0 2a", "make 8", "make 8", "put 3 0 07", f"ship 10 0x100000000 1 0 0 0 {ADD}"]
+    service = Service(program, "--far", f"127.0.0.1:{server.port}", "--workers", 0, setup=setup)
+    client = Client(service)
+    # requests are served in turn: when object 2 is away object 1 is, and nobody has asked for that to come home
+    for _ in range(LOOKS):
+        client.ask("leave 1")
+        client.ask("leave 2")
+        if client.ask("get 2 0 1") == "away 2":
+            break
+    server.process.kill()
+    server.process.wait()
+    for _ in range(20):
+        want(client.ask("leave 3") in ("asked 3", "full") and client.ask("get 1 0 1") == "away 1" and client.ask("step 1") == "waiting 1 1", "an object whose server is gone")
+        time.sleep(0.01)
+    want(client.ask_until("get 3 0 1", "bytes") == "bytes 07", "an object that couldn't leave")
+    shown = client.ask("regs 1")
+    want(client.end() == "", "more than the replies")
+    status, output, errors = service.end()
+    said = output.splitlines()
+    want((status, errors) == (0, "") and said[:2] == ["closed", "object 1 out"] and said[3:] == [object_line(3, of_eight(7)), shown], f"the end of a service whose far server is gone: {said}")
+
+
+def show_unreached(program):
+    """A far server that can't be reached, and what isn't its address: nothing is read, and no port is taken."""
+    with socket.create_server(("127.0.0.1", 0)) as taken:
+        port = taken.getsockname()[1]
+        with socket.create_server(("127.0.0.1", 0)) as free:
+            nobody = f"127.0.0.1:{free.getsockname()[1]}"
+        want(ended(program, "--far", nobody, "--port", port, setup="make 8\n") == (3, "", "far server can't be reached\n"), "a server that isn't there")
+        for far in ("", "7070", "localhost:7070", "127.0.0.1", "127.0.0.1:", "127.0.0.1:65536", "127.0.0.1:x", "256.0.0.1:1", "::1:7070", " 127.0.0.1:7070"):
+            want(ended(program, f"--far={far}", "--port", port, setup="make 8\n") == (2, "", "error: --far takes an IP address and a port\n"), f"the address {far}")
+    for words in (["--far"], ["--far", nobody, "--far", nobody], ["--far", nobody, "--workers", 17]):
+        status, output, errors = ended(program, *words)
+        want((status, output) == (2, "") and errors.startswith("error: ") and errors.endswith("--help'.\n"), f"{words} ended with {status}, {output}, {errors}")
 
 
 def long_adds(times):
@@ -391,7 +455,7 @@ def show_statuses(program):
         status, output, errors = ended(program, *words)
         want((status, output) == (2, "") and errors.startswith("error: "), f"{words} ended with {status}, {output}, {errors}")
     done = subprocess.run([program, "serve", "--help"], capture_output=True, timeout=SECONDS)
-    wanted = [b"--port", b"--connections", b"--workers", b"--budget", b"--sweep", b"PROTOCOL.md", b"listening P", b"closed", b"Status 1", b"Status 3"]
+    wanted = [b"--port", b"--connections", b"--workers", b"--budget", b"--sweep", b"--far <HOST:PORT>", b"PROTOCOL.md", b"FAR-MEMORY.md", b"regs", b"listening P", b"closed", b"Status 1", b"Status 3"]
     want(done.returncode == 0 and done.stderr == b"" and all(word in done.stdout for word in wanted), f"help: {done}")
 
 
@@ -405,7 +469,7 @@ def show_port(program):
     want(again.port == port and Client(again).end() == "" and again.ends_well(), "the port that is asked for")
 
 
-SHOWN = [show_readme, show_protocol, show_examples, show_row, show_digest, close_two, service_runs, service_moves, service_sweeps, show_without_sweep, show_crowd, show_debuggers, show_lost, show_statuses, show_port]
+SHOWN = [show_readme, show_protocol, show_examples, show_row, show_digest, close_two, service_runs, service_moves, service_sweeps, show_without_sweep, show_crowd, show_debuggers, show_lost, show_far, show_lost_server, show_unreached, show_statuses, show_port]
 
 
 if __name__ == "__main__":

@@ -10,7 +10,7 @@ use Rattle.clap.specs.Simple.{App, Shape, built, entered, filled, names_of, new_
 use Rattle.clap.specs.Takes.{is_given}
 use Rattle.clap.specs.Walk.{Held, Row, Rule, Text, answers_to, finished, nothing_held, rows_after, settled, walk, walk_from}
 use Rattle.clap.proofs.OnLiterals.{clap_on_literals}
-use Rattle.agent.specs.CommandLine.{HasNumber, HasServing, asm_shape, budget_limit, budget_limit_text, budget_rule, command_line, connections_limit, connections_rule, dis_shape, faults_of, flag_rule, port_limit, port_rule, task_named, task_of, workers_limit, workers_rule}
+use Rattle.agent.specs.CommandLine.{HasNumber, HasServing, asm_shape, budget_limit, budget_limit_text, budget_rule, command_line, connections_limit, connections_rule, dis_shape, far_rule, faults_of, flag_rule, port_limit, port_rule, task_named, task_of, workers_limit, workers_rule}
 use Rattle.agent.proofs.Numbers.{first_empty, rest_empty, help, options_built, fits_help, fits_other, has_number}
 
 last_empty : (first second third fourth last : Kinds) → or_else first (or_else second (or_else third (or_else fourth last))) ≡ [] → last ≡ []
@@ -56,8 +56,11 @@ store_built = options_built (codes "store") (filled port_rule ∷ help ∷ [])
 abbrev sweep : Rule
 sweep = filled (flag_rule (codes "sweep"))
 
+abbrev far : Rule
+far = filled far_rule
+
 abbrev serve_built : Shape
-serve_built = options_built (codes "serve") (filled port_rule ∷ filled connections_rule ∷ filled workers_rule ∷ filled budget_rule ∷ sweep ∷ help ∷ [])
+serve_built = options_built (codes "serve") (filled port_rule ∷ filled connections_rule ∷ filled workers_rule ∷ filled budget_rule ∷ sweep ∷ far ∷ help ∷ [])
 
 abbrev asm_built : Shape
 asm_built = record asm_shape { rules = filled (flag_rule (codes "explain")) ∷ help ∷ []; no_binary_name = true; disable_help_subcommand = true; is_built = true }
@@ -127,21 +130,21 @@ serving words f =
     let workers = filled workers_rule in
     let budget = filled budget_rule in
     record {
-      port = has_number (codes "port") (codes "0") 0 port_limit refl refl (codes "serve") [] (connections ∷ workers ∷ budget ∷ sweep ∷ help ∷ []) tt
+      port = has_number (codes "port") (codes "0") 0 port_limit refl refl (codes "serve") [] (connections ∷ workers ∷ budget ∷ sweep ∷ far ∷ help ∷ []) tt
           (let other = fits_other (codes "port") (codes "0") 0 port_limit refl refl in
-          (other connections refl refl (λ _ _. refl), (other workers refl refl (λ _ _. refl), (other budget refl refl (λ _ _. refl), (other sweep refl refl (λ _ _. refl), (fits_help (codes "port") (codes "0") 0 port_limit refl refl, tt)))))) words f;
-      connections = has_number (codes "connections") (codes "1") 1 connections_limit refl refl (codes "serve") (port ∷ []) (workers ∷ budget ∷ sweep ∷ help ∷ [])
+          (other connections refl refl (λ _ _. refl), (other workers refl refl (λ _ _. refl), (other budget refl refl (λ _ _. refl), (other sweep refl refl (λ _ _. refl), (other far refl refl (λ _ _. refl), (fits_help (codes "port") (codes "0") 0 port_limit refl refl, tt))))))) words f;
+      connections = has_number (codes "connections") (codes "1") 1 connections_limit refl refl (codes "serve") (port ∷ []) (workers ∷ budget ∷ sweep ∷ far ∷ help ∷ [])
           (fits_other (codes "connections") (codes "1") 1 connections_limit refl refl port refl refl (λ _ _. refl), tt)
           (let other = fits_other (codes "connections") (codes "1") 1 connections_limit refl refl in
-          (other workers refl refl (λ _ _. refl), (other budget refl refl (λ _ _. refl), (other sweep refl refl (λ _ _. refl), (fits_help (codes "connections") (codes "1") 1 connections_limit refl refl, tt))))) words f;
-      workers = has_number (codes "workers") (codes "2") 0 workers_limit refl refl (codes "serve") (port ∷ connections ∷ []) (budget ∷ sweep ∷ help ∷ [])
+          (other workers refl refl (λ _ _. refl), (other budget refl refl (λ _ _. refl), (other sweep refl refl (λ _ _. refl), (other far refl refl (λ _ _. refl), (fits_help (codes "connections") (codes "1") 1 connections_limit refl refl, tt)))))) words f;
+      workers = has_number (codes "workers") (codes "2") 0 workers_limit refl refl (codes "serve") (port ∷ connections ∷ []) (budget ∷ sweep ∷ far ∷ help ∷ [])
           (let other = fits_other (codes "workers") (codes "2") 0 workers_limit refl refl in (other port refl refl (λ _ _. refl), (other connections refl refl (λ _ _. refl), tt)))
           (let other = fits_other (codes "workers") (codes "2") 0 workers_limit refl refl in
-          (other budget refl refl (λ _ _. refl), (other sweep refl refl (λ _ _. refl), (fits_help (codes "workers") (codes "2") 0 workers_limit refl refl, tt)))) words f;
-      budget = has_number (codes "budget") budget_limit_text 0 budget_limit refl refl (codes "serve") (port ∷ connections ∷ workers ∷ []) (sweep ∷ help ∷ [])
+          (other budget refl refl (λ _ _. refl), (other sweep refl refl (λ _ _. refl), (other far refl refl (λ _ _. refl), (fits_help (codes "workers") (codes "2") 0 workers_limit refl refl, tt))))) words f;
+      budget = has_number (codes "budget") budget_limit_text 0 budget_limit refl refl (codes "serve") (port ∷ connections ∷ workers ∷ []) (sweep ∷ far ∷ help ∷ [])
           (let other = fits_other (codes "budget") budget_limit_text 0 budget_limit refl refl in (other port refl refl (λ _ _. refl), (other connections refl refl (λ _ _. refl), (other workers refl refl (λ _ _. refl), tt))))
           (let other = fits_other (codes "budget") budget_limit_text 0 budget_limit refl refl in
-          (other sweep refl refl (λ _ _. refl), (fits_help (codes "budget") budget_limit_text 0 budget_limit refl refl, tt))) words f;
+          (other sweep refl refl (λ _ _. refl), (other far refl refl (λ _ _. refl), (fits_help (codes "budget") budget_limit_text 0 budget_limit refl refl, tt)))) words f;
     }
 
 serve_entered : (words : List Text) → level_fault serve_built [] nothing_held words false [] ≡ [] → IsEntered (Some (rows_at serve_built words))

@@ -78,9 +78,13 @@ connections_rule = number_rule (codes "connections") 1 connections_limit (codes 
 abbrev pub workers_rule : Rule
 workers_rule = number_rule (codes "workers") 0 workers_limit (codes "2")
 
+-- `--far HOST:PORT`, any text, which may be left out
+abbrev pub far_rule : Rule
+far_rule = record (new_rule (codes "far")) { long = Some (codes "far"); value_names = 1 }
+
 -- `serve`, with its options
 abbrev pub serve_shape : Shape
-serve_shape = record (new_shape (codes "serve")) { rules = port_rule ∷ connections_rule ∷ workers_rule ∷ budget_rule ∷ flag_rule (codes "sweep") ∷ [] }
+serve_shape = record (new_shape (codes "serve")) { rules = port_rule ∷ connections_rule ∷ workers_rule ∷ budget_rule ∷ flag_rule (codes "sweep") ∷ far_rule ∷ [] }
 
 -- `serve` alone, as it becomes a subcommand
 abbrev pub serve_app : App
@@ -139,3 +143,7 @@ task_named name rows = if bytes_eq name (codes "run") then option_map Run (numbe
 -- what right arguments ask for: the subcommand that they name
 abbrev pub task_of : List Text → Option Task
 task_of arguments = option_and_then (λ p. task_named p.0 p.1) (subcommand_of command_line arguments)
+
+-- the text of `--far`, where right arguments have one
+abbrev pub far_of : List Text → Option Text
+far_of arguments = option_and_then (λ p. first_of (codes "far") p.1) (subcommand_of command_line arguments)

@@ -15,3 +15,7 @@ plain_serving = record { port = 0; connections = 1; workers = 2; budget = budget
 -- `serve` with all its options
 abbrev pub all_of_serve : List Text
 all_of_serve = codes "serve" ∷ codes "--workers" ∷ codes "0" ∷ codes "--port=7070" ∷ codes "--sweep" ∷ codes "--budget" ∷ codes "64" ∷ codes "--connections" ∷ codes "8" ∷ []
+
+-- `serve` with a far server
+abbrev pub far_serving : List Text
+far_serving = codes "serve" ∷ codes "--far" ∷ codes "127.0.0.1:7070" ∷ []

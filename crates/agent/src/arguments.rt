@@ -1,7 +1,7 @@
 //! The arguments of the command line.
-ghost use Rattle.std.specs.Prelude.{◌≡◌, [], Some, map, codes, IfOk, IfErr};
+ghost use Rattle.std.specs.Prelude.{◌≡◌, [], Some, map, codes, option_map, IfOk, IfErr};
 ghost use Rattle.clap.specs.Words.{app_of, found_of, rows_of, rule_of, HasKind};
-ghost use Rattle.agent.specs.CommandLine.{HasNumber, HasServing, IsLocal, budget_limit, budget_rule, command_line, connections_limit, connections_rule, faults_of, flag_rule, is_set, number_in, port_limit, port_rule, serve_app, serving_in, task_named, task_of, workers_limit, workers_rule};
+ghost use Rattle.agent.specs.CommandLine.{HasNumber, HasServing, IsLocal, budget_limit, budget_rule, command_line, connections_limit, connections_rule, far_of, far_rule, faults_of, flag_rule, is_set, number_in, port_limit, port_rule, serve_app, serving_in, task_named, task_of, workers_limit, workers_rule};
 
 use clap::{Arg, ArgAction, ArgMatches, Command, Error, value_parser};
 use std::alloc::{AllocError, Global};
@@ -88,6 +88,18 @@ fn make_workers<'a>(alloc: Global) -> Arg<'a>
         .help("How many workers step machines, 0 to 16")
 }
 
+/// `--far HOST:PORT`: the server that keeps far objects.
+fn make_far<'a>(alloc: Global) -> Arg<'a>
+    ensures { rule_of result ≡ far_rule }
+{
+    Arg::new(alloc, "far")
+        .long("far")
+        .value_name("HOST:PORT")
+        .help(
+            "The server that keeps far objects, HOST an IP address; without it they stay in this process",
+        )
+}
+
 /// `--NAME`, which is given or not.
 fn make_flag<'a>(alloc: Global, name: &'a str, help: &'a str) -> Arg<'a>
     ensures { rule_of result ≡ flag_rule name.entry.now }
@@ -135,9 +147,11 @@ const SERVE_HELP: &str =
     "Does the commands of standard input first, as 'run' does, and writes their replies. Then listens \
 on 127.0.0.1, writes 'listening P' to standard output, P the port, and takes N connections in all, each a conversation of \
 its own over the objects and machines that are there. Workers step the machines that are neither paused nor stopped, and \
-a mover takes objects away and brings them back. When all connections have ended, 'closed' is written. docs/PROTOCOL.md \
-describes the commands.\n\nStatus 0: all connections have ended. Status 1: an object is on its way or far when standard \
-input ends; standard error has \"object N isn't here\". Status 3: the port can't be had, a stream failed, or out of \
+a mover takes objects away and brings them back. With --far they go to a server, as 'store' is one, to which this program \
+connects before it reads anything. When all connections have ended, 'closed' is written, then a line for each object, \
+and then the 'regs' line of each machine. docs/PROTOCOL.md describes the commands, docs/FAR-MEMORY.md far servers.\n\n\
+Status 0: all connections have ended. Status 1: an object is on its way or far when standard input ends; standard error \
+has \"object N isn't here\". Status 3: the far server can't be reached, the port can't be had, a stream failed, or out of \
 memory; standard error says which.";
 
 /// `serve`, with its options.
@@ -156,7 +170,8 @@ fn make_serve<'a>(alloc: Global) -> Result<Command<'a>, AllocError>
         .arg(make_connections(alloc))?
         .arg(make_workers(alloc))?
         .arg(make_budget(alloc))?
-        .arg(sweep)
+        .arg(sweep)?
+        .arg(make_far(alloc))
 }
 
 /// The command line of the program.
@@ -300,9 +315,20 @@ fn task_called<'a>(name: &str, matches: &ArgMatches<'a>) -> Option<Task>
     }
 }
 
-/// What the arguments ask for.
-pub(crate) fn read_arguments<'a, S: AsStr>(alloc: Global, arguments: &'a [S]) -> Result<Task, Error>
-    ensures ok { IfOk result (λ task. (faults_of (map S.text arguments.entry.now) ≡ []) × (task_of (map S.text arguments.entry.now) ≡ Some task)) }
+/// What the arguments ask for, and the text of `--far`.
+#[derive(Clone, Copy)]
+pub(crate) struct Asked<'a> {
+    pub task: Task,
+    pub far: Option<&'a str>,
+}
+
+/// What the arguments ask for, with the text of `--far` where they have one.
+pub(crate) fn read_asked<'a, S: AsStr>(
+    alloc: Global,
+    arguments: &'a [S],
+) -> Result<Asked<'a>, Error>
+    ensures ok { IfOk result (λ asked. (faults_of (map S.text arguments.entry.now) ≡ []) × (task_of (map S.text arguments.entry.now) ≡ Some asked.task)) }
+    ensures far { IfOk result (λ asked. option_map (λ text. text.now) asked.far ≡ far_of (map S.text arguments.entry.now)) }
     ensures err { IfErr result (HasKind (faults_of (map S.text arguments.entry.now))) }
 {
     let matches = make_command(alloc)?.try_get_matches_from(arguments)?;
@@ -312,5 +338,19 @@ pub(crate) fn read_arguments<'a, S: AsStr>(alloc: Global, arguments: &'a [S]) ->
     let Some(task) = task_called(name, inner) else {
         unreachable!()
     };
-    Ok(task)
+    Ok(Asked {
+        task,
+        far: inner.get_str("far"),
+    })
+}
+
+/// What the arguments ask for.
+pub(crate) fn read_arguments<'a, S: AsStr>(alloc: Global, arguments: &'a [S]) -> Result<Task, Error>
+    ensures ok { IfOk result (λ task. (faults_of (map S.text arguments.entry.now) ≡ []) × (task_of (map S.text arguments.entry.now) ≡ Some task)) }
+    ensures err { IfErr result (HasKind (faults_of (map S.text arguments.entry.now))) }
+{
+    match read_asked(alloc, arguments) {
+        Ok(asked) => Ok(asked.task),
+        Err(error) => Err(error),
+    }
 }

@@ -1,7 +1,7 @@
 //! What the command line takes, apart from any call.
-ghost use Rattle.std.specs.Prelude.{◌≡◌, ◌≢◌, [], ◌∷◌, Some, codes, true, false};
-ghost use Rattle.agent.specs.CommandLine.{budget_limit, budget_limit_text, faults_of, port_limit, task_of};
-ghost use Rattle.agent.specs.Laws.{RightArgumentsNameATask, all_of_serve, plain_serving};
+ghost use Rattle.std.specs.Prelude.{◌≡◌, ◌≢◌, [], ◌∷◌, None, Some, codes, true, false};
+ghost use Rattle.agent.specs.CommandLine.{budget_limit, budget_limit_text, far_of, faults_of, port_limit, task_of};
+ghost use Rattle.agent.specs.Laws.{RightArgumentsNameATask, all_of_serve, far_serving, plain_serving};
 
 use crate::arguments::Task;
 use clap::error::ErrorKind;
@@ -37,9 +37,12 @@ pub fn right_ports()
     ensures missing { faults_of (codes "store" ∷ codes "--port" ∷ []) ≢ [] }
 {}
 
-/// The options of `serve`, and numbers that are too small or too great for them.
+/// The options of `serve`, and numbers that are too small or too great for them. `--far` may be left out.
 pub fn right_services()
     ensures all { (faults_of all_of_serve ≡ []) × (task_of all_of_serve ≡ Some (Task.Serve (record { port = 7070; connections = 8; workers = 0; budget = 64; sweep = true }))) }
+    ensures far { (faults_of far_serving ≡ []) × (task_of far_serving ≡ Some (Task.Serve plain_serving)) × (far_of far_serving ≡ Some (codes "127.0.0.1:7070")) }
+    ensures no_far { far_of all_of_serve ≡ None }
+    ensures missing { faults_of (codes "serve" ∷ codes "--far" ∷ []) ≢ [] }
     ensures no_connection { faults_of (codes "serve" ∷ codes "--connections" ∷ codes "0" ∷ []) ≢ [] }
     ensures nine_connections { faults_of (codes "serve" ∷ codes "--connections=9" ∷ []) ≢ [] }
     ensures too_many_workers { faults_of (codes "serve" ∷ codes "--workers" ∷ codes "17" ∷ []) ≢ [] }

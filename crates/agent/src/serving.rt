@@ -1,14 +1,15 @@
 //! `serve`: shares objects and machines with clients.
-ghost use Rattle.std.specs.Prelude.{◌≡◌, ◌++◌, ◌∷◌, [], ◌≤◌, length, IfSome};
-ghost use Rattle.agent.specs.ServeLeaves.{ReportsServe, ReportsService, ServeLeaves, listen_text, serve_status, serve_text};
+ghost use Rattle.std.specs.Prelude.{◌≡◌, ◌++◌, ◌∷◌, [], ◌≤◌, length, option_map, IfErr, IfSome, OnOk};
+ghost use Rattle.agent.specs.ServeLeaves.{IsAddress, ReportsServe, ReportsService, ServeLeaves, ServesOver, Unconnected, listen_text, serve_status, serve_text};
 
 use crate::arguments::Serving;
 use crate::failure::{Failure, Status};
 use crate::reporting::say;
 use crate::running::do_commands;
 use arrayvec::ArrayVec;
-use far_store::OwnStore;
-use ship_service::{ListenFault, listen};
+use far_store::{FarStore, OwnStore};
+use far_stream::StreamStore;
+use ship_service::{ListenFault, Plan, listen_over};
 use std::alloc::Global;
 use std::io::{self, Read, Write};
 use std::net::{Ipv4Addr, Net, SocketAddr, TcpListener, TcpStream};
@@ -19,6 +20,10 @@ use world::World;
 /// Why a service ended otherwise than with its connections.
 #[derive(Clone, Copy, Drop, Debug, PartialEq, Eq)]
 pub enum ServeFault {
+    /// The far server's address isn't an IP address and a port.
+    Address,
+    /// The far server can't be reached.
+    Far,
     /// The commands of the input weren't all done.
     Setup(Failure),
     /// The port can't be had.
@@ -64,15 +69,27 @@ fn line_of(fault: ListenFault) -> FaultLine
     line
 }
 
+/// The line of this text.
+fn line_of_text(text: &[u8]) -> FaultLine
+    requires { length text.now ≤ 47 }
+    ensures { result.items ≡ text.now ++ 10 ∷ [] }
+{
+    let mut line = FaultLine::new();
+    let _ = line.try_extend_from_slice(text);
+    let _ = line.try_push(b'\n');
+    line
+}
+
 impl ServeFault {
     /// The status that the program ends with.
     fn status(self) -> Status
         ensures { result ≡ serve_status self }
     {
         match self {
+            ServeFault::Address => Status::InvalidArguments,
             ServeFault::Setup(failure) => failure.status(),
             ServeFault::Listen(ListenFault::NotHere(_)) => Status::Refused,
-            ServeFault::Bind | ServeFault::Listen(_) => Status::Failed,
+            ServeFault::Far | ServeFault::Bind | ServeFault::Listen(_) => Status::Failed,
         }
     }
 
@@ -81,6 +98,8 @@ impl ServeFault {
         ensures { result.items ≡ serve_text self ++ 10 ∷ [] }
     {
         match self {
+            ServeFault::Address => line_of_text(b"error: --far takes an IP address and a port"),
+            ServeFault::Far => line_of_text(b"far server can't be reached"),
             ServeFault::Setup(failure) => failure.line(),
             ServeFault::Bind => line_of(ListenFault::Net),
             ServeFault::Listen(fault) => line_of(fault),
@@ -109,17 +128,20 @@ fn bind<R: Net<Listener = TcpListener, Stream = TcpStream>>(
     TcpListener::bind(rt, SocketAddr::from((Ipv4Addr::LOCALHOST, port)))
 }
 
-/// Does the commands of the reader, and then those of clients, until all connections have ended.
-fn serve_over<R, I: Read, W: Write>(
+/// Does the commands of the reader, and then those of clients, until all connections have ended. Objects that leave then go to
+/// this store.
+fn serve_over<F: FarStore + Drop + Send + Sync, R, I: Read, W: Write>(
     rt: &R,
     alloc: Global,
     serving: Serving,
+    store: F,
     reader: &mut I,
     writer: &mut W,
 ) -> Result<(), ServeFault>
 where
+    F::Parcel: Send,
     R: Net<Listener = TcpListener, Stream = TcpStream> + Threads + Wait + Sync,
-    ensures { IfSome (I.remaining reader.old) (λ input. ServeLeaves serving.budget input (W.contents writer.old) (W.contents writer.new) (I.remaining reader.new) result) }
+    ensures { IfSome (I.remaining reader.old) (λ input. ServesOver F F.RETURNS serving.budget input (W.contents writer.old) (W.contents writer.new) (I.remaining reader.new) result) }
 {
     let world: World<OwnStore> = match do_commands(alloc, serving.budget, reader, writer) {
         Ok(world) => world,
@@ -128,40 +150,79 @@ where
     let Ok(listener) = bind(rt, serving.port) else {
         return Err(ServeFault::Bind);
     };
-    let outcome = listen(
-        rt,
-        alloc,
-        listener,
-        writer,
-        world,
-        serving.connections as usize,
-        serving.workers as usize,
-        serving.sweep,
-    );
-    match outcome {
+    let plan = Plan {
+        connections: serving.connections as usize,
+        workers: serving.workers as usize,
+        sweep: serving.sweep,
+    };
+    match listen_over(rt, alloc, listener, writer, world, store, plan) {
         Ok(()) => Ok(()),
         Err(fault) => Err(ServeFault::Listen(fault)),
     }
 }
 
-/// Does the commands of the reader to its end, as [`run`](crate::run) does, and writes their replies. Then listens on the
-/// port of 127.0.0.1, or on any free one where it is 0, says which on the writer, and shares the objects and machines that
-/// there are with as many connections as are asked for. Gives the exit status when all have ended.
+/// The far store at a server, of which this is the address.
+fn connect<R: Net<Listener = TcpListener, Stream = TcpStream>>(
+    rt: &R,
+    alloc: Global,
+    far: &str,
+) -> Result<StreamStore<TcpStream>, ServeFault>
+    ensures ok { OnOk result (IsAddress far.now) }
+    ensures err { IfErr result (Unconnected far.now) }
+{
+    let Ok(address) = far.parse::<SocketAddr>() else {
+        return Err(ServeFault::Address);
+    };
+    let Ok(stream) = TcpStream::connect(rt, address) else {
+        return Err(ServeFault::Far);
+    };
+    let _ = stream.set_nodelay(true);
+    Ok(StreamStore::new(alloc, stream))
+}
+
+/// Serves over the far server of this address, or over a store of this process where there is none.
+fn serve_at<R, I: Read, W: Write>(
+    rt: &R,
+    alloc: Global,
+    serving: Serving,
+    far: Option<&str>,
+    reader: &mut I,
+    writer: &mut W,
+) -> Result<(), ServeFault>
+where
+    R: Net<Listener = TcpListener, Stream = TcpStream> + Threads + Wait + Sync,
+    ensures { IfSome (I.remaining reader.old) (λ input. ServeLeaves serving.budget (option_map (λ text. text.now) far.entry) input (W.contents writer.old) (W.contents writer.new) (I.remaining reader.new) result) }
+{
+    let Some(address) = far else {
+        return serve_over(rt, alloc, serving, OwnStore::new(alloc), reader, writer);
+    };
+    match connect(rt, alloc, address) {
+        Ok(store) => serve_over(rt, alloc, serving, store, reader, writer),
+        Err(fault) => Err(fault),
+    }
+}
+
+/// Connects to the far server of this address, `HOST:PORT`, if one is given: objects that leave go there, and stay in this
+/// process without one. Then does the commands of the reader to its end, as [`run`](crate::run) does, and writes their replies.
+/// Then listens on the port of 127.0.0.1, or on any free one where it is 0, says which on the writer, and shares the objects and
+/// machines that there are with as many connections as are asked for. Gives the exit status when all have ended.
 ///
-/// What went wrong is told on `errors`: the first of a reader or a writer that failed in the input's commands, a port that
-/// can't be had, an object that isn't here, and then whatever came first.
+/// What went wrong is told on `errors`: an address that isn't an IP address and a port, a far server that can't be reached, the
+/// first of a reader or a writer that failed in the input's commands, a port that can't be had, an object that isn't here, and
+/// then whatever came first. Without its far server nothing is read.
 pub fn serve<R, I: Read, W: Write, E: Write>(
     rt: &R,
     alloc: Global,
     serving: Serving,
+    far: Option<&str>,
     reader: &mut I,
     writer: &mut W,
     errors: &mut E,
 ) -> u8
 where
     R: Net<Listener = TcpListener, Stream = TcpStream> + Threads + Wait + Sync,
-    ensures { IfSome (I.remaining reader.old) (λ input. ReportsServe (ServeLeaves serving.budget input (W.contents writer.old) (W.contents writer.new) (I.remaining reader.new)) (E.contents errors.old) (E.contents errors.new) result) }
+    ensures { IfSome (I.remaining reader.old) (λ input. ReportsServe (ServeLeaves serving.budget (option_map (λ text. text.now) far.entry) input (W.contents writer.old) (W.contents writer.new) (I.remaining reader.new)) (E.contents errors.old) (E.contents errors.new) result) }
 {
-    let outcome = serve_over(rt, alloc, serving, reader, writer);
+    let outcome = serve_at(rt, alloc, serving, far, reader, writer);
     report_service(outcome, errors)
 }

@@ -22,9 +22,17 @@ const ALL: Serving = Serving {
     sweep: true,
 };
 
+/// `serve` alone, with this far server.
+fn plain(far: Option<&str>) -> Server<'_> {
+    Server::Serve {
+        serving: PLAIN,
+        far,
+    }
+}
+
 #[test]
 fn the_server_that_is_asked_for(rt: HostRuntime) -> Result<(), Fail> {
-    let cases: [(&[&str], Option<Server>); 12] = [
+    let cases: [(&[&str], Option<Server>); 15] = [
         (&["store"], Some(Server::Store { port: 0 })),
         (
             &["store", "--port", "7070"],
@@ -36,7 +44,12 @@ fn the_server_that_is_asked_for(rt: HostRuntime) -> Result<(), Fail> {
         ),
         (&["store", "--port=65536"], None),
         (&["store", "--help"], None),
-        (&["serve"], Some(Server::Serve(PLAIN))),
+        (&["serve"], Some(plain(None))),
+        (
+            &["serve", "--far", "127.0.0.1:7070"],
+            Some(plain(Some("127.0.0.1:7070"))),
+        ),
+        (&["serve", "--far=x"], Some(plain(Some("x")))),
         (
             &[
                 "serve",
@@ -46,11 +59,16 @@ fn the_server_that_is_asked_for(rt: HostRuntime) -> Result<(), Fail> {
                 "8",
                 "--budget",
                 "0",
+                "--far=[::1]:7070",
                 "--port=7070",
             ],
-            Some(Server::Serve(ALL)),
+            Some(Server::Serve {
+                serving: ALL,
+                far: Some("[::1]:7070"),
+            }),
         ),
         (&["serve", "--connections", "9"], None),
+        (&["serve", "--far"], None),
         (&["serve", "--help"], None),
         (&["run"], None),
         (&["check", "--port", "1"], None),

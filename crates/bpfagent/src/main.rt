@@ -26,10 +26,11 @@ fn main(rt: HostRuntime) -> ExitCode {
             &mut rt.stdout(),
             &mut errors,
         ),
-        Ok(Some(Server::Serve(serving))) => serve(
+        Ok(Some(Server::Serve { serving, far })) => serve(
             &rt,
             rt.alloc(),
             serving,
+            far,
             &mut rt.stdin(),
             &mut rt.stdout(),
             &mut errors,

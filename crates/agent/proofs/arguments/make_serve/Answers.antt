@@ -2,7 +2,7 @@ use Rattle.std.proofs.Common.{◌≡◌, ◌∙◌, ◌||◌, ap, ap₂, refl, c
 use Rattle.std.proofs.lemmas.Result.{IfOk-weaker}
 use Rattle.clap.specs.Words.{app_of, new_app, with_rule}
 use Rattle.clap.specs.Simple.{app_of_fields}
-use Rattle.agent.specs.CommandLine.{budget_rule, connections_rule, flag_rule, port_rule, workers_rule}
+use Rattle.agent.specs.CommandLine.{budget_rule, connections_rule, far_rule, flag_rule, port_rule, workers_rule}
 use Rattle.agent.proofs.Globals.{local_of, not_global}
 use Rattle.agent.proofs.arguments.make_serve.Goals as goal
 
@@ -23,4 +23,7 @@ returns c =
     let with_budget = c.in_ok-arg-4.ensures.shape budget_local ∙ ap₂ with_rule with_workers c.make_budget.ensures in
     let local_budget = c.in_ok-arg-4.ensures.globals ∙ ap₂ (λ a b. a || b) local_workers budget_local in
     let sweep_local = not_global c.make_flag-sweep.result (flag_rule (codes "sweep")) refl c.make_flag-sweep.ensures in
-    IfOk-weaker c.arg-5.result _ _ (λ r adds. (adds.shape sweep_local ∙ ap₂ with_rule with_budget c.make_flag-sweep.ensures, adds.globals ∙ ap₂ (λ a b. a || b) local_budget sweep_local)) c.arg-5.ensures
+    let with_sweep = c.in_ok-arg-5.ensures.shape sweep_local ∙ ap₂ with_rule with_budget c.make_flag-sweep.ensures in
+    let local_sweep = c.in_ok-arg-5.ensures.globals ∙ ap₂ (λ a b. a || b) local_budget sweep_local in
+    let far_local = not_global c.make_far.result far_rule refl c.make_far.ensures in
+    IfOk-weaker c.arg-6.result _ _ (λ r adds. (adds.shape far_local ∙ ap₂ with_rule with_sweep c.make_far.ensures, adds.globals ∙ ap₂ (λ a b. a || b) local_sweep far_local)) c.arg-6.ensures

@@ -6,6 +6,9 @@ pub returns : goal.returns
 unfolding clap_on_literals
 returns c = record {
   all = (refl, refl);
+  far = (refl, refl, refl);
+  no_far = refl;
+  missing = λ e. cc;
   no_connection = λ e. cc;
   nine_connections = λ e. cc;
   too_many_workers = λ e. cc;

@@ -1,11 +1,14 @@
-use Rattle.std.proofs.Common.{◌≡◌, [], IsSome, subst, ◌∙◌, ap, ap₂, refl, sym, true, false, is_some, map, Option, None, Some, option_map}
+use Rattle.std.proofs.Common.{◌≡◌, [], IsSome, subst, ◌∙◌, ap, ap₂, refl, sym, true, false, is_some, map, List, Option, None, Some, option_map, codes}
 use Rattle.std.specs.Prelude.{option_and_then}
 use Rattle.std.proofs.lemmas.Result.{err_from_is_err_and}
 use Rattle.clap.specs.Words.{App, app_of, fault_of, is_simple, is_simple_and_free, subcommand_of}
+use Rattle.clap.specs.Walk.{Row, Text, first_of}
+use Rattle.clap.specs.Words.{found_of}
 use Rattle.clap.proofs.OnLiterals.{clap_on_literals}
+use Rattle.clap.proofs.WalkLemmas.{first_value-rows}
 use Rattle.agent.specs.CommandLine.{command_line, faults_of, task_named}
 use Rattle.agent.proofs.Subcommands.{IsEntered, right_enters}
-use Rattle.agent.proofs.arguments.read_arguments.Goals as goal
+use Rattle.agent.proofs.arguments.read_asked.Goals as goal
 
 module _ {X A B : Type 0} (f : X → A) (g : X → B) where
   firsts : (o : Option X) → option_map f o ≡ option_map (λ (p : A × B). p.0) (option_map (λ x. (f x, g x)) o)
@@ -73,6 +76,16 @@ returns-clause-ok g c =
     let seen = joined _ _ _ _ (c.subcommand.ensures.name ∙ firsts _ _ _) c.subcommand.ensures.rows ∙ met in
     let pair = rw c.in-Some.is at seen in
     (right, ap (option_and_then (λ p. task_named p.0 p.1)) (sym pair) ∙ sym c.task_called.ensures ∙ c.in-Some-task_called.is)
+
+pub returns-clause-far : goal.returns-clause-far
+returns-clause-far g c =
+    let words = map g.S.AsStr.text c.args.arguments.now in
+    let line_is = c.in_ok-make_command.ensures in
+    let parsed = c.in_ok-matches.ensures in
+    let met = (parsed.matches (ap is_simple line_is ∙ simple)).1 ∙ ap (λ (a : App). subcommand_of a words) line_is in
+    let seen = joined _ _ _ _ (c.subcommand.ensures.name ∙ firsts _ _ _) c.subcommand.ensures.rows ∙ met in
+    let pair = rw c.in-Some.is at seen in
+    c.get_str.ensures ∙ first_value-rows (found_of c.in-Some.inner.now) (codes "far") ∙ ap (λ (o : Option (Text × List Row)). option_and_then (λ p. first_of (codes "far") p.1) o) pair
 
 pub returns-in_err-matches-clause-err : goal.returns-in_err-matches-clause-err
 returns-in_err-matches-clause-err g c =
