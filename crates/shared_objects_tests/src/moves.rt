@@ -24,6 +24,27 @@ fn an_object_that_is_out_is_away(rt: HostRuntime) -> Result<(), Fail> {
     Ok(())
 }
 
+/// Two objects are on their way at once, and go far in the other order.
+#[test]
+fn two_objects_leave_at_once(rt: HostRuntime) -> Result<(), Fail> {
+    let mut stage: Stage<OwnStore> = Stage::open(rt.alloc(), 3, 1)?;
+    assert_eq!(rt; stage.touch(0, 3, &LOAD), Reach::Done(0));
+    assert!(rt; matches!(stage.begin_leave(1), Leave::Taken(_)));
+    assert!(rt; matches!(stage.begin_leave(2), Leave::Taken(_)));
+    assert!(rt; matches!(stage.begin_leave(3), Leave::Held));
+    assert!(rt; stage.end_leave(2));
+    assert!(rt; stage.end_leave(1));
+    assert_eq!(rt; stage.touch(0, 1, &LOAD), Reach::Away);
+    assert_eq!(rt; stage.touch(0, 2, &LOAD), Reach::Away);
+    let ended = stage.close()?;
+    let out: Vec<bool> = ended
+        .iter()
+        .map(|one| matches!(one, Ended::Out))
+        .collect(rt.alloc())?;
+    assert_eq!(rt; out.as_slice(), [false, true, true, false].as_slice());
+    Ok(())
+}
+
 #[test]
 fn bytes_of_another_length_are_handed_back(rt: HostRuntime) -> Result<(), Fail> {
     let mut stage: Stage<Careless> = Stage::open(rt.alloc(), 1, 1)?;
