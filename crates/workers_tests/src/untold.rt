@@ -64,6 +64,27 @@ fn is_found_within<F: FarStore, K: Mark, R: Wait>(
     false
 }
 
+/// Whether the machine is found within a turn of a worker on a thread of its own, which then ends.
+fn is_found_beside<'x, F, K, R>(
+    rt: &'x R,
+    alloc: Global,
+    gate: &'x Untold,
+    pool: &'x Pool<F, K>,
+) -> bool
+where
+    F: FarStore + Send + Sync,
+    K: Mark + Send + Sync,
+    R: Threads + Wait + Sync,
+    F::Parcel: Send,
+{
+    thread::scope(thread::scope_env(), rt, |scope| {
+        let made = scope.spawn(move || work(rt, gate, pool, 0)).is_ok();
+        let found = is_found_within(rt, alloc, pool);
+        gate.ends.store(true, Ordering::SeqCst);
+        made && found
+    })
+}
+
 fn run<F: FarStore + Drop + Send + Sync, K: Mark + Send + Sync, R: Threads + Wait + Sync>(
     rt: &R,
     alloc: Global,
@@ -80,13 +101,7 @@ where
     requires room { length machines.items ≤ length seats.items }
 {
     let pool: Pool<F, K> = Pool::new(rt, alloc, shared, seats, machines)?;
-    let pool = &pool;
-    Ok(thread::scope(thread::scope_env(), rt, |scope| {
-        let made = scope.spawn(move || work(rt, gate, pool, 0)).is_ok();
-        let found = is_found_within(rt, alloc, pool);
-        gate.ends.store(true, Ordering::SeqCst);
-        made && found
-    }))
+    Ok(is_found_beside(rt, alloc, gate, &pool))
 }
 
 #[test]
