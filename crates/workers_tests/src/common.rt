@@ -88,12 +88,14 @@ pub fn waits_for(flag: &AtomicBool) -> bool {
     false
 }
 
-/// Holds the first instruction of machine 1 until machine 2 has answered one, and the first worker until there are two.
+/// Holds the first instruction of machine 1 until another thread has looked at that machine and machine 2 has answered one, and
+/// the first worker until there are two.
 #[derive(Drop)]
 pub struct Holds {
     pub asked: AtomicU64,
     pub both: AtomicBool,
     pub first: AtomicBool,
+    pub looked: AtomicBool,
     pub other: AtomicBool,
     pub met: AtomicBool,
     pub ends: AtomicBool,
@@ -105,6 +107,7 @@ impl Holds {
             asked: AtomicU64::new(0),
             both: AtomicBool::new(false),
             first: AtomicBool::new(false),
+            looked: AtomicBool::new(false),
             other: AtomicBool::new(false),
             met: AtomicBool::new(false),
             ends: AtomicBool::new(false),
@@ -115,7 +118,8 @@ impl Holds {
 impl Gate for Holds {
     fn before(&self, _worker: usize, machine: usize) {
         if machine == 1 && !self.first.swap(true, Ordering::SeqCst) {
-            self.met.store(waits_for(&self.other), Ordering::SeqCst);
+            let met = waits_for(&self.looked) && waits_for(&self.other);
+            self.met.store(met, Ordering::SeqCst);
         }
     }
 

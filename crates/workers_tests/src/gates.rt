@@ -8,6 +8,7 @@ ghost use Rattle.workers.specs.Pools.{machines_of};
 
 use crate::common::{
     ADD, Crowd, EXIT, Holds, JUMP, LOAD, LOOKS, OBJECT, code, goes, machine, objects, rest,
+    waits_for,
 };
 use debugger::{Debuggee, Start, StepReply, Way};
 use far_store::{FarStore, OwnStore};
@@ -44,6 +45,13 @@ fn waits_for_ends<F: FarStore, K: Mark, R: Wait>(rt: &R, pool: &Pool<F, K>, look
     false
 }
 
+/// Looks at machine 1 when a worker is held at its first instruction.
+fn look<F: FarStore, K: Mark, R: Wait>(rt: &R, gate: &Holds, pool: &Pool<F, K>) {
+    waits_for(&gate.first);
+    goes(rt, pool, 1);
+    gate.looked.store(true, Ordering::SeqCst);
+}
+
 /// Two workers on threads of their own, until both machines came to their ends.
 fn run_two<F: FarStore + Send + Sync, K: Mark + Send + Sync, R: Threads + Wait + Sync>(
     rt: &R,
@@ -60,6 +68,7 @@ where
                 made = made.wrapping_add(1);
             }
         }
+        look(rt, gate, pool);
         let ended = waits_for_ends(rt, pool, LOOKS);
         gate.ends.store(true, Ordering::SeqCst);
         (made, ended)
