@@ -4,7 +4,7 @@
 No proof shows that a function answers them only after a call that failed. So each place of the program's crates that
 writes one of these words is listed, with the text of its arm or statement and with what guards it, and so is each place
 that asks for room, with how much it asks for. A new one, or one that changed, fails this test until someone has looked at
-it. Nothing may lose a value without dropping it. With --write the script writes the list: a place that is new there has `?` for a reason, which the test refuses.
+it. Nothing may lose a value without dropping it, and nothing flushes a stream. With --write the script writes the list: a place that is new there has `?` for a reason, which the test refuses.
 """
 import re
 import sys
@@ -100,11 +100,15 @@ def outside(name, code, text):
 LEAKS = re.compile(r"\bmem::forget\b|\b(?:ManuallyDrop|into_raw\w*|from_raw\w*)\b|[.:]leak\b")
 
 
-def leaks():
-    """Where a value may be lost without being dropped: nowhere."""
+# A flush: no clause refuses one, and no count of the system's calls shows it, since std's standard output does nothing then.
+FLUSHES = re.compile(r"[.:]flush\b")
+
+
+def found_in_code(pattern):
+    """Where the program's code has this: of LEAKS and FLUSHES, nowhere."""
     for crate in crates_below("bpfagent"):
         for path in sources_of(crate):
-            for found in LEAKS.finditer(blanked(path.read_text())):
+            for found in pattern.finditer(blanked(path.read_text())):
                 yield path.relative_to(ROOT), found[0]
 
 
@@ -165,8 +169,11 @@ def main():
         if len(reason.strip("? .")) < 5:
             print(f"tests/failures.txt: no reason is given for {place[1]} of {place[0]}: {place[2]}")
             wrong += 1
-    for path, word in leaks():
+    for path, word in found_in_code(LEAKS):
         print(f"{path}: {word} may lose a value without dropping it")
+        wrong += 1
+    for path, word in found_in_code(FLUSHES):
+        print(f"{path}: {word} flushes, and a line is written by its writes alone")
         wrong += 1
     if wrong:
         sys.exit("look at these places: does each answer follow a call that failed, and is the room bounded? tests/failures.py --write lists them; the reasons are yours to write")

@@ -38,7 +38,9 @@ EDITS = [
     ("out of memory in a macro", "failures.py", "crates/streams/src/reading.rt", r"\n(?=\n/// )", "\nmacro_rules! gone { () => { Failure::NoMemory } }\n"),
     ("a read fault after so many reads", "failures.py", "crates/console/src/conversation.rt", r"0\.\.u64::MAX", "0..1_300_000"),
     ("a value that is lost", "failures.py", "crates/loader/src/loading.rt", r"\n(?=\nimpl |\npub struct )", "\nfn lose(x: Vec<u8>) { std::mem::forget(x); }\n"),
+    ("a flush after each line", "failures.py", "crates/streams/src/writing.rt", r"(Ok\(n\) => rest = &rest\[n\.\.\],)", r"Ok(n) => { rest = &rest[n..]; let _ = writer.flush(); }"),
     ("room for 1 GiB", "failures.py", "crates/console/src/console.rt", r"with_capacity\(alloc, LINE_LIMIT \+ 1\)", "with_capacity(alloc, 1 << 30)"),
+    ("a line that grows from nothing", "failures.py", "crates/console/src/console.rt", r"Vec::with_capacity\(alloc, LINE_LIMIT \+ 1\)\?", "Vec::new(alloc)"),
     ("room for 2^20 entries", "failures.py", "crates/loader/src/loading.rt", r"with_capacity\(alloc, bytes\.len\(\) / 8\)", "with_capacity(alloc, 1 << 20)"),
 ]
 
