@@ -1,8 +1,8 @@
 #!/usr/bin/env python3
 """Checks that documents are true of the repository as far as a script can see it: each link leads to a file and a heading,
-each file and crate that is named is there, each line of Rust that is quoted, or that a script in Python prints, stands in the
-file that is named before it; the picture of the crates has each crate, with what it stands on by crates.txt, and the table of how
-many files name a variant is right. With --write the script draws and counts."""
+each file, each target of make and each option of a script that is named is there, each line of Rust that is quoted, or that a
+script in Python prints, stands in the file that is named before it; the picture of the crates has each crate, with what it
+stands on by crates.txt, and the table of how many files name a variant is right. With --write the script draws and counts."""
 import re
 import subprocess
 import sys
@@ -14,6 +14,10 @@ PICTURE = "docs/ARCHITECTURE.md"
 DRAWN = re.compile(r"(?ms)(^```mermaid\n).*?(?=^```)")
 COUNTED = re.compile(r"(?m)^(\| [^|]*: `(\w+)` \|) \d+ \| \d+ \| \d+ \| \d+ \|$")
 FOR_TESTS = re.compile(r"_tests$|^test_devices$|^conversations$|^bench_\w+$|^refused_\w+$")
+# A command of a page: of make, with its folder and its target, or of a script in Python, with its options.
+MAKE = re.compile(r"(?:`|^|&& )make (?:-C ([\w/]+) ?)?([a-z]*)(?=`| +#|$)", re.M)
+SCRIPT = re.compile(r"python3 (?:-B )?([\w/]+\.py)((?: --[a-z]+(?=[ `\n]))*)")
+TARGET = re.compile(r"(?m)^([a-z]+)(?: [a-z]+)*:(?!=)")
 PATH = re.compile(r"`((?:crates|tests|docs|examples|bench)/[\w./-]+)`")
 
 
@@ -41,6 +45,20 @@ def wrong_paths(text):
             continue
         if not (ROOT / named.rstrip("/")).exists():
             yield f"names {named}, which isn't there"
+
+
+def wrong_commands(text):
+    """The targets of make, the scripts and their options that aren't there."""
+    for folder, target in MAKE.findall(text):
+        path = ROOT / folder / "Makefile"
+        if not path.is_file() or target and target not in TARGET.findall(path.read_text()):
+            yield f"names make {target}{f' in {folder}' if folder else ''}, which isn't there"
+    for script, options in SCRIPT.findall(text):
+        path = ROOT / script
+        said = path.read_text() if path.is_file() else ""
+        for word in [script, *options.split()]:
+            if not said or word.startswith("--") and word not in said:
+                yield f"has a command of {script} with {word}, which isn't there"
 
 
 def missing_lines(before, lines):
@@ -117,13 +135,13 @@ def main():
     wrong = list(wrong_picture(sys.argv[1:] == ["--write"]))
     for page in pages():
         text = page.read_text()
-        said = [*wrong_links(page, text), *wrong_paths(text), *wrong_quotes(text), *wrong_scripts(text)]
+        said = [*wrong_links(page, text), *wrong_paths(text), *wrong_commands(text), *wrong_quotes(text), *wrong_scripts(text)]
         wrong += [f"{page.relative_to(ROOT)} {what}" for what in said]
     for said in wrong:
         print(said)
     if wrong:
         sys.exit(1)
-    print(f"links, files, quotes, scripts, the picture of the crates and the counts of files in {len(pages())} documents are right")
+    print(f"links, files, commands, quotes, scripts, the picture of the crates and the counts of files in {len(pages())} documents are right")
 
 
 if __name__ == "__main__":
