@@ -128,6 +128,32 @@ def passes_gate(last, status, variables):
         return subprocess.run(["bash", copy / ".ci/run"], cwd=copy, env=env, capture_output=True).returncode == 0
 
 
+def shows(copy):
+    """Whether `make run` shows the conversation of the copy, whose rt builds nothing."""
+    env = {name: value for name, value in os.environ.items() if not name.startswith(("MAKE", "MFLAGS", "GNUMAKE"))}
+    return subprocess.run(["make", "run", f"RT={copy / 'bin/rt'}"], cwd=copy, env=env, capture_output=True).returncode == 0
+
+
+def stale_programs():
+    """What is wrong where `make run` shows a program that was built of other sources, whatever their times."""
+    with tempfile.TemporaryDirectory() as folder:
+        copy = copied(folder, "examples", "docs", "bench")
+        crate = copy / "crates/bpfagent"
+        for path, text in ((copy / "bin/rt", '[ "$1" = version ]'), (crate / "out/bpfagent", f"cat '{crate / 'stdout'}'")):
+            path.parent.mkdir()
+            path.write_text(f"#!/bin/sh\n{text}\n")
+            path.chmod(0o755)
+        subprocess.run([sys.executable, copy / "tests/build.py", copy / "bin/rt", "stamp"], cwd=copy, check=True)
+        if not shows(copy):
+            yield "make run doesn't show the program that was built"
+        source = copy / "crates/isa_table/src/instr.rt"
+        times = source.stat()
+        source.write_text(source.read_text() + "// edited\n")
+        os.utime(source, ns=(times.st_atime_ns, times.st_mtime_ns))
+        if shows(copy):
+            yield "a stale program, after an edit with an old time: make run shows it"
+
+
 def main():
     with tempfile.TemporaryDirectory() as folder:
         copy = copied(folder)
@@ -140,12 +166,12 @@ def main():
         wrong += [f"{name}: .ci/run passes it" for name, is_passed in pool.map(lambda end: (end[0], passes_gate(*end[1:])), ENDS) if is_passed]
     if not passes_gate("99999 passed, 0 failed", 0, {}):
         wrong.append(".ci/run refuses a gate that passes")
-    wrong = [said for said in wrong if said]
+    wrong = [said for said in [*wrong, *stale_programs()] if said]
     for said in wrong:
         print(said)
     if wrong:
         sys.exit(1)
-    print(f"{len(EDITS) + len(CHANGES) + len(ENDS)} bugs of the gate were planted, and each was refused")
+    print(f"{len(EDITS) + len(CHANGES) + len(ENDS) + 1} bugs of the gate were planted, and each was refused")
 
 
 if __name__ == "__main__":
