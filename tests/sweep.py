@@ -97,10 +97,10 @@ def ship_counts(counts):
 
 def ship_bytes(lengths):
     """Code whose last slot isn't whole, and code that is too long."""
-    for n in lengths:
-        code = (EXIT * (n // 8 + 1))[:n]
-        why = f"refused {n // 8} Short" if n <= 8 * SLOTS else "refused 0 TooLong"
-        want_replies([f"ship 1 0 0 0 0 0 {code.hex()}"], [why], f"ship of {n} bytes")
+    longest = (EXIT * (SLOTS + 2)).hex()
+    lines = [f"ship 1 0 0 0 0 0 {longest[: 2 * n]}" for n in lengths]
+    wanted = [f"refused {n // 8} Short" if n <= 8 * SLOTS else "refused 0 TooLong" for n in lengths]
+    want_replies(lines, wanted, f"ship of {lengths[0]} to {lengths[-1]} bytes")
 
 
 # ---- assembly
@@ -308,7 +308,7 @@ def tasks():
     powers = sorted({n for power in range(3, 20) for n in near(power)} | set(range(1000, TEXT_LIMIT, 9973)))
     lines = sorted(set(range(1, 1200)) | {n for power in range(10, 21) for n in near(power) if n <= TEXT_LIMIT})
     yield "check", [(check_counts, part) for part in split(counts, 16)] + [(check_refusals, part) for part in split(list(range(SLOTS)), 16)]
-    yield "ship", [(ship_counts, counts[k : k + 48]) for k in range(0, SLOTS, 48)] + [(ship_bytes, part) for part in split([n for n in range(1, 8 * SLOTS + 16) if n % 8 and (n < 300 or n % 509 < 3 or n > 8 * SLOTS - 16)], 8)]
+    yield "ship", [(ship_counts, counts[k : k + 48]) for k in range(0, SLOTS, 48)] + [(ship_bytes, part) for part in split([n for n in range(1, 8 * SLOTS + 16) if n % 8 or n > 8 * SLOTS], 256)]
     yield "asm", [(asm_lines, part) for part in split(lines, 8)] + [(asm_counts, part) for part in split(counts[::3] + counts[-8:], 8)] + [(asm_texts, part) for part in split([n for n in powers if 16 <= n <= TEXT_LIMIT], 8)]
     yield "labels", [(asm_labels, part) for part in split(list(range(1, 700)) + [n for power in range(10, 19) for n in near(power)], 8)] + [(asm_offsets, [power]) for power in range(32)]
     yield "commands", [(put_and_get, part) for part in split(counts, 8)] + [(stack_reads, part) for part in split(counts, 4)] + [(makes, first, 64) for first in range(1, 65)] + [(high_numbers, part) for part in split(list(range(1, 1000, 37)) + list(range(1000, 1025)), 2)] + [(every_line,), (all_stacks,)]
