@@ -104,7 +104,7 @@ place_before move.Returned = place.Far
 
 -- ---- machines
 
--- a machine at the start of the code, of the next number; code that is empty or too long takes no memory
+-- A machine at the start of the code, of the next number. That memory ran out may also be answered of code that isn't valid, in place of the refusal: room is taken before the code is read. Code that is empty or too long takes none.
 abbrev pub AnswersShip : List Debuggee → Start → List ℕ → Reply → List Debuggee → Type 0
 AnswersShip old start code Full new = AreAllShipped old × (new ≡ old)
 AnswersShip old start code (Refused e) new = (AreAllShipped old → ⊥) × Refuses code e.slot e.why × (e.why ≢ why.Memory) × (new ≡ old)
