@@ -1,0 +1,71 @@
+#!/usr/bin/env python3
+"""Calls make as the pages do: targets.py RT
+
+Once the program is proved, `make program` has nothing to do, and `make run` shows the first conversation. `make try` builds
+the program without a proof, and it holds the conversation of README. `make -C examples/c check` compares what is stored with
+what the compilers make, where they are there.
+"""
+import os
+import shutil
+import subprocess
+import sys
+
+from parts import Failed, want
+from program import has_clang, talk_to
+from scripts import conversations
+from sources import ROOT
+
+SECONDS = 900
+FIRST = ROOT / "crates/bpfagent"
+UNPROVED = ROOT / "out/bpfagent-unproved"
+
+
+def make(*arguments):
+    """What make writes on both its streams, called as by a user, and not by another make."""
+    env = {name: value for name, value in os.environ.items() if not name.startswith(("MAKE", "MFLAGS", "GNUMAKE"))}
+    done = subprocess.run(["make", "--no-print-directory", *arguments], cwd=ROOT, env=env, stdin=subprocess.DEVNULL, capture_output=True, text=True, timeout=SECONDS)
+    want(done.returncode == 0, f"make {' '.join(arguments)} ended with {done.returncode}: {(done.stdout + done.stderr)[-2000:]}")
+    return done.stdout, done.stderr
+
+
+def show_program(rt):
+    """The gate has proved it, so there is nothing to do, and nothing is said."""
+    found = make(rt, "program")
+    want(found == ("", ""), f"make program says {found}")
+
+
+def show_run(rt):
+    """Each command beside its reply, by the proved program, of which nothing is said."""
+    talk = zip(*((FIRST / name).read_text().splitlines() for name in ("stdin", "stdout")))
+    found = make(rt, "run")
+    want(found == ("".join(f"{command}\n> {reply}\n" for command, reply in talk), ""), f"make run shows {found}")
+
+
+def show_try(rt):
+    """The program that isn't proved, which make says, holds the first conversation of README."""
+    output, errors = make(rt, "try")
+    want("is not proved" in output + errors, f"make try says {output}{errors}")
+    arguments, talk = conversations((ROOT / "crates/conversations/data/protocol.script").read_text())[0]
+    talk_to(str(UNPROVED), arguments, talk)
+
+
+def show_c(rt):
+    """What clang 14 and gcc make of the programs in C."""
+    if has_clang() and shutil.which("llvm-objcopy") and shutil.which("gcc"):
+        make("-C", "examples/c", "check")
+    else:
+        print("targets: skipped what is made of programs in C, since clang 14, llvm-objcopy or gcc isn't there")
+
+
+def main():
+    parts = [show_program, show_run, show_try, show_c]
+    for part in parts:
+        try:
+            part(f"RT={sys.argv[1]}")
+        except (Failed, OSError, subprocess.TimeoutExpired) as wrong:
+            sys.exit(f"{part.__name__}: {wrong}")
+    print(f"targets: {len(parts)} targets of make that pages name did as they should")
+
+
+if __name__ == "__main__":
+    main()
