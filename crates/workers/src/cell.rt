@@ -7,6 +7,7 @@ ghost use Rattle.workers.specs.Cells.{IsSeatOf, IsTableOf, seat_state, opened_as
 
 use crate::mark::Mark;
 use crate::running::Running;
+use crossbeam_utils::CachePadded;
 use debugger::{DebugCommand, Debugged, Debuggee, ShowCommand, ShowReply, Start, StepReply, Way};
 use loader::Program;
 use shared_objects::{ActorSeat, SharedTable};
@@ -16,10 +17,10 @@ use std::sync::atomic::{AtomicU64, Ordering};
 use std::sync::{Mutex, MutexGuard, Wait};
 
 /// A machine, or none, with its seat, under a lock. Whoever keeps the lock for more than one instruction can see whether another
-/// wants it.
+/// wants it. Neighbouring cells share no cache line.
 #[derive(Drop)]
 pub struct MachineCell<K: Mark> {
-    locked: Mutex<Locked<K>>,
+    locked: CachePadded<Mutex<Locked<K>>>,
     // how many want the lock and haven't got it yet
     wanting: AtomicU64,
 }
@@ -28,7 +29,7 @@ impl<K: Mark> MachineCell<K> {
     /// What the lock is to lend, which nobody wants yet.
     pub fn new(locked: Locked<K>) -> Self {
         MachineCell {
-            locked: Mutex::new(locked),
+            locked: CachePadded::new(Mutex::new(locked)),
             wanting: AtomicU64::new(0),
         }
     }
@@ -50,7 +51,7 @@ impl<K: Mark> MachineCell<K> {
     /// What the lock lent, which nobody has any more.
     pub(crate) fn into_inner(self) -> Locked<K> {
         let MachineCell { locked, wanting: _ } = self;
-        locked.into_inner()
+        locked.into_inner().into_inner()
     }
 }
 

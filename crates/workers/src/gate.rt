@@ -13,6 +13,6 @@ pub trait Gate {
     /// The instruction was done, or the machine waited, paused or was stopped.
     fn after(&self, worker: usize, machine: usize);
 
-    /// Whether workers and mover go on.
+    /// Whether workers and mover go on. One that isn't told of instructions may be asked while a cell's lock is held.
     fn go_on(&self) -> bool;
 }

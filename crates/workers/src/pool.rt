@@ -18,8 +18,8 @@ use debugger::{Debuggee, StepReply, Way};
 use far_store::FarStore;
 use shared_objects::{ActorSeat, Shared, SharedTable};
 use std::alloc::{AllocError, Global};
-use std::sync::Wait;
 use std::sync::atomic::{AtomicU64, Ordering};
+use std::sync::{MutexGuard, Wait};
 use std::time::Duration;
 use std::vec::IntoIter;
 
@@ -270,40 +270,87 @@ impl<F: FarStore, K: Mark> Pool<F, K> {
         true
     }
 
-    /// The same with no gate to be told. The lock is kept until another wants it, who then waits for one instruction.
-    fn run_untold<R: Wait>(&self, rt: &R, cell: &MachineCell<K>) -> bool {
-        let mut locked = cell.lock(rt);
+    /// The same with no gate to be told, with the lock of the cell, which comes back. It is kept until another wants it, who then
+    /// waits for one instruction.
+    fn run_untold<'a, R: Wait>(
+        &self,
+        rt: &R,
+        cell: &'a MachineCell<K>,
+        held: MutexGuard<'a, Locked<K>>,
+    ) -> (MutexGuard<'a, Locked<K>>, bool) {
+        let mut locked = held;
         for _ in 0..TURN_LIMIT {
             let reply = locked.step(self.table(), Way::Step);
             if let Some(again) = self.end_after(rt, reply) {
-                return again;
+                return (locked, again);
             }
             if cell.is_wanted() {
                 drop(locked);
                 locked = cell.lock(rt);
             }
         }
-        true
+        (locked, true)
     }
 
-    /// One turn of the machine of a ticket that was taken from the queue. The ticket is back before its first instruction.
-    fn turn<R: Wait, G: Gate>(&self, rt: &R, gate: &G, worker: usize, ticket: Ticket) {
+    /// One turn of a machine whose ticket was taken from the queue, with a gate to be told of each instruction.
+    fn turn<R: Wait, G: Gate>(
+        &self,
+        rt: &R,
+        gate: &G,
+        worker: usize,
+        cell: &MachineCell<K>,
+        ticket: Ticket,
+    ) {
         let number = ticket.number();
-        let Some(cell) = self.cell(number) else {
-            return;
-        };
         if !take_back(&mut cell.lock(rt), ticket) {
             return;
         }
         // no worker is woken for it, since this one looks at the queue next
-        let again = if G::IS_TOLD {
-            self.run_told(rt, gate, worker, number, cell)
-        } else {
-            self.run_untold(rt, cell)
-        };
-        if again {
+        if self.run_told(rt, gate, worker, number, cell) {
             queue_machine(rt, &self.runs, &mut cell.lock(rt));
         }
+    }
+
+    /// Turns of a machine whose ticket was taken from the queue, with no gate to be told: one, and others as long as the queue is
+    /// empty, from which this worker would take the machine next. Says whether the gate lets the worker go on.
+    fn turns<R: Wait, G: Gate>(
+        &self,
+        rt: &R,
+        gate: &G,
+        cell: &MachineCell<K>,
+        ticket: Ticket,
+    ) -> bool {
+        let mut locked = cell.lock(rt);
+        if !take_back(&mut locked, ticket) {
+            return gate.go_on();
+        }
+        for _ in rt.forever() {
+            let (held, again) = self.run_untold(rt, cell, locked);
+            locked = held;
+            let on = gate.go_on();
+            if again && on && self.runs.is_empty() {
+                continue;
+            }
+            if again {
+                queue_machine(rt, &self.runs, &mut locked);
+            }
+            return on;
+        }
+        true
+    }
+
+    /// The turn of the next machine in the queue, if there is one, or its turns. The ticket is back before its first instruction.
+    /// Says whether the gate lets the worker go on.
+    fn take_turns<R: Wait, G: Gate>(&self, rt: &R, gate: &G, worker: usize) -> bool {
+        if let Some(ticket) = self.wait_for_run(rt) {
+            if let Some(cell) = self.cell(ticket.number()) {
+                if !G::IS_TOLD {
+                    return self.turns(rt, gate, cell, ticket);
+                }
+                self.turn(rt, gate, worker, cell, ticket);
+            }
+        }
+        gate.go_on()
     }
 
     /// Takes the pool apart. Requests and machines that are queued are dropped. Where memory runs out all is dropped.
@@ -328,19 +375,20 @@ impl<F: FarStore, K: Mark> Pool<F, K> {
     }
 }
 
-/// Steps machines of the queue, each until it waits, pauses, stops or has done 64 instructions, as long as the gate lets it.
+/// Steps machines of the queue, each until it waits, pauses, stops or has done 64 instructions, as long as the gate lets it. Where no
+/// other machine is queued it goes on with the same.
 pub fn work<F: FarStore, K: Mark, R: Wait, G: Gate>(
     rt: &R,
     gate: &G,
     pool: &Pool<F, K>,
     worker: usize,
 ) {
+    if !gate.go_on() {
+        return;
+    }
     for _ in rt.forever() {
-        if !gate.go_on() {
+        if !pool.take_turns(rt, gate, worker) {
             return;
-        }
-        if let Some(ticket) = pool.wait_for_run(rt) {
-            pool.turn(rt, gate, worker, ticket);
         }
     }
 }
