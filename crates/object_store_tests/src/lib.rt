@@ -2,6 +2,10 @@
 #![tactic(auto)]
 
 #[cfg(test)]
+mod acts;
+#[cfg(test)]
+mod compared;
+#[cfg(test)]
 mod moves;
 #[cfg(test)]
 mod objects;

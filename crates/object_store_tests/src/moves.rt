@@ -1,195 +1,223 @@
 //! Moves, scopes and the budget.
-use crate::stores::{AMPLE, own_objects};
-use far_store::{Failing, FarStore, OwnStore, StoreFault};
-use isa_table::{AtomicOp, Size, Width};
-use memory::{Action, Op, Reach};
-use object_store::{GetError, MACHINE_LIMIT, MakeError, Moved, ObjectStore, Place, PutError};
+
+use crate::acts::{ADD_ONE, Act, Answer, DONE, LOAD, NO_OBJECT, tells};
+use crate::stores::{AMPLE, failing_objects, objects_within, own_objects};
+use far_store::StoreFault;
+use memory::Reach;
+use object_store::{GetError, MACHINE_LIMIT, MakeError, Moved, Place, PutError};
 use std::test::Fail;
 
-const LOAD: Op = Op {
-    offset: 0,
-    action: Action::Load { size: Size::Byte },
-};
+const HERE: Answer = Answer::Moved(Moved::Misplaced(Place::Here));
 
-const ADD_ONE: Op = Op {
-    offset: 0,
-    action: Action::Atomic {
-        width: Width::W64,
-        op: AtomicOp::Add,
-        src: 1,
-        r0: 0,
-    },
-};
+const LEAVING: Answer = Answer::Moved(Moved::Misplaced(Place::Leaving));
 
-/// What `leave` and then `left` answer.
-fn sent<F: FarStore>(objects: &mut ObjectStore<F>, number: u32) -> (Moved, Moved) {
-    let leaving = objects.leave(number);
-    (leaving, objects.left(number))
-}
+const FAR: Answer = Answer::Moved(Moved::Misplaced(Place::Far));
 
-/// What `return_` and then `returned` answer.
-fn fetched<F: FarStore>(objects: &mut ObjectStore<F>, number: u32) -> (Moved, Moved) {
-    let returning = objects.return_(number);
-    (returning, objects.returned(number))
-}
+const RETURNING: Answer = Answer::Moved(Moved::Misplaced(Place::Returning));
 
-const DONE: (Moved, Moved) = (Moved::Done, Moved::Done);
+const SCOPED: Answer = Answer::Moved(Moved::Scoped);
+
+const REFUSED: Answer = Answer::Moved(Moved::Fault(StoreFault::Refused));
+
+const AWAY: Answer = Answer::Reached(Reach::Away);
+
+const HELD: &[(Act, Answer)] = &[
+    (Act::Make(8), Answer::Made(1)),
+    (Act::Touch(1, 1, ADD_ONE), Answer::Reached(Reach::Done(0))),
+    (Act::Leave(1), SCOPED),
+    (Act::Left(1), HERE),
+    (Act::Touch(2, 1, ADD_ONE), Answer::Reached(Reach::Done(1))),
+    (Act::Touch(2, 1, ADD_ONE), Answer::Reached(Reach::Done(2))),
+    (Act::Touch(1, 1, ADD_ONE), Answer::Reached(Reach::Done(3))),
+    (Act::Close(1), Answer::Closed),
+    (Act::Leave(1), SCOPED),
+    (Act::Close(2), Answer::Closed),
+    (Act::Leave(1), DONE),
+    (Act::Get(1, 0, 8), Answer::NotGot(GetError::Away)),
+    (Act::Left(1), DONE),
+    (Act::Return(1), DONE),
+    (Act::Returned(1), DONE),
+    (Act::Get(1, 0, 8), Answer::Got(8, [4, 0, 0, 0, 0, 0, 0, 0])),
+];
 
 #[test]
 fn two_machines_hold_an_object(rt: HostRuntime) -> Result<(), Fail> {
-    let mut objects = own_objects(rt.alloc())?;
-    objects.make(8)?;
-    assert_eq!(rt; objects.touch(1, 1, &ADD_ONE), Reach::Done(0));
-    assert_eq!(rt; objects.leave(1), Moved::Scoped);
-    assert_eq!(rt; objects.left(1), Moved::Misplaced(Place::Here));
-    assert_eq!(rt; objects.touch(2, 1, &ADD_ONE), Reach::Done(1));
-    assert_eq!(rt; objects.touch(2, 1, &ADD_ONE), Reach::Done(2));
-    assert_eq!(rt; objects.touch(1, 1, &ADD_ONE), Reach::Done(3));
-    objects.close_scopes(1);
-    assert_eq!(rt; objects.leave(1), Moved::Scoped);
-    objects.close_scopes(2);
-    assert_eq!(rt; objects.leave(1), Moved::Done);
-    assert_eq!(rt; objects.get(1, 0, 8).err(), Some(GetError::Away));
-    assert_eq!(rt; objects.left(1), Moved::Done);
-    assert_eq!(rt; fetched(&mut objects, 1), DONE);
-    assert_eq!(rt;
-        objects.get(1, 0, 8)?.as_slice(),
-        [4, 0, 0, 0, 0, 0, 0, 0].as_slice()
-    );
+    tells(&rt, &mut own_objects(rt.alloc())?, HELD);
     Ok(())
 }
+
+const ABROAD: &[(Act, Answer)] = &[
+    (Act::Make(8), Answer::Made(1)),
+    (Act::Touch(1, 1, LOAD), Answer::Reached(Reach::Done(0))),
+    (Act::Close(1), Answer::Closed),
+    (Act::Leave(1), DONE),
+    (Act::Touch(1, 1, LOAD), AWAY),
+    (Act::Left(1), DONE),
+    (Act::Touch(1, 1, LOAD), AWAY),
+    (Act::Put(1, 0, &[1]), Answer::Put(Err(PutError::Away))),
+    (Act::Put(1, 8, &[1]), Answer::Put(Err(PutError::Outside))),
+    (Act::Get(1, 8, 1), Answer::NotGot(GetError::Outside)),
+    (Act::Length(1), Answer::Length(8)),
+    (Act::Leave(1), FAR),
+    (Act::Returned(1), FAR),
+    (Act::Return(1), DONE),
+    (Act::Touch(1, 1, LOAD), AWAY),
+    (Act::Free(1), RETURNING),
+    (Act::Returned(1), DONE),
+    (Act::Touch(1, 1, LOAD), Answer::Reached(Reach::Done(0))),
+];
 
 #[test]
 fn an_object_abroad_is_away(rt: HostRuntime) -> Result<(), Fail> {
-    let mut objects = own_objects(rt.alloc())?;
-    objects.make(8)?;
-    assert_eq!(rt; objects.touch(1, 1, &LOAD), Reach::Done(0));
-    objects.close_scopes(1);
-    assert_eq!(rt; objects.leave(1), Moved::Done);
-    assert_eq!(rt; objects.touch(1, 1, &LOAD), Reach::Away);
-    assert_eq!(rt; objects.left(1), Moved::Done);
-    assert_eq!(rt; objects.touch(1, 1, &LOAD), Reach::Away);
-    assert_eq!(rt; objects.put(1, 0, &[1]), Err(PutError::Away));
-    assert_eq!(rt; objects.put(1, 8, &[1]), Err(PutError::Outside));
-    assert_eq!(rt; objects.get(1, 8, 1).err(), Some(GetError::Outside));
-    assert_eq!(rt; objects.length(1), 8);
-    assert_eq!(rt; objects.leave(1), Moved::Misplaced(Place::Far));
-    assert_eq!(rt; objects.returned(1), Moved::Misplaced(Place::Far));
-    assert_eq!(rt; objects.return_(1), Moved::Done);
-    assert_eq!(rt; objects.touch(1, 1, &LOAD), Reach::Away);
-    assert_eq!(rt; objects.free(1), Moved::Misplaced(Place::Returning));
-    assert_eq!(rt; objects.returned(1), Moved::Done);
-    assert_eq!(rt; objects.touch(1, 1, &LOAD), Reach::Done(0));
+    tells(&rt, &mut own_objects(rt.alloc())?, ABROAD);
     Ok(())
 }
 
+const FIVE: &[(Act, Answer)] = &[
+    (Act::Make(1), Answer::Made(1)),
+    (Act::Make(1), Answer::Made(2)),
+    (Act::Make(1), Answer::Made(3)),
+    (Act::Make(1), Answer::Made(4)),
+    (Act::Make(1), Answer::Made(5)),
+    (Act::Touch(1, 1, LOAD), Answer::Reached(Reach::Done(0))),
+    (Act::Touch(1, 2, LOAD), Answer::Reached(Reach::Done(0))),
+    (Act::Touch(1, 3, LOAD), Answer::Reached(Reach::Done(0))),
+    (Act::Touch(1, 4, LOAD), Answer::Reached(Reach::Done(0))),
+    (Act::Touch(1, 5, LOAD), Answer::Reached(Reach::Done(0))),
+    (Act::Leave(1), DONE),
+    (Act::Leave(2), SCOPED),
+    (Act::Close(1), Answer::Closed),
+    (Act::Leave(2), DONE),
+    (Act::Return(3), HERE),
+    (Act::Free(1), LEAVING),
+    (Act::Free(3), DONE),
+    (Act::Get(3, 0, 1), Answer::NotGot(GetError::Outside)),
+];
+
 #[test]
 fn a_fifth_object_closes_the_oldest_scope(rt: HostRuntime) -> Result<(), Fail> {
-    let mut objects = own_objects(rt.alloc())?;
-    for number in 1..6 {
-        assert_eq!(rt; objects.make(1), Ok(number));
-    }
-    for number in 1..6 {
-        assert_eq!(rt; objects.touch(1, number, &LOAD), Reach::Done(0));
-    }
-    assert_eq!(rt; objects.leave(1), Moved::Done);
-    assert_eq!(rt; objects.leave(2), Moved::Scoped);
-    objects.close_scopes(1);
-    assert_eq!(rt; objects.leave(2), Moved::Done);
-    assert_eq!(rt; objects.return_(3), Moved::Misplaced(Place::Here));
-    assert_eq!(rt; objects.free(1), Moved::Misplaced(Place::Leaving));
-    assert_eq!(rt; objects.free(3), Moved::Done);
-    assert_eq!(rt; objects.get(3, 0, 1).err(), Some(GetError::Outside));
+    tells(&rt, &mut own_objects(rt.alloc())?, FIVE);
     Ok(())
 }
 
 #[test]
 fn all_machines_hold_one_object(rt: HostRuntime) -> Result<(), Fail> {
     let mut objects = own_objects(rt.alloc())?;
-    objects.make(1)?;
+    tells(&rt, &mut objects, &[(Act::Make(1), Answer::Made(1))]);
     for who in 1..MACHINE_LIMIT + 1 {
-        assert_eq!(rt; objects.touch(who, 1, &LOAD), Reach::Done(0));
-        assert_eq!(rt; objects.touch(who, 1, &LOAD), Reach::Done(0));
+        let touch = (Act::Touch(who, 1, LOAD), Answer::Reached(Reach::Done(0)));
+        tells(&rt, &mut objects, &[touch, touch]);
     }
     for who in 1..MACHINE_LIMIT + 1 {
-        assert_eq!(rt; objects.leave(1), Moved::Scoped);
-        assert_eq!(rt; objects.free(1), Moved::Scoped);
-        objects.close_scopes(who);
+        let closed = (Act::Close(who), Answer::Closed);
+        tells(
+            &rt,
+            &mut objects,
+            &[(Act::Leave(1), SCOPED), (Act::Free(1), SCOPED), closed],
+        );
     }
-    assert_eq!(rt; objects.leave(1), Moved::Done);
+    tells(&rt, &mut objects, &[(Act::Leave(1), DONE)]);
     Ok(())
 }
+
+/// No room for an object.
+const FULL: Answer = Answer::NotMade(MakeError::NoRoom);
+
+/// Over a budget of eight bytes.
+const EIGHT: &[(Act, Answer)] = &[
+    (Act::Make(9), FULL),
+    (Act::Make(8), Answer::Made(1)),
+    (Act::Make(1), FULL),
+    (Act::Leave(1), DONE),
+    (Act::Left(1), DONE),
+    (Act::Make(1), Answer::Made(2)),
+    (Act::Return(1), Answer::Moved(Moved::NoRoom)),
+    (Act::Free(2), DONE),
+    (Act::Return(1), DONE),
+    (Act::Make(1), FULL),
+    (Act::Returned(1), DONE),
+    (Act::Make(1), FULL),
+];
 
 #[test]
 fn a_far_object_takes_no_budget(rt: HostRuntime) -> Result<(), Fail> {
-    let mut objects = ObjectStore::new(rt.alloc(), 8, OwnStore::new(rt.alloc()))?;
-    assert_eq!(rt; objects.make(9), Err(MakeError::NoRoom));
-    assert_eq!(rt; objects.make(8), Ok(1));
-    assert_eq!(rt; objects.make(1), Err(MakeError::NoRoom));
-    assert_eq!(rt; sent(&mut objects, 1), DONE);
-    assert_eq!(rt; objects.make(1), Ok(2));
-    assert_eq!(rt; objects.return_(1), Moved::NoRoom);
-    assert_eq!(rt; objects.free(2), Moved::Done);
-    assert_eq!(rt; objects.return_(1), Moved::Done);
-    assert_eq!(rt; objects.make(1), Err(MakeError::NoRoom));
-    assert_eq!(rt; objects.returned(1), Moved::Done);
-    assert_eq!(rt; objects.make(1), Err(MakeError::NoRoom));
+    tells(&rt, &mut objects_within(rt.alloc(), 8)?, EIGHT);
     Ok(())
 }
+
+/// Over a budget of no byte.
+const NOTHING: &[(Act, Answer)] = &[(Act::Make(1), FULL), (Act::Length(1), Answer::Length(0))];
 
 #[test]
 fn a_budget_of_nothing(rt: HostRuntime) -> Result<(), Fail> {
-    let mut objects = ObjectStore::new(rt.alloc(), 0, OwnStore::new(rt.alloc()))?;
-    assert_eq!(rt; objects.make(1), Err(MakeError::NoRoom));
-    assert_eq!(rt; objects.length(1), 0);
+    tells(&rt, &mut objects_within(rt.alloc(), 0)?, NOTHING);
     Ok(())
 }
+
+/// The first call of the far store is refused.
+const NOT_SENT: &[(Act, Answer)] = &[
+    (Act::Make(1), Answer::Made(1)),
+    (Act::Put(1, 0, &[7]), Answer::Put(Ok(()))),
+    (Act::Leave(1), DONE),
+    (Act::Left(1), REFUSED),
+    (Act::Get(1, 0, 1), Answer::Got(1, [7, 0, 0, 0, 0, 0, 0, 0])),
+    (Act::Leave(1), DONE),
+    (Act::Left(1), DONE),
+    (Act::Return(1), DONE),
+    (Act::Returned(1), DONE),
+    (Act::Get(1, 0, 1), Answer::Got(1, [7, 0, 0, 0, 0, 0, 0, 0])),
+];
 
 #[test]
 fn a_fault_leaves_the_object_where_it_was(rt: HostRuntime) -> Result<(), Fail> {
-    let failing = Failing::new(OwnStore::new(rt.alloc()), 1);
-    let mut objects = ObjectStore::new(rt.alloc(), AMPLE, failing)?;
-    objects.make(1)?;
-    objects.put(1, 0, &[7])?;
-    let refused = Moved::Fault(StoreFault::Refused);
-    assert_eq!(rt; sent(&mut objects, 1), (Moved::Done, refused));
-    assert_eq!(rt; objects.get(1, 0, 1)?.as_slice(), [7].as_slice());
-    assert_eq!(rt; sent(&mut objects, 1), DONE);
-    assert_eq!(rt; fetched(&mut objects, 1), DONE);
-    assert_eq!(rt; objects.get(1, 0, 1)?.as_slice(), [7].as_slice());
+    tells(&rt, &mut failing_objects(rt.alloc(), AMPLE, 1)?, NOT_SENT);
     Ok(())
 }
+
+/// The second call of the far store is refused, and the budget is eight bytes.
+const NOT_FETCHED: &[(Act, Answer)] = &[
+    (Act::Make(8), Answer::Made(1)),
+    (Act::Put(1, 7, &[9]), Answer::Put(Ok(()))),
+    (Act::Leave(1), DONE),
+    (Act::Left(1), DONE),
+    (Act::Return(1), DONE),
+    (Act::Returned(1), REFUSED),
+    (Act::Leave(1), FAR),
+    (Act::Make(8), Answer::Made(2)),
+    (Act::Free(2), DONE),
+    (Act::Return(1), DONE),
+    (Act::Returned(1), DONE),
+    (Act::Get(1, 7, 1), Answer::Got(1, [9, 0, 0, 0, 0, 0, 0, 0])),
+];
 
 #[test]
 fn a_failed_return_keeps_the_parcel(rt: HostRuntime) -> Result<(), Fail> {
-    let failing = Failing::new(OwnStore::new(rt.alloc()), 2);
-    let mut objects = ObjectStore::new(rt.alloc(), 8, failing)?;
-    objects.make(8)?;
-    objects.put(1, 7, &[9])?;
-    let refused = Moved::Fault(StoreFault::Refused);
-    assert_eq!(rt; sent(&mut objects, 1), DONE);
-    assert_eq!(rt; fetched(&mut objects, 1), (Moved::Done, refused));
-    assert_eq!(rt; objects.leave(1), Moved::Misplaced(Place::Far));
-    assert_eq!(rt; objects.make(8), Ok(2));
-    assert_eq!(rt; objects.free(2), Moved::Done);
-    assert_eq!(rt; fetched(&mut objects, 1), DONE);
-    assert_eq!(rt; objects.get(1, 7, 1)?.as_slice(), [9].as_slice());
+    tells(&rt, &mut failing_objects(rt.alloc(), 8, 2)?, NOT_FETCHED);
     Ok(())
 }
 
+const NOWHERE: &[(Act, Answer)] = &[
+    (Act::Make(1), Answer::Made(1)),
+    (Act::Leave(0), NO_OBJECT),
+    (Act::Left(0), NO_OBJECT),
+    (Act::Return(0), NO_OBJECT),
+    (Act::Returned(0), NO_OBJECT),
+    (Act::Leave(2), NO_OBJECT),
+    (Act::Left(2), NO_OBJECT),
+    (Act::Return(2), NO_OBJECT),
+    (Act::Returned(2), NO_OBJECT),
+    (Act::Leave(1025), NO_OBJECT),
+    (Act::Left(1025), NO_OBJECT),
+    (Act::Return(1025), NO_OBJECT),
+    (Act::Returned(1025), NO_OBJECT),
+    (Act::Leave(u32::MAX), NO_OBJECT),
+    (Act::Left(u32::MAX), NO_OBJECT),
+    (Act::Return(u32::MAX), NO_OBJECT),
+    (Act::Returned(u32::MAX), NO_OBJECT),
+];
+
 #[test]
 fn numbers_that_are_no_object_do_not_move(rt: HostRuntime) -> Result<(), Fail> {
-    let mut objects = own_objects(rt.alloc())?;
-    objects.make(1)?;
-    for number in [0, 2, 1025, u32::MAX] {
-        assert_eq!(rt;
-            sent(&mut objects, number),
-            (Moved::NoObject, Moved::NoObject)
-        );
-        assert_eq!(rt;
-            fetched(&mut objects, number),
-            (Moved::NoObject, Moved::NoObject)
-        );
-    }
+    tells(&rt, &mut own_objects(rt.alloc())?, NOWHERE);
     Ok(())
 }

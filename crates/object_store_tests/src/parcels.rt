@@ -1,90 +1,98 @@
 //! What is sent to the far store, and what isn't sent again.
-use crate::stores::{AMPLE, Asked, Counting};
-use far_store::OwnStore;
-use isa_table::{AtomicOp, Size, Width};
-use memory::{Action, Op, Reach};
-use object_store::{Moved, ObjectStore};
+
+use crate::acts::{Act, Answer, DONE, EXCHANGE, LOAD_DOUBLE, tells};
+use crate::compared::same;
+use crate::stores::{Asked, counting_objects};
+use memory::Reach;
 use std::alloc::{AllocError, Global};
+use std::process::Abort;
 use std::rc::Rc;
 use std::test::Fail;
 
-fn counting(alloc: Global, asked: &Rc<Asked>) -> Result<ObjectStore<Counting>, AllocError> {
-    let store = OwnStore::new(alloc);
-    let asked = asked.clone()?;
-    ObjectStore::new(alloc, AMPLE, Counting { store, asked })
+/// Puts, gets and forgets of the far store after acts that are answered so, and after more of them.
+fn counts_after(
+    rt: &impl Abort,
+    alloc: Global,
+    table: &[(Act, Answer)],
+    rest: &[(Act, Answer)],
+) -> Result<[(u32, u32, u32); 2], AllocError> {
+    let asked = Rc::new(alloc, Asked::new())?;
+    let mut objects = counting_objects(alloc, &asked)?;
+    tells(rt, &mut objects, table);
+    let counts = asked.counts();
+    tells(rt, &mut objects, rest);
+    Ok([counts, asked.counts()])
 }
 
-/// Whether an object could be sent away.
-fn send(objects: &mut ObjectStore<Counting>) -> bool {
-    objects.leave(1) == Moved::Done && objects.left(1) == Moved::Done
-}
+/// An object is made, sent away, and got back.
+const TRAVELLED: &[(Act, Answer)] = &[
+    (Act::Make(8), Answer::Made(1)),
+    (Act::Leave(1), DONE),
+    (Act::Left(1), DONE),
+    (Act::Return(1), DONE),
+    (Act::Returned(1), DONE),
+];
 
-/// Whether it could be sent away and got back.
-fn travel(objects: &mut ObjectStore<Counting>) -> bool {
-    send(objects) && objects.return_(1) == Moved::Done && objects.returned(1) == Moved::Done
-}
+const READ: &[(Act, Answer)] = &[
+    (Act::Get(1, 0, 1), Answer::Got(1, [0; 8])),
+    (
+        Act::Touch(1, 1, LOAD_DOUBLE),
+        Answer::Reached(Reach::Done(0)),
+    ),
+    (Act::Close(1), Answer::Closed),
+    (Act::Leave(1), DONE),
+    (Act::Left(1), DONE),
+];
 
 #[test]
 fn an_object_that_was_read_is_not_sent_again(rt: HostRuntime) -> Result<(), Fail> {
-    let asked = Rc::new(rt.alloc(), Asked::new())?;
-    let mut objects = counting(rt.alloc(), &asked)?;
-    objects.make(8)?;
-    assert!(rt; travel(&mut objects));
-    assert_eq!(rt; objects.get(1, 0, 1)?.as_slice(), [0].as_slice());
-    let load = Op {
-        offset: 0,
-        action: Action::Load { size: Size::Double },
-    };
-    assert_eq!(rt; objects.touch(1, 1, &load), Reach::Done(0));
-    objects.close_scopes(1);
-    assert!(rt; send(&mut objects));
-    assert_eq!(rt; asked.counts(), (1, 1, 0));
+    let counts = counts_after(&rt, rt.alloc(), TRAVELLED, READ)?;
+    same!(rt; counts, [(1, 1, 0), (1, 1, 0)]);
     Ok(())
 }
+
+/// An object is made, sent away, and got back, and a byte is put.
+const THEN_PUT: &[(Act, Answer)] = &[
+    (Act::Make(8), Answer::Made(1)),
+    (Act::Leave(1), DONE),
+    (Act::Left(1), DONE),
+    (Act::Return(1), DONE),
+    (Act::Returned(1), DONE),
+    (Act::Put(1, 0, &[1]), Answer::Put(Ok(()))),
+];
+
+const AFTER_PUT: &[(Act, Answer)] = &[
+    (Act::Leave(1), DONE),
+    (Act::Left(1), DONE),
+    (Act::Return(1), DONE),
+    (Act::Returned(1), DONE),
+    (Act::Get(1, 0, 1), Answer::Got(1, [1, 0, 0, 0, 0, 0, 0, 0])),
+];
 
 #[test]
 fn an_object_that_was_put_is_sent_again(rt: HostRuntime) -> Result<(), Fail> {
-    let asked = Rc::new(rt.alloc(), Asked::new())?;
-    let mut objects = counting(rt.alloc(), &asked)?;
-    objects.make(8)?;
-    assert!(rt; travel(&mut objects));
-    objects.put(1, 0, &[1])?;
-    assert_eq!(rt; asked.counts(), (1, 1, 0));
-    assert!(rt; travel(&mut objects));
-    assert_eq!(rt; asked.counts(), (2, 2, 1));
-    assert_eq!(rt; objects.get(1, 0, 1)?.as_slice(), [1].as_slice());
+    let counts = counts_after(&rt, rt.alloc(), THEN_PUT, AFTER_PUT)?;
+    same!(rt; counts, [(1, 1, 0), (2, 2, 1)]);
     Ok(())
 }
 
+const EXCHANGED: &[(Act, Answer)] = &[
+    (Act::Touch(1, 1, EXCHANGE), Answer::Reached(Reach::Done(0))),
+    (Act::Close(1), Answer::Closed),
+    (Act::Leave(1), DONE),
+    (Act::Left(1), DONE),
+];
+
 #[test]
 fn a_failed_exchange_counts_as_a_write(rt: HostRuntime) -> Result<(), Fail> {
-    let asked = Rc::new(rt.alloc(), Asked::new())?;
-    let mut objects = counting(rt.alloc(), &asked)?;
-    objects.make(8)?;
-    assert!(rt; travel(&mut objects));
-    let exchange = Op {
-        offset: 0,
-        action: Action::Atomic {
-            width: Width::W64,
-            op: AtomicOp::CompareExchange,
-            src: 7,
-            r0: 1,
-        },
-    };
-    assert_eq!(rt; objects.touch(1, 1, &exchange), Reach::Done(0));
-    objects.close_scopes(1);
-    assert!(rt; send(&mut objects));
-    assert_eq!(rt; asked.counts(), (2, 1, 1));
+    let counts = counts_after(&rt, rt.alloc(), TRAVELLED, EXCHANGED)?;
+    same!(rt; counts, [(1, 1, 0), (2, 1, 1)]);
     Ok(())
 }
 
 #[test]
 fn a_freed_object_forgets_its_parcel(rt: HostRuntime) -> Result<(), Fail> {
-    let asked = Rc::new(rt.alloc(), Asked::new())?;
-    let mut objects = counting(rt.alloc(), &asked)?;
-    objects.make(8)?;
-    assert!(rt; travel(&mut objects));
-    assert_eq!(rt; objects.free(1), Moved::Done);
-    assert_eq!(rt; asked.counts(), (1, 1, 1));
+    let counts = counts_after(&rt, rt.alloc(), TRAVELLED, &[(Act::Free(1), DONE)])?;
+    same!(rt; counts, [(1, 1, 0), (1, 1, 1)]);
     Ok(())
 }

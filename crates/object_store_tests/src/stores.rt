@@ -2,7 +2,7 @@
 ghost use Rattle.std.specs.Prelude.{true};
 ghost use Rattle.far_store.specs.Calls.{own_called};
 
-use far_store::{FarStore, OwnParcel, OwnStore, StoreFault};
+use far_store::{Failing, FarStore, OwnParcel, OwnStore, StoreFault};
 use object_store::ObjectStore;
 use std::alloc::{AllocError, Global};
 use std::cell::Cell;
@@ -11,9 +11,33 @@ use std::rc::Rc;
 /// The budget of a store that never lacks room.
 pub const AMPLE: u32 = 67_108_864;
 
+/// A store over the agent's own memory, with this budget.
+pub fn objects_within(alloc: Global, budget: u32) -> Result<ObjectStore<OwnStore>, AllocError> {
+    ObjectStore::new(alloc, budget, OwnStore::new(alloc))
+}
+
 /// A store over the agent's own memory, with room for all objects.
 pub fn own_objects(alloc: Global) -> Result<ObjectStore<OwnStore>, AllocError> {
-    ObjectStore::new(alloc, AMPLE, OwnStore::new(alloc))
+    objects_within(alloc, AMPLE)
+}
+
+/// A store with this budget, of whose far store one call is refused.
+pub fn failing_objects(
+    alloc: Global,
+    budget: u32,
+    call: u64,
+) -> Result<ObjectStore<Failing<OwnStore>>, AllocError> {
+    ObjectStore::new(alloc, budget, Failing::new(OwnStore::new(alloc), call))
+}
+
+/// A store with room for all objects, which counts and logs what it asks.
+pub fn counting_objects(
+    alloc: Global,
+    asked: &Rc<Asked>,
+) -> Result<ObjectStore<Counting>, AllocError> {
+    let store = OwnStore::new(alloc);
+    let asked = asked.clone()?;
+    ObjectStore::new(alloc, AMPLE, Counting { store, asked })
 }
 
 /// A call of a [`Counting`] store, with how many bytes were put or came.
@@ -81,8 +105,8 @@ fn count(cell: &Cell<u32>) {
 /// A store in the agent's own memory that counts and logs what it is asked.
 #[derive(Drop)]
 pub struct Counting {
-    pub store: OwnStore,
-    pub asked: Rc<Asked>,
+    store: OwnStore,
+    asked: Rc<Asked>,
 }
 
 impl FarStore for Counting {

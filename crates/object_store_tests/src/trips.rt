@@ -1,11 +1,16 @@
 //! What objects that go and come ask of their far store, and what comes of a far store that fails.
 ghost use Rattle.std.specs.Prelude.{◌≤◌};
 
-use crate::stores::{AMPLE, Asked, Call, Counting, Grudging, LOGGED, Single};
-use far_store::{Failing, FarStore, OwnStore, StoreFault};
+use crate::acts::{Act, Answer, tells};
+use crate::compared::same;
+use crate::stores::{
+    AMPLE, Asked, Call, Grudging, LOGGED, Single, counting_objects, failing_objects,
+};
+use far_store::{FarStore, StoreFault};
 use memory::OBJECT_BYTES;
-use object_store::{Moved, ObjectStore, Place, PutError};
+use object_store::{Moved, ObjectStore, PartsError, Place, PutError};
 use std::alloc::{AllocError, Global};
+use std::process::Abort;
 use std::rc::Rc;
 use std::test::Fail;
 
@@ -42,32 +47,64 @@ struct Life {
     counts: (u32, u32, u32),
 }
 
+/// Object 1 goes and comes: what came of that, and whether it has these bytes then.
+fn goes<F: FarStore>(objects: &mut ObjectStore<F>, bytes: &[u8]) -> ([Moved; 4], bool) {
+    let trip = go(objects, 1);
+    (trip, begins_with(objects, 1, bytes))
+}
+
+/// The same of bytes that are all this one.
+fn goes_with<F: FarStore>(
+    alloc: Global,
+    objects: &mut ObjectStore<F>,
+    byte: u8,
+    length: usize,
+) -> Result<([Moved; 4], bool), AllocError> {
+    let bytes = vec![in alloc; byte; length]?;
+    Ok(goes(objects, bytes.as_slice()))
+}
+
+/// The same, where these bytes are put before.
+fn put_goes_with<F: FarStore>(
+    alloc: Global,
+    objects: &mut ObjectStore<F>,
+    byte: u8,
+    length: usize,
+) -> Result<([Moved; 4], bool), Fail> {
+    let bytes = vec![in alloc; byte; length]?;
+    objects.put(1, 0, bytes.as_slice())?;
+    Ok(goes(objects, bytes.as_slice()))
+}
+
+/// The trips of an object of so many bytes, and whether it kept its bytes on each: one after it was put whole, one more, and
+/// one after it was put again.
+fn trips<F: FarStore>(
+    alloc: Global,
+    objects: &mut ObjectStore<F>,
+    length: usize,
+) -> Result<([[Moved; 4]; 3], [bool; 3]), Fail> {
+    let (first, first_kept) = put_goes_with(alloc, objects, 0x5A, length)?;
+    let (second, second_kept) = goes_with(alloc, objects, 0x5A, length)?;
+    let (third, third_kept) = put_goes_with(alloc, objects, 0xA5, length)?;
+    Ok((
+        [first, second, third],
+        [first_kept, second_kept, third_kept],
+    ))
+}
+
 /// An object of so many bytes is put whole, goes and comes, goes and comes unchanged, is put again, goes and comes, and
 /// is freed.
 fn lived(alloc: Global, length: u32) -> Result<Life, Fail>
     requires { (1 ≤ length) × (length ≤ 65536) }
 {
     let asked = Rc::new(alloc, Asked::new())?;
-    let far = Counting {
-        store: OwnStore::new(alloc),
-        asked: asked.clone()?,
-    };
-    let mut objects = ObjectStore::new(alloc, AMPLE, far)?;
+    let mut objects = counting_objects(alloc, &asked)?;
     objects.make(length)?;
-    let bytes = vec![in alloc; 0x5Au8; length as usize]?;
-    let other = vec![in alloc; 0xA5u8; length as usize]?;
-    objects.put(1, 0, bytes.as_slice())?;
-    let first = go(&mut objects, 1);
-    let first_kept = begins_with(&objects, 1, bytes.as_slice());
-    let second = go(&mut objects, 1);
-    let second_kept = begins_with(&objects, 1, bytes.as_slice());
-    objects.put(1, 0, other.as_slice())?;
-    let third = go(&mut objects, 1);
-    let third_kept = begins_with(&objects, 1, other.as_slice());
+    let (trips, kept) = trips(alloc, &mut objects, length as usize)?;
     let freed = objects.free(1);
     Ok(Life {
-        trips: [first, second, third],
-        kept: [first_kept, second_kept, third_kept],
+        trips,
+        kept,
         freed,
         calls: asked.calls(),
         counts: asked.counts(),
@@ -98,7 +135,7 @@ fn expected_life(length: usize) -> Life {
 fn short_objects_go_and_come(rt: HostRuntime) -> Result<(), Fail> {
     for length in 1u32..300 {
         let life = lived(rt.alloc(), length)?;
-        assert_eq!(rt; life, expected_life(length as usize));
+        same!(rt; life, expected_life(length as usize), length);
     }
     Ok(())
 }
@@ -108,7 +145,7 @@ fn objects_of_all_lengths_go_and_come(rt: HostRuntime) -> Result<(), Fail> {
     for step in 0u32..258 {
         let length = 1 + step * 255;
         let life = lived(rt.alloc(), length)?;
-        assert_eq!(rt; life, expected_life(length as usize));
+        same!(rt; life, expected_life(length as usize), length);
     }
     Ok(())
 }
@@ -118,7 +155,7 @@ fn the_longest_objects_go_and_come(rt: HostRuntime) -> Result<(), Fail> {
     for less in 0u32..17 {
         let length = OBJECT_BYTES as u32 - less;
         let life = lived(rt.alloc(), length)?;
-        assert_eq!(rt; life, expected_life(length as usize));
+        same!(rt; life, expected_life(length as usize), length);
     }
     Ok(())
 }
@@ -136,29 +173,40 @@ struct Faulted {
     faults: u64,
 }
 
-/// The two trips over a store that refuses its call `k`.
-fn two_trips(alloc: Global, k: u64) -> Result<Faulted, Fail> {
-    let failing = Failing::new(OwnStore::new(alloc), k);
-    let mut objects = ObjectStore::new(alloc, AMPLE, failing)?;
+/// How many faults the far store of these objects counted.
+fn faults_of<F: FarStore + Drop>(objects: ObjectStore<F>) -> Result<u64, PartsError> {
+    Ok(objects.into_parts()?.store.faults())
+}
+
+/// The two trips of an object, without the count of faults.
+fn tripped<F: FarStore>(objects: &mut ObjectStore<F>) -> Result<Faulted, Fail> {
     objects.make(8)?;
     objects.put(1, 0, &[1])?;
-    let first = go(&mut objects, 1);
+    let first = go(objects, 1);
     let put = objects.put(1, 0, &[2]);
-    let second = go(&mut objects, 1);
-    let last = [objects.return_(1), objects.returned(1)];
+    let second = go(objects, 1);
+    let returning = objects.return_(1);
+    let last = [returning, objects.returned(1)];
     let begins = [
-        begins_with(&objects, 1, &[1, 0]),
-        begins_with(&objects, 1, &[2, 0]),
+        begins_with(objects, 1, &[1, 0]),
+        begins_with(objects, 1, &[2, 0]),
     ];
-    let faults = objects.into_parts()?.store.faults();
     Ok(Faulted {
         first,
         put,
         second,
         last,
         begins,
-        faults,
+        faults: 0,
     })
+}
+
+/// The two trips over a store that refuses its call `k`.
+fn two_trips(alloc: Global, k: u64) -> Result<Faulted, Fail> {
+    let mut objects = failing_objects(alloc, AMPLE, k)?;
+    let found = tripped(&mut objects)?;
+    let faults = faults_of(objects)?;
+    Ok(Faulted { faults, ..found })
 }
 
 const REFUSED: Moved = Moved::Fault(StoreFault::Refused);
@@ -179,8 +227,9 @@ const CALM: Faulted = Faulted {
 
 #[test]
 fn no_call_fails(rt: HostRuntime) -> Result<(), Fail> {
-    assert_eq!(rt; two_trips(rt.alloc(), 0)?, CALM);
-    assert_eq!(rt; two_trips(rt.alloc(), 5)?, CALM);
+    for k in [0, 5] {
+        same!(rt; two_trips(rt.alloc(), k)?, CALM, k);
+    }
     Ok(())
 }
 
@@ -191,7 +240,7 @@ fn the_first_put_fails(rt: HostRuntime) -> Result<(), Fail> {
         faults: 1,
         ..CALM
     };
-    assert_eq!(rt; two_trips(rt.alloc(), 1)?, expected);
+    same!(rt; two_trips(rt.alloc(), 1)?, expected);
     Ok(())
 }
 
@@ -205,7 +254,7 @@ fn the_first_get_fails(rt: HostRuntime) -> Result<(), Fail> {
         faults: 1,
         ..CALM
     };
-    assert_eq!(rt; two_trips(rt.alloc(), 2)?, expected);
+    same!(rt; two_trips(rt.alloc(), 2)?, expected);
     Ok(())
 }
 
@@ -216,7 +265,7 @@ fn the_second_put_fails(rt: HostRuntime) -> Result<(), Fail> {
         faults: 1,
         ..CALM
     };
-    assert_eq!(rt; two_trips(rt.alloc(), 3)?, expected);
+    same!(rt; two_trips(rt.alloc(), 3)?, expected);
     Ok(())
 }
 
@@ -228,68 +277,133 @@ fn the_second_get_fails(rt: HostRuntime) -> Result<(), Fail> {
         faults: 1,
         ..CALM
     };
-    assert_eq!(rt; two_trips(rt.alloc(), 4)?, expected);
+    same!(rt; two_trips(rt.alloc(), 4)?, expected);
     Ok(())
 }
 
 // ---- room for a single parcel
 
-/// Two objects of eight bytes over such a store, the first with a 1 and the second with a 2 in front.
-fn single(alloc: Global) -> Result<ObjectStore<Single>, Fail> {
-    let mut objects = ObjectStore::new(alloc, AMPLE, Single::new(alloc))?;
-    objects.make(8)?;
-    objects.make(8)?;
-    objects.put(1, 0, &[1])?;
-    objects.put(2, 0, &[2])?;
-    Ok(objects)
+/// Two objects of eight bytes, the first with a 1 and the second with a 2 in front.
+const TWO: &[(Act, Answer)] = &[
+    (Act::Make(8), Answer::Made(1)),
+    (Act::Make(8), Answer::Made(2)),
+    (Act::Put(1, 0, &[1]), PUT),
+    (Act::Put(2, 0, &[2]), PUT),
+];
+
+/// A move that was done, and an object that was freed.
+const GOES: Answer = Answer::Moved(DONE);
+
+const PUT: Answer = Answer::Put(Ok(()));
+
+const REFUSES: Answer = Answer::Moved(REFUSED);
+
+const STAYS: Answer = Answer::Moved(HERE);
+
+/// How many faults the far store counted after acts that are answered so, and more of them.
+fn faults_after<F: FarStore + Drop>(
+    rt: &impl Abort,
+    objects: ObjectStore<F>,
+    table: &[(Act, Answer)],
+    rest: &[(Act, Answer)],
+) -> Result<u64, PartsError> {
+    let mut objects = objects;
+    tells(rt, &mut objects, table);
+    tells(rt, &mut objects, rest);
+    faults_of(objects)
 }
+
+/// The same of two objects over a store with room for a single parcel.
+fn single(rt: &impl Abort, alloc: Global, rest: &[(Act, Answer)]) -> Result<u64, Fail> {
+    let objects = ObjectStore::new(alloc, AMPLE, Single::new(alloc))?;
+    Ok(faults_after(rt, objects, TWO, rest)?)
+}
+
+const SECOND_REFUSED: &[(Act, Answer)] = &[
+    (Act::Leave(1), GOES),
+    (Act::Left(1), GOES),
+    (Act::Return(1), GOES),
+    (Act::Returned(1), GOES),
+    (Act::Leave(2), GOES),
+    (Act::Left(2), REFUSES),
+    (Act::Return(2), STAYS),
+    (Act::Returned(2), STAYS),
+    (Act::Get(1, 0, 2), Answer::Got(2, [1, 0, 0, 0, 0, 0, 0, 0])),
+    (Act::Get(2, 0, 2), Answer::Got(2, [2, 0, 0, 0, 0, 0, 0, 0])),
+];
 
 #[test]
 fn a_second_parcel_is_refused(rt: HostRuntime) -> Result<(), Fail> {
-    let mut objects = single(rt.alloc())?;
-    assert_eq!(rt; go(&mut objects, 1), [DONE; 4]);
-    assert_eq!(rt; go(&mut objects, 2), [DONE, REFUSED, HERE, HERE]);
-    assert!(rt; begins_with(&objects, 1, &[1, 0]));
-    assert!(rt; begins_with(&objects, 2, &[2, 0]));
-    assert_eq!(rt; objects.into_parts()?.store.faults(), 1);
+    same!(rt; single(&rt, rt.alloc(), SECOND_REFUSED)?, 1);
     Ok(())
 }
+
+const SENT_ANEW: &[(Act, Answer)] = &[
+    (Act::Leave(1), GOES),
+    (Act::Left(1), GOES),
+    (Act::Return(1), GOES),
+    (Act::Returned(1), GOES),
+    (Act::Put(1, 0, &[3]), PUT),
+    (Act::Leave(1), GOES),
+    (Act::Left(1), GOES),
+    (Act::Return(1), GOES),
+    (Act::Returned(1), GOES),
+    (Act::Get(1, 0, 2), Answer::Got(2, [3, 0, 0, 0, 0, 0, 0, 0])),
+];
 
 #[test]
 fn the_old_parcel_makes_room_for_the_new(rt: HostRuntime) -> Result<(), Fail> {
-    let mut objects = single(rt.alloc())?;
-    assert_eq!(rt; go(&mut objects, 1), [DONE; 4]);
-    objects.put(1, 0, &[3])?;
-    assert_eq!(rt; go(&mut objects, 1), [DONE; 4]);
-    assert!(rt; begins_with(&objects, 1, &[3, 0]));
-    assert_eq!(rt; objects.into_parts()?.store.faults(), 0);
+    same!(rt; single(&rt, rt.alloc(), SENT_ANEW)?, 0);
     Ok(())
 }
 
+const FREED: &[(Act, Answer)] = &[
+    (Act::Leave(1), GOES),
+    (Act::Left(1), GOES),
+    (Act::Return(1), GOES),
+    (Act::Returned(1), GOES),
+    (Act::Free(1), GOES),
+    (Act::Leave(2), GOES),
+    (Act::Left(2), GOES),
+    (Act::Return(2), GOES),
+    (Act::Returned(2), GOES),
+    (Act::Get(2, 0, 2), Answer::Got(2, [2, 0, 0, 0, 0, 0, 0, 0])),
+];
+
 #[test]
 fn a_freed_object_makes_room(rt: HostRuntime) -> Result<(), Fail> {
-    let mut objects = single(rt.alloc())?;
-    assert_eq!(rt; go(&mut objects, 1), [DONE; 4]);
-    assert_eq!(rt; objects.free(1), DONE);
-    assert_eq!(rt; go(&mut objects, 2), [DONE; 4]);
-    assert!(rt; begins_with(&objects, 2, &[2, 0]));
-    assert_eq!(rt; objects.into_parts()?.store.faults(), 0);
+    same!(rt; single(&rt, rt.alloc(), FREED)?, 0);
     Ok(())
 }
 
 // ---- a store that can't forget
 
+const MADE_TWO: &[(Act, Answer)] = &[
+    (Act::Make(8), Answer::Made(1)),
+    (Act::Make(8), Answer::Made(2)),
+];
+
+const FORGOTTEN: &[(Act, Answer)] = &[
+    (Act::Leave(1), GOES),
+    (Act::Left(1), GOES),
+    (Act::Return(1), GOES),
+    (Act::Returned(1), GOES),
+    (Act::Put(1, 0, &[5]), PUT),
+    (Act::Leave(1), GOES),
+    (Act::Left(1), GOES),
+    (Act::Return(1), GOES),
+    (Act::Returned(1), GOES),
+    (Act::Get(1, 0, 2), Answer::Got(2, [5, 0, 0, 0, 0, 0, 0, 0])),
+    (Act::Free(1), GOES),
+    (Act::Leave(2), GOES),
+    (Act::Left(2), GOES),
+    (Act::Return(2), GOES),
+    (Act::Returned(2), GOES),
+];
+
 #[test]
 fn a_fault_of_forget_is_counted_and_not_told(rt: HostRuntime) -> Result<(), Fail> {
-    let mut objects = ObjectStore::new(rt.alloc(), AMPLE, Grudging::new(rt.alloc()))?;
-    objects.make(8)?;
-    objects.make(8)?;
-    assert_eq!(rt; go(&mut objects, 1), [DONE; 4]);
-    objects.put(1, 0, &[5])?;
-    assert_eq!(rt; go(&mut objects, 1), [DONE; 4]);
-    assert!(rt; begins_with(&objects, 1, &[5, 0]));
-    assert_eq!(rt; objects.free(1), DONE);
-    assert_eq!(rt; go(&mut objects, 2), [DONE; 4]);
-    assert_eq!(rt; objects.into_parts()?.store.faults(), 3);
+    let objects = ObjectStore::new(rt.alloc(), AMPLE, Grudging::new(rt.alloc()))?;
+    same!(rt; faults_after(&rt, objects, MADE_TWO, FORGOTTEN)?, 3);
     Ok(())
 }
