@@ -33,7 +33,7 @@ pub enum Act {
     /// An object begins to return.
     Return(u32),
     /// An object is got from the far store.
-    Returned(u32),
+    Home(u32),
 }
 
 /// What is answered.
@@ -141,7 +141,7 @@ pub fn done<F: FarStore>(objects: &mut ObjectStore<F>, act: Act) -> Answer {
         Act::Leave(number) => Answer::Moved(objects.leave(number)),
         Act::Left(number) => Answer::Moved(objects.left(number)),
         Act::Return(number) => Answer::Moved(objects.return_(number)),
-        Act::Returned(number) => Answer::Moved(objects.returned(number)),
+        Act::Home(number) => Answer::Moved(objects.returned(number)),
     }
 }
 

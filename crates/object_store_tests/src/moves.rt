@@ -36,7 +36,7 @@ const HELD: &[(Act, Answer)] = &[
     (Act::Get(1, 0, 8), Answer::NotGot(GetError::Away)),
     (Act::Left(1), DONE),
     (Act::Return(1), DONE),
-    (Act::Returned(1), DONE),
+    (Act::Home(1), DONE),
     (Act::Get(1, 0, 8), Answer::Got(8, [4, 0, 0, 0, 0, 0, 0, 0])),
 ];
 
@@ -59,11 +59,11 @@ const ABROAD: &[(Act, Answer)] = &[
     (Act::Get(1, 8, 1), Answer::NotGot(GetError::Outside)),
     (Act::Length(1), Answer::Length(8)),
     (Act::Leave(1), FAR),
-    (Act::Returned(1), FAR),
+    (Act::Home(1), FAR),
     (Act::Return(1), DONE),
     (Act::Touch(1, 1, LOAD), AWAY),
     (Act::Free(1), RETURNING),
-    (Act::Returned(1), DONE),
+    (Act::Home(1), DONE),
     (Act::Touch(1, 1, LOAD), Answer::Reached(Reach::Done(0))),
 ];
 
@@ -135,7 +135,7 @@ const EIGHT: &[(Act, Answer)] = &[
     (Act::Free(2), DONE),
     (Act::Return(1), DONE),
     (Act::Make(1), FULL),
-    (Act::Returned(1), DONE),
+    (Act::Home(1), DONE),
     (Act::Make(1), FULL),
 ];
 
@@ -164,7 +164,7 @@ const NOT_SENT: &[(Act, Answer)] = &[
     (Act::Leave(1), DONE),
     (Act::Left(1), DONE),
     (Act::Return(1), DONE),
-    (Act::Returned(1), DONE),
+    (Act::Home(1), DONE),
     (Act::Get(1, 0, 1), Answer::Got(1, [7, 0, 0, 0, 0, 0, 0, 0])),
 ];
 
@@ -181,12 +181,12 @@ const NOT_FETCHED: &[(Act, Answer)] = &[
     (Act::Leave(1), DONE),
     (Act::Left(1), DONE),
     (Act::Return(1), DONE),
-    (Act::Returned(1), REFUSED),
+    (Act::Home(1), REFUSED),
     (Act::Leave(1), FAR),
     (Act::Make(8), Answer::Made(2)),
     (Act::Free(2), DONE),
     (Act::Return(1), DONE),
-    (Act::Returned(1), DONE),
+    (Act::Home(1), DONE),
     (Act::Get(1, 7, 1), Answer::Got(1, [9, 0, 0, 0, 0, 0, 0, 0])),
 ];
 
@@ -201,19 +201,19 @@ const NOWHERE: &[(Act, Answer)] = &[
     (Act::Leave(0), NO_OBJECT),
     (Act::Left(0), NO_OBJECT),
     (Act::Return(0), NO_OBJECT),
-    (Act::Returned(0), NO_OBJECT),
+    (Act::Home(0), NO_OBJECT),
     (Act::Leave(2), NO_OBJECT),
     (Act::Left(2), NO_OBJECT),
     (Act::Return(2), NO_OBJECT),
-    (Act::Returned(2), NO_OBJECT),
+    (Act::Home(2), NO_OBJECT),
     (Act::Leave(1025), NO_OBJECT),
     (Act::Left(1025), NO_OBJECT),
     (Act::Return(1025), NO_OBJECT),
-    (Act::Returned(1025), NO_OBJECT),
+    (Act::Home(1025), NO_OBJECT),
     (Act::Leave(u32::MAX), NO_OBJECT),
     (Act::Left(u32::MAX), NO_OBJECT),
     (Act::Return(u32::MAX), NO_OBJECT),
-    (Act::Returned(u32::MAX), NO_OBJECT),
+    (Act::Home(u32::MAX), NO_OBJECT),
 ];
 
 #[test]

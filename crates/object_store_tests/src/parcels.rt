@@ -30,7 +30,7 @@ const TRAVELLED: &[(Act, Answer)] = &[
     (Act::Leave(1), DONE),
     (Act::Left(1), DONE),
     (Act::Return(1), DONE),
-    (Act::Returned(1), DONE),
+    (Act::Home(1), DONE),
 ];
 
 const READ: &[(Act, Answer)] = &[
@@ -57,7 +57,7 @@ const THEN_PUT: &[(Act, Answer)] = &[
     (Act::Leave(1), DONE),
     (Act::Left(1), DONE),
     (Act::Return(1), DONE),
-    (Act::Returned(1), DONE),
+    (Act::Home(1), DONE),
     (Act::Put(1, 0, &[1]), Answer::Put(Ok(()))),
 ];
 
@@ -65,7 +65,7 @@ const AFTER_PUT: &[(Act, Answer)] = &[
     (Act::Leave(1), DONE),
     (Act::Left(1), DONE),
     (Act::Return(1), DONE),
-    (Act::Returned(1), DONE),
+    (Act::Home(1), DONE),
     (Act::Get(1, 0, 1), Answer::Got(1, [1, 0, 0, 0, 0, 0, 0, 0])),
 ];
 

@@ -64,7 +64,7 @@ const TRAVELLED: &[(Act, Answer)] = &[
     (Act::Leave(2), DONE),
     (Act::Left(2), DONE),
     (Act::Return(2), DONE),
-    (Act::Returned(2), DONE),
+    (Act::Home(2), DONE),
 ];
 
 /// Puts, gets and forgets after that, how many bodies are left then, and puts, gets and forgets with that.
