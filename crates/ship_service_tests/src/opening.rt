@@ -3,7 +3,7 @@ ghost use Rattle.ship_service.specs.Opening.{IsNamed};
 
 use console::{Console, drive};
 use far_store::{FarStore, OwnStore};
-use ship_service::{Agent, OpenAgent, Opened, serve};
+use ship_service::{Agent, ListenFault, OpenAgent, Opened, serve};
 use std::alloc::Global;
 use std::marker::Brand;
 use std::sync::Wait;
@@ -314,5 +314,19 @@ fn what_is_wrong_is_told_by_a_line(rt: HostRuntime) -> Result<(), Fail> {
     assert_eq!(rt; away.as_str(), "object 1024 isn't here");
     let memory = format!(in alloc; "{}", OpenAgent::Memory)?;
     assert_eq!(rt; memory.as_str(), "no memory");
+    Ok(())
+}
+
+#[test]
+fn how_a_service_ended_is_told_by_a_line(rt: HostRuntime) -> Result<(), Fail> {
+    let alloc = rt.alloc();
+    let away = format!(in alloc; "{}", ListenFault::NotHere(1024))?;
+    assert_eq!(rt; away.as_str(), "object 1024 isn't here");
+    let memory = format!(in alloc; "{}", ListenFault::Memory)?;
+    assert_eq!(rt; memory.as_str(), "no memory");
+    let net = format!(in alloc; "{}", ListenFault::Net)?;
+    assert_eq!(rt; net.as_str(), "net fault");
+    let write = format!(in alloc; "{}", ListenFault::Write)?;
+    assert_eq!(rt; write.as_str(), "write fault");
     Ok(())
 }
