@@ -1,9 +1,10 @@
 -- What is read of one object of a list, and what a change at one leaves.
-use Rattle.std.proofs.Common.{◌≡◌, ℕ, ◌<◌, ◌≤◌, List, [], length, map, set, get_or, sym, ap, arith}
+use Rattle.std.proofs.Common.{◌≡◌, ℕ, ◌<◌, ◌≤◌, List, [], length, map, set, get_or, sym, ap, ◌∙◌, arith}
 use Rattle.std.proofs.lemmas.List.{get_or-map, map-set, length-map}
 use Rattle.std.proofs.Math.ListN.{get_or-eq_default}
 use Rattle.std.proofs.Math.Seq.{map-set_same}
 use Rattle.far_store.specs.declared.places.Place.TheVariants as place
+use Rattle.far_store.specs.declared.places.Place.{Place}
 use Rattle.object_store.specs.Bodies.{Kept, bytes_in, place_in, scopes_in, sent_in}
 use Rattle.object_store.specs.Stores.{Sent, unsent}
 
@@ -48,6 +49,20 @@ sent_set bodies i b = map-set sent_in bodies i b
 
 pub sent_same : (bodies : List Kept) (i : ℕ) (b d : Kept) → sent_in b ≡ sent_in (get_or bodies i d) → map sent_in (set bodies i b) ≡ map sent_in bodies
 sent_same bodies i b d e = map-set_same sent_in bodies i b d e
+
+-- ---- what is made of one part of it
+
+pub bytes_by : (bodies : List Kept) (i : ℕ) (d b : Kept) (f : List ℕ → List ℕ) → i < length bodies → b.bytes ≡ f (get_or bodies i d).bytes → map bytes_in (set bodies i b) ≡ set (map bytes_in bodies) i (f (get_or (map bytes_in bodies) i []))
+bytes_by bodies i d b f h e = map-set bytes_in bodies i b ∙ ap (set (map bytes_in bodies) i) (e ∙ ap f (bytes_at bodies i d h))
+
+pub place_by : (bodies : List Kept) (i : ℕ) (b : Kept) (p : Place) → b.place ≡ p → map place_in (set bodies i b) ≡ set (map place_in bodies) i p
+place_by bodies i b p e = map-set place_in bodies i b ∙ ap (set (map place_in bodies) i) e
+
+pub scopes_by : (bodies : List Kept) (i : ℕ) (d b : Kept) (f : ℕ → ℕ) → i < length bodies → b.scopes ≡ f (get_or bodies i d).scopes → map scopes_in (set bodies i b) ≡ set (map scopes_in bodies) i (f (get_or (map scopes_in bodies) i 0))
+scopes_by bodies i d b f h e = map-set scopes_in bodies i b ∙ ap (set (map scopes_in bodies) i) (e ∙ ap f (scopes_at bodies i d h))
+
+pub sent_by : (bodies : List Kept) (i : ℕ) (d b : Kept) (f : Sent → Sent) → i < length bodies → sent_in b ≡ f (sent_in (get_or bodies i d)) → map sent_in (set bodies i b) ≡ set (map sent_in bodies) i (f (get_or (map sent_in bodies) i unsent))
+sent_by bodies i d b f h e = map-set sent_in bodies i b ∙ ap (set (map sent_in bodies) i) (e ∙ ap f (sent_at bodies i d h))
 
 -- an access
 pub ruleset at_steps = (bytes_at, no_bytes_at, place_at, scopes_at, bytes_set, places_same, scopes_same, parcel_at, clean_at, sent_set)

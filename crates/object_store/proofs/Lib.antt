@@ -6,3 +6,4 @@ pub mod Wording
 pub mod Counting
 pub mod Keeping
 pub mod Returning
+pub mod Leaving

@@ -6,11 +6,13 @@ use Rattle.far_store.specs.Stores.{capped, Rises}
 use Rattle.memory.specs.Objects.{bytes_of}
 use Rattle.object_store.specs.Stores.{HasRisen}
 use Rattle.object_store.specs.Calls.{FailsToReturn}
-use Rattle.object_store.specs.Stores.{sent_of}
-use Rattle.object_store.specs.Bodies.{Kept, ReturnsTo, BytesBack, bytes_in, sent_in}
+use Rattle.far_store.specs.declared.fault.StoreFault.{StoreFault}
+use Rattle.far_store.specs.declared.places.Place.TheVariants.{Here}
+use Rattle.object_store.specs.Stores.{Sent, sent_of}
+use Rattle.object_store.specs.Bodies.{Kept, ReturnsTo, BytesBack, bytes_in, place_in, scopes_in, sent_in}
 use Rattle.far_store.specs.Calls.Call.{Get}
-use Rattle.far_store.specs.Calls.{Call, Calls, parcel_of}
-use Rattle.object_store.proofs.Entries.{parcel_at}
+use Rattle.far_store.specs.Calls.{Call, Calls, parcel_of, AsksInVain}
+use Rattle.object_store.proofs.Entries.{bytes_at, parcel_at}
 
 pub capped_rises : (a b : ℕ) → a ≤ b → capped (a + 1) ≤ capped (b + 1)
 capped_rises a b h = grind (arith, nat_tests)
@@ -38,3 +40,23 @@ got_in called a b bodies n d new h k =
     let there : bytes_of (map bytes_in (set bodies n new)) n ≡ new.bytes = ap (λ (l : List (List ℕ)). get_or l n []) (map-set bytes_in bodies n new) ∙ get_or-set_same (map bytes_in bodies) n new.bytes [] (let l = length-map bodies bytes_in in omega arith) in
     subst (λ (p : Option (List ℕ)). Calls called a (Get (parcel_of p) (Ok (bytes_of (map bytes_in (set bodies n new)) n)) ∷ []) b) (parcel_at bodies n d h)
     (subst (λ (v : List ℕ). Calls called a (Get (parcel_of (get_or bodies n d).parcel) (Ok v) ∷ []) b) (sym there) k)
+
+-- what else came back of it
+pub place_back : (returns : Bool) (old new : Kept) → ReturnsTo returns old new → new.place ≡ Here
+place_back true old new r = ap place_in r
+place_back false old new r = ap place_in r.1
+
+pub scopes_back : (returns : Bool) (old new : Kept) → ReturnsTo returns old new → new.scopes ≡ old.scopes
+scopes_back true old new r = ap scopes_in r
+scopes_back false old new r = ap scopes_in r.1
+
+pub sent_back : (returns : Bool) (old new : Kept) → ReturnsTo returns old new → sent_in new ≡ record (sent_in old) { clean = returns }
+sent_back true old new r = ap sent_in r
+sent_back false old new r = ap sent_in r.1
+
+-- what was asked for in vain, by its place among all
+pub vain_in : {X : Type 0} (called : X → Call → X → Type 0) (a b : X) (f : StoreFault) (bodies : List Kept) (n : ℕ) (d : Kept) → n < length bodies
+    → AsksInVain called a (get_or bodies n d).parcel (length (get_or bodies n d).bytes) f b → AsksInVain called a (sent_of (map sent_in bodies) n).parcel (length (bytes_of (map bytes_in bodies) n)) f b
+vain_in called a b f bodies n d h k =
+    subst (λ (p : Option (List ℕ)). AsksInVain called a p (length (bytes_of (map bytes_in bodies) n)) f b) (parcel_at bodies n d h)
+    (subst (λ (l : List ℕ). AsksInVain called a (get_or bodies n d).parcel (length l) f b) (bytes_at bodies n d h) k)
