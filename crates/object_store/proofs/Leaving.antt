@@ -17,7 +17,7 @@ pub record LeftAt {T E : Type 0} (r : Result T E) (bodies : List Kept) (n : ℕ)
   pub sent : OnOk r (map sent_in new ≡ set (map sent_in bodies) n (record (sent_of (map sent_in bodies) n) { parcel = Some (bytes_of (map bytes_in bodies) n) }))
   pub lost : OnErr r (map sent_in new ≡ set (map sent_in bodies) n unsent)
 
-not_clean : (b : Bool) → (b ≡ true → false ≡ true) → b ≡ false
+pub not_clean : (b : Bool) → (b ≡ true → false ≡ true) → b ≡ false
 not_clean true h = let e = h refl in absurd (cc)
 not_clean false h = refl
 

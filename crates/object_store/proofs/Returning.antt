@@ -1,14 +1,15 @@
 -- What a far store gives back, and how it fails.
-use Rattle.std.proofs.Common.{◌≡◌, ℕ, ◌+◌, ◌<◌, ◌≤◌, Bool, true, false, List, [], ◌∷◌, length, map, set, get_or, Option, Ok, sym, ap, subst, ◌∙◌, arith, inl}
+use Rattle.std.proofs.Common.{◌≡◌, ℕ, ◌+◌, ◌<◌, ◌≤◌, Bool, true, false, List, [], ◌∷◌, length, map, set, get_or, Option, Ok, refl, sym, ap, subst, ◌∙◌, arith, inl}
 use Rattle.std.proofs.lemmas.Bool.Decides.{nat_tests}
 use Rattle.std.proofs.lemmas.List.{map-set, set-get_or, get_or-set_same, length-map}
 use Rattle.far_store.specs.Stores.{capped, Rises}
 use Rattle.memory.specs.Objects.{bytes_of}
 use Rattle.object_store.specs.Stores.{HasRisen}
-use Rattle.object_store.specs.Calls.{FailsToReturn}
+use Rattle.object_store.specs.Calls.{FailsToReturn, ComesBack}
 use Rattle.far_store.specs.declared.fault.StoreFault.{StoreFault}
+use Rattle.far_store.specs.declared.places.Place.{Place}
 use Rattle.far_store.specs.declared.places.Place.TheVariants.{Here}
-use Rattle.object_store.specs.Stores.{Sent, sent_of}
+use Rattle.object_store.specs.Stores.{Sent, StoreState, sent_of, with_place}
 use Rattle.object_store.specs.Bodies.{Kept, ReturnsTo, BytesBack, bytes_in, place_in, scopes_in, sent_in}
 use Rattle.far_store.specs.Calls.Call.{Get}
 use Rattle.far_store.specs.Calls.{Call, Calls, parcel_of, AsksInVain}
@@ -60,3 +61,9 @@ pub vain_in : {X : Type 0} (called : X → Call → X → Type 0) (a b : X) (f :
 vain_in called a b f bodies n d h k =
     subst (λ (p : Option (List ℕ)). AsksInVain called a p (length (bytes_of (map bytes_in bodies) n)) f b) (parcel_at bodies n d h)
     (subst (λ (l : List ℕ). AsksInVain called a (get_or bodies n d).parcel (length l) f b) (bytes_at bodies n d h) k)
+
+-- a store to which an object came back
+pub comes_back : (returns : Bool) (old : StoreState) (objects : List (List ℕ)) (places : List Place) (faults n : ℕ) → BytesBack returns old.objects n objects → places ≡ set old.places n Here → faults ≡ old.faults
+    → ComesBack returns old n (record old { objects = objects; places = places; faults = faults })
+comes_back true old objects places faults n b q f = rw (b, q, f) refl
+comes_back false old objects places faults n b q f = (b.0, rw (q, f) (ap (λ (o : List (List ℕ)). record (with_place old n Here) { objects = o }) b.1))

@@ -10,8 +10,8 @@ use Rattle.object_store.proofs.stores.ObjectStore.free.Goals as goal
 pub overflow_add-self : goal.overflow_add-self
 overflow_add-self g c =
     let count : c.length_at-freed.result ≡ length (bytes_of (map bytes_in c.self.inside.bodies.items) c.args.number) = search rules in
-    let found : c.args.number < length c.self.inside.bodies.items = search rules in
-    let from : place_of (map place_in c.self.inside.bodies.items) c.args.number ≡ Here = search rules in
+    let found : c.args.number < length c.self.inside.bodies.items = rw c.as_slice.ensures.value at (c.in-Some-Here.ensures.found refl) in
+    let from : place_of (map place_in c.self.inside.bodies.items) c.args.number ≡ Here = rw (c.as_slice.ensures.value, c.in-Some-Here.field-0-is) at c.in-Some-Here.ensures.some.1 in
     let room = fits_budget _ _ _ _ c.args.number Here c.self.invariant.0 found from in
     omega (arith, count, room, c.self.ranges)
 
@@ -20,8 +20,8 @@ invariant_of-self g c =
     let count : c.length_at-freed.result ≡ length (bytes_of (map bytes_in c.self.inside.bodies.items) c.args.number) = search rules in
     let whole = with_items_is c.self.inside.bodies c.free_at.new.bodies (omega (arith, c.free_at.auto.bodies, c.as_mut_slice-bodies.ensures.len)) in
     let value = c.as_mut_slice-bodies.ensures.value in
-    let found : c.args.number < length c.self.inside.bodies.items = search rules in
-    let from : place_of (map place_in c.self.inside.bodies.items) c.args.number ≡ Here = search rules in
+    let found : c.args.number < length c.self.inside.bodies.items = rw c.as_slice.ensures.value at (c.in-Some-Here.ensures.found refl) in
+    let from : place_of (map place_in c.self.inside.bodies.items) c.args.number ≡ Here = rw (c.as_slice.ensures.value, c.in-Some-Here.field-0-is) at c.in-Some-Here.ensures.some.1 in
     rw whole (
       emptied c.self.inside.bodies.items c.free_at.new.bodies _ _ _ _ c.args.number c.self.invariant.0 found
           (rw value at c.free_at.ensures.bytes) (rw value at c.free_at.ensures.places) (rw value at c.free_at.ensures.counts) from (omega (arith, count)),
