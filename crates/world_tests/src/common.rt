@@ -1,14 +1,14 @@
-//! Commands and code by hand.
-ghost use Rattle.std.specs.Prelude.{◌≤◌};
+//! Commands and replies as plain values, and code by hand.
 
+use crate::compared::{compare, compare_row};
 use far_store::{FarStore, OwnStore};
+use loader::LoadError;
 use machine::Stop;
 use std::alloc::{AllocError, Global};
 use std::process::Abort;
-use std::test::Fail;
 use world::{
-    Bytes, DebugCommand, Event, MachineCommand, Move, ObjectCommand, ObjectLength, Reply,
-    ShowCommand, Start, Way, World,
+    Bytes, DebugCommand, Event, MachineCommand, Move, ObjectCommand, ObjectLength, Place, Reply,
+    ShowCommand, Shown, Start, Values, Way, World,
 };
 
 /// EXIT, as the other slots: its bytes from the first to the last.
@@ -20,8 +20,81 @@ pub const FIRST: u64 = 0x1_0000_0000;
 /// The budget of the program, unless it is given another.
 pub const AMPLE: u32 = 67_108_864;
 
+/// R10 at the start.
+pub const STACK_TOP: u64 = 0xffff_ffff_0000_1000;
+
+/// A command. Objects and machines are given by their numbers.
+#[derive(Clone, Copy, Drop)]
+pub enum Say {
+    /// An object of so many bytes is made.
+    Make(u64),
+    /// A machine is shipped with fuel, R1 to R5, and code of these slots. It may reach every object.
+    Ship(u64, [u64; 5], &'static [u64]),
+    /// A machine is shipped with fuel and these bytes of code.
+    Code(u64, &'static [u8]),
+    /// A machine is shipped with fuel and so many bytes of code, all of them zero.
+    Zeros(u64, usize),
+    /// An object is freed.
+    Free(u32),
+    /// Bytes for an object, from an offset on.
+    Put(u32, u32, &'static [u8]),
+    /// So many bytes of an object, the last number, from an offset on.
+    Get(u32, u32, u32),
+    /// An object begins to leave.
+    Leave(u32),
+    /// An object is put in the far store.
+    Left(u32),
+    /// An object begins to return.
+    Return(u32),
+    /// An object is got from the far store.
+    Returned(u32),
+    /// One step.
+    Step(usize),
+    /// One step, paused or not.
+    One(usize),
+    /// Shows something of a machine.
+    Show(usize, ShowCommand),
+    /// Debugs a machine.
+    Debug(usize, DebugCommand),
+}
+
+/// A reply. Objects and machines are told by their numbers, which come first.
+#[derive(Clone, Copy, Drop)]
+pub enum Told {
+    Made(u32),
+    Freed(u32),
+    Leaving(u32),
+    Left(u32),
+    Returning(u32),
+    Home(u32),
+    Away(u32),
+    Scoped(u32),
+    Misplaced(u32, Place),
+    Faulted(u32, Place),
+    Bytes(&'static [u8]),
+    Shipped(usize),
+    /// The slot comes last, here and in the next two.
+    Ran(usize, usize),
+    Hit(usize, usize),
+    Paused(usize, usize),
+    Waiting(usize, u32),
+    Stopped(usize, Stop),
+    Registers(usize, Shown),
+    /// At most 64 values.
+    Emitted(usize, &'static [u64]),
+    Refused(LoadError),
+    Done,
+    Full,
+    NoRoom,
+    Outside,
+    NoSlot,
+    NoWatch,
+    NotPaused,
+    Missing,
+}
+
 /// The bytes of these slots.
-pub fn code(alloc: Global, slots: &[u64]) -> Result<Vec<u8>, AllocError> {
+fn code(alloc: Global, slots: &[u64]) -> Result<Vec<u8>, AllocError> {
     let mut bytes = Vec::new(alloc);
     for slot in slots {
         bytes.extend_from_slice(&slot.to_be_bytes())?;
@@ -29,149 +102,165 @@ pub fn code(alloc: Global, slots: &[u64]) -> Result<Vec<u8>, AllocError> {
     Ok(bytes)
 }
 
-/// A machine of this code, which may reach every object.
-pub fn ship_code(
-    alloc: Global,
-    fuel: u64,
-    arguments: [u64; 5],
-    code: &[u8],
-) -> Result<Event, AllocError> {
+fn object(object: u32, command: ObjectCommand) -> Event {
+    Event::Object { object, command }
+}
+
+fn machine(machine: usize, command: MachineCommand) -> Event {
+    Event::Machine { machine, command }
+}
+
+/// A machine of these bytes of code.
+fn ship(alloc: Global, fuel: u64, arguments: [u64; 5], code: &[u8]) -> Result<Event, AllocError> {
     Ok(Event::Ship {
         start: Start::new(fuel, arguments),
         code: Bytes::new(code.to_vec(alloc)?),
     })
 }
 
-/// A machine with fuel for ten instructions, R1 and R2.
-pub fn ship(alloc: Global, r1: u64, r2: u64, slots: &[u64]) -> Result<Event, AllocError> {
-    ship_code(alloc, 10, [r1, r2, 0, 0, 0], code(alloc, slots)?.as_slice())
-}
-
-/// An object of so many bytes.
-pub fn make(length: u64) -> Event
-    requires { (1 ≤ length) × (length ≤ 65536) }
-{
-    Event::Make {
-        length: ObjectLength::new(length).unwrap(),
+/// The command. There is none where no object may have so many bytes, which is told as the failure that there is.
+fn event(alloc: Global, say: Say) -> Result<Event, AllocError> {
+    match say {
+        Say::Make(length) => match ObjectLength::new(length) {
+            Some(length) => Ok(Event::Make { length }),
+            None => Err(AllocError),
+        },
+        Say::Ship(fuel, arguments, slots) => {
+            ship(alloc, fuel, arguments, code(alloc, slots)?.as_slice())
+        }
+        Say::Code(fuel, code) => ship(alloc, fuel, [0; 5], code),
+        Say::Zeros(fuel, count) => {
+            ship(alloc, fuel, [0; 5], vec![in alloc; 0u8; count]?.as_slice())
+        }
+        Say::Free(number) => Ok(object(number, ObjectCommand::Free)),
+        Say::Put(number, offset, bytes) => {
+            let bytes = Bytes::new(bytes.to_vec(alloc)?);
+            Ok(object(number, ObjectCommand::Put { offset, bytes }))
+        }
+        Say::Get(number, offset, length) => {
+            Ok(object(number, ObjectCommand::Get { offset, length }))
+        }
+        Say::Leave(number) => Ok(object(number, ObjectCommand::Move(Move::Leave))),
+        Say::Left(number) => Ok(object(number, ObjectCommand::Move(Move::Left))),
+        Say::Return(number) => Ok(object(number, ObjectCommand::Move(Move::Return))),
+        Say::Returned(number) => Ok(object(number, ObjectCommand::Move(Move::Returned))),
+        Say::Step(number) => Ok(machine(number, MachineCommand::Step(Way::Step))),
+        Say::One(number) => Ok(machine(number, MachineCommand::Step(Way::One))),
+        Say::Show(number, command) => Ok(machine(number, MachineCommand::Show(command))),
+        Say::Debug(number, command) => Ok(machine(number, MachineCommand::Debug(command))),
     }
 }
 
-/// Bytes for an object.
-pub fn put(alloc: Global, object: u32, offset: u32, bytes: &[u8]) -> Result<Event, AllocError> {
-    let bytes = Bytes::new(bytes.to_vec(alloc)?);
-    let command = ObjectCommand::Put { offset, bytes };
-    Ok(Event::Object { object, command })
+/// The values, if there are 64 at most.
+fn values_of(values: &[u64]) -> Values {
+    if values.len() > 64 {
+        return Values::new(&[]);
+    }
+    Values::new(values)
 }
 
-/// Bytes of an object.
-pub fn get(object: u32, offset: u32, length: u32) -> Event {
-    let command = ObjectCommand::Get { offset, length };
-    Event::Object { object, command }
+/// The reply.
+fn reply(alloc: Global, told: Told) -> Result<Reply, AllocError> {
+    Ok(match told {
+        Told::Made(object) => Reply::Made { object },
+        Told::Freed(object) => Reply::Freed { object },
+        Told::Leaving(object) => Reply::Leaving { object },
+        Told::Left(object) => Reply::Left { object },
+        Told::Returning(object) => Reply::Returning { object },
+        Told::Home(object) => Reply::Home { object },
+        Told::Away(object) => Reply::Away { object },
+        Told::Scoped(object) => Reply::Scoped { object },
+        Told::Misplaced(object, place) => Reply::Misplaced { object, place },
+        Told::Faulted(object, place) => Reply::Faulted { object, place },
+        Told::Bytes(bytes) => Reply::Bytes(Bytes::new(bytes.to_vec(alloc)?)),
+        Told::Shipped(machine) => Reply::Shipped { machine },
+        Told::Ran(machine, slot) => Reply::Ran { machine, slot },
+        Told::Hit(machine, slot) => Reply::Hit { machine, slot },
+        Told::Paused(machine, slot) => Reply::Paused { machine, slot },
+        Told::Waiting(machine, object) => Reply::Waiting { machine, object },
+        Told::Stopped(machine, stop) => Reply::Stopped { machine, stop },
+        Told::Registers(machine, shown) => Reply::Registers { machine, shown },
+        Told::Emitted(machine, values) => Reply::Emitted {
+            machine,
+            values: values_of(values),
+        },
+        Told::Refused(error) => Reply::Refused(error),
+        Told::Done => Reply::Done,
+        Told::Full => Reply::Full,
+        Told::NoRoom => Reply::NoRoom,
+        Told::Outside => Reply::Outside,
+        Told::NoSlot => Reply::NoSlot,
+        Told::NoWatch => Reply::NoWatch,
+        Told::NotPaused => Reply::NotPaused,
+        Told::Missing => Reply::Missing,
+    })
 }
 
-/// An object is freed.
-pub fn free(object: u32) -> Event {
-    let command = ObjectCommand::Free;
-    Event::Object { object, command }
-}
-
-/// One step.
-pub fn step(machine: usize) -> Event {
-    let command = MachineCommand::Step(Way::Step);
-    Event::Machine { machine, command }
-}
-
-/// One step, paused or not.
-pub fn one(machine: usize) -> Event {
-    let command = MachineCommand::Step(Way::One);
-    Event::Machine { machine, command }
-}
-
-/// Shows something of a machine.
-pub fn show(machine: usize, command: ShowCommand) -> Event {
-    let command = MachineCommand::Show(command);
-    Event::Machine { machine, command }
-}
-
-/// Shows a machine's registers.
-pub fn regs(machine: usize) -> Event {
-    show(machine, ShowCommand::Regs)
-}
-
-/// Debugs a machine.
-pub fn debug(machine: usize, command: DebugCommand) -> Event {
-    let command = MachineCommand::Debug(command);
-    Event::Machine { machine, command }
-}
-
-/// An object is made.
-pub fn made(object: u32) -> Reply {
-    Reply::Made { object }
-}
-
-/// An instruction ran.
-pub fn ran(machine: usize, slot: usize) -> Reply {
-    Reply::Ran { machine, slot }
-}
-
-/// The machine is stopped.
-pub fn stopped(machine: usize, stop: Stop) -> Reply {
-    Reply::Stopped { machine, stop }
-}
-
-/// These bytes are shown.
-pub fn bytes(alloc: Global, bytes: &[u8]) -> Result<Reply, AllocError> {
-    Ok(Reply::Bytes(Bytes::new(bytes.to_vec(alloc)?)))
+/// A world over a store of its own, with this budget.
+pub fn world_within(alloc: Global, budget: u32) -> Result<World<OwnStore>, AllocError> {
+    World::new(alloc, budget, OwnStore::new(alloc))
 }
 
 /// A world over a store of its own.
 pub fn new_world(alloc: Global) -> Result<World<OwnStore>, AllocError> {
-    World::new(alloc, AMPLE, OwnStore::new(alloc))
-}
-
-/// Moves an object.
-fn moves(object: u32, kind: Move) -> Event {
-    let command = ObjectCommand::Move(kind);
-    Event::Object { object, command }
-}
-
-/// An object begins to leave.
-pub fn leave(object: u32) -> Event {
-    moves(object, Move::Leave)
-}
-
-/// An object is put in the far store.
-pub fn left(object: u32) -> Event {
-    moves(object, Move::Left)
-}
-
-/// An object begins to return.
-pub fn return_(object: u32) -> Event {
-    moves(object, Move::Return)
-}
-
-/// An object is got from the far store.
-pub fn returned(object: u32) -> Event {
-    moves(object, Move::Returned)
-}
-
-/// The replies of a new world to these commands.
-pub fn replies(alloc: Global, events: Vec<Event>) -> Result<Vec<Reply>, Fail> {
-    let mut world = new_world(alloc)?;
-    let mut replies = Vec::new(alloc);
-    world.run(events, &mut replies)?;
-    Ok(replies)
+    world_within(alloc, AMPLE)
 }
 
 /// Each command is answered so.
-pub fn tells<F: FarStore, const N: usize>(
+pub fn tells<F: FarStore>(
     rt: &impl Abort,
+    alloc: Global,
     world: &mut World<F>,
-    table: [(Event, Reply); N],
-)
-    requires { N ≤ 32 }
-{
-    for (event, reply) in table {
-        assert_eq!(rt; world.apply(event), reply);
+    table: &[(Say, Told)],
+) -> Result<(), AllocError> {
+    for row in 0..table.len() {
+        let (say, told) = table[row];
+        let found = world.apply(event(alloc, say)?);
+        let wanted = reply(alloc, told)?;
+        compare_row(rt, "reply", &(row, event(alloc, say)?), &found, &wanted);
     }
+    Ok(())
+}
+
+/// A new world answers each command so.
+pub fn new_tells(rt: &impl Abort, alloc: Global, table: &[(Say, Told)]) -> Result<(), AllocError> {
+    tells(rt, alloc, &mut new_world(alloc)?, table)
+}
+
+/// Commands, which a world answers in one run, behind what it told before.
+pub fn run_of<F: FarStore>(
+    alloc: Global,
+    world: &mut World<F>,
+    table: &[(Say, Told)],
+    replies: &mut Vec<Reply>,
+) -> Result<(), AllocError> {
+    let mut events = Vec::with_capacity(alloc, table.len())?;
+    for &(say, _) in table {
+        events.push(event(alloc, say)?)?;
+    }
+    world.run(events, replies)
+}
+
+/// These are the replies of these commands.
+pub fn are_told(
+    rt: &impl Abort,
+    alloc: Global,
+    replies: &[Reply],
+    table: &[(Say, Told)],
+) -> Result<(), AllocError> {
+    compare(rt, "replies", &replies.len(), &table.len());
+    for row in 0..table.len() {
+        let (_, told) = table[row];
+        let wanted = reply(alloc, told)?;
+        compare_row(rt, "reply", &row, &replies.get(row), &Some(&wanted));
+    }
+    Ok(())
+}
+
+/// A run of a new world answers so.
+pub fn runs(rt: &impl Abort, alloc: Global, table: &[(Say, Told)]) -> Result<(), AllocError> {
+    let mut world = new_world(alloc)?;
+    let mut replies = Vec::new(alloc);
+    run_of(alloc, &mut world, table, &mut replies)?;
+    are_told(rt, alloc, replies.as_slice(), table)
 }

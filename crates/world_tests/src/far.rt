@@ -1,16 +1,16 @@
 //! What a far store is asked, and what becomes of its faults.
 
-use crate::common::{
-    AMPLE, EXIT, FIRST, bytes, get, leave, left, made, make, put, return_, returned, ship, step,
-    tells,
-};
+use crate::common::{AMPLE, EXIT, FIRST, Say, Told, tells};
+use crate::compared::same;
 use crate::counting::Counting;
-use far_store::{Failing, FarStore, OwnStore};
+use far_store::{Failing, OwnStore};
+use machine::Stop;
 use std::alloc::{AllocError, Global};
 use std::cell::Cell;
+use std::process::Abort;
 use std::rc::Rc;
 use std::test::Fail;
-use world::{Place, Reply, World};
+use world::{Place, World};
 
 /// `acmpxchg [r1], r2`, which finds no 0 where R0 is 1.
 const EXCHANGE: u64 = 0xdb21_0000_f100_0000;
@@ -22,93 +22,96 @@ fn failing(alloc: Global, call: u64) -> Result<World<Failing<OwnStore>>, AllocEr
     World::new(alloc, AMPLE, Failing::new(OwnStore::new(alloc), call))
 }
 
-fn faulted(place: Place) -> Reply {
-    Reply::Faulted { object: 1, place }
-}
+const NOT_SENT: &[(Say, Told)] = &[
+    (Say::Make(1), Told::Made(1)),
+    (Say::Leave(1), Told::Leaving(1)),
+    (Say::Left(1), Told::Faulted(1, Place::Here)),
+    (Say::Leave(1), Told::Leaving(1)),
+    (Say::Left(1), Told::Left(1)),
+];
 
 #[test]
 fn an_object_that_cannot_leave_is_here(rt: HostRuntime) -> Result<(), Fail> {
-    let mut world = failing(rt.alloc(), 1)?;
-    let table = [
-        (make(1), made(1)),
-        (leave(1), Reply::Leaving { object: 1 }),
-        (left(1), faulted(Place::Here)),
-        (leave(1), Reply::Leaving { object: 1 }),
-        (left(1), Reply::Left { object: 1 }),
-    ];
-    tells(&rt, &mut world, table);
+    tells(&rt, rt.alloc(), &mut failing(rt.alloc(), 1)?, NOT_SENT)?;
     Ok(())
 }
+
+const NOT_FETCHED: &[(Say, Told)] = &[
+    (Say::Make(2), Told::Made(1)),
+    (Say::Put(1, 0, &[8, 9]), Told::Done),
+    (Say::Leave(1), Told::Leaving(1)),
+    (Say::Left(1), Told::Left(1)),
+    (Say::Return(1), Told::Returning(1)),
+    (Say::Returned(1), Told::Faulted(1, Place::Far)),
+    (Say::Return(1), Told::Returning(1)),
+    (Say::Returned(1), Told::Home(1)),
+    (Say::Get(1, 0, 2), Told::Bytes(&[8, 9])),
+];
 
 #[test]
 fn an_object_that_cannot_return_is_far(rt: HostRuntime) -> Result<(), Fail> {
-    let mut world = failing(rt.alloc(), 2)?;
-    let _ = world.apply(make(2));
-    let _ = world.apply(put(rt.alloc(), 1, 0, &[8, 9])?);
-    let table = [
-        (leave(1), Reply::Leaving { object: 1 }),
-        (left(1), Reply::Left { object: 1 }),
-        (return_(1), Reply::Returning { object: 1 }),
-        (returned(1), faulted(Place::Far)),
-        (return_(1), Reply::Returning { object: 1 }),
-        (returned(1), Reply::Home { object: 1 }),
-    ];
-    tells(&rt, &mut world, table);
-    let shown = bytes(rt.alloc(), &[8, 9])?;
-    assert_eq!(rt; world.apply(get(1, 0, 2)), shown);
+    tells(&rt, rt.alloc(), &mut failing(rt.alloc(), 2)?, NOT_FETCHED)?;
     Ok(())
 }
 
-/// Takes object 1 away and brings it back.
-fn travel<F: FarStore>(world: &mut World<F>) {
-    for event in [leave(1), left(1), return_(1), returned(1)] {
-        let _ = world.apply(event);
-    }
-}
+/// An object, and a machine that exchanges in it. The object is taken away and brought back.
+const TRAVELLED: &[(Say, Told)] = &[
+    (Say::Make(8), Told::Made(1)),
+    (
+        Say::Ship(10, [FIRST, 5, 0, 0, 0], &[ONE, EXCHANGE, EXIT]),
+        Told::Shipped(1),
+    ),
+    (Say::Leave(1), Told::Leaving(1)),
+    (Say::Left(1), Told::Left(1)),
+    (Say::Return(1), Told::Returning(1)),
+    (Say::Returned(1), Told::Home(1)),
+];
 
-/// A world with an object that was away, a machine that exchanges in it, and the number of puts.
-fn travelled(alloc: Global, puts: &Rc<Cell<u32>>) -> Result<World<Counting>, AllocError> {
+/// It is once more.
+const AGAIN: &[(Say, Told)] = &[
+    (Say::Leave(1), Told::Leaving(1)),
+    (Say::Left(1), Told::Left(1)),
+    (Say::Return(1), Told::Returning(1)),
+    (Say::Returned(1), Told::Home(1)),
+];
+
+/// How often an object was put in the far store that was away, met this, and was away again.
+fn puts_of(rt: &impl Abort, alloc: Global, between: &[(Say, Told)]) -> Result<u32, AllocError> {
+    let puts = Rc::new(alloc, Cell::new(0))?;
     let counting = Counting {
         store: OwnStore::new(alloc),
         puts: puts.clone()?,
     };
     let mut world = World::new(alloc, AMPLE, counting)?;
-    let _ = world.apply(make(8));
-    let _ = world.apply(ship(alloc, FIRST, 5, &[ONE, EXCHANGE, EXIT])?);
-    travel(&mut world);
-    Ok(world)
+    tells(rt, alloc, &mut world, TRAVELLED)?;
+    tells(rt, alloc, &mut world, between)?;
+    tells(rt, alloc, &mut world, AGAIN)?;
+    Ok(puts.get())
 }
 
 #[test]
 fn an_object_that_was_read_is_not_put_again(rt: HostRuntime) -> Result<(), Fail> {
-    let puts = Rc::new(rt.alloc(), Cell::new(0))?;
-    let mut world = travelled(rt.alloc(), &puts)?;
-    let _ = world.apply(get(1, 0, 1));
-    travel(&mut world);
-    assert_eq!(rt; puts.get(), 1);
+    let read = [(Say::Get(1, 0, 1), Told::Bytes(&[0]))];
+    same!(rt; puts_of(&rt, rt.alloc(), &read)?, 1);
     Ok(())
 }
 
 #[test]
 fn an_object_that_was_written_is_put_again(rt: HostRuntime) -> Result<(), Fail> {
-    let puts = Rc::new(rt.alloc(), Cell::new(0))?;
-    let mut world = travelled(rt.alloc(), &puts)?;
-    let _ = world.apply(put(rt.alloc(), 1, 0, &[1])?);
-    travel(&mut world);
-    assert_eq!(rt; puts.get(), 2);
+    let written = [(Say::Put(1, 0, &[1]), Told::Done)];
+    same!(rt; puts_of(&rt, rt.alloc(), &written)?, 2);
     Ok(())
 }
 
+const EXCHANGED: &[(Say, Told)] = &[
+    (Say::Step(1), Told::Ran(1, 1)),
+    (Say::Step(1), Told::Ran(1, 2)),
+    (Say::Step(1), Told::Stopped(1, Stop::Exit(0))),
+    (Say::Get(1, 0, 1), Told::Bytes(&[0])),
+];
+
 #[test]
 fn a_failed_exchange_counts_as_a_write(rt: HostRuntime) -> Result<(), Fail> {
-    let puts = Rc::new(rt.alloc(), Cell::new(0))?;
-    let mut world = travelled(rt.alloc(), &puts)?;
-    for _ in 0..3 {
-        let _ = world.apply(step(1));
-    }
-    let shown = bytes(rt.alloc(), &[0])?;
-    assert_eq!(rt; world.apply(get(1, 0, 1)), shown);
-    travel(&mut world);
-    assert_eq!(rt; puts.get(), 2);
+    same!(rt; puts_of(&rt, rt.alloc(), EXCHANGED)?, 2);
     Ok(())
 }

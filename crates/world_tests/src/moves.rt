@@ -1,13 +1,9 @@
 //! Objects that move while machines run.
 
-use crate::common::{
-    EXIT, FIRST, bytes, free, get, leave, left, made, make, new_world, put, ran, return_, returned,
-    ship, ship_code, step, stopped, tells,
-};
-use far_store::OwnStore;
+use crate::common::{EXIT, FIRST, Say, Told, new_tells, tells, world_within};
 use machine::Stop;
 use std::test::Fail;
-use world::{Place, Reply, World};
+use world::Place;
 
 /// `aadd [r1], r2`
 const ADD: u64 = 0xdb21_0000_0000_0000;
@@ -18,160 +14,139 @@ const LOAD: u64 = 0x7110_0000_0000_0000;
 /// `call 4`, which closes the machine's scopes.
 const CLOSE: u64 = 0x8500_0000_0400_0000;
 
-fn scoped(object: u32) -> Reply {
-    Reply::Scoped { object }
-}
-
-fn misplaced(object: u32, place: Place) -> Reply {
-    Reply::Misplaced { object, place }
-}
-
-fn leaving(object: u32) -> Reply {
-    Reply::Leaving { object }
-}
-
-fn far(object: u32) -> Reply {
-    Reply::Left { object }
-}
-
-fn returning(object: u32) -> Reply {
-    Reply::Returning { object }
-}
-
-fn home(object: u32) -> Reply {
-    Reply::Home { object }
-}
+const HELD: &[(Say, Told)] = &[
+    (Say::Make(8), Told::Made(1)),
+    (
+        Say::Ship(10, [FIRST, 1, 0, 0, 0], &[ADD, ADD, EXIT]),
+        Told::Shipped(1),
+    ),
+    (
+        Say::Ship(10, [FIRST, 1, 0, 0, 0], &[ADD, ADD, EXIT]),
+        Told::Shipped(2),
+    ),
+    (Say::Step(1), Told::Ran(1, 1)),
+    (Say::Leave(1), Told::Scoped(1)),
+    (Say::Left(1), Told::Misplaced(1, Place::Here)),
+    (Say::Step(2), Told::Ran(2, 1)),
+    (Say::Step(2), Told::Ran(2, 2)),
+    (Say::Step(1), Told::Ran(1, 2)),
+    (Say::Step(1), Told::Stopped(1, Stop::Exit(0))),
+    (Say::Leave(1), Told::Scoped(1)),
+    (Say::Step(2), Told::Stopped(2, Stop::Exit(0))),
+    (Say::Leave(1), Told::Leaving(1)),
+    (Say::Get(1, 0, 8), Told::Away(1)),
+    (Say::Left(1), Told::Left(1)),
+    (Say::Return(1), Told::Returning(1)),
+    (Say::Returned(1), Told::Home(1)),
+    (Say::Get(1, 0, 8), Told::Bytes(&[4, 0, 0, 0, 0, 0, 0, 0])),
+];
 
 #[test]
 fn two_machines_hold_an_object(rt: HostRuntime) -> Result<(), Fail> {
-    let mut world = new_world(rt.alloc())?;
-    let _ = world.apply(make(8));
-    for _ in 0..2 {
-        let _ = world.apply(ship(rt.alloc(), FIRST, 1, &[ADD, ADD, EXIT])?);
-    }
-    let held = [
-        (step(1), ran(1, 1)),
-        (leave(1), scoped(1)),
-        (left(1), misplaced(1, Place::Here)),
-        (step(2), ran(2, 1)),
-        (step(2), ran(2, 2)),
-        (step(1), ran(1, 2)),
-        (step(1), stopped(1, Stop::Exit(0))),
-        (leave(1), scoped(1)),
-        (step(2), stopped(2, Stop::Exit(0))),
-    ];
-    tells(&rt, &mut world, held);
-    let moved = [
-        (leave(1), leaving(1)),
-        (get(1, 0, 8), Reply::Away { object: 1 }),
-        (left(1), far(1)),
-        (return_(1), returning(1)),
-        (returned(1), home(1)),
-    ];
-    tells(&rt, &mut world, moved);
-    let shown = bytes(rt.alloc(), &[4, 0, 0, 0, 0, 0, 0, 0])?;
-    assert_eq!(rt; world.apply(get(1, 0, 8)), shown);
+    new_tells(&rt, rt.alloc(), HELD)?;
     Ok(())
 }
+
+const WAITING: &[(Say, Told)] = &[
+    (Say::Make(8), Told::Made(1)),
+    (
+        Say::Ship(10, [FIRST, 0, 0, 0, 0], &[LOAD, CLOSE, LOAD, EXIT]),
+        Told::Shipped(1),
+    ),
+    (Say::Step(1), Told::Ran(1, 1)),
+    (Say::Leave(1), Told::Scoped(1)),
+    (Say::Step(1), Told::Ran(1, 2)),
+    (Say::Leave(1), Told::Leaving(1)),
+    (Say::Step(1), Told::Waiting(1, 1)),
+    (Say::Left(1), Told::Left(1)),
+    (Say::Step(1), Told::Waiting(1, 1)),
+    (Say::Return(1), Told::Returning(1)),
+    (Say::Returned(1), Told::Home(1)),
+    (Say::Step(1), Told::Ran(1, 3)),
+];
 
 #[test]
 fn a_machine_waits_until_its_object_is_home(rt: HostRuntime) -> Result<(), Fail> {
-    let mut world = new_world(rt.alloc())?;
-    let _ = world.apply(make(8));
-    let _ = world.apply(ship(rt.alloc(), FIRST, 0, &[LOAD, CLOSE, LOAD, EXIT])?);
-    let closes = [
-        (step(1), ran(1, 1)),
-        (leave(1), scoped(1)),
-        (step(1), ran(1, 2)),
-        (leave(1), leaving(1)),
-    ];
-    tells(&rt, &mut world, closes);
-    for event in [left(1), return_(1)] {
-        let waiting = Reply::Waiting {
-            machine: 1,
-            object: 1,
-        };
-        assert_eq!(rt; world.apply(step(1)), waiting);
-        let _ = world.apply(event);
-    }
-    tells(
-        &rt,
-        &mut world,
-        [(returned(1), home(1)), (step(1), ran(1, 3))],
-    );
+    new_tells(&rt, rt.alloc(), WAITING)?;
     Ok(())
 }
 
-/// A machine that loads a byte of each of five objects.
-fn five_loads() -> [u64; 6] {
-    let others = [1, 2, 3, 4, 5].map(|register: u64| LOAD & !(0xf << 52) | register << 52);
-    let [first, second, third, fourth, fifth] = others;
-    [first, second, third, fourth, fifth, EXIT]
-}
+/// A machine loads a byte of each of five objects: the same load by R1 to R5.
+const FIVE: &[(Say, Told)] = &[
+    (Say::Make(1), Told::Made(1)),
+    (Say::Make(1), Told::Made(2)),
+    (Say::Make(1), Told::Made(3)),
+    (Say::Make(1), Told::Made(4)),
+    (Say::Make(1), Told::Made(5)),
+    (
+        Say::Ship(
+            10,
+            [FIRST, 2 * FIRST, 3 * FIRST, 4 * FIRST, 5 * FIRST],
+            &[
+                0x7110_0000_0000_0000,
+                0x7120_0000_0000_0000,
+                0x7130_0000_0000_0000,
+                0x7140_0000_0000_0000,
+                0x7150_0000_0000_0000,
+                EXIT,
+            ],
+        ),
+        Told::Shipped(1),
+    ),
+    (Say::Step(1), Told::Ran(1, 1)),
+    (Say::Step(1), Told::Ran(1, 2)),
+    (Say::Step(1), Told::Ran(1, 3)),
+    (Say::Step(1), Told::Ran(1, 4)),
+    (Say::Step(1), Told::Ran(1, 5)),
+    (Say::Leave(1), Told::Leaving(1)),
+    (Say::Leave(2), Told::Scoped(2)),
+    (Say::Step(1), Told::Stopped(1, Stop::Exit(0))),
+    (Say::Leave(2), Told::Leaving(2)),
+    (Say::Return(3), Told::Misplaced(3, Place::Here)),
+    (Say::Free(1), Told::Misplaced(1, Place::Leaving)),
+    (Say::Free(3), Told::Freed(3)),
+    (Say::Get(3, 0, 1), Told::Outside),
+    (Say::Leave(3), Told::Missing),
+];
 
 #[test]
 fn a_fifth_object_pushes_out_the_first(rt: HostRuntime) -> Result<(), Fail> {
-    let mut world = new_world(rt.alloc())?;
-    for _ in 0..5 {
-        let _ = world.apply(make(1));
-    }
-    let code = crate::common::code(rt.alloc(), &five_loads())?;
-    let arguments = [FIRST, 2 * FIRST, 3 * FIRST, 4 * FIRST, 5 * FIRST];
-    let _ = world.apply(ship_code(rt.alloc(), 10, arguments, code.as_slice())?);
-    for slot in 1..6 {
-        assert_eq!(rt; world.apply(step(1)), ran(1, slot));
-    }
-    let table = [
-        (leave(1), leaving(1)),
-        (leave(2), scoped(2)),
-        (step(1), stopped(1, Stop::Exit(0))),
-        (leave(2), leaving(2)),
-        (return_(3), misplaced(3, Place::Here)),
-        (free(1), misplaced(1, Place::Leaving)),
-        (free(3), Reply::Freed { object: 3 }),
-        (get(3, 0, 1), Reply::Outside),
-        (leave(3), Reply::Missing),
-    ];
-    tells(&rt, &mut world, table);
+    new_tells(&rt, rt.alloc(), FIVE)?;
     Ok(())
 }
+
+/// Over a budget of eight bytes.
+const ROOM: &[(Say, Told)] = &[
+    (Say::Make(8), Told::Made(1)),
+    (Say::Make(1), Told::NoRoom),
+    (Say::Leave(1), Told::Leaving(1)),
+    (Say::Make(1), Told::NoRoom),
+    (Say::Left(1), Told::Left(1)),
+    (Say::Make(1), Told::Made(2)),
+    (Say::Return(1), Told::NoRoom),
+    (Say::Free(2), Told::Freed(2)),
+    (Say::Return(1), Told::Returning(1)),
+    (Say::Make(1), Told::NoRoom),
+    (Say::Leave(1), Told::Misplaced(1, Place::Returning)),
+];
 
 #[test]
 fn an_object_returns_where_there_is_room(rt: HostRuntime) -> Result<(), Fail> {
-    let mut world = World::new(rt.alloc(), 8, OwnStore::new(rt.alloc()))?;
-    let full = [
-        (make(8), made(1)),
-        (make(1), Reply::NoRoom),
-        (leave(1), leaving(1)),
-        (make(1), Reply::NoRoom),
-        (left(1), far(1)),
-        (make(1), made(2)),
-        (return_(1), Reply::NoRoom),
-    ];
-    tells(&rt, &mut world, full);
-    let freed = [
-        (free(2), Reply::Freed { object: 2 }),
-        (return_(1), returning(1)),
-        (make(1), Reply::NoRoom),
-        (leave(1), misplaced(1, Place::Returning)),
-    ];
-    tells(&rt, &mut world, freed);
+    tells(&rt, rt.alloc(), &mut world_within(rt.alloc(), 8)?, ROOM)?;
     Ok(())
 }
 
+const AWAY: &[(Say, Told)] = &[
+    (Say::Make(2), Told::Made(1)),
+    (Say::Leave(1), Told::Leaving(1)),
+    (Say::Put(1, 1, &[7]), Told::Away(1)),
+    (Say::Put(1, 1, &[7, 7]), Told::Outside),
+    (Say::Get(1, 0, 3), Told::Outside),
+    (Say::Returned(1), Told::Misplaced(1, Place::Leaving)),
+];
+
 #[test]
 fn nothing_is_put_in_an_object_that_is_away(rt: HostRuntime) -> Result<(), Fail> {
-    let mut world = new_world(rt.alloc())?;
-    let _ = world.apply(make(2));
-    let one = put(rt.alloc(), 1, 1, &[7])?;
-    let two = put(rt.alloc(), 1, 1, &[7, 7])?;
-    let table = [
-        (leave(1), leaving(1)),
-        (one, Reply::Away { object: 1 }),
-        (two, Reply::Outside),
-        (get(1, 0, 3), Reply::Outside),
-        (returned(1), misplaced(1, Place::Leaving)),
-    ];
-    tells(&rt, &mut world, table);
+    new_tells(&rt, rt.alloc(), AWAY)?;
     Ok(())
 }
