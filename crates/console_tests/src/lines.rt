@@ -1,53 +1,65 @@
 //! Which lines are commands.
 
+use crate::compared::same;
 use console::{Console, LineFault};
-use std::alloc::Global;
+use std::alloc::{AllocError, Global};
 use std::test::Fail;
 use world::Event;
 
-/// What a line says.
-fn read(alloc: Global, line: &str) -> Result<Option<Result<Event, LineFault>>, Fail> {
-    let mut console = Console::new(alloc)?;
-    let taken = console.feed(line.as_bytes());
-    let ended = console.feed(b"\n");
-    if taken != line.len() || ended != 1 {
-        return Ok(None);
-    }
-    Ok(console.next_command())
+/// What a console has next.
+#[derive(Clone, Copy, Drop, Debug, PartialEq, Eq)]
+enum Next {
+    Nothing,
+    Fault(LineFault),
+    /// A command on the machine of this number.
+    OnMachine(usize),
+    Other,
 }
 
-/// Whether this is a command on the machine of this number.
-fn is_on_machine(said: Option<Result<Event, LineFault>>, number: usize) -> bool {
-    match said {
-        Some(Ok(Event::Machine { machine, .. })) => machine == number,
-        _ => false,
+/// Takes what a console has next.
+fn next_of(console: &mut Console) -> Next {
+    match console.next_command() {
+        None => Next::Nothing,
+        Some(Err(fault)) => Next::Fault(fault),
+        Some(Ok(Event::Machine { machine, .. })) => Next::OnMachine(machine),
+        Some(Ok(_)) => Next::Other,
     }
+}
+
+/// How many of these bytes a console takes.
+fn feed(console: &mut Console, bytes: &[u8]) -> usize {
+    console.feed(bytes)
+}
+
+/// Whether a console holds the beginning of a line.
+fn rest(console: &Console) -> bool {
+    console.rest()
 }
 
 #[test]
 fn bytes_in_commands_out(rt: HostRuntime) -> Result<(), Fail> {
     let mut console = Console::new(rt.alloc())?;
-    assert!(rt; console.next_command().is_none());
-    assert_eq!(rt; console.feed(b"st"), 2);
-    assert!(rt; console.rest());
-    assert_eq!(rt; console.feed(b"ep 1\nregs 2\n"), 5);
-    assert!(rt; !console.rest());
+    same!(rt; next_of(&mut console), Next::Nothing);
+    same!(rt; feed(&mut console, b"st"), 2);
+    same!(rt; rest(&console), true);
+    same!(rt; feed(&mut console, b"ep 1\nregs 2\n"), 5);
+    same!(rt; rest(&console), false);
     // a line waits
-    assert_eq!(rt; console.feed(b"regs 2\n"), 0);
-    assert!(rt; is_on_machine(console.next_command(), 1));
-    assert!(rt; console.next_command().is_none());
-    assert_eq!(rt; console.feed(b"regs 2\n"), 7);
-    assert!(rt; is_on_machine(console.next_command(), 2));
-    assert_eq!(rt; console.feed(b"\n"), 1);
-    assert!(rt; matches!(console.next_command(), Some(Err(LineFault::Bad))));
-    assert_eq!(rt; console.feed(b"regs"), 4);
+    same!(rt; feed(&mut console, b"regs 2\n"), 0);
+    same!(rt; next_of(&mut console), Next::OnMachine(1));
+    same!(rt; next_of(&mut console), Next::Nothing);
+    same!(rt; feed(&mut console, b"regs 2\n"), 7);
+    same!(rt; next_of(&mut console), Next::OnMachine(2));
+    same!(rt; feed(&mut console, b"\n"), 1);
+    same!(rt; next_of(&mut console), Next::Fault(LineFault::Bad));
+    same!(rt; feed(&mut console, b"regs"), 4);
     console.clear();
-    assert!(rt; !console.rest());
+    same!(rt; rest(&console), false);
     Ok(())
 }
 
 /// Lines, each with the command that it spells.
-const GOOD: [(&str, &str); 40] = [
+const GOOD: &[(&str, &str)] = &[
     ("make 1", "Make { length: ObjectLength { count: 1 } }"),
     (
         "make 65536",
@@ -171,20 +183,36 @@ const GOOD: [(&str, &str); 40] = [
     ),
 ];
 
+/// What a line says, as text: a command, or why it is none.
+fn text_of(alloc: Global, said: Option<Result<Event, LineFault>>) -> Result<String, Fail> {
+    match said {
+        Some(Ok(event)) => Ok(format!(in alloc; "{event:?}")?),
+        Some(Err(fault)) => Ok(format!(in alloc; "{fault:?}")?),
+        None => Ok(String::from_str(alloc, "nothing")?),
+    }
+}
+
+/// The same of a fresh console that takes all of it.
+fn read(alloc: Global, line: &str) -> Result<String, Fail> {
+    let mut console = Console::new(alloc)?;
+    let taken = console.feed(line.as_bytes());
+    let ended = console.feed(b"\n");
+    if taken != line.len() || ended != 1 {
+        return Ok(String::from_str(alloc, "too much")?);
+    }
+    text_of(alloc, console.next_command())
+}
+
 #[test]
 fn good_lines(rt: HostRuntime) -> Result<(), Fail> {
-    for (line, event) in GOOD {
-        let Some(Ok(found)) = read(rt.alloc(), line)? else {
-            return Err("no command")?;
-        };
-        let found = format!(in rt.alloc(); "{found:?}")?;
-        assert_eq!(rt; found.as_str(), event);
+    for &(line, event) in GOOD {
+        same!(rt; read(rt.alloc(), line)?.as_str(), event, line);
     }
     Ok(())
 }
 
 /// Lines that spell no command.
-const BAD: [&str; 128] = [
+const BAD: &[&str] = &[
     // names and spaces
     "",
     " ",
@@ -324,9 +352,8 @@ const BAD: [&str; 128] = [
 
 #[test]
 fn bad_lines(rt: HostRuntime) -> Result<(), Fail> {
-    for line in BAD {
-        let said = read(rt.alloc(), line)?;
-        assert!(rt; matches!(said, Some(Err(LineFault::Bad))), "{line}");
+    for &line in BAD {
+        same!(rt; read(rt.alloc(), line)?.as_str(), "Bad", line);
     }
     Ok(())
 }

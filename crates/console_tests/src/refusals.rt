@@ -1,10 +1,11 @@
 //! A conversation that moves an object, with its input cut and with devices and stores that fail.
 
-use crate::talks::{count_lines, first_lines, world_of};
-use console::{Console, DriveFault, drive};
+use crate::compared::same;
+use crate::talks::{Agent, count_lines, first_lines, new_agent, told_of};
+use console::{Console, DriveFault};
 use far_store::{Failing, OwnStore};
-use std::alloc::Global;
-use std::io::{ErrorKind, Read, Write};
+use std::alloc::{AllocError, Global};
+use std::io::ErrorKind;
 use std::test::Fail;
 use test_devices::{FailingReader, FailingWriter, Failure, Narrow, Pieces};
 use world::World;
@@ -21,40 +22,71 @@ const OUTPUT: &[u8] =
 stopped 1 exit 0000000000000000\nstopped 2 exit 0000000000000000\nleaving 1\naway 1\nleft 1\nreturning 1\nhome 1\n\
 bytes 0400000000000000\n";
 
-/// How the conversation ends.
-fn talk<R: Read, W: Write>(
-    alloc: Global,
-    reader: &mut R,
-    writer: &mut W,
-) -> Result<Result<(), DriveFault>, Fail> {
-    let mut world = world_of(alloc)?;
-    let mut console = Console::new(alloc)?;
-    Ok(drive(reader, writer, &mut console, &mut world))
+/// An agent whose far store fails at this call.
+fn failing_at(alloc: Global, call: u64) -> Result<Agent<Failing<OwnStore>>, AllocError> {
+    let store = Failing::new(OwnStore::new(alloc), call);
+    Ok(Agent {
+        world: World::new(alloc, 67_108_864, store)?,
+        console: Console::new(alloc)?,
+    })
 }
 
-/// What is answered to an input, by an agent whose far store fails at this call.
+/// What such an agent answers to an input.
 fn answers(alloc: Global, call: u64, input: &[u8]) -> Result<Vec<u8>, Fail> {
-    let mut world = World::new(alloc, 67_108_864, Failing::new(OwnStore::new(alloc), call))?;
-    let mut console = Console::new(alloc)?;
+    let mut agent = failing_at(alloc, call)?;
     let mut out = Vec::new(alloc);
-    let mut reader = Pieces::new(input, 4096);
-    drive(&mut reader, &mut out, &mut console, &mut world)?;
+    agent.hear(&mut Pieces::new(input, 4096), &mut out)?;
     Ok(out)
+}
+
+/// What is answered to the first so many bytes of the conversation: as in the whole one to each line that is ended, and `cut` to
+/// what is cut.
+fn cut_after(alloc: Global, input: &[u8]) -> Result<Vec<u8>, AllocError> {
+    let mut wanted = Vec::from_slice(alloc, first_lines(OUTPUT, count_lines(input)))?;
+    if !input.is_empty() && !input.ends_with(b"\n") {
+        wanted.extend_from_slice(b"cut\n")?;
+    }
+    Ok(wanted)
 }
 
 /// Each ended line is answered as in the whole conversation, and what is cut is `cut`.
 #[test]
 fn cut_lines(rt: HostRuntime) -> Result<(), Fail> {
-    for length in 0..INPUT.len() + 1 {
+    for length in 0..=INPUT.len() {
         let input = &INPUT[..length];
-        let out = answers(rt.alloc(), 0, input)?;
-        let mut wanted = Vec::from_slice(rt.alloc(), first_lines(OUTPUT, count_lines(input)))?;
-        if !input.is_empty() && !input.ends_with(b"\n") {
-            wanted.extend_from_slice(b"cut\n")?;
-        }
-        assert_eq!(rt; out.as_slice(), wanted.as_slice(), "{length} bytes");
+        let wanted = cut_after(rt.alloc(), input)?;
+        same!(rt; answers(rt.alloc(), 0, input)?.as_slice(), wanted.as_slice(), length);
     }
     Ok(())
+}
+
+/// How a conversation ends, and how many right bytes it told.
+type Ended = (Result<(), DriveFault>, Option<usize>);
+
+/// The same of one of whose reads the one after so many fails.
+fn with_reads(alloc: Global, reads: usize) -> Result<Ended, AllocError> {
+    let mut agent = new_agent(alloc)?;
+    let mut out = Vec::new(alloc);
+    let mut reader = FailingReader::new(Pieces::new(INPUT, 16), reads);
+    let ended = agent.hear(&mut reader, &mut out);
+    Ok((ended, told_of(&out, OUTPUT)))
+}
+
+/// The same of one of whose writes the one after so many fails.
+fn with_writes(alloc: Global, writes: usize) -> Result<Ended, AllocError> {
+    let mut agent = new_agent(alloc)?;
+    let failure = Failure::Error(ErrorKind::BrokenPipe);
+    let mut writer = FailingWriter::new(alloc, writes, failure);
+    let ended = agent.hear(&mut Pieces::new(INPUT, 4096), &mut writer);
+    Ok((ended, told_of(&writer.taken, OUTPUT)))
+}
+
+/// The same of one whose writer takes so many bytes.
+fn with_room(alloc: Global, room: usize) -> Result<Ended, AllocError> {
+    let mut agent = new_agent(alloc)?;
+    let mut writer = Narrow::new(alloc, 1, room);
+    let ended = agent.hear(&mut Pieces::new(INPUT, 4096), &mut writer);
+    Ok((ended, told_of(&writer.taken, OUTPUT)))
 }
 
 /// What was written before a read or a write failed is whole replies, or a beginning of them where
@@ -62,50 +94,53 @@ fn cut_lines(rt: HostRuntime) -> Result<(), Fail> {
 #[test]
 fn failing_device(rt: HostRuntime) -> Result<(), Fail> {
     for reads in 0..INPUT.len() / 16 + 2 {
-        let mut reader = FailingReader::new(Pieces::new(INPUT, 16), reads);
-        let mut out = Vec::new(rt.alloc());
-        let ended = talk(rt.alloc(), &mut reader, &mut out)?;
-        assert_eq!(rt; ended, Err(DriveFault::Read), "{reads} reads");
         let heard = count_lines(&INPUT[..INPUT.len().min(reads * 16)]);
-        assert_eq!(rt; out.as_slice(), first_lines(OUTPUT, heard), "{reads} reads");
+        let wanted = (
+            Err(DriveFault::Read),
+            Some(first_lines(OUTPUT, heard).len()),
+        );
+        same!(rt; with_reads(rt.alloc(), reads)?, wanted, reads);
     }
     for writes in 0..count_lines(OUTPUT) {
-        let failure = Failure::Error(ErrorKind::BrokenPipe);
-        let mut writer = FailingWriter::new(rt.alloc(), writes, failure);
-        let ended = talk(rt.alloc(), &mut Pieces::new(INPUT, 4096), &mut writer)?;
-        assert_eq!(rt; ended, Err(DriveFault::Write), "{writes} writes");
-        assert_eq!(rt;
-            writer.taken.as_slice(),
-            first_lines(OUTPUT, writes),
-            "{writes} writes"
+        let wanted = (
+            Err(DriveFault::Write),
+            Some(first_lines(OUTPUT, writes).len()),
         );
+        same!(rt; with_writes(rt.alloc(), writes)?, wanted, writes);
     }
     for room in 0..OUTPUT.len() {
-        let mut writer = Narrow::new(rt.alloc(), 1, room);
-        let ended = talk(rt.alloc(), &mut Pieces::new(INPUT, 4096), &mut writer)?;
-        assert_eq!(rt; ended, Err(DriveFault::Write), "{room} bytes");
-        assert_eq!(rt; writer.taken.as_slice(), &OUTPUT[..room], "{room} bytes");
+        same!(rt; with_room(rt.alloc(), room)?, (Err(DriveFault::Write), Some(room)), room);
     }
     Ok(())
+}
+
+/// A conversation in which an object leaves and comes home, twice each.
+const MOVES: &[u8] =
+    b"make 8\nput 1 0 07\nleave 1\nleft 1\nleave 1\nleft 1\nreturn 1\nreturned 1\nreturn 1\nreturned 1\nget 1 0 1\n";
+
+/// What its moves are answered after the first one, where no call fails, the first or the second.
+const MOVED: &[&[u8]] = &[
+    b"left 1\nplace 1 far\nplace 1 far\nreturning 1\nhome 1\nplace 1 here\nplace 1 here\n",
+    b"kept 1 fault here\nleaving 1\nleft 1\nreturning 1\nhome 1\nplace 1 here\nplace 1 here\n",
+    b"left 1\nplace 1 far\nplace 1 far\nreturning 1\nkept 1 fault far\nreturning 1\nhome 1\n",
+];
+
+/// What the whole conversation is answered.
+fn moved(alloc: Global, told: &[u8]) -> Result<Vec<u8>, AllocError> {
+    let mut wanted = Vec::from_slice(alloc, b"made 1\nok\nleaving 1\n")?;
+    wanted.extend_from_slice(told)?;
+    wanted.extend_from_slice(b"bytes 07\n")?;
+    Ok(wanted)
 }
 
 /// An object whose bytes can't be sent is here again, one whose bytes can't be fetched is far
 /// again, and the next attempt moves it.
 #[test]
 fn failing_store(rt: HostRuntime) -> Result<(), Fail> {
-    let input =
-        b"make 8\nput 1 0 07\nleave 1\nleft 1\nleave 1\nleft 1\nreturn 1\nreturned 1\nreturn 1\nreturned 1\nget 1 0 1\n".as_slice();
-    let calls = [
-        b"left 1\nplace 1 far\nplace 1 far\nreturning 1\nhome 1\nplace 1 here\nplace 1 here\n".as_slice(),
-        b"kept 1 fault here\nleaving 1\nleft 1\nreturning 1\nhome 1\nplace 1 here\nplace 1 here\n".as_slice(),
-        b"left 1\nplace 1 far\nplace 1 far\nreturning 1\nkept 1 fault far\nreturning 1\nhome 1\n".as_slice(),
-    ];
-    for (call, told) in calls.iter().enumerate() {
-        let mut wanted = Vec::from_slice(rt.alloc(), b"made 1\nok\nleaving 1\n")?;
-        wanted.extend_from_slice(told)?;
-        wanted.extend_from_slice(b"bytes 07\n")?;
-        let out = answers(rt.alloc(), call as u64, input)?;
-        assert_eq!(rt; out.as_slice(), wanted.as_slice(), "call {call}");
+    for (call, told) in MOVED.iter().enumerate() {
+        let wanted = moved(rt.alloc(), told)?;
+        let found = answers(rt.alloc(), call as u64, MOVES)?;
+        same!(rt; found.as_slice(), wanted.as_slice(), call);
     }
     Ok(())
 }

@@ -1,6 +1,7 @@
 //! The text of each reply.
 ghost use Rattle.console.specs.Replies.{IsShort};
 
+use crate::compared::same;
 use console::{LineFault, ReplyLine, print_fault, print_reply};
 use loader::{LoadError, Why};
 use machine::Stop;
@@ -22,7 +23,7 @@ fn prints(rt: &impl Abort, reply: Reply, text: &str)
 {
     let mut line = ReplyLine::new();
     print_reply(&reply, &mut line);
-    assert_eq!(rt; line.as_slice(), text.as_bytes());
+    same!(*rt; line.as_slice(), text.as_bytes());
 }
 
 /// Machine 3 is stopped.
@@ -95,7 +96,7 @@ fn each_move(rt: HostRuntime) {
 
 #[test]
 fn each_place(rt: HostRuntime) {
-    let cases = [
+    for &(place, misplaced, faulted) in &[
         (Place::Here, "place 7 here\n", "kept 7 fault here\n"),
         (
             Place::Leaving,
@@ -108,8 +109,7 @@ fn each_place(rt: HostRuntime) {
             "place 7 returning\n",
             "kept 7 fault returning\n",
         ),
-    ];
-    for (place, misplaced, faulted) in cases {
+    ] {
         prints(&rt, Reply::Misplaced { object: 7, place }, misplaced);
         prints(&rt, Reply::Faulted { object: 7, place }, faulted);
     }
@@ -145,7 +145,7 @@ fn bytes_and_values(rt: HostRuntime) -> Result<(), Fail> {
 
 #[test]
 fn registers(rt: HostRuntime) {
-    let cases = [
+    for &(state, text) in &[
         (
             State::Running,
             "regs 48 4095 18446744073709551615 run 0000000000000000 0000000000000001 00000000000000ab 1234567890abcdef 0000000000000004 0000000000000005 0000000000000006 0000000000000007 0000000000000008 0000000000000009 ffffffffffffffff\n",
@@ -162,19 +162,22 @@ fn registers(rt: HostRuntime) {
             State::Stopped(Stop::Misaligned),
             "regs 48 4095 18446744073709551615 misaligned 0000000000000000 0000000000000001 00000000000000ab 1234567890abcdef 0000000000000004 0000000000000005 0000000000000006 0000000000000007 0000000000000008 0000000000000009 ffffffffffffffff\n",
         ),
-    ];
-    for (state, text) in cases {
+    ] {
         let mut shown = SHOWN;
         shown.state = state;
         prints(&rt, Reply::Registers { machine: 48, shown }, text);
     }
 }
 
+/// Asserts that the reply to a line that spells no command has this text.
+fn prints_fault(rt: &impl Abort, fault: LineFault, text: &str) {
+    let mut line = ReplyLine::new();
+    print_fault(fault, &mut line);
+    same!(*rt; line.as_slice(), text.as_bytes());
+}
+
 #[test]
 fn faults_of_lines(rt: HostRuntime) {
-    let mut line = ReplyLine::new();
-    print_fault(LineFault::Bad, &mut line);
-    assert_eq!(rt; line.as_slice(), b"bad\n".as_slice());
-    print_fault(LineFault::NoMemory, &mut line);
-    assert_eq!(rt; line.as_slice(), b"nomem\n".as_slice());
+    prints_fault(&rt, LineFault::Bad, "bad\n");
+    prints_fault(&rt, LineFault::NoMemory, "nomem\n");
 }

@@ -1,8 +1,9 @@
 //! One conversation, and what is left of it when a device fails.
 
-use console::{Console, drive};
-use far_store::OwnStore;
-use std::alloc::Global;
+use console::{Console, DriveFault, drive};
+use far_store::{FarStore, OwnStore};
+use std::alloc::{AllocError, Global};
+use std::io::{Read, Write};
 use std::test::Fail;
 use test_devices::Pieces;
 use world::{Event, MachineCommand, ObjectCommand, Reply, ShowCommand, World};
@@ -15,9 +16,41 @@ pub const INPUT: &[u8] =
 pub const OUTPUT: &[u8] =
     b"made 1\nok\nbytes 000aff00\nshipped 1\nran 1 1\nstopped 1 exit 0000000000000007\nout 1\n";
 
+/// An agent and its console.
+#[derive(Drop)]
+pub struct Agent<F: FarStore> {
+    pub world: World<F>,
+    pub console: Console,
+}
+
+impl<F: FarStore> Agent<F> {
+    /// Answers a conversation, and says how it ends.
+    pub fn hear<R: Read, W: Write>(
+        &mut self,
+        reader: &mut R,
+        writer: &mut W,
+    ) -> Result<(), DriveFault> {
+        drive(reader, writer, &mut self.console, &mut self.world)
+    }
+
+    /// Whether the console holds the beginning of a line, and whether a whole one waits.
+    pub fn holds(&mut self) -> [bool; 2] {
+        let rest = self.console.rest();
+        [rest, self.console.next_command().is_some()]
+    }
+}
+
 /// An agent without machines and objects, which keeps those that leave by itself.
-pub fn world_of(alloc: Global) -> Result<World<OwnStore>, Fail> {
-    Ok(World::new(alloc, 67_108_864, OwnStore::new(alloc))?)
+pub fn new_agent(alloc: Global) -> Result<Agent<OwnStore>, AllocError> {
+    Ok(Agent {
+        world: World::new(alloc, 67_108_864, OwnStore::new(alloc))?,
+        console: Console::new(alloc)?,
+    })
+}
+
+/// How many bytes were told, if they are the first of this text.
+pub fn told_of(told: &[u8], text: &[u8]) -> Option<usize> {
+    text.starts_with(told).then_some(told.len())
 }
 
 /// The first lines of a text.
@@ -93,10 +126,8 @@ pub fn seen_done(commands: usize) -> usize {
 
 /// What a fresh agent answers to this input, so many bytes at a time.
 pub fn answers(alloc: Global, input: &[u8], size: usize) -> Result<Vec<u8>, Fail> {
-    let mut world = world_of(alloc)?;
-    let mut console = Console::new(alloc)?;
+    let mut agent = new_agent(alloc)?;
     let mut out = Vec::new(alloc);
-    let mut reader = Pieces::new(input, size);
-    drive(&mut reader, &mut out, &mut console, &mut world)?;
+    agent.hear(&mut Pieces::new(input, size), &mut out)?;
     Ok(out)
 }
