@@ -2,8 +2,8 @@
 """Runs `bpfagent serve` with clients over TCP: service.py PROGRAM
 
 The conversations of README.md, docs/PROTOCOL.md and examples/serve with their clients, workers and the mover at work, eight clients at once over a counter
-that leaves and returns, conversations that are cut off, objects that are kept by `bpfagent store`, also when that is killed, each
-status, and what is left when the service has closed.
+that leaves and returns, conversations that are cut off, objects that are kept by `bpfagent store`, to their last byte, also when that
+is killed, each status, and what is left when the service has closed.
 """
 import hashlib
 import os
@@ -21,12 +21,17 @@ SECONDS = 60
 LOOKS = 10_000
 # how often a machine that is debugged adds
 TIMES = 2_000
+# how many bytes one `put` or `get` has at most, and how long objects are that leave whole
+PIECE = 4_096
+LENGTHS = {1: 9, 2: 64, 3: 4_097, 4: 65_536}
 EXAMPLES = ROOT / "examples/serve"
 EXIT = "9500000000000000"
 # aadd [r1], r2 · exit
 ADD = "db21000000000000" + EXIT
 # mov r3, 100 · aadd [r1], r2 · add r3, -1 · jne r3, 0, -3 · exit
 ADDS = "b703000064000000" "db21000000000000" "07030000ffffffff" "5503fdff00000000" + EXIT
+# aadd [r1+16], r2 · exit
+ADD_BEHIND = "db21100000000000" + EXIT
 COUNTER = (ROOT / "examples/c/counter.code").read_bytes().hex()
 
 
@@ -228,15 +233,15 @@ def service_runs(program):
     want(client.end() == "" and service.ends_well({1: of_eight(100)}, [shown]), "the end of a service with workers")
 
 
-def away(client, held):
-    """Object 1, which has these bytes, is asked to leave until it is away. The reading that finds it so asks for it."""
+def away(client, held, number=1):
+    """An object, which begins with these eight bytes, is asked to leave until it is away. The reading that finds it so asks for it."""
     for _ in range(LOOKS):
-        asked = client.ask("leave 1")
-        want(asked in ("asked 1", "full"), f"leave is answered {asked}")
-        if (found := client.ask("get 1 0 8")) == "away 1":
+        asked = client.ask(f"leave {number}")
+        want(asked in (f"asked {number}", "full"), f"leave is answered {asked}")
+        if (found := client.ask(f"get {number} 0 8")) == f"away {number}":
             return
-        want(found in (held, "busy 1"), f"get is answered {found}")
-    raise Failed("the object doesn't leave")
+        want(found in (held, f"busy {number}"), f"get is answered {found}")
+    raise Failed(f"object {number} doesn't leave")
 
 
 def there_and_back(client, held):
@@ -367,6 +372,48 @@ def show_unreached(program):
         want((status, output) == (2, "") and errors.startswith("error: ") and errors.endswith("--help'.\n"), f"{words} ended with {status}, {output}, {errors}")
 
 
+def write_all(client, number, held):
+    """Puts these bytes into an object that is here."""
+    for at in range(0, len(held), PIECE):
+        want(client.ask(f"put {number} {at} {held[at : at + PIECE].hex()}") == "ok", f"object {number} is written at {at}")
+
+
+def read_all(client, number, length):
+    """All bytes of an object. Where it is away, the first reading calls it back."""
+    held = b""
+    while len(held) < length:
+        reply = client.ask_until(f"get {number} {len(held)} {min(PIECE, length - len(held))}", "bytes ")
+        held += bytes.fromhex(reply.split()[1])
+    return held
+
+
+def show_far_bytes(program):
+    """Each byte of an object that a far server kept, which promises nothing, is the one that was put, also of the longest; so it is of what
+    is written when it is back, by a connection and by a machine, and when it has left once more."""
+    server = Server(program)
+    service = Service(program, "--far", f"127.0.0.1:{server.port}", "--workers", 0, setup=[f"make {length}" for length in LENGTHS.values()])
+    client = Client(service)
+    held = {number: hashlib.shake_256(bytes([number])).digest(length) for number, length in LENGTHS.items()}
+    for number in held:
+        write_all(client, number, held[number])
+    for _ in range(2):
+        for number in held:
+            away(client, f"bytes {held[number][:8].hex()}", number)
+        for number, length in LENGTHS.items():
+            want(read_all(client, number, length) == held[number], f"object {number} comes back with other bytes")
+            want(client.ask(f"put {number} {length - 1} 5a") == "ok", f"the last byte of object {number}")
+            held[number] = held[number][:-1] + b"\x5a"
+            want(read_all(client, number, length) == held[number], f"object {number} has other bytes than were written")
+    want(client.ask(f"ship 10 0x200000000 1 0 0 0 {ADD_BEHIND}") == "shipped 1", "a machine")
+    want([client.ask("step 1"), client.ask("step 1")] == ["ran 1 1", f"stopped 1 exit {0:016x}"], "an addition to bytes 16 to 23 of object 2")
+    added = (int.from_bytes(held[2][16:24], "little") + 1) % (1 << 64)
+    held[2] = held[2][:16] + of_eight(added) + held[2][24:]
+    want(read_all(client, 2, LENGTHS[2]) == held[2], "object 2 after an addition")
+    shown = client.ask("regs 1")
+    want(client.end() == "" and service.ends_well(held, [shown]), "the end of a service whose long objects left")
+    want(server.end() == (0, b"", b""), "the far server of long objects")
+
+
 def long_adds(times):
     """Adds R2 to the object at R1, so often."""
     # mov r3, times · aadd [r1], r2 · add r3, -1 · jne r3, 0, -3 · exit
@@ -469,7 +516,7 @@ def show_port(program):
     want(again.port == port and Client(again).end() == "" and again.ends_well(), "the port that is asked for")
 
 
-SHOWN = [show_readme, show_protocol, show_examples, show_row, show_digest, close_two, service_runs, service_moves, service_sweeps, show_without_sweep, show_crowd, show_debuggers, show_lost, show_far, show_lost_server, show_unreached, show_statuses, show_port]
+SHOWN = [show_readme, show_protocol, show_examples, show_row, show_digest, close_two, service_runs, service_moves, service_sweeps, show_without_sweep, show_crowd, show_debuggers, show_lost, show_far, show_far_bytes, show_lost_server, show_unreached, show_statuses, show_port]
 
 
 if __name__ == "__main__":
