@@ -2,8 +2,8 @@
 """Runs `bpfagent serve` with clients over TCP: service.py PROGRAM
 
 The conversations of README.md, docs/PROTOCOL.md and examples/serve with their clients, workers and the mover at work, eight clients at once over a counter
-that leaves and returns, conversations that are cut off, objects that are kept by `bpfagent store`, to their last byte, also when that
-is killed, each status, and what is left when the service has closed.
+that leaves and returns and over machines that they debug, whose object is away while they are within their loops, conversations that are cut off, objects that are kept by `bpfagent store`, to their last byte, also when that is
+killed, each status, and what is left when the service has closed.
 """
 import hashlib
 import os
@@ -19,8 +19,10 @@ from store import Server
 
 SECONDS = 60
 LOOKS = 10_000
-# how often a machine that is debugged adds
-TIMES = 2_000
+# how often an object is seen to have left while machines use it
+SEEN = 3
+# more than machines use up that run as long as a reader lets them
+FUEL = 1 << 60
 # how many bytes one `put` or `get` has at most, and how long objects are that leave whole
 PIECE = 4_096
 LENGTHS = {1: 9, 2: 64, 3: 4_097, 4: 65_536}
@@ -30,8 +32,15 @@ EXIT = "9500000000000000"
 ADD = "db21000000000000" + EXIT
 # mov r3, 100 · aadd [r1], r2 · add r3, -1 · jne r3, 0, -3 · exit
 ADDS = "b703000064000000" "db21000000000000" "07030000ffffffff" "5503fdff00000000" + EXIT
+# call 4, which closes the scopes
+CLOSE = "8500000004000000"
 # aadd [r1+16], r2 · exit
 ADD_BEHIND = "db21100000000000" + EXIT
+# mov r3, 0 · aadd [r1], r2 · ldxb r5, [r4] · call 4 · mov r6, 3000 · add r6, -1 · jne r6, 0, -2 · add r3, 1 · jeq r5, 0, -8 · mov r0, r3 · exit:
+# most of the time nothing is in scope
+ADDS_UNTIL_TOLD = "b703000000000000" "db21000000000000" "7145000000000000" + CLOSE + "b7060000b80b0000" "07060000ffffffff" "5506feff00000000" "0703000001000000" "1505f8ff00000000" "bf30000000000000" + EXIT
+# add r3, 1 · ja -2
+COUNTS = "0703000001000000" "0500feff00000000"
 COUNTER = (ROOT / "examples/c/counter.code").read_bytes().hex()
 
 
@@ -81,6 +90,11 @@ class Client:
         self.stream.sendall(f"{command}\n".encode())
         return self.replies.readline().rstrip("\n")
 
+    def ask_at_once(self, commands):
+        """The replies to commands that are sent together."""
+        self.stream.sendall("".join(f"{command}\n" for command in commands).encode())
+        return [self.replies.readline().rstrip("\n") for _ in commands]
+
     def ask_until(self, command, wanted, looks=LOOKS, pause=0.0):
         """The first reply that begins so, of so many at most, with a pause before each."""
         for _ in range(looks):
@@ -120,6 +134,17 @@ def stopped(client, machine):
             return reply
         time.sleep(0.001)
     raise Failed(f"machine {machine} didn't stop: {reply}")
+
+
+def paused(client, machine, slot):
+    """The words of `regs` of a machine when it is paused, which is at this slot."""
+    for _ in range(LOOKS):
+        words = client.ask(f"regs {machine}").split()
+        if words[4] == "paused":
+            want(words[2] == f"{slot}", f"machine {machine} is paused otherwise: {words}")
+            return words
+        time.sleep(0.001)
+    raise Failed(f"machine {machine} isn't paused: {words}")
 
 
 def parts(text):
@@ -244,6 +269,18 @@ def away(client, held, number=1):
     raise Failed(f"object {number} doesn't leave")
 
 
+def away_unmissed(client):
+    """Object 1, which nobody holds, leaves, and nobody asks for it: requests are served in turn, so it is away when object 2 is, which
+    was here before."""
+    client.ask_until("get 2 0 1", "bytes")
+    for _ in range(LOOKS):
+        client.ask_until("leave 1", "asked 1")
+        client.ask_until("leave 2", "asked 2")
+        if client.ask("get 2 0 1") == "away 2":
+            return
+    raise Failed("object 2 doesn't leave")
+
+
 def there_and_back(client, held):
     """Object 1, which has these bytes, is asked to leave until it is away, and read until it is here again."""
     away(client, held)
@@ -339,12 +376,7 @@ def show_lost_server(program):
     setup = ["make 8", "put 1 0 2a", "make 8", "make 8", "put 3 0 07", f"ship 10 0x100000000 1 0 0 0 {ADD}"]
     service = Service(program, "--far", f"127.0.0.1:{server.port}", "--workers", 0, setup=setup)
     client = Client(service)
-    # requests are served in turn: when object 2 is away object 1 is, and nobody has asked for that to come home
-    for _ in range(LOOKS):
-        client.ask("leave 1")
-        client.ask("leave 2")
-        if client.ask("get 2 0 1") == "away 2":
-            break
+    away_unmissed(client)
     server.process.kill()
     server.process.wait()
     for _ in range(20):
@@ -414,49 +446,163 @@ def show_far_bytes(program):
     want(server.end() == (0, b"", b""), "the far server of long objects")
 
 
-def long_adds(times):
-    """Adds R2 to the object at R1, so often."""
-    # mov r3, times · aadd [r1], r2 · add r3, -1 · jne r3, 0, -3 · exit
-    return f"b7030000{times.to_bytes(4, 'little').hex()}" "db21000000000000" "07030000ffffffff" "5503fdff00000000" + EXIT
+class Meeting:
+    """Clients on threads of their own, who come together with the reader. One that fails lets all others go."""
+
+    def __init__(self, clients, task, *arguments):
+        self.barrier = threading.Barrier(clients + 1, timeout=SECONDS)
+        self.told, self.wrong = [], []
+        self.threads = [threading.Thread(target=self.run, args=(task, *arguments, machine), daemon=True) for machine in range(1, clients + 1)]
+        for thread in self.threads:
+            thread.start()
+
+    def run(self, task, *arguments):
+        try:
+            self.told.append(task(self, *arguments))
+        except (Failed, OSError, ValueError, IndexError, threading.BrokenBarrierError) as error:
+            self.wrong.append(repr(error))
+            self.barrier.abort()
+
+    def come(self):
+        """Waits until all clients and the reader have come."""
+        self.barrier.wait()
+
+    def lead(self, task):
+        """The reader's part between two meetings, when all have come."""
+        try:
+            self.come()
+            task()
+            self.come()
+        except threading.BrokenBarrierError:
+            raise Failed(f"not all clients come, and some ended with {self.wrong}") from None
+        except Failed:
+            self.barrier.abort()
+            raise
+
+    def end(self):
+        """What the clients told, in the order of their machines."""
+        for thread in self.threads:
+            thread.join()
+        want(not self.wrong and len(self.told) == len(self.threads), f"the clients ended with {self.wrong}")
+        return sorted(self.told)
 
 
-def debug_machine(service, machine, told):
-    """One of many clients: workers ran its machine to the breakpoint that the input set. It looks at it, does one instruction, and
-    lets it go."""
-    try:
-        client = Client(service)
-        words = client.ask_until(f"regs {machine}", f"regs {machine} 1 ", pause=0.001).split()
-        want(words[4] == "paused" and int(words[7], 16) == machine and int(words[8], 16) == TIMES, f"machine {machine} at its breakpoint: {words}")
+def left_often(client):
+    """Object 1 is asked to leave until it did a few times, while machines use it, which call it back at once: the numbers that it showed
+    meanwhile."""
+    shown, seen, was_away = [], 0, False
+    end = time.monotonic() + SECONDS / 2
+    while time.monotonic() < end:
+        asked, *found = client.ask_at_once(["leave 1", *["get 1 0 8"] * 15])
+        want(asked in ("asked 1", "full"), f"leave is answered {asked}")
+        for reply in found:
+            seen += reply == "away 1" and not was_away
+            was_away = reply == "away 1"
+            if reply not in ("away 1", "busy 1"):
+                want(reply.startswith("bytes "), f"get is answered {reply}")
+                shown.append(int.from_bytes(bytes.fromhex(reply.split()[1]), "little"))
+        if seen >= SEEN:
+            return shown
+    raise Failed(f"while machines run the object leaves {seen} times")
+
+
+def run_by_one(client, machine):
+    """A machine that workers run does single instructions in between, until it has stopped: its `regs`."""
+    for _ in range(LOOKS):
+        reply = client.ask(f"one {machine}")
+        if reply.startswith(f"stopped {machine} "):
+            return client.ask(f"regs {machine}")
+        does = reply.startswith(f"ran {machine} ")
+        want(does or reply in (f"waiting {machine} 1", f"waiting {machine} 2"), f"one is answered {reply}")
+        want(client.ask(f"resume {machine}") == ("ok" if does else "notpaused"), f"resume after {reply}")
+        time.sleep(0.01)
+    raise Failed(f"machine {machine} doesn't stop: {reply}")
+
+
+def debug_machine(meeting, service, machine):
+    """One of many clients: workers ran its machine to the breakpoint that the input set. It looks at it, does one instruction, which
+    comes to an object that is away, lets it go to another breakpoint, and from there to its end: whether it had to wait, and how
+    the machine ended."""
+    client = Client(service)
+    words = paused(client, machine, 1)
+    want([int(words[at], 16) for at in (7, 8)] == [machine, 0], f"machine {machine} at its breakpoint: {words}")
+    waits = (reply := client.ask(f"one {machine}")) == f"waiting {machine} 1"
+    if waits:
         reply = client.ask_until(f"one {machine}", f"ran {machine} ", pause=0.001)
-        want(reply == f"ran {machine} 2", f"one instruction: {reply}")
-        want(client.ask(f"stack {machine} 0 4") == "bytes 00000000" and client.ask(f"out {machine}") == f"out {machine}", "its stack, and what it gave out")
-        want(client.ask(f"line {machine} 4") == f"line {machine} 4 exit", "its last line")
-        want(client.ask(f"watch {machine} 0x100000000 8") == "ok" and client.ask(f"unwatch {machine} 0x100000000 8") == "ok", "a watched range")
-        want(client.ask("leave 1") in ("asked 1", "full"), "a request to the mover")
-        want(client.ask(f"unbreak {machine} 1") == "ok" and client.ask(f"resume {machine}") == "ok", "it goes on")
-        told.append((machine, stopped(client, machine), client.end()))
-    except (Failed, OSError, ValueError, IndexError) as error:
-        told.append(error)
+    want(reply == f"ran {machine} 2", f"one instruction: {reply}")
+    want(client.ask(f"stack {machine} 0 4") == "bytes 00000000" and client.ask(f"out {machine}") == f"out {machine}", "its stack, and what it gave out")
+    want(client.ask(f"line {machine} 10") == f"line {machine} 10 exit", "its last line")
+    want(client.ask(f"watch {machine} 0x100000000 8") == "ok" and client.ask(f"unwatch {machine} 0x100000000 8") == "ok", "a watched range")
+    want(client.ask(f"break {machine} 4") == "ok" and client.ask(f"unbreak {machine} 1") == "ok" and client.ask(f"resume {machine}") == "ok", "it goes on to another breakpoint")
+    words = paused(client, machine, 4)
+    want(int(words[8], 16) == 0, f"machine {machine} at its second breakpoint: {words}")
+    meeting.come()
+    meeting.come()
+    want(client.ask(f"unbreak {machine} 4") == "ok" and client.ask(f"resume {machine}") == "ok", "it goes on")
+    reply = run_by_one(client, machine)
+    want(" exit " in reply and client.end() == "", f"machine {machine} stops so: {reply}")
+    return machine, waits, reply
 
 
 def show_debuggers(program):
-    """Eight clients, of which seven debug a machine each while four workers run them all and the object is asked to leave: machine m
-    adds m, as often as it should."""
-    told, setup = [], ["make 8"]
+    """Eight clients, of which seven debug a machine each while four workers run them all: machine m adds m, and counts how often. The
+    object is away when the first machine comes to it, and again when all have added once, between two additions of each; from
+    then on it is asked to leave all the time, and the machines run until it has left a few times."""
+    setup = ["make 8", "make 8"]
     for machine in range(1, 8):
-        setup += [f"ship {4 * TIMES + 10} 0x100000000 {machine} 0 0 0 {long_adds(TIMES)}", f"break {machine} 1"]
+        setup += [f"ship {FUEL} 0x100000000 {machine} 0 0x200000000 0 {ADDS_UNTIL_TOLD}", f"break {machine} 1"]
     service = Service(program, "--connections", 8, "--workers", 4, setup=setup)
-    clients = [threading.Thread(target=debug_machine, args=(service, machine, told)) for machine in range(1, 8)]
     reader = Client(service)
-    for client in clients:
-        client.start()
-    for client in clients:
-        client.join()
-    wrong = [entry for entry in told if not isinstance(entry, tuple) or entry[2] or " exit " not in entry[1]]
-    want(not wrong and len(told) == 7, f"the clients ended with {wrong}")
-    shown = [reply for _, reply, _ in sorted(told)]
+    once = sum(range(1, 8))
+
+    def leaves(count):
+        away(reader, f"bytes {of_eight(count).hex()}")
+        away_unmissed(reader)
+
+    leaves(0)
+    meeting = Meeting(7, debug_machine, service)
+    meeting.lead(lambda: leaves(once))
+    counts = [once, *left_often(reader)]
+    want(counts == sorted(counts), f"the counter shows {counts}")
+    reader.ask_until("put 2 0 01", "ok")
+    told, total = meeting.end(), 0
+    want(any(waits for _, waits, _ in told), "no machine waits for an object that is away")
+    for machine, _, reply in told:
+        words = reply.split()
+        count = int(words[5], 16)
+        want(int(words[3]) == FUEL - 6006 * count - 3, f"the fuel of a machine that added {count} times: {reply}")
+        total += machine * count
+    shown = [reply for _, _, reply in told]
     want([reader.ask(f"regs {machine}") for machine in range(1, 8)] == shown, "machines that have stopped stay as they are")
-    want(reader.end() == "" and service.ends_well({1: of_eight(sum(range(1, 8)) * TIMES)}, shown, may_be_out=True), "the end of a service whose machines were debugged")
+    want(reader.end() == "" and service.ends_well({1: of_eight(total), 2: of_eight(1)}, shown, may_be_out=True), "the end of a service whose machines were debugged")
+
+
+def runs_on(client, rounds):
+    """Waits until machine 1 has gone round more often."""
+    for _ in range(LOOKS):
+        if int(client.ask("regs 1").split()[8], 16) > rounds:
+            return
+        time.sleep(0.001)
+    raise Failed("a machine doesn't go on")
+
+
+def show_breakpoint(program):
+    """A breakpoint that is set while a worker runs its machine pauses it there, where it stays; when it is cleared the machine goes on from
+    there."""
+    service = Service(program, "--workers", 2, setup=[f"ship {FUEL} 0 0 0 0 0 {COUNTS}"])
+    client, rounds = Client(service), 0
+    for slot in (1, 0):
+        runs_on(client, rounds)
+        want(client.ask(f"break 1 {slot}") == "ok", "a breakpoint of a machine that is run")
+        words = paused(client, 1, slot)
+        rounds = int(words[8], 16)
+        want(int(words[3]) == FUEL - 2 * rounds + slot, f"the fuel of a machine at a breakpoint: {words}")
+        time.sleep(0.02)
+        want(client.ask("regs 1").split() == words and client.ask("step 1") == f"paused 1 {slot}", "a machine that is paused stays as it is")
+        if slot:
+            want(client.ask(f"unbreak 1 {slot}") == "ok" and client.ask("resume 1") == "ok", "it goes on")
+    shown = client.ask("regs 1")
+    want(client.end() == "" and service.ends_well(machines=[shown]), "the end of a service whose machine is paused")
 
 
 def show_lost(program):
@@ -516,7 +662,7 @@ def show_port(program):
     want(again.port == port and Client(again).end() == "" and again.ends_well(), "the port that is asked for")
 
 
-SHOWN = [show_readme, show_protocol, show_examples, show_row, show_digest, close_two, service_runs, service_moves, service_sweeps, show_without_sweep, show_crowd, show_debuggers, show_lost, show_far, show_far_bytes, show_lost_server, show_unreached, show_statuses, show_port]
+SHOWN = [show_readme, show_protocol, show_examples, show_row, show_digest, close_two, service_runs, service_moves, service_sweeps, show_without_sweep, show_crowd, show_debuggers, show_breakpoint, show_lost, show_far, show_far_bytes, show_lost_server, show_unreached, show_statuses, show_port]
 
 
 if __name__ == "__main__":
