@@ -2,7 +2,8 @@
 """Runs `bpfagent serve` with clients over TCP: service.py PROGRAM
 
 The conversations of README.md, docs/PROTOCOL.md and examples/serve with their clients, workers and the mover at work, eight clients at once over a counter
-that leaves and returns and over machines that they debug, whose object is away while they are within their loops, conversations that are cut off, objects that are kept by `bpfagent store`, to their last byte, also when that is
+that leaves and returns, over machines that they debug and over accounts under a lock, whose object is away while machines are
+within their loops, conversations that are cut off, objects that are kept by `bpfagent store`, to their last byte, also when that is
 killed, each status, and what is left when the service has closed.
 """
 import hashlib
@@ -21,6 +22,12 @@ SECONDS = 60
 LOOKS = 10_000
 # how often an object is seen to have left while machines use it
 SEEN = 3
+# how often machines that take a lock come together outside, and how often each has been inside in the end
+MEETINGS = 4
+MOVES = 40
+# what the two accounts have together, and a number in the lock that is no machine's
+MONEY = 2_000
+READER = 99
 # more than machines use up that run as long as a reader lets them
 FUEL = 1 << 60
 # how many bytes one `put` or `get` has at most, and how long objects are that leave whole
@@ -42,6 +49,9 @@ ADDS_UNTIL_TOLD = "b703000000000000" "db21000000000000" "7145000000000000" + CLO
 # add r3, 1 · ja -2
 COUNTS = "0703000001000000" "0500feff00000000"
 COUNTER = (ROOT / "examples/c/counter.code").read_bytes().hex()
+LOCKED = (ROOT / "examples/c/locked.code").read_bytes().hex()
+# where a machine has given the lock back, by xchg [r8], r1, and closed its scopes
+OUTSIDE = LOCKED.index("db180000e1000000" + CLOSE) // 16 + 2
 
 
 class Service:
@@ -605,6 +615,85 @@ def show_breakpoint(program):
     want(client.end() == "" and service.ends_well(machines=[shown]), "the end of a service whose machine is paused")
 
 
+def accounts_of(reply):
+    """Of what `get` shows of the accounts the number of the machine that is inside, or 0, and both balances."""
+    held = bytes.fromhex(reply.split()[1])
+    return [int.from_bytes(held[at : at + 8], "little") for at in (0, 8, 16)]
+
+
+def take_lock(meeting, service, machine):
+    """One of many clients: workers run its machine, which a breakpoint stops a few times as it is outside, and then to its end: how that was."""
+    client = Client(service)
+    for _ in range(MEETINGS):
+        paused(client, machine, OUTSIDE)
+        meeting.come()
+        meeting.come()
+        want(client.ask(f"resume {machine}") == "ok", "it goes on")
+    paused(client, machine, OUTSIDE)
+    want(client.ask(f"unbreak {machine} {OUTSIDE}") == "ok" and client.ask(f"resume {machine}") == "ok", "it goes on to its end")
+    for _ in range(LOOKS):
+        if is_stopped(reply := client.ask(f"regs {machine}")):
+            break
+        want(client.ask("leave 1") in ("asked 1", "full"), "a request to the mover")
+        found = client.ask("get 1 0 24")
+        if found not in ("away 1", "busy 1"):
+            inside, *balances = accounts_of(found)
+            want(inside or sum(balances) == MONEY, f"nobody is inside, and the accounts have {balances}")
+    want(" exit " in reply and client.end() == "", f"machine {machine} stops so: {reply}")
+    return machine, reply
+
+
+def move_under_lock(program, machines, *arguments):
+    """So many machines, of a client each, move amounts between two accounts under a lock. The object leaves while all of them are
+    between two of their moves, so that each has to wait for it; then a few times while two of them run, which wait for the lock, that
+    the reader has; and from then on it is asked to leave all the time."""
+    setup = ["make 24", "make 8", f"put 1 8 {2 * of_eight(MONEY // 2).hex()}"]
+    for machine in range(1, machines + 1):
+        setup += [f"ship {FUEL} 0x100000000 {machine % 2} {machine} {MOVES} 0 {LOCKED}", f"break {machine} {OUTSIDE}"]
+    service = Service(program, "--connections", machines + 1, "--workers", 4, *arguments, setup=setup)
+    reader = Client(service)
+
+    def leaves():
+        before = reader.ask_until("get 1 0 24", "bytes")
+        away(reader, f"bytes {of_eight(0).hex()}")
+        found = reader.ask_until("get 1 0 24", "bytes")
+        want(found == before and sum(accounts_of(found)) == MONEY, f"the accounts leave as {before} and return as {found}")
+        away_unmissed(reader)
+
+    def leaves_while_two_run():
+        leaves()
+        reader.ask_until(f"put 1 0 {of_eight(READER).hex()}", "ok")
+        want([reader.ask(f"resume {machine}") for machine in (1, 2)] == ["ok", "ok"], "two machines go on")
+        want(set(left_often(reader)) <= {READER}, "a machine has the lock that the reader has")
+        want(sum(accounts_of(reader.ask_until("get 1 0 24", "bytes"))) == READER + MONEY, "the accounts while the reader has the lock")
+        reader.ask_until(f"put 1 0 {of_eight(0).hex()}", "ok")
+        for machine in (1, 2):
+            paused(reader, machine, OUTSIDE)
+
+    meeting = Meeting(machines, take_lock, service)
+    for _ in range(MEETINGS - 1):
+        meeting.lead(leaves)
+    meeting.lead(leaves_while_two_run)
+    told = meeting.end()
+    balances = [MONEY // 2, MONEY // 2]
+    for machine, reply in told:
+        moved = machine * int(reply.split()[5], 16)
+        balances[machine % 2] -= moved
+        balances[1 - machine % 2] += moved
+    found = reader.ask_until("get 1 0 24", "bytes")
+    want(accounts_of(found) == [0, *balances], f"the accounts are {accounts_of(found)} and not {balances}")
+    held = {1: bytes.fromhex(found.split()[1]), 2: of_eight(0)}
+    want(reader.end() == "" and service.ends_well(held, [reply for _, reply in told], may_be_out=True), "the end of a service whose machines take a lock")
+
+
+def show_locks(program):
+    """Seven machines and eight clients, and four machines over `bpfagent store`."""
+    move_under_lock(program, 7)
+    server = Server(program)
+    move_under_lock(program, 4, "--far", f"127.0.0.1:{server.port}")
+    want(server.end() == (0, b"", b""), "the far server of accounts")
+
+
 def show_lost(program):
     """A client that is cut off, or breaks off in a line, ends its connection alone."""
     service = Service(program, "--connections", 3, "--workers", 0, setup=["make 8"])
@@ -662,7 +751,7 @@ def show_port(program):
     want(again.port == port and Client(again).end() == "" and again.ends_well(), "the port that is asked for")
 
 
-SHOWN = [show_readme, show_protocol, show_examples, show_row, show_digest, close_two, service_runs, service_moves, service_sweeps, show_without_sweep, show_crowd, show_debuggers, show_breakpoint, show_lost, show_far, show_far_bytes, show_lost_server, show_unreached, show_statuses, show_port]
+SHOWN = [show_readme, show_protocol, show_examples, show_row, show_digest, close_two, service_runs, service_moves, service_sweeps, show_without_sweep, show_crowd, show_debuggers, show_breakpoint, show_locks, show_lost, show_far, show_far_bytes, show_lost_server, show_unreached, show_statuses, show_port]
 
 
 if __name__ == "__main__":
