@@ -133,6 +133,7 @@ def of_eight(number):
 
 
 def is_stopped(reply):
+    want(reply.startswith("regs "), f"regs is answered {reply}")
     return reply.split()[4] not in ("run", "paused")
 
 
@@ -149,12 +150,14 @@ def stopped(client, machine):
 def paused(client, machine, slot):
     """The words of `regs` of a machine when it is paused, which is at this slot."""
     for _ in range(LOOKS):
-        words = client.ask(f"regs {machine}").split()
+        reply = client.ask(f"regs {machine}")
+        want(not is_stopped(reply), f"machine {machine} stops: {reply}")
+        words = reply.split()
         if words[4] == "paused":
-            want(words[2] == f"{slot}", f"machine {machine} is paused otherwise: {words}")
+            want(words[2] == f"{slot}", f"machine {machine} is paused otherwise: {reply}")
             return words
         time.sleep(0.001)
-    raise Failed(f"machine {machine} isn't paused: {words}")
+    raise Failed(f"machine {machine} isn't paused: {reply}")
 
 
 def parts(text):
