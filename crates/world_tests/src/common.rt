@@ -47,7 +47,7 @@ pub enum Say {
     /// An object begins to return.
     Return(u32),
     /// An object is got from the far store.
-    Returned(u32),
+    Home(u32),
     /// One step.
     Step(usize),
     /// One step, paused or not.
@@ -143,7 +143,7 @@ fn event(alloc: Global, say: Say) -> Result<Event, AllocError> {
         Say::Leave(number) => Ok(object(number, ObjectCommand::Move(Move::Leave))),
         Say::Left(number) => Ok(object(number, ObjectCommand::Move(Move::Left))),
         Say::Return(number) => Ok(object(number, ObjectCommand::Move(Move::Return))),
-        Say::Returned(number) => Ok(object(number, ObjectCommand::Move(Move::Returned))),
+        Say::Home(number) => Ok(object(number, ObjectCommand::Move(Move::Returned))),
         Say::Step(number) => Ok(machine(number, MachineCommand::Step(Way::Step))),
         Say::One(number) => Ok(machine(number, MachineCommand::Step(Way::One))),
         Say::Show(number, command) => Ok(machine(number, MachineCommand::Show(command))),

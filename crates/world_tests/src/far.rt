@@ -42,9 +42,9 @@ const NOT_FETCHED: &[(Say, Told)] = &[
     (Say::Leave(1), Told::Leaving(1)),
     (Say::Left(1), Told::Left(1)),
     (Say::Return(1), Told::Returning(1)),
-    (Say::Returned(1), Told::Faulted(1, Place::Far)),
+    (Say::Home(1), Told::Faulted(1, Place::Far)),
     (Say::Return(1), Told::Returning(1)),
-    (Say::Returned(1), Told::Home(1)),
+    (Say::Home(1), Told::Home(1)),
     (Say::Get(1, 0, 2), Told::Bytes(&[8, 9])),
 ];
 
@@ -64,7 +64,7 @@ const TRAVELLED: &[(Say, Told)] = &[
     (Say::Leave(1), Told::Leaving(1)),
     (Say::Left(1), Told::Left(1)),
     (Say::Return(1), Told::Returning(1)),
-    (Say::Returned(1), Told::Home(1)),
+    (Say::Home(1), Told::Home(1)),
 ];
 
 /// It is once more.
@@ -72,7 +72,7 @@ const AGAIN: &[(Say, Told)] = &[
     (Say::Leave(1), Told::Leaving(1)),
     (Say::Left(1), Told::Left(1)),
     (Say::Return(1), Told::Returning(1)),
-    (Say::Returned(1), Told::Home(1)),
+    (Say::Home(1), Told::Home(1)),
 ];
 
 /// How often an object was put in the far store that was away, met this, and was away again.

@@ -37,7 +37,7 @@ const HELD: &[(Say, Told)] = &[
     (Say::Get(1, 0, 8), Told::Away(1)),
     (Say::Left(1), Told::Left(1)),
     (Say::Return(1), Told::Returning(1)),
-    (Say::Returned(1), Told::Home(1)),
+    (Say::Home(1), Told::Home(1)),
     (Say::Get(1, 0, 8), Told::Bytes(&[4, 0, 0, 0, 0, 0, 0, 0])),
 ];
 
@@ -61,7 +61,7 @@ const WAITING: &[(Say, Told)] = &[
     (Say::Left(1), Told::Left(1)),
     (Say::Step(1), Told::Waiting(1, 1)),
     (Say::Return(1), Told::Returning(1)),
-    (Say::Returned(1), Told::Home(1)),
+    (Say::Home(1), Told::Home(1)),
     (Say::Step(1), Told::Ran(1, 3)),
 ];
 
@@ -142,7 +142,7 @@ const AWAY: &[(Say, Told)] = &[
     (Say::Put(1, 1, &[7]), Told::Away(1)),
     (Say::Put(1, 1, &[7, 7]), Told::Outside),
     (Say::Get(1, 0, 3), Told::Outside),
-    (Say::Returned(1), Told::Misplaced(1, Place::Leaving)),
+    (Say::Home(1), Told::Misplaced(1, Place::Leaving)),
 ];
 
 #[test]
