@@ -1,4 +1,4 @@
-use Rattle.std.proofs.Common.{◌<◌, length, sym, ap, ◌∙◌, arith}
+use Rattle.std.proofs.Common.{sym, ap, ◌∙◌, arith}
 use Rattle.object_store.specs.Bodies.{place_in}
 use Rattle.object_store.proofs.Entries.{place_at}
 use Rattle.object_store.proofs.standing.place_at.Goals as goal

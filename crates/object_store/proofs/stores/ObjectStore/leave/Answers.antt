@@ -1,4 +1,4 @@
-use Rattle.std.proofs.Common.{◌≡◌, ◌<◌, length, map, refl, arith, rules}
+use Rattle.std.proofs.Common.{◌≡◌, ◌<◌, length, map, refl, arith}
 use Rattle.std.proofs.lemmas.List.{with_items_is}
 use Rattle.far_store.specs.declared.places.Place.TheVariants.{Here, Leaving}
 use Rattle.object_store.specs.Stores.{place_of}
