@@ -118,7 +118,7 @@ fn ship(alloc: Global, fuel: u64, arguments: [u64; 5], code: &[u8]) -> Result<Ev
     })
 }
 
-/// The command. There is none where no object may have so many bytes, which is told as the failure that there is.
+/// The command. Where no object may have so many bytes there is none, and the test fails by this error.
 fn event(alloc: Global, say: Say) -> Result<Event, AllocError> {
     match say {
         Say::Make(length) => match ObjectLength::new(length) {
