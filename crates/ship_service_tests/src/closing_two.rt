@@ -22,11 +22,12 @@ use std::test::Fail;
 use std::thread::{self, Threads, yield_now};
 use workers::{Mark, Mover, Pool, mover, work};
 
-/// aadd [r1], r2 · add r3, -1 · jne r3, 0, -3 · exit
-const ADDS: [u64; 4] = [
+/// aadd [r1], r2 · call 4 · add r3, -1 · jne r3, 0, -4 · exit: between two additions the object may leave
+const ADDS: [u64; 5] = [
     0xdb21_0000_0000_0000,
+    0x8500_0000_0400_0000,
     0x0703_0000_ffff_ffff,
-    0x5503_fdff_0000_0000,
+    0x5503_fcff_0000_0000,
     0x9500_0000_0000_0000,
 ];
 

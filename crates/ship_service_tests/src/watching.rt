@@ -1,4 +1,5 @@
-//! A connection that looks at object 1 all the time, while two machines add to it and it leaves and returns.
+//! A connection that looks at object 1 all the time, while two machines add to it and it may leave between two additions, and lets it
+//! leave and return when they have ended.
 
 use crate::tools::{LOOKS, Tools, ask, has_exit, rest};
 use far_store::FarStore;
