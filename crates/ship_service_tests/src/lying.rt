@@ -145,7 +145,7 @@ impl<F: FarStore + Drop, K: Mark> Alone<F, K> {
             self.alloc,
             &self.agent,
             &mut self.connection,
-            b"get 1 0 8\n",
+            b"get 1 0 20\n",
             usize::MAX,
             usize::MAX,
         );
@@ -261,7 +261,12 @@ fn left_after<F: FarStore + Drop, K: Mark, R: Wait>(
 
 /// What a service over a store that lies did, whose object 1 left and came back twice.
 fn left_by<R: Wait>(rt: &R, alloc: Global, calls: bool) -> Result<Left, Fail> {
-    let body = Vec::from_array(alloc, [1, 2, 3, 4, 5, 6, 7, 8])?;
+    let body = Vec::from_array(
+        alloc,
+        [
+            1, 2, 3, 4, 5, 6, 7, 8, 9, 10, 11, 12, 13, 14, 15, 16, 17, 18, 19, 20,
+        ],
+    )?;
     let bodies = Vec::from_array(alloc, [body])?;
     let (shared, mut seats, mover) = Shared::<Lying>::open(alloc, bodies, 49)?;
     let Some(connection) = last_seat(&shared, &mut seats) else {
@@ -280,7 +285,7 @@ fn left_by<R: Wait>(rt: &R, alloc: Global, calls: bool) -> Result<Left, Fail> {
 
 /// What the connection is answered where the object leaves and comes back twice.
 const TOLD: &[u8] =
-    b"away 1\naway 1\nbytes 0102030405060708\naway 1\naway 1\nbytes 0102030405060708\n";
+    b"away 1\naway 1\nbytes 0102030405060708090a0b0c0d0e0f1011121314\naway 1\naway 1\nbytes 0102030405060708090a0b0c0d0e0f1011121314\n";
 
 #[test]
 fn an_object_comes_when_the_mover_is_called_again(rt: HostRuntime) -> Result<(), Fail> {
