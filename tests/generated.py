@@ -1,5 +1,6 @@
 #!/usr/bin/env python3
-"""Compares the lists of tests that scripts write with what their scripts write now; how they are laid out doesn't count.
+"""Compares the lists of tests that scripts write with what their scripts write now; how they are laid out doesn't count. The
+files that stand in several crates, since no library can have them, have to be the same.
 With --vectors it also makes the long scripts of crates/conversations again, by an interpreter of RFC 9669 of its own, and says
 whether the replies of the other scripts are those that the interpreter gives."""
 import pathlib
@@ -16,6 +17,7 @@ WRITTEN = {
     f"{ASSEMBLY}/src/example_list.rt": [f"{ASSEMBLY}/make_examples.py", "examples"],
     f"{ASSEMBLY}/src/form_list.rt": [f"{ASSEMBLY}/make_forms.py"],
 }
+COPIES = ["compared.rt"]
 TABLES = "crates/isa_table_tests"
 REFERENCE = "tests/reference"
 VECTORS = {name: f"crates/conversations/data/{name}.script" for name in ("vectors", "moves_vectors", "grants_vectors")}
@@ -43,6 +45,12 @@ def differing():
                 yield f"{TABLES}/src/{path.name} isn't what {TABLES}/vectors.py writes"
 
 
+def differing_copies():
+    for name in COPIES:
+        if len({path.read_text() for path in ROOT.glob(f"crates/*/src/{name}")}) != 1:
+            yield f"the files {name} of crates differ, or there is none"
+
+
 def differing_vectors():
     for name, script in VECTORS.items():
         if (ROOT / script).read_text() != output([f"{REFERENCE}/make_{name}.py"]):
@@ -55,7 +63,7 @@ def differing_vectors():
 
 def main():
     has_vectors = sys.argv[1:] == ["--vectors"]
-    found = [*differing(), *(differing_vectors() if has_vectors else [])]
+    found = [*differing(), *differing_copies(), *(differing_vectors() if has_vectors else [])]
     for line in found:
         print(line)
     if found:

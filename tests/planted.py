@@ -24,6 +24,7 @@ EDITS = [
     ("a test is a comment", "counts.py", "crates/loader_tests/src/tests.rt", r"#\[test\]", "// #[test]"),
     ("an edit that can't be made", "counts.py", "crates/agent/src/reporting.rt", r"error\.kind\(\) == ", "error.kind()== "),
     ("a blank in a text of a list", "generated.py", "crates/asm_tests/src/form_list.rt", r'"add r1, r4"', '"add r1,  r4"'),
+    ("a copy of the comparison that compares nothing", "generated.py", "crates/world_tests/src/compared.rt", r"    assert_eq!\(rt; left, right, \"\{what\}\"\);\n", ""),
     ("a row of the page without backticks", "generated.py", "docs/ASSEMBLY.md", r"\| `add r1, 3` \|", "| add r1, 3 |"),
     ("a row of the page and of its list without an example", "counts.py", "docs/ASSEMBLY.md", r"\n\| `sub` `sub32` [^\n]*", ""),
     ("the index sends to another file", "definitions.py", "docs/DEFINITIONS-INDEX.md", r"\[Table\]\(../crates/isa_table/specs/Table", "[Table](../crates/isa_table/specs/Words"),
