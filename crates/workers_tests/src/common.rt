@@ -1,7 +1,7 @@
 //! Tables, machines and gates. A slot of code is written as its bytes, first to last.
 ghost use Rattle.std.specs.Prelude.{◌≡◌, length, IfOk};
 
-use debugger::{Debuggee, Start};
+use debugger::{Debuggee, ShowCommand, ShowReply, Start};
 use far_store::FarStore;
 use loader::{Program, load};
 use std::alloc::{AllocError, Global};
@@ -67,6 +67,19 @@ pub fn goes<F: FarStore, K: Mark, R: Wait>(rt: &R, pool: &Pool<F, K>, number: us
     match pool.cell(number) {
         Some(cell) => cell.lock(rt).is_going(),
         None => false,
+    }
+}
+
+/// What fuel machine 1 has.
+pub fn fuel<F: FarStore, K: Mark, R: Wait>(
+    rt: &R,
+    alloc: Global,
+    pool: &Pool<F, K>,
+) -> Option<u64> {
+    let cell = pool.cell(1)?;
+    match cell.lock(rt).show(alloc, ShowCommand::Regs)? {
+        ShowReply::Registers(shown) => Some(shown.fuel),
+        _ => None,
     }
 }
 

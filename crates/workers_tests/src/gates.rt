@@ -7,7 +7,7 @@ ghost use Rattle.workers.specs.Cells.{IsTableOf};
 ghost use Rattle.workers.specs.Pools.{machines_of};
 
 use crate::common::{
-    ADD, Crowd, EXIT, Holds, JUMP, LOAD, LOOKS, OBJECT, code, goes, machine, objects, rest,
+    ADD, Crowd, EXIT, Holds, JUMP, LOAD, LOOKS, OBJECT, code, fuel, goes, machine, objects, rest,
     waits_for,
 };
 use debugger::{Debuggee, Start, StepReply, Way};
@@ -18,11 +18,11 @@ use shared_objects::{ActorSeat, Shared};
 use std::alloc::{AllocError, Global};
 use std::marker::Brand;
 use std::sync::Wait;
-use std::sync::atomic::Ordering;
+use std::sync::atomic::{AtomicBool, AtomicU64, Ordering};
 use std::test::Fail;
 use std::thread;
 use std::thread::Threads;
-use workers::{Mark, Pool, work};
+use workers::{Gate, Mark, Pool, run_workers, work};
 
 /// What two workers left.
 #[derive(Drop)]
@@ -202,5 +202,146 @@ fn each_machine_is_run_by_one_worker_at_a_time(rt: HostRuntime) -> Result<(), Fa
     assert!(rt; !gate.met.load(Ordering::SeqCst));
     assert_eq!(rt; gate.done.load(Ordering::SeqCst), 4002);
     assert_eq!(rt; gate.ended.load(Ordering::SeqCst), 4);
+    Ok(())
+}
+
+/// Holds worker 0 at an instruction until worker 1 has come to one, and the other way round, and ends both then.
+#[derive(Drop)]
+struct Numbered {
+    first: AtomicBool,
+    second: AtomicBool,
+    other: AtomicBool,
+    ends: AtomicBool,
+}
+
+impl Gate for Numbered {
+    fn before(&self, worker: usize, _machine: usize) {
+        let (own, awaited) = match worker {
+            0 => (&self.first, &self.second),
+            1 => (&self.second, &self.first),
+            _ => (&self.other, &self.other),
+        };
+        own.store(true, Ordering::SeqCst);
+        waits_for(awaited);
+        self.ends.store(true, Ordering::SeqCst);
+    }
+
+    fn after(&self, _worker: usize, _machine: usize) {}
+
+    fn go_on(&self) -> bool {
+        !self.ends.load(Ordering::SeqCst)
+    }
+}
+
+/// How many threads two workers make.
+fn numbered<F: FarStore + Drop + Send + Sync, K: Mark + Send + Sync, R: Threads + Wait + Sync>(
+    rt: &R,
+    alloc: Global,
+    gate: &Numbered,
+    shared: Shared<F>,
+    seats: Vec<ActorSeat>,
+    machines: Vec<Debuggee>,
+) -> Result<usize, AllocError>
+where
+    F::Parcel: Send,
+    requires table { IsTableOf K.table K.opening shared.table }
+    requires seats { AreFresh (dealer F.RETURNS K.opening) seats.items × All (IsActorOf shared.table) seats.items }
+    requires machines { K.starts ≡ machines_of machines.items }
+    requires room { length machines.items ≤ length seats.items }
+{
+    let pool: Pool<F, K> = Pool::new(rt, alloc, shared, seats, machines)?;
+    Ok(run_workers(rt, gate, &pool, 2))
+}
+
+#[test]
+fn each_worker_has_its_number(rt: HostRuntime) -> Result<(), Fail> {
+    let alloc = rt.alloc();
+    let mut machines = Vec::new(alloc);
+    machines.push(machine(alloc, 1, 10, [0; 5], &[EXIT])?)?;
+    machines.push(machine(alloc, 2, 10, [0; 5], &[EXIT])?)?;
+    let (shared, seats, _mover) = Shared::<OwnStore>::open(alloc, objects(alloc, 1)?, 2)?;
+    let gate = Numbered {
+        first: AtomicBool::new(false),
+        second: AtomicBool::new(false),
+        other: AtomicBool::new(false),
+        ends: AtomicBool::new(false),
+    };
+    let made = numbered::<OwnStore, Brand, _>(&rt, alloc, &gate, shared, seats, machines)?;
+    assert_eq!(rt; made, 2);
+    assert!(rt; gate.first.load(Ordering::SeqCst));
+    assert!(rt; gate.second.load(Ordering::SeqCst));
+    assert!(rt; !gate.other.load(Ordering::SeqCst));
+    Ok(())
+}
+
+/// Looks at the fuel of machine 1 before and after each instruction, and lets a worker have so many turns.
+#[derive(Drop)]
+struct Looks<'a, R: Wait, F: FarStore, K: Mark> {
+    rt: &'a R,
+    alloc: Global,
+    pool: &'a Pool<F, K>,
+    turns: AtomicU64,
+    before: AtomicU64,
+    after: AtomicU64,
+}
+
+impl<'a, R: Wait, F: FarStore, K: Mark> Looks<'a, R, F, K> {
+    /// The fuel of machine 1, or none.
+    fn fuel(&self) -> u64 {
+        fuel(self.rt, self.alloc, self.pool).unwrap_or(0)
+    }
+}
+
+impl<'a, R: Wait, F: FarStore, K: Mark> Gate for Looks<'a, R, F, K> {
+    fn before(&self, _worker: usize, _machine: usize) {
+        self.before.store(self.fuel(), Ordering::SeqCst);
+    }
+
+    fn after(&self, _worker: usize, _machine: usize) {
+        self.after.store(self.fuel(), Ordering::SeqCst);
+    }
+
+    fn go_on(&self) -> bool {
+        self.turns.fetch_sub(1, Ordering::SeqCst) > 0
+    }
+}
+
+/// What fuel machine 1 has when the gate is told of its one instruction, before it and after it.
+fn looked<F: FarStore + Drop, K: Mark, R: Wait>(
+    rt: &R,
+    alloc: Global,
+    shared: Shared<F>,
+    seats: Vec<ActorSeat>,
+    machines: Vec<Debuggee>,
+) -> Result<(u64, u64), AllocError>
+    requires table { IsTableOf K.table K.opening shared.table }
+    requires seats { AreFresh (dealer F.RETURNS K.opening) seats.items × All (IsActorOf shared.table) seats.items }
+    requires machines { K.starts ≡ machines_of machines.items }
+    requires room { length machines.items ≤ length seats.items }
+{
+    let pool: Pool<F, K> = Pool::new(rt, alloc, shared, seats, machines)?;
+    let gate = Looks {
+        rt,
+        alloc,
+        pool: &pool,
+        turns: AtomicU64::new(1),
+        before: AtomicU64::new(0),
+        after: AtomicU64::new(0),
+    };
+    work(rt, &gate, &pool, 0);
+    Ok((
+        gate.before.load(Ordering::SeqCst),
+        gate.after.load(Ordering::SeqCst),
+    ))
+}
+
+#[test]
+fn a_gate_is_told_when_the_instruction_is_done(rt: HostRuntime) -> Result<(), Fail> {
+    let alloc = rt.alloc();
+    let mut machines = Vec::new(alloc);
+    machines.push(machine(alloc, 1, 10, [0; 5], &[EXIT])?)?;
+    let (shared, seats, _mover) = Shared::<OwnStore>::open(alloc, objects(alloc, 1)?, 1)?;
+    let found = looked::<OwnStore, Brand, _>(&rt, alloc, shared, seats, machines)?;
+    assert_eq!(rt; found, (10, 9));
     Ok(())
 }

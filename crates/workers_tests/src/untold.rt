@@ -6,8 +6,8 @@ ghost use Rattle.shared_objects.specs.Tables.{IsActorOf};
 ghost use Rattle.workers.specs.Cells.{IsTableOf};
 ghost use Rattle.workers.specs.Pools.{machines_of};
 
-use crate::common::{JUMP, LOOKS, machine, objects, rest};
-use debugger::{Debuggee, ShowCommand, ShowReply};
+use crate::common::{JUMP, LOOKS, fuel, machine, objects, rest};
+use debugger::Debuggee;
 use far_store::{FarStore, OwnStore};
 use shared_objects::{ActorSeat, Shared};
 use std::alloc::{AllocError, Global};
@@ -37,15 +37,6 @@ impl Gate for Untold {
 
     fn go_on(&self) -> bool {
         !self.ends.load(Ordering::SeqCst)
-    }
-}
-
-/// What fuel machine 1 has.
-fn fuel<F: FarStore, K: Mark, R: Wait>(rt: &R, alloc: Global, pool: &Pool<F, K>) -> Option<u64> {
-    let cell = pool.cell(1)?;
-    match cell.lock(rt).show(alloc, ShowCommand::Regs)? {
-        ShowReply::Registers(shown) => Some(shown.fuel),
-        _ => None,
     }
 }
 
