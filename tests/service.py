@@ -719,6 +719,18 @@ def show_few_threads(program):
     want(answered, "a service with room for all its threads")
 
 
+def show_few_files(program):
+    """A client that can't be accepted, or of whose stream there can be no second, ends the service, and those that are connected hear the
+    end: it has three streams, listens by a fourth file, and takes two for each client."""
+    for files in (4, 5, 6, 7):
+        service = Service(program, "--connections", 2, setup=["make 8", f"ship 100000 0 0 0 0 0 {COUNTS}"], limits={resource.RLIMIT_NOFILE: files})
+        clients = [Client(service) for _ in range((files - 4) // 2)]
+        want(files < 7 or clients[0].ask("get 1 0 1") == "bytes 00", "a client that is served")
+        want(files % 2 == 0 or is_heard("127.0.0.1", service.port), "one client more")
+        want([client.replies.read() for client in clients] == [""] * len(clients), "the end of those that are connected")
+        want(service.end() == (3, "", "net fault\n"), f"a service that may open {files} files")
+
+
 def ended(program, *arguments, setup="", **streams):
     """The status, standard output and standard error of a service that takes no connection."""
     streams.setdefault("stdout", subprocess.PIPE)
@@ -763,7 +775,7 @@ def show_port(program):
     want(again.port == port and Client(again).end() == "" and again.ends_well(), "the port that is asked for")
 
 
-SHOWN = [show_readme, show_protocol, show_examples, show_row, show_digest, close_two, service_runs, service_moves, service_sweeps, show_without_sweep, show_crowd, show_debuggers, show_breakpoint, show_locks, show_lost, show_first_end, show_few_threads, show_far, show_far_bytes, show_lost_server, show_unreached, show_statuses, show_port]
+SHOWN = [show_readme, show_protocol, show_examples, show_row, show_digest, close_two, service_runs, service_moves, service_sweeps, show_without_sweep, show_crowd, show_debuggers, show_breakpoint, show_locks, show_lost, show_first_end, show_few_threads, show_few_files, show_far, show_far_bytes, show_lost_server, show_unreached, show_statuses, show_port]
 
 
 if __name__ == "__main__":
