@@ -214,15 +214,19 @@ struct Numbered {
     ends: AtomicBool,
 }
 
+/// Sets one flag, and waits for the other.
+fn meet(own: &AtomicBool, other: &AtomicBool) {
+    own.store(true, Ordering::SeqCst);
+    waits_for(other);
+}
+
 impl Gate for Numbered {
     fn before(&self, worker: usize, _machine: usize) {
-        let (own, awaited) = match worker {
-            0 => (&self.first, &self.second),
-            1 => (&self.second, &self.first),
-            _ => (&self.other, &self.other),
-        };
-        own.store(true, Ordering::SeqCst);
-        waits_for(awaited);
+        match worker {
+            0 => meet(&self.first, &self.second),
+            1 => meet(&self.second, &self.first),
+            _ => self.other.store(true, Ordering::SeqCst),
+        }
         self.ends.store(true, Ordering::SeqCst);
     }
 
