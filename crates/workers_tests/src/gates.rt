@@ -238,7 +238,7 @@ impl Gate for Numbered {
 }
 
 /// How many threads two workers make.
-fn numbered<F: FarStore + Drop + Send + Sync, K: Mark + Send + Sync, R: Threads + Wait + Sync>(
+fn run_numbered<F: FarStore + Drop + Send + Sync, K: Mark + Send + Sync, R: Threads + Wait + Sync>(
     rt: &R,
     alloc: Global,
     gate: &Numbered,
@@ -270,7 +270,7 @@ fn each_worker_has_its_number(rt: HostRuntime) -> Result<(), Fail> {
         other: AtomicBool::new(false),
         ends: AtomicBool::new(false),
     };
-    let made = numbered::<OwnStore, Brand, _>(&rt, alloc, &gate, shared, seats, machines)?;
+    let made = run_numbered::<OwnStore, Brand, _>(&rt, alloc, &gate, shared, seats, machines)?;
     assert_eq!(rt; made, 2);
     assert!(rt; gate.first.load(Ordering::SeqCst));
     assert!(rt; gate.second.load(Ordering::SeqCst));
@@ -280,7 +280,7 @@ fn each_worker_has_its_number(rt: HostRuntime) -> Result<(), Fail> {
 
 /// Looks at the fuel of machine 1 before and after each instruction, and lets a worker have so many turns.
 #[derive(Drop)]
-struct Looks<'a, R: Wait, F: FarStore, K: Mark> {
+struct FuelSeen<'a, R: Wait, F: FarStore, K: Mark> {
     rt: &'a R,
     alloc: Global,
     pool: &'a Pool<F, K>,
@@ -289,14 +289,14 @@ struct Looks<'a, R: Wait, F: FarStore, K: Mark> {
     after: AtomicU64,
 }
 
-impl<'a, R: Wait, F: FarStore, K: Mark> Looks<'a, R, F, K> {
+impl<'a, R: Wait, F: FarStore, K: Mark> FuelSeen<'a, R, F, K> {
     /// The fuel of machine 1, or none.
     fn fuel(&self) -> u64 {
         fuel(self.rt, self.alloc, self.pool).unwrap_or(0)
     }
 }
 
-impl<'a, R: Wait, F: FarStore, K: Mark> Gate for Looks<'a, R, F, K> {
+impl<'a, R: Wait, F: FarStore, K: Mark> Gate for FuelSeen<'a, R, F, K> {
     fn before(&self, _worker: usize, _machine: usize) {
         self.before.store(self.fuel(), Ordering::SeqCst);
     }
@@ -324,7 +324,7 @@ fn looked<F: FarStore + Drop, K: Mark, R: Wait>(
     requires room { length machines.items ≤ length seats.items }
 {
     let pool: Pool<F, K> = Pool::new(rt, alloc, shared, seats, machines)?;
-    let gate = Looks {
+    let gate = FuelSeen {
         rt,
         alloc,
         pool: &pool,
