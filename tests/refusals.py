@@ -273,6 +273,9 @@ def refused_service(failing):
         raise Failed(f"a service says {whole}")
     others = [(0, before, answers.replace(b"bytes 00", b"nomem", 1), after, b""), (0, before, b"bytes 00\nnomem\n", after, b""), (0, b"nomem\n", b"outside\n" * 2, b"closed\n", b"")]
     found = [served(failing, at) for at in range(1, total + 1)]
+    # one is none of the program's own, as before the first line of `run`; another would be that of a client that is served though its stream isn't kept
+    if found.count(whole) > 1:
+        raise Failed(f"allocations of a service that fail without an effect: {[at for at, done in enumerate(found, 1) if done == whole]}")
     for at, done in enumerate(found, 1):
         ended = (done[0], done[4]) == (3, b"no memory\n") and before.startswith(done[1]) and answers.startswith(done[2]) and after.startswith(done[3])
         if not ended and done != whole and done not in others:
