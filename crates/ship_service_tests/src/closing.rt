@@ -6,18 +6,19 @@ ghost use Rattle.shared_objects.specs.Tables.{IsActorOf};
 ghost use Rattle.workers.specs.Cells.{IsSeatOf, IsTableOf};
 ghost use Rattle.workers.specs.Pools.{machines_of};
 
-use crate::stage::{last_seat, talk};
-use debugger::{Debuggee, Start};
+use crate::compared::same;
+use crate::stage::{Lines, last_seat, machine, tells};
+use debugger::Debuggee;
 use far_store::{FarStore, OwnStore};
-use loader::load;
 use shared_objects::{ActorSeat, MoverSeat, Shared};
 use ship_service::{Agent, Closed, Connection, write_closing_lines};
 use std::alloc::{AllocError, Global};
 use std::marker::Brand;
+use std::process::Abort;
 use std::sync::Wait;
 use std::test::Fail;
 use test_devices::Narrow;
-use workers::{Direction, Mark, Mover, Pool};
+use workers::{Direction, Mark, Moved, Mover, Pool};
 
 /// A service with one connection, in parts.
 #[derive(Drop)]
@@ -28,14 +29,6 @@ pub struct Parts<F: FarStore> {
     pub connection: ActorSeat,
     pub mover: MoverSeat,
     pub store: F,
-}
-
-/// What was answered, the lines of the service when it had closed, and the bytes that its far store gave for object 1, or none.
-#[derive(Drop)]
-struct Left {
-    told: Vec<u8>,
-    lines: Vec<u8>,
-    fetched: Vec<u8>,
 }
 
 /// Object 1, which is `abc`; number 2, which is none; and object 3, of two zero bytes.
@@ -49,22 +42,6 @@ fn objects(alloc: Global) -> Result<Vec<Vec<u8>>, AllocError>
     Ok(bodies)
 }
 
-/// A machine of this number, at the start of this code.
-pub fn machine(
-    alloc: Global,
-    number: usize,
-    slots: &[u64],
-    fuel: u64,
-    arguments: [u64; 5],
-) -> Result<Debuggee, Fail> {
-    let mut bytes = Vec::new(alloc);
-    for slot in slots {
-        bytes.extend_from_slice(&slot.to_be_bytes())?;
-    }
-    let program = load(alloc, bytes.as_slice())?;
-    Ok(Debuggee::new(program, number, Start::new(fuel, arguments)))
-}
-
 /// What the far store gives for object 1: no bytes, if it doesn't have it.
 pub fn fetched<F: FarStore>(alloc: Global, closed: &mut Closed<F>) -> Vec<u8> {
     match closed.get(1) {
@@ -73,20 +50,25 @@ pub fn fetched<F: FarStore>(alloc: Global, closed: &mut Closed<F>) -> Vec<u8> {
     }
 }
 
-/// The connection says its bytes, then object 1 is asked to leave, if it is to, and then the service closes.
-fn close_after<F: FarStore + Drop, K: Mark, R: Wait>(
+/// A service without workers, with one connection.
+#[derive(Drop)]
+pub struct Service<F: FarStore, K: Mark> {
+    pub agent: Agent<F, K>,
+    pub connection: Connection<K>,
+    pub served: Mover<F, K>,
+}
+
+/// The service of these parts.
+pub fn service_of<F: FarStore + Drop, K: Mark, R: Wait>(
     rt: &R,
     alloc: Global,
     parts: Parts<F>,
-    said: &[u8],
-    leaves: bool,
-) -> Result<Left, Fail>
+) -> Result<Service<F, K>, AllocError>
     requires table { IsTableOf K.table K.opening parts.shared.table }
     requires seats { AreFresh (dealer F.RETURNS K.opening) parts.seats.items × All (IsActorOf parts.shared.table) parts.seats.items × (length parts.seats.items ≡ 48) }
     requires machines { (K.starts ≡ machines_of parts.machines.items) × (length parts.machines.items ≤ 48) }
     requires connection { IsSeatOf K.table K.opening parts.connection }
     requires mover { (parts.mover.seat.table_id ≡ K.table) × (parts.mover.seat.me.0 ≡ seated K.seats (dealer F.RETURNS K.opening)) }
-    requires all { K.seats ≡ 49 }
 {
     let Parts {
         shared,
@@ -96,40 +78,108 @@ fn close_after<F: FarStore + Drop, K: Mark, R: Wait>(
         mover,
         store,
     } = parts;
-    let agent: Agent<F, K> = Agent::new(Pool::new(rt, alloc, shared, seats, machines)?);
-    let mut connection: Connection<K> = Connection::new(alloc, connection)?;
-    let mut mover: Mover<F, K> = Mover::new(alloc, mover, store)?;
-    let (told, _) = talk(
-        rt,
-        alloc,
-        &agent,
-        &mut connection,
-        said,
-        usize::MAX,
-        usize::MAX,
-    );
-    if leaves {
-        mover.one(agent.pool(), 1, Direction::Leave);
-    }
-    let connections = Vec::from_array(alloc, [connection])?;
-    let mut closed = agent.close(alloc, connections, mover)?;
-    let mut writer = Narrow::new(alloc, 7, usize::MAX);
-    write_closing_lines(&mut writer, &closed)?;
-    Ok(Left {
-        told,
-        lines: writer.taken,
-        fetched: fetched(alloc, &mut closed),
+    Ok(Service {
+        agent: Agent::new(Pool::new(rt, alloc, shared, seats, machines)?),
+        connection: Connection::new(alloc, connection)?,
+        served: Mover::new(alloc, mover, store)?,
     })
 }
 
-/// What comes of a service whose machine 1 has this code.
-fn close<R: Wait>(
+/// What comes of a move of object 1 for which the mover is called.
+pub fn move_one<F: FarStore, K: Mark>(
+    agent: &Agent<F, K>,
+    served: &mut Mover<F, K>,
+    direction: Direction,
+) -> Moved {
+    served.one(agent.pool(), 1, direction)
+}
+
+/// The service closes with its one connection.
+pub fn closed_of<F: FarStore + Drop, K: Mark>(
+    alloc: Global,
+    agent: Agent<F, K>,
+    connection: Connection<K>,
+    served: Mover<F, K>,
+) -> Result<Closed<F>, AllocError>
+    requires { K.seats ≡ 49 }
+{
+    agent.close(alloc, Vec::from_array(alloc, [connection])?, served)
+}
+
+/// What is said and answered in a service, and how it ends.
+#[derive(Clone, Copy, Drop)]
+struct Course<'a> {
+    /// What the connection says, and what it is answered.
+    lines: Lines<'a>,
+    /// Whether object 1 leaves then.
+    leaves: bool,
+    /// The lines of the service when it has closed.
+    last: &'a [u8],
+    /// What its far store gives for object 1 then, or no bytes.
+    fetched: &'a [u8],
+}
+
+/// A service has this course, and closes.
+fn closed_after<F: FarStore + Drop, K: Mark, R: Wait + Abort>(
+    rt: &R,
+    alloc: Global,
+    service: Service<F, K>,
+    course: &Course,
+) -> Result<Closed<F>, AllocError>
+    requires { K.seats ≡ 49 }
+{
+    let Service {
+        agent,
+        mut connection,
+        mut served,
+    } = service;
+    tells(rt, alloc, &agent, &mut connection, course.lines);
+    if course.leaves {
+        same!(rt; move_one(&agent, &mut served, Direction::Leave), Moved::Done);
+    }
+    closed_of(alloc, agent, connection, served)
+}
+
+/// A service of these parts has this course.
+fn close_after<F: FarStore + Drop, K: Mark, R: Wait + Abort>(
+    rt: &R,
+    alloc: Global,
+    parts: Parts<F>,
+    course: &Course,
+) -> Result<(), Fail>
+    requires table { IsTableOf K.table K.opening parts.shared.table }
+    requires seats { AreFresh (dealer F.RETURNS K.opening) parts.seats.items × All (IsActorOf parts.shared.table) parts.seats.items × (length parts.seats.items ≡ 48) }
+    requires machines { (K.starts ≡ machines_of parts.machines.items) × (length parts.machines.items ≤ 48) }
+    requires connection { IsSeatOf K.table K.opening parts.connection }
+    requires mover { (parts.mover.seat.table_id ≡ K.table) × (parts.mover.seat.me.0 ≡ seated K.seats (dealer F.RETURNS K.opening)) }
+    requires all { K.seats ≡ 49 }
+{
+    let service: Service<F, K> = service_of(rt, alloc, parts)?;
+    let mut closed = closed_after(rt, alloc, service, course)?;
+    ends(rt, alloc, &mut closed, course)
+}
+
+/// The lines and the far store of a service that has closed are those of its course.
+fn ends<F: FarStore>(
+    rt: &impl Abort,
+    alloc: Global,
+    closed: &mut Closed<F>,
+    course: &Course,
+) -> Result<(), Fail> {
+    let mut writer = Narrow::new(alloc, 7, usize::MAX);
+    write_closing_lines(&mut writer, closed)?;
+    same!(rt; writer.taken.as_slice(), course.last);
+    same!(rt; fetched(alloc, closed).as_slice(), course.fetched);
+    Ok(())
+}
+
+/// A service whose machine 1 has this code has this course.
+fn closes<R: Wait + Abort>(
     rt: &R,
     alloc: Global,
     code: &[u64],
-    said: &[u8],
-    leaves: bool,
-) -> Result<Left, Fail> {
+    course: &Course,
+) -> Result<(), Fail> {
     let mut machines = Vec::new(alloc);
     machines.push(machine(alloc, 1, code, 10, [0; 5])?)?;
     let (shared, mut seats, mover) = Shared::<OwnStore>::open(alloc, objects(alloc)?, 49)?;
@@ -144,40 +194,35 @@ fn close<R: Wait>(
         mover,
         store: OwnStore::new(alloc),
     };
-    close_after::<OwnStore, Brand, R>(rt, alloc, parts, said, leaves)
+    close_after::<OwnStore, Brand, R>(rt, alloc, parts, course)
 }
 
 /// mov r0, 7 · exit
-const SEVEN: [u64; 2] = [0xb700_0000_0700_0000, 0x9500_0000_0000_0000];
+const SEVEN: &[u64] = &[0xb700_0000_0700_0000, 0x9500_0000_0000_0000];
+
+const IDLE: &Course<'static> = &Course {
+    lines: (b"", b""),
+    leaves: false,
+    last: b"object 1 3 ba7816bf8f01cfea414140de5dae2223b00361a396177a9cb410ff61f20015ad\nobject 3 2 96a296d224f285c67bee93c30f8a309157f0daa35dc5b87e410b78630a09cfc7\nregs 1 0 10 run 0000000000000000 0000000000000000 0000000000000000 0000000000000000 0000000000000000 0000000000000000 0000000000000000 0000000000000000 0000000000000000 0000000000000000 ffffffff00001000\n",
+    fetched: b"",
+};
 
 #[test]
 fn nothing_done(rt: HostRuntime) -> Result<(), Fail> {
-    let left = close(&rt, rt.alloc(), &SEVEN, b"", false)?;
-    assert_eq!(rt;
-        left.lines.as_slice(),
-        b"object 1 3 ba7816bf8f01cfea414140de5dae2223b00361a396177a9cb410ff61f20015ad\nobject 3 2 96a296d224f285c67bee93c30f8a309157f0daa35dc5b87e410b78630a09cfc7\nregs 1 0 10 run 0000000000000000 0000000000000000 0000000000000000 0000000000000000 0000000000000000 0000000000000000 0000000000000000 0000000000000000 0000000000000000 0000000000000000 ffffffff00001000\n".as_slice()
-    );
-    assert_eq!(rt; left.fetched.as_slice(), b"".as_slice());
-    Ok(())
+    closes(&rt, rt.alloc(), SEVEN, IDLE)
 }
+
+const ONE_OUT: &Course<'static> = &Course {
+    lines: (
+        b"put 3 0 2a\nput 1 0 7879\nstep 1\nstep 1\n",
+        b"ok\nok\nran 1 1\nstopped 1 exit 0000000000000007\n",
+    ),
+    leaves: true,
+    last: b"object 1 out\nobject 3 2 17d5f5a33ab5f6aed0395d2bc0a4e5df61d92441ea8d77b0952c01bc8aa8bde0\nregs 1 1 8 exit 0000000000000007 0000000000000000 0000000000000000 0000000000000000 0000000000000000 0000000000000000 0000000000000000 0000000000000000 0000000000000000 0000000000000000 ffffffff00001000\n",
+    fetched: b"xyc",
+};
 
 #[test]
 fn an_object_that_is_out(rt: HostRuntime) -> Result<(), Fail> {
-    let left = close(
-        &rt,
-        rt.alloc(),
-        &SEVEN,
-        b"put 3 0 2a\nput 1 0 7879\nstep 1\nstep 1\n",
-        true,
-    )?;
-    assert_eq!(rt;
-        left.told.as_slice(),
-        b"ok\nok\nran 1 1\nstopped 1 exit 0000000000000007\n".as_slice()
-    );
-    assert_eq!(rt;
-        left.lines.as_slice(),
-        b"object 1 out\nobject 3 2 17d5f5a33ab5f6aed0395d2bc0a4e5df61d92441ea8d77b0952c01bc8aa8bde0\nregs 1 1 8 exit 0000000000000007 0000000000000000 0000000000000000 0000000000000000 0000000000000000 0000000000000000 0000000000000000 0000000000000000 0000000000000000 0000000000000000 ffffffff00001000\n".as_slice()
-    );
-    assert_eq!(rt; left.fetched.as_slice(), b"xyc".as_slice());
-    Ok(())
+    closes(&rt, rt.alloc(), SEVEN, ONE_OUT)
 }

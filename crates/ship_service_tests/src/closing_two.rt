@@ -7,23 +7,24 @@ ghost use Rattle.workers.specs.Cells.{IsSeatOf, IsTableOf};
 ghost use Rattle.workers.specs.Pools.{machines_of};
 ghost use denote.Param.Send.{IsSend};
 
-use crate::closing::{Parts, fetched, machine};
-use crate::stage::last_seat;
+use crate::closing::{Parts, Service, closed_of, fetched, service_of};
+use crate::compared::same;
+use crate::stage::{last_seat, machine};
 use crate::tools::{LOOKS, Talk, Tools, UntilEnd, ask, has_exit, rest};
 use crate::watching::watches;
 use far_store::{FarStore, OwnStore};
 use shared_objects::{Ended, Shared};
-use ship_service::{Agent, Closed, Connection};
+use ship_service::{Closed, Connection};
 use std::alloc::{AllocError, Global};
 use std::marker::Brand;
 use std::sync::atomic::{AtomicBool, Ordering};
 use std::sync::{Mutex, Wait};
 use std::test::Fail;
 use std::thread::{self, Threads, yield_now};
-use workers::{Mark, Mover, Pool, mover, work};
+use workers::{Mark, Mover, mover, work};
 
 /// aadd [r1], r2 · call 4 · add r3, -1 · jne r3, 0, -4 · exit: between two additions the object may leave
-const ADDS: [u64; 5] = [
+const ADDS: &[u64] = &[
     0xdb21_0000_0000_0000,
     0x8500_0000_0400_0000,
     0x0703_0000_ffff_ffff,
@@ -111,25 +112,31 @@ where
     )
 }
 
-/// The bytes of object 1, here or from the far store, which is asked again where it first gives another length.
-fn bytes_of_one<F: FarStore>(alloc: Global, closed: &mut Closed<F>) -> Result<Vec<u8>, AllocError> {
-    if let Some(Ended::Here(bytes)) = closed.object(1) {
-        return bytes.to_vec(alloc);
-    }
-    let bytes = fetched(alloc, closed);
-    if bytes.len() == 8 {
-        return Ok(bytes);
-    }
-    Ok(fetched(alloc, closed))
+/// The number that eight bytes are.
+fn number_of(bytes: &[u8]) -> Option<u64> {
+    Some(u64::from_le_bytes(bytes.try_into().ok()?))
 }
 
-/// Runs and closes a service: the bytes of object 1, or none, unless workers and mover came and all was answered as it should be.
+/// The number that the bytes of object 1 are, here or from the far store, which is asked again where it first gives another length.
+fn count_of_one<F: FarStore>(alloc: Global, closed: &mut Closed<F>) -> Option<u64> {
+    if let Some(Ended::Here(bytes)) = closed.object(1) {
+        return number_of(bytes);
+    }
+    let count = number_of(&fetched(alloc, closed));
+    if count.is_some() {
+        return count;
+    }
+    number_of(&fetched(alloc, closed))
+}
+
+/// Runs and closes a service: the number that object 1 is then, or none, unless workers and mover came and all was answered as it
+/// should be.
 fn close_after<F: FarStore + Drop + Send + Sync, K: Mark + Send + Sync, R: Threads + Wait + Sync>(
     rt: &R,
     alloc: Global,
     parts: Parts<F>,
     talk: Talk,
-) -> Result<Vec<u8>, AllocError>
+) -> Result<Option<u64>, AllocError>
 where
     F::Parcel: Send,
     requires table { IsTableOf K.table K.opening parts.shared.table }
@@ -139,17 +146,12 @@ where
     requires mover { (parts.mover.seat.table_id ≡ K.table) × (parts.mover.seat.me.0 ≡ seated K.seats (dealer F.RETURNS K.opening)) }
     requires all { K.seats ≡ 49 }
 {
-    let Parts {
-        shared,
-        machines,
-        seats,
+    let Service::<F, K> {
+        agent,
         connection,
-        mover,
-        store,
-    } = parts;
-    let agent: Agent<F, K> = Agent::new(Pool::new(rt, alloc, shared, seats, machines)?);
-    let connection: Mutex<Connection<K>> = Mutex::new(Connection::new(alloc, connection)?);
-    let mut served: Mover<F, K> = Mover::new(alloc, mover, store)?;
+        mut served,
+    } = service_of(rt, alloc, parts)?;
+    let connection: Mutex<Connection<K>> = Mutex::new(connection);
     let gate = UntilEnd {
         ended: AtomicBool::new(false),
     };
@@ -162,26 +164,25 @@ where
         talk,
     };
     let ended = run(&tools, &mut served);
-    let connections = Vec::from_array(alloc, [connection.into_inner()])?;
-    let mut closed = agent.close(alloc, connections, served)?;
+    let mut closed = closed_of(alloc, agent, connection.into_inner(), served)?;
     if !ended {
-        return Ok(Vec::new(alloc));
+        return Ok(None);
     }
-    bytes_of_one(alloc, &mut closed)
+    Ok(count_of_one(alloc, &mut closed))
 }
 
-/// The bytes of object 1 when two machines have each added 1 to it 10,000 times, and a service over this far store has closed.
+/// The number that object 1 is when two machines have each added 1 to it 10,000 times, and a service over this far store has closed.
 pub fn close_over<F: FarStore + Drop + Send + Sync, R: Threads + Wait + Sync>(
     rt: &R,
     alloc: Global,
     store: F,
     talk: Talk,
-) -> Result<Vec<u8>, Fail>
+) -> Result<Option<u64>, Fail>
 where
     F::Parcel: Send,
 {
-    let first = machine(alloc, 1, &ADDS, 100_000, [OBJECT, 1, 10_000, 0, 0])?;
-    let second = machine(alloc, 2, &ADDS, 100_000, [OBJECT, 1, 10_000, 0, 0])?;
+    let first = machine(alloc, 1, ADDS, 100_000, [OBJECT, 1, 10_000, 0, 0])?;
+    let second = machine(alloc, 2, ADDS, 100_000, [OBJECT, 1, 10_000, 0, 0])?;
     let machines = Vec::from_array(alloc, [first, second])?;
     let bodies = Vec::from_array(alloc, [vec![in alloc; 0u8; 8]?])?;
     let (shared, mut seats, mover) = Shared::<F>::open(alloc, bodies, 49)?;
@@ -201,8 +202,7 @@ where
 
 #[test]
 fn close_two(rt: HostRuntime) -> Result<(), Fail> {
-    let alloc = rt.alloc();
-    let bytes = close_over(&rt, alloc, OwnStore::new(alloc), Talk::Leaves)?;
-    assert_eq!(rt; bytes.as_slice(), [0x20, 0x4e, 0, 0, 0, 0, 0, 0].as_slice());
+    let store = OwnStore::new(rt.alloc());
+    same!(rt; close_over(&rt, rt.alloc(), store, Talk::Leaves)?, Some(20_000));
     Ok(())
 }

@@ -8,6 +8,8 @@ mod closing_two;
 #[cfg(test)]
 mod commands;
 #[cfg(test)]
+mod compared;
+#[cfg(test)]
 mod devices;
 #[cfg(test)]
 mod listening;

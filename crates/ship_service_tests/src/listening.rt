@@ -1,11 +1,13 @@
 //! Services that listen. What a client says is on its way before the service begins, so that no thread is needed for it.
 
+use crate::compared::same;
 use console::{Console, drive};
 use far_store::OwnStore;
 use ship_service::{ListenFault, Plan, listen, listen_over};
 use std::alloc::Global;
 use std::io::{Read, Write};
 use std::net::{Ipv4Addr, Net, Shutdown, TcpListener, TcpStream};
+use std::process::Abort;
 use std::sync::Wait;
 use std::test::Fail;
 use std::thread::Threads;
@@ -59,94 +61,183 @@ fn heard(alloc: Global, client: &mut TcpStream) -> Result<Vec<u8>, Fail> {
     Ok(bytes)
 }
 
-#[test]
-fn a_client_without_workers(rt: HostRuntime) -> Result<(), Fail> {
-    let alloc = rt.alloc();
-    let listener = TcpListener::bind(&rt, (Ipv4Addr::LOCALHOST, 0))?;
-    let mut client = client_of(&rt, &listener, SAID)?;
-    let mut output = Vec::new(alloc);
-    let world = world_after(alloc, SETUP)?;
-    let ended = listen(&rt, alloc, listener, &mut output, world, 1, 0, false);
-    assert_eq!(rt; ended, Ok(()));
-    assert!(rt; output.starts_with(b"listening "));
-    assert!(rt; output.ends_with(LEFT_HERE) || output.ends_with(LEFT_OUT));
-    assert_eq!(rt; heard(alloc, &mut client)?.as_slice(), TOLD);
-    Ok(())
+/// A listener that anyone may reach here.
+fn bound<R: Net<Listener = TcpListener, Stream = TcpStream>>(rt: &R) -> Result<TcpListener, Fail> {
+    Ok(TcpListener::bind(rt, (Ipv4Addr::LOCALHOST, 0))?)
 }
 
-/// How a service ends over a store that isn't the world's, without workers, and what it says.
+/// What a service said on its output.
+#[derive(Clone, Copy, Drop, Debug, PartialEq, Eq)]
+enum Output {
+    Nothing,
+    /// That it listens, and not that it closed.
+    Listening,
+    /// That it listens, and what is left of the first client's service.
+    Closed,
+    /// Anything else, which is wrong.
+    Other,
+}
+
+fn output_of(output: &[u8]) -> Output {
+    if output.is_empty() {
+        return Output::Nothing;
+    }
+    if !output.starts_with(b"listening ") {
+        return Output::Other;
+    }
+    if output.ends_with(LEFT_HERE) || output.ends_with(LEFT_OUT) {
+        return Output::Closed;
+    }
+    if output.windows(6).any(|part| part == b"closed".as_slice()) {
+        return Output::Other;
+    }
+    Output::Listening
+}
+
+/// How a service ends, and what it says.
+type Ended = (Result<(), ListenFault>, Output);
+
+/// The plan of a service with one connection and nobody beside it.
+const ALONE: Plan = Plan {
+    connections: 1,
+    workers: 0,
+    sweep: false,
+};
+
+/// How a service ends over the store of its world, which these commands leave, and what it says.
+fn ends_over_its_own<R>(
+    rt: &R,
+    alloc: Global,
+    listener: TcpListener,
+    setup: &[u8],
+    plan: Plan,
+) -> Result<Ended, Fail>
+where
+    R: Net<Listener = TcpListener, Stream = TcpStream> + Threads + Wait + Sync,
+{
+    let mut output = Vec::new(alloc);
+    let world = world_after(alloc, setup)?;
+    let Plan {
+        connections,
+        workers,
+        sweep,
+    } = plan;
+    let ended = listen(
+        rt,
+        alloc,
+        listener,
+        &mut output,
+        world,
+        connections,
+        workers,
+        sweep,
+    );
+    Ok((ended, output_of(&output)))
+}
+
+/// The same over a store that isn't the world's, without workers.
 fn ends_over_another<R>(
     rt: &R,
     alloc: Global,
     listener: TcpListener,
-    world: World<OwnStore>,
-) -> (Result<(), ListenFault>, Vec<u8>)
+    setup: &[u8],
+) -> Result<Ended, Fail>
 where
     R: Net<Listener = TcpListener, Stream = TcpStream> + Threads + Wait + Sync,
 {
-    let plan = Plan {
-        connections: 1,
-        workers: 0,
-        sweep: false,
-    };
     let mut output = Vec::new(alloc);
+    let world = world_after(alloc, setup)?;
     let store = OwnStore::new(alloc);
-    let ended = listen_over(rt, alloc, listener, &mut output, world, store, plan);
-    (ended, output)
+    let ended = listen_over(rt, alloc, listener, &mut output, world, store, ALONE);
+    Ok((ended, output_of(&output)))
+}
+
+/// Over which far store a service runs.
+#[derive(Clone, Copy, Drop)]
+enum Over {
+    ItsOwn,
+    Another,
+}
+
+/// What a client hears of a service without workers when it said what it says, and how the service ends.
+fn one_client<R>(rt: &R, alloc: Global, over: Over) -> Result<(Vec<u8>, Ended), Fail>
+where
+    R: Net<Listener = TcpListener, Stream = TcpStream> + Threads + Wait + Sync,
+{
+    let listener = bound(rt)?;
+    let mut client = client_of(rt, &listener, SAID)?;
+    let ended = match over {
+        Over::ItsOwn => ends_over_its_own(rt, alloc, listener, SETUP, ALONE)?,
+        Over::Another => ends_over_another(rt, alloc, listener, SETUP)?,
+    };
+    Ok((heard(alloc, &mut client)?, ended))
+}
+
+/// A service without workers serves its one client.
+fn serves_one<R>(rt: &R, alloc: Global, over: Over) -> Result<(), Fail>
+where
+    R: Net<Listener = TcpListener, Stream = TcpStream> + Threads + Wait + Sync + Abort,
+{
+    let (heard, ended) = one_client(rt, alloc, over)?;
+    same!(rt; ended, (Ok(()), Output::Closed));
+    same!(rt; heard.as_slice(), TOLD);
+    Ok(())
+}
+
+#[test]
+fn a_client_without_workers(rt: HostRuntime) -> Result<(), Fail> {
+    serves_one(&rt, rt.alloc(), Over::ItsOwn)
 }
 
 #[test]
 fn a_client_over_another_store(rt: HostRuntime) -> Result<(), Fail> {
-    let alloc = rt.alloc();
-    let listener = TcpListener::bind(&rt, (Ipv4Addr::LOCALHOST, 0))?;
-    let mut client = client_of(&rt, &listener, SAID)?;
-    let world = world_after(alloc, SETUP)?;
-    let (ended, output) = ends_over_another(&rt, alloc, listener, world);
-    assert_eq!(rt; ended, Ok(()));
-    assert!(rt; output.starts_with(b"listening "));
-    assert!(rt; output.ends_with(LEFT_HERE) || output.ends_with(LEFT_OUT));
-    assert_eq!(rt; heard(alloc, &mut client)?.as_slice(), TOLD);
-    Ok(())
+    serves_one(&rt, rt.alloc(), Over::Another)
 }
 
 #[test]
 fn an_object_that_is_not_here_over_another_store(rt: HostRuntime) -> Result<(), Fail> {
-    let alloc = rt.alloc();
-    let listener = TcpListener::bind(&rt, (Ipv4Addr::LOCALHOST, 0))?;
-    let world = world_after(alloc, b"make 8\nmake 8\nleave 2\nleft 2\n")?;
-    let (ended, output) = ends_over_another(&rt, alloc, listener, world);
-    assert_eq!(rt; ended, Err(ListenFault::NotHere(2)));
-    assert!(rt; output.is_empty());
+    let setup = b"make 8\nmake 8\nleave 2\nleft 2\n".as_slice();
+    let ended = ends_over_another(&rt, rt.alloc(), bound(&rt)?, setup)?;
+    same!(rt; ended, (Err(ListenFault::NotHere(2)), Output::Nothing));
     Ok(())
+}
+
+/// What a client hears of a service that waits for a second one and can't accept it, and how the service ends.
+fn cut_off<R>(rt: &R, alloc: Global) -> Result<(Vec<u8>, Ended), Fail>
+where
+    R: Net<Listener = TcpListener, Stream = TcpStream> + Threads + Wait + Sync,
+{
+    let listener = bound(rt)?;
+    // its second `accept` fails, since nobody waits
+    listener.set_nonblocking(true)?;
+    let mut client = TcpStream::connect(rt, listener.local_addr()?)?;
+    let plan = Plan {
+        connections: 2,
+        workers: 2,
+        sweep: true,
+    };
+    let ended = ends_over_its_own(rt, alloc, listener, SETUP, plan)?;
+    Ok((heard(alloc, &mut client)?, ended))
 }
 
 #[test]
 fn a_client_that_cannot_be_accepted(rt: HostRuntime) -> Result<(), Fail> {
-    let alloc = rt.alloc();
-    let listener = TcpListener::bind(&rt, (Ipv4Addr::LOCALHOST, 0))?;
-    // its second `accept` fails, since nobody waits
-    listener.set_nonblocking(true)?;
-    let mut client = TcpStream::connect(&rt, listener.local_addr()?)?;
-    let mut output = Vec::new(alloc);
-    let world = world_after(alloc, SETUP)?;
-    let ended = listen(&rt, alloc, listener, &mut output, world, 2, 2, true);
-    assert_eq!(rt; ended, Err(ListenFault::Net));
-    assert!(rt; output.starts_with(b"listening "));
-    assert!(rt; !output.windows(6).any(|part| part == b"closed".as_slice()));
+    let (heard, ended) = cut_off(&rt, rt.alloc())?;
+    same!(rt; ended, (Err(ListenFault::Net), Output::Listening));
     // the first client is cut off
-    assert!(rt; heard(alloc, &mut client)?.is_empty());
+    same!(rt; heard.as_slice(), b"".as_slice());
     Ok(())
 }
 
 #[test]
 fn objects_that_are_not_here(rt: HostRuntime) -> Result<(), Fail> {
-    let alloc = rt.alloc();
-    let listener = TcpListener::bind(&rt, (Ipv4Addr::LOCALHOST, 0))?;
-    let mut output = Vec::new(alloc);
-    let world = world_after(alloc, b"make 8\nmake 8\nmake 8\nleave 3\nleave 2\nleft 2\n")?;
-    let ended = listen(&rt, alloc, listener, &mut output, world, 1, 2, false);
-    assert_eq!(rt; ended, Err(ListenFault::NotHere(2)));
-    assert!(rt; output.is_empty());
+    let setup = b"make 8\nmake 8\nmake 8\nleave 3\nleave 2\nleft 2\n".as_slice();
+    let plan = Plan {
+        workers: 2,
+        ..ALONE
+    };
+    let ended = ends_over_its_own(&rt, rt.alloc(), bound(&rt)?, setup, plan)?;
+    same!(rt; ended, (Err(ListenFault::NotHere(2)), Output::Nothing));
     Ok(())
 }
 
@@ -159,7 +250,7 @@ fn ends_with_room<R>(
 where
     R: Net<Listener = TcpListener, Stream = TcpStream> + Threads + Wait + Sync,
 {
-    let listener = TcpListener::bind(rt, (Ipv4Addr::LOCALHOST, 0))?;
+    let listener = bound(rt)?;
     let _client = client_of(rt, &listener, b"")?;
     let mut output = Narrow::new(alloc, usize::MAX, room);
     let world = world_after(alloc, SETUP)?;
@@ -170,10 +261,9 @@ where
 #[test]
 fn an_output_that_fails(rt: HostRuntime) -> Result<(), Fail> {
     // in the first line, and in the last
-    for room in [0, 5, 18] {
-        let (ended, taken) = ends_with_room(&rt, rt.alloc(), room)?;
-        assert_eq!(rt; ended, Err(ListenFault::Write));
-        assert_eq!(rt; taken, room);
+    for &room in &[0usize, 5, 18] {
+        let ended = ends_with_room(&rt, rt.alloc(), room)?;
+        same!(rt; ended, (Err(ListenFault::Write), room), room);
     }
     Ok(())
 }

@@ -7,19 +7,20 @@ ghost use Rattle.shared_objects.specs.Tables.{IsActorOf};
 ghost use Rattle.workers.specs.Cells.{IsSeatOf, IsTableOf};
 ghost use Rattle.workers.specs.Pools.{machines_of};
 
-use crate::closing::Parts;
+use crate::closing::{Parts, Service, move_one, service_of};
 use crate::closing_two::close_over;
-use crate::stage::{last_seat, talk};
+use crate::compared::same;
+use crate::stage::{last_seat, tells};
 use crate::tools::Talk;
 use far_store::{FarStore, Moved, StoreFault};
 use shared_objects::Shared;
-use ship_service::{Agent, Connection};
 use std::alloc::{AllocError, Global};
 use std::marker::Brand;
+use std::process::Abort;
 use std::sync::Wait;
 use std::sync::atomic::{AtomicBool, AtomicU64, Ordering};
 use std::test::Fail;
-use workers::{Direction, Gate, Mark, Mover, Pool, mover};
+use workers::{Direction, Gate, Mark, mover};
 
 /// What stands for bytes in a [`Lying`] store.
 #[derive(Drop)]
@@ -115,152 +116,84 @@ impl Gate for Rounds {
     }
 }
 
-/// What a service without workers did.
-#[derive(Drop)]
-struct Left {
-    /// What the connection was answered.
-    told: Vec<u8>,
-    /// What became of the moves for which the mover was called.
-    moved: Vec<Moved>,
-    /// How many faults the far store counted.
-    faults: u64,
-}
-
-/// A service without workers, and what it did so far.
-#[derive(Drop)]
-struct Alone<F: FarStore, K: Mark> {
-    alloc: Global,
-    agent: Agent<F, K>,
-    connection: Connection<K>,
-    served: Mover<F, K>,
-    told: Vec<u8>,
-    moved: Vec<Moved>,
-}
-
-impl<F: FarStore + Drop, K: Mark> Alone<F, K> {
-    /// The connection asks for the bytes of object 1.
-    fn looks<R: Wait>(&mut self, rt: &R) -> Result<(), AllocError> {
-        let (told, _) = talk(
-            rt,
-            self.alloc,
-            &self.agent,
-            &mut self.connection,
-            b"get 1 0 20\n",
-            usize::MAX,
-            usize::MAX,
-        );
-        self.told.extend_from_slice(&told)
-    }
-
-    /// The mover is called to move object 1.
-    fn moves(&mut self, direction: Direction) -> Result<(), AllocError> {
-        let moved = self.served.one(self.agent.pool(), 1, direction);
-        self.moved.push(moved)?;
-        Ok(())
-    }
-
+/// What is done with a service without workers, and what comes of it.
+#[derive(Clone, Copy, Drop)]
+enum Act {
+    /// The connection asks for the bytes of object 1, and is answered so.
+    Looks(&'static [u8]),
+    /// The mover is called to move object 1, with this outcome.
+    Moves(Direction, Moved),
     /// The mover serves one request.
-    fn serves<R: Wait>(&mut self, rt: &R) {
-        let gate = Rounds {
-            left: AtomicU64::new(1),
-        };
-        mover(rt, &gate, self.agent.pool(), &mut self.served, false);
-    }
+    Serves,
+}
 
-    /// The object leaves, and comes back by calls of the mover.
-    fn comes_by_calls<R: Wait>(&mut self, rt: &R) -> Result<(), AllocError> {
-        self.moves(Direction::Leave)?;
-        self.looks(rt)?;
-        self.moves(Direction::Return)?;
-        self.looks(rt)?;
-        self.moves(Direction::Return)?;
-        self.looks(rt)
-    }
+/// The mover serves one request.
+fn serves<F: FarStore, K: Mark, R: Wait>(rt: &R, service: &mut Service<F, K>) {
+    let gate = Rounds {
+        left: AtomicU64::new(1),
+    };
+    mover(rt, &gate, service.agent.pool(), &mut service.served, false);
+}
 
-    /// The object leaves, and comes back since the connection looks for it.
-    fn comes_by_requests<R: Wait>(&mut self, rt: &R) -> Result<(), AllocError> {
-        self.moves(Direction::Leave)?;
-        self.looks(rt)?;
-        self.serves(rt);
-        self.looks(rt)?;
-        self.serves(rt);
-        self.looks(rt)
-    }
-
-    fn left(self) -> Left {
-        let Alone {
-            alloc: _,
-            agent: _,
-            connection: _,
-            served,
-            told,
-            moved,
-        } = self;
-        let (_, store, _) = served.into_parts();
-        Left {
-            told,
-            moved,
-            faults: store.faults(),
+/// An act is done, and comes to what it should.
+fn does<F: FarStore, K: Mark, R: Wait + Abort>(
+    rt: &R,
+    alloc: Global,
+    service: &mut Service<F, K>,
+    act: Act,
+) {
+    match act {
+        Act::Looks(told) => {
+            let lines = (b"get 1 0 20\n".as_slice(), told);
+            tells(rt, alloc, &service.agent, &mut service.connection, lines);
         }
+        Act::Moves(direction, wanted) => {
+            let moved = move_one(&service.agent, &mut service.served, direction);
+            same!(rt; moved, wanted);
+        }
+        Act::Serves => serves(rt, service),
     }
 }
 
-/// A service of these parts.
-fn service_of<F: FarStore + Drop, K: Mark, R: Wait>(
+/// How many faults the far store of a service counted.
+fn faults_of<F: FarStore + Drop, K: Mark>(service: Service<F, K>) -> u64 {
+    let (_, store, _) = service.served.into_parts();
+    store.faults()
+}
+
+/// The acts are done with a service: how many faults its far store counts then.
+fn faults_by<F: FarStore + Drop, K: Mark, R: Wait + Abort>(
+    rt: &R,
+    alloc: Global,
+    mut service: Service<F, K>,
+    acts: &[Act],
+) -> u64 {
+    for act in acts {
+        does(rt, alloc, &mut service, *act);
+    }
+    faults_of(service)
+}
+
+/// The acts are done with a service of these parts: how many faults its far store counts then.
+fn faults_after<F: FarStore + Drop, K: Mark, R: Wait + Abort>(
     rt: &R,
     alloc: Global,
     parts: Parts<F>,
-) -> Result<Alone<F, K>, AllocError>
+    acts: &[Act],
+) -> Result<u64, AllocError>
     requires table { IsTableOf K.table K.opening parts.shared.table }
     requires seats { AreFresh (dealer F.RETURNS K.opening) parts.seats.items × All (IsActorOf parts.shared.table) parts.seats.items × (length parts.seats.items ≡ 48) }
     requires machines { (K.starts ≡ machines_of parts.machines.items) × (length parts.machines.items ≤ 48) }
     requires connection { IsSeatOf K.table K.opening parts.connection }
     requires mover { (parts.mover.seat.table_id ≡ K.table) × (parts.mover.seat.me.0 ≡ seated K.seats (dealer F.RETURNS K.opening)) }
 {
-    let Parts {
-        shared,
-        machines,
-        seats,
-        connection,
-        mover,
-        store,
-    } = parts;
-    Ok(Alone {
-        alloc,
-        agent: Agent::new(Pool::new(rt, alloc, shared, seats, machines)?),
-        connection: Connection::new(alloc, connection)?,
-        served: Mover::new(alloc, mover, store)?,
-        told: Vec::new(alloc),
-        moved: Vec::new(alloc),
-    })
+    let service: Service<F, K> = service_of(rt, alloc, parts)?;
+    Ok(faults_by(rt, alloc, service, acts))
 }
 
-/// What a service of these parts did when object 1 had left and come back twice, by calls of the mover or by requests.
-fn left_after<F: FarStore + Drop, K: Mark, R: Wait>(
-    rt: &R,
-    alloc: Global,
-    parts: Parts<F>,
-    calls: bool,
-) -> Result<Left, AllocError>
-    requires table { IsTableOf K.table K.opening parts.shared.table }
-    requires seats { AreFresh (dealer F.RETURNS K.opening) parts.seats.items × All (IsActorOf parts.shared.table) parts.seats.items × (length parts.seats.items ≡ 48) }
-    requires machines { (K.starts ≡ machines_of parts.machines.items) × (length parts.machines.items ≤ 48) }
-    requires connection { IsSeatOf K.table K.opening parts.connection }
-    requires mover { (parts.mover.seat.table_id ≡ K.table) × (parts.mover.seat.me.0 ≡ seated K.seats (dealer F.RETURNS K.opening)) }
-{
-    let mut service: Alone<F, K> = service_of(rt, alloc, parts)?;
-    if calls {
-        service.comes_by_calls(rt)?;
-        service.comes_by_calls(rt)?;
-    } else {
-        service.comes_by_requests(rt)?;
-        service.comes_by_requests(rt)?;
-    }
-    Ok(service.left())
-}
-
-/// What a service over a store that lies did, whose object 1 left and came back twice.
-fn left_by<R: Wait>(rt: &R, alloc: Global, calls: bool) -> Result<Left, Fail> {
+/// The acts are done with a service over a store that lies, whose object 1 has the bytes 1 to 20: how many faults that store counts
+/// then.
+fn lies<R: Wait + Abort>(rt: &R, alloc: Global, acts: &[Act]) -> Result<u64, Fail> {
     let body = Vec::from_array(
         alloc,
         [
@@ -280,48 +213,57 @@ fn left_by<R: Wait>(rt: &R, alloc: Global, calls: bool) -> Result<Left, Fail> {
         mover,
         store: Lying::new(alloc),
     };
-    Ok(left_after::<Lying, Brand, R>(rt, alloc, parts, calls)?)
+    Ok(faults_after::<Lying, Brand, R>(rt, alloc, parts, acts)?)
 }
 
-/// What the connection is answered where the object leaves and comes back twice.
-const TOLD: &[u8] =
-    b"away 1\naway 1\nbytes 0102030405060708090a0b0c0d0e0f1011121314\naway 1\naway 1\nbytes 0102030405060708090a0b0c0d0e0f1011121314\n";
+const AWAY: Act = Act::Looks(b"away 1\n");
+
+const HERE: Act = Act::Looks(b"bytes 0102030405060708090a0b0c0d0e0f1011121314\n");
+
+const LEAVES: Act = Act::Moves(Direction::Leave, Moved::Done);
+
+const RETURNS: Act = Act::Moves(Direction::Return, Moved::Done);
+
+/// The store tells that the bytes are damaged.
+const DAMAGED: Act = Act::Moves(Direction::Return, Moved::Fault(StoreFault::Damaged));
+
+/// The object leaves twice, and comes back by calls of the mover. The second time the store gives a byte too few.
+const CALLS: &[Act] = &[
+    LEAVES, AWAY, DAMAGED, AWAY, RETURNS, HERE, LEAVES, AWAY, DAMAGED, AWAY, RETURNS, HERE,
+];
 
 #[test]
 fn an_object_comes_when_the_mover_is_called_again(rt: HostRuntime) -> Result<(), Fail> {
-    let left = left_by(&rt, rt.alloc(), true)?;
-    assert_eq!(rt; left.told.as_slice(), TOLD);
-    let damaged = Moved::Fault(StoreFault::Damaged);
-    assert_eq!(rt;
-        left.moved.as_slice(),
-        [
-            Moved::Done,
-            damaged,
-            Moved::Done,
-            Moved::Done,
-            damaged,
-            Moved::Done
-        ]
-        .as_slice()
-    );
     // the store counts what it told as damaged, and not the byte too few
-    assert_eq!(rt; left.faults, 1);
+    same!(rt; lies(&rt, rt.alloc(), CALLS)?, 1);
     Ok(())
 }
 
+/// The object leaves twice, and comes back since the connection looks for it.
+const REQUESTS: &[Act] = &[
+    LEAVES,
+    AWAY,
+    Act::Serves,
+    AWAY,
+    Act::Serves,
+    HERE,
+    LEAVES,
+    AWAY,
+    Act::Serves,
+    AWAY,
+    Act::Serves,
+    HERE,
+];
+
 #[test]
 fn an_object_comes_when_it_is_asked_for_again(rt: HostRuntime) -> Result<(), Fail> {
-    let left = left_by(&rt, rt.alloc(), false)?;
-    assert_eq!(rt; left.told.as_slice(), TOLD);
-    assert_eq!(rt; left.moved.as_slice(), [Moved::Done; 2].as_slice());
-    assert_eq!(rt; left.faults, 1);
+    same!(rt; lies(&rt, rt.alloc(), REQUESTS)?, 1);
     Ok(())
 }
 
 #[test]
 fn two_machines_add_over_a_store_that_lies(rt: HostRuntime) -> Result<(), Fail> {
-    let alloc = rt.alloc();
-    let bytes = close_over(&rt, alloc, Lying::new(alloc), Talk::Watches)?;
-    assert_eq!(rt; bytes.as_slice(), [0x20, 0x4e, 0, 0, 0, 0, 0, 0].as_slice());
+    let store = Lying::new(rt.alloc());
+    same!(rt; close_over(&rt, rt.alloc(), store, Talk::Watches)?, Some(20_000));
     Ok(())
 }

@@ -1,140 +1,132 @@
 //! Objects that are away, stamps and scopes.
 
-use crate::stage::{Setting, plain_setting, say};
+use crate::compared::same;
+use crate::stage::{Lines, NOTHING, PLAIN, Setting, answers};
+use std::alloc::{AllocError, Global};
 use std::test::Fail;
-
-/// ldxdw r0, [r1] · exit
-const LOAD: [u64; 2] = [0x7910_0000_0000_0000, 0x9500_0000_0000_0000];
 
 /// The address of object 1.
 const OBJECT: u64 = 0x0000_0001_0000_0000;
 
-/// The greatest stamp.
-const GREATEST: u64 = 281_474_976_710_655;
+/// ldxdw r0, [r1] · exit
+const LOAD: Setting<'static> = Setting {
+    code: &[0x7910_0000_0000_0000, 0x9500_0000_0000_0000],
+    arguments: [OBJECT, 0, 0, 0, 0],
+    ..PLAIN
+};
+
+/// The same while object 1 is on its way.
+const LOAD_AWAY: Setting<'static> = Setting {
+    leaving: true,
+    ..LOAD
+};
+
+const AWAY: Lines<'static> = (
+    b"get 1 0 1\nput 1 0 01\nput 1 8 01\nstep 1\none 1\nleave 1\n",
+    b"away 1\naway 1\noutside\nwaiting 1 1\nwaiting 1 1\nasked 1\n",
+);
 
 #[test]
 fn an_object_that_is_away(rt: HostRuntime) -> Result<(), Fail> {
-    let begins = Setting {
-        code: &LOAD,
-        arguments: [OBJECT, 0, 0, 0, 0],
-        leaving: true,
-        ..plain_setting()
-    };
-    let told = say(
-        &rt,
-        rt.alloc(),
-        &begins,
-        [
-            b"get 1 0 1\nput 1 0 01\nput 1 8 01\nstep 1\none 1\nleave 1\n",
-            b"",
-        ],
-    )?;
-    assert_eq!(rt;
-        told.first.as_slice(),
-        b"away 1\naway 1\noutside\nwaiting 1 1\nwaiting 1 1\nasked 1\n".as_slice()
-    );
+    answers(&rt, rt.alloc(), &LOAD_AWAY, [AWAY, NOTHING])?;
     Ok(())
 }
+
+/// The first connection has seen up to the greatest stamp.
+const LOAD_WORN: Setting<'static> = Setting {
+    stamp: 281_474_976_710_655,
+    ..LOAD
+};
+
+const WORN: Lines<'static> = (
+    b"get 1 0 1\nput 1 0 01\nget 1 8 1\nstep 1\n",
+    b"worn\nworn\noutside\nstopped 1 worn\n",
+);
+
+const WORN_THEN: Lines<'static> = (
+    b"get 1 0 1\nregs 1\nget 1 0 1\n",
+    b"bytes 00\nregs 1 0 10 worn 0000000000000000 0000000100000000 0000000000000000 0000000000000000 0000000000000000 0000000000000000 0000000000000000 0000000000000000 0000000000000000 0000000000000000 ffffffff00001000\nworn\n",
+);
 
 #[test]
 fn stamps_that_run_out(rt: HostRuntime) -> Result<(), Fail> {
-    let begins = Setting {
-        code: &LOAD,
-        arguments: [OBJECT, 0, 0, 0, 0],
-        stamp: GREATEST,
-        ..plain_setting()
-    };
-    let told = say(
-        &rt,
-        rt.alloc(),
-        &begins,
-        [
-            b"get 1 0 1\nput 1 0 01\nget 1 8 1\nstep 1\n",
-            b"get 1 0 1\nregs 1\nget 1 0 1\n",
-        ],
-    )?;
-    assert_eq!(rt;
-        told.first.as_slice(),
-        b"worn\nworn\noutside\nstopped 1 worn\n".as_slice()
-    );
-    assert_eq!(rt;
-        told.second.as_slice(),
-        b"bytes 00\nregs 1 0 10 worn 0000000000000000 0000000100000000 0000000000000000 0000000000000000 0000000000000000 0000000000000000 0000000000000000 0000000000000000 0000000000000000 0000000000000000 ffffffff00001000\nworn\n".as_slice()
-    );
+    answers(&rt, rt.alloc(), &LOAD_WORN, [WORN, WORN_THEN])?;
     Ok(())
 }
+
+const LOAD_AT_41: Setting<'static> = Setting { stamp: 41, ..LOAD };
+
+const STEP: Lines<'static> = (b"step 1\n", b"ran 1 1\n");
+
+const LINE: Lines<'static> = (b"line 1 0\n", b"line 1 0 ldxdw r0, [r1]\n");
+
+const REGS: Lines<'static> = (
+    b"regs 1\n",
+    b"regs 1 0 10 run 0000000000000000 0000000100000000 0000000000000000 0000000000000000 0000000000000000 0000000000000000 0000000000000000 0000000000000000 0000000000000000 0000000000000000 ffffffff00001000\n",
+);
 
 #[test]
 fn stamps_are_learnt(rt: HostRuntime) -> Result<(), Fail> {
-    let begins = Setting {
-        code: &LOAD,
-        arguments: [OBJECT, 0, 0, 0, 0],
-        stamp: 41,
-        ..plain_setting()
-    };
     // the step's entry has the stamp 42, which both connections learn
-    let told = say(&rt, rt.alloc(), &begins, [b"step 1\n", b"line 1 0\n"])?;
-    assert_eq!(rt; told.stamps, [42, 42, 42]);
+    let left = answers(&rt, rt.alloc(), &LOAD_AT_41, [STEP, LINE])?;
+    same!(rt; left.stamps, [42, 42, 42]);
     // nothing is learnt before a command that only shows
-    let told = say(&rt, rt.alloc(), &begins, [b"regs 1\n", b"regs 1\n"])?;
-    assert_eq!(rt; told.stamps, [41, 0, 0]);
+    let left = answers(&rt, rt.alloc(), &LOAD_AT_41, [REGS, REGS])?;
+    same!(rt; left.stamps, [41, 0, 0]);
     Ok(())
 }
 
+const GET: Lines<'static> = (b"get 1 0 1\n", b"bytes 00\n");
+
+const PUT: Lines<'static> = (b"put 1 0 01\n", b"ok\n");
+
 #[test]
 fn scopes_are_closed(rt: HostRuntime) -> Result<(), Fail> {
-    let told = say(
-        &rt,
-        rt.alloc(),
-        &plain_setting(),
-        [b"get 1 0 1\n", b"put 1 0 01\n"],
-    )?;
-    assert!(rt; told.leaves);
-    let begins = Setting {
-        code: &LOAD,
-        arguments: [OBJECT, 0, 0, 0, 0],
-        ..plain_setting()
-    };
+    let left = answers(&rt, rt.alloc(), &PLAIN, [GET, PUT])?;
+    same!(rt; left.leaves, true);
     // the machine's scope stays open
-    let told = say(&rt, rt.alloc(), &begins, [b"step 1\n", b""])?;
-    assert!(rt; !told.leaves);
+    let left = answers(&rt, rt.alloc(), &LOAD, [STEP, NOTHING])?;
+    same!(rt; left.leaves, false);
     Ok(())
+}
+
+/// These bytes so many times, and then those.
+fn repeated(alloc: Global, count: usize, bytes: &[u8], last: &[u8]) -> Result<Vec<u8>, AllocError> {
+    let mut all = Vec::new(alloc);
+    for _ in 0..count {
+        all.extend_from_slice(bytes)?;
+    }
+    all.extend_from_slice(last)?;
+    Ok(all)
 }
 
 #[test]
 fn requests_without_a_mover(rt: HostRuntime) -> Result<(), Fail> {
-    let alloc = rt.alloc();
-    let mut said = Vec::new(alloc);
-    let mut told = Vec::new(alloc);
-    for _ in 0..64 {
-        said.extend_from_slice(b"leave 1\n")?;
-        told.extend_from_slice(b"asked 1\n")?;
-    }
-    said.extend_from_slice(b"return 1\nleave 2\n")?;
-    told.extend_from_slice(b"full\nnone\n")?;
-    let ended = say(&rt, alloc, &plain_setting(), [said.as_slice(), b""])?;
-    assert_eq!(rt; ended.first.as_slice(), told.as_slice());
+    let said = repeated(rt.alloc(), 64, b"leave 1\n", b"return 1\nleave 2\n")?;
+    let told = repeated(rt.alloc(), 64, b"asked 1\n", b"full\nnone\n")?;
+    answers(
+        &rt,
+        rt.alloc(),
+        &PLAIN,
+        [(said.as_slice(), told.as_slice()), NOTHING],
+    )?;
     Ok(())
 }
 
 #[test]
 fn missed_objects_are_asked_for(rt: HostRuntime) -> Result<(), Fail> {
-    let alloc = rt.alloc();
-    let begins = Setting {
-        code: &LOAD,
-        arguments: [OBJECT, 0, 0, 0, 0],
-        leaving: true,
-        ..plain_setting()
-    };
-    let mut said = Vec::new(alloc);
-    let mut told = Vec::new(alloc);
-    for _ in 0..32 {
-        said.extend_from_slice(b"get 1 0 1\nstep 1\n")?;
-        told.extend_from_slice(b"away 1\nwaiting 1 1\n")?;
-    }
-    said.extend_from_slice(b"leave 1\nget 1 8 1\n")?;
-    told.extend_from_slice(b"full\noutside\n")?;
-    let ended = say(&rt, alloc, &begins, [said.as_slice(), b""])?;
-    assert_eq!(rt; ended.first.as_slice(), told.as_slice());
+    let said = repeated(
+        rt.alloc(),
+        32,
+        b"get 1 0 1\nstep 1\n",
+        b"leave 1\nget 1 8 1\n",
+    )?;
+    let told = repeated(rt.alloc(), 32, b"away 1\nwaiting 1 1\n", b"full\noutside\n")?;
+    answers(
+        &rt,
+        rt.alloc(),
+        &LOAD_AWAY,
+        [(said.as_slice(), told.as_slice()), NOTHING],
+    )?;
     Ok(())
 }

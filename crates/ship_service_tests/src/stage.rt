@@ -7,21 +7,23 @@ ghost use Rattle.workers.specs.Cells.{IsSeatOf, IsTableOf};
 ghost use Rattle.workers.specs.Pools.{machines_of};
 ghost use Rattle.ship_service_tests.specs.Stages.{AreNewSeats};
 
+use crate::compared::same;
 use console::DriveFault;
 use debugger::{Debuggee, Start};
 use far_store::{FarStore, OwnStore};
-use loader::load;
+use loader::{Program, load};
 use shared_objects::{ActorSeat, Leave, MoverSeat, Shared};
 use ship_service::{Agent, Connection, serve};
 use std::alloc::{AllocError, Global};
 use std::marker::Brand;
+use std::process::Abort;
 use std::sync::Wait;
 use std::test::Fail;
 use test_devices::{FailingReader, Narrow, Pieces};
 use workers::{Mark, Pool};
 
 /// Where a conversation begins.
-#[derive(Drop)]
+#[derive(Clone, Copy, Drop)]
 pub struct Setting<'a> {
     /// How many objects there are, of eight zero bytes each.
     pub objects: usize,
@@ -43,28 +45,30 @@ pub struct Setting<'a> {
 }
 
 /// An object, no machine, and nothing that happened before.
-pub fn plain_setting<'a>() -> Setting<'a> {
-    Setting {
-        objects: 1,
-        code: &[],
-        fuel: 10,
-        arguments: [0; 5],
-        leaving: false,
-        stamp: 0,
-        reads: usize::MAX,
-        room: usize::MAX,
-        again: false,
-    }
-}
+pub const PLAIN: Setting<'static> = Setting {
+    objects: 1,
+    code: &[],
+    fuel: 10,
+    arguments: [0; 5],
+    leaving: false,
+    stamp: 0,
+    reads: usize::MAX,
+    room: usize::MAX,
+    again: false,
+};
 
-/// What a conversation left.
-#[derive(Drop)]
+/// What is said in a conversation, and what is answered.
+pub type Lines<'a> = (&'a [u8], &'a [u8]);
+
+/// A conversation without a word.
+pub const NOTHING: Lines<'static> = (b"", b"");
+
+/// What two conversations left, beside what was answered.
+#[derive(Clone, Copy, Drop, Debug, PartialEq, Eq)]
 pub struct Left {
-    /// What was answered in the first conversation, and then in the second, and how the first ended.
-    pub first: Vec<u8>,
-    pub second: Vec<u8>,
+    /// How the first ended.
     pub ended: Result<(), DriveFault>,
-    /// The stamps up to which these have seen, and that of machine 1.
+    /// The stamps up to which both connections have seen, and that of machine 1.
     pub stamps: [u64; 3],
     /// Whether the mover can take object 1 then.
     pub leaves: bool,
@@ -81,20 +85,35 @@ fn objects(alloc: Global, count: usize) -> Result<Vec<Vec<u8>>, AllocError>
     Ok(bodies)
 }
 
+/// A program of these slots.
+fn code(alloc: Global, slots: &[u64]) -> Result<Program, Fail> {
+    let mut bytes = Vec::new(alloc);
+    for slot in slots {
+        bytes.extend_from_slice(&slot.to_be_bytes())?;
+    }
+    Ok(load(alloc, bytes.as_slice())?)
+}
+
+/// A machine of this number, at the start of this code.
+pub fn machine(
+    alloc: Global,
+    number: usize,
+    slots: &[u64],
+    fuel: u64,
+    arguments: [u64; 5],
+) -> Result<Debuggee, Fail> {
+    let program = code(alloc, slots)?;
+    Ok(Debuggee::new(program, number, Start::new(fuel, arguments)))
+}
+
 /// Machine 1 as the setting has it, if it has one.
 fn machines(alloc: Global, setting: &Setting) -> Result<Vec<Debuggee>, Fail>
     ensures { IfOk result (λ v. length v.items ≤ 1) }
 {
     let mut machines = Vec::new(alloc);
-    if setting.code.is_empty() {
-        return Ok(machines);
+    if !setting.code.is_empty() {
+        machines.push(machine(alloc, 1, setting.code, setting.fuel, setting.arguments)?)?;
     }
-    let mut bytes = Vec::new(alloc);
-    for slot in setting.code {
-        bytes.extend_from_slice(&slot.to_be_bytes())?;
-    }
-    let program = load(alloc, bytes.as_slice())?;
-    machines.push(Debuggee::new(program, 1, Start::new(setting.fuel, setting.arguments)))?;
     Ok(machines)
 }
 
@@ -113,6 +132,41 @@ pub fn talk<F: FarStore, K: Mark, R: Wait>(
     let mut writer = Narrow::new(alloc, usize::MAX, room);
     let ended = serve(rt, &mut reader, &mut writer, agent, connection);
     (writer.taken, ended)
+}
+
+/// What a connection says is answered so, and the conversation ends well.
+pub fn tells<F: FarStore, K: Mark, R: Wait + Abort>(
+    rt: &R,
+    alloc: Global,
+    agent: &Agent<F, K>,
+    connection: &mut Connection<K>,
+    (said, wanted): Lines,
+) {
+    let (told, ended) = talk(rt, alloc, agent, connection, said, usize::MAX, usize::MAX);
+    same!(rt; told.as_slice(), wanted);
+    same!(rt; ended, Ok(()));
+}
+
+/// What is said is answered so, over the reader and the writer of the setting: how the conversation ends.
+fn tells_as_set<F: FarStore, K: Mark, R: Wait + Abort>(
+    rt: &R,
+    alloc: Global,
+    agent: &Agent<F, K>,
+    connection: &mut Connection<K>,
+    setting: &Setting,
+    (said, wanted): Lines,
+) -> Result<(), DriveFault> {
+    let (told, ended) = talk(
+        rt,
+        alloc,
+        agent,
+        connection,
+        said,
+        setting.reads,
+        setting.room,
+    );
+    same!(rt; told.as_slice(), wanted);
+    ended
 }
 
 /// The stamp up to which machine 1 has seen.
@@ -134,13 +188,18 @@ struct Parts<F: FarStore> {
     mover: MoverSeat,
 }
 
-/// The first connection says its bytes, and then the second, or the first again.
-fn talks<F: FarStore, K: Mark, R: Wait>(
+/// The stamp up to which a connection has seen.
+fn stamp_seen<K: Mark>(connection: Connection<K>) -> u64 {
+    connection.into_seat().stamp()
+}
+
+/// The first connection says its bytes, and then the second, or the first again: each is answered so.
+fn talks<F: FarStore, K: Mark, R: Wait + Abort>(
     rt: &R,
     alloc: Global,
     parts: Parts<F>,
     setting: &Setting,
-    inputs: [&[u8]; 2],
+    lines: [Lines; 2],
 ) -> Result<Left, AllocError>
     requires table { IsTableOf K.table K.opening parts.shared.table }
     requires seats { AreFresh (dealer F.RETURNS K.opening) parts.seats.items × All (IsActorOf parts.shared.table) parts.seats.items × (length parts.seats.items ≡ 48) }
@@ -160,30 +219,16 @@ fn talks<F: FarStore, K: Mark, R: Wait>(
     let agent = Agent::new(pool);
     let mut first = Connection::new(alloc, first)?;
     let mut second = Connection::new(alloc, second)?;
-    let (told_first, ended) = talk(
-        rt,
-        alloc,
-        &agent,
-        &mut first,
-        inputs[0],
-        setting.reads,
-        setting.room,
-    );
+    let ended = tells_as_set(rt, alloc, &agent, &mut first, setting, lines[0]);
     let other = if setting.again {
         &mut first
     } else {
         &mut second
     };
-    let (told_second, _) = talk(rt, alloc, &agent, other, inputs[1], usize::MAX, usize::MAX);
-    let stamps = [
-        first.into_seat().stamp(),
-        second.into_seat().stamp(),
-        stamp_of(rt, &agent),
-    ];
+    tells(rt, alloc, &agent, other, lines[1]);
+    let stamps = [stamp_seen(first), stamp_seen(second), stamp_of(rt, &agent)];
     let leave = agent.pool().table().begin_leave(&mut mover, 1);
     Ok(Left {
-        first: told_first,
-        second: told_second,
         ended,
         stamps,
         leaves: matches!(leave, Leave::Taken(_)),
@@ -199,12 +244,12 @@ pub fn last_seat<F: FarStore>(shared: &Shared<F>, seats: &mut Vec<ActorSeat>) ->
     seats.pop()
 }
 
-/// What comes of two conversations, one after the other.
-pub fn say<R: Wait>(
+/// Two conversations, one after the other, are answered so.
+pub fn answers<R: Wait + Abort>(
     rt: &R,
     alloc: Global,
     setting: &Setting,
-    inputs: [&[u8]; 2],
+    lines: [Lines; 2],
 ) -> Result<Left, Fail> {
     let bodies = objects(alloc, setting.objects.min(1024))?;
     let machines = machines(alloc, setting)?;
@@ -227,5 +272,5 @@ pub fn say<R: Wait>(
         second,
         mover,
     };
-    Ok(talks::<OwnStore, Brand, R>(rt, alloc, parts, setting, inputs)?)
+    Ok(talks::<OwnStore, Brand, R>(rt, alloc, parts, setting, lines)?)
 }

@@ -1,6 +1,0 @@
-use Rattle.shared_objects.specs.Tables.{table_opening}
-use Rattle.workers.specs.Pools.{machines_of}
-use Rattle.ship_service_tests.proofs.lying.left_by.Given as goal
-
-abbrev pub ghosts-left_after : goal.ghosts-left_after
-ghosts-left_after g a = record { table = a.parts.shared.table.table.shared.table_id; opening = table_opening a.parts.shared.table; starts = machines_of a.parts.machines.items; seats = 49 }
