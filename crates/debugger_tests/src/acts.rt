@@ -23,7 +23,7 @@ pub enum Act {
     Watch(u64, u32),
     Unwatch(u64, u32),
     /// The machine may go on.
-    Resume,
+    GoOn,
     /// It is looked at the slot, the fuel and the state.
     Point,
     Registers,
@@ -150,7 +150,7 @@ fn done(alloc: Global, session: &mut Session, act: Act) -> Answer {
         Act::Unbreak(slot) => debug(session, DebugCommand::Unbreak { slot }),
         Act::Watch(address, length) => debug(session, DebugCommand::Watch { address, length }),
         Act::Unwatch(address, length) => debug(session, DebugCommand::Unwatch { address, length }),
-        Act::Resume => debug(session, DebugCommand::Resume),
+        Act::GoOn => debug(session, DebugCommand::Resume),
         Act::Point => point(session),
         Act::Registers => Answer::Registers(session.debuggee.shown().registers),
         Act::Register(number) => {

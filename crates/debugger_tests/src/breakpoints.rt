@@ -25,7 +25,7 @@ const GOES_ON: &[(Act, Answer)] = &[
     (Act::One, stepped!(Ran 2)),
     (Act::Point, Answer::Point(2, 8, State::Paused)),
     (Act::Register(0), Answer::Register(8)),
-    (Act::Resume, DONE),
+    (Act::GoOn, DONE),
     (Act::Step, stepped!(Stopped Stop::Exit(8))),
 ];
 
@@ -38,7 +38,7 @@ const BEFORE_FUEL: &[(Act, Answer)] = &[
     (Act::Break(0), DONE),
     (Act::Step, stepped!(Paused 0)),
     (Act::One, SPENT),
-    (Act::Resume, NOT_PAUSED),
+    (Act::GoOn, NOT_PAUSED),
     (Act::Step, SPENT),
     (Act::Breakpoints, Answer::Breakpoints(1, [0; BREAK_LIMIT])),
 ];
@@ -49,11 +49,11 @@ fn a_breakpoint_comes_before_fuel(rt: HostRuntime) -> Result<(), Fail> {
 }
 
 const RESUMED: &[(Act, Answer)] = &[
-    (Act::Resume, NOT_PAUSED),
+    (Act::GoOn, NOT_PAUSED),
     (Act::Break(0), DONE),
     (Act::Break(1), DONE),
     (Act::Step, stepped!(Paused 0)),
-    (Act::Resume, DONE),
+    (Act::GoOn, DONE),
     (Act::Passes, Answer::Passes(true, false)),
     (Act::Step, stepped!(Ran 1)),
     (Act::Step, stepped!(Paused 1)),
@@ -69,7 +69,7 @@ fn a_resumed_machine_passes_one_breakpoint(rt: HostRuntime) -> Result<(), Fail> 
 const WAITS: &[(Act, Answer)] = &[
     (Act::Break(0), DONE),
     (Act::Step, stepped!(Paused 0)),
-    (Act::Resume, DONE),
+    (Act::GoOn, DONE),
     // A machine that waits asks again, and nothing is told in between.
     (Act::Pauses(0), Answer::Pauses(false)),
     (Act::Pauses(0), Answer::Pauses(false)),
@@ -87,7 +87,7 @@ const AFTER_A_HIT: &[(Act, Answer)] = &[
     (Act::Break(1), DONE),
     (Act::Watch(OBJECT, 1), DONE),
     (Act::Step, stepped!(Hit 1)),
-    (Act::Resume, DONE),
+    (Act::GoOn, DONE),
     (Act::Step, stepped!(Ran 2)),
 ];
 

@@ -18,7 +18,7 @@ const STATES: &[(Act, Answer)] = &[
     (Act::Step, stepped!(Ran 1)),
     (Act::Step, stepped!(Paused 1)),
     (Act::Point, Answer::Point(1, 9, State::Paused)),
-    (Act::Resume, DONE),
+    (Act::GoOn, DONE),
     (Act::Step, stepped!(Stopped Stop::Exit(7))),
     (
         Act::Point,

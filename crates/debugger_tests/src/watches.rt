@@ -46,7 +46,7 @@ fn one_tells_a_hit(rt: HostRuntime) -> Result<(), Fail> {
 const END_OF_STACK: &[(Act, Answer)] = &[
     (Act::Watch(STACK + 4092, 4), DONE),
     (Act::Step, stepped!(Hit 1)),
-    (Act::Resume, DONE),
+    (Act::GoOn, DONE),
     (Act::Step, stepped!(Ran 2)),
 ];
 
