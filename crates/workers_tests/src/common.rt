@@ -1,7 +1,7 @@
 //! Tables, machines and gates. A slot of code is written as its bytes, first to last.
 ghost use Rattle.std.specs.Prelude.{◌≡◌, length, IfOk};
 
-use debugger::{Debuggee, Start};
+use debugger::{ShowCommand, ShowReply};
 use far_store::FarStore;
 use loader::{Program, load};
 use std::alloc::{AllocError, Global};
@@ -51,22 +51,24 @@ pub fn code(alloc: Global, slots: &[u64]) -> Result<Program, Fail> {
     Ok(load(alloc, bytes.as_slice())?)
 }
 
-/// A machine of this number at the start of its code.
-pub fn machine(
-    alloc: Global,
-    number: usize,
-    fuel: u64,
-    arguments: [u64; 5],
-    slots: &[u64],
-) -> Result<Debuggee, Fail> {
-    Ok(Debuggee::new(code(alloc, slots)?, number, Start::new(fuel, arguments)))
-}
-
 /// Whether the machine of this number goes on.
 pub fn goes<F: FarStore, K: Mark, R: Wait>(rt: &R, pool: &Pool<F, K>, number: usize) -> bool {
     match pool.cell(number) {
         Some(cell) => cell.lock(rt).is_going(),
         None => false,
+    }
+}
+
+/// What fuel machine 1 has.
+pub fn fuel<F: FarStore, K: Mark, R: Wait>(
+    rt: &R,
+    alloc: Global,
+    pool: &Pool<F, K>,
+) -> Option<u64> {
+    let cell = pool.cell(1)?;
+    match cell.lock(rt).show(alloc, ShowCommand::Regs)? {
+        ShowReply::Registers(shown) => Some(shown.fuel),
+        _ => None,
     }
 }
 
