@@ -1,4 +1,5 @@
-/* For LD_PRELOAD: the allocation with the number in FAIL_AT fails, counted from 1. As the program ends, the file named in
+/* For LD_PRELOAD: the allocation with the number in FAIL_AT fails, counted from 1, and so does the start of the thread with
+   the number in FAIL_THREAD_AT. As the program ends, the file named in
    COUNT_IN, where there is one, gets the number of allocations, the bytes of the largest and of all together, the number of
    reads from standard input, the fewest bytes that one asked for, and the number of writes to standard output and of flushes.
    It is compiled without the C library's headers, which the kit doesn't bring. */
@@ -14,6 +15,7 @@ int close(int);
 int *__errno_location(void);
 
 #define OUT_OF_MEMORY 12 /* ENOMEM */
+#define NO_THREAD 11     /* EAGAIN */
 #define NEXT ((void *)-1L)
 #define WRITE_ONLY 1
 
@@ -52,6 +54,16 @@ void *realloc(void *block, size_t size)
     static void *(*next)(void *, size_t);
     if (!next) next = (void *(*)(void *, size_t))dlsym(NEXT, "realloc");
     return fails(size) ? 0 : next(block, size);
+}
+
+int pthread_create(void *thread, const void *how, void *(*start)(void *), void *with)
+{
+    static int (*next)(void *, const void *, void *(*)(void *), void *);
+    static unsigned long threads;
+    const char *text = getenv("FAIL_THREAD_AT");
+    if (!next) next = (int (*)(void *, const void *, void *(*)(void *), void *))dlsym(NEXT, "pthread_create");
+    if (__atomic_add_fetch(&threads, 1, __ATOMIC_SEQ_CST) == (unsigned long)(text ? atol(text) : 0)) return NO_THREAD;
+    return next(thread, how, start, with);
 }
 
 ssize_t read(int file, void *bytes, size_t size)

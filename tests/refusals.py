@@ -16,7 +16,7 @@ and fetches them home: where an allocation fails at either end, one call is answ
 but for those of the program's own before a call. `refused_pool` makes a pool over a table, and a mover that takes an object away
 and brings it back: where an allocation fails there is no pool, or no mover, or a return that is done when it is asked for again.
 `refused_service` opens a world for connections, of which one steps the machine and
-reads, and closes: where an allocation fails there is no table, or no agent, or a read that can be done again, or nothing is left. So it is of `bpfagent serve` with a client over TCP, which ends with `no memory` where it can't go on.
+reads, and closes: where an allocation fails there is no table, or no agent, or a read that can be done again, or nothing is left. So it is of `bpfagent serve` with a client over TCP, which ends with `no memory` where it can't go on, also where a thread of the mover, of a worker or of a client isn't started; and `bpfagent store` where its one isn't.
 
 Of the allocations before the first line, which are the same in each conversation, all are tried once, and then two of
 each; of those after it all, up to 600, spread over all of them.
@@ -35,6 +35,7 @@ import socket
 import subprocess
 import sys
 import tempfile
+import threading
 
 from program import has_checks
 from scripts import conversations
@@ -237,12 +238,14 @@ OF_A_STREAM = ["no server"] + [
 ]
 
 
-def served(failing, at=0, count=None):
+def served(failing, at=0, count=None, thread=0):
     """A service with one client: its status, what it writes before it listens, what the client is answered, what it writes then, and
-    standard error."""
-    env = dict(os.environ, LD_PRELOAD=failing.library, FAIL_AT=str(at), **({"COUNT_IN": count} if count else {}))
+    standard error. The allocation and the thread of these numbers fail. One that doesn't end is killed."""
+    env = dict(os.environ, LD_PRELOAD=failing.library, FAIL_AT=str(at), FAIL_THREAD_AT=str(thread), **({"COUNT_IN": count} if count else {}))
     pipe, before, answers = subprocess.PIPE, [], b""
     process = subprocess.Popen([PROGRAM, "serve", "--workers", "1"], stdin=pipe, stdout=pipe, stderr=pipe, env=env)
+    limit = threading.Timer(60, process.kill)
+    limit.start()
     # it may have ended already
     with contextlib.suppress(BrokenPipeError), process.stdin as given:
         given.write(b"make 8\n")
@@ -256,6 +259,7 @@ def served(failing, at=0, count=None):
             break
         before.append(line)
     after, errors = process.stdout.read(), process.stderr.read()
+    limit.cancel()
     return process.wait(60), b"".join(before), answers, after, errors
 
 
@@ -269,6 +273,9 @@ def refused_service(failing):
         raise Failed(f"a service says {whole}")
     others = [(0, before, answers.replace(b"bytes 00", b"nomem", 1), after, b""), (0, before, b"bytes 00\nnomem\n", after, b""), (0, b"nomem\n", b"outside\n" * 2, b"closed\n", b"")]
     found = [served(failing, at) for at in range(1, total + 1)]
+    # one is none of the program's own, as before the first line of `run`; another would be that of a client that is served though its stream isn't kept
+    if found.count(whole) > 1:
+        raise Failed(f"allocations of a service that fail without an effect: {[at for at, done in enumerate(found, 1) if done == whole]}")
     for at, done in enumerate(found, 1):
         ended = (done[0], done[4]) == (3, b"no memory\n") and before.startswith(done[1]) and answers.startswith(done[2]) and after.startswith(done[3])
         if not ended and done != whole and done not in others:
@@ -276,7 +283,21 @@ def refused_service(failing):
     ends = [done for done in found if done[0] == 3]
     if not any(done[2] for done in ends) or not any(done[1] and not done[2] for done in ends) or any(other not in found for other in others[1:]):
         raise Failed(f"a service ended so: {sorted(set(found))}")
+    for thread in (1, 2, 3):
+        done = served(failing, thread=thread)
+        if done != (3, b"made 1\n", b"", b"", b"no memory\n"):
+            raise Failed(f"a service whose thread {thread} isn't started says {done}")
+    if served(failing, thread=4) != whole:
+        raise Failed("a service with one worker and one client starts more than three threads")
     return total - found.count(whole)
+
+
+def refused_store(failing):
+    """A server whose one thread isn't started ends with `no memory` before it listens."""
+    env = dict(os.environ, LD_PRELOAD=failing.library, FAIL_THREAD_AT="1")
+    done = subprocess.run([PROGRAM, "store"], stdin=subprocess.DEVNULL, capture_output=True, env=env, timeout=60)
+    if (done.returncode, done.stdout, done.stderr) != (3, b"", b"no memory\n"):
+        raise Failed(f"a server without a thread says {done}")
 
 
 def refused_program(failing, program, outcomes):
@@ -302,6 +323,7 @@ def show(failing):
     streams = refused_program(failing, STREAM, OF_A_STREAM)
     pools = refused_program(failing, POOL, OF_A_POOL)
     services = refused_program(failing, SERVICE, OF_A_SERVICE) + refused_service(failing)
+    refused_store(failing)
     if not gave_up or not runs or not {word.strip() for word in MAY_LACK_MEMORY} | {"returned"} <= set(found):
         raise Failed(f"not every command was refused: {said}; {gave_up} inputs, {runs} runs")
     print(f"refused_growth: {len(found)} allocations of {len(talks)} conversations failed in turn: {said}; {gave_up} of other inputs, {runs} of a run, {tables} of a table, {streams} of a stream, {pools} of a pool, {services} of a service")

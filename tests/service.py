@@ -4,19 +4,22 @@
 The conversations of README.md, docs/PROTOCOL.md and examples/serve with their clients, workers and the mover at work, eight clients at once over a counter
 that leaves and returns, over machines that they debug and over accounts under a lock, whose object is away while machines are
 within their loops, conversations that are cut off, objects that are kept by `bpfagent store`, to their last byte, also when that is
-killed, each status, and what is left when the service has closed.
+killed, each status, too few threads, and what is left when the service has closed.
 """
+import contextlib
 import hashlib
 import os
 import re
+import resource
 import socket
 import subprocess
 import threading
 import time
 
+from meeting import Meeting
 from parts import Failed, run_parts, want
 from sources import ROOT
-from store import Server
+from store import Server, is_heard, limited_to
 
 SECONDS = 60
 LOOKS = 10_000
@@ -33,6 +36,8 @@ FUEL = 1 << 60
 # how many bytes one `put` or `get` has at most, and how long objects are that leave whole
 PIECE = 4_096
 LENGTHS = {1: 9, 2: 64, 3: 4_097, 4: 65_536}
+# what the stack of a thread takes where there are to be few of them: more than all else that a thread takes
+STACK = 1 << 30
 EXAMPLES = ROOT / "examples/serve"
 EXIT = "9500000000000000"
 # aadd [r1], r2 · exit
@@ -57,9 +62,9 @@ OUTSIDE = LOCKED.index("db180000e1000000" + CLOSE) // 16 + 2
 class Service:
     """The program, listening after these commands of its input."""
 
-    def __init__(self, program, *arguments, setup=()):
+    def __init__(self, program, *arguments, setup=(), limits=None):
         pipe = subprocess.PIPE
-        self.process = subprocess.Popen([program, "serve", *map(str, arguments)], stdin=pipe, stdout=pipe, stderr=pipe)
+        self.process = subprocess.Popen([program, "serve", *map(str, arguments)], stdin=pipe, stdout=pipe, stderr=pipe, preexec_fn=limited_to(limits))
         self.process.stdin.write("".join(f"{command}\n" for command in setup).encode())
         self.process.stdin.close()
         self.told = []
@@ -459,47 +464,6 @@ def show_far_bytes(program):
     want(server.end() == (0, b"", b""), "the far server of long objects")
 
 
-class Meeting:
-    """Clients on threads of their own, who come together with the reader. One that fails lets all others go."""
-
-    def __init__(self, clients, task, *arguments):
-        self.barrier = threading.Barrier(clients + 1, timeout=SECONDS)
-        self.told, self.wrong = [], []
-        self.threads = [threading.Thread(target=self.run, args=(task, *arguments, machine), daemon=True) for machine in range(1, clients + 1)]
-        for thread in self.threads:
-            thread.start()
-
-    def run(self, task, *arguments):
-        try:
-            self.told.append(task(self, *arguments))
-        except (Failed, OSError, ValueError, IndexError, threading.BrokenBarrierError) as error:
-            self.wrong.append(repr(error))
-            self.barrier.abort()
-
-    def come(self):
-        """Waits until all clients and the reader have come."""
-        self.barrier.wait()
-
-    def lead(self, task):
-        """The reader's part between two meetings, when all have come."""
-        try:
-            self.come()
-            task()
-            self.come()
-        except threading.BrokenBarrierError:
-            raise Failed(f"not all clients come, and some ended with {self.wrong}") from None
-        except Failed:
-            self.barrier.abort()
-            raise
-
-    def end(self):
-        """What the clients told, in the order of their machines."""
-        for thread in self.threads:
-            thread.join()
-        want(not self.wrong and len(self.told) == len(self.threads), f"the clients ended with {self.wrong}")
-        return sorted(self.told)
-
-
 def left_often(client):
     """Object 1 is asked to leave until it did a few times, while machines use it, which call it back at once: the numbers that it showed
     meanwhile."""
@@ -573,7 +537,7 @@ def show_debuggers(program):
         away_unmissed(reader)
 
     leaves(0)
-    meeting = Meeting(7, debug_machine, service)
+    meeting = Meeting(7, SECONDS, debug_machine, service)
     meeting.lead(lambda: leaves(once))
     counts = [once, *left_often(reader)]
     want(counts == sorted(counts), f"the counter shows {counts}")
@@ -673,7 +637,7 @@ def move_under_lock(program, machines, *arguments):
         for machine in (1, 2):
             paused(reader, machine, OUTSIDE)
 
-    meeting = Meeting(machines, take_lock, service)
+    meeting = Meeting(machines, SECONDS, take_lock, service)
     for _ in range(MEETINGS - 1):
         meeting.lead(leaves)
     meeting.lead(leaves_while_two_run)
@@ -709,6 +673,62 @@ def show_lost(program):
     want(breaks.end() == "cut\n", "a line that is broken off")
     want(stays.ask("put 1 0 05") == "ok" and stays.ask("get 1 0 1") == "bytes 05", "the client that stays")
     want(stays.end() == "" and service.ends_well({1: of_eight(5)}), "the end of a service that lost clients")
+
+
+def show_first_end(program):
+    """A client hears the end of its conversation while another is still to come."""
+    service = Service(program, "--connections", 2)
+    first = Client(service)
+    first.stream.settimeout(SECONDS / 4)
+    want(first.ask("get 1 0 1") == "outside", "the first client")
+    try:
+        want(first.end() == "", "more than the reply")
+    except TimeoutError:
+        raise Failed("a client doesn't hear the end while another is still to come") from None
+    want(Client(service).end() == "" and service.ends_well(), "the end of a service whose clients came one after the other")
+
+
+def size_of(program):
+    """How many bytes of addresses the program has that starts no thread."""
+    with subprocess.Popen([program, "run"], stdin=subprocess.PIPE, stdout=subprocess.PIPE, bufsize=0) as process:
+        process.stdin.write(b"step 1\n")
+        process.stdout.readline()
+        with open(f"/proc/{process.pid}/status") as file:
+            size = re.search(r"VmSize:\s*(\d+) kB", file.read())
+        process.stdin.close()
+    return int(size[1]) << 10
+
+
+def show_few_threads(program):
+    """The mover, one of two workers or a client's thread can't be made, since addresses for its stack are wanting: those that are there
+    end, the client is cut off, and nothing is said to have closed."""
+    size = size_of(program)
+    for threads in range(5):
+        limits = {resource.RLIMIT_STACK: STACK, resource.RLIMIT_AS: size + threads * STACK + STACK // 2}
+        service, answered = Service(program, "--workers", 2, setup=["make 8"], limits=limits), ""
+        with contextlib.suppress(OSError):
+            client = Client(service)
+            answered = client.ask("get 1 0 1") + client.end()
+        try:
+            service.process.wait(SECONDS)
+        except subprocess.TimeoutExpired:
+            service.process.kill()
+            raise Failed(f"a service with room for {threads} threads doesn't end") from None
+        found = answered, service.end()
+        want(found == ("", (3, "", "no memory\n")) or (threads == 4 and found == ("bytes 00", (0, f"closed\n{object_line(1, of_eight(0))}\n", ""))), f"a service with room for {threads} threads: {found}")
+    want(answered, "a service with room for all its threads")
+
+
+def show_few_files(program):
+    """A client that can't be accepted, or of whose stream there can be no second, ends the service, and those that are connected hear the
+    end: it has three streams, listens by a fourth file, and takes two for each client."""
+    for files in (4, 5, 6, 7):
+        service = Service(program, "--connections", 2, setup=["make 8", f"ship 100000 0 0 0 0 0 {COUNTS}"], limits={resource.RLIMIT_NOFILE: files})
+        clients = [Client(service) for _ in range((files - 4) // 2)]
+        want(files < 7 or clients[0].ask("get 1 0 1") == "bytes 00", "a client that is served")
+        want(files % 2 == 0 or is_heard("127.0.0.1", service.port), "one client more")
+        want([client.replies.read() for client in clients] == [""] * len(clients), "the end of those that are connected")
+        want(service.end() == (3, "", "net fault\n"), f"a service that may open {files} files")
 
 
 def ended(program, *arguments, setup="", **streams):
@@ -748,13 +768,14 @@ def show_port(program):
     """The port that is asked for, and the last words where the output fails."""
     service = Service(program, "--connections", 2)
     port = service.port
+    want(not is_heard("127.0.0.2", port), "it listens on more than 127.0.0.1")
     first, second = Client(service), Client(service)
     want(first.end() == "" and second.end() == "" and service.ends_well(), "clients that say nothing")
     again = Service(program, "--port", port, "--workers", 16)
     want(again.port == port and Client(again).end() == "" and again.ends_well(), "the port that is asked for")
 
 
-SHOWN = [show_readme, show_protocol, show_examples, show_row, show_digest, close_two, service_runs, service_moves, service_sweeps, show_without_sweep, show_crowd, show_debuggers, show_breakpoint, show_locks, show_lost, show_far, show_far_bytes, show_lost_server, show_unreached, show_statuses, show_port]
+SHOWN = [show_readme, show_protocol, show_examples, show_row, show_digest, close_two, service_runs, service_moves, service_sweeps, show_without_sweep, show_crowd, show_debuggers, show_breakpoint, show_locks, show_lost, show_first_end, show_few_threads, show_few_files, show_far, show_far_bytes, show_lost_server, show_unreached, show_statuses, show_port]
 
 
 if __name__ == "__main__":

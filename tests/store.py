@@ -2,11 +2,13 @@
 """Runs `bpfagent store` with clients of another language: store.py PROGRAM
 
 The client of examples/far, with the commands of the pages that name it, byte for byte what docs/FAR-STREAM.md shows, clients that break the protocol, a store that lies
-(here, to the client), 1025 parcels, the end of standard input while a client is connected, and each status.
+(here, to the client), 1025 parcels, the end of standard input while a client is connected, each status, and that it listens on 127.0.0.1 alone.
 """
+import contextlib
 import hashlib
 import os
 import re
+import resource
 import socket
 import subprocess
 import sys
@@ -26,12 +28,31 @@ LIMIT = 65_536
 KEPT = 1024
 
 
+def limited_to(limits):
+    """What limits a child process so, each resource by its number, where there are limits."""
+
+    def limit():
+        for kind, most in limits.items():
+            resource.setrlimit(kind, (most, resource.getrlimit(kind)[1]))
+
+    return limit if limits else None
+
+
+def is_heard(host, port):
+    """Whether somebody listens on this port of an address."""
+    try:
+        socket.create_connection((host, port), timeout=SECONDS).close()
+    except OSError:
+        return False
+    return True
+
+
 class Server:
     """The program, listening."""
 
-    def __init__(self, program, *arguments, env=None):
+    def __init__(self, program, *arguments, env=None, limits=None):
         pipe = subprocess.PIPE
-        self.process = subprocess.Popen([program, "store", *arguments], stdin=pipe, stdout=pipe, stderr=pipe, env=env)
+        self.process = subprocess.Popen([program, "store", *arguments], stdin=pipe, stdout=pipe, stderr=pipe, env=env, preexec_fn=limited_to(limits))
         line = self.process.stdout.readline()
         found = re.fullmatch(rb"listening (\d+)\n", line)
         self.port = int(found[1]) if found else None
@@ -149,6 +170,23 @@ def show_statuses(program):
         want(done.returncode == 2 and done.stdout == b"" and done.stderr.startswith(b"error: "), f"port {port}: {done}")
 
 
+def show_address(program):
+    """It listens on 127.0.0.1 alone, of all the addresses by which a host is its own neighbour."""
+    server = Server(program)
+    want(is_heard("127.0.0.1", server.port) and not is_heard("127.0.0.2", server.port), "the address that is listened on")
+    want(server.end() == (0, b"", b""), "a server that is asked for at another address")
+
+
+def show_few_files(program):
+    """A client that can't be accepted, since the listener is the last file that may be open, or of whose stream there can be no second."""
+    for files in (4, 5):
+        server = Server(program, limits={resource.RLIMIT_NOFILE: files})
+        with contextlib.suppress(OSError), server.connect():
+            pass
+        found = server.end()
+        want(found == (3, b"", b"net fault\n"), f"a server that may open {files} files ended with {found}")
+
+
 def show_example(program):
     """The client of examples/far, as its page says; and over a store that lies."""
     server = Server(program)
@@ -203,7 +241,7 @@ def lied_to(answer):
             store.stream.close()
 
 
-SHOWN = [show_frames, show_limits, show_broken_clients, show_end, show_statuses, show_example, show_pages]
+SHOWN = [show_frames, show_limits, show_broken_clients, show_end, show_statuses, show_address, show_few_files, show_example, show_pages]
 
 
 if __name__ == "__main__":

@@ -1,6 +1,6 @@
 //! A debugged machine over a store of objects. A slot of code is written as its bytes, first to last.
 
-use debugger::{DebugCommand, Debugged, Debuggee, ShowCommand, ShowReply, Start, StepReply, Way};
+use debugger::{Debuggee, ShowCommand, ShowReply, Start, StepReply, Way};
 use far_store::OwnStore;
 use loader::load;
 use object_store::{ObjectStore, StoreMemory};
@@ -46,47 +46,12 @@ pub fn session_of(
 }
 
 /// One step over the objects.
-fn step_over(debuggee: &mut Debuggee, store: &mut ObjectStore<OwnStore>, way: Way) -> StepReply {
+pub fn step_over(
+    debuggee: &mut Debuggee,
+    store: &mut ObjectStore<OwnStore>,
+    way: Way,
+) -> StepReply {
     debuggee.step(way, &mut StoreMemory { store, who: 1 })
-}
-
-/// `step`: a stop comes first, then a pause.
-pub fn step(session: &mut Session) -> StepReply {
-    step_over(&mut session.debuggee, &mut session.store, Way::Step)
-}
-
-/// `one`: without a look at pauses.
-pub fn one(session: &mut Session) -> StepReply {
-    step_over(&mut session.debuggee, &mut session.store, Way::One)
-}
-
-/// Sets a breakpoint.
-pub fn set(session: &mut Session, slot: u32) -> Debugged {
-    session.debuggee.debug(DebugCommand::Break { slot })
-}
-
-/// Clears a breakpoint.
-pub fn clear(session: &mut Session, slot: u32) -> Debugged {
-    session.debuggee.debug(DebugCommand::Unbreak { slot })
-}
-
-/// Watches a range.
-pub fn watch(session: &mut Session, address: u64, length: u32) -> Debugged {
-    session
-        .debuggee
-        .debug(DebugCommand::Watch { address, length })
-}
-
-/// Watches a range no more.
-pub fn unwatch(session: &mut Session, address: u64, length: u32) -> Debugged {
-    session
-        .debuggee
-        .debug(DebugCommand::Unwatch { address, length })
-}
-
-/// Lets the machine go on.
-pub fn resume(session: &mut Session) -> Debugged {
-    session.debuggee.debug(DebugCommand::Resume)
 }
 
 /// Shows something of the machine.

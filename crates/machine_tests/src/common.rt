@@ -40,6 +40,17 @@ pub fn step(machine: &mut Machine, store: &mut ObjectStore<OwnStore>) -> Stepped
     machine.step(&mut StoreMemory { store, who: 1 })
 }
 
+/// Of so many steps, how many ran and wrote nothing.
+pub fn runs(machine: &mut Machine, store: &mut ObjectStore<OwnStore>, count: u64) -> u64 {
+    let mut ran = 0u64;
+    for _ in 0..count {
+        if step(machine, store) == Stepped::Ran(None) {
+            ran = ran.saturating_add(1);
+        }
+    }
+    ran
+}
+
 /// A store with one object of eight bytes.
 pub fn store_of(alloc: Global, bytes: [u8; 8]) -> Result<ObjectStore<OwnStore>, Fail> {
     let mut store = objects(alloc)?;

@@ -4,6 +4,8 @@
 #[cfg(test)]
 mod accesses;
 #[cfg(test)]
+mod acts;
+#[cfg(test)]
 mod atomics;
 #[cfg(test)]
 mod common;
