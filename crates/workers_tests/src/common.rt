@@ -1,7 +1,7 @@
 //! Tables, machines and gates. A slot of code is written as its bytes, first to last.
 ghost use Rattle.std.specs.Prelude.{◌≡◌, length, IfOk};
 
-use debugger::{Debuggee, ShowCommand, ShowReply, Start};
+use debugger::{ShowCommand, ShowReply};
 use far_store::FarStore;
 use loader::{Program, load};
 use std::alloc::{AllocError, Global};
@@ -49,17 +49,6 @@ pub fn code(alloc: Global, slots: &[u64]) -> Result<Program, Fail> {
         bytes.extend_from_slice(&slot.to_be_bytes())?;
     }
     Ok(load(alloc, bytes.as_slice())?)
-}
-
-/// A machine of this number at the start of its code.
-pub fn machine(
-    alloc: Global,
-    number: usize,
-    fuel: u64,
-    arguments: [u64; 5],
-    slots: &[u64],
-) -> Result<Debuggee, Fail> {
-    Ok(Debuggee::new(code(alloc, slots)?, number, Start::new(fuel, arguments)))
 }
 
 /// Whether the machine of this number goes on.

@@ -1,38 +1,21 @@
 //! Workers, and who is told of each instruction.
-ghost use Rattle.std.specs.Prelude.{◌≡◌, ◌≤◌, length, All};
-ghost use Rattle.shared_objects.specs.Kinds.{dealer};
-ghost use Rattle.shared_objects.specs.Opened.{AreFresh};
-ghost use Rattle.shared_objects.specs.Tables.{IsActorOf};
-ghost use Rattle.workers.specs.Cells.{IsTableOf};
-ghost use Rattle.workers.specs.Pools.{machines_of};
 
 use crate::common::{
-    ADD, Crowd, EXIT, Holds, JUMP, LOAD, LOOKS, OBJECT, code, fuel, goes, machine, objects, rest,
-    waits_for,
+    ADD, Crowd, EXIT, Holds, JUMP, LOAD, LOOKS, OBJECT, code, fuel, goes, rest, waits_for,
 };
-use debugger::{Debuggee, Start, StepReply, Way};
+use crate::compared::same;
+use crate::course::{Code, Course, Left, left_of};
+use debugger::{Start, StepReply, Way};
 use far_store::{FarStore, OwnStore};
 use loader::Program;
 use machine::Stop;
-use shared_objects::{ActorSeat, Shared};
-use std::alloc::{AllocError, Global};
-use std::marker::Brand;
+use std::alloc::Global;
 use std::sync::Wait;
 use std::sync::atomic::{AtomicBool, AtomicU64, Ordering};
 use std::test::Fail;
 use std::thread;
 use std::thread::Threads;
 use workers::{Gate, Mark, Pool, run_workers, work};
-
-/// What two workers left.
-#[derive(Drop)]
-struct Left {
-    made: usize,
-    /// Whether machines 1 and 2 came to their ends.
-    ended: bool,
-    /// What machine 3, shipped then, was answered to its two steps.
-    replies: [Option<StepReply>; 2],
-}
 
 /// Whether neither machine 1 nor machine 2 goes on, after so many looks at most.
 fn waits_for_ends<F: FarStore, K: Mark, R: Wait>(rt: &R, pool: &Pool<F, K>, looks: u64) -> bool {
@@ -117,91 +100,110 @@ fn ship_third<F: FarStore, K: Mark, R: Wait>(
     [first, second]
 }
 
-fn run<F: FarStore + Drop + Send + Sync, K: Mark + Send + Sync, R: Threads + Wait + Sync>(
+/// What two workers left.
+#[derive(Clone, Copy, Drop, Debug, PartialEq, Eq)]
+pub struct LeftByTwo {
+    made: usize,
+    /// Whether machines 1 and 2 came to their ends.
+    ended: bool,
+    /// Whether both workers came, and what the gate waited for.
+    both: bool,
+    met: bool,
+    /// What machine 3, shipped then, was answered to its two steps.
+    replies: [Option<StepReply>; 2],
+}
+
+/// Two workers under a gate that holds them until they have met.
+pub fn two<K: Mark + Send + Sync, R: Threads + Wait + Sync>(
     rt: &R,
     alloc: Global,
-    gate: &Holds,
-    shared: Shared<F>,
-    seats: Vec<ActorSeat>,
-    machines: Vec<Debuggee>,
-    program: Program,
-) -> Result<Left, AllocError>
-where
-    F::Parcel: Send,
-    requires table { IsTableOf K.table K.opening shared.table }
-    requires seats { AreFresh (dealer F.RETURNS K.opening) seats.items × All (IsActorOf shared.table) seats.items }
-    requires machines { K.starts ≡ machines_of machines.items }
-    requires room { length machines.items ≤ length seats.items }
-{
-    let pool: Pool<F, K> = Pool::new(rt, alloc, shared, seats, machines)?;
-    let (made, ended) = run_two(rt, gate, &pool);
-    let replies = ship_third(rt, &pool, program);
-    Ok(Left {
+    pool: &Pool<OwnStore, K>,
+) -> Result<LeftByTwo, Fail> {
+    let program = code(alloc, &[LOAD, EXIT])?;
+    let gate = Holds::new();
+    let (made, ended) = run_two(rt, &gate, pool);
+    Ok(LeftByTwo {
         made,
         ended,
-        replies,
+        both: gate.both.load(Ordering::SeqCst),
+        met: gate.met.load(Ordering::SeqCst),
+        replies: ship_third(rt, pool, program),
     })
 }
 
+/// Adds 1 to object 1.
+const ONE_MORE: Code = Code {
+    fuel: 10,
+    arguments: [OBJECT, 1, 0, 0, 0],
+    slots: &[ADD, EXIT],
+    debug: None,
+};
+
 #[test]
 fn gate_two_workers(rt: HostRuntime) -> Result<(), Fail> {
-    let alloc = rt.alloc();
-    let mut machines = Vec::new(alloc);
-    machines.push(machine(alloc, 1, 10, [OBJECT, 1, 0, 0, 0], &[ADD, EXIT])?)?;
-    machines.push(machine(alloc, 2, 10, [OBJECT, 1, 0, 0, 0], &[ADD, EXIT])?)?;
-    let program = code(alloc, &[LOAD, EXIT])?;
-    let bodies = objects(alloc, 1)?;
-    let (shared, seats, _mover) = Shared::<OwnStore>::open(alloc, bodies, 3)?;
-    assert!(rt; machines.len() <= seats.len());
-    let gate = Holds::new();
-    let left = run::<OwnStore, Brand, _>(&rt, alloc, &gate, shared, seats, machines, program)?;
-    assert_eq!(rt; left.made, 2);
-    assert!(rt; gate.both.load(Ordering::SeqCst));
-    assert!(rt; gate.met.load(Ordering::SeqCst));
-    assert!(rt; left.ended);
-    assert_eq!(rt;
-        left.replies,
-        [
+    let left = left_of(&rt, rt.alloc(), &[ONE_MORE, ONE_MORE], Course::Two)?;
+    let wanted = LeftByTwo {
+        made: 2,
+        ended: true,
+        both: true,
+        met: true,
+        replies: [
             Some(StepReply::Ran(1)),
-            Some(StepReply::Stopped(Stop::Exit(2)))
-        ]
-    );
+            Some(StepReply::Stopped(Stop::Exit(2))),
+        ],
+    };
+    same!(rt; left, Left::Two(wanted));
     Ok(())
 }
 
-fn crowd<F: FarStore + Drop + Send + Sync, K: Mark + Send + Sync, R: Threads + Wait + Sync>(
-    rt: &R,
-    alloc: Global,
-    gate: &Crowd,
-    shared: Shared<F>,
-    seats: Vec<ActorSeat>,
-    machines: Vec<Debuggee>,
-) -> Result<(usize, bool), AllocError>
-where
-    F::Parcel: Send,
-    requires table { IsTableOf K.table K.opening shared.table }
-    requires seats { AreFresh (dealer F.RETURNS K.opening) seats.items × All (IsActorOf shared.table) seats.items }
-    requires machines { K.starts ≡ machines_of machines.items }
-    requires room { length machines.items ≤ length seats.items }
-{
-    let pool: Pool<F, K> = Pool::new(rt, alloc, shared, seats, machines)?;
-    Ok(run_crowd(rt, gate, &pool, 4))
+/// What four workers left.
+#[derive(Clone, Copy, Drop, Debug, PartialEq, Eq)]
+pub struct LeftByFour {
+    made: usize,
+    /// Whether machines 1 and 2 came to their ends.
+    ended: bool,
+    /// Whether two were at an instruction of one machine at a time.
+    met: bool,
+    /// How many instructions were done, and how many workers were told to end.
+    done: u64,
+    told: u64,
 }
+
+/// Four workers.
+pub fn four<K: Mark + Send + Sync, R: Threads + Wait + Sync>(
+    rt: &R,
+    pool: &Pool<OwnStore, K>,
+) -> LeftByFour {
+    let gate = Crowd::new();
+    let (made, ended) = run_crowd(rt, &gate, pool, 4);
+    LeftByFour {
+        made,
+        ended,
+        met: gate.met.load(Ordering::SeqCst),
+        done: gate.done.load(Ordering::SeqCst),
+        told: gate.ended.load(Ordering::SeqCst),
+    }
+}
+
+/// Runs until its fuel is spent.
+const ENDLESS: Code = Code {
+    fuel: 2000,
+    arguments: [0; 5],
+    slots: &[JUMP],
+    debug: None,
+};
 
 #[test]
 fn each_machine_is_run_by_one_worker_at_a_time(rt: HostRuntime) -> Result<(), Fail> {
-    let alloc = rt.alloc();
-    let mut machines = Vec::new(alloc);
-    machines.push(machine(alloc, 1, 2000, [0; 5], &[JUMP])?)?;
-    machines.push(machine(alloc, 2, 2000, [0; 5], &[JUMP])?)?;
-    let (shared, seats, _mover) = Shared::<OwnStore>::open(alloc, objects(alloc, 1)?, 2)?;
-    let gate = Crowd::new();
-    let (made, ended) = crowd::<OwnStore, Brand, _>(&rt, alloc, &gate, shared, seats, machines)?;
-    assert_eq!(rt; made, 4);
-    assert!(rt; ended);
-    assert!(rt; !gate.met.load(Ordering::SeqCst));
-    assert_eq!(rt; gate.done.load(Ordering::SeqCst), 4002);
-    assert_eq!(rt; gate.ended.load(Ordering::SeqCst), 4);
+    let left = left_of(&rt, rt.alloc(), &[ENDLESS, ENDLESS], Course::Four)?;
+    let wanted = LeftByFour {
+        made: 4,
+        ended: true,
+        met: false,
+        done: 4002,
+        told: 4,
+    };
+    same!(rt; left, Left::Four(wanted));
     Ok(())
 }
 
@@ -214,19 +216,15 @@ struct Numbered {
     ends: AtomicBool,
 }
 
-/// Sets one flag, and waits for the other.
-fn meet(own: &AtomicBool, other: &AtomicBool) {
-    own.store(true, Ordering::SeqCst);
-    waits_for(other);
-}
-
 impl Gate for Numbered {
     fn before(&self, worker: usize, _machine: usize) {
-        match worker {
-            0 => meet(&self.first, &self.second),
-            1 => meet(&self.second, &self.first),
-            _ => self.other.store(true, Ordering::SeqCst),
-        }
+        let (own, awaited) = match worker {
+            0 => (&self.first, &self.second),
+            1 => (&self.second, &self.first),
+            _ => (&self.other, &self.other),
+        };
+        own.store(true, Ordering::SeqCst);
+        waits_for(awaited);
         self.ends.store(true, Ordering::SeqCst);
     }
 
@@ -237,50 +235,58 @@ impl Gate for Numbered {
     }
 }
 
-/// How many threads two workers make.
-fn run_numbered<F: FarStore + Drop + Send + Sync, K: Mark + Send + Sync, R: Threads + Wait + Sync>(
-    rt: &R,
-    alloc: Global,
-    gate: &Numbered,
-    shared: Shared<F>,
-    seats: Vec<ActorSeat>,
-    machines: Vec<Debuggee>,
-) -> Result<usize, AllocError>
-where
-    F::Parcel: Send,
-    requires table { IsTableOf K.table K.opening shared.table }
-    requires seats { AreFresh (dealer F.RETURNS K.opening) seats.items × All (IsActorOf shared.table) seats.items }
-    requires machines { K.starts ≡ machines_of machines.items }
-    requires room { length machines.items ≤ length seats.items }
-{
-    let pool: Pool<F, K> = Pool::new(rt, alloc, shared, seats, machines)?;
-    Ok(run_workers(rt, gate, &pool, 2))
+/// What two workers told.
+#[derive(Clone, Copy, Drop, Debug, PartialEq, Eq)]
+pub struct Heard {
+    made: usize,
+    first: bool,
+    second: bool,
+    other: bool,
 }
 
-#[test]
-fn each_worker_has_its_number(rt: HostRuntime) -> Result<(), Fail> {
-    let alloc = rt.alloc();
-    let mut machines = Vec::new(alloc);
-    machines.push(machine(alloc, 1, 10, [0; 5], &[EXIT])?)?;
-    machines.push(machine(alloc, 2, 10, [0; 5], &[EXIT])?)?;
-    let (shared, seats, _mover) = Shared::<OwnStore>::open(alloc, objects(alloc, 1)?, 2)?;
+/// Two workers that tell their numbers.
+pub fn numbers<K: Mark + Send + Sync, R: Threads + Wait + Sync>(
+    rt: &R,
+    pool: &Pool<OwnStore, K>,
+) -> Heard {
     let gate = Numbered {
         first: AtomicBool::new(false),
         second: AtomicBool::new(false),
         other: AtomicBool::new(false),
         ends: AtomicBool::new(false),
     };
-    let made = run_numbered::<OwnStore, Brand, _>(&rt, alloc, &gate, shared, seats, machines)?;
-    assert_eq!(rt; made, 2);
-    assert!(rt; gate.first.load(Ordering::SeqCst));
-    assert!(rt; gate.second.load(Ordering::SeqCst));
-    assert!(rt; !gate.other.load(Ordering::SeqCst));
+    let made = run_workers(rt, &gate, pool, 2);
+    Heard {
+        made,
+        first: gate.first.load(Ordering::SeqCst),
+        second: gate.second.load(Ordering::SeqCst),
+        other: gate.other.load(Ordering::SeqCst),
+    }
+}
+
+/// Ends at once.
+const SHORT: Code = Code {
+    fuel: 10,
+    arguments: [0; 5],
+    slots: &[EXIT],
+    debug: None,
+};
+
+#[test]
+fn each_worker_has_its_number(rt: HostRuntime) -> Result<(), Fail> {
+    let wanted = Heard {
+        made: 2,
+        first: true,
+        second: true,
+        other: false,
+    };
+    same!(rt; left_of(&rt, rt.alloc(), &[SHORT, SHORT], Course::Numbers)?, Left::Numbers(wanted));
     Ok(())
 }
 
 /// Looks at the fuel of machine 1 before and after each instruction, and lets a worker have so many turns.
 #[derive(Drop)]
-struct FuelSeen<'a, R: Wait, F: FarStore, K: Mark> {
+struct Looks<'a, R: Wait, F: FarStore, K: Mark> {
     rt: &'a R,
     alloc: Global,
     pool: &'a Pool<F, K>,
@@ -289,14 +295,14 @@ struct FuelSeen<'a, R: Wait, F: FarStore, K: Mark> {
     after: AtomicU64,
 }
 
-impl<'a, R: Wait, F: FarStore, K: Mark> FuelSeen<'a, R, F, K> {
+impl<'a, R: Wait, F: FarStore, K: Mark> Looks<'a, R, F, K> {
     /// The fuel of machine 1, or none.
     fn fuel(&self) -> u64 {
         fuel(self.rt, self.alloc, self.pool).unwrap_or(0)
     }
 }
 
-impl<'a, R: Wait, F: FarStore, K: Mark> Gate for FuelSeen<'a, R, F, K> {
+impl<'a, R: Wait, F: FarStore, K: Mark> Gate for Looks<'a, R, F, K> {
     fn before(&self, _worker: usize, _machine: usize) {
         self.before.store(self.fuel(), Ordering::SeqCst);
     }
@@ -310,42 +316,29 @@ impl<'a, R: Wait, F: FarStore, K: Mark> Gate for FuelSeen<'a, R, F, K> {
     }
 }
 
-/// What fuel machine 1 has when the gate is told of its one instruction, before it and after it.
-fn looked<F: FarStore + Drop, K: Mark, R: Wait>(
+/// One turn of a worker under a gate that looks: what it sees before its instruction, and after it.
+pub fn looks_at_fuel<K: Mark, R: Wait>(
     rt: &R,
     alloc: Global,
-    shared: Shared<F>,
-    seats: Vec<ActorSeat>,
-    machines: Vec<Debuggee>,
-) -> Result<(u64, u64), AllocError>
-    requires table { IsTableOf K.table K.opening shared.table }
-    requires seats { AreFresh (dealer F.RETURNS K.opening) seats.items × All (IsActorOf shared.table) seats.items }
-    requires machines { K.starts ≡ machines_of machines.items }
-    requires room { length machines.items ≤ length seats.items }
-{
-    let pool: Pool<F, K> = Pool::new(rt, alloc, shared, seats, machines)?;
-    let gate = FuelSeen {
+    pool: &Pool<OwnStore, K>,
+) -> [u64; 2] {
+    let gate = Looks {
         rt,
         alloc,
-        pool: &pool,
+        pool,
         turns: AtomicU64::new(1),
         before: AtomicU64::new(0),
         after: AtomicU64::new(0),
     };
-    work(rt, &gate, &pool, 0);
-    Ok((
+    work(rt, &gate, pool, 0);
+    [
         gate.before.load(Ordering::SeqCst),
         gate.after.load(Ordering::SeqCst),
-    ))
+    ]
 }
 
 #[test]
 fn a_gate_is_told_when_the_instruction_is_done(rt: HostRuntime) -> Result<(), Fail> {
-    let alloc = rt.alloc();
-    let mut machines = Vec::new(alloc);
-    machines.push(machine(alloc, 1, 10, [0; 5], &[EXIT])?)?;
-    let (shared, seats, _mover) = Shared::<OwnStore>::open(alloc, objects(alloc, 1)?, 1)?;
-    let found = looked::<OwnStore, Brand, _>(&rt, alloc, shared, seats, machines)?;
-    assert_eq!(rt; found, (10, 9));
+    same!(rt; left_of(&rt, rt.alloc(), &[SHORT], Course::Fuel)?, Left::Fuel([10, 9]));
     Ok(())
 }

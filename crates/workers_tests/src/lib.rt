@@ -4,6 +4,10 @@
 #[cfg(test)]
 mod common;
 #[cfg(test)]
+mod compared;
+#[cfg(test)]
+mod course;
+#[cfg(test)]
 mod gates;
 #[cfg(test)]
 mod leaving;

@@ -1,18 +1,16 @@
 //! Two workers and the mover, each on a thread of its own, while objects leave and return. Expected sums are worked out by hand.
-ghost use Rattle.std.specs.Prelude.{◌≡◌, ◌≤◌, true, length, All};
+ghost use Rattle.std.specs.Prelude.{◌≡◌, true};
 ghost use Rattle.shared_objects.specs.Kinds.{dealer};
-ghost use Rattle.shared_objects.specs.Opened.{AreFresh, seated};
-ghost use Rattle.shared_objects.specs.Tables.{IsActorOf};
-ghost use Rattle.workers.specs.Cells.{IsTableOf};
-ghost use Rattle.workers.specs.Pools.{machines_of};
+ghost use Rattle.shared_objects.specs.Opened.{seated};
 
-use crate::common::{CLOSE, Crowd, EXIT, LOAD, LOOKS, OBJECT, code, goes, machine, objects, rest};
-use debugger::{Debuggee, Start, StepReply, Way};
+use crate::common::{CLOSE, Crowd, EXIT, LOAD, LOOKS, OBJECT, code, goes, rest};
+use crate::compared::same;
+use crate::course::{Code, Course, Left, left_of};
+use debugger::{Start, StepReply, Way};
 use far_store::{FarStore, Moved, OwnStore, Place};
 use loader::Program;
-use shared_objects::{ActorSeat, MoverSeat, Shared};
-use std::alloc::{AllocError, Global};
-use std::marker::Brand;
+use shared_objects::MoverSeat;
+use std::alloc::Global;
 use std::sync::Wait;
 use std::sync::atomic::Ordering;
 use std::test::Fail;
@@ -25,7 +23,7 @@ const TIMES: u64 = 500;
 
 /// R1 and R2 are the addresses of two objects, to which R4 and R5 are added, R3 times: aadd [r1], r4; aadd [r2], r5; call 4;
 /// add r3, -1; jne r3, 0, -5; exit.
-const ADDING: [u64; 6] = [
+const ADDING: &[u64] = &[
     0xdb41_0000_0000_0000,
     0xdb52_0000_0000_0000,
     CLOSE,
@@ -35,11 +33,11 @@ const ADDING: [u64; 6] = [
 ];
 
 /// Reads object 1, closes its scope, and does so again: ldxdw r0, [r1]; call 4; ja -3.
-const LOOKING: [u64; 3] = [LOAD, CLOSE, 0x0500_fdff_0000_0000];
+const LOOKING: &[u64] = &[LOAD, CLOSE, 0x0500_fdff_0000_0000];
 
 /// What workers and mover left.
-#[derive(Drop, Debug, PartialEq, Eq)]
-struct Left {
+#[derive(Clone, Copy, Drop, Debug, PartialEq, Eq)]
+pub struct MovesLeft {
     /// How many threads were made.
     made: usize,
     /// Whether both machines came to their ends.
@@ -50,12 +48,19 @@ struct Left {
     far: [bool; 2],
     /// Which numbers the far store has of them.
     sums: [Option<u64>; 2],
+    /// Whether two workers were at an instruction of one machine at a time, and how many were told to end.
+    met: bool,
+    told: u64,
 }
 
-/// A machine of this number that adds so much to objects 1 and 2.
-fn adding(alloc: Global, number: usize, first: u64, second: u64) -> Result<Debuggee, Fail> {
-    let arguments = [OBJECT, 2 * OBJECT, TIMES, first, second];
-    machine(alloc, number, 10 * TIMES, arguments, &ADDING)
+/// A machine that adds so much to objects 1 and 2.
+const fn adding(first: u64, second: u64) -> Code {
+    Code {
+        fuel: 10 * TIMES,
+        arguments: [OBJECT, 2 * OBJECT, TIMES, first, second],
+        slots: ADDING,
+        debug: None,
+    }
 }
 
 /// Asks for both objects to leave, again and again, until both machines came to their ends.
@@ -164,67 +169,62 @@ fn sum_of<F: FarStore>(store: &mut F, parcels: &[Option<F::Parcel>], number: usi
     Some(u64::from_le_bytes(bytes.as_slice().try_into().ok()?))
 }
 
-fn run<K: Mark + Send + Sync, R: Threads + Wait + Sync>(
-    rt: &R,
-    alloc: Global,
-    gate: &Crowd,
-    shared: Shared<OwnStore>,
-    seats: Vec<ActorSeat>,
-    mover: MoverSeat,
-    machines: Vec<Debuggee>,
-    program: Program,
-) -> Result<Left, AllocError>
-    requires table { IsTableOf K.table K.opening shared.table }
-    requires seats { AreFresh (dealer true K.opening) seats.items × All (IsActorOf shared.table) seats.items }
-    requires mover { (mover.seat.table_id ≡ K.table) × (mover.seat.me.0 ≡ seated K.seats (dealer true K.opening)) }
-    requires machines { K.starts ≡ machines_of machines.items }
-    requires room { length machines.items ≤ length seats.items }
-{
-    let pool: Pool<OwnStore, K> = Pool::new(rt, alloc, shared, seats, machines)?;
-    let mut served: Mover<OwnStore, K> = Mover::new(alloc, mover, OwnStore::new(alloc))?;
-    goes_away(&pool, &mut served, 1);
-    goes_away(&pool, &mut served, 2);
-    let (made, (ended, left)) = run_driven(rt, gate, &pool, &mut served, program);
-    let far = [
-        goes_away(&pool, &mut served, 1),
-        goes_away(&pool, &mut served, 2),
-    ];
+/// Which numbers the far store has of both objects.
+fn sums_of<K: Mark>(served: Mover<OwnStore, K>) -> [Option<u64>; 2] {
     let (_seat, mut store, parcels) = served.into_parts();
     let first = sum_of(&mut store, parcels.as_slice(), 1);
     let second = sum_of(&mut store, parcels.as_slice(), 2);
-    Ok(Left {
+    [first, second]
+}
+
+/// Both objects leave, and then workers and mover run.
+pub fn moves<K: Mark + Send + Sync, R: Threads + Wait + Sync>(
+    rt: &R,
+    alloc: Global,
+    pool: &Pool<OwnStore, K>,
+    mover: MoverSeat,
+) -> Result<MovesLeft, Fail>
+    requires { (mover.seat.table_id ≡ K.table) × (mover.seat.me.0 ≡ seated K.seats (dealer true K.opening)) }
+{
+    let program = code(alloc, LOOKING)?;
+    let mut served: Mover<OwnStore, K> = Mover::new(alloc, mover, OwnStore::new(alloc))?;
+    goes_away(pool, &mut served, 1);
+    goes_away(pool, &mut served, 2);
+    let gate = Crowd::new();
+    let (made, (ended, left)) = run_driven(rt, &gate, pool, &mut served, program);
+    let far = [
+        goes_away(pool, &mut served, 1),
+        goes_away(pool, &mut served, 2),
+    ];
+    Ok(MovesLeft {
         made,
         ended,
         left,
         far,
-        sums: [first, second],
+        sums: sums_of(served),
+        met: gate.met.load(Ordering::SeqCst),
+        told: gate.ended.load(Ordering::SeqCst),
     })
 }
 
 /// Both objects are far at first, so that the machines come to their ends only where the mover brings them back.
 #[test]
 fn machines_add_while_objects_leave_and_return(rt: HostRuntime) -> Result<(), Fail> {
-    let alloc = rt.alloc();
-    let mut machines = Vec::new(alloc);
-    machines.push(adding(alloc, 1, 1, 2)?)?;
-    machines.push(adding(alloc, 2, 10, 20)?)?;
-    let program = code(alloc, &LOOKING)?;
-    let bodies = objects(alloc, 2)?;
-    let (shared, seats, mover) = Shared::<OwnStore>::open(alloc, bodies, 3)?;
-    assert!(rt; machines.len() <= seats.len());
-    let gate = Crowd::new();
-    let left = run::<Brand, _>(&rt, alloc, &gate, shared, seats, mover, machines, program)?;
-    assert_eq!(rt;
-        left,
-        Left {
-            made: 3,
-            ended: true,
-            left: true,
-            far: [true; 2],
-            sums: [Some(11 * TIMES), Some(22 * TIMES)],
-        }
-    );
-    assert!(rt; !gate.met.load(Ordering::SeqCst));
-    assert_eq!(rt; gate.ended.load(Ordering::SeqCst), 3);
+    let left = left_of(
+        &rt,
+        rt.alloc(),
+        &[adding(1, 2), adding(10, 20)],
+        Course::Moves,
+    )?;
+    let wanted = MovesLeft {
+        made: 3,
+        ended: true,
+        left: true,
+        far: [true; 2],
+        sums: [Some(11 * TIMES), Some(22 * TIMES)],
+        met: false,
+        told: 3,
+    };
+    same!(rt; left, Left::Moves(wanted));
     Ok(())
 }

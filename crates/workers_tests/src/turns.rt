@@ -1,21 +1,18 @@
 //! Turns of one worker, which runs on the thread of the test. Expected values are worked out by hand.
-ghost use Rattle.std.specs.Prelude.{◌≡◌, ◌≤◌, length, All};
-ghost use Rattle.shared_objects.specs.Kinds.{dealer};
-ghost use Rattle.shared_objects.specs.Opened.{AreFresh};
-ghost use Rattle.shared_objects.specs.Tables.{IsActorOf, IsMoverOf};
-ghost use Rattle.workers.specs.Cells.{IsTableOf};
-ghost use Rattle.workers.specs.Pools.{machines_of};
+ghost use Rattle.shared_objects.specs.Tables.{IsMoverOf};
 
-use crate::common::{ADD, EXIT, JUMP, LOAD, OBJECT, machine, objects};
-use debugger::{DebugCommand, Debuggee, ShowCommand, ShowReply, State};
+use crate::common::{ADD, EXIT, JUMP, LOAD, OBJECT};
+use crate::compared::same;
+use crate::course::{Code, Course, Left, left_of};
+use debugger::{DebugCommand, ShowCommand, ShowReply, State};
 use far_store::{FarStore, OwnStore};
 use machine::Stop;
-use shared_objects::{ActorSeat, MoverSeat, Shared, SharedTable};
+use shared_objects::{MoverSeat, SharedTable};
 use std::alloc::{AllocError, Global};
-use std::marker::Brand;
 use std::sync::Wait;
 use std::sync::atomic::{AtomicU64, Ordering};
 use std::test::Fail;
+use std::thread::Threads;
 use workers::{Direction, Gate, Mark, Pool, work};
 
 /// Lets a worker have so many turns, and counts how often it comes to an instruction of machine 1, and of another.
@@ -65,7 +62,7 @@ impl Gate for Untold<'_> {
 
 /// What is done before the worker has its turns, and after them.
 #[derive(Clone, Copy, Drop)]
-struct Plan {
+pub struct Plan {
     turns: u64,
     /// Whether the gate is told of instructions.
     told: bool,
@@ -89,11 +86,11 @@ const PLAN: Plan = Plan {
 };
 
 /// A machine's slot, fuel and state.
-type Point = (usize, u64, State);
+pub type Point = (usize, u64, State);
 
 /// What a worker left.
 #[derive(Clone, Copy, Drop, Debug, PartialEq, Eq)]
-struct Left {
+pub struct TurnsLeft {
     /// How often it came to an instruction of each machine.
     came: [u64; 2],
     machines: [Option<Point>; 2],
@@ -143,7 +140,7 @@ fn have_turns<F: FarStore, K: Mark, R: Wait>(
     alloc: Global,
     pool: &Pool<F, K>,
     plan: Plan,
-) -> Left {
+) -> TurnsLeft {
     let gate = Turns {
         left: AtomicU64::new(plan.turns),
         first: AtomicU64::new(0),
@@ -160,7 +157,7 @@ fn have_turns<F: FarStore, K: Mark, R: Wait>(
     ];
     let machines = [point(rt, alloc, pool, 1), point(rt, alloc, pool, 2)];
     let room = pool.request(rt, 1, Direction::Leave);
-    Left {
+    TurnsLeft {
         came,
         machines,
         room,
@@ -173,7 +170,7 @@ fn left_by<F: FarStore, K: Mark, R: Wait>(
     alloc: Global,
     pool: &Pool<F, K>,
     plan: Plan,
-) -> [Left; 2] {
+) -> [TurnsLeft; 2] {
     for _ in 0..plan.queued {
         queue_both(rt, pool, false);
     }
@@ -188,23 +185,6 @@ fn left_by<F: FarStore, K: Mark, R: Wait>(
     [first, have_turns(rt, alloc, pool, plan)]
 }
 
-fn run<F: FarStore + Drop, K: Mark, R: Wait>(
-    rt: &R,
-    alloc: Global,
-    shared: Shared<F>,
-    seats: Vec<ActorSeat>,
-    machines: Vec<Debuggee>,
-    plan: Plan,
-) -> Result<[Left; 2], AllocError>
-    requires table { IsTableOf K.table K.opening shared.table }
-    requires seats { AreFresh (dealer F.RETURNS K.opening) seats.items × All (IsActorOf shared.table) seats.items }
-    requires machines { K.starts ≡ machines_of machines.items }
-    requires room { length machines.items ≤ length seats.items }
-{
-    let pool: Pool<F, K> = Pool::new(rt, alloc, shared, seats, machines)?;
-    Ok(left_by(rt, alloc, &pool, plan))
-}
-
 /// Object 1 begins to leave, if so asked, and stays on its way.
 fn send_away(table: &SharedTable, mut mover: MoverSeat, away: bool)
     requires { IsMoverOf table.now mover }
@@ -215,155 +195,153 @@ fn send_away(table: &SharedTable, mut mover: MoverSeat, away: bool)
 }
 
 /// What a worker leaves of two machines over two objects.
-fn left_of_two<R: Wait>(
+pub fn turned<K: Mark, R: Wait>(
     rt: &R,
     alloc: Global,
-    one: Debuggee,
-    two: Debuggee,
+    pool: &Pool<OwnStore, K>,
+    mover: MoverSeat,
     plan: Plan,
-) -> Result<[Left; 2], Fail> {
-    let mut machines = Vec::new(alloc);
-    machines.push(one)?;
-    machines.push(two)?;
-    let bodies = objects(alloc, 2)?;
-    let (shared, seats, mover) = Shared::<OwnStore>::open(alloc, bodies, 2)?;
-    send_away(shared.table(), mover, plan.away);
-    Ok(run::<OwnStore, Brand, _>(rt, alloc, shared, seats, machines, plan)?)
+) -> [TurnsLeft; 2]
+    requires { IsMoverOf pool.now.shared.table mover }
+{
+    send_away(pool.table(), mover, plan.away);
+    left_by(rt, alloc, pool, plan)
+}
+
+/// The same of these machines.
+fn left_of_two<R: Threads + Wait + Sync>(
+    rt: &R,
+    alloc: Global,
+    codes: &[Code],
+    plan: Plan,
+) -> Result<[TurnsLeft; 2], Fail> {
+    match left_of(rt, alloc, codes, Course::Turns(plan))? {
+        Left::Turns(left) => Ok(left),
+        _ => Err(Fail::from(AllocError)),
+    }
 }
 
 /// A machine with the address of object 1 and the number 1, and fuel 1000.
-fn counting(alloc: Global, number: usize, slots: &[u64]) -> Result<Debuggee, Fail> {
-    machine(alloc, number, 1000, [OBJECT, 1, 0, 0, 0], slots)
-}
+const COUNTING: Code = Code {
+    fuel: 1000,
+    arguments: [OBJECT, 1, 0, 0, 0],
+    slots: &[EXIT],
+    debug: None,
+};
+
+const JUMPING: Code = Code {
+    slots: &[JUMP],
+    ..COUNTING
+};
+
+const ADDING: Code = Code {
+    slots: &[ADD, EXIT],
+    ..COUNTING
+};
+
+const LOADING: Code = Code {
+    slots: &[LOAD, EXIT],
+    ..COUNTING
+};
+
+const EXIT_0: State = State::Stopped(Stop::Exit(0));
+
+/// Two machines that jump, after a turn and two.
+const JUMPED: [Option<Point>; 2] = [
+    Some((0, 872, State::Running)),
+    Some((0, 936, State::Running)),
+];
+
+/// The first waits, and the second has ended.
+const WAITED: [Option<Point>; 2] = [Some((0, 1000, State::Running)), Some((0, 999, EXIT_0))];
+
+const JUMPS: &[Code] = &[JUMPING, JUMPING];
 
 #[test]
 fn a_turn_is_64_instructions(rt: HostRuntime) -> Result<(), Fail> {
-    let alloc = rt.alloc();
-    let one = counting(alloc, 1, &[JUMP])?;
-    let two = counting(alloc, 2, &[JUMP])?;
-    let [left, _] = left_of_two(&rt, alloc, one, two, PLAN)?;
-    assert_eq!(rt; left.came, [128, 64]);
-    assert_eq!(rt;
-        left.machines,
-        [
-            Some((0, 872, State::Running)),
-            Some((0, 936, State::Running))
-        ]
-    );
+    let [left, _] = left_of_two(&rt, rt.alloc(), JUMPS, PLAN)?;
+    same!(rt; left.came, [128, 64]);
+    same!(rt; left.machines, JUMPED);
     Ok(())
 }
 
+const ENDS: &[Code] = &[COUNTING, ADDING];
+
 #[test]
 fn a_machine_is_queued_once(rt: HostRuntime) -> Result<(), Fail> {
-    let alloc = rt.alloc();
-    let one = counting(alloc, 1, &[EXIT])?;
-    let two = counting(alloc, 2, &[ADD, EXIT])?;
     let plan = Plan {
         turns: 9,
         queued: 3,
         ..PLAN
     };
-    let [left, _] = left_of_two(&rt, alloc, one, two, plan)?;
-    assert_eq!(rt; left.came, [1, 2]);
-    let exit = State::Stopped(Stop::Exit(0));
-    assert_eq!(rt; left.machines, [Some((0, 999, exit)), Some((1, 998, exit))]);
+    let [left, _] = left_of_two(&rt, rt.alloc(), ENDS, plan)?;
+    same!(rt; left.came, [1, 2]);
+    same!(rt; left.machines, [Some((0, 999, EXIT_0)), Some((1, 998, EXIT_0))]);
     Ok(())
 }
 
+/// Both add and end. The first has a breakpoint at its end, and of the second the object is watched.
+const DEBUGGED: &[Code] = &[
+    Code {
+        debug: Some(DebugCommand::Break { slot: 1 }),
+        ..ADDING
+    },
+    Code {
+        debug: Some(DebugCommand::Watch {
+            address: OBJECT,
+            length: 1,
+        }),
+        ..ADDING
+    },
+];
+
 #[test]
 fn breakpoints_and_watched_ranges_pause(rt: HostRuntime) -> Result<(), Fail> {
-    let alloc = rt.alloc();
-    let mut one = counting(alloc, 1, &[ADD, EXIT])?;
-    let mut two = counting(alloc, 2, &[ADD, EXIT])?;
-    let _ = one.debug(DebugCommand::Break { slot: 1 });
-    let _ = two.debug(DebugCommand::Watch {
-        address: OBJECT,
-        length: 1,
-    });
     let plan = Plan {
         resumed: true,
         ..PLAN
     };
-    let [first, then] = left_of_two(&rt, alloc, one, two, plan)?;
-    assert_eq!(rt; first.came, [2, 1]);
-    assert_eq!(rt; first.machines, [Some((1, 999, State::Paused)); 2]);
-    assert_eq!(rt; then.came, [1, 1]);
-    let exit = State::Stopped(Stop::Exit(0));
-    assert_eq!(rt; then.machines, [Some((1, 998, exit)); 2]);
+    let [first, then] = left_of_two(&rt, rt.alloc(), DEBUGGED, plan)?;
+    same!(rt; first.came, [2, 1]);
+    same!(rt; first.machines, [Some((1, 999, State::Paused)); 2]);
+    same!(rt; then.came, [1, 1]);
+    same!(rt; then.machines, [Some((1, 998, EXIT_0)); 2]);
     Ok(())
 }
 
+const LOADS: &[Code] = &[LOADING, COUNTING];
+
 #[test]
 fn a_machine_waits_and_its_object_is_asked_for(rt: HostRuntime) -> Result<(), Fail> {
-    let alloc = rt.alloc();
     let plan = Plan {
         requests: 63,
         ..PLAN
     };
-    let [here, _] = left_of_two(
-        &rt,
-        alloc,
-        counting(alloc, 1, &[LOAD, EXIT])?,
-        counting(alloc, 2, &[EXIT])?,
-        plan,
-    )?;
-    assert_eq!(rt; here.came, [2, 1]);
-    assert!(rt; here.room);
+    let [here, _] = left_of_two(&rt, rt.alloc(), LOADS, plan)?;
+    same!(rt; here.came, [2, 1]);
+    same!(rt; here.room, true);
     let plan = Plan { away: true, ..plan };
-    let [away, _] = left_of_two(
-        &rt,
-        alloc,
-        counting(alloc, 1, &[LOAD, EXIT])?,
-        counting(alloc, 2, &[EXIT])?,
-        plan,
-    )?;
-    assert_eq!(rt; away.came, [2, 1]);
-    let exit = State::Stopped(Stop::Exit(0));
-    assert_eq!(rt;
-        away.machines,
-        [Some((0, 1000, State::Running)), Some((0, 999, exit))]
-    );
-    assert!(rt; !away.room);
+    let [away, _] = left_of_two(&rt, rt.alloc(), LOADS, plan)?;
+    same!(rt; away.came, [2, 1]);
+    same!(rt; away.machines, WAITED);
+    same!(rt; away.room, false);
     Ok(())
 }
 
 #[test]
 fn a_gate_that_is_not_told_changes_no_turn(rt: HostRuntime) -> Result<(), Fail> {
-    let alloc = rt.alloc();
     let plan = Plan {
         told: false,
         requests: 63,
         ..PLAN
     };
-    let [ran, _] = left_of_two(
-        &rt,
-        alloc,
-        counting(alloc, 1, &[JUMP])?,
-        counting(alloc, 2, &[JUMP])?,
-        plan,
-    )?;
-    assert_eq!(rt; ran.came, [0, 0]);
-    assert_eq!(rt;
-        ran.machines,
-        [
-            Some((0, 872, State::Running)),
-            Some((0, 936, State::Running))
-        ]
-    );
-    assert!(rt; ran.room);
+    let [ran, _] = left_of_two(&rt, rt.alloc(), JUMPS, plan)?;
+    same!(rt; ran.came, [0, 0]);
+    same!(rt; ran.machines, JUMPED);
+    same!(rt; ran.room, true);
     let plan = Plan { away: true, ..plan };
-    let [away, _] = left_of_two(
-        &rt,
-        alloc,
-        counting(alloc, 1, &[LOAD, EXIT])?,
-        counting(alloc, 2, &[EXIT])?,
-        plan,
-    )?;
-    let exit = State::Stopped(Stop::Exit(0));
-    assert_eq!(rt;
-        away.machines,
-        [Some((0, 1000, State::Running)), Some((0, 999, exit))]
-    );
-    assert!(rt; !away.room);
+    let [away, _] = left_of_two(&rt, rt.alloc(), LOADS, plan)?;
+    same!(rt; away.machines, WAITED);
+    same!(rt; away.room, false);
     Ok(())
 }

@@ -1,17 +1,10 @@
 //! A worker whose gate isn't told of instructions, on a thread of its own.
-ghost use Rattle.std.specs.Prelude.{◌≡◌, ◌≤◌, length, All};
-ghost use Rattle.shared_objects.specs.Kinds.{dealer};
-ghost use Rattle.shared_objects.specs.Opened.{AreFresh};
-ghost use Rattle.shared_objects.specs.Tables.{IsActorOf};
-ghost use Rattle.workers.specs.Cells.{IsTableOf};
-ghost use Rattle.workers.specs.Pools.{machines_of};
 
-use crate::common::{JUMP, LOOKS, fuel, machine, objects, rest};
-use debugger::Debuggee;
+use crate::common::{JUMP, LOOKS, fuel, rest};
+use crate::compared::same;
+use crate::course::{Code, Course, Left, left_of};
 use far_store::{FarStore, OwnStore};
-use shared_objects::{ActorSeat, Shared};
-use std::alloc::{AllocError, Global};
-use std::marker::Brand;
+use std::alloc::Global;
 use std::sync::Wait;
 use std::sync::atomic::{AtomicBool, Ordering};
 use std::test::Fail;
@@ -76,34 +69,27 @@ where
     })
 }
 
-fn run<F: FarStore + Drop + Send + Sync, K: Mark + Send + Sync, R: Threads + Wait + Sync>(
+/// Whether a worker that isn't told of instructions lets machine 1 be found within a turn.
+pub fn beside<K: Mark + Send + Sync, R: Threads + Wait + Sync>(
     rt: &R,
     alloc: Global,
-    gate: &Untold,
-    shared: Shared<F>,
-    seats: Vec<ActorSeat>,
-    machines: Vec<Debuggee>,
-) -> Result<bool, AllocError>
-where
-    F::Parcel: Send,
-    requires table { IsTableOf K.table K.opening shared.table }
-    requires seats { AreFresh (dealer F.RETURNS K.opening) seats.items × All (IsActorOf shared.table) seats.items }
-    requires machines { K.starts ≡ machines_of machines.items }
-    requires room { length machines.items ≤ length seats.items }
-{
-    let pool: Pool<F, K> = Pool::new(rt, alloc, shared, seats, machines)?;
-    Ok(is_found_beside(rt, alloc, gate, &pool))
-}
-
-#[test]
-fn who_wants_a_machine_has_it_within_a_turn(rt: HostRuntime) -> Result<(), Fail> {
-    let alloc = rt.alloc();
-    let mut machines = Vec::new(alloc);
-    machines.push(machine(alloc, 1, FUEL, [0; 5], &[JUMP])?)?;
-    let (shared, seats, _mover) = Shared::<OwnStore>::open(alloc, objects(alloc, 1)?, 1)?;
+    pool: &Pool<OwnStore, K>,
+) -> bool {
     let gate = Untold {
         ends: AtomicBool::new(false),
     };
-    assert!(rt; run::<OwnStore, Brand, _>(&rt, alloc, &gate, shared, seats, machines)?);
+    is_found_beside(rt, alloc, &gate, pool)
+}
+
+const LONG: Code = Code {
+    fuel: FUEL,
+    arguments: [0; 5],
+    slots: &[JUMP],
+    debug: None,
+};
+
+#[test]
+fn who_wants_a_machine_has_it_within_a_turn(rt: HostRuntime) -> Result<(), Fail> {
+    same!(rt; left_of(&rt, rt.alloc(), &[LONG], Course::Beside)?, Left::Found(true));
     Ok(())
 }
