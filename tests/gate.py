@@ -27,7 +27,7 @@ def failures_of(calls):
 def of_program(rt):
     """What is run on the program that was built, and beside it what takes longer than the other scripts."""
     calls = [[script, program] for program in BUILT for script in ("tests/program.py", "tests/store.py", "tests/service.py")]
-    return calls + [["tests/generated.py", "--vectors"], ["tests/shipping.py", BUILT[0]], ["tests/client.py", BUILT[0]], ["tests/gateway.py", BUILT[0]], ["tests/sweep.py", BUILT[0]], ["tests/refusals.py", rt], ["tests/embed.py", rt], ["tests/build.py", rt, "stamp"], ["tests/targets.py", rt]]
+    return calls + [["tests/generated.py", "--vectors"], ["tests/shipping.py", BUILT[0]], ["tests/client.py", BUILT[0]], ["tests/gateway.py", BUILT[0]], ["tests/sweep.py", BUILT[0]], ["tests/refusals.py", rt], ["tests/embed.py", rt], ["tests/build.py", rt, "stamp"], ["tests/targets.py", rt], ["tests/inner_loop.py", rt]]
 
 
 def progress(start, proved, tests):
