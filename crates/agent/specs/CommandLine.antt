@@ -86,10 +86,6 @@ far_rule = record (new_rule (codes "far")) { long = Some (codes "far"); value_na
 abbrev pub serve_shape : Shape
 serve_shape = record (new_shape (codes "serve")) { rules = port_rule ∷ connections_rule ∷ workers_rule ∷ budget_rule ∷ flag_rule (codes "sweep") ∷ far_rule ∷ [] }
 
--- `serve` alone, as it becomes a subcommand
-abbrev pub serve_app : App
-serve_app = record { top = serve_shape; subs = [] }
-
 -- a command that passes no argument on to its subcommands
 abbrev pub IsLocal : Command → Type 0
 IsLocal c = (out-Command c).has_globals ≡ false

@@ -1,5 +1,5 @@
 -- What the arguments ask of the network.
-use Rattle.std.specs.Prelude.{◌≡◌, ⊤, List, Option, option_map}
+use Rattle.std.specs.Prelude.{◌≡◌, ⊤, List, option_map}
 use Rattle.clap.specs.Words.{Text}
 use Rattle.agent.specs.CommandLine.{far_of}
 use Rattle.agent.specs.declared.arguments.Task.{Task}

@@ -1,7 +1,7 @@
 //! The arguments of the command line.
 ghost use Rattle.std.specs.Prelude.{◌≡◌, [], Some, map, codes, option_map, IfOk, IfErr};
-ghost use Rattle.clap.specs.Words.{app_of, found_of, rows_of, rule_of, HasKind};
-ghost use Rattle.agent.specs.CommandLine.{HasNumber, HasServing, IsLocal, budget_limit, budget_rule, command_line, connections_limit, connections_rule, far_of, far_rule, faults_of, flag_rule, is_set, number_in, port_limit, port_rule, serve_app, serving_in, task_named, task_of, workers_limit, workers_rule};
+ghost use Rattle.clap.specs.Words.{app_of, found_of, new_app, rows_of, rule_of, HasKind};
+ghost use Rattle.agent.specs.CommandLine.{HasNumber, HasServing, IsLocal, asm_shape, bare, budget_limit, budget_rule, command_line, connections_limit, connections_rule, dis_shape, far_of, far_rule, faults_of, flag_rule, is_set, number_in, port_limit, port_rule, run_shape, serve_shape, serving_in, store_shape, task_named, task_of, workers_limit, workers_rule};
 
 use clap::{Arg, ArgAction, ArgMatches, Command, Error, value_parser};
 use std::alloc::{AllocError, Global};
@@ -154,70 +154,124 @@ Status 0: all connections have ended. Status 1: an object is on its way or far w
 has \"object N isn't here\". Status 3: the far server can't be reached, the port can't be had, a stream failed, or out of \
 memory; standard error says which.";
 
+/// A subcommand of this name, without options; in one line what it is about, and what else help says.
+fn make_subcommand<'a>(alloc: Global, name: &'a str, about: &'a str, help: &'a str) -> Command<'a>
+    ensures { (app_of result ≡ new_app name.entry.now) × IsLocal result }
+{
+    Command::new(alloc, name).about(about).after_help(help)
+}
+
+/// `run`, with its option.
+fn make_run<'a>(alloc: Global) -> Result<Command<'a>, AllocError>
+    ensures { IfOk result (λ c. ((app_of c).top ≡ run_shape) × IsLocal c) }
+{
+    make_subcommand(
+        alloc,
+        "run",
+        "Do the commands of standard input, one a line",
+        RUN_HELP,
+    )
+    .arg(make_budget(alloc))
+}
+
+/// `asm`, with its option.
+fn make_asm<'a>(alloc: Global) -> Result<Command<'a>, AllocError>
+    ensures { IfOk result (λ c. ((app_of c).top ≡ asm_shape) × IsLocal c) }
+{
+    make_subcommand(
+        alloc,
+        "asm",
+        "Turn the assembly of standard input into raw code",
+        ASM_HELP,
+    )
+    .arg(make_flag(
+        alloc,
+        "explain",
+        "Quote the line of an error, and name the token, in a second line",
+    ))
+}
+
+/// `dis`, with its option.
+fn make_dis<'a>(alloc: Global) -> Result<Command<'a>, AllocError>
+    ensures { IfOk result (λ c. ((app_of c).top ≡ dis_shape) × IsLocal c) }
+{
+    make_subcommand(
+        alloc,
+        "dis",
+        "Show the raw code of standard input as assembly",
+        DIS_HELP,
+    )
+    .arg(make_flag(
+        alloc,
+        "slots",
+        "Show the number of its slot before each instruction",
+    ))
+}
+
+/// `store`, with its option.
+fn make_store<'a>(alloc: Global) -> Result<Command<'a>, AllocError>
+    ensures { IfOk result (λ c. ((app_of c).top ≡ store_shape) × IsLocal c) }
+{
+    make_subcommand(
+        alloc,
+        "store",
+        "Keep the objects of other agents",
+        STORE_HELP,
+    )
+    .arg(make_port(alloc))
+}
+
 /// `serve`, with its options.
 fn make_serve<'a>(alloc: Global) -> Result<Command<'a>, AllocError>
-    ensures { IfOk result (λ c. (app_of c ≡ serve_app) × IsLocal c) }
+    ensures { IfOk result (λ c. ((app_of c).top ≡ serve_shape) × IsLocal c) }
 {
-    let sweep = make_flag(
+    make_subcommand(
+        alloc,
+        "serve",
+        "Share objects and machines with clients",
+        SERVE_HELP,
+    )
+    .arg(make_port(alloc))?
+    .arg(make_connections(alloc))?
+    .arg(make_workers(alloc))?
+    .arg(make_budget(alloc))?
+    .arg(make_flag(
         alloc,
         "sweep",
         "Send away objects that nobody has used for a while",
-    );
-    Command::new(alloc, "serve")
-        .about("Share objects and machines with clients")
-        .after_help(SERVE_HELP)
-        .arg(make_port(alloc))?
-        .arg(make_connections(alloc))?
-        .arg(make_workers(alloc))?
-        .arg(make_budget(alloc))?
-        .arg(sweep)?
-        .arg(make_far(alloc))
+    ))?
+    .arg(make_far(alloc))
+}
+
+/// The command line without its subcommands.
+fn make_top<'a>(alloc: Global) -> Result<Command<'a>, AllocError>
+    ensures { IfOk result (λ c. app_of c ≡ bare) }
+{
+    let named = Command::new(alloc, "bpfagent").bin_name("bpfagent")?;
+    Ok(
+        named
+            .about("Runs BPF programs")
+            .no_binary_name(true)
+            .disable_help_subcommand(true)
+            .subcommand_required(true),
+    )
 }
 
 /// The command line of the program.
 fn make_command<'a>(alloc: Global) -> Result<Command<'a>, AllocError>
     ensures { IfOk result (λ c. app_of c ≡ command_line) }
 {
-    let run = Command::new(alloc, "run")
-        .about("Do the commands of standard input, one a line")
-        .after_help(RUN_HELP)
-        .arg(make_budget(alloc))?;
-    let check = Command::new(alloc, "check")
-        .about("Check the raw code of standard input")
-        .after_help(CHECK_HELP);
-    let explain = make_flag(
-        alloc,
-        "explain",
-        "Quote the line of an error, and name the token, in a second line",
-    );
-    let asm = Command::new(alloc, "asm")
-        .about("Turn the assembly of standard input into raw code")
-        .after_help(ASM_HELP)
-        .arg(explain)?;
-    let slots = make_flag(
-        alloc,
-        "slots",
-        "Show the number of its slot before each instruction",
-    );
-    let dis = Command::new(alloc, "dis")
-        .about("Show the raw code of standard input as assembly")
-        .after_help(DIS_HELP)
-        .arg(slots)?;
-    let store = Command::new(alloc, "store")
-        .about("Keep the objects of other agents")
-        .after_help(STORE_HELP)
-        .arg(make_port(alloc))?;
-    Command::new(alloc, "bpfagent")
-        .bin_name("bpfagent")?
-        .about("Runs BPF programs")
-        .no_binary_name(true)
-        .disable_help_subcommand(true)
-        .subcommand_required(true)
-        .subcommand(run)?
-        .subcommand(check)?
-        .subcommand(asm)?
-        .subcommand(dis)?
-        .subcommand(store)?
+    make_top(alloc)?
+        .subcommand(make_run(alloc)?)?
+        .subcommand(make_subcommand(
+            alloc,
+            "check",
+            "Check the raw code of standard input",
+            CHECK_HELP,
+        ))?
+        .subcommand(make_asm(alloc)?)?
+        .subcommand(make_dis(alloc)?)?
+        .subcommand(make_store(alloc)?)?
         .subcommand(make_serve(alloc)?)
 }
 

@@ -1,18 +1,16 @@
-use Rattle.std.proofs.Common.{◌≡◌, ◌∙◌, ◌||◌, ap, ap₂, refl, codes}
+use Rattle.std.proofs.Common.{◌∙◌, ◌||◌, ap, ap₂, refl, codes}
 use Rattle.std.proofs.lemmas.Result.{IfOk-weaker}
-use Rattle.clap.specs.Words.{app_of, new_app, with_rule}
-use Rattle.clap.specs.Simple.{app_of_fields}
+use Rattle.clap.specs.Words.{App, with_rule}
 use Rattle.agent.specs.CommandLine.{budget_rule, connections_rule, far_rule, flag_rule, port_rule, workers_rule}
-use Rattle.agent.proofs.Globals.{local_of, not_global}
+use Rattle.agent.proofs.Globals.{not_global}
 use Rattle.agent.proofs.arguments.make_serve.Goals as goal
 
 pub returns : goal.returns
 returns c =
-    let base : app_of c.after_help.result ≡ new_app (codes "serve") = ap app_of_fields c.after_help.ensures ∙ (ap app_of_fields c.about.ensures ∙ c.new.ensures.app) in
-    let base_local = ap local_of c.after_help.ensures ∙ (ap local_of c.about.ensures ∙ c.new.ensures.local) in
+    let base = c.make_subcommand.ensures in
     let port_local = not_global c.make_port.result port_rule refl c.make_port.ensures in
-    let with_port = c.in_ok-arg.ensures.shape port_local ∙ ap₂ with_rule base c.make_port.ensures in
-    let local_port = c.in_ok-arg.ensures.globals ∙ ap₂ (λ a b. a || b) base_local port_local in
+    let with_port = c.in_ok-arg.ensures.shape port_local ∙ ap₂ with_rule base.0 c.make_port.ensures in
+    let local_port = c.in_ok-arg.ensures.globals ∙ ap₂ (λ a b. a || b) base.1 port_local in
     let connections_local = not_global c.make_connections.result connections_rule refl c.make_connections.ensures in
     let with_connections = c.in_ok-arg-2.ensures.shape connections_local ∙ ap₂ with_rule with_port c.make_connections.ensures in
     let local_connections = c.in_ok-arg-2.ensures.globals ∙ ap₂ (λ a b. a || b) local_port connections_local in
@@ -22,8 +20,8 @@ returns c =
     let budget_local = not_global c.make_budget.result budget_rule refl c.make_budget.ensures in
     let with_budget = c.in_ok-arg-4.ensures.shape budget_local ∙ ap₂ with_rule with_workers c.make_budget.ensures in
     let local_budget = c.in_ok-arg-4.ensures.globals ∙ ap₂ (λ a b. a || b) local_workers budget_local in
-    let sweep_local = not_global c.make_flag-sweep.result (flag_rule (codes "sweep")) refl c.make_flag-sweep.ensures in
-    let with_sweep = c.in_ok-arg-5.ensures.shape sweep_local ∙ ap₂ with_rule with_budget c.make_flag-sweep.ensures in
+    let sweep_local = not_global c.make_flag.result (flag_rule (codes "sweep")) refl c.make_flag.ensures in
+    let with_sweep = c.in_ok-arg-5.ensures.shape sweep_local ∙ ap₂ with_rule with_budget c.make_flag.ensures in
     let local_sweep = c.in_ok-arg-5.ensures.globals ∙ ap₂ (λ a b. a || b) local_budget sweep_local in
     let far_local = not_global c.make_far.result far_rule refl c.make_far.ensures in
-    IfOk-weaker c.arg-6.result _ _ (λ r adds. (adds.shape far_local ∙ ap₂ with_rule with_sweep c.make_far.ensures, adds.globals ∙ ap₂ (λ a b. a || b) local_sweep far_local)) c.arg-6.ensures
+    IfOk-weaker c.arg-6.result _ _ (λ r adds. (ap (λ (a : App). a.top) (adds.shape far_local ∙ ap₂ with_rule with_sweep c.make_far.ensures), adds.globals ∙ ap₂ (λ a b. a || b) local_sweep far_local)) c.arg-6.ensures
