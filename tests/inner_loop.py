@@ -2,8 +2,7 @@
 """Calls rt as the table of docs/CONTRIBUTING.md does: inner_loop.py RT
 
 In a copy of `crates/scopes`, which stands on no other crate and has tests of its own, and where a proof from nothing takes
-seconds. What another script runs is named here with that script, so that a command that the table doesn't have, or has in
-other words, is a failure.
+seconds. What another script runs is named here with that script, so that a command of the table that nothing runs is a failure.
 """
 import pathlib
 import re
@@ -20,14 +19,14 @@ CRATE = "scopes"
 SECONDS = 600
 PROVED = r"(?m)^logic=proved .*\Z"
 PASSED = r"(?m)^test result: ok\. [1-9]\d* passed; 0 failed;"
-# The function whose proof stands in a file, and an edit that the prover has to refuse.
-BY_HAND = "scopes::laws::windows_stay_windows"
-EDIT = ("src/window.rt", "oldest_not_looked_at")
+# A function whose proof stands in a file, and an edit that the prover has to refuse.
+BY_HAND = "windows_stay_windows"
+EDIT = "oldest_not_looked_at"
 
 
-def rt(command, folder, status, wanted, *given):
+def rt(command, folder, status, wanted):
     """What this command writes, which ends with this status and has a line that was to be."""
-    done = subprocess.run([sys.argv[1], *command.split()[1:], *given], cwd=folder, stdin=subprocess.DEVNULL, stdout=subprocess.PIPE, stderr=subprocess.STDOUT, text=True, errors="replace", timeout=SECONDS)
+    done = subprocess.run([sys.argv[1], *command.split()[1:]], cwd=folder, stdin=subprocess.DEVNULL, stdout=subprocess.PIPE, stderr=subprocess.STDOUT, text=True, errors="replace", timeout=SECONDS)
     want(done.returncode == status and re.search(wanted, done.stdout.rstrip()), f"{command} ended with {done.returncode}: {done.stdout[-2000:]}")
     return done.stdout
 
@@ -50,15 +49,12 @@ def show_only(crate):
 
 def show_start(crate):
     """The files of a proof that isn't there are written, and the goals are shown, as long as any is left."""
-    proof = crate / "proofs/laws" / BY_HAND.rsplit("::", 1)[1]
-    kept = {path: path.read_text() for path in proof.iterdir()}
-    shutil.rmtree(proof)
-    rt(f"rt check --start {BY_HAND} --allow-holes", crate, 1, r"(?ms)^ +⊢ .*^only=1 holes=1\Z")
-    want(proof.is_dir() and any(proof.iterdir()), f"nothing was written for {BY_HAND}")
-    shutil.rmtree(proof)
-    proof.mkdir()
-    for path, text in kept.items():
-        path.write_text(text)
+    proof = f"proofs/laws/{BY_HAND}"
+    shutil.rmtree(crate / proof)
+    rt(f"rt check --start {CRATE}::laws::{BY_HAND} --allow-holes", crate, 1, r"(?ms)^ +⊢ .*^only=1 holes=1\Z")
+    want((crate / proof).is_dir(), f"nothing was written for {BY_HAND}")
+    shutil.rmtree(crate / proof)
+    shutil.copytree(ROOT / "crates" / CRATE / proof, crate / proof)
 
 
 def show_check(crate):
@@ -73,20 +69,22 @@ def show_all(crate):
     rt("rt all check", crate.parent.parent, 0, r"(?m)^1 of 1 crates ok\Z")
 
 
+def texts(crate):
+    return {path: path.read_bytes() for part in ("src", "specs", "proofs") for path in (crate / part).rglob("*.*")}
+
+
 def show_tidy(crate):
     """The sources are tidy."""
-    texts = lambda: {path: path.read_bytes() for part in ("src", "specs", "proofs") for path in (crate / part).rglob("*.*")}
-    before = texts()
+    before = texts(crate)
     rt("rt tidy", crate, 0, "")
-    want(texts() == before, f"rt tidy changes what stands in {CRATE}")
+    want(texts(crate) == before, f"rt tidy changes what stands in {CRATE}")
 
 
 def show_edit(crate):
     """A wrong body in a copy with its `out/` is refused."""
-    file, name = EDIT
-    old, new = re.search(r"(?m)^old: (.*)\nnew: (.*)$", (crate / f"must-fail/{name}.edit").read_text()).groups()
+    file, old, new = re.fullmatch(r"file: (.*)\nold: (.*)\nnew: (.*)\n", (crate / f"must-fail/{EDIT}.edit").read_text()).groups()
     text = (crate / file).read_text()
-    want(text.count(old) == 1, f"{name} changes {text.count(old)} places")
+    want(text.count(old) == 1, f"{EDIT} changes {text.count(old)} places")
     (crate / file).write_text(text.replace(old, new))
     rt("rt check", crate, 1, r"(?m)^logic=not-proved")
 
