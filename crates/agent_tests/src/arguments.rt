@@ -1,7 +1,8 @@
 //! The arguments of the command line, and help.
 
-use crate::outcome::outcome_of;
-use agent::{refuse_arguments, tool};
+use crate::compared::same;
+use crate::outcome::{ended, leaves};
+use agent::refuse_arguments;
 use std::io::{Error, ErrorKind};
 use test_devices::Narrow;
 
@@ -124,71 +125,69 @@ Usage: bpfagent run [OPTIONS]
 For more information, try '--help'.
 ";
 
+/// Arguments that are refused, and what is said then.
+const INVALID: &[(&[&str], &str)] = &[
+    (&[], NO_SUBCOMMAND),
+    (&["stor"], UNKNOWN),
+    (&["help"], HELP_SUBCOMMAND),
+    (&["check", "--budget", "8"], OPTION),
+    (&["run", "--budget", "67108865"], TOO_GREAT),
+    (&["store", "--port", "65536"], NO_PORT),
+    (&["run", "--budget", "x"], NO_NUMBER),
+    (&["run", "--budget="], NO_TEXT),
+    (&["run", "--budget"], NO_VALUE),
+    (&["run", "--budget", "8", "--budget", "8"], TWICE),
+];
+
 #[test]
 fn invalid_arguments_are_named(rt: HostRuntime) {
-    let cases: [(&[&str], &str); 10] = [
-        (&[], NO_SUBCOMMAND),
-        (&["stor"], UNKNOWN),
-        (&["help"], HELP_SUBCOMMAND),
-        (&["check", "--budget", "8"], OPTION),
-        (&["run", "--budget", "67108865"], TOO_GREAT),
-        (&["store", "--port", "65536"], NO_PORT),
-        (&["run", "--budget", "x"], NO_NUMBER),
-        (&["run", "--budget="], NO_TEXT),
-        (&["run", "--budget"], NO_VALUE),
-        (&["run", "--budget", "8", "--budget", "8"], TWICE),
-    ];
-    for (arguments, text) in cases {
-        let outcome = outcome_of(rt.alloc(), arguments, b"step 1\n");
-        assert_eq!(rt; outcome.status, 2);
-        assert!(rt; outcome.output.is_empty());
-        assert_eq!(rt; std::str::from_utf8(&outcome.errors).unwrap_or(""), text);
+    for &(arguments, text) in INVALID {
+        let wanted: (u8, &[u8], &[u8]) = (2, b"", text.as_bytes());
+        leaves(&rt, rt.alloc(), arguments, b"step 1\n", wanted);
     }
 }
 
+/// Arguments that ask for help, and the help.
+const HELPS: &[(&[&str], &str)] = &[
+    (&["--help"], HELP),
+    (&["store", "--help"], STORE_HELP),
+    (&["-h"], HELP),
+    (&["check", "--help"], CHECK_HELP),
+    (&["run", "--help"], RUN_HELP),
+    (&["run", "--budget", "8", "-h"], RUN_HELP),
+];
+
 #[test]
 fn help_goes_to_the_output(rt: HostRuntime) {
-    let cases: [(&[&str], &str); 6] = [
-        (&["--help"], HELP),
-        (&["store", "--help"], STORE_HELP),
-        (&["-h"], HELP),
-        (&["check", "--help"], CHECK_HELP),
-        (&["run", "--help"], RUN_HELP),
-        (&["run", "--budget", "8", "-h"], RUN_HELP),
-    ];
-    for (arguments, text) in cases {
-        let outcome = outcome_of(rt.alloc(), arguments, b"step 1\n");
-        assert_eq!(rt; outcome.status, 0);
-        assert!(rt; outcome.errors.is_empty());
-        assert_eq!(rt; std::str::from_utf8(&outcome.output).unwrap_or(""), text);
+    for &(arguments, text) in HELPS {
+        let wanted: (u8, &[u8], &[u8]) = (0, text.as_bytes(), b"");
+        leaves(&rt, rt.alloc(), arguments, b"step 1\n", wanted);
     }
 }
 
 #[test]
 fn help_that_is_not_taken_is_a_write_fault(rt: HostRuntime) {
-    let alloc = rt.alloc();
     let mut input = b"".as_slice();
-    let mut closed = Narrow::new(alloc, 1, 0);
-    let mut errors = Vec::new(alloc);
-    let status = tool(alloc, &["--help"], &mut input, &mut closed, &mut errors);
-    assert_eq!(rt; status, 3);
-    assert_eq!(rt; errors.as_slice(), b"write fault\n".as_slice());
+    let mut closed = Narrow::new(rt.alloc(), 1, 0);
+    let (status, errors) = ended(rt.alloc(), &["--help"], &mut input, &mut closed);
+    same!(rt; (status, errors.as_slice()), (3, b"write fault\n".as_slice()));
 }
+
+/// Why there are no arguments, the status then, and what is said.
+const NO_ARGUMENTS: &[(ErrorKind, u8, &[u8])] = &[
+    (
+        ErrorKind::InvalidData,
+        2,
+        b"error: the arguments are not valid UTF-8\n",
+    ),
+    (ErrorKind::OutOfMemory, 3, b"no memory\n"),
+];
 
 #[test]
 fn arguments_that_cannot_be_had_are_named(rt: HostRuntime) {
-    let alloc = rt.alloc();
-    let cases: [(ErrorKind, u8, &[u8]); 2] = [
-        (
-            ErrorKind::InvalidData,
-            2,
-            b"error: the arguments are not valid UTF-8\n",
-        ),
-        (ErrorKind::OutOfMemory, 3, b"no memory\n"),
-    ];
-    for (kind, status, text) in cases {
-        let mut errors = Vec::new(alloc);
-        assert_eq!(rt; refuse_arguments(&Error::from(kind), &mut errors), status);
-        assert_eq!(rt; errors.as_slice(), text);
+    for &(kind, status, text) in NO_ARGUMENTS {
+        let mut errors = Vec::new(rt.alloc());
+        same!(rt; refuse_arguments(&Error::from(kind), &mut errors), status);
+        same!(rt; errors.as_slice(), text);
     }
 }

@@ -1,7 +1,8 @@
 //! `asm` and `dis`.
 
-use crate::outcome::outcome_of;
-use agent::{Failure, tool};
+use crate::compared::same;
+use crate::outcome::{ended, leaves, outcome_of};
+use agent::Failure;
 use assembler::{AsmError, Why};
 use std::test::Fail;
 use test_devices::{FailingReader, Narrow};
@@ -10,169 +11,166 @@ use test_devices::{FailingReader, Narrow};
 const ALL_ONES: &[u8] =
     b"\x18\x00\x00\x00\xff\xff\xff\xff\x00\x00\x00\x00\xff\xff\xff\xff\x95\x00\x00\x00\x00\x00\x00\x00";
 
+/// Texts, and the code that they spell.
+const TEXTS: &[(&[u8], &[u8])] = &[
+    (b"lddw r0, -1\nexit", ALL_ONES),
+    (b"lddw r0, -1 # all ones\r\n\n  exit\n", ALL_ONES),
+    (b"", b""),
+    (b"# nothing\n", b""),
+];
+
 #[test]
 fn a_text_becomes_its_code(rt: HostRuntime) {
-    let cases: [(&[u8], &[u8]); 4] = [
-        (b"lddw r0, -1\nexit", ALL_ONES),
-        (b"lddw r0, -1 # all ones\r\n\n  exit\n", ALL_ONES),
-        (b"", b""),
-        (b"# nothing\n", b""),
-    ];
-    for (text, code) in cases {
-        let outcome = outcome_of(rt.alloc(), &["asm"], text);
-        assert_eq!(rt; outcome.status, 0);
-        assert_eq!(rt; outcome.output.as_slice(), code);
-        assert!(rt; outcome.errors.is_empty());
+    for &(text, code) in TEXTS {
+        leaves(&rt, rt.alloc(), &["asm"], text, (0, code, b""));
     }
 }
 
+/// Code, and the text that it is shown as.
+const CODES: &[(&[u8], &[u8])] = &[
+    (ALL_ONES, b"lddw r0, 0xffffffffffffffff\nexit\n"),
+    (
+        b"\xc3\x21\x00\x00\xf1\x00\x00\x00\x95\x00\x00\x00\x00\x00\x00\x00",
+        b"acmpxchg32 [r1], r2\nexit\n",
+    ),
+];
+
 #[test]
 fn code_becomes_its_text(rt: HostRuntime) {
-    let cases: [(&[u8], &[u8]); 2] = [
-        (ALL_ONES, b"lddw r0, 0xffffffffffffffff\nexit\n"),
-        (
-            b"\xc3\x21\x00\x00\xf1\x00\x00\x00\x95\x00\x00\x00\x00\x00\x00\x00",
-            b"acmpxchg32 [r1], r2\nexit\n",
-        ),
-    ];
-    for (code, text) in cases {
-        let outcome = outcome_of(rt.alloc(), &["dis"], code);
-        assert_eq!(rt; outcome.status, 0);
-        assert_eq!(rt; outcome.output.as_slice(), text);
-        assert!(rt; outcome.errors.is_empty());
+    for &(code, text) in CODES {
+        leaves(&rt, rt.alloc(), &["dis"], code, (0, text, b""));
     }
 }
 
 #[test]
 fn slots_stand_before_the_lines(rt: HostRuntime) {
-    let outcome = outcome_of(rt.alloc(), &["dis", "--slots"], ALL_ONES);
-    assert_eq!(rt; outcome.status, 0);
     let text: &[u8] = b"0: lddw r0, 0xffffffffffffffff\n2: exit\n";
-    assert_eq!(rt; outcome.output.as_slice(), text);
-    assert!(rt; outcome.errors.is_empty());
+    leaves(
+        &rt,
+        rt.alloc(),
+        &["dis", "--slots"],
+        ALL_ONES,
+        (0, text, b""),
+    );
 }
+
+/// Texts with a wrong line, and what is said of it.
+const WRONG_LINES: &[(&[u8], &[u8])] = &[
+    (b"exit\nexot\n", b"line 2: Word\n"),
+    (b"exit # \xc3\xa9\n", b"line 1: Word\n"),
+    (b"mov r0\n", b"line 1: Operand\n"),
+    (b"exit\nja x\n", b"line 2: Label\n"),
+    (b"x: exit\nx: exit\n", b"line 2: TwiceLabel\n"),
+];
 
 #[test]
 fn a_wrong_line_goes_to_the_errors(rt: HostRuntime) {
-    let cases: [(&[u8], &[u8]); 5] = [
-        (b"exit\nexot\n", b"line 2: Word\n"),
-        (b"exit # \xc3\xa9\n", b"line 1: Word\n"),
-        (b"mov r0\n", b"line 1: Operand\n"),
-        (b"exit\nja x\n", b"line 2: Label\n"),
-        (b"x: exit\nx: exit\n", b"line 2: TwiceLabel\n"),
-    ];
-    for (text, line) in cases {
-        let outcome = outcome_of(rt.alloc(), &["asm"], text);
-        assert_eq!(rt; outcome.status, 1);
-        assert_eq!(rt; outcome.errors.as_slice(), line);
-        assert!(rt; outcome.output.is_empty());
+    for &(text, line) in WRONG_LINES {
+        leaves(&rt, rt.alloc(), &["asm"], text, (1, b"", line));
     }
 }
 
+/// Texts with a wrong line, and what is said of it with an explanation.
+const EXPLAINED: &[(&[u8], &[u8])] = &[
+    (
+        b"exit\n\texot ; leave",
+        b"line 2: Word\ncolumn 2: 'exot' in ' exot ; leave'\n",
+    ),
+    (
+        b"exit # \xc3\xa9\n",
+        b"line 1: Word\ncolumn 6: '# ??' in 'exit # ??'\n",
+    ),
+    (b"mov r0 ", b"line 1: Operand\nat the end of 'mov r0 '\n"),
+    (
+        b"x: mov r0, 5, 6",
+        b"line 1: Operand\ncolumn 13: ',' in 'x: mov r0, 5, 6'\n",
+    ),
+    (
+        b"ldxb r1, [r2+40000]",
+        b"line 1: Range\ncolumn 14: '40000' in 'ldxb r1, [r2+40000]'\n",
+    ),
+    (
+        b"jeq r1, 2, r3\n",
+        b"line 1: Label\ncolumn 12: 'r3' in 'jeq r1, 2, r3'\n",
+    ),
+    (
+        b"x: exit\n x:exit\n",
+        b"line 2: TwiceLabel\ncolumn 2: 'x' in ' x:exit'\n",
+    ),
+    (
+        b"mov r11, 3",
+        b"line 1: Operand\ncolumn 5: 'r11' in 'mov r11, 3'\n",
+    ),
+];
+
 #[test]
 fn an_explanation_names_the_token(rt: HostRuntime) {
-    let cases: [(&[u8], &[u8]); 8] = [
-        (
-            b"exit\n\texot ; leave",
-            b"line 2: Word\ncolumn 2: 'exot' in ' exot ; leave'\n",
-        ),
-        (
-            b"exit # \xc3\xa9\n",
-            b"line 1: Word\ncolumn 6: '# ??' in 'exit # ??'\n",
-        ),
-        (b"mov r0 ", b"line 1: Operand\nat the end of 'mov r0 '\n"),
-        (
-            b"x: mov r0, 5, 6",
-            b"line 1: Operand\ncolumn 13: ',' in 'x: mov r0, 5, 6'\n",
-        ),
-        (
-            b"ldxb r1, [r2+40000]",
-            b"line 1: Range\ncolumn 14: '40000' in 'ldxb r1, [r2+40000]'\n",
-        ),
-        (
-            b"jeq r1, 2, r3\n",
-            b"line 1: Label\ncolumn 12: 'r3' in 'jeq r1, 2, r3'\n",
-        ),
-        (
-            b"x: exit\n x:exit\n",
-            b"line 2: TwiceLabel\ncolumn 2: 'x' in ' x:exit'\n",
-        ),
-        (
-            b"mov r11, 3",
-            b"line 1: Operand\ncolumn 5: 'r11' in 'mov r11, 3'\n",
-        ),
-    ];
-    for (text, said) in cases {
-        let outcome = outcome_of(rt.alloc(), &["asm", "--explain"], text);
-        assert_eq!(rt; outcome.status, 1);
-        assert_eq!(rt; outcome.errors.as_slice(), said);
-        assert!(rt; outcome.output.is_empty());
+    for &(text, said) in EXPLAINED {
+        leaves(&rt, rt.alloc(), &["asm", "--explain"], text, (1, b"", said));
     }
 }
 
 #[test]
 fn nothing_is_explained_of_a_right_text(rt: HostRuntime) {
-    let outcome = outcome_of(rt.alloc(), &["asm", "--explain"], b"lddw r0, -1\nexit");
-    assert_eq!(rt; outcome.status, 0);
-    assert_eq!(rt; outcome.output.as_slice(), ALL_ONES);
-    assert!(rt; outcome.errors.is_empty());
+    let text: &[u8] = b"lddw r0, -1\nexit";
+    leaves(
+        &rt,
+        rt.alloc(),
+        &["asm", "--explain"],
+        text,
+        (0, ALL_ONES, b""),
+    );
 }
+
+/// Code that is refused, and what is said of it.
+const REFUSED: &[(&[u8], &[u8])] = &[(b"\x95\x00", b"slot 0: Short\n"), (b"", b"slot 0: Empty\n")];
 
 #[test]
 fn code_that_is_refused_has_no_text(rt: HostRuntime) {
-    let cases: [(&[u8], &[u8]); 2] = [(b"\x95\x00", b"slot 0: Short\n"), (b"", b"slot 0: Empty\n")];
-    for (code, line) in cases {
-        let outcome = outcome_of(rt.alloc(), &["dis"], code);
-        assert_eq!(rt; outcome.status, 1);
-        assert_eq!(rt; outcome.errors.as_slice(), line);
-        assert!(rt; outcome.output.is_empty());
+    for &(code, line) in REFUSED {
+        leaves(&rt, rt.alloc(), &["dis"], code, (1, b"", line));
     }
 }
+
+/// Subcommands, what they say of 1,060,000 line ends, and how many of these they leave in the input.
+const TOO_LONG: &[(&str, &[u8], usize)] = &[
+    ("asm", b"input too long\n", 1_060_000 - 1_048_577),
+    ("dis", b"slot 0: TooLong\n", 1_060_000 - 32_769),
+];
 
 #[test]
 fn one_byte_past_the_longest_input_is_read(rt: HostRuntime) -> Result<(), Fail> {
     let alloc = rt.alloc();
-    let cases: [(&str, &[u8], usize); 2] = [
-        ("asm", b"input too long\n", 1_060_000 - 1_048_577),
-        ("dis", b"slot 0: TooLong\n", 1_060_000 - 32_769),
-    ];
     let input = vec![in alloc; b'\n'; 1_060_000]?;
-    for (name, line, left) in cases {
+    for &(name, line, left) in TOO_LONG {
         let mut reader = input.as_slice();
-        let mut output = Vec::new(alloc);
-        let mut errors = Vec::new(alloc);
-        let status = tool(alloc, &[name], &mut reader, &mut output, &mut errors);
-        assert_eq!(rt; status, 1);
-        assert_eq!(rt; errors.as_slice(), line);
-        assert!(rt; output.is_empty());
-        assert_eq!(rt; reader.len(), left);
+        let found = outcome_of(alloc, &[name], &mut reader);
+        same!(rt; (found.status, found.errors.as_slice()), (1, line), name);
+        same!(rt; (found.output.len(), reader.len()), (0, left), name);
     }
-    let longest = outcome_of(alloc, &["asm"], &vec![in alloc; b'\n'; 1_048_576]?);
-    assert_eq!(rt; longest.status, 0);
+    let longest = vec![in alloc; b'\n'; 1_048_576]?;
+    leaves(&rt, alloc, &["asm"], &longest, (0, b"", b""));
     Ok(())
 }
+
+/// Subcommands, and an input that each takes.
+const OVER_STREAMS: &[(&str, &[u8])] = &[
+    ("asm", b"exit\n"),
+    ("dis", b"\x95\x00\x00\x00\x00\x00\x00\x00"),
+];
 
 #[test]
 fn a_stream_that_fails_is_named(rt: HostRuntime) {
     let alloc = rt.alloc();
-    let cases: [(&str, &[u8]); 2] = [
-        ("asm", b"exit\n"),
-        ("dis", b"\x95\x00\x00\x00\x00\x00\x00\x00"),
-    ];
-    for (name, input) in cases {
+    for &(name, input) in OVER_STREAMS {
         let mut reader = FailingReader::new(input, 1);
-        let mut output = Vec::new(alloc);
-        let mut errors = Vec::new(alloc);
-        let status = tool(alloc, &[name], &mut reader, &mut output, &mut errors);
-        assert_eq!(rt; status, 3);
-        assert_eq!(rt; errors.as_slice(), b"read fault\n".as_slice());
+        let found = outcome_of(alloc, &[name], &mut reader);
+        same!(rt; (found.status, found.errors.as_slice()), (3, b"read fault\n".as_slice()), name);
         let mut reader = input;
         let mut closed = Narrow::new(alloc, 1, 2);
-        let mut errors = Vec::new(alloc);
-        let status = tool(alloc, &[name], &mut reader, &mut closed, &mut errors);
-        assert_eq!(rt; status, 3);
-        assert_eq!(rt; closed.taken.len(), 2);
-        assert_eq!(rt; errors.as_slice(), b"write fault\n".as_slice());
+        let (status, errors) = ended(alloc, &[name], &mut reader, &mut closed);
+        same!(rt; (status, errors.as_slice()), (3, b"write fault\n".as_slice()), name);
+        same!(rt; closed.taken.len(), 2, name);
     }
 }
 
@@ -188,7 +186,7 @@ fn failures_of_a_text_have_their_texts(rt: HostRuntime) -> Result<(), Fail> {
         (Failure::InputTooLong, "input too long"),
     ];
     for (failure, text) in texts {
-        assert_eq!(rt; format!(in alloc; "{failure}")?.as_str(), text);
+        same!(rt; format!(in alloc; "{failure}")?.as_str(), text);
     }
     Ok(())
 }

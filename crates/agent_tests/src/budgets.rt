@@ -1,9 +1,9 @@
 //! `run --budget N`.
 
-use crate::outcome::outcome_of;
+use crate::outcome::leaves;
 
 /// Runs these commands with this budget, if one is given.
-const CASES: [(&[&str], &str, &str); 8] = [
+const CASES: &[(&[&str], &str, &str)] = &[
     (&["run", "--budget", "0"], "make 1\n", "noroom\n"),
     (
         &["run", "--budget", "8"],
@@ -37,10 +37,8 @@ const CASES: [(&[&str], &str, &str); 8] = [
 
 #[test]
 fn objects_that_are_not_far_fill_the_budget(rt: HostRuntime) {
-    for (arguments, input, output) in CASES {
-        let outcome = outcome_of(rt.alloc(), arguments, input.as_bytes());
-        assert_eq!(rt; outcome.status, 0);
-        assert_eq!(rt; std::str::from_utf8(&outcome.output).unwrap_or(""), output);
-        assert!(rt; outcome.errors.is_empty());
+    for &(arguments, input, output) in CASES {
+        let wanted: (u8, &[u8], &[u8]) = (0, output.as_bytes(), b"");
+        leaves(&rt, rt.alloc(), arguments, input.as_bytes(), wanted);
     }
 }

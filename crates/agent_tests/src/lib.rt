@@ -10,6 +10,8 @@ mod budgets;
 #[cfg(test)]
 mod checking;
 #[cfg(test)]
+mod compared;
+#[cfg(test)]
 mod moving;
 #[cfg(test)]
 mod outcome;

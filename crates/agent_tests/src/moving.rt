@@ -1,14 +1,13 @@
 //! `run`: objects that move under machines, and machines that are debugged.
 
-use crate::outcome::outcome_of;
+use crate::outcome::leaves;
 use std::alloc::Global;
+use std::process::Abort;
 
-/// What `run` answers to these lines.
-fn answers(alloc: Global, input: &str, output: &str) -> bool {
-    let outcome = outcome_of(alloc, &["run"], input.as_bytes());
-    outcome.status == 0
-        && outcome.errors.is_empty()
-        && outcome.output.as_slice() == output.as_bytes()
+/// `run` answers so to these lines.
+fn answers(rt: &impl Abort, alloc: Global, input: &str, output: &str) {
+    let wanted: (u8, &[u8], &[u8]) = (0, output.as_bytes(), b"");
+    leaves(rt, alloc, &["run"], input.as_bytes(), wanted);
 }
 
 #[test]
@@ -51,7 +50,7 @@ returning 1
 home 1
 bytes 0400000000000000
 ";
-    assert!(rt; answers(rt.alloc(), input, output));
+    answers(&rt, rt.alloc(), input, output);
 }
 
 #[test]
@@ -88,7 +87,7 @@ returning 1
 home 1
 ran 1 3
 ";
-    assert!(rt; answers(rt.alloc(), input, output));
+    answers(&rt, rt.alloc(), input, output);
 }
 
 #[test]
@@ -121,7 +120,7 @@ stopped 1 exit 0000000000000008
 stopped 1 exit 0000000000000008
 none
 ";
-    assert!(rt; answers(rt.alloc(), input, output));
+    answers(&rt, rt.alloc(), input, output);
 }
 
 #[test]
@@ -146,5 +145,5 @@ paused 1 1
 bytes 00000500
 ok
 ";
-    assert!(rt; answers(rt.alloc(), input, output));
+    answers(&rt, rt.alloc(), input, output);
 }

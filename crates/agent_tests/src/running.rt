@@ -1,7 +1,8 @@
 //! `run`, where a stream fails or a line is cut. Whole conversations are in `conversations`.
 
-use crate::outcome::outcome_of;
-use agent::{Failure, tool};
+use crate::compared::same;
+use crate::outcome::{ended, leaves, outcome_of};
+use agent::Failure;
 use bpf_codec::Fault;
 use loader::{LoadError, Why};
 use std::test::Fail;
@@ -9,26 +10,19 @@ use test_devices::{FailingReader, Narrow, Pieces};
 
 #[test]
 fn a_closed_output_ends_the_run(rt: HostRuntime) {
-    let alloc = rt.alloc();
     let mut input = b"step 1\nstep 1\nstep 1\n".as_slice();
-    let mut closed = Narrow::new(alloc, 1, 7);
-    let mut errors = Vec::new(alloc);
-    let status = tool(alloc, &["run"], &mut input, &mut closed, &mut errors);
-    assert_eq!(rt; status, 3);
-    assert_eq!(rt; closed.taken.as_slice(), b"none\nno".as_slice());
-    assert_eq!(rt; errors.as_slice(), b"write fault\n".as_slice());
+    let mut closed = Narrow::new(rt.alloc(), 1, 7);
+    let (status, errors) = ended(rt.alloc(), &["run"], &mut input, &mut closed);
+    same!(rt; (status, errors.as_slice()), (3, b"write fault\n".as_slice()));
+    same!(rt; closed.taken.as_slice(), b"none\nno".as_slice());
 }
 
 #[test]
 fn a_broken_input_ends_the_run(rt: HostRuntime) {
-    let alloc = rt.alloc();
     let mut input = FailingReader::new(b"step 1\nstep".as_slice(), 1);
-    let mut output = Vec::new(alloc);
-    let mut errors = Vec::new(alloc);
-    let status = tool(alloc, &["run"], &mut input, &mut output, &mut errors);
-    assert_eq!(rt; status, 3);
-    assert_eq!(rt; output.as_slice(), b"none\n".as_slice());
-    assert_eq!(rt; errors.as_slice(), b"read fault\n".as_slice());
+    let found = outcome_of(rt.alloc(), &["run"], &mut input);
+    same!(rt; (found.status, found.errors.as_slice()), (3, b"read fault\n".as_slice()));
+    same!(rt; found.output.as_slice(), b"none\n".as_slice());
 }
 
 #[test]
@@ -37,14 +31,10 @@ fn an_empty_line_a_long_line_and_a_cut_line(rt: HostRuntime) -> Result<(), Fail>
     let mut input = vec![in alloc; b'a'; 70_002]?;
     input[0] = b'\n';
     input.extend_from_slice(b"\nregs 1")?;
-    let whole = outcome_of(alloc, &["run"], &input);
-    assert_eq!(rt; whole.output.as_slice(), b"bad\nbad\ncut\n".as_slice());
+    leaves(&rt, alloc, &["run"], &input, (0, b"bad\nbad\ncut\n", b""));
     let mut pieces = Pieces::new(&input, 1);
-    let mut output = Vec::new(alloc);
-    let mut errors = Vec::new(alloc);
-    let status = tool(alloc, &["run"], &mut pieces, &mut output, &mut errors);
-    assert_eq!(rt; (whole.status, status), (0, 0));
-    assert_eq!(rt; output.as_slice(), whole.output.as_slice());
+    let found = outcome_of(alloc, &["run"], &mut pieces);
+    same!(rt; (found.status, found.output.as_slice()), (0, b"bad\nbad\ncut\n".as_slice()));
     Ok(())
 }
 
@@ -62,7 +52,7 @@ fn failures_have_their_texts(rt: HostRuntime) -> Result<(), Fail> {
         (Failure::NoMemory, "no memory"),
     ];
     for (failure, text) in texts {
-        assert_eq!(rt; format!(in alloc; "{failure}")?.as_str(), text);
+        same!(rt; format!(in alloc; "{failure}")?.as_str(), text);
     }
     Ok(())
 }

@@ -1,6 +1,7 @@
 //! Servers that the arguments ask for.
 
-use crate::outcome::outcome_of;
+use crate::compared::same;
+use crate::outcome::leaves;
 use agent::{Server, Serving, asked_server};
 use std::test::Fail;
 
@@ -22,64 +23,69 @@ const ALL: Serving = Serving {
     sweep: true,
 };
 
-/// `serve` alone, with this far server.
-fn plain(far: Option<&str>) -> Server<'_> {
-    Server::Serve {
-        serving: PLAIN,
-        far,
-    }
-}
+/// Arguments, and the server that they ask for.
+const ASKED: &[(&[&str], Option<Server>)] = &[
+    (&["store"], Some(Server::Store { port: 0 })),
+    (
+        &["store", "--port", "7070"],
+        Some(Server::Store { port: 7070 }),
+    ),
+    (
+        &["store", "--port=65535"],
+        Some(Server::Store { port: 65_535 }),
+    ),
+    (&["store", "--port=65536"], None),
+    (&["store", "--help"], None),
+    (
+        &["serve"],
+        Some(Server::Serve {
+            serving: PLAIN,
+            far: None,
+        }),
+    ),
+    (
+        &["serve", "--far", "127.0.0.1:7070"],
+        Some(Server::Serve {
+            serving: PLAIN,
+            far: Some("127.0.0.1:7070"),
+        }),
+    ),
+    (
+        &["serve", "--far=x"],
+        Some(Server::Serve {
+            serving: PLAIN,
+            far: Some("x"),
+        }),
+    ),
+    (
+        &[
+            "serve",
+            "--workers=16",
+            "--sweep",
+            "--connections",
+            "8",
+            "--budget",
+            "0",
+            "--far=[::1]:7070",
+            "--port=7070",
+        ],
+        Some(Server::Serve {
+            serving: ALL,
+            far: Some("[::1]:7070"),
+        }),
+    ),
+    (&["serve", "--connections", "9"], None),
+    (&["serve", "--far"], None),
+    (&["serve", "--help"], None),
+    (&["run"], None),
+    (&["check", "--port", "1"], None),
+    (&[], None),
+];
 
 #[test]
 fn the_server_that_is_asked_for(rt: HostRuntime) -> Result<(), Fail> {
-    let cases: [(&[&str], Option<Server>); 15] = [
-        (&["store"], Some(Server::Store { port: 0 })),
-        (
-            &["store", "--port", "7070"],
-            Some(Server::Store { port: 7070 }),
-        ),
-        (
-            &["store", "--port=65535"],
-            Some(Server::Store { port: 65_535 }),
-        ),
-        (&["store", "--port=65536"], None),
-        (&["store", "--help"], None),
-        (&["serve"], Some(plain(None))),
-        (
-            &["serve", "--far", "127.0.0.1:7070"],
-            Some(plain(Some("127.0.0.1:7070"))),
-        ),
-        (&["serve", "--far=x"], Some(plain(Some("x")))),
-        (
-            &[
-                "serve",
-                "--workers=16",
-                "--sweep",
-                "--connections",
-                "8",
-                "--budget",
-                "0",
-                "--far=[::1]:7070",
-                "--port=7070",
-            ],
-            Some(Server::Serve {
-                serving: ALL,
-                far: Some("[::1]:7070"),
-            }),
-        ),
-        (&["serve", "--connections", "9"], None),
-        (&["serve", "--far"], None),
-        (&["serve", "--help"], None),
-        (&["run"], None),
-        (&["check", "--port", "1"], None),
-        (&[], None),
-    ];
-    for (arguments, server) in cases {
-        assert_eq!(rt;
-            asked_server(rt.alloc(), arguments)?,
-            server,
-            "{arguments:?}"
-        );
+    for &(arguments, server) in ASKED {
+        same!(rt; asked_server(rt.alloc(), arguments)?, server, arguments);
     }
     Ok(())
 }
@@ -87,8 +93,6 @@ fn the_server_that_is_asked_for(rt: HostRuntime) -> Result<(), Fail> {
 /// The work of `serve` is its caller's: `tool` reads and writes nothing.
 #[test]
 fn tool_leaves_it_to_its_caller(rt: HostRuntime) {
-    let outcome = outcome_of(rt.alloc(), &["serve", "--connections", "2"], b"step 1\n");
-    assert_eq!(rt; outcome.status, 0);
-    assert!(rt; outcome.output.is_empty());
-    assert!(rt; outcome.errors.is_empty());
+    let arguments = &["serve", "--connections", "2"];
+    leaves(&rt, rt.alloc(), arguments, b"step 1\n", (0, b"", b""));
 }

@@ -1,6 +1,7 @@
 //! `store`: how it ends.
 
-use crate::outcome::outcome_of;
+use crate::compared::same;
+use crate::outcome::leaves;
 use agent::store;
 use std::io::{Error, ErrorKind, Read, Result as IoResult};
 use std::net::{Ipv4Addr, TcpListener};
@@ -10,10 +11,8 @@ use test_devices::Narrow;
 /// The work of `store` is its caller's: `tool` reads and writes nothing.
 #[test]
 fn tool_leaves_it_to_its_caller(rt: HostRuntime) {
-    let outcome = outcome_of(rt.alloc(), &["store", "--port", "1"], b"step 1\n");
-    assert_eq!(rt; outcome.status, 0);
-    assert!(rt; outcome.output.is_empty());
-    assert!(rt; outcome.errors.is_empty());
+    let arguments = &["store", "--port", "1"];
+    leaves(&rt, rt.alloc(), arguments, b"step 1\n", (0, b"", b""));
 }
 
 /// A reader that fails at once.
@@ -32,25 +31,21 @@ fn how_a_server_ends(rt: HostRuntime) -> Result<(), Fail> {
     let empty: &'static [u8] = b"";
     let (mut output, mut errors) = (Vec::new(alloc), Vec::new(alloc));
     let status = store(&rt, alloc, 0, empty, &mut output, &mut errors);
-    assert_eq!(rt; status, 0);
-    assert!(rt; output.starts_with(b"listening "));
-    assert!(rt; errors.is_empty());
+    same!(rt; (status, errors.len()), (0, 0));
+    same!(rt; output.starts_with(b"listening "), true);
 
     let status = store(&rt, alloc, 0, Broken, &mut output, &mut errors);
-    assert_eq!(rt; status, 3);
-    assert_eq!(rt; errors.as_slice(), b"read fault\n".as_slice());
+    same!(rt; (status, errors.as_slice()), (3, b"read fault\n".as_slice()));
 
     errors.clear();
     let mut closed = Narrow::new(alloc, 1, 0);
     let status = store(&rt, alloc, 0, empty, &mut closed, &mut errors);
-    assert_eq!(rt; status, 3);
-    assert_eq!(rt; errors.as_slice(), b"write fault\n".as_slice());
+    same!(rt; (status, errors.as_slice()), (3, b"write fault\n".as_slice()));
 
     errors.clear();
     let taken = TcpListener::bind(&rt, (Ipv4Addr::LOCALHOST, 0))?;
     let port = taken.local_addr()?.port();
     let status = store(&rt, alloc, port, empty, &mut output, &mut errors);
-    assert_eq!(rt; status, 3);
-    assert_eq!(rt; errors.as_slice(), b"net fault\n".as_slice());
+    same!(rt; (status, errors.as_slice()), (3, b"net fault\n".as_slice()));
     Ok(())
 }

@@ -1,5 +1,6 @@
 //! Every form, assembled, printed and assembled again.
 use crate::answers::{code_of, hex_of, spelling_of};
+use crate::compared::same;
 use crate::form_list::{ARITHMETIC, ARITHMETIC_32, ATOMICS, JUMPS, LOADS, OTHERS, STORES};
 use std::alloc::Global;
 use std::test::Fail;
@@ -24,22 +25,22 @@ fn all_agree(alloc: Global, forms: &[(&str, &str)]) -> Result<bool, Fail> {
 
 #[test]
 fn arithmetic(rt: HostRuntime) -> Result<(), Fail> {
-    assert_eq!(rt; all_agree(rt.alloc(), ARITHMETIC)?, true);
-    assert_eq!(rt; all_agree(rt.alloc(), ARITHMETIC_32)?, true);
+    same!(rt; all_agree(rt.alloc(), ARITHMETIC)?, true);
+    same!(rt; all_agree(rt.alloc(), ARITHMETIC_32)?, true);
     Ok(())
 }
 
 #[test]
 fn memory(rt: HostRuntime) -> Result<(), Fail> {
-    assert_eq!(rt; all_agree(rt.alloc(), LOADS)?, true);
-    assert_eq!(rt; all_agree(rt.alloc(), STORES)?, true);
-    assert_eq!(rt; all_agree(rt.alloc(), ATOMICS)?, true);
+    same!(rt; all_agree(rt.alloc(), LOADS)?, true);
+    same!(rt; all_agree(rt.alloc(), STORES)?, true);
+    same!(rt; all_agree(rt.alloc(), ATOMICS)?, true);
     Ok(())
 }
 
 #[test]
 fn jumps_and_others(rt: HostRuntime) -> Result<(), Fail> {
-    assert_eq!(rt; all_agree(rt.alloc(), JUMPS)?, true);
-    assert_eq!(rt; all_agree(rt.alloc(), OTHERS)?, true);
+    same!(rt; all_agree(rt.alloc(), JUMPS)?, true);
+    same!(rt; all_agree(rt.alloc(), OTHERS)?, true);
     Ok(())
 }

@@ -1,5 +1,6 @@
 //! Numbers at both ends of each range, and how much a text may hold.
 use crate::answers::{at, code_of, refusal, spelling_of};
+use crate::compared::same;
 use assembler::Why;
 use std::alloc::{AllocError, Global};
 use std::test::Fail;
@@ -81,15 +82,11 @@ fn ranges_end_where_they_end(rt: HostRuntime) -> Result<(), Fail> {
     for (before, after, greatest, least, above, below) in RANGES {
         for good in [greatest, least] {
             let text = format!(in rt.alloc(); "{before}{good}{after}")?;
-            assert_eq!(rt; refusal(rt.alloc(), text.as_str()), None, "{text}");
+            same!(rt; refusal(rt.alloc(), text.as_str()), None, text);
         }
         for bad in [above, below] {
             let text = format!(in rt.alloc(); "{before}{bad}{after}")?;
-            assert_eq!(rt;
-                refusal(rt.alloc(), text.as_str()),
-                at(1, Why::Range),
-                "{text}"
-            );
+            same!(rt; refusal(rt.alloc(), text.as_str()), at(1, Why::Range), text);
         }
     }
     Ok(())
@@ -107,9 +104,9 @@ fn repeated(alloc: Global, line: &str, times: usize) -> Result<String, AllocErro
 fn a_text_has_4096_slots(rt: HostRuntime) -> Result<(), Fail> {
     let mut text = repeated(rt.alloc(), "exit\n", 4096)?;
     text.push_str("end:\n# no instruction\n")?;
-    assert_eq!(rt; code_of(rt.alloc(), text.as_str())?.len(), 4096);
+    same!(rt; code_of(rt.alloc(), text.as_str())?.len(), 4096);
     text.push_str("exit")?;
-    assert_eq!(rt; refusal(rt.alloc(), text.as_str()), at(4099, Why::TooLong));
+    same!(rt; refusal(rt.alloc(), text.as_str()), at(4099, Why::TooLong));
     Ok(())
 }
 
@@ -117,12 +114,12 @@ fn a_text_has_4096_slots(rt: HostRuntime) -> Result<(), Fail> {
 fn the_wide_instruction_has_two_slots(rt: HostRuntime) -> Result<(), Fail> {
     let mut text = repeated(rt.alloc(), "lddw r0, 0\n", 2047)?;
     text.push_str("exit\nexit\n")?;
-    assert_eq!(rt; code_of(rt.alloc(), text.as_str())?.len(), 2049);
+    same!(rt; code_of(rt.alloc(), text.as_str())?.len(), 2049);
     text.push_str("exit")?;
-    assert_eq!(rt; refusal(rt.alloc(), text.as_str()), at(2050, Why::TooLong));
+    same!(rt; refusal(rt.alloc(), text.as_str()), at(2050, Why::TooLong));
     let mut odd = repeated(rt.alloc(), "exit\n", 4095)?;
     odd.push_str("lddw r0, 0")?;
-    assert_eq!(rt; refusal(rt.alloc(), odd.as_str()), at(4096, Why::TooLong));
+    same!(rt; refusal(rt.alloc(), odd.as_str()), at(4096, Why::TooLong));
     Ok(())
 }
 
@@ -134,10 +131,7 @@ fn a_label_may_stand_after_the_last_slot(rt: HostRuntime) -> Result<(), Fail> {
     text.push_str("ja start\nend:")?;
     let code = code_of(rt.alloc(), text.as_str())?;
     let told = spelling_of(rt.alloc(), code.as_slice())?;
-    assert_eq!(rt;
-        told.as_slice().starts_with(b"ja +4095\nja32 +4094\nexit\n"),
-        true
-    );
-    assert_eq!(rt; told.as_slice().ends_with(b"exit\nja -4095\n"), true);
+    same!(rt; told.as_slice().starts_with(b"ja +4095\nja32 +4094\nexit\n"), true);
+    same!(rt; told.as_slice().ends_with(b"exit\nja -4095\n"), true);
     Ok(())
 }

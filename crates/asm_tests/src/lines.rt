@@ -1,5 +1,6 @@
 //! Where lines end.
 use crate::answers::{at, code_of, refusal, spelling_of};
+use crate::compared::same;
 use assembler::Why;
 use std::test::Fail;
 
@@ -19,7 +20,7 @@ fn the_last_line_may_end(rt: HostRuntime) -> Result<(), Fail> {
     for text in SAME {
         let code = code_of(rt.alloc(), text)?;
         let told = spelling_of(rt.alloc(), code.as_slice())?;
-        assert_eq!(rt; told.as_slice(), b"neg r1\nexit\n".as_slice(), "{text:?}");
+        same!(rt; told.as_slice(), b"neg r1\nexit\n".as_slice(), text);
     }
     Ok(())
 }
@@ -37,7 +38,7 @@ const STRAY: &[(&str, usize)] = &[
 #[test]
 fn a_cr_is_dropped_before_a_line_end_alone(rt: HostRuntime) -> Result<(), Fail> {
     for (text, line) in STRAY {
-        assert_eq!(rt; refusal(rt.alloc(), text), at(*line, Why::Word), "{text:?}");
+        same!(rt; refusal(rt.alloc(), text), at(*line, Why::Word), text);
     }
     Ok(())
 }

@@ -1,5 +1,6 @@
 //! The examples of the page on assembly.
 use crate::answers::{code_of, hex_of};
+use crate::compared::same;
 use crate::page_list::{EXAMPLES, REFUSALS};
 use assembler::assemble;
 use std::test::Fail;
@@ -8,11 +9,7 @@ use std::test::Fail;
 fn each_example_has_its_bytes(rt: HostRuntime) -> Result<(), Fail> {
     for (text, hex) in EXAMPLES {
         let code = code_of(rt.alloc(), text)?;
-        assert_eq!(rt;
-            hex_of(rt.alloc(), code.as_slice())?.as_str(),
-            *hex,
-            "{text}"
-        );
+        same!(rt; hex_of(rt.alloc(), code.as_slice())?.as_str(), *hex, text);
     }
     Ok(())
 }
@@ -24,7 +21,7 @@ fn each_refusal_is_answered(rt: HostRuntime) -> Result<(), Fail> {
             Ok(_) => return Err(Fail::new("the text is taken")),
             Err(e) => {
                 let told = format!(in rt.alloc(); "{e}")?;
-                assert_eq!(rt; told.as_str(), *want, "{text}");
+                same!(rt; told.as_str(), *want, text);
             }
         }
     }

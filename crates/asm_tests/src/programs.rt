@@ -1,5 +1,6 @@
 //! Programs, from bytes to text and back.
 use crate::answers::{code_of, hex_of};
+use crate::compared::same;
 use bpf_codec::encode;
 use disassembler::text;
 use isa_table::Instr;
@@ -56,14 +57,10 @@ fn a_program_has_one_text_and_is_read_from_it(rt: HostRuntime) -> Result<(), Fai
         let bytes = bytes_of(rt.alloc(), code.as_slice())?;
         let program = program_of(rt.alloc(), bytes.as_slice())?;
         let told = text(rt.alloc(), &program)?;
-        assert_eq!(rt; told.as_str(), *want, "{source}");
+        same!(rt; told.as_str(), *want, source);
         let again = code_of(rt.alloc(), told.as_str())?;
         let hex = hex_of(rt.alloc(), code.as_slice())?;
-        assert_eq!(rt;
-            hex_of(rt.alloc(), again.as_slice())?.as_str(),
-            hex.as_str(),
-            "{source}"
-        );
+        same!(rt; hex_of(rt.alloc(), again.as_slice())?.as_str(), hex.as_str(), source);
     }
     Ok(())
 }

@@ -1,5 +1,6 @@
 //! What is wrong with a text: each error alone, each two on one line and on two lines.
 use crate::answers::{at, refusal};
+use crate::compared::same;
 use asm_text::Fault;
 use assembler::Why;
 use std::test::Fail;
@@ -84,9 +85,9 @@ const ALONE: &[(&str, Why)] = &[
 #[test]
 fn each_error_alone(rt: HostRuntime) -> Result<(), Fail> {
     for (text, why) in ALONE {
-        assert_eq!(rt; refusal(rt.alloc(), text), at(1, *why), "{text}");
+        same!(rt; refusal(rt.alloc(), text), at(1, *why), text);
         let later = format!(in rt.alloc(); "exit\n\n{text}\nexit")?;
-        assert_eq!(rt; refusal(rt.alloc(), later.as_str()), at(3, *why), "{text}");
+        same!(rt; refusal(rt.alloc(), later.as_str()), at(3, *why), text);
     }
     Ok(())
 }
@@ -110,7 +111,7 @@ const TWO_ON_ONE: &[(&str, Why)] = &[
 fn of_two_errors_on_one_line_the_least(rt: HostRuntime) -> Result<(), Fail> {
     for (text, why) in TWO_ON_ONE {
         let whole = format!(in rt.alloc(); "a: exit\n{text}\n")?;
-        assert_eq!(rt; refusal(rt.alloc(), whole.as_str()), at(2, *why), "{text}");
+        same!(rt; refusal(rt.alloc(), whole.as_str()), at(2, *why), text);
     }
     Ok(())
 }
@@ -134,11 +135,7 @@ fn of_two_errors_on_two_lines_the_first_but_label(rt: HostRuntime) -> Result<(),
             } else {
                 at(2, *why)
             };
-            assert_eq!(rt;
-                refusal(rt.alloc(), text.as_str()),
-                want,
-                "{first}, {second}"
-            );
+            same!(rt; refusal(rt.alloc(), text.as_str()), want, (first, second));
         }
     }
     Ok(())
@@ -158,26 +155,18 @@ fn too_long_with_each_other_error(rt: HostRuntime) -> Result<(), Fail> {
             w => w,
         };
         let text = format!(in rt.alloc(); "{full}{line}\n")?;
-        assert_eq!(rt;
-            refusal(rt.alloc(), text.as_str()),
-            at(4097, least),
-            "{line}"
-        );
+        same!(rt; refusal(rt.alloc(), text.as_str()), at(4097, least), line);
         // and on two
         let text = format!(in rt.alloc(); "{full}exit\n{line}\n")?;
-        assert_eq!(rt;
-            refusal(rt.alloc(), text.as_str()),
-            at(4097, Why::TooLong),
-            "{line}"
-        );
+        same!(rt; refusal(rt.alloc(), text.as_str()), at(4097, Why::TooLong), line);
     }
     Ok(())
 }
 
 #[test]
 fn faults_of_tokens_by_number_and_text(rt: HostRuntime) -> Result<(), Fail> {
-    assert_eq!(rt; (Fault::Char.number(), Fault::Number.number()), (1, 2));
+    same!(rt; (Fault::Char.number(), Fault::Number.number()), (1, 2));
     let told = format!(in rt.alloc(); "{} {}", Fault::Char, Fault::Number)?;
-    assert_eq!(rt; told.as_str(), "Char Number");
+    same!(rt; told.as_str(), "Char Number");
     Ok(())
 }

@@ -1,5 +1,6 @@
 //! Whole texts.
 use crate::answers::{at, code_of, hex_of, refusal, spelling_of};
+use crate::compared::same;
 use assembler::Why;
 use std::test::Fail;
 
@@ -10,28 +11,19 @@ fn a_loop_by_a_label(rt: HostRuntime) -> Result<(), Fail> {
         "mov r0, 0 # n\nagain: add r0, 1\njlt r0, 3, again\nexit\n",
     )?;
     let hex = hex_of(rt.alloc(), code.as_slice())?;
-    assert_eq!(rt;
-        hex.as_str(),
-        "b7000000000000000700000001000000a500feff030000009500000000000000"
-    );
+    same!(rt; hex.as_str(), "b7000000000000000700000001000000a500feff030000009500000000000000");
     let told = spelling_of(rt.alloc(), code.as_slice())?;
-    assert_eq!(rt;
-        told.as_slice(),
-        b"mov r0, 0\nadd r0, 1\njlt r0, 3, -2\nexit\n".as_slice()
-    );
+    same!(rt; told.as_slice(), b"mov r0, 0\nadd r0, 1\njlt r0, 3, -2\nexit\n".as_slice());
     Ok(())
 }
 
 #[test]
 fn the_errors_of_one_line(rt: HostRuntime) -> Result<(), Fail> {
-    assert_eq!(rt; refusal(rt.alloc(), "jump +1"), at(1, Why::Word));
-    assert_eq!(rt; refusal(rt.alloc(), "mov r0"), at(1, Why::Operand));
-    assert_eq!(rt;
-        refusal(rt.alloc(), "mov r0, 2147483648"),
-        at(1, Why::Range)
-    );
-    assert_eq!(rt; refusal(rt.alloc(), "ja x"), at(1, Why::Label));
-    assert_eq!(rt; refusal(rt.alloc(), "a:\na:"), at(2, Why::TwiceLabel));
+    same!(rt; refusal(rt.alloc(), "jump +1"), at(1, Why::Word));
+    same!(rt; refusal(rt.alloc(), "mov r0"), at(1, Why::Operand));
+    same!(rt; refusal(rt.alloc(), "mov r0, 2147483648"), at(1, Why::Range));
+    same!(rt; refusal(rt.alloc(), "ja x"), at(1, Why::Label));
+    same!(rt; refusal(rt.alloc(), "a:\na:"), at(2, Why::TwiceLabel));
     Ok(())
 }
 
@@ -39,15 +31,9 @@ fn the_errors_of_one_line(rt: HostRuntime) -> Result<(), Fail> {
 fn a_number_of_64_bits_may_be_negative(rt: HostRuntime) -> Result<(), Fail> {
     let code = code_of(rt.alloc(), "lddw r0, -1\nexit")?;
     let hex = hex_of(rt.alloc(), code.as_slice())?;
-    assert_eq!(rt;
-        hex.as_str(),
-        "18000000ffffffff00000000ffffffff9500000000000000"
-    );
+    same!(rt; hex.as_str(), "18000000ffffffff00000000ffffffff9500000000000000");
     let told = spelling_of(rt.alloc(), code.as_slice())?;
-    assert_eq!(rt;
-        told.as_slice(),
-        b"lddw r0, 0xffffffffffffffff\nexit\n".as_slice()
-    );
+    same!(rt; told.as_slice(), b"lddw r0, 0xffffffffffffffff\nexit\n".as_slice());
     Ok(())
 }
 
@@ -99,7 +85,7 @@ fn texts_are_what_they_spell(rt: HostRuntime) -> Result<(), Fail> {
     for (text, want) in TEXTS {
         let code = code_of(rt.alloc(), text)?;
         let told = spelling_of(rt.alloc(), code.as_slice())?;
-        assert_eq!(rt; told.as_slice(), want.as_bytes(), "{text}");
+        same!(rt; told.as_slice(), want.as_bytes(), text);
     }
     Ok(())
 }

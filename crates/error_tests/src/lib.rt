@@ -6,6 +6,10 @@ mod assembly;
 #[cfg(test)]
 mod code;
 #[cfg(test)]
+mod compared;
+#[cfg(test)]
 mod objects;
 #[cfg(test)]
 mod stream_faults;
+#[cfg(test)]
+mod told;

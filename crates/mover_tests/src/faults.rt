@@ -1,8 +1,9 @@
 //! Far stores that fail, or give other bytes.
 
+use crate::compared::same;
 use crate::stores::Short;
-use crate::trial::{Act, Answer, DONE, Left, tried};
-use debugger::StepReply;
+use crate::trial::{Act, Answer, DONE, LEFT, Left, Row, tried};
+use debugger::StepReply::{Ran, Stopped, Waiting};
 use far_store::{Failing, Moved, OwnStore, StoreFault};
 use machine::Stop;
 use shared_objects::Phase;
@@ -13,61 +14,58 @@ use std::test::Fail;
 /// A move that the far store refused.
 const REFUSED: Answer = Answer::Moved(Moved::Fault(StoreFault::Refused));
 
-/// What comes of these acts where the far store refuses its k-th call.
-fn refused_at<R: Wait>(rt: &R, alloc: Global, k: u64, acts: &[Act]) -> Result<Left, Fail> {
-    tried(rt, alloc, Failing::new(OwnStore::new(alloc), k), acts)
+/// What the acts of these rows leave where the far store refuses its k-th call.
+fn refused_at<R: Wait>(rt: &R, alloc: Global, k: u64, rows: &[Row]) -> Result<Left, Fail> {
+    tried(rt, alloc, Failing::new(OwnStore::new(alloc), k), rows)
 }
+
+const LEAVE_FAILS: &[Row] = &[
+    (Act::Step(1), Answer::Replied(Ran(1))),
+    (Act::Step(1), Answer::Replied(Ran(2))),
+    (Act::Leave(1), REFUSED),
+    (Act::Step(1), Answer::Replied(Ran(3))),
+    (Act::Step(1), Answer::Replied(Stopped(Stop::Exit(5)))),
+];
 
 #[test]
 fn an_object_whose_leave_fails_is_here(rt: HostRuntime) -> Result<(), Fail> {
-    let acts = [
-        Act::Step(1),
-        Act::Step(1),
-        Act::Leave(1),
-        Act::Step(1),
-        Act::Step(1),
-    ];
-    let left = refused_at(&rt, rt.alloc(), 1, &acts)?;
-    assert_eq!(rt;
-        left.after(2),
-        [
-            REFUSED,
-            Answer::Replied(Some(StepReply::Ran(3))),
-            Answer::Replied(Some(StepReply::Stopped(Stop::Exit(5))))
-        ]
-        .as_slice()
-    );
-    assert_eq!(rt; left.phases, [Phase::In; 3]);
-    assert_eq!(rt; left.kept, [None; 3]);
-    assert_eq!(rt; left.faults, 1);
+    let left = refused_at(&rt, rt.alloc(), 1, LEAVE_FAILS)?;
+    same!(rt; left, Left { faults: 1, ..LEFT });
     Ok(())
 }
+
+/// Object 1 is far, with the number that machine 1 has added.
+const FIRST_FAR: Left = Left {
+    phases: [Phase::Far, Phase::In, Phase::In],
+    kept: [Some(5), None, None],
+    ..LEFT
+};
+
+const RETURN_FAILS: &[Row] = &[
+    (Act::Step(1), Answer::Replied(Ran(1))),
+    (Act::Step(1), Answer::Replied(Ran(2))),
+    (Act::Leave(1), DONE),
+    (Act::Return(1), REFUSED),
+    (Act::Step(1), Answer::Replied(Waiting(1))),
+];
 
 #[test]
 fn an_object_whose_return_fails_is_far(rt: HostRuntime) -> Result<(), Fail> {
-    let acts = [
-        Act::Step(1),
-        Act::Step(1),
-        Act::Leave(1),
-        Act::Return(1),
-        Act::Step(1),
-    ];
-    let left = refused_at(&rt, rt.alloc(), 2, &acts)?;
-    assert_eq!(rt;
-        left.after(2),
-        [DONE, REFUSED, Answer::Replied(Some(StepReply::Waiting(1)))].as_slice()
-    );
-    assert_eq!(rt; left.phases, [Phase::Far, Phase::In, Phase::In]);
-    assert_eq!(rt; left.kept, [Some(5), None, None]);
-    assert_eq!(rt; left.faults, 1);
+    let left = refused_at(&rt, rt.alloc(), 2, RETURN_FAILS)?;
+    same!(rt; left, Left { faults: 1, ..FIRST_FAR });
     Ok(())
 }
 
-/// Both machines have added, and closed their scopes.
-const BEFORE: [Act; 4] = [Act::Step(1), Act::Step(1), Act::Step(2), Act::Step(2)];
+/// Both machines add, and close their scopes.
+const BEFORE: &[Row] = &[
+    (Act::Step(1), Answer::Replied(Ran(1))),
+    (Act::Step(1), Answer::Replied(Ran(2))),
+    (Act::Step(2), Answer::Replied(Ran(1))),
+    (Act::Step(2), Answer::Replied(Ran(2))),
+];
 
 /// Each of these asks the far store once, for a `put` or a `get`.
-const MOVES: [Act; 6] = [
+const MOVES: &[Act] = &[
     Act::Leave(1),
     Act::Leave(2),
     Act::Return(2),
@@ -77,83 +75,59 @@ const MOVES: [Act; 6] = [
 ];
 
 /// Both machines read what they added, and end.
-const AFTER: [Act; 4] = [Act::Step(1), Act::Step(1), Act::Step(2), Act::Step(2)];
+const AFTER: &[Row] = &[
+    (Act::Step(1), Answer::Replied(Ran(3))),
+    (Act::Step(1), Answer::Replied(Stopped(Stop::Exit(5)))),
+    (Act::Step(2), Answer::Replied(Ran(3))),
+    (Act::Step(2), Answer::Replied(Stopped(Stop::Exit(6)))),
+];
 
-/// What came of the moves, and of the steps after them, where the far store refuses its k-th call and that move is asked again.
+/// Where the far store refuses its k-th call that move is asked for again, and done then, as all others are.
 fn again_at<R: Wait>(rt: &R, alloc: Global, k: usize) -> Result<Left, Fail> {
-    let mut acts = Vec::new(alloc);
-    acts.extend_from_slice(&BEFORE)?;
+    let mut rows = Vec::new(alloc);
+    rows.extend_from_slice(BEFORE)?;
     for (place, act) in MOVES.iter().enumerate() {
-        acts.push(*act)?;
         if place + 1 == k {
-            acts.push(*act)?;
+            rows.push((*act, REFUSED))?;
         }
+        rows.push((*act, DONE))?;
     }
-    acts.extend_from_slice(&AFTER)?;
-    refused_at(rt, alloc, k as u64, acts.as_slice())
-}
-
-/// How many moves were done, and how many refused.
-fn counted(left: &Left) -> [usize; 2] {
-    let done = left
-        .answers
-        .iter()
-        .filter(|answer| **answer == DONE)
-        .count();
-    let refused = left
-        .answers
-        .iter()
-        .filter(|answer| **answer == REFUSED)
-        .count();
-    [done, refused]
+    rows.extend_from_slice(AFTER)?;
+    refused_at(rt, alloc, k as u64, rows.as_slice())
 }
 
 #[test]
 fn each_call_fails_once_and_is_made_again(rt: HostRuntime) -> Result<(), Fail> {
     for k in 1..7 {
-        let left = again_at(&rt, rt.alloc(), k)?;
-        assert_eq!(rt; left.answers.get(k + 3), Some(&REFUSED), "call {k}");
-        assert_eq!(rt; counted(&left), [6, 1], "call {k}");
-        assert_eq!(rt;
-            left.after(11),
-            [
-                Answer::Replied(Some(StepReply::Ran(3))),
-                Answer::Replied(Some(StepReply::Stopped(Stop::Exit(5)))),
-                Answer::Replied(Some(StepReply::Ran(3))),
-                Answer::Replied(Some(StepReply::Stopped(Stop::Exit(6))))
-            ]
-            .as_slice(),
-            "call {k}"
-        );
-        assert_eq!(rt; left.faults, 1, "call {k}");
+        same!(rt; again_at(&rt, rt.alloc(), k)?, Left { faults: 1, ..LEFT }, k);
     }
     Ok(())
 }
 
+const DAMAGED: Answer = Answer::Moved(Moved::Fault(StoreFault::Damaged));
+
+const SHORT: &[Row] = &[
+    (Act::Step(1), Answer::Replied(Ran(1))),
+    (Act::Step(1), Answer::Replied(Ran(2))),
+    (Act::Leave(1), DONE),
+    (Act::Return(1), DAMAGED),
+];
+
+const SHORT_ONCE: &[Row] = &[
+    (Act::Step(1), Answer::Replied(Ran(1))),
+    (Act::Step(1), Answer::Replied(Ran(2))),
+    (Act::Leave(1), DONE),
+    (Act::Return(1), DAMAGED),
+    (Act::Return(1), DONE),
+    (Act::Step(1), Answer::Replied(Ran(3))),
+    (Act::Step(1), Answer::Replied(Stopped(Stop::Exit(5)))),
+];
+
 #[test]
 fn fewer_bytes_than_were_taken_are_damaged(rt: HostRuntime) -> Result<(), Fail> {
-    let damaged = Answer::Moved(Moved::Fault(StoreFault::Damaged));
-    let there = [Act::Step(1), Act::Step(1), Act::Leave(1), Act::Return(1)];
-    let left = tried(&rt, rt.alloc(), Short::new(rt.alloc()), &there)?;
-    assert_eq!(rt; left.after(2), [DONE, damaged].as_slice());
-    assert_eq!(rt; left.phases, [Phase::Far, Phase::In, Phase::In]);
-    assert_eq!(rt; left.kept, [Some(5), None, None]);
-    assert_eq!(rt; left.faults, 0);
-    let back = [
-        Act::Step(1),
-        Act::Step(1),
-        Act::Leave(1),
-        Act::Return(1),
-        Act::Return(1),
-        Act::Step(1),
-        Act::Step(1),
-    ];
-    let left = tried(&rt, rt.alloc(), Short::new(rt.alloc()), &back)?;
-    assert_eq!(rt; left.between(2, 5), [DONE, damaged, DONE].as_slice());
-    assert_eq!(rt;
-        left.answers.get(6),
-        Some(&Answer::Replied(Some(StepReply::Stopped(Stop::Exit(5)))))
-    );
-    assert_eq!(rt; left.phases, [Phase::In; 3]);
+    let left = tried(&rt, rt.alloc(), Short::new(rt.alloc()), SHORT)?;
+    same!(rt; left, FIRST_FAR);
+    let left = tried(&rt, rt.alloc(), Short::new(rt.alloc()), SHORT_ONCE)?;
+    same!(rt; left, LEFT);
     Ok(())
 }

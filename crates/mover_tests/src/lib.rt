@@ -4,6 +4,8 @@
 #[cfg(test)]
 mod common;
 #[cfg(test)]
+mod compared;
+#[cfg(test)]
 mod damage;
 #[cfg(test)]
 mod faults;

@@ -1,103 +1,91 @@
 //! Requests, one after the other, over a far store within the agent.
 
-use crate::trial::{Act, Answer, DONE, tried};
-use debugger::StepReply;
+use crate::compared::same;
+use crate::trial::{Act, Answer, DONE, LEFT, Left, Row, tried};
+use debugger::StepReply::{Ran, Stopped, Waiting};
 use far_store::{Moved, OwnStore, Place};
 use machine::Stop;
 use shared_objects::Phase;
 use std::test::Fail;
 
-/// The answer to a step.
-const fn ran(slot: usize) -> Answer {
-    Answer::Replied(Some(StepReply::Ran(slot)))
-}
+const GOES_AND_COMES_BACK: &[Row] = &[
+    (Act::Step(1), Answer::Replied(Ran(1))),
+    (Act::Step(1), Answer::Replied(Ran(2))),
+    (Act::Leave(1), DONE),
+    (Act::Leave(1), Answer::Moved(Moved::Misplaced(Place::Far))),
+    (Act::Step(1), Answer::Replied(Waiting(1))),
+    (Act::Return(1), DONE),
+    (Act::Return(1), Answer::Moved(Moved::Misplaced(Place::Here))),
+    (Act::Step(1), Answer::Replied(Ran(3))),
+    (Act::Step(1), Answer::Replied(Stopped(Stop::Exit(5)))),
+];
 
 #[test]
 fn an_object_goes_and_comes_back(rt: HostRuntime) -> Result<(), Fail> {
-    let acts = [
-        Act::Step(1),
-        Act::Step(1),
-        Act::Leave(1),
-        Act::Leave(1),
-        Act::Step(1),
-        Act::Return(1),
-        Act::Return(1),
-        Act::Step(1),
-        Act::Step(1),
-    ];
-    let left = tried(&rt, rt.alloc(), OwnStore::new(rt.alloc()), &acts)?;
-    assert_eq!(rt;
-        left.answers.as_slice(),
-        [
-            ran(1),
-            ran(2),
-            DONE,
-            Answer::Moved(Moved::Misplaced(Place::Far)),
-            Answer::Replied(Some(StepReply::Waiting(1))),
-            DONE,
-            Answer::Moved(Moved::Misplaced(Place::Here)),
-            ran(3),
-            Answer::Replied(Some(StepReply::Stopped(Stop::Exit(5))))
-        ]
-        .as_slice()
-    );
-    assert_eq!(rt; left.phases, [Phase::In; 3]);
-    assert_eq!(rt; left.kept, [None; 3]);
+    let left = tried(
+        &rt,
+        rt.alloc(),
+        OwnStore::new(rt.alloc()),
+        GOES_AND_COMES_BACK,
+    )?;
+    same!(rt; left, LEFT);
     Ok(())
 }
+
+const ONE_COMES_BACK: &[Row] = &[
+    (Act::Step(2), Answer::Replied(Ran(1))),
+    (Act::Step(2), Answer::Replied(Ran(2))),
+    (Act::Leave(1), DONE),
+    (Act::Leave(2), DONE),
+    (Act::Return(1), DONE),
+];
 
 #[test]
 fn an_object_that_is_far_has_its_parcel(rt: HostRuntime) -> Result<(), Fail> {
-    let acts = [
-        Act::Step(2),
-        Act::Step(2),
-        Act::Leave(1),
-        Act::Leave(2),
-        Act::Return(1),
-    ];
-    let left = tried(&rt, rt.alloc(), OwnStore::new(rt.alloc()), &acts)?;
-    assert_eq!(rt;
-        left.answers.as_slice(),
-        [ran(1), ran(2), DONE, DONE, DONE].as_slice()
-    );
-    assert_eq!(rt; left.phases, [Phase::In, Phase::Far, Phase::In]);
-    assert_eq!(rt; left.kept, [None, Some(6), None]);
+    let left = tried(&rt, rt.alloc(), OwnStore::new(rt.alloc()), ONE_COMES_BACK)?;
+    let wanted = Left {
+        phases: [Phase::In, Phase::Far, Phase::In],
+        kept: [None, Some(6), None],
+        ..LEFT
+    };
+    same!(rt; left, wanted);
     Ok(())
 }
+
+/// There is none of the number.
+const NONE: Answer = Answer::Moved(Moved::NoObject);
+
+const NO_OBJECTS: &[Row] = &[
+    (Act::Leave(0), NONE),
+    (Act::Return(0), NONE),
+    (Act::Leave(3), NONE),
+    (Act::Return(3), NONE),
+    (Act::Leave(u32::MAX), NONE),
+];
 
 #[test]
 fn a_number_without_an_object(rt: HostRuntime) -> Result<(), Fail> {
-    let acts = [
-        Act::Leave(0),
-        Act::Return(0),
-        Act::Leave(3),
-        Act::Return(3),
-        Act::Leave(u32::MAX),
-    ];
-    let left = tried(&rt, rt.alloc(), OwnStore::new(rt.alloc()), &acts)?;
-    assert_eq!(rt;
-        left.answers.as_slice(),
-        [Answer::Moved(Moved::NoObject); 5].as_slice()
-    );
-    assert_eq!(rt; left.phases, [Phase::In; 3]);
+    let left = tried(&rt, rt.alloc(), OwnStore::new(rt.alloc()), NO_OBJECTS)?;
+    same!(rt; left, LEFT);
     Ok(())
 }
 
+const IN_SCOPE: &[Row] = &[
+    (Act::Step(1), Answer::Replied(Ran(1))),
+    (Act::Leave(1), Answer::Moved(Moved::Scoped)),
+    (Act::Leave(2), DONE),
+    (Act::Step(1), Answer::Replied(Ran(2))),
+    (Act::Leave(1), DONE),
+];
+
 #[test]
 fn an_object_in_scope_stays(rt: HostRuntime) -> Result<(), Fail> {
-    let acts = [
-        Act::Step(1),
-        Act::Leave(1),
-        Act::Leave(2),
-        Act::Step(1),
-        Act::Leave(1),
-    ];
-    let left = tried(&rt, rt.alloc(), OwnStore::new(rt.alloc()), &acts)?;
-    assert_eq!(rt;
-        left.answers.as_slice(),
-        [ran(1), Answer::Moved(Moved::Scoped), DONE, ran(2), DONE].as_slice()
-    );
-    assert_eq!(rt; left.phases, [Phase::Far, Phase::Far, Phase::In]);
-    assert_eq!(rt; left.kept, [Some(5), Some(0), None]);
+    let left = tried(&rt, rt.alloc(), OwnStore::new(rt.alloc()), IN_SCOPE)?;
+    let wanted = Left {
+        phases: [Phase::Far, Phase::Far, Phase::In],
+        kept: [Some(5), Some(0), None],
+        ..LEFT
+    };
+    same!(rt; left, wanted);
     Ok(())
 }

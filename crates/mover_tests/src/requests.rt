@@ -1,89 +1,115 @@
 //! The mover's loop, on the thread of the test.
 
-use crate::trial::{Act, Answer, tried, tried_with_a_gap};
+use crate::compared::same;
+use crate::trial::{Act, Answer, LEFT, Left, Row, tried, tried_with_a_gap};
+use debugger::StepReply::Ran;
 use far_store::OwnStore;
 use shared_objects::Phase;
 use std::test::Fail;
 use workers::Direction;
 
-/// Rounds in which requests alone are served.
-const fn rounds(rounds: u64) -> Act {
-    Act::Serve {
-        rounds,
-        sweep: false,
-    }
-}
-
-/// Rounds in which the mover looks at an object where there is no request.
-const fn sweeps(rounds: u64) -> Act {
-    Act::Serve {
-        rounds,
-        sweep: true,
-    }
-}
-
 const ROOM: Answer = Answer::Requested(true);
+
+const IN_TURN: &[Row] = &[
+    (Act::Step(1), Answer::Replied(Ran(1))),
+    (Act::Step(1), Answer::Replied(Ran(2))),
+    (Act::Request(1, Direction::Leave), ROOM),
+    (Act::Request(2, Direction::Leave), ROOM),
+    (Act::Request(9, Direction::Leave), ROOM),
+    (Act::Request(2, Direction::Return), ROOM),
+    (Act::Rounds(5), Answer::Served),
+];
+
+/// Object 1 is far, with the number that machine 1 has added.
+const FIRST_FAR: Left = Left {
+    phases: [Phase::Far, Phase::In, Phase::In],
+    kept: [Some(5), None, None],
+    ..LEFT
+};
 
 #[test]
 fn requests_are_served_in_turn(rt: HostRuntime) -> Result<(), Fail> {
-    let acts = [
-        Act::Step(1),
-        Act::Step(1),
-        Act::Request(1, Direction::Leave),
-        Act::Request(2, Direction::Leave),
-        Act::Request(9, Direction::Leave),
-        Act::Request(2, Direction::Return),
-        rounds(5),
-    ];
-    let left = tried(&rt, rt.alloc(), OwnStore::new(rt.alloc()), &acts)?;
-    assert_eq!(rt;
-        left.after(2),
-        [ROOM, ROOM, ROOM, ROOM, Answer::Served].as_slice()
-    );
-    assert_eq!(rt; left.phases, [Phase::Far, Phase::In, Phase::In]);
-    assert_eq!(rt; left.kept, [Some(5), None, None]);
+    let left = tried(&rt, rt.alloc(), OwnStore::new(rt.alloc()), IN_TURN)?;
+    same!(rt; left, FIRST_FAR);
     Ok(())
 }
+
+const ONE_ROUND: &[Row] = &[
+    (Act::Request(1, Direction::Leave), ROOM),
+    (Act::Request(2, Direction::Leave), ROOM),
+    (Act::Rounds(1), Answer::Served),
+];
 
 #[test]
 fn a_round_serves_one_request(rt: HostRuntime) -> Result<(), Fail> {
-    let acts = [
-        Act::Request(1, Direction::Leave),
-        Act::Request(2, Direction::Leave),
-        rounds(1),
-    ];
-    let left = tried(&rt, rt.alloc(), OwnStore::new(rt.alloc()), &acts)?;
-    assert_eq!(rt; left.phases, [Phase::Far, Phase::In, Phase::In]);
+    let left = tried(&rt, rt.alloc(), OwnStore::new(rt.alloc()), ONE_ROUND)?;
+    let wanted = Left {
+        kept: [Some(0), None, None],
+        ..FIRST_FAR
+    };
+    same!(rt; left, wanted);
     Ok(())
 }
 
+const REQUESTS_65: &[Row] = &[(Act::Request(1, Direction::Leave), ROOM); 65];
+
+/// The last of them has no room.
 #[test]
 fn there_is_room_for_64_requests(rt: HostRuntime) -> Result<(), Fail> {
-    let acts = [Act::Request(1, Direction::Leave); 65];
-    let left = tried(&rt, rt.alloc(), OwnStore::new(rt.alloc()), &acts)?;
-    assert_eq!(rt; left.between(0, 64), [ROOM; 64].as_slice());
-    assert_eq!(rt; left.answers.get(64), Some(&Answer::Requested(false)));
+    let left = tried(&rt, rt.alloc(), OwnStore::new(rt.alloc()), REQUESTS_65)?;
+    let wanted = Left {
+        other: Some((64, Answer::Requested(false))),
+        ..LEFT
+    };
+    same!(rt; left, wanted);
     Ok(())
 }
+
+const SWEEPS_3: &[Row] = &[
+    (Act::Step(1), Answer::Replied(Ran(1))),
+    (Act::Step(1), Answer::Replied(Ran(2))),
+    (Act::Sweeps(3), Answer::Served),
+];
+
+const SWEEPS_4: &[Row] = &[
+    (Act::Step(1), Answer::Replied(Ran(1))),
+    (Act::Step(1), Answer::Replied(Ran(2))),
+    (Act::Sweeps(4), Answer::Served),
+];
+
+/// Object 3, which nobody uses, is far.
+const LAST_FAR: Left = Left {
+    phases: [Phase::In, Phase::In, Phase::Far],
+    kept: [None, None, Some(0)],
+    ..LEFT
+};
 
 #[test]
 fn a_sweep_takes_what_is_cold(rt: HostRuntime) -> Result<(), Fail> {
-    let used = [Act::Step(1), Act::Step(1), sweeps(3)];
-    let left = tried_with_a_gap(&rt, rt.alloc(), &used)?;
-    assert_eq!(rt; left.phases, [Phase::In, Phase::In, Phase::Far]);
-    let twice = [Act::Step(1), Act::Step(1), sweeps(4)];
-    let left = tried_with_a_gap(&rt, rt.alloc(), &twice)?;
-    assert_eq!(rt; left.phases, [Phase::Far, Phase::In, Phase::Far]);
-    assert_eq!(rt; left.kept, [Some(5), None, Some(0)]);
+    let left = tried_with_a_gap(&rt, rt.alloc(), SWEEPS_3)?;
+    same!(rt; left, LAST_FAR);
+    let left = tried_with_a_gap(&rt, rt.alloc(), SWEEPS_4)?;
+    let wanted = Left {
+        phases: [Phase::Far, Phase::In, Phase::Far],
+        kept: [Some(5), None, Some(0)],
+        ..LEFT
+    };
+    same!(rt; left, wanted);
     Ok(())
 }
 
+const NOTHING_ASKED: &[Row] = &[(Act::Rounds(4), Answer::Served)];
+
+const ASKED: &[Row] = &[
+    (Act::Request(3, Direction::Leave), ROOM),
+    (Act::Sweeps(1), Answer::Served),
+];
+
 #[test]
 fn nothing_leaves_without_a_request_or_a_sweep(rt: HostRuntime) -> Result<(), Fail> {
-    let left = tried_with_a_gap(&rt, rt.alloc(), &[rounds(4)])?;
-    assert_eq!(rt; left.phases, [Phase::In; 3]);
-    let asked = [Act::Request(3, Direction::Leave), sweeps(1)];
-    let left = tried_with_a_gap(&rt, rt.alloc(), &asked)?;
-    assert_eq!(rt; left.phases, [Phase::In, Phase::In, Phase::Far]);
+    let left = tried_with_a_gap(&rt, rt.alloc(), NOTHING_ASKED)?;
+    same!(rt; left, LEFT);
+    let left = tried_with_a_gap(&rt, rt.alloc(), ASKED)?;
+    same!(rt; left, LAST_FAR);
     Ok(())
 }

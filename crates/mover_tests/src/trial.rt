@@ -30,8 +30,10 @@ pub enum Act {
     Step(usize),
     /// The pool is asked to have an object moved.
     Request(u32, Direction),
-    /// The mover serves so many rounds of requests, or looks where there is none.
-    Serve { rounds: u64, sweep: bool },
+    /// The mover has so many rounds, in which it serves requests alone.
+    Rounds(u64),
+    /// The same, but it looks at the next object where there is no request.
+    Sweeps(u64),
 }
 
 /// What came of it.
@@ -39,21 +41,25 @@ pub enum Act {
 pub enum Answer {
     Moved(Moved),
     Looked(Looked),
-    /// No reply: there is no such machine.
-    Replied(Option<StepReply>),
+    Replied(StepReply),
+    /// There is no such machine.
+    NoMachine,
     /// Whether there was room for the request.
     Requested(bool),
     Served,
 }
 
+/// An act, and what is to come of it.
+pub type Row = (Act, Answer);
+
 /// A move that was done.
 pub const DONE: Answer = Answer::Moved(Moved::Done);
 
 /// What a mover left.
-#[derive(Drop)]
+#[derive(Clone, Copy, Drop, Debug, PartialEq, Eq)]
 pub struct Left {
-    /// What came of each act.
-    pub answers: Vec<Answer>,
+    /// The first row of which something else came, counted from 0, and what came.
+    pub other: Option<(usize, Answer)>,
     /// Where objects 1 to 3 are.
     pub phases: [Phase; 3],
     /// For which number the parcel stands that is kept of each of them, if one is.
@@ -62,19 +68,15 @@ pub struct Left {
     pub faults: u64,
 }
 
-impl Left {
-    /// The answers after so many.
-    pub fn after(&self, count: usize) -> &[Answer] {
-        self.answers.get(count..).unwrap_or(&[])
-    }
+/// All came as the rows say, all objects are here, and there was no fault.
+pub const LEFT: Left = Left {
+    other: None,
+    phases: [Phase::In; 3],
+    kept: [None; 3],
+    faults: 0,
+};
 
-    /// The answers from one place up to another.
-    pub fn between(&self, from: usize, to: usize) -> &[Answer] {
-        self.answers.get(from..to).unwrap_or(&[])
-    }
-}
-
-/// Lets the mover have so many rounds.
+/// Lets a mover have so many rounds.
 #[derive(Drop)]
 struct Rounds {
     left: AtomicU64,
@@ -116,6 +118,21 @@ fn step<F: FarStore, K: Mark, R: Wait>(
     cell.lock(rt).step(pool.table(), Way::Step)
 }
 
+/// Lets the mover have so many rounds.
+fn serve<F: FarStore, K: Mark, R: Wait>(
+    rt: &R,
+    pool: &Pool<F, K>,
+    served: &mut Mover<F, K>,
+    rounds: u64,
+    sweep: bool,
+) -> Answer {
+    let gate = Rounds {
+        left: AtomicU64::new(rounds),
+    };
+    mover(rt, &gate, pool, served, sweep);
+    Answer::Served
+}
+
 /// What comes of one act.
 fn answer_to<F: FarStore, K: Mark, R: Wait>(
     rt: &R,
@@ -127,22 +144,40 @@ fn answer_to<F: FarStore, K: Mark, R: Wait>(
         Act::Leave(number) => Answer::Moved(served.one(pool, number, Direction::Leave)),
         Act::Return(number) => Answer::Moved(served.one(pool, number, Direction::Return)),
         Act::Look => Answer::Looked(served.look(pool)),
-        Act::Step(number) => Answer::Replied(step(rt, pool, number)),
+        Act::Step(number) => match step(rt, pool, number) {
+            Some(reply) => Answer::Replied(reply),
+            None => Answer::NoMachine,
+        },
         Act::Request(number, direction) => {
             Answer::Requested(pool.request(rt, number, direction))
         }
-        Act::Serve { rounds, sweep } => {
-            let gate = Rounds {
-                left: AtomicU64::new(rounds),
-            };
-            mover(rt, &gate, pool, served, sweep);
-            Answer::Served
-        }
+        Act::Rounds(rounds) => serve(rt, pool, served, rounds, false),
+        Act::Sweeps(rounds) => serve(rt, pool, served, rounds, true),
     }
 }
 
-/// What a mover leaves, beside its answers.
-fn left_of<F: FarStore + Drop, K: Mark>(served: Mover<F, K>, answers: Vec<Answer>) -> Left {
+/// The first row of which something else comes, and what comes of it.
+fn other_of<F: FarStore, K: Mark, R: Wait>(
+    rt: &R,
+    pool: &Pool<F, K>,
+    served: &mut Mover<F, K>,
+    rows: &[Row],
+) -> Option<(usize, Answer)> {
+    let mut other = None;
+    for (place, &(act, wanted)) in rows.iter().enumerate() {
+        let answer = answer_to(rt, pool, served, act);
+        if answer != wanted && other.is_none() {
+            other = Some((place, answer));
+        }
+    }
+    other
+}
+
+/// What a mover leaves, where that was the first other answer.
+fn left_of<F: FarStore + Drop, K: Mark>(
+    served: Mover<F, K>,
+    other: Option<(usize, Answer)>,
+) -> Left {
     let (seat, mut store, parcels) = served.into_parts();
     let faults = store.faults();
     let kept = [
@@ -151,7 +186,7 @@ fn left_of<F: FarStore + Drop, K: Mark>(served: Mover<F, K>, answers: Vec<Answer
         kept_of(&mut store, parcels.as_slice(), 3),
     ];
     Left {
-        answers,
+        other,
         phases: [seat.phase(1), seat.phase(2), seat.phase(3)],
         kept,
         faults,
@@ -172,7 +207,7 @@ fn run<F: FarStore + Drop, K: Mark, R: Wait>(
     alloc: Global,
     parts: Parts<F>,
     machines: Vec<Debuggee>,
-    acts: &[Act],
+    rows: &[Row],
 ) -> Result<Left, AllocError>
     requires table { IsTableOf K.table K.opening parts.shared.table }
     requires seats { AreFresh (dealer F.RETURNS K.opening) parts.seats.items × All (IsActorOf parts.shared.table) parts.seats.items }
@@ -188,11 +223,8 @@ fn run<F: FarStore + Drop, K: Mark, R: Wait>(
     } = parts;
     let pool: Pool<F, K> = Pool::new(rt, alloc, shared, seats, machines)?;
     let mut served: Mover<F, K> = Mover::new(alloc, mover, store)?;
-    let mut answers = Vec::new(alloc);
-    for act in acts {
-        answers.push(answer_to(rt, &pool, &mut served, *act))?;
-    }
-    Ok(left_of(served, answers))
+    let other = other_of(rt, &pool, &mut served, rows);
+    Ok(left_of(served, other))
 }
 
 /// Two machines, which add 5 and 6 to objects 1 and 2.
@@ -204,13 +236,13 @@ fn two_machines(alloc: Global) -> Result<Vec<Debuggee>, Fail>
     Ok(vec![in alloc; one, two]?)
 }
 
-/// What comes of these acts over a table of these objects.
+/// What the acts of these rows leave over a table of these objects.
 fn tried_over<F: FarStore + Drop, R: Wait>(
     rt: &R,
     alloc: Global,
     store: F,
     bodies: Vec<Vec<u8>>,
-    acts: &[Act],
+    rows: &[Row],
 ) -> Result<Left, Fail>
     requires { length bodies.items ≤ 1024 }
 {
@@ -222,24 +254,24 @@ fn tried_over<F: FarStore + Drop, R: Wait>(
         mover,
         store,
     };
-    Ok(run::<F, Brand, R>(rt, alloc, parts, machines, acts)?)
+    Ok(run::<F, Brand, R>(rt, alloc, parts, machines, rows)?)
 }
 
-/// What comes of these acts over two objects of eight bytes, which go to this far store. Machine 1 adds 5 to object 1, and
-/// machine 2 adds 6 to object 2.
+/// What the acts of these rows leave over two objects of eight bytes, which go to this far store. Machine 1 adds 5 to object 1,
+/// and machine 2 adds 6 to object 2.
 pub fn tried<F: FarStore + Drop, R: Wait>(
     rt: &R,
     alloc: Global,
     store: F,
-    acts: &[Act],
+    rows: &[Row],
 ) -> Result<Left, Fail> {
     let bodies = objects(alloc, 2)?;
-    tried_over(rt, alloc, store, bodies, acts)
+    tried_over(rt, alloc, store, bodies, rows)
 }
 
-/// What comes of these acts over objects 1 and 3, which stay within the agent. There is no object 2.
-pub fn tried_with_a_gap<R: Wait>(rt: &R, alloc: Global, acts: &[Act]) -> Result<Left, Fail> {
+/// The same over objects 1 and 3, which stay within the agent. There is no object 2.
+pub fn tried_with_a_gap<R: Wait>(rt: &R, alloc: Global, rows: &[Row]) -> Result<Left, Fail> {
     let mut bodies = objects(alloc, 2)?;
     bodies.insert(1, Vec::new(alloc))?;
-    tried_over(rt, alloc, OwnStore::new(alloc), bodies, acts)
+    tried_over(rt, alloc, OwnStore::new(alloc), bodies, rows)
 }

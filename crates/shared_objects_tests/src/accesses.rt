@@ -1,5 +1,6 @@
 //! Accesses of actors, and the stamps that they get.
 
+use crate::compared::same;
 use crate::stage::{LOAD, Stage};
 use far_store::OwnStore;
 use memory::{Op, Reach};
@@ -12,17 +13,17 @@ const LAST: u64 = 281_474_976_710_655;
 #[test]
 fn an_entry_has_the_next_stamp_of_its_actor_and_object(rt: HostRuntime) -> Result<(), Fail> {
     let mut stage: Stage<OwnStore> = Stage::open(rt.alloc(), 3, 4)?;
-    for (actor, number, stamp) in [(0, 1, 1), (1, 1, 2), (1, 2, 3), (0, 2, 4)] {
-        assert_eq!(rt; stage.touch(actor, number, &LOAD), Reach::Done(0));
-        assert_eq!(rt; stage.actors[actor].stamp(), stamp);
+    for &(actor, number, stamp) in &[(0, 1, 1), (1, 1, 2), (1, 2, 3), (0, 2, 4)] {
+        same!(rt; stage.touch(actor, number, &LOAD), Reach::Done(0));
+        same!(rt; stage.actors[actor].stamp(), stamp);
     }
     stage.learn(2, 9);
-    assert_eq!(rt; stage.touch(2, 3, &LOAD), Reach::Done(0));
-    assert_eq!(rt; stage.actors[2].stamp(), 10);
+    same!(rt; stage.touch(2, 3, &LOAD), Reach::Done(0));
+    same!(rt; stage.actors[2].stamp(), 10);
     stage.learn(3, LAST);
-    assert_eq!(rt; stage.touch(3, 3, &LOAD), Reach::Worn);
-    assert_eq!(rt; stage.actors[3].stamp(), LAST);
-    assert_eq!(rt; stage.touch(2, 3, &LOAD), Reach::Done(0));
+    same!(rt; stage.touch(3, 3, &LOAD), Reach::Worn);
+    same!(rt; stage.actors[3].stamp(), LAST);
+    same!(rt; stage.touch(2, 3, &LOAD), Reach::Done(0));
     Ok(())
 }
 
@@ -30,18 +31,18 @@ fn an_entry_has_the_next_stamp_of_its_actor_and_object(rt: HostRuntime) -> Resul
 fn a_fifth_object_closes_the_oldest_scope(rt: HostRuntime) -> Result<(), Fail> {
     let mut stage: Stage<OwnStore> = Stage::open(rt.alloc(), 6, 1)?;
     for number in [1, 2, 3, 4, 1] {
-        assert_eq!(rt; stage.touch(0, number, &LOAD), Reach::Done(0));
+        same!(rt; stage.touch(0, number, &LOAD), Reach::Done(0));
     }
     for number in 1..5 {
-        assert!(rt; !stage.may_leave(number));
+        same!(rt; stage.may_leave(number), false);
     }
-    assert_eq!(rt; stage.touch(0, 5, &LOAD), Reach::Done(0));
-    for (number, leaves) in [(1, true), (2, false), (3, false), (4, false), (5, false)] {
-        assert_eq!(rt; stage.may_leave(number), leaves);
+    same!(rt; stage.touch(0, 5, &LOAD), Reach::Done(0));
+    for &(number, leaves) in &[(1, true), (2, false), (3, false), (4, false), (5, false)] {
+        same!(rt; stage.may_leave(number), leaves);
     }
-    assert_eq!(rt; stage.touch(0, 6, &LOAD), Reach::Done(0));
-    assert!(rt; stage.may_leave(2));
-    assert!(rt; !stage.may_leave(3));
+    same!(rt; stage.touch(0, 6, &LOAD), Reach::Done(0));
+    same!(rt; stage.may_leave(2), true);
+    same!(rt; stage.may_leave(3), false);
     Ok(())
 }
 
@@ -56,16 +57,16 @@ fn fetched(found: Fetched) -> Option<Vec<u8>> {
 #[test]
 fn ranges(rt: HostRuntime) -> Result<(), Fail> {
     let mut stage: Stage<OwnStore> = Stage::open(rt.alloc(), 2, 1)?;
-    assert_eq!(rt; stage.put(0, 2, 6, &[1, 2]), Reach::Done(0));
+    same!(rt; stage.put(0, 2, 6, &[1, 2]), Reach::Done(0));
     let bytes = fetched(stage.get(0, 2, 5, 3)?);
-    assert!(rt; bytes.is_some_and(|bytes| bytes.as_slice() == [0, 1, 2].as_slice()));
+    same!(rt; bytes.is_some_and(|bytes| bytes.as_slice() == [0, 1, 2].as_slice()), true);
     let whole = fetched(stage.get(0, 1, 0, 8)?);
-    assert!(rt; whole.is_some_and(|bytes| bytes.as_slice() == [0; 8].as_slice()));
-    assert_eq!(rt; stage.put(0, 2, 7, &[1, 2]), Reach::Outside);
-    assert_eq!(rt; stage.put(0, 3, 0, &[1]), Reach::Outside);
-    assert_eq!(rt; stage.put(0, 2, u32::MAX, &[1]), Reach::Outside);
-    assert!(rt; matches!(stage.get(0, 2, 1, 8)?, Fetched::Outside));
-    assert!(rt; matches!(stage.get(0, 0, 0, 0)?, Fetched::Outside));
+    same!(rt; whole.is_some_and(|bytes| bytes.as_slice() == [0; 8].as_slice()), true);
+    same!(rt; stage.put(0, 2, 7, &[1, 2]), Reach::Outside);
+    same!(rt; stage.put(0, 3, 0, &[1]), Reach::Outside);
+    same!(rt; stage.put(0, 2, u32::MAX, &[1]), Reach::Outside);
+    same!(rt; matches!(stage.get(0, 2, 1, 8)?, Fetched::Outside), true);
+    same!(rt; matches!(stage.get(0, 0, 0, 0)?, Fetched::Outside), true);
     Ok(())
 }
 
@@ -73,27 +74,27 @@ fn ranges(rt: HostRuntime) -> Result<(), Fail> {
 fn outside_is_no_step(rt: HostRuntime) -> Result<(), Fail> {
     let mut stage: Stage<OwnStore> = Stage::open(rt.alloc(), 1, 1)?;
     let over = Op { offset: 1, ..LOAD };
-    assert_eq!(rt; stage.touch(0, 1, &over), Reach::Outside);
-    assert_eq!(rt; stage.touch(0, 0, &LOAD), Reach::Outside);
-    assert_eq!(rt; stage.touch(0, 2, &LOAD), Reach::Outside);
-    assert_eq!(rt; stage.actors[0].stamp(), 0);
-    assert_eq!(rt; stage.cool(1), Some(false));
-    assert!(rt; stage.may_leave(1));
+    same!(rt; stage.touch(0, 1, &over), Reach::Outside);
+    same!(rt; stage.touch(0, 0, &LOAD), Reach::Outside);
+    same!(rt; stage.touch(0, 2, &LOAD), Reach::Outside);
+    same!(rt; stage.actors[0].stamp(), 0);
+    same!(rt; stage.cool(1), Some(false));
+    same!(rt; stage.may_leave(1), true);
     Ok(())
 }
 
 #[test]
 fn a_touch_heats(rt: HostRuntime) -> Result<(), Fail> {
     let mut stage: Stage<OwnStore> = Stage::open(rt.alloc(), 2, 1)?;
-    assert_eq!(rt; stage.touch(0, 1, &LOAD), Reach::Done(0));
-    for (number, hot) in [
+    same!(rt; stage.touch(0, 1, &LOAD), Reach::Done(0));
+    for &(number, hot) in &[
         (1, Some(true)),
         (1, Some(false)),
         (2, Some(false)),
         (0, None),
         (3, None),
     ] {
-        assert_eq!(rt; stage.cool(number), hot);
+        same!(rt; stage.cool(number), hot);
     }
     Ok(())
 }

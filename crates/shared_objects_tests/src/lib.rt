@@ -4,6 +4,8 @@
 #[cfg(test)]
 mod accesses;
 #[cfg(test)]
+mod compared;
+#[cfg(test)]
 mod moves;
 #[cfg(test)]
 mod pairs;

@@ -1,5 +1,6 @@
 //! Bodies that leave and come back.
 
+use crate::compared::same;
 use crate::stage::{Careless, LOAD, Stage, add, number_of};
 use far_store::OwnStore;
 use memory::Reach;
@@ -10,17 +11,17 @@ use std::test::Fail;
 #[test]
 fn an_object_that_is_out_is_away(rt: HostRuntime) -> Result<(), Fail> {
     let mut stage: Stage<OwnStore> = Stage::open(rt.alloc(), 2, 1)?;
-    assert!(rt; matches!(stage.begin_leave(1), Leave::Taken(_)));
-    assert!(rt; matches!(stage.begin_leave(1), Leave::Held));
-    assert_eq!(rt; stage.touch(0, 1, &LOAD), Reach::Away);
-    assert!(rt; stage.end_leave(1));
-    assert_eq!(rt; stage.touch(0, 1, &LOAD), Reach::Away);
-    assert_eq!(rt; stage.put(0, 1, 0, &[1]), Reach::Away);
-    assert!(rt; matches!(stage.get(0, 1, 0, 1)?, Fetched::Away));
-    assert!(rt; matches!(stage.get(0, 1, 8, 1)?, Fetched::Outside));
-    assert!(rt; matches!(stage.begin_leave(1), Leave::Held));
-    assert!(rt; matches!(stage.begin_leave(3), Leave::NoObject));
-    assert_eq!(rt; stage.touch(0, 2, &LOAD), Reach::Done(0));
+    same!(rt; matches!(stage.begin_leave(1), Leave::Taken(_)), true);
+    same!(rt; matches!(stage.begin_leave(1), Leave::Held), true);
+    same!(rt; stage.touch(0, 1, &LOAD), Reach::Away);
+    same!(rt; stage.end_leave(1), true);
+    same!(rt; stage.touch(0, 1, &LOAD), Reach::Away);
+    same!(rt; stage.put(0, 1, 0, &[1]), Reach::Away);
+    same!(rt; matches!(stage.get(0, 1, 0, 1)?, Fetched::Away), true);
+    same!(rt; matches!(stage.get(0, 1, 8, 1)?, Fetched::Outside), true);
+    same!(rt; matches!(stage.begin_leave(1), Leave::Held), true);
+    same!(rt; matches!(stage.begin_leave(3), Leave::NoObject), true);
+    same!(rt; stage.touch(0, 2, &LOAD), Reach::Done(0));
     Ok(())
 }
 
@@ -28,37 +29,37 @@ fn an_object_that_is_out_is_away(rt: HostRuntime) -> Result<(), Fail> {
 #[test]
 fn two_objects_leave_at_once(rt: HostRuntime) -> Result<(), Fail> {
     let mut stage: Stage<OwnStore> = Stage::open(rt.alloc(), 3, 1)?;
-    assert_eq!(rt; stage.touch(0, 3, &LOAD), Reach::Done(0));
-    assert!(rt; matches!(stage.begin_leave(1), Leave::Taken(_)));
-    assert!(rt; matches!(stage.begin_leave(2), Leave::Taken(_)));
-    assert!(rt; matches!(stage.begin_leave(3), Leave::Held));
-    assert!(rt; stage.end_leave(2));
-    assert!(rt; stage.end_leave(1));
-    assert_eq!(rt; stage.touch(0, 1, &LOAD), Reach::Away);
-    assert_eq!(rt; stage.touch(0, 2, &LOAD), Reach::Away);
+    same!(rt; stage.touch(0, 3, &LOAD), Reach::Done(0));
+    same!(rt; matches!(stage.begin_leave(1), Leave::Taken(_)), true);
+    same!(rt; matches!(stage.begin_leave(2), Leave::Taken(_)), true);
+    same!(rt; matches!(stage.begin_leave(3), Leave::Held), true);
+    same!(rt; stage.end_leave(2), true);
+    same!(rt; stage.end_leave(1), true);
+    same!(rt; stage.touch(0, 1, &LOAD), Reach::Away);
+    same!(rt; stage.touch(0, 2, &LOAD), Reach::Away);
     let ended = stage.close()?;
     let out: Vec<bool> = ended
         .iter()
         .map(|one| matches!(one, Ended::Out))
         .collect(rt.alloc())?;
-    assert_eq!(rt; out.as_slice(), [false, true, true, false].as_slice());
+    same!(rt; out.as_slice(), [false, true, true, false].as_slice());
     Ok(())
 }
 
 #[test]
 fn bytes_of_another_length_are_handed_back(rt: HostRuntime) -> Result<(), Fail> {
     let mut stage: Stage<Careless> = Stage::open(rt.alloc(), 1, 1)?;
-    assert!(rt; matches!(stage.begin_leave(1), Leave::Taken(_)));
-    assert!(rt; stage.end_leave(1));
-    assert!(rt; stage.begin_return(1));
+    same!(rt; matches!(stage.begin_leave(1), Leave::Taken(_)), true);
+    same!(rt; stage.end_leave(1), true);
+    same!(rt; stage.begin_return(1), true);
     let Some(Err(back)) = stage.end_return(1, vec![in rt.alloc(); 1u8; 9]?) else {
         panic!(rt; "nine bytes for eight")
     };
-    assert_eq!(rt; back.as_slice(), [1; 9].as_slice());
-    assert_eq!(rt; stage.touch(0, 1, &LOAD), Reach::Away);
+    same!(rt; back.as_slice(), [1; 9].as_slice());
+    same!(rt; stage.touch(0, 1, &LOAD), Reach::Away);
     let others = vec![in rt.alloc(); 1u8; 8]?;
-    assert!(rt; matches!(stage.end_return(1, others), Some(Ok(()))));
-    assert_eq!(rt;
+    same!(rt; matches!(stage.end_return(1, others), Some(Ok(()))), true);
+    same!(rt;
         stage.touch(0, 1, &LOAD),
         Reach::Done(0x0101_0101_0101_0101)
     );
@@ -82,11 +83,11 @@ fn moved(alloc: Global) -> Result<Stage<OwnStore>, Fail> {
 fn a_table_closes_with_what_is_out(rt: HostRuntime) -> Result<(), Fail> {
     let ended = moved(rt.alloc())?.close()?;
     let numbers: Vec<Option<u64>> = ended.iter().map(number_of).collect(rt.alloc())?;
-    assert_eq!(rt; numbers.as_slice(), [None, None, Some(42), None].as_slice());
+    same!(rt; numbers.as_slice(), [None, None, Some(42), None].as_slice());
     let out: Vec<bool> = ended
         .iter()
         .map(|one| matches!(one, Ended::Out))
         .collect(rt.alloc())?;
-    assert_eq!(rt; out.as_slice(), [false, true, false, true].as_slice());
+    same!(rt; out.as_slice(), [false, true, false, true].as_slice());
     Ok(())
 }

@@ -1,6 +1,7 @@
 //! Two threads that wait for one another. Expected answers are worked out by hand.
 ghost use Rattle.shared_objects.specs.Tables.{IsActorOf, IsMoverOf};
 
+use crate::compared::same;
 use crate::stage::{LOAD, Stage, add, may_leave, stays_far};
 use far_store::OwnStore;
 use memory::Reach;
@@ -79,8 +80,8 @@ fn one_actor(rt: HostRuntime) -> Result<(), Fail> {
     }: Stage<OwnStore> = Stage::open(rt.alloc(), 1, 1)?;
     let actor = actors.remove(0);
     let (sums, left) = one_beside(&rt, shared.table(), actor, mover);
-    assert_eq!(rt; sums, [Reach::Done(0), Reach::Done(1), Reach::Done(2)]);
-    assert_eq!(rt; left, [false, true]);
+    same!(rt; sums, [Reach::Done(0), Reach::Done(1), Reach::Done(2)]);
+    same!(rt; left, [false, true]);
     Ok(())
 }
 
@@ -134,10 +135,10 @@ fn read_back(rt: HostRuntime) -> Result<(), Fail> {
     let two = actors.remove(1);
     let one = actors.remove(0);
     let (written, (read, stamp, later)) = read_beside(&rt, shared.table(), one, two);
-    assert_eq!(rt; written, [Reach::Done(0), Reach::Done(0)]);
-    assert_eq!(rt; read, Reach::Done(7));
-    assert_eq!(rt; stamp, 2);
-    assert_eq!(rt; later, 3);
+    same!(rt; written, [Reach::Done(0), Reach::Done(0)]);
+    same!(rt; read, Reach::Done(7));
+    same!(rt; stamp, 2);
+    same!(rt; later, 3);
     Ok(())
 }
 
@@ -189,7 +190,7 @@ fn undo_beside<R: Threads + Sync>(
 #[test]
 fn undo(rt: HostRuntime) -> Result<(), Fail> {
     let mut stage: Stage<OwnStore> = Stage::open(rt.alloc(), 1, 1)?;
-    assert_eq!(rt; stage.touch(0, 1, &add(5)), Reach::Done(0));
+    same!(rt; stage.touch(0, 1, &add(5)), Reach::Done(0));
     stage.close_scopes(0);
     let Stage {
         shared,
@@ -198,7 +199,7 @@ fn undo(rt: HostRuntime) -> Result<(), Fail> {
     } = stage;
     let actor = actors.remove(0);
     let (moved, read) = undo_beside(&rt, shared.table(), actor, mover);
-    assert_eq!(rt; moved, [true, true]);
-    assert_eq!(rt; read, [Reach::Done(5), Reach::Away]);
+    same!(rt; moved, [true, true]);
+    same!(rt; read, [Reach::Done(5), Reach::Away]);
     Ok(())
 }

@@ -4,6 +4,7 @@ ghost use Rattle.shared_objects.specs.Tables.{IsActorOf, IsMoverOf};
 ghost use Rattle.shared_objects_tests.specs.Stages.{AreSeatsOf};
 ghost use denote.Param.Send.{IsSync};
 
+use crate::compared::same;
 use crate::stage::{add, bodies, goes_and_returns, number_of};
 use far_store::OwnStore;
 use memory::Reach;
@@ -72,11 +73,11 @@ fn two_threads_add(rt: HostRuntime) -> Result<(), Fail> {
     let two = actors.remove(1);
     let one = actors.remove(0);
     let (one, two) = by_two(&rt, shared.table(), one, two);
-    assert_eq!(rt; one.stamp().max(two.stamp()), 2000);
+    same!(rt; one.stamp().max(two.stamp()), 2000);
     actors.push(one)?;
     actors.push(two)?;
     let ended = shared.close(actors, mover)?;
-    assert_eq!(rt; number_of(&ended[1]), Some(2000));
+    same!(rt; number_of(&ended[1]), Some(2000));
     Ok(())
 }
 
@@ -155,8 +156,8 @@ fn eight_threads_add_while_bodies_move(rt: HostRuntime) -> Result<(), Fail> {
     let (actors, (mover, went)) = by_all(&rt, shared.table(), actors, mover);
     let ended = shared.close(actors?, mover)?;
     for number in 1..5 {
-        assert_eq!(rt; number_of(&ended[number]), Some(2000));
+        same!(rt; number_of(&ended[number]), Some(2000));
     }
-    assert!(rt; went);
+    same!(rt; went, true);
     Ok(())
 }
