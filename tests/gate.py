@@ -5,7 +5,9 @@ First the scripts that compare documents and lists with the sources, and the tes
 `rt ci`, with a line on how far it is. Then what runs the program as `rt ci` has built it, by LLVM and by Rattle's own
 compiler. The last line is that of `rt ci`; what else fails is counted in it.
 """
+import os
 import re
+import resource
 import subprocess
 import sys
 import time
@@ -17,6 +19,8 @@ SCRIPTS = ["tests/protocol.py", "tests/definitions.py", "tests/generated.py", "t
 BUILT = ["crates/bpfagent/out/bpfagent", "crates/bpfagent/out/bpfagent.by-rattle"]
 PROVED = re.compile(r"rt: \w+(: its tests are)? proved$")
 LAST = re.compile(r"(\d+) passed, (\d+) failed")
+# What a check may take of memory, in bytes.
+OF_A_CHECK = 5_000_000_000
 
 
 def failures_of(calls):
@@ -35,10 +39,24 @@ def progress(start, proved, tests):
     print(f"gate: {proved} of {len(crates())} crates and {tests} crates' tests proved, {minutes:.0f} minutes", flush=True)
 
 
+def jobs():
+    """How many checks run side by side, each on one processor: a check that spreads over several takes up to half as much again."""
+    memory = os.sysconf("SC_PAGE_SIZE") * os.sysconf("SC_PHYS_PAGES")
+    return max(1, min(len(os.sched_getaffinity(0)), memory // OF_A_CHECK))
+
+
+def spent(start):
+    """How long the gate has taken, by the clock and by the processors."""
+    used = [resource.getrusage(who) for who in (resource.RUSAGE_SELF, resource.RUSAGE_CHILDREN)]
+    of_processors = sum(it.ru_utime + it.ru_stime for it in used) / 60
+    return f"{(time.monotonic() - start) / 60:.0f} minutes, {of_processors:.0f} of processor time, on {len(os.sched_getaffinity(0))} processors"
+
+
 def run_ci(rt):
     """Passes on what `rt ci` says, but for its last line, and gives that with the status."""
     start, proved, tests, last = time.monotonic(), 0, 0, ""
-    process = subprocess.Popen([rt, "ci"], cwd=ROOT, stdout=subprocess.PIPE, stderr=subprocess.STDOUT, text=True, errors="replace")
+    options = {"stdout": subprocess.PIPE, "stderr": subprocess.STDOUT, "text": True, "errors": "replace"}
+    process = subprocess.Popen([rt, "ci"], cwd=ROOT, env={"RT_JOBS": str(jobs()), **os.environ}, **options)
     for line in process.stdout:
         if last:
             print(last, flush=True)
@@ -66,13 +84,16 @@ def judged(status, last):
 
 
 def main():
+    start = time.monotonic()
     failed = failures_of([[script] for script in SCRIPTS])
     if failed or sys.argv[1:] == ["--quick"]:
         print(f"{len(SCRIPTS) - failed} passed, {failed} failed")
         sys.exit(1 if failed else 0)
     passed, failed = judged(*run_ci(sys.argv[1]))
+    print(f"gate: rt ci: {spent(start)}", flush=True)
     if not failed:
         failed += failures_of(of_program(sys.argv[1]))
+    print(f"gate: {spent(start)}", flush=True)
     print(f"{passed} passed, {failed} failed", flush=True)
     sys.exit(1 if failed else 0)
 
