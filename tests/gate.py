@@ -13,6 +13,7 @@ import sys
 import time
 
 import counts
+import times
 from sources import ROOT, crates
 
 SCRIPTS = ["tests/protocol.py", "tests/definitions.py", "tests/generated.py", "tests/failures.py", "tests/documents.py", "tests/kinds.py", "tests/counts.py", "tests/planted.py"]
@@ -23,9 +24,16 @@ LAST = re.compile(r"(\d+) passed, (\d+) failed")
 OF_A_CHECK = 5_000_000_000
 
 
+def fails(call):
+    """Whether this script fails, called with its arguments; how long it took is said."""
+    start = time.monotonic()
+    failed = subprocess.run([sys.executable, *call], cwd=ROOT).returncode != 0
+    print(f"gate: {' '.join(call)}: {time.monotonic() - start:.0f} s", flush=True)
+    return failed
+
+
 def failures_of(calls):
-    """How many of these scripts fail, each called with its arguments."""
-    return sum(subprocess.run([sys.executable, *call], cwd=ROOT).returncode != 0 for call in calls)
+    return sum(map(fails, calls))
 
 
 def of_program(rt):
@@ -56,6 +64,8 @@ def run_ci(rt):
     """Passes on what `rt ci` says, but for its last line, and gives that with the status."""
     start, proved, tests, last = time.monotonic(), 0, 0, ""
     options = {"stdout": subprocess.PIPE, "stderr": subprocess.STDOUT, "text": True, "errors": "replace"}
+    taken = times.Times()
+    taken.start()
     process = subprocess.Popen([rt, "ci"], cwd=ROOT, env={"RT_JOBS": str(jobs()), **os.environ}, **options)
     for line in process.stdout:
         if last:
@@ -66,7 +76,11 @@ def run_ci(rt):
                 proved += not done[1]
                 progress(start, proved, tests)
         last = line.rstrip("\n")
-    return process.wait(), last
+    status = process.wait()
+    taken.end()
+    for row in taken.rows():
+        print(f"gate: {row}")
+    return status, last
 
 
 def judged(status, last):

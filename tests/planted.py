@@ -118,7 +118,7 @@ def passes_gate(last, status, variables):
     with tempfile.TemporaryDirectory() as folder:
         copy = copied(folder, "crates", "examples", "docs", "bench")
         for script in (copy / "tests").glob("*.py"):
-            if script.name not in ("gate.py", "sources.py"):
+            if script.name not in ("gate.py", "times.py", "sources.py"):
                 script.write_text("def edits():\n    return 300\n")
         rt = copy / "bin/rt"
         rt.parent.mkdir()
