@@ -51,14 +51,12 @@ bench: $(PROGRAM)
 	@python3 -B bench/embed.py $(BENCH)/embed bench/programs
 	@python3 -B bench/lines.py $(PROGRAM) $(BENCH)/lines
 	@python3 bench/assembly.py $(PROGRAM)
-	@cd crates/bench_shared && $(RT) run >/dev/null
+	@cd crates/bench_threads && $(RT) run >/dev/null
 	@$(CC) -O2 -pthread -o $(BENCH)/shared bench/shared.c
-	@python3 bench/shared.py crates/bench_shared/out/bench_shared $(BENCH)/shared
-	@cd crates/bench_far && $(RT) run >/dev/null
+	@python3 bench/shared.py crates/bench_threads/out/bench_threads $(BENCH)/shared
 	@$(CC) -O2 -pthread -o $(BENCH)/far bench/far.c
-	@python3 bench/far.py crates/bench_far/out/bench_far $(BENCH)/far
+	@python3 bench/far.py crates/bench_threads/out/bench_threads $(BENCH)/far
 	@$(CC) -O2 -pthread -o $(BENCH)/service bench/service.c bench/flat.c
 	@python3 bench/service.py $(PROGRAM) $(BENCH)/service
-	@cd crates/bench_turns && $(RT) run >/dev/null
-	@python3 -B bench/turns.py crates/bench_turns/out/bench_turns
+	@python3 -B bench/turns.py crates/bench_threads/out/bench_threads
 	@python3 bench/stores.py $(PROGRAM)

@@ -1,4 +1,4 @@
-/* A far store over TCP in plain C, as crates/bench_far does it: far KIND COUNT LENGTH. A client and a server, each in a thread,
+/* A far store over TCP in plain C, as crates/bench_threads does it: far KIND COUNT LENGTH. A client and a server, each in a thread,
    speak the frames of docs/FAR-STREAM.md; the client keeps length and SHA-256 of what it put, and compares them with what comes
    home. What is kept is the frame that answers a get. KIND is put, so many puts, each of which is forgotten, get, so many gets of
    one put, or digest, so many digests without a stream. Prints how many went well, or the sum of the digests' first words. */

@@ -1,4 +1,4 @@
-/* Accesses to shared objects in plain C, as crates/bench_shared does them: shared KIND COUNT THREADS. The layout and the atomic
+/* Accesses to shared objects in plain C, as crates/bench_threads does them: shared KIND COUNT THREADS. The layout and the atomic
    operations are the same: a word of 64 bits for each object on a cache line of its own, a body beside it in a second block, a
    window of four objects for each thread. An access in an open scope takes the turn by one atomic operation and gives it back by
    another. Prints the sum of the objects' numbers. */

@@ -1,5 +1,5 @@
 #!/usr/bin/env python3
-"""Machine instructions that one worker takes for an instruction of one machine, counted by callgrind: turns.py BENCH_TURNS
+"""Machine instructions that one worker takes for an instruction of one machine, counted by callgrind: turns.py BENCH_THREADS
 
 For each kind of instruction the difference of a long run and a short one. Nothing is written where there is no valgrind.
 """

@@ -10,12 +10,12 @@ worked conversations, of those of moves, of debugging and of grants, and of the 
 `dis` end with `no memory`, and no output.
 
 `refused_run` does a list of commands in one call: where an allocation fails there is no reply, and the world is as before.
-`refused_table` opens a table of shared objects, reads from it and closes it: where an allocation fails there is no table, or a
-read that can be done again, or nothing is left of it. `refused_stream` sends objects over a stream to a server in another thread,
+`refused_parts` has four parts. Its `table` opens a table of shared objects, reads from it and closes it: where an allocation fails
+there is no table, or a read that can be done again, or nothing is left of it. Its `stream` sends objects to a server in another thread,
 and fetches them home: where an allocation fails at either end, one call is answered with a fault, and the same call after it is done;
-but for those of the program's own before a call. `refused_pool` makes a pool over a table, and a mover that takes an object away
+but for those of the program's own before a call. Its `pool` has a table, and a mover that takes an object away
 and brings it back: where an allocation fails there is no pool, or no mover, or a return that is done when it is asked for again.
-`refused_service` opens a world for connections, of which one steps the machine and
+Its `service` opens a world for connections, of which one steps the machine and
 reads, and closes: where an allocation fails there is no table, or no agent, or a read that can be done again, or nothing is left. So it is of `bpfagent serve` with a client over TCP, which ends with `no memory` where it can't go on, also where a thread of the mover, of a worker or of a client isn't started; and `bpfagent store` where its one isn't.
 
 Of the allocations before the first line, which are the same in each conversation, all are tried once, and then two of
@@ -43,10 +43,7 @@ from sources import ROOT
 
 PROGRAM = pathlib.Path(sys.argv[2]).resolve() if len(sys.argv) > 2 else ROOT / "crates/bpfagent/out/bpfagent"
 RUN = ROOT / "crates/refused_run/out/refused_run"
-TABLE = ROOT / "crates/refused_table/out/refused_table"
-STREAM = ROOT / "crates/refused_stream/out/refused_stream"
-POOL = ROOT / "crates/refused_pool/out/refused_pool"
-SERVICE = ROOT / "crates/refused_service/out/refused_service"
+PARTS = ROOT / "crates/refused_parts/out/refused_parts"
 SCRIPTS = [f"crates/conversations/data/{name}.script" for name in ("worked", "moves", "debugging", "grants", "protocol")]
 MAY_LACK_MEMORY = ("make ", "put ", "get ", "ship ", "ship2 ", "stack ", "line ")
 WIDE = bytes.fromhex("18000000ffffffff00000000ffffffff9500000000000000")
@@ -228,14 +225,22 @@ def refused_run(failing):
     return found.count(REFUSED)
 
 
-# What comes of a program where one allocation fails; the last is what it does where all are granted.
-OF_A_TABLE = ["no bodies", "no table", "opened, read again, closed", "opened, read, not closed", "opened, read, closed"]
-OF_A_POOL = ["no bodies", "no machines", "no table", "no pool", "no mover", "came home, asked again", "came home"]
-OF_A_SERVICE = ["no world", "not opened", "no agent", "opened, read again, closed", "opened, read once, closed", "opened, read, not closed", "opened, read, closed"]
-OF_A_STREAM = ["no server"] + [
-    f"{came}, {memory} without memory, {refused} refused, 0 otherwise, {memory + refused} faults, served"
-    for came, memory, refused in [("not all left", 0, 0), ("all came home", 1, 0), ("all came home", 0, 1), ("all came home", 0, 0)]
-]
+# What comes of each part of `refused_parts` where one allocation fails; the last is what it does where all are granted.
+OUTCOMES = {
+    "table": ["no bodies", "no table", "opened, read again, closed", "opened, read, not closed", "opened, read, closed"],
+    "stream": [
+        f"{came}, {memory} without memory, {refused} refused, 0 otherwise, {memory + refused} faults, {server}"
+        for came, memory, refused, server in [
+            ("no server", 0, 0, "not served"),
+            ("not all left", 0, 0, "served"),
+            ("all came home", 1, 0, "served"),
+            ("all came home", 0, 1, "served"),
+            ("all came home", 0, 0, "served"),
+        ]
+    ],
+    "pool": ["no bodies", "no machines", "no table", "no pool", "no mover", "came home, asked again", "came home"],
+    "service": ["no world", "not opened", "no agent", "opened, read again, closed", "opened, read once, closed", "opened, read, not closed", "opened, read, closed"],
+}
 
 
 def served(failing, at=0, count=None, thread=0):
@@ -300,12 +305,13 @@ def refused_store(failing):
         raise Failed(f"a server without a thread says {done}")
 
 
-def refused_program(failing, program, outcomes):
-    """How often something of a program was refused: each of these outcomes comes, and no other."""
-    (status, output, _), total = failing.allocations(program, [], b"")
-    found = [failing.call(program, [], b"", at)[1].decode().strip() for at in range(1, total + 1)]
+def refused_part(failing, part):
+    """How often something of a part was refused: each of its outcomes comes, and no other."""
+    outcomes = OUTCOMES[part]
+    (status, output, _), total = failing.allocations(PARTS, [], part.encode())
+    found = [failing.call(PARTS, [], part.encode(), at)[1].decode().strip() for at in range(1, total + 1)]
     if (status, output.decode().strip()) != (0, outcomes[-1]) or set(found) - set(outcomes) or set(outcomes[:-1]) - set(found):
-        raise Failed(f"{program.name}: {sorted(set(found))}")
+        raise Failed(f"{PARTS.name}, {part}: {sorted(set(found))}")
     return total - found.count(outcomes[-1])
 
 
@@ -319,14 +325,13 @@ def show(failing):
     said = ", ".join(f"{found.count(what)} {what}" for what in sorted(set(found)))
     gave_up = sum(refused_input(failing, arguments, given) for arguments, given in OTHERS)
     runs = refused_run(failing)
-    tables = refused_program(failing, TABLE, OF_A_TABLE)
-    streams = refused_program(failing, STREAM, OF_A_STREAM)
-    pools = refused_program(failing, POOL, OF_A_POOL)
-    services = refused_program(failing, SERVICE, OF_A_SERVICE) + refused_service(failing)
+    parts = {part: refused_part(failing, part) for part in OUTCOMES}
+    parts["service"] += refused_service(failing)
     refused_store(failing)
+    told = ", ".join(f"{count} of a {part}" for part, count in parts.items())
     if not gave_up or not runs or not {word.strip() for word in MAY_LACK_MEMORY} | {"returned"} <= set(found):
         raise Failed(f"not every command was refused: {said}; {gave_up} inputs, {runs} runs")
-    print(f"refused_growth: {len(found)} allocations of {len(talks)} conversations failed in turn: {said}; {gave_up} of other inputs, {runs} of a run, {tables} of a table, {streams} of a stream, {pools} of a pool, {services} of a service")
+    print(f"refused_growth: {len(found)} allocations of {len(talks)} conversations failed in turn: {said}; {gave_up} of other inputs, {runs} of a run, {told}")
 
 
 def main():

@@ -20,6 +20,8 @@ from sources import ROOT
 SECONDS = 900
 FIRST = ROOT / "crates/bpfagent"
 UNPROVED = ROOT / "out/bpfagent-unproved"
+# How many files and crates the recipe of `make bench` names.
+NAMED = 19
 
 
 def make(*arguments):
@@ -71,7 +73,7 @@ def show_bench(rt):
     recipe, _ = make(rt, "-n", "bench")
     named = set(re.findall(r"(?<![\w/])(?:bench/\w+(?:\.\w+)?|crates/bench_\w+)", recipe))
     gone = sorted(path for path in named if not (ROOT / path).exists())
-    want(len(named) > 20 and not gone, f"make bench names {gone or sorted(named)}")
+    want(len(named) == NAMED and not gone, f"make bench names {gone or sorted(named)}")
     for path in sorted((ROOT / "bench").glob("*.py")):
         compile(path.read_text(), path.name, "exec")
     if shutil.which("cc"):

@@ -1,7 +1,0 @@
-use Rattle.std.proofs.Common.{length}
-use Rattle.shared_objects.specs.Tables.{table_opening}
-use Rattle.workers.specs.Pools.{machines_of}
-use Rattle.bench_turns.proofs.main.Given as goal
-
-abbrev pub ghosts-run : goal.ghosts-run
-ghosts-run g a = record { table = a.shared.table.table.shared.table_id; opening = table_opening a.shared.table; starts = machines_of a.machines.items; seats = length a.seats.items }
