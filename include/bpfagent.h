@@ -119,8 +119,8 @@ void bpfagent_delete(bpfagent *agent);
 uint32_t bpfagent_make(bpfagent *agent, uint64_t length, uint32_t *object);
 uint32_t bpfagent_free(bpfagent *agent, uint32_t object);
 
-/* Write bytes into an object, and read them. Any length may be given; more than the object has is BPFAGENT_OUTSIDE. A put takes no
-   memory; a get takes as much as it reads, for a moment. */
+/* Write bytes into an object, and read them. Any length may be given; more than the object has is BPFAGENT_OUTSIDE. Neither
+   takes memory. */
 uint32_t bpfagent_put(bpfagent *agent, uint32_t object, uint32_t offset, const uint8_t *bytes, size_t length);
 uint32_t bpfagent_get(bpfagent *agent, uint32_t object, uint32_t offset, uint8_t *bytes, size_t length);
 

@@ -161,7 +161,7 @@ def over_tcp(talk, act):
 
 SERVICE = [("make 8", "unserved"), ("free 1", "unserved"), ("left 1", "unserved"), ("returned 1", "unserved"), ("leave 1", "asked 1"), ("leave 9", "none"), ("leave 1", "full"),
            ("return 1", "asked 1"), ("return 9", "none"), ("return 1", "full"), ("put 1 0 2a", "busy 1"), ("put 1 0 2a", "worn"), ("put 1 0 2a", "away 1"), ("get 1 0 1", "busy 1"),
-           ("get 1 0 1", "worn"), ("get 1 0 1", "nomem"), ("get 1 0 1", "away 1"), ("step 1", "waiting 1 1")]
+           ("get 1 0 1", "worn"), ("get 1 0 1", "nomem"), ("get 1 0 1", "away 1"), ("step 1", "waiting 1 1"), ("one 1", "stopped 1 worn")]
 
 
 def show_service_replies(program):
