@@ -10,9 +10,9 @@
    - malloc, realloc and free are of one allocator, which aligns as C asks for. No call is made from a signal handler, or in the
      forked child of a process with threads.
 
-   What is told: a handle of zeros has no agent, and so has one after bpfagent_delete, and each call then answers
-   BPFAGENT_NOAGENT and writes nothing. Numbers and lengths may be any. Where memory runs out the answer is BPFAGENT_NOMEM
-   (BPFAGENT_FAULT_FAR of bpfagent_returned); no call aborts.
+   What is told: a handle of zeros has no agent, and so has one after bpfagent_delete. Each call but bpfagent_new then answers
+   BPFAGENT_NOAGENT, or BPFAGENT_BAD, which is tested first, and writes nothing. Numbers and lengths may be any. Where memory
+   runs out the answer is BPFAGENT_NOMEM (BPFAGENT_FAULT_FAR of bpfagent_returned); no call aborts.
 
    What a call writes through its pointers it writes only where its answer is BPFAGENT_OK, or as its comment says. */
 #ifndef BPFAGENT_H

@@ -216,12 +216,17 @@ def answered(reply, call):
             agent.close()
 
 
-def is_broken(call):
+def why_broken(call):
+    """Why a call breaks the conversation; none where it doesn't."""
     try:
         call()
-        return False
-    except Broken:
-        return True
+        return None
+    except Broken as why:
+        return str(why)
+
+
+def is_broken(call):
+    return why_broken(call) is not None
 
 
 def show_wrong_replies(program):
@@ -238,6 +243,9 @@ def show_wrong_replies(program):
         silent.close()
     agent = Agent.start(shutil.which("false"))
     want(is_broken(lambda: agent.make(8)) and is_broken(agent.close), True, "a program that ends early")
+    agent = Agent.start(program, "--budget", "x")
+    want(is_broken(lambda: agent.make(8)), True, "a program that is started wrongly")
+    want(why_broken(agent.close), "the program ended with status 2", "what is said of a program that is started wrongly")
     agent = Agent.start(program)
     agent.close()
     agent.close()
@@ -245,9 +253,9 @@ def show_wrong_replies(program):
 
 
 def show_misuse(program):
-    """What is no line isn't sent; numbers that are out of their range are answered by the agent."""
+    """What is no line isn't sent, and no run of no instruction done; numbers that are out of their range are answered by the agent."""
     with Agent.start(program) as agent:
-        for call in (lambda: agent.tell("step 1\nstep 1"), lambda: agent.tell("é"), lambda: agent.ship2(EXIT, 1, {1: "r1\nstep 1 w"}), lambda: agent.ship(b"\x95", 1, 1, 2, 3, 4, 5, 6)):
+        for call in (lambda: agent.run_until(1, limit=0), lambda: agent.tell("step 1\nstep 1"), lambda: agent.tell("é"), lambda: agent.ship2(EXIT, 1, {1: "r1\nstep 1 w"}), lambda: agent.ship(b"\x95", 1, 1, 2, 3, 4, 5, 6)):
             try:
                 call()
                 raise Failed("what is no line was sent")

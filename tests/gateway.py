@@ -2,11 +2,12 @@
 """Runs examples/far/gateway.py over a stand-in for Redis, and over redis-server where it is installed: gateway.py [PROGRAM]
 
 Byte for byte what docs/FAR-STREAM.md shows, clients that break the protocol, two clients at once, keys that are gone when a
-client or the gateway has ended, a Redis that is full, goes away, lies or answers nonsense, and one that sends its clients on,
-as a cluster does. With a program also `bpfagent serve`, whose objects leave for the gateway.
+client or the gateway has ended, a Redis that is full, goes away, lies or answers nonsense, one that sends its clients on,
+as a cluster does, and an interrupt. With a program also `bpfagent serve`, whose objects leave for the gateway.
 """
 import hashlib
 import shutil
+import signal
 import socket
 import socketserver
 import subprocess
@@ -89,12 +90,18 @@ class Redis(socketserver.ThreadingTCPServer):
                 pass
 
 
+def can_be_interrupted():
+    """As at a terminal: where the gate runs in the background, an interrupt is ignored."""
+    signal.signal(signal.SIGINT, signal.SIG_DFL)
+
+
 class Gateway:
     """The gateway, listening."""
 
     def __init__(self, redis, *arguments):
         pipe = subprocess.PIPE
-        self.process = subprocess.Popen([sys.executable, str(GATEWAY), "--redis", redis, *arguments], stdin=pipe, stdout=pipe, stderr=pipe)
+        command = [sys.executable, str(GATEWAY), "--redis", redis, *arguments]
+        self.process = subprocess.Popen(command, stdin=pipe, stdout=pipe, stderr=pipe, preexec_fn=can_be_interrupted)
         self.port = int(self.process.stdout.readline().split()[1])
 
     def connect(self):
@@ -170,7 +177,7 @@ def show_faults():
     store = Store(gateway.port)
     number, digest = store.put(b"abc")
     full = b"-OOM command not allowed when used memory > 'maxmemory'.\r\n"
-    for reply in (full, b"", b"+OK", b"hello\r\n", b"$3\r\nab", b"$x\r\n", b":1\r\n", b"-MOVED 1\r\n", b"-MOVED 7 127.0.0.1:x\r\n", b"$65537\r\n" + bytes(LIMIT + 1) + b"\r\n"):
+    for reply in (full, b"", b"+OK", b"hello\r\n", b"$3\r\nab", b"$x\r\n", b":1\r\n", b"-MOVED 1\r\n", b"-MOVED 7 127.0.0.1:x\r\n", b"$65537\r\n" + bytes(LIMIT + 1) + b"\r\n", b"$1000000000000\r\n", b"$9223372036854775807\r\n", b"$-2\r\n"):
         redis.instead.append(reply)
         want(store.ask(GET, number) == (NO_ROOM, b""), f"a get while Redis answers {reply[:20]}")
         want(store.get(number, digest) == b"abc", f"a get after Redis answered {reply[:20]}")
@@ -182,7 +189,7 @@ def show_faults():
     want(store.get(number, digest) is None and store.ask(FORGET, number) == (REFUSED_ID, b""), "a parcel that Redis has lost")
     store.stream.close()
     status, _, errors = gateway.end()
-    want(status == 0 and errors.count(b"redis: ") == 11, f"what was said of faults: {errors}")
+    want(status == 0 and errors.count(b"redis: ") == 14, f"what was said of faults: {errors}")
     redis.end()
 
 
@@ -200,6 +207,19 @@ def show_absence():
     back.end()
     store.stream.close()
     want(gateway.end()[0] == 0 and sorted(back.kept.values()) == [b"abc", b"y"], "keys that couldn't be deleted")
+
+
+def show_interrupt():
+    """An interrupt ends the gateway as the end of its input does, and its clients' keys are deleted."""
+    redis = Redis()
+    gateway = Gateway(redis.address)
+    store = Store(gateway.port)
+    want(store.put(b"abc")[0] == 1 and len(redis.kept) == 1, "a parcel before the interrupt")
+    gateway.process.send_signal(signal.SIGINT)
+    want(gateway.process.wait(timeout=SECONDS) == 0, "a gateway that is interrupted")
+    eventually(lambda: redis.kept == {}, "keys of a gateway that was interrupted")
+    want(gateway.end() == (0, b"", b""), "what a gateway says that is interrupted")
+    redis.end()
 
 
 def show_redirections():
@@ -272,7 +292,7 @@ def main():
         show_frames(redis.address)
         show_example(redis.address)
         want(redis.kept == {}, f"keys that are left: {redis.kept}")
-        for show in (show_keys, show_faults, show_absence, show_redirections):
+        for show in (show_keys, show_faults, show_absence, show_interrupt, show_redirections):
             show()
         if sys.argv[1:]:
             show_service(sys.argv[1])

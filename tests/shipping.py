@@ -42,7 +42,7 @@ def want(arguments, status, output, errors):
 
 def show_arguments(program, code, folder):
     """The argument that is none is named, with its place."""
-    for given, why in (("nine", TAKES), ("", TAKES), ("0x", TAKES), ("1.5", TAKES), ("-1", "isn't from 0 to 2^64 - 1"), (str(2**64), "isn't from 0 to 2^64 - 1"), ("+-1", "isn't from 0 to 2^64 - 1"), ("+x", TAKES)):
+    for given, why in (("nine", TAKES), ("", TAKES), ("0x", TAKES), ("1.5", TAKES), ("-1", "isn't from 0 to 2^64 - 1"), (str(2**64), "isn't from 0 to 2^64 - 1"), ("+-1", "isn't from 0 to 2^64 - 1"), ("+x", TAKES), (f"+{2**64 - 1}", "no object is that long"), (f"+{2**20}", "no object is that long")):
         for place in range(1, 6):
             want(["run", program, code, *["0"] * (place - 1), given], 1, "", f"ship.py: argument {place}, `{given}`: {why}\n")
     missing = f"@{folder}/none"
@@ -93,7 +93,7 @@ def elf(machine):
 def show_checks(folder):
     """What isn't an object file for BPF, or has no code, is refused."""
     path = pathlib.Path(folder) / "object.o"
-    for content, why in ((EXIT, "this isn't an object file for little-endian BPF: clang -target bpfel -c makes one"), (elf(62), "this isn't an object file for little-endian BPF: clang -target bpfel -c makes one")):
+    for content, why in ((EXIT, "this isn't an object file for little-endian BPF: clang -target bpfel -c makes one"), (elf(62), "this isn't an object file for little-endian BPF: clang -target bpfel -c makes one"), (elf(247)[:64], "this object file is cut, or is none")):
         path.write_bytes(content.ljust(64, b"\0"))
         want(["check", str(path)], 1, "", f"{path}: {why}\n")
     status, output, errors = ship("check")

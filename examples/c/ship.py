@@ -10,6 +10,7 @@ ship.py run BPFAGENT CODE [--fuel N] [A ..]
 An argument is a number; for `run` it may also be an object, whose address is given: +N is one of N zero bytes, @FILE one
 of a file's bytes, =TEXT one of a text's.
 """
+import os
 import pathlib
 import struct
 import sys
@@ -23,6 +24,8 @@ SYMBOLS, RELOCATIONS = 2, (4, 9)
 KINDS = {1: "the address of", 10: "a call of"}
 ENTRY = "program"
 FUEL = 1000000
+# No object has so many bytes; the agent says how many it may have.
+TOO_LONG = 1 << 20
 
 
 class Refused(Exception):
@@ -80,9 +83,7 @@ def code_section(file):
     return next(i for i in held if file.sections[i].name == ".text"), others
 
 
-def check(path):
-    with open(path, "rb") as file:
-        found = ObjectFile(file.read())
+def check_file(found):
     code, data = code_section(found)
     symbols = found.symbols()
     for at, kind, symbol in found.relocations(code):
@@ -93,6 +94,15 @@ def check(path):
         raise Refused(f"{section.name} has {section.size} bytes, and a program has no data of its own")
     if (ENTRY, code, 0) not in symbols:
         raise Refused(f"the code doesn't begin with a function {ENTRY} that isn't static")
+
+
+def check(path):
+    with open(path, "rb") as file:
+        content = file.read()
+    try:
+        check_file(ObjectFile(content))
+    except (struct.error, IndexError, ValueError):
+        raise Refused("this object file is cut, or is none") from None
 
 
 def ship_line(code, fuel, arguments):
@@ -112,9 +122,12 @@ def number_of(text):
 def content_of(argument):
     """The bytes of the object that an argument asks for; none for a number."""
     if argument.startswith("+"):
-        return bytes(number_of(argument[1:]))
+        length = number_of(argument[1:])
+        if length >= TOO_LONG:
+            raise Refused("no object is that long")
+        return bytes(length)
     if argument.startswith("="):
-        return argument[1:].encode()
+        return os.fsencode(argument[1:])
     if argument.startswith("@"):
         with open(argument[1:], "rb") as file:
             return file.read()

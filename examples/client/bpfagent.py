@@ -16,7 +16,7 @@ path of bpfagent, and the code is `ldxdw r0, [r1]`, `add r0, r2`, `exit`:
     >>> run
     Run(last=Stopped(machine=1, why='exit', value=42), instructions=1)
 
-What is refused says why. Nothing has changed then, and the conversation goes on:
+What is refused says why. The command has changed nothing then, and the conversation goes on:
 
     >>> with Agent.start(program) as agent:
     ...     agent.get(7, 0, 1)
@@ -28,6 +28,7 @@ of two clients. An agent isn't for many threads: let each have its own connectio
 """
 from __future__ import annotations
 
+import contextlib
 import enum
 import re
 import socket
@@ -65,7 +66,8 @@ LISTENING = re.compile(rb"listening ([0-9]+)\n")
 
 
 class Refused(Exception):
-    """The command was refused, and changed nothing. The text is the reply; `word` is its first word, `words` are all of them."""
+    """The command was refused, and changed nothing, but for `kept n fault PLACE`, after which the object is at that place. Of a
+    method of several commands, those before it were done. The text is the reply; `word` is its first word, `words` are all."""
 
     def __init__(self, reply: str) -> None:
         super().__init__(reply)
@@ -103,7 +105,8 @@ class Paused:
 
 @dataclass(frozen=True)
 class Waiting:
-    """The instruction needs an object that isn't here, and nothing was done."""
+    """The instruction needs an object that isn't here or, in a service, one on which another has its turn. It wasn't done, and
+    may be tried again."""
 
     machine: int
     object: int
@@ -206,7 +209,8 @@ class Agent:
         process = subprocess.Popen([program, "run", *arguments], stdin=subprocess.PIPE, stdout=subprocess.PIPE)
 
         def end() -> None:
-            process.stdin.close()
+            with contextlib.suppress(BrokenPipeError):
+                process.stdin.close()
             process.stdout.close()
             if process.wait():
                 raise Broken(f"the program ended with status {process.returncode}")
@@ -221,8 +225,8 @@ class Agent:
         stream = connection.makefile("rwb")
 
         def end() -> None:
-            stream.close()
-            connection.close()
+            with connection:
+                stream.close()
 
         return cls(stream, stream, end)
 
@@ -414,8 +418,11 @@ class Agent:
     def run_until(self, machine: int, slot: Optional[int] = None, limit: Optional[int] = None, wait: Optional[Callable[[int], None]] = None) -> Run:
         """Steps a machine until it stops, is paused or writes to a watched range; or, where they are given, until it is about
         to do the instruction at `slot`, or has done `limit` instructions. Where it waits for an object, `wait` is called
-        with the number, and the step is tried again: it brings the object home, or gives a service's mover time to do so.
+        with the number, and the step is tried again: it brings the object home, or gives time to a service's mover, or
+        to whoever has its turn.
         Without `wait` the run ends there. Where others step the machine too, only the instructions done here are counted."""
+        if limit is not None and limit < 1:
+            raise ValueError("a run does at least one instruction")
         instructions = 0
         while True:
             last = self.step(machine)
@@ -491,9 +498,11 @@ class Service:
 
     def close(self) -> list[str]:
         """Waits for the end of the service, which comes when all its connections have ended, and gives its last lines."""
-        self.setup.close()
-        lines = self._process.stdout.read().decode("ascii", "replace").splitlines()
-        self._process.stdout.close()
+        with contextlib.suppress(Broken):
+            self.setup.close()
+        output = self._process.stdout
+        lines = [] if output.closed else output.read().decode("ascii", "replace").splitlines()
+        output.close()
         if self._process.wait():
             raise Broken(f"the service ended with status {self._process.returncode}")
         return lines
@@ -505,6 +514,9 @@ class Service:
         """Waits for the end, or ends the service where something went wrong."""
         if error is not None:
             self._process.kill()
+            with contextlib.suppress(Broken):
+                self.setup.close()
+            self._process.stdout.close()
             self._process.wait()
         elif not self._process.stdout.closed:
             self.close()

@@ -5,6 +5,7 @@ The store is `bpfagent store`, or whatever else speaks the frames of docs/FAR-ST
 length and its SHA-256.
 """
 import hashlib
+import os
 import socket
 import struct
 import sys
@@ -57,8 +58,11 @@ class Store:
 
 
 def main():
+    texts = [os.fsencode(text) for text in sys.argv[2:]]
+    if not sys.argv[1:] or not all(1 <= len(text) <= LIMIT for text in texts):
+        sys.exit(f"client.py PORT TEXT.., each text of 1 to {LIMIT} bytes")
     store = Store(int(sys.argv[1]))
-    parcels = [store.put(text.encode()) for text in sys.argv[2:]]
+    parcels = [store.put(text) for text in texts]
     for number, digest in parcels:
         text = store.get(number, digest) if number else None
         if text is None:

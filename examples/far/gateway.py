@@ -53,8 +53,11 @@ class Node:
             return text if kind == b"+" else int(text)
         if text == b"-1":
             return None
-        content = self.stream.read(int(text) + 2)
-        if len(content) != int(text) + 2:
+        length = int(text)
+        if not 0 <= length <= LIMIT:
+            raise ConnectionError(f"this is no parcel: {line[:40]}")
+        content = self.stream.read(length + 2)
+        if len(content) != length + 2:
             raise ConnectionError("a reply was cut")
         return content[:-2]
 
@@ -189,9 +192,13 @@ def main() -> None:
     with Gateway(given.port, given.redis, given.prefix) as gateway:
         print(f"listening {gateway.server_address[1]}", flush=True)
         threading.Thread(target=gateway.serve_forever).start()
-        while sys.stdin.buffer.read(1 << 16):
+        try:
+            while sys.stdin.buffer.read(1 << 16):
+                pass
+        except KeyboardInterrupt:
             pass
-        gateway.end()
+        finally:
+            gateway.end()
 
 
 if __name__ == "__main__":

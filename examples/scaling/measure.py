@@ -7,8 +7,8 @@ need an eighth more at least (what they keep of freed memory is turned off here)
 
 Lines a second that `bpfagent run` answers where many come at once, and a round trip of one. A round trip between two processes
 over TCP on this machine, of 64 bytes and back, and of 64 bytes for 65,536: the median of many, in microseconds. Where the
-program has `serve`, instructions a second by workers, a round trip of a client, connections and moves a second. Standard
-library only.
+program has `serve`, instructions a second by workers, a round trip of a client, and how long a new connection and a move
+take. Standard library only.
 """
 import argparse
 import os
