@@ -30,6 +30,32 @@ def strays():
                 yield f"{edit.relative_to(ROOT)} is no edit"
 
 
+def unread():
+    """The files that no `mod` leads to, which no check and no test reads, and what is compiled for other than tests alone."""
+    for crate in sorted(crates()):
+        src = ROOT / "crates" / crate / "src"
+        found = [path for path in (src / "lib.rt", src / "main.rt") if path.is_file()]
+        for path in found:
+            code = blanked(path.read_text())
+            below = src if path.parent == src and path.stem in ("lib", "main") else path.parent if path.stem == "mod" else path.with_suffix("")
+            named = re.findall(r"(?m)^\s*(?:pub(?:\([^)]*\))? )?mod (\w+);", code)
+            found += [file for name in named for file in (below / f"{name}.rt", below / name / "mod.rt") if file.is_file() and file not in found]
+            yield from (f"{path.relative_to(ROOT)} has {other}, which may leave out a test" for other in re.findall(r"#!?\s*\[\s*cfg[^\]]*\]", code) if other != "#[cfg(test)]")
+        yield from (f"{path.relative_to(ROOT)} is in no `mod` of its crate" for path in sorted(src.rglob("*.rt")) if path not in found)
+
+
+def uncalled():
+    """The functions of scripts that are named nowhere but where they stand, such as a part that is taken out of its list."""
+    texts = {path: path.read_text() for path in sorted((ROOT / "tests").glob("*.py"))}
+    everything = "\n".join(texts.values())
+    for path, text in texts.items():
+        for name in re.findall(r"(?m)^def (\w+)", text):
+            if len(re.findall(rf"\b{name}\b", text)) < 2 and not re.search(rf"(?m)^from {path.stem} import .*\b{name}\b|\b{path.stem}\.{name}\b", everything):
+                yield f"tests/{path.name}: nothing calls {name}"
+        if path.name != "gate.py" and re.search(r"(?m)^main\(\)|__main__", text) and f'"tests/{path.name}"' not in texts[ROOT / "tests/gate.py"]:
+            yield f"tests/{path.name} isn't called by tests/gate.py"
+
+
 def misfits():
     """The edits that can't be made: of a file that isn't there, or of a text that doesn't stand there once."""
     for edit in sorted((ROOT / "crates").glob("*/must-fail/*.edit")):
@@ -117,7 +143,7 @@ def main():
     if sys.argv[1:] == ["--write"]:
         LIST.write_text("".join(line + "\n" for line in found))
     wanted = LIST.read_text().splitlines() if LIST.is_file() else []
-    wrong = [*strays(), *misfits()]
+    wrong = [*strays(), *unread(), *uncalled(), *misfits()]
     wrong += [f"{line} (tests/counts.txt says otherwise)" for line in found if line not in wanted]
     wrong += [f"{line} (tests/counts.txt), and isn't so" for line in wanted if line not in found]
     for line in wrong:

@@ -13,6 +13,8 @@ from sources import ROOT, crates, pages
 PICTURE = "docs/ARCHITECTURE.md"
 DRAWN = re.compile(r"(?ms)(^```mermaid\n).*?(?=^```)")
 COUNTED = re.compile(r"(?m)^(\| [^|]*: `(\w+)` \|) \d+ \| \d+ \| \d+ \| \d+ \|$")
+# A row of that table, whatever it counts.
+ROW = re.compile(r"(?m)^\| [^|]*: `\w+` \|")
 FOR_TESTS = re.compile(r"_tests$|^test_devices$|^conversations$|^bench_\w+$|^refused_\w+$")
 # A command of a page: of make, with its folder and its target, or of a script in Python, with its options.
 MAKE = re.compile(r"(?:`|^|&& )make (?:-C ([\w/]+) ?)?([a-z]*)(?=`| +#|$)", re.M)
@@ -77,8 +79,10 @@ def wrong_quotes(text):
 
 def wrong_scripts(text):
     for found in re.finditer(r"(?ms)^python3 - <<'PY'\n(.*?)^PY$", text):
-        printed = subprocess.run([sys.executable, "-c", found[1]], cwd=ROOT, stdout=subprocess.PIPE, text=True).stdout
-        yield from (f"has a script that prints {line}" for line in missing_lines(text[: found.start()], printed or "nothing"))
+        done = subprocess.run([sys.executable, "-c", found[1]], cwd=ROOT, stdout=subprocess.PIPE, stderr=subprocess.DEVNULL, text=True)
+        if done.returncode or not done.stdout:
+            yield f"has a script that prints {len(done.stdout.splitlines())} lines and ends with {done.returncode}"
+        yield from (f"has a script that prints {line}" for line in missing_lines(text[: found.start()], done.stdout))
 
 
 def edges(names):
@@ -127,7 +131,7 @@ def wrong_picture(is_written):
     wanted = counted(DRAWN.sub(lambda found: found[1] + picture(), text))
     if is_written:
         path.write_text(wanted)
-    elif wanted != text or not DRAWN.search(text) or not COUNTED.search(text):
+    elif wanted != text or not DRAWN.search(text) or not 0 < len(COUNTED.findall(text)) == len(ROW.findall(text)):
         yield f"{PICTURE}: the picture isn't what crates.txt says, or the table what the files say: tests/documents.py --write makes it so"
 
 

@@ -16,9 +16,12 @@ LIST = ROOT / "tests/failures.txt"
 WORDS = re.compile(r"\b(?:AllocError|AllocFailed|NoMemory|OutOfMemory|ReadFault|WriteFault|(?:Why|Self|Failure|OpenAgent|\w+Error|\w+Fault)::(?:Memory|Read|Write|Io))\b")
 ROOM = re.compile(r"\b(?:with_capacity\w*|(?:try_)?reserve\w*|resize\w*|repeat|vec!)\s*[(\[]")
 # What follows a pattern, which answers nothing.
-PATTERN = re.compile(r"[\s)}]*(?:\||=>|if\b)|[\s)]*=[^=]")
+# A brace before `if` ends a block, whose value it may be: `{ return Err(NoMemory) } if ..`.
+PATTERN = re.compile(r"[\s)}]*(?:\||=>)|[\s)]*if\b|[\s)]*=[^=]")
 # A `use` that gives a word another name, takes all names of a module or a type, or takes variants of a type.
 RENAMING = re.compile(r"\bas\b|\*|\b[A-Z]\w*::")
+# A type of these words that gets another name, by which they would be answered unseen.
+RENAMED_TYPE = re.compile(r"^use\b.*\b(?:Why|Failure|OpenAgent|\w+Error|\w+Fault) as\b|^type \w+(?:<[^=]*>)? = (?:\w+::)*(?:Why|Failure|OpenAgent|\w+Error|\w+Fault);?$")
 OUTSIDE = re.compile(r"(?m)^\s*(?:pub(?:\([^)]*\))? )?(use|const|static|type|macro_rules!)\s[^;{]*")
 
 
@@ -93,11 +96,11 @@ def outside(name, code, text):
         end = code.index(";", end) if item[1] == "use" else end
         said = shown(text[item.start(1) : end])
         named = WORDS.search(code, item.start(1), end) or item[1] == "use" and re.search(r"\b(?:Memory|Read|Write|Io)\b|\*", said)
-        if named and (item[1] != "use" or RENAMING.search(said)):
+        if RENAMED_TYPE.search(said) or named and (item[1] != "use" or RENAMING.search(said)):
             yield name, item[1], said
 
 
-LEAKS = re.compile(r"\bmem::forget\b|\b(?:ManuallyDrop|into_raw\w*|from_raw\w*)\b|[.:]leak\b")
+LEAKS = re.compile(r"\bmem::forget\b|\bmem::\{[^;]*\bforget\b|\bmem(?: as\b|::\*)|\b(?:ManuallyDrop|into_raw\w*|from_raw\w*)\b|[.:]leak\b")
 
 
 # A flush: no clause refuses one, and no count of the system's calls shows it, since std's standard output does nothing then.

@@ -40,6 +40,9 @@ def differing():
             yield f"{name} isn't what {' '.join(call)} writes"
     with tempfile.TemporaryDirectory() as folder:
         output([f"{TABLES}/vectors.py", folder])
+        written = {path.name for path in pathlib.Path(folder).iterdir()}
+        if written != {path.name for path in (ROOT / TABLES / "src").glob("*.rt") if "Written by `vectors.py`" in path.read_text()}:
+            yield f"{TABLES}/vectors.py doesn't write all of {TABLES}/src that says so: {sorted(written)}"
         for path in sorted(pathlib.Path(folder).iterdir()):
             if plain((ROOT / TABLES / "src" / path.name).read_text()) != plain(path.read_text()):
                 yield f"{TABLES}/src/{path.name} isn't what {TABLES}/vectors.py writes"

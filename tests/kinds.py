@@ -11,7 +11,9 @@ from sources import ROOT, blanked
 
 MODULE = "crates/shared_objects/src/kinds.rt"
 LIST = ROOT / "tests/kinds.txt"
-KIND = re.compile(r"\bimpl\b(?:\s*<[^{;]*?>)?\s+(?:\w+::)*(TableRule|Split|Join|Play)\b[^{;]*?\bfor\s+(\w+)")
+KIND = re.compile(r"\bimpl\b[^{}]*?\b(TableRule|Split|Join|Play)\b[^{}]*?\bfor\s+(\w+|[^{}]*?(?=\s*(?:\bwhere\b|\{)))")
+# Another name for such a trait, under which an `impl` of it would not be found.
+RENAMED = re.compile(r"\b(?:TableRule|Split|Join|Play)\s+as\b")
 
 
 def found():
@@ -21,12 +23,22 @@ def found():
             yield trait, name, str(path.relative_to(ROOT))
 
 
+def renamed():
+    """The files that give a trait of kinds another name."""
+    for path in sorted((ROOT / "crates").glob("*/src/**/*.rt")):
+        if RENAMED.search(blanked(path.read_text())):
+            yield str(path.relative_to(ROOT))
+
+
 def is_private(names):
-    """Whether the module is private, and no kind is handed out."""
+    """Whether the module is private, and no kind is handed out, by its root or by way of another module."""
     root = (ROOT / MODULE).with_name("lib.rt")
-    text = blanked(root.read_text()) if root.is_file() else "mod kinds;"
-    handed_out = " ".join(re.findall(r"pub use [^;]*\bkinds::([^;]*);", text))
-    return bool(re.search(r"(?m)^mod kinds;", text)) and not set(re.findall(r"\w+|\*", handed_out)) & {*names, "*"}
+    for path in sorted(root.parent.rglob("*.rt")):
+        for item in re.findall(r"\bpub(?:\([^)]*\))? (?:use|type)\s([^;]*);", blanked(path.read_text())):
+            words = set(re.findall(r"\w+|\*", item))
+            if words & set(names) or "kinds" in words and words & {"*", "self"}:
+                return False
+    return bool(re.search(r"(?m)^mod kinds;", blanked(root.read_text())))
 
 
 def main():
@@ -38,6 +50,7 @@ def main():
     wrong = [f"{file}: {trait} {name} stands outside of {MODULE}" for trait, name, file in kinds if file != MODULE]
     wrong += [f"{line} is a kind that tests/kinds.txt doesn't have" for line in lines if lines.count(line) > wanted.count(line)]
     wrong += [f"{line} (tests/kinds.txt) is no kind any more" for line in wanted if line not in lines]
+    wrong += [f"{file} gives a trait of kinds another name" for file in renamed()]
     wrong += [] if is_private([name for _, name, _ in kinds]) else [f"{MODULE} isn't private"]
     for said in wrong:
         print(said)

@@ -46,6 +46,19 @@ EDITS = [
     ("room for 1 GiB", "failures.py", "crates/console/src/console.rt", r"with_capacity\(alloc, LINE_LIMIT \+ 1\)", "with_capacity(alloc, 1 << 30)"),
     ("a line that grows from nothing", "failures.py", "crates/console/src/console.rt", r"Vec::with_capacity\(alloc, LINE_LIMIT \+ 1\)\?", "Vec::new(alloc)"),
     ("room for 2^20 entries", "failures.py", "crates/loader/src/loading.rt", r"with_capacity\(alloc, bytes\.len\(\) / 8\)", "with_capacity(alloc, 1 << 20)"),
+    ("tests to which no module leads", "counts.py", "crates/agent_tests/src/lib.rt", r"#\[cfg\(test\)\]\nmod budgets;\n", ""),
+    ("a script that the gate doesn't call", "counts.py", "tests/gate.py", r', "tests/kinds\.py"', ""),
+    ("a part that a script leaves out", "counts.py", "tests/store.py", r" show_statuses,", ""),
+    ("vectors that their script doesn't write", "generated.py", "crates/isa_table_tests/vectors.py", r'\("single", single\(\)\),', ""),
+    ("a synopsis that isn't found", "protocol.py", "docs/PROTOCOL.md", r"## Synopsis", "## Summary"),
+    ("a row of counts that isn't read", "documents.py", "docs/ARCHITECTURE.md", r"(a command that ships: `\w+` \| \d+ \| \d+ \| \d+ \|) \d+ \|", r"\1 9 files |"),
+    ("a script of a page that fails", "documents.py", "docs/PROVING.md", r"rows\.count\(", "row.count("),
+    ("a kind that a tuple is", "kinds.py", "crates/shared_objects/src/table.rt", r"\Z", "\nimpl Play<Body, View> for (Cools, Looks) { }\n"),
+    ("a trait of kinds by another name", "kinds.py", "crates/shared_objects/src/table.rt", r"\nuse atomic_table::Table;", "\nuse atomic_table::{Play as P, Table};"),
+    ("a kind that another module hands out", "kinds.py", "crates/shared_objects/src/table.rt", r"\nuse atomic_table::Table;", "\nuse atomic_table::Table;\npub use crate::kinds::Looks;"),
+    ("out of memory before a test", "failures.py", "crates/streams/src/reading.rt", r"(if input\.extend_from_slice\(&piece\[\.\.n\]\)\.is_err\(\))", r"if n == 3333 { return Err(InputFault::NoMemory) }\n                \1"),
+    ("a type of failures by another name", "failures.py", "crates/loader/src/loading.rt", r"\n(?=\nimpl |\npub struct )", "\nuse crate::Why as W;\n"),
+    ("a value that is lost by a name of its own", "failures.py", "crates/loader/src/loading.rt", r"\n(?=\nimpl |\npub struct )", "\nuse std::mem::{forget, swap};\nfn lose(x: Vec<u8>) { forget(x); }\n"),
 ]
 
 

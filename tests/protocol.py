@@ -54,6 +54,8 @@ def synopsis(text):
 
 def main():
     text = open(PROTOCOL, encoding="ascii").read()
+    if not SYNOPSIS.search(text):
+        sys.exit(f"{PROTOCOL} has no synopsis")
     wanted = SYNOPSIS.sub(lambda found: found[1] + synopsis(text), text)
     if sys.argv[1:] == ["--write"]:
         open(PROTOCOL, "w", encoding="ascii").write(wanted)

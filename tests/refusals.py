@@ -218,10 +218,14 @@ REFUSED = "refused, 0 replies, slot 0, fuel 10"
 
 def refused_run(failing):
     """How often a list of commands was refused."""
-    found = [failing.call(RUN, [], b"", at)[1].decode().strip() for at in range(1, 24)]
-    for said in found:
-        if said not in (DONE, REFUSED, "no world", "no commands", "done, 7 replies, no machine"):
-            raise Failed(f"refused_run: {said}")
+    whole, total = failing.allocations(RUN, [], b"")
+    done = [whole, *(failing.call(RUN, [], b"", at) for at in range(1, total + 1))]
+    found = [output.decode().strip() for _, output, _ in done]
+    for (status, _, errors), said in zip(done, found):
+        if status or said not in (DONE, REFUSED, "no world", "no commands", "done, 7 replies, no machine"):
+            raise Failed(f"refused_run: {said}, status {status}, {errors}")
+    if found[0] != DONE:
+        raise Failed(f"refused_run without a failure: {found[0]}")
     return found.count(REFUSED)
 
 
@@ -309,9 +313,10 @@ def refused_part(failing, part):
     """How often something of a part was refused: each of its outcomes comes, and no other."""
     outcomes = OUTCOMES[part]
     (status, output, _), total = failing.allocations(PARTS, [], part.encode())
-    found = [failing.call(PARTS, [], part.encode(), at)[1].decode().strip() for at in range(1, total + 1)]
-    if (status, output.decode().strip()) != (0, outcomes[-1]) or set(found) - set(outcomes) or set(outcomes[:-1]) - set(found):
-        raise Failed(f"{PARTS.name}, {part}: {sorted(set(found))}")
+    done = [failing.call(PARTS, [], part.encode(), at) for at in range(1, total + 1)]
+    found = [told.decode().strip() for _, told, _ in done]
+    if any(ended for ended, _, _ in done) or (status, output.decode().strip()) != (0, outcomes[-1]) or set(found) - set(outcomes) or set(outcomes[:-1]) - set(found):
+        raise Failed(f"{PARTS.name}, {part}: {sorted(set(found))}, statuses {sorted({ended for ended, _, _ in done})}")
     return total - found.count(outcomes[-1])
 
 

@@ -50,7 +50,7 @@ def main(program, path):
         print(f"listening {listener.getsockname()[1]}", flush=True)
         accept(talks, listener, done)
     print("closed", flush=True)
-    sys.exit(0 if all(done) else 4)
+    sys.exit(0 if done == [True] * (1 + len(talks)) else 4)
 
 
 def program_of(folder, program, setup, *talks):

@@ -334,6 +334,9 @@ def work(task):
 
 def main():
     program, parts = os.path.abspath(sys.argv[1]), sys.argv[2:]
+    unknown = set(parts) - {name for name, _ in tasks()}
+    if unknown or not os.path.isfile(program):
+        sys.exit(f"{program} is no program" if not unknown else f"no part is called {', '.join(sorted(unknown))}")
     start, wrong, calls = time.monotonic(), [], 0
     with concurrent.futures.ProcessPoolExecutor(os.cpu_count(), initializer=set_program, initargs=(program,)) as pool:
         for name, part in tasks():
