@@ -90,18 +90,12 @@ class Redis(socketserver.ThreadingTCPServer):
                 pass
 
 
-def can_be_interrupted():
-    """As at a terminal: where the gate runs in the background, an interrupt is ignored."""
-    signal.signal(signal.SIGINT, signal.SIG_DFL)
-
-
 class Gateway:
     """The gateway, listening."""
 
     def __init__(self, redis, *arguments):
         pipe = subprocess.PIPE
-        command = [sys.executable, str(GATEWAY), "--redis", redis, *arguments]
-        self.process = subprocess.Popen(command, stdin=pipe, stdout=pipe, stderr=pipe, preexec_fn=can_be_interrupted)
+        self.process = subprocess.Popen([sys.executable, str(GATEWAY), "--redis", redis, *arguments], stdin=pipe, stdout=pipe, stderr=pipe)
         self.port = int(self.process.stdout.readline().split()[1])
 
     def connect(self):
@@ -287,6 +281,8 @@ def is_listening(port):
 
 
 def main():
+    # Where the gate runs in the background, an interrupt is ignored, and would be by the gateways too.
+    signal.signal(signal.SIGINT, signal.default_int_handler)
     redis, program = Redis(), shutil.which("redis-server")
     try:
         show_frames(redis.address)
