@@ -194,6 +194,9 @@ def show_example(program):
     done = subprocess.run([sys.executable, CLIENT, str(server.port), *filter(None, texts)], capture_output=True, timeout=SECONDS)
     lines = [f"{k} {len(text.encode())} {hashlib.sha256(text.encode()).hexdigest()}" for k, text in enumerate(filter(None, texts), 1)]
     want(done.returncode == 0 and done.stdout.decode().splitlines() == lines, f"the example ended with {done}")
+    for words in ([], [str(server.port), ""], [str(server.port), "a", "z" * (LIMIT + 1)]):
+        wrong = subprocess.run([sys.executable, CLIENT, *words], capture_output=True, timeout=SECONDS)
+        want((wrong.returncode, wrong.stderr) == (1, b"client.py PORT TEXT.., each text of 1 to 65536 bytes\n"), f"the example without a text that can be put: {wrong}")
     store = Store(server.port)
     number, digest = store.put(b"abc")
     want(store.get(number, digest) == b"abc" and store.get(number, bytes(32)) is None and store.get(7, digest) is None, "the client's get")
