@@ -73,6 +73,7 @@ def show_objects(program, code, folder):
         want(["run", program, code, f"@{path}", "0x10"], 0, f"stopped 1 exit {content[0] + 16:016x}\n3 instructions\nobject 1: {content.hex()}\n", "")
     shown = f"stopped 1 exit {ord('o'):016x}\n3 instructions\nobject 1: {b'one'.hex()} \"one\"\nobject 2: 000000\nobject 3: {b'two'.hex()} \"two\"\n"
     want(["run", program, code, "=one", "0", "+3", "=two"], 0, shown, "")
+    want(["run", program, code, os.fsdecode(b"=\xff")], 0, f"stopped 1 exit {255:016x}\n3 instructions\nobject 1: ff\n", "")
 
 
 def show_stops(program, folder, codes):
