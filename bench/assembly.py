@@ -1,16 +1,21 @@
 #!/usr/bin/env python3
-"""Time of `asm` and `dis` on a text of 4096 slots with 1,000 labels, of a half and of a quarter of it: assembly.py PROGRAM
+"""Time of `asm` and `dis` on a text of 4096 slots with 1,000 labels, beside a quarter of it: assembly.py PROGRAM
 
-The time of an empty text is taken off. That it grows linearly shows in the time of a line.
+The time of an empty text is taken off. That it grows linearly shows in the time of a line, and in its machine instructions.
 """
+from __future__ import annotations
+
 import subprocess
-import sys
 import time
 
+from counts import can_count, counted
+from rows import words
+
 RUNS = 7
+SIZES = ((1024, 250), (4096, 1000))
 
 
-def text(slots, labels):
+def text(slots: int, labels: int) -> bytes:
     """A line for each slot; of every three one compares and jumps to the label before it."""
     lines, every = [], max(slots // labels, 1)
     for k in range(slots - 1):
@@ -20,25 +25,35 @@ def text(slots, labels):
     return "\n".join([*lines, "exit", ""]).encode()
 
 
-def timed(arguments, data):
+def timed(arguments: list[str], data: bytes) -> tuple[float, bytes]:
     """The shortest time of some runs, and what was written."""
-    best, output = None, b""
+    best, output = float("inf"), b""
     for _ in range(RUNS):
         start = time.perf_counter()
         done = subprocess.run(arguments, input=data, stdout=subprocess.PIPE, check=True)
         spent = time.perf_counter() - start
-        best, output = min(spent, best or spent), done.stdout
+        best, output = min(spent, best), done.stdout
     return best, output
 
 
-def main():
-    program = sys.argv[1]
-    empty, _ = timed([program, "asm"], b"")
-    for slots, labels in ((1024, 250), (2048, 500), (4096, 1000)):
-        assembled, code = timed([program, "asm"], text(slots, labels))
-        shown, _ = timed([program, "dis"], code)
-        asm, dis = (1e9 * (spent - empty) / slots for spent in (assembled, shown))
-        print(f"{slots} slots, {labels:4} labels   asm {asm:6.0f} ns a line, dis {dis:6.0f} ns a line")
+def of_a_line(arguments: list[str], data: bytes, slots: int) -> float:
+    """Machine instructions of a line."""
+    return (counted(arguments, data)[0] - counted(arguments, b"")[0]) / slots
 
 
-main()
+def main() -> None:
+    (program,) = words("assembly.py PROGRAM", 1, 1)
+    texts = [text(*size) for size in SIZES]
+    codes = [timed([program, "asm"], source)[1] for source in texts]
+    for command, inputs in (("asm", texts), ("dis", codes)):
+        empty, _ = timed([program, command], b"")
+        few, many = (1e9 * (timed([program, command], data)[0] - empty) / slots for data, (slots, _) in zip(inputs, SIZES))
+        line = f"{command}, 1024 and 4096 slots    {many:6.0f} beside {few:6.0f} ns a line, ratio {many / few:.2f}"
+        if can_count():
+            one, other = (of_a_line([program, command], data, slots) for data, (slots, _) in zip(inputs, SIZES))
+            line += f"; {other:.0f} beside {one:.0f} machine instructions"
+        print(line, flush=True)
+
+
+if __name__ == "__main__":
+    main()

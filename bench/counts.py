@@ -4,46 +4,60 @@
 counts.py STEPS FOLDER > COUNTS
 
 For each program that STEPS measures a line: those of a step of the agent, those of a step of the flat interpreter in C, and the
-program's name; one of a load of the agent in an open scope and in a new one, and one of a
-load where all objects are granted and where 16 are. Each is the difference of two runs of different
-length by the instructions of the program that ran between them. Nothing is written where there is no valgrind.
+program's name. Then those of a load of the agent in two settings: an open scope and a new one, all objects granted and 16 of them,
+one object and 1024, one machine and 48. Each is the difference of two runs of different length by the instructions of the program
+that ran between them. Nothing is written where there is no valgrind.
 """
+from __future__ import annotations
+
 import re
 import shutil
 import subprocess
-import sys
+from pathlib import Path
+from typing import Optional, Sequence, Union
+
+from rows import words
 
 PROGRAMS = [
     "checksum", "gcd", "sieve", "sort", "table",
     "counting loop", "straight arithmetic", "nested calls", "loads", "stores", "atomic operations",
 ]
+SETTINGS = [
+    ("loads, open and new scope", "loads, open scope", "loads, new scope"),
+    ("loads, all and 16 granted", "loads", "loads, 16 granted"),
+    ("loads, 1 and 1024 objects", "loads", "loads, 1024 objects"),
+    ("loads, 1 and 48 machines", "loads", "loads, 48 machines"),
+]
 SHORT, LONG = 20_000, 60_000
 
 
-def can_count():
+def can_count() -> bool:
     return shutil.which("valgrind") is not None
 
 
-def counted(command, script=None):
+def counted(command: Sequence[Union[str, Path]], script: Optional[bytes] = None) -> tuple[int, bytes]:
     """How many machine instructions a command takes, and what it wrote."""
     whole = ["valgrind", "--tool=callgrind", "--callgrind-out-file=/dev/null", *command]
     done = subprocess.run(whole, input=script, stdout=subprocess.PIPE, stderr=subprocess.PIPE, check=True)
-    return int(re.search(rb"Collected : (\d+)", done.stderr).group(1)), done.stdout
+    found = re.search(rb"Collected : (\d+)", done.stderr)
+    if found is None:
+        raise OSError("valgrind tells no count")
+    return int(found[1]), done.stdout
 
 
-def of_a_step(steps, folder, side, name):
+def of_a_step(steps: Union[str, Path], folder: str, side: str, name: str) -> float:
     (few, first), (many, second) = (counted([steps, folder, side, name, str(fuel)]) for fuel in (SHORT, LONG))
     return (many - few) / (int(second.split()[0]) - int(first.split()[0]))
 
 
-def main():
+def main() -> None:
+    steps, folder = words("counts.py STEPS FOLDER", 2, 2)
     if not can_count():
         return
     measured = [(name, ("agent", name), ("flat", name)) for name in PROGRAMS]
-    measured.append(("loads, open and new scope", ("agent", "loads, open scope"), ("agent", "loads, new scope")))
-    measured.append(("loads, all and 16 granted", ("agent", "loads"), ("agent", "loads, 16 granted")))
+    measured += [(name, ("agent", one), ("agent", other)) for name, one, other in SETTINGS]
     for name, *sides in measured:
-        one, other = (of_a_step(sys.argv[1], sys.argv[2], *side) for side in sides)
+        one, other = (of_a_step(steps, folder, *side) for side in sides)
         print(f"{one:.2f} {other:.2f} {name}", flush=True)
 
 

@@ -5,6 +5,7 @@
    embed FOLDER                   measures the stored programs
    embed FOLDER SIDE NAME FUEL    runs one side once, for bench/embed.py: run, one, step or bare; tells the steps that ran and R0 */
 #include "bpfagent.h"
+#include "percentile.h"
 #include <inttypes.h>
 #include <stdio.h>
 #include <stdlib.h>
@@ -91,12 +92,6 @@ static double side(size_t which, uint64_t fuel, struct outcome *o)
     return which == SIDES - 1 ? bare(fuel, o) : by_library(most[which], fuel, o);
 }
 
-static int by_value(const void *a, const void *b)
-{
-    double x = *(const double *)a, y = *(const double *)b;
-    return (x > y) - (x < y);
-}
-
 static void measure(const char *name)
 {
     static double times[SIDES][RUNS];
@@ -108,12 +103,13 @@ static void measure(const char *name)
                 first = other;
             check(first.steps == other.steps && first.result == other.result, "the results differ");
         }
+    double best[SIDES];
     printf("%-10s", name);
     for (size_t which = 0; which < SIDES; which++) {
-        qsort(times[which], RUNS, sizeof times[which][0], by_value);
-        printf("%s %6.2f ns%s", SIDE_NAMES[which], 1e9 * times[which][RUNS / 10] / (double)first.steps, which < SIDES - 1 ? ", " : "");
+        best[which] = tenth_percentile(times[which], RUNS);
+        printf("%s %6.2f ns%s", SIDE_NAMES[which], 1e9 * best[which] / (double)first.steps, which < SIDES - 1 ? ", " : "");
     }
-    printf("; run beside bare %.2f\n", times[0][RUNS / 10] / times[SIDES - 1][RUNS / 10]);
+    printf("; run beside bare %.2f\n", best[0] / best[SIDES - 1]);
 }
 
 int main(int count, char **words)

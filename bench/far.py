@@ -6,31 +6,36 @@ time. A time is the difference of a long run and a short one, without the progra
 fastest counts: processor time of both threads, and the time that passed. Where there is valgrind, machine instructions too. The
 digest alone is that of the kit's sha2, and in C one written as FIPS 180-4 says it; both are compared with Python's.
 """
+from __future__ import annotations
+
 import hashlib
 import os
-import re
-import shutil
 import subprocess
 import sys
 import time
+
+from counts import can_count, counted
+from rows import words
 
 LENGTHS = {64: (1_000, 41_000), 65_536: (40, 840)}
 COUNTED = {64: (100, 300), 65_536: (4, 12)}
 RUNS = 11
 
 
-def run(program, kind, count, length):
+def run(program: str, kind: str, count: int, length: int) -> tuple[float, float]:
     """The processor time and the time that passed, in seconds."""
     start = time.monotonic()
     process = subprocess.Popen([program, kind, str(count), str(length)], stdout=subprocess.PIPE)
-    said = process.stdout.read()
+    assert process.stdout is not None
+    with process.stdout as output:
+        said = output.read()
     _, status, used = os.wait4(process.pid, 0)
     if status or int(said) != expected(kind, count, length):
-        sys.exit(f"{program} {kind} {count} {length}: status {status}, {said}")
+        sys.exit(f"{program} {kind} {count} {length}: status {status}, {said!r}")
     return used.ru_utime + used.ru_stime, time.monotonic() - start
 
 
-def expected(kind, count, length):
+def expected(kind: str, count: int, length: int) -> int:
     """What the programs print: how many went well, or the sum of the digests' first words."""
     if kind != "digest":
         return count
@@ -38,10 +43,10 @@ def expected(kind, count, length):
     return count * int.from_bytes(digest[:4], "big")
 
 
-def fastest(programs, kind, length):
+def fastest(programs: list[str], kind: str, length: int) -> list[list[float]]:
     """Microseconds of one call, for each program: processor time and time passed."""
     few, many = LENGTHS[length]
-    found = [([], []) for _ in programs]
+    found: list[tuple[list[tuple[float, float]], list[tuple[float, float]]]] = [([], []) for _ in programs]
     for _ in range(RUNS):
         for program, (short, long) in zip(programs, found):
             short.append(run(program, kind, few, length))
@@ -49,29 +54,25 @@ def fastest(programs, kind, length):
     return [[(min(long) - min(short)) / (many - few) * 1e6 for short, long in zip(zip(*shorts), zip(*longs))] for shorts, longs in found]
 
 
-def instructions(program, kind, count, length):
-    whole = ["valgrind", "--tool=callgrind", "--callgrind-out-file=/dev/null", program, kind, str(count), str(length)]
-    done = subprocess.run(whole, stdout=subprocess.DEVNULL, stderr=subprocess.PIPE, check=True)
-    return int(re.search(rb"Collected : (\d+)", done.stderr).group(1))
-
-
-def of_a_call(program, kind, length):
+def of_a_call(program: str, kind: str, length: int) -> float:
     few, many = COUNTED[length]
-    return (instructions(program, kind, many, length) - instructions(program, kind, few, length)) / (many - few)
+    one, other = (counted([program, kind, str(count), str(length)])[0] for count in (few, many))
+    return (other - one) / (many - few)
 
 
-def main():
-    programs = sys.argv[1:3]
+def main() -> None:
+    programs = words("far.py PROGRAM C_PROGRAM", 2, 2)
     for kind in ("put", "get", "digest"):
         for length in LENGTHS:
             (ours, passed), (c, c_passed) = fastest(programs, kind, length)
-            line = f"{f'{kind} of {length} bytes':22} {ours:7.2f} us, C {c:7.2f} us, ratio {ours / c:.2f}; by time passed {passed / c_passed:.2f}"
-            if shutil.which("valgrind"):
+            line = f"{f'{kind} of {length} bytes':22}  {ours:7.2f} us, C {c:7.2f} us, ratio {ours / c:.2f}; by time passed {passed / c_passed:.2f}"
+            if can_count():
                 ours, c = (of_a_call(program, kind, length) for program in programs)
-                line += f"; {ours:.0f} machine instructions, C {c:.0f}"
+                line += f"; {ours:.0f} and {c:.0f} machine instructions"
                 if kind == "digest":
                     line += f": {ours / length:.1f} a byte, C {c / length:.1f}"
             print(line, flush=True)
 
 
-main()
+if __name__ == "__main__":
+    main()

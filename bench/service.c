@@ -1,5 +1,5 @@
 /* What a service costs in plain C, for bench/service.py. `service lock N` does N instructions of a loop of additions by the flat
-   interpreter, each under a mutex of the machine's own. `service trip` listens on 127.0.0.1, says on which port, and answers each
+   interpreter, a turn of 64 at a time under a mutex of the machine's own. `service trip` listens on 127.0.0.1, says on which port, and answers each
    line `get 1 0 8` of one client. */
 #include "flat.h"
 #include <arpa/inet.h>
@@ -14,6 +14,9 @@
 /* r1 += 7; goto -2 */
 static const uint8_t ADDITIONS[] = {0x07, 0x01, 0, 0, 7, 0, 0, 0, 0x05, 0, 0xfe, 0xff, 0, 0, 0, 0};
 
+/* how many instructions are done under the mutex at a time, as the agent's workers do */
+#define TURN 64
+
 static int lock(uint64_t count)
 {
     static struct flat_instr code[2];
@@ -21,9 +24,10 @@ static int lock(uint64_t count)
     static pthread_mutex_t mutex = PTHREAD_MUTEX_INITIALIZER;
     flat_decode(code, ADDITIONS, 2);
     flat_start(&machine, code, 0, 0);
-    for (uint64_t k = 0; k < count; k++) {
+    for (uint64_t left = count, turn; left; left -= turn) {
+        turn = left < TURN ? left : TURN;
         pthread_mutex_lock(&mutex);
-        machine.fuel = 1;
+        machine.fuel = turn;
         flat_run(&machine);
         pthread_mutex_unlock(&mutex);
     }

@@ -2,6 +2,7 @@
    and what the number of objects, of machines and of scopes costs. Runs are interleaved, and of each the tenth percentile counts.
    Machine instructions are counted by bench/counts.py, which has this program run one side once. */
 #include "flat.h"
+#include "percentile.h"
 #include <stdio.h>
 #include <stdlib.h>
 #include <string.h>
@@ -34,23 +35,12 @@ struct outcome {
     uint64_t result, steps;
 };
 
+/* Seconds that the processor worked for this program: other work on the machine takes none of them. */
 static double now(void)
 {
     struct timespec t;
-    clock_gettime(CLOCK_MONOTONIC, &t);
+    clock_gettime(CLOCK_PROCESS_CPUTIME_ID, &t);
     return (double)t.tv_sec + 1e-9 * (double)t.tv_nsec;
-}
-
-static int by_value(const void *a, const void *b)
-{
-    double x = *(const double *)a, y = *(const double *)b;
-    return (x > y) - (x < y);
-}
-
-static double tenth_percentile(double *times)
-{
-    qsort(times, RUNS, sizeof *times, by_value);
-    return times[RUNS / 10];
 }
 
 /* ---- machine instructions */
@@ -134,24 +124,24 @@ static void run_both(struct timed *t, int k)
     }
 }
 
-/* Two ratios of a step: by time, and by machine instructions. */
+/* Two ratios of a step, by time and by machine instructions, and the machine instructions of both sides. */
 struct ratios {
-    double time, counts;
+    double time, counts, ours, theirs;
 };
 
 /* Tells the times of both and what was counted, and gives their ratios. */
 static struct ratios tell(struct timed *t)
 {
-    double a = tenth_percentile(t->ours), b = tenth_percentile(t->theirs), steps = (double)t->outcome.steps;
+    double a = tenth_percentile(t->ours, RUNS), b = tenth_percentile(t->theirs, RUNS), steps = (double)t->outcome.steps;
     printf("%-28s agent %6.2f ns a step, flat C %6.2f, ratio %.2f", t->name, 1e9 * a / steps, 1e9 * b / steps, a / b);
     struct counts c = tell_counts(t->name);
-    return (struct ratios){ a / b, c.first > 0 ? c.first / c.second : 0 };
+    return (struct ratios){ a / b, c.first > 0 ? c.first / c.second : 0, c.first, c.second };
 }
 
 /* Runs the programs in turn, many times, and gives the mean of their ratios. */
 static struct ratios compare(struct timed *programs, size_t count)
 {
-    struct ratios sum = { 0, 0 };
+    struct ratios sum = { 0, 0, 0, 0 };
     for (size_t n = 0; n < count; n++) flat_decode(programs[n].decoded, programs[n].code.bytes, programs[n].code.length / 8);
     for (int k = 0; k < RUNS; k++)
         for (size_t n = 0; n < count; n++) run_both(&programs[n], k);
@@ -159,11 +149,13 @@ static struct ratios compare(struct timed *programs, size_t count)
         struct ratios r = tell(&programs[n]);
         sum.time += r.time / (double)count;
         sum.counts += r.counts / (double)count;
+        sum.ours += r.ours / (double)count;
+        sum.theirs += r.theirs / (double)count;
     }
     return sum;
 }
 
-/* The ratio of the agent's times of two programs in two settings. */
+/* The ratio of the agent's times of two programs in two settings: the second beside the first. */
 static void scales(const char *name, const struct code *c, struct setting first, const struct code *d, struct setting second)
 {
     double one[RUNS], other[RUNS];
@@ -172,9 +164,11 @@ static void scales(const char *name, const struct code *c, struct setting first,
         one[k] = ours(c, STEPS, &first, &o);
         other[k] = ours(d, STEPS, &second, &o);
     }
-    double a = tenth_percentile(one), b = tenth_percentile(other);
-    printf("%-28s %6.2f and %6.2f ns a step, ratio %.2f", name, 1e9 * a / STEPS, 1e9 * b / STEPS, b / a);
-    tell_counts(name);
+    double a = tenth_percentile(one, RUNS), b = tenth_percentile(other, RUNS);
+    printf("%-28s %6.2f beside %6.2f ns a step, ratio %.2f", name, 1e9 * b / STEPS, 1e9 * a / STEPS, b / a);
+    struct counts counted = counts_of(name);
+    if (counted.first > 0) printf("; %5.1f beside %5.1f machine instructions", counted.second, counted.first);
+    printf("\n");
 }
 
 /* ---- code */
@@ -312,22 +306,24 @@ static struct code loads_in_new(void)
 
 static const char *const compiled_names[COMPILED] = { "checksum", "gcd", "sieve", "sort", "table" };
 
-/* Programs made here: the first are those compared with C, the others load beside five objects, or with 16 grants. */
+/* Programs made here, with what R1 is: the first are those compared with C, the others load beside more objects or machines, or with
+   16 grants. */
 static const struct {
     const char *name;
     struct code (*code)(void);
-    uint32_t objects;
-    size_t granted;
+    struct setting setting;
 } made[] = {
-    { "counting loop", counting, 1, 0 },
-    { "straight arithmetic", straight, 1, 0 },
-    { "nested calls", calls, 1, 0 },
-    { "loads", loads, 1, 0 },
-    { "stores", stores, 1, 0 },
-    { "atomic operations", atomics, 1, 0 },
-    { "loads, open scope", loads_in_open, 5, 0 },
-    { "loads, new scope", loads_in_new, 5, 0 },
-    { "loads, 16 granted", loads, 1, 16 },
+    { "counting loop", counting, { OBJECT(1), 1, 1, 0 } },
+    { "straight arithmetic", straight, { OBJECT(1), 1, 1, 0 } },
+    { "nested calls", calls, { OBJECT(1), 1, 1, 0 } },
+    { "loads", loads, { OBJECT(1), 1, 1, 0 } },
+    { "stores", stores, { OBJECT(1), 1, 1, 0 } },
+    { "atomic operations", atomics, { OBJECT(1), 1, 1, 0 } },
+    { "loads, open scope", loads_in_open, { OBJECT(1), 5, 1, 0 } },
+    { "loads, new scope", loads_in_new, { OBJECT(1), 5, 1, 0 } },
+    { "loads, 16 granted", loads, { OBJECT(1), 1, 1, 16 } },
+    { "loads, 1024 objects", loads, { OBJECT(1024), 1024, 1, 0 } },
+    { "loads, 48 machines", loads, { OBJECT(1), 1, 48, 0 } },
 };
 
 static void compiled(const char *folder)
@@ -340,7 +336,7 @@ static void compiled(const char *folder)
     }
     struct ratios mean = compare(programs, COMPILED);
     printf("%-28s ratio %.2f by time", "mean of the five", mean.time);
-    if (mean.counts > 0) printf(", %.2f by machine instructions", mean.counts);
+    if (mean.counts > 0) printf(", %.2f by machine instructions; %.1f and %.1f machine instructions", mean.counts, mean.ours, mean.theirs);
     printf("\n");
 }
 
@@ -366,8 +362,7 @@ static int run_once(const char *folder, const char *side, const char *name, uint
     while (n < sizeof made / sizeof *made && strcmp(made[n].name, name)) n++;
     if (n < sizeof made / sizeof *made) {
         c = made[n].code();
-        s.objects = made[n].objects;
-        s.granted = made[n].granted;
+        s = made[n].setting;
     } else {
         stored(folder, name, &c);
     }

@@ -2,8 +2,11 @@
 """A far store's servers, by a client in Python: stores.py PROGRAM
 
 Microseconds of a put with its forget, and of a get, of 64 bytes and of 65,536, the median of many, with their digests taken by
-the client: through `bpfagent store`, and through examples/far/gateway.py where redis-server is installed.
+the client: through `bpfagent store`, and through `bpfagent-redis` where redis-server is installed.
 """
+from __future__ import annotations
+
+import os
 import pathlib
 import shutil
 import socket
@@ -14,19 +17,22 @@ import tempfile
 import time
 
 ROOT = pathlib.Path(__file__).resolve().parent.parent
-sys.path.append(str(ROOT / "examples/far"))
-from client import Store
+sys.path.append(str(ROOT / "python"))
+from bpfagent.far import Store
+
+from rows import words
 
 COUNTS = {64: 2000, 65_536: 300}
 
 
-def listening(command):
+def listening(command: list[str]) -> tuple[subprocess.Popen[bytes], int]:
     """A server that ends when its input does, and its port."""
-    process = subprocess.Popen(command, stdin=subprocess.PIPE, stdout=subprocess.PIPE)
+    process = subprocess.Popen(command, stdin=subprocess.PIPE, stdout=subprocess.PIPE, env={**os.environ, "PYTHONPATH": str(ROOT / "python")})
+    assert process.stdout is not None
     return process, int(process.stdout.readline().split()[1])
 
 
-def times(port, length):
+def times(port: int, length: int) -> tuple[float, float]:
     """The median of a put with its forget, and of a get."""
     store, content, puts, gets = Store(port), bytes(range(256)) * (length // 256 + 1), [], []
     for _ in range(COUNTS[length]):
@@ -43,7 +49,7 @@ def times(port, length):
     return statistics.median(puts) * 1e6, statistics.median(gets) * 1e6
 
 
-def show(name, command):
+def show(name: str, command: list[str]) -> None:
     process, port = listening(command)
     for length in COUNTS:
         put, get = times(port, length)
@@ -51,7 +57,7 @@ def show(name, command):
     process.communicate()
 
 
-def show_redis(program):
+def show_redis(program: str) -> None:
     """The gateway over a server of Redis that keeps nothing on disk."""
     with socket.create_server(("127.0.0.1", 0)) as listener:
         port = listener.getsockname()[1]
@@ -59,14 +65,15 @@ def show_redis(program):
         redis = subprocess.Popen([program, "--port", str(port), "--bind", "127.0.0.1", "--save", "", "--dir", folder], stdout=subprocess.DEVNULL)
         try:
             time.sleep(1)
-            show("gateway to Redis", [sys.executable, str(ROOT / "examples/far/gateway.py"), "--redis", f"127.0.0.1:{port}"])
+            show("gateway to Redis", [sys.executable, "-m", "bpfagent.gateway", "--redis", f"127.0.0.1:{port}"])
         finally:
             redis.terminate()
             redis.wait()
 
 
-def main():
-    show("bpfagent store  ", [sys.argv[1], "store"])
+def main() -> None:
+    (program,) = words("stores.py PROGRAM", 1, 1)
+    show("bpfagent store  ", [program, "store"])
     redis = shutil.which("redis-server")
     if redis:
         show_redis(redis)

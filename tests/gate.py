@@ -1,112 +1,92 @@
 #!/usr/bin/env python3
 """The gate: gate.py RT, or gate.py --quick for what takes seconds.
 
-First the scripts that compare documents and lists with the sources, and the test of the gate itself, tests/planted.py. Then
-`rt ci`, with a line on how far it is. Then what runs the program as `rt ci` has built it, by LLVM and by Rattle's own
-compiler. The last line is that of `rt ci`; what else fails is counted in it.
+First the scripts that compare pages and lists with the sources, the test of .ci/run itself, and whether a crate has changed since
+its edits in edits/ were tried. Then `rt ci`, with a line on how far it is. Then what runs the program as `rt ci` has built it, by
+LLVM and by Rattle's own compiler. The last line is that of `rt ci`; whatever else fails is counted in it.
 """
+from __future__ import annotations
+
 import os
 import re
 import resource
 import subprocess
 import sys
 import time
+from typing import Iterable
 
-import counts
-import times
-from sources import ROOT, crates
+import edits
+from form import listed
+from lib.calls import FORM, PROVE, call_script, jobs
+from lib.sources import ROOT, crates
 
-SCRIPTS = ["tests/protocol.py", "tests/definitions.py", "tests/generated.py", "tests/failures.py", "tests/documents.py", "tests/kinds.py", "tests/counts.py", "tests/planted.py"]
 BUILT = ["crates/bpfagent/out/bpfagent", "crates/bpfagent/out/bpfagent.by-rattle"]
 PROVED = re.compile(r"rt: \w+(: its tests are)? proved$")
 LAST = re.compile(r"(\d+) passed, (\d+) failed")
-# What a check may take of memory, in bytes.
+# What a check may take of memory, in bytes. A check that spreads over several processors takes up to half as much again.
 OF_A_CHECK = 5_000_000_000
 
 
-def fails(call):
-    """Whether this script fails, called with its arguments; how long it took is said."""
-    start = time.monotonic()
-    failed = subprocess.run([sys.executable, *call], cwd=ROOT).returncode != 0
-    print(f"gate: {' '.join(call)}: {time.monotonic() - start:.0f} s", flush=True)
+def failures_of(lines: Iterable[str], rt: str = "") -> int:
+    """How many of these scripts fail, over the proved programs; what each says and how long it took is told."""
+    failed = 0
+    for line in lines:
+        for program in BUILT if "BOTH" in line else BUILT[:1]:
+            done = call_script(line, rt, program)
+            print("\n".join(filter(None, [done.output, f"gate: {done.name}: {'FAILED, ' * done.failed}{done.seconds:.0f} s"])), flush=True)
+            failed += done.failed
     return failed
 
 
-def failures_of(calls):
-    return sum(map(fails, calls))
-
-
-def of_program(rt):
-    """What is run on the program that was built, and beside it what takes longer than the other scripts."""
-    calls = [[script, program] for program in BUILT for script in ("tests/program.py", "tests/store.py", "tests/service.py")]
-    return calls + [["tests/generated.py", "--vectors"], ["tests/shipping.py", BUILT[0]], ["tests/client.py", BUILT[0]], ["tests/gateway.py", BUILT[0]], ["tests/sweep.py", BUILT[0]], ["tests/refusals.py", rt], ["tests/embed.py", rt], ["tests/build.py", rt, "stamp"], ["tests/targets.py", rt], ["tests/inner_loop.py", rt]]
-
-
-def progress(start, proved, tests):
-    minutes = (time.monotonic() - start) / 60
-    print(f"gate: {proved} of {len(crates())} crates and {tests} crates' tests proved, {minutes:.0f} minutes", flush=True)
-
-
-def jobs():
-    """How many checks run side by side, each on one processor: a check that spreads over several takes up to half as much again."""
-    memory = os.sysconf("SC_PAGE_SIZE") * os.sysconf("SC_PHYS_PAGES")
-    return max(1, min(len(os.sched_getaffinity(0)), memory // OF_A_CHECK))
-
-
-def spent(start):
+def spent(start: float) -> str:
     """How long the gate has taken, by the clock and by the processors."""
     used = [resource.getrusage(who) for who in (resource.RUSAGE_SELF, resource.RUSAGE_CHILDREN)]
     of_processors = sum(it.ru_utime + it.ru_stime for it in used) / 60
     return f"{(time.monotonic() - start) / 60:.0f} minutes, {of_processors:.0f} of processor time, on {len(os.sched_getaffinity(0))} processors"
 
 
-def run_ci(rt):
-    """Passes on what `rt ci` says, but for its last line, and gives that with the status."""
+def run_ci(rt: str) -> tuple[int, str]:
+    """Passes on what `rt ci` says, but for its last line, and gives its status and that line."""
     start, proved, tests, last = time.monotonic(), 0, 0, ""
-    options = {"stdout": subprocess.PIPE, "stderr": subprocess.STDOUT, "text": True, "errors": "replace"}
-    taken = times.Times()
-    taken.start()
-    process = subprocess.Popen([rt, "ci"], cwd=ROOT, env={"RT_JOBS": str(jobs()), **os.environ}, **options)
+    process = subprocess.Popen([rt, "ci"], cwd=ROOT, env={"RT_JOBS": str(jobs(OF_A_CHECK)), **os.environ}, stdout=subprocess.PIPE, stderr=subprocess.STDOUT, text=True, errors="replace")
     for line in process.stdout:
         if last:
             print(last, flush=True)
-            done = PROVED.match(last)
-            if done:
-                tests += bool(done[1])
-                proved += not done[1]
-                progress(start, proved, tests)
+        if done := PROVED.match(last):
+            tests += bool(done[1])
+            proved += not done[1]
+            print(f"gate: {proved} of {len(crates())} crates and {tests} crates' tests proved, {(time.monotonic() - start) / 60:.0f} minutes", flush=True)
         last = line.rstrip("\n")
-    status = process.wait()
-    taken.end()
-    for row in taken.rows():
-        print(f"gate: {row}")
-    return status, last
+    return process.wait(), last
 
 
-def judged(status, last):
+def judged(status: int, last: str) -> tuple[int, int]:
     """How much passed and failed by what `rt ci` says. Each crate and each edit is one that has to pass."""
     found = LAST.fullmatch(last)
     if not found:
         print(f"gate: rt ci ended with: {last}")
         return 0, 1
     passed, failed = int(found[1]), int(found[2])
-    wanted = len(crates()) + counts.edits()
+    wanted = len(crates()) + listed.edits()
     if passed + failed < wanted:
         print(f"gate: rt ci tried {passed + failed}, and there are {wanted} crates and edits")
         failed += 1
     return passed, failed + (status != 0 and failed == 0)
 
 
-def main():
+def main() -> None:
+    if not sys.argv[1:]:
+        sys.exit(__doc__)
     start = time.monotonic()
-    failed = failures_of([[script] for script in SCRIPTS])
-    if failed or sys.argv[1:] == ["--quick"]:
-        print(f"{len(SCRIPTS) - failed} passed, {failed} failed")
+    failed = failures_of(FORM)
+    failed += edits.say_changed() > 0
+    if failed or "--quick" in sys.argv:
+        print(f"{len(FORM) + 1 - failed} passed, {failed} failed")
         sys.exit(1 if failed else 0)
     passed, failed = judged(*run_ci(sys.argv[1]))
     print(f"gate: rt ci: {spent(start)}", flush=True)
-    if not failed:
-        failed += failures_of(of_program(sys.argv[1]))
+    if not failed or all((ROOT / program).is_file() for program in BUILT):
+        failed += failures_of(PROVE, sys.argv[1])
     print(f"gate: {spent(start)}", flush=True)
     print(f"{passed} passed, {failed} failed", flush=True)
     sys.exit(1 if failed else 0)

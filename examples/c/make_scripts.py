@@ -14,10 +14,10 @@ import subprocess
 import sys
 
 HERE = pathlib.Path(__file__).resolve().parent
-sys.path.insert(0, str(HERE.parent.parent / "tests/reference"))
+sys.path[:0] = [str(HERE.parent.parent / "tests/reference"), str(HERE.parent.parent / "python")]
 
+from bpfagent.ship import ship_line  # noqa: E402
 from reference_agent import Agent  # noqa: E402
-from ship import ship_line  # noqa: E402
 
 FUEL = "10000"
 TURNS = (1, 3, 2, 5, 4, 1, 7)

@@ -4,10 +4,11 @@
 The comments at the head of each file of refused/ say what comes of it, and this compares:
   clang: PATTERN     clang's error
   flags: FLAG ..     further arguments of clang
-  ship.py: TEXT      what `ship.py check` says of the object file
+  bpfagent-ship: TEXT
+                     why the object file can't be shipped
   check: TEXT        what `bpfagent check` says of the raw code
   ship: REPLY        the reply to `ship` of the raw code
-  run A ..: REPLY    the reply at the program's end, with a first object of 16 bytes; of raw code that ship.py refuses,
+  run A ..: REPLY    the reply at the program's end, with a first object of 16 bytes; of raw code that bpfagent-ship refuses,
                      what would come of it
 The conversations of `ship` and `run` are refused.script, which is written with --write.
 """
@@ -17,10 +18,11 @@ import subprocess
 import sys
 
 from make_scripts import HERE, Script  # this has to come first: it says where the interpreter is
-from interpreter import Fault, load
-from ship import ObjectFile, code_section, ship_line
+from instructions import Fault, load
+from bpfagent.objectfile import ObjectFile, Unlinkable, link
+from bpfagent.ship import ship_line
 
-HEAD = re.compile(r"^// (clang|flags|ship\.py|check|ship|run)((?: \S+)*): (.*)$", re.M)
+HEAD = re.compile(r"^// (clang|flags|bpfagent-ship|check|ship|run)((?: \S+)*): (.*)$", re.M)
 OUT = HERE / "out/refused"
 FUEL = "100"
 
@@ -38,8 +40,8 @@ def compile_it(clang, path):
 
 
 def raw_code(made):
-    found = ObjectFile(made.read_bytes())
-    return found.sections[code_section(found)[0]].bytes
+    """The code of .text as it is, with slots that nobody filled in."""
+    return ObjectFile(made.read_bytes()).code_of_section(".text")
 
 
 def fault_of(code):
@@ -61,9 +63,12 @@ def converse(script, path, code, arguments, wanted):
 
 
 def refusal_of(made):
-    """What ship.py says of an object file; nothing where it can be shipped."""
-    done = subprocess.run([sys.executable, HERE / "ship.py", "check", made], stderr=subprocess.PIPE, text=True)
-    return done.stderr.strip().removeprefix(f"{made}: ")
+    """Why an object file can't be shipped; nothing if it can."""
+    try:
+        link(made.read_bytes())
+        return ""
+    except Unlinkable as why:
+        return str(why)
 
 
 def try_code(script, path, made, kind, arguments, text):
@@ -83,7 +88,7 @@ def try_it(clang, script, path):
     if status:
         want(re.search(texts["clang"], errors), path, errors)
         return
-    want(refusal_of(made) == texts.get("ship.py", ""), path, refusal_of(made))
+    want(refusal_of(made) == texts.get("bpfagent-ship", ""), path, refusal_of(made))
     for kind, arguments, text in said:
         try_code(script, path, made, kind, arguments, text)
 

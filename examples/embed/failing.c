@@ -1,5 +1,5 @@
-/* Each allocation of a short conversation fails in turn: an answer is then that memory has run out, and nothing is lost. It is linked
-   with -Wl,--wrap=malloc,--wrap=realloc,--wrap=free. */
+/* Each allocation of a short conversation fails in turn: an answer is then that memory has run out, and nothing is lost. A call that takes
+   no memory makes no allocation at all. It is linked with -Wl,--wrap=malloc,--wrap=realloc,--wrap=free. */
 #include "common.h"
 
 void *__real_malloc(size_t);
@@ -33,7 +33,8 @@ void __wrap_free(void *p)
     __real_free(p);
 }
 
-static unsigned answers[32];
+/* How many calls there were of each answer, and how many calls that take no memory took some. */
+static unsigned answers[BPFAGENT_BAD + 1], loud;
 
 static int note(uint32_t reply)
 {
@@ -41,63 +42,160 @@ static int note(uint32_t reply)
     return reply == BPFAGENT_OK;
 }
 
-static void conversation(void)
+/* A call that may run out of memory. Its places in `ran_out` tell that it did, at least once. */
+#define TAKES(number, call) took(number, #call, call)
+#define CALLS 11
+static const char *names[CALLS];
+static unsigned ran_out[CALLS];
+
+static int took(unsigned number, const char *name, uint32_t reply)
 {
-    static const uint8_t code[] = { 0x7a, 1, 0, 0, 7, 0, 0, 0, 0x79, 0x10, 0, 0, 0, 0, 0, 0, 0x95, 0, 0, 0, 0, 0, 0, 0 };
-    bpfagent agent = { 0 };
-    uint32_t object = 0;
-    size_t machine = 0, count;
+    names[number] = name;
+    ran_out[number] += reply == BPFAGENT_NOMEM || reply == BPFAGENT_FAULT_FAR;
+    return note(reply);
+}
+
+/* A call that takes no memory. */
+#define QUIET(call) (before = made, quiet(#call, call))
+static long before;
+
+static int quiet(const char *name, uint32_t reply)
+{
+    if (made != before) {
+        fprintf(stderr, "%s takes memory\n", name);
+        loud++;
+    }
+    return note(reply);
+}
+
+/* *(u64 *)r1 = 7; r0 = *(u64 *)r1; exit */
+static const uint8_t CODE[] = { 0x7a, 1, 0, 0, 7, 0, 0, 0, 0x79, 0x10, 0, 0, 0, 0, 0, 0, 0x95, 0, 0, 0, 0, 0, 0, 0 };
+
+static void machine_of(bpfagent *agent, size_t machine)
+{
     bpfagent_end end;
     bpfagent_registers registers;
+    uint8_t bytes[4096];
+    uint64_t values[64];
+    size_t count;
+
+    QUIET(bpfagent_break(agent, machine, 1));
+    QUIET(bpfagent_unbreak(agent, machine, 1));
+    QUIET(bpfagent_watch(agent, machine, 0, 8));
+    QUIET(bpfagent_unwatch(agent, machine, 0, 8));
+    QUIET(bpfagent_step(agent, machine, &end));
+    QUIET(bpfagent_one(agent, machine, &end));
+    QUIET(bpfagent_resume(agent, machine));
+    QUIET(bpfagent_run(agent, machine, 100, &end));
+    QUIET(bpfagent_regs(agent, machine, &registers));
+    QUIET(bpfagent_out(agent, machine, values, 64, &count));
+    QUIET(bpfagent_stack(agent, machine, 0, bytes, 4096));
+    TAKES(0, bpfagent_line(agent, machine, 0, bytes, 256, &count));
+}
+
+static void conversation(void)
+{
+    bpfagent agent = { 0 };
+    uint32_t object = 0, place, listed[4];
+    size_t machine = 0, length, count;
     bpfagent_refusal refusal;
     uint8_t bytes[256] = { 1 };
-    uint64_t values[64];
 
-    if (!note(bpfagent_new(&agent, 4096)))
+    if (!TAKES(1, bpfagent_new(&agent, 4096)))
         return;
-    if (note(bpfagent_make(&agent, 8, &object))) {
-        note(bpfagent_put(&agent, object, 0, bytes, 8));
-        note(bpfagent_get(&agent, object, 0, bytes, 8));
-        note(bpfagent_leave(&agent, object));
-        note(bpfagent_left(&agent, object));
-        note(bpfagent_return(&agent, object));
-        note(bpfagent_returned(&agent, object));
+    if (TAKES(2, bpfagent_make(&agent, 8, &object))) {
+        QUIET(bpfagent_put(&agent, object, 0, bytes, 8));
+        QUIET(bpfagent_get(&agent, object, 0, bytes, 8));
+        QUIET(bpfagent_leave(&agent, object));
+        QUIET(bpfagent_left(&agent, object));
+        QUIET(bpfagent_return(&agent, object));
+        TAKES(3, bpfagent_returned(&agent, object));
+        QUIET(bpfagent_place_of(&agent, object, &place, &length));
+        QUIET(bpfagent_objects(&agent, place, listed, 4, &count));
     }
-    if (note(bpfagent_ship(&agent, code, sizeof code, 10, bpfagent_address(object, 0), 0, 0, 0, 0, &machine, &refusal))) {
-        note(bpfagent_run(&agent, machine, 100, &end));
-        note(bpfagent_regs(&agent, machine, &registers));
-        note(bpfagent_out(&agent, machine, values, 64, &count));
-        note(bpfagent_stack(&agent, machine, 0, bytes, 256));
-        note(bpfagent_line(&agent, machine, 0, bytes, 256, &count));
-        note(bpfagent_free(&agent, object));
+    if (TAKES(4, bpfagent_ship(&agent, CODE, sizeof CODE, 10, bpfagent_address(object, 0), 0, 0, 0, 0, &machine, &refusal)))
+        machine_of(&agent, machine);
+    QUIET(bpfagent_free(&agent, object));
+    QUIET((bpfagent_delete(&agent), BPFAGENT_OK));
+}
+
+/* Objects whose bytes the caller keeps. */
+static void handed(void)
+{
+    bpfagent agent = BPFAGENT_INIT;
+    bpfagent_parcel parcel;
+    bpfagent_refusal refusal;
+    uint8_t bytes[64] = { 1 };
+    uint32_t object = 0;
+    size_t length = 0, machine;
+
+    if (!TAKES(5, bpfagent_new_handing(&agent, 4096)))
+        return;
+    bpfagent_grant reads = { 1, 0 };
+    TAKES(6, bpfagent_ship_granted(&agent, CODE, sizeof CODE, 10, 0, 0, 0, 0, 0, &reads, 1, &machine, &refusal));
+    if (note(bpfagent_make(&agent, sizeof bytes, &object))) {
+        QUIET(bpfagent_leave(&agent, object));
+        QUIET(bpfagent_left_into(&agent, object, bytes, sizeof bytes, &length, &parcel));
+        QUIET(bpfagent_return(&agent, object));
+        TAKES(7, bpfagent_returned_from(&agent, object, bytes, length));
+        QUIET(bpfagent_leave(&agent, object));
+        QUIET(bpfagent_left_into(&agent, object, bytes, sizeof bytes, &length, &parcel));
+        QUIET(bpfagent_forget(&agent, object));
     }
     bpfagent_delete(&agent);
 }
 
-/* Whether a call of the conversation may have this answer. FAULT_FAR is of `returned`, after which the object is far: then the machine is
-   WAITING for it, and it IS_FAR where it is to be freed. NONE is of an object that wasn't made. */
+/* Code and assembly. */
+static void texts(void)
+{
+    static const char text[] = "mov r0, 7\nexit\n";
+    bpfagent_refusal refusal;
+    bpfagent_wrong_line wrong;
+    uint8_t bytes[64] = { 1 };
+    size_t count = 0;
+
+    TAKES(8, bpfagent_assemble((const uint8_t *)text, sizeof text - 1, bytes, sizeof bytes, &count, &wrong));
+    TAKES(9, bpfagent_check(CODE, sizeof CODE, &refusal));
+    TAKES(10, bpfagent_text(CODE, sizeof CODE, 1, bytes, sizeof bytes, &count));
+}
+
+static void all(void)
+{
+    conversation();
+    handed();
+    texts();
+}
+
+/* Whether a call of the conversations may have this answer. FAULT_FAR is of `returned`, after which the object is far: then the machine is
+   WAITING for it, isn't paused, and the object IS_FAR where it leaves or is freed. NONE is of an object that wasn't made. */
 static int is_known(uint32_t reply)
 {
-    return reply == BPFAGENT_OK || reply == BPFAGENT_NOMEM || reply == BPFAGENT_STOPPED || reply == BPFAGENT_WAITING ||
-           reply == BPFAGENT_FAULT_FAR || reply == BPFAGENT_IS_FAR || reply == BPFAGENT_NONE;
+    return reply <= BPFAGENT_NOMEM || reply == BPFAGENT_FAULT_FAR || reply == BPFAGENT_IS_FAR || reply == BPFAGENT_NONE ||
+           reply == BPFAGENT_NOTPAUSED;
 }
 
 int main(void)
 {
-    conversation();
-    if (answers[BPFAGENT_NOMEM]) {
+    all();
+    if (answers[BPFAGENT_NOMEM] || answers[BPFAGENT_FAULT_FAR]) {
         fprintf(stderr, "out of memory without a failed allocation\n");
         return 1;
     }
-    long all = made, bad = live != 0;
-    for (long k = 0; k < all; k++) {
+    long whole = made, bad = live != 0;
+    for (long k = 0; k < whole; k++) {
         left = k;
-        conversation();
+        all();
         left = -1;
         bad += live != 0;
     }
-    for (uint32_t reply = 0; reply < 32; reply++)
+    for (uint32_t reply = 0; reply <= BPFAGENT_BAD; reply++)
         bad += answers[reply] != 0 && !is_known(reply);
-    printf("%ld allocations fail in turn: %u calls ran out of memory, %u faults, %ld failures\n", all, answers[BPFAGENT_NOMEM], answers[BPFAGENT_FAULT_FAR], bad);
-    return bad != 0;
+    for (unsigned k = 0; k < CALLS; k++) {
+        bad += ran_out[k] == 0;
+        if (ran_out[k] == 0)
+            fprintf(stderr, "%s never ran out of memory\n", names[k]);
+    }
+    printf("%ld allocations fail in turn: %u calls ran out of memory, %u faults, %ld failures\n", whole,
+           answers[BPFAGENT_NOMEM], answers[BPFAGENT_FAULT_FAR], bad + loud);
+    return bad + loud != 0;
 }

@@ -21,8 +21,8 @@ import sys
 import time
 from typing import Callable, Iterator
 
-sys.path.append(str(pathlib.Path(__file__).resolve().parent.parent / "client"))
-from bpfagent import Agent, Service, address, patiently
+sys.path.append(str(pathlib.Path(__file__).resolve().parents[2] / "python"))
+from bpfagent import Agent, Broken, Refused, Service, address, patiently
 
 MACHINES, SLOTS = 48, 4096
 OBJECTS, LENGTH, PIECE = 1024, 65_536, 4096
@@ -48,7 +48,7 @@ def child() -> int:
 
 def memory(program: str, objects: int) -> list[tuple[str, int]]:
     """What the agent takes, step by step."""
-    with Agent.start(program) as agent:
+    with Agent.run(program) as agent:
         agent.tell("step 1")
         process = child()
         found = [("empty", resident(process))]
@@ -118,7 +118,7 @@ def of_run(program: str, count: int) -> Iterator[tuple[float, str]]:
     yield lines_a_second(program, "step 2\n", 20 * count), "lines a second, a step of a load"
     moves = "put 1 0 2a\nleave 1\nleft 1\nreturn 1\nreturned 1\n"
     yield lines_a_second(program, moves, count) / 5, f"times a second an object of {PIECE} bytes is written, sent away and brought home"
-    with Agent.start(program) as agent:
+    with Agent.run(program) as agent:
         agent.make(PIECE)
         yield median(lambda: agent.get(1, 0, SHORT), count), f"us a round trip of a get of {SHORT} bytes, over pipes"
 
@@ -189,4 +189,7 @@ def main() -> None:
 
 
 if __name__ == "__main__":
-    main()
+    try:
+        main()
+    except (OSError, Broken, Refused, subprocess.CalledProcessError) as error:
+        sys.exit(f"measure.py: {error}")

@@ -14,7 +14,9 @@ import random
 import sys
 from collections import deque
 from dataclasses import dataclass
-from typing import Callable
+from typing import Callable, Iterator
+
+from plots import Curve, Panel, picture, short
 
 SEED = 1
 # How many misses and how many lookups each point takes.
@@ -22,6 +24,8 @@ MISSES = 3000
 LOOKUPS = 1500
 SHARES = [10 ** (k / 4 - 6) for k in range(21)]
 LENGTHS = [1, 2, 3, 4, 6, 8, 12, 16, 24, 32, 48, 64]
+# The places that the diagrams number.
+MARKS = [[10**power for power in range(-6, 0)], [1, 2, 4, 8, 16, 32, 64]]
 # Of lookups: so many accesses of a million are far, and so many clients ask at once.
 FAR_SHARE = 1000e-6
 CLIENTS = 8
@@ -147,27 +151,27 @@ def shipped(costs: Costs) -> Callable[[float], float]:
 
 NEAR_CLIENT = Costs(store_trip=8_000, client_trip=8_000)
 CURVES = [
-    ("accesses a second, by the share of accesses that are far", SHARES, [
-        ("1 machine, 1 worker; store 100 us away", accesses(1, 1, 1, FAR_STORE)),
-        ("48 machines, 4 workers; store 100 us away", accesses(1, 48, 4, FAR_STORE)),
-        ("48 machines, 4 workers; store 8 us away", accesses(1, 48, 4, NEAR_STORE)),
-        ("4 agents of 12 machines, 1 worker; store 100 us away", accesses(4, 12, 1, FAR_STORE)),
-    ]),
-    ("lookups a second of 8 clients, by dependent accesses", LENGTHS, [
-        ("fetched, client 100 us away", fetched(FAR_STORE)),
-        ("shipped, client 100 us away", shipped(FAR_STORE)),
-        ("fetched, client 8 us away", fetched(NEAR_CLIENT)),
-        ("shipped, client 8 us away", shipped(NEAR_CLIENT)),
-    ]),
+    (
+        "accesses a second, by the share of accesses that are far",
+        SHARES,
+        [
+            ("1 machine, 1 worker; store 100 us away", accesses(1, 1, 1, FAR_STORE)),
+            ("48 machines, 4 workers; store 100 us away", accesses(1, 48, 4, FAR_STORE)),
+            ("48 machines, 4 workers; store 8 us away", accesses(1, 48, 4, NEAR_STORE)),
+            ("4 agents of 12 machines, 1 worker; store 100 us away", accesses(4, 12, 1, FAR_STORE)),
+        ],
+    ),
+    (
+        "lookups a second of 8 clients, by dependent accesses",
+        LENGTHS,
+        [
+            ("fetched, client 100 us away", fetched(FAR_STORE)),
+            ("shipped, client 100 us away", shipped(FAR_STORE)),
+            ("fetched, client 8 us away", fetched(NEAR_CLIENT)),
+            ("shipped, client 8 us away", shipped(NEAR_CLIENT)),
+        ],
+    ),
 ]
-
-
-def short(number: float) -> str:
-    """Two digits, with k or M."""
-    for unit, name in ((1e6, "M"), (1e3, "k")):
-        if number >= unit * 0.995:
-            return f"{number / unit:.2g}{name}" if number < 99.5 * unit else f"{number / unit:.0f}{name}"
-    return f"{number:.2g}" if number < 99.5 else f"{number:.0f}"
 
 
 def print_tables() -> None:
@@ -181,66 +185,17 @@ def print_tables() -> None:
             print(f"{name:54}" + "".join(f"{short(rate(place)):>8}" for place in shown))
 
 
-# ---- the picture
-
-WIDE, HIGH, LEFT, TOP, APART = 400, 260, 60, 40, 500
-COLOURS = ["#1b6ca8", "#c0392b", "#2e8b57", "#8e44ad"]
-DASHES = ["", "7 3", "2 3", "9 3 2 3"]
-
-
-class Panel:
-    """A diagram with logarithms on both sides."""
-
-    def __init__(self, number: int, title: str, places: list[float], curves: list[tuple[str, Callable[[float], float]]]) -> None:
-        self.left, self.title, self.names = LEFT + number * APART, title, [name for name, _ in curves]
-        self.lines = [[(place, rate(place)) for place in places] for _, rate in curves]
-        rates = [rate for line in self.lines for _, rate in line]
-        self.low, self.high = math.floor(math.log10(min(rates))), math.ceil(math.log10(max(rates)))
-        self.first, self.last = math.log10(places[0]), math.log10(places[-1])
-
-    def across(self, place: float) -> float:
-        return self.left + (math.log10(place) - self.first) / (self.last - self.first) * WIDE
-
-    def up(self, rate: float) -> float:
-        return TOP + HIGH - (math.log10(rate) - self.low) / (self.high - self.low) * HIGH
-
-    def axes(self) -> list[str]:
-        """Frame, lines at each power of ten with their numbers, and the title."""
-        parts = [f'<rect x="{self.left}" y="{TOP}" width="{WIDE}" height="{HIGH}" fill="none" stroke="#444"/>', f'<text x="{self.left}" y="{TOP - 14}" font-weight="bold">{self.title}</text>']
-        for power in range(self.low, self.high + 1):
-            y = self.up(10**power)
-            parts += [f'<path d="M{self.left} {y:.1f}h{WIDE}" stroke="#ddd"/>', f'<text x="{self.left - 8}" y="{y + 4:.1f}" text-anchor="end">{short(10**power)}</text>']
-        marks = [10**power for power in range(-6, 0)] if self.first < 0 else [1, 2, 4, 8, 16, 32, 64]
-        for place in marks:
-            x = self.across(place)
-            parts += [f'<path d="M{x:.1f} {TOP + HIGH}v5" stroke="#444"/>', f'<text x="{x:.1f}" y="{TOP + HIGH + 19}" text-anchor="middle">{place:g}</text>']
-        return parts
-
-    def curves(self) -> list[str]:
-        """Each line, and its name below."""
-        parts = []
-        for k, (name, line) in enumerate(zip(self.names, self.lines)):
-            points = " ".join(f"{self.across(place):.1f},{self.up(rate):.1f}" for place, rate in line)
-            style = f'fill="none" stroke="{COLOURS[k]}" stroke-width="2" stroke-dasharray="{DASHES[k]}"'
-            y = TOP + HIGH + 42 + 18 * k
-            parts += [f'<polyline points="{points}" {style}/>', f'<path d="M{self.left} {y - 4}h34" {style}/>', f'<text x="{self.left + 42}" y="{y}">{name}</text>']
-        return parts
-
-
-def picture() -> str:
-    """Both diagrams side by side."""
-    wide, high = LEFT + APART + WIDE + 20, TOP + HIGH + 42 + 18 * 4
-    parts = [f'<svg xmlns="http://www.w3.org/2000/svg" width="{wide}" height="{high}" font-family="sans-serif" font-size="12">', f'<rect width="{wide}" height="{high}" fill="white"/>']
-    for number, curve in enumerate(CURVES):
-        panel = Panel(number, *curve)
-        parts += [*panel.axes(), *panel.curves()]
-    return "\n".join([*parts, "</svg>"])
+def panels() -> Iterator[Panel]:
+    """Both diagrams."""
+    for number, ((title, places, curves), marks) in enumerate(zip(CURVES, MARKS)):
+        yield Panel(number, title, [Curve(name, [(place, rate(place)) for place in places]) for name, rate in curves], marks)
 
 
 if __name__ == "__main__":
     if sys.argv[1:] == ["--svg"]:
-        print(picture())
+        print(picture(list(panels())))
     elif sys.argv[1:]:
-        sys.exit(__doc__)
+        print(__doc__, file=sys.stderr)
+        sys.exit(2)
     else:
         print_tables()

@@ -1,4 +1,9 @@
-"""The debugger of docs/PROTOCOL.md: breakpoints, watched ranges and pauses of one machine."""
+"""The commands of docs/PROTOCOL.md for one machine: steps, breakpoints, watched ranges, pauses, and what is shown of it."""
+from __future__ import annotations
+
+from typing import Any
+
+from interpreter import Machine
 
 BREAKPOINTS, RANGES = 16, 8
 
@@ -6,24 +11,23 @@ BREAKPOINTS, RANGES = 16, 8
 class Debugger:
     """A machine that is stepped, until it is paused."""
 
-    def __init__(self, machine):
+    def __init__(self, machine: Machine) -> None:
         self.machine = machine
         # The slots where it pauses; address and length of what it pauses after writing.
-        self.breakpoints, self.ranges = [], []
+        self.breakpoints: list[int] = []
+        self.ranges: list[tuple[int, int]] = []
         # Whether the next instruction is done although a breakpoint stands there.
         self.is_paused, self.passes = False, False
 
-    def step(self):
+    def do_step(self) -> str:
         if self.machine.stop is None and self.machine.slot in self.breakpoints and not self.passes:
             self.is_paused = True
-        if self.is_paused:
-            return f"paused {self.machine.number} {self.machine.slot}"
-        return self.go(False)
+        return f"paused {self.machine.number} {self.machine.slot}" if self.is_paused else self.go(False)
 
-    def one(self):
+    def do_one(self) -> str:
         return self.go(True)
 
-    def go(self, pauses):
+    def go(self, pauses: bool) -> str:
         """Does an instruction, after which the machine pauses if told so or if it wrote what is watched."""
         reply = self.machine.step()
         if self.machine.stop is not None:
@@ -35,7 +39,7 @@ class Debugger:
                 return f"hit {self.machine.number} {self.machine.slot}"
         return reply
 
-    def touches(self, address, length):
+    def touches(self, address: int, length: int) -> bool:
         """Whether the last instruction wrote a byte of a range."""
         if self.machine.wrote is None:
             return False
@@ -43,7 +47,7 @@ class Debugger:
         offset = address % (1 << 32)
         return number == address >> 32 and offset < end and begin < offset + length
 
-    def set(self, among, one, most):
+    def added(self, among: list[Any], one: Any, most: int) -> str:
         """Sets a breakpoint or a range, of which there are at most so many. One that is set stays so."""
         if one not in among and len(among) == most:
             return "full"
@@ -51,28 +55,39 @@ class Debugger:
             among.append(one)
         return "ok"
 
-    def set_break(self, slot):
-        return self.set(self.breakpoints, slot, BREAKPOINTS) if slot in self.machine.program else "noslot"
-
-    def clear_break(self, slot):
-        if slot not in self.breakpoints:
-            return "noslot"
-        self.breakpoints.remove(slot)
+    def removed(self, among: list[Any], one: Any, otherwise: str) -> str:
+        if one not in among:
+            return otherwise
+        among.remove(one)
         return "ok"
 
-    def set_watch(self, address, length):
-        if address % (1 << 32) + length > 1 << 32:
-            return "outside"
-        return self.set(self.ranges, (address, length), RANGES)
+    def do_break(self, slot: int) -> str:
+        return self.added(self.breakpoints, slot, BREAKPOINTS) if slot in self.machine.program else "noslot"
 
-    def clear_watch(self, address, length):
-        if (address, length) not in self.ranges:
-            return "nowatch"
-        self.ranges.remove((address, length))
-        return "ok"
+    def do_unbreak(self, slot: int) -> str:
+        return self.removed(self.breakpoints, slot, "noslot")
 
-    def resume(self):
+    def do_watch(self, address: int, length: int) -> str:
+        return self.added(self.ranges, (address, length), RANGES) if address % (1 << 32) + length <= 1 << 32 else "outside"
+
+    def do_unwatch(self, address: int, length: int) -> str:
+        return self.removed(self.ranges, (address, length), "nowatch")
+
+    def do_resume(self) -> str:
         if not self.is_paused:
             return "notpaused"
         self.is_paused, self.passes = False, True
         return "ok"
+
+    def do_regs(self) -> str:
+        return self.machine.shown(self.is_paused)
+
+    def do_out(self) -> str:
+        return f"out {self.machine.number}" + "".join(f" {value:016x}" for value in self.machine.emitted)
+
+    def do_stack(self, offset: int, length: int) -> str:
+        return f"bytes {self.machine.stack[offset : offset + length].hex()}" if offset + length <= 4096 else "outside"
+
+    def do_line(self, slot: int) -> str:
+        row = self.machine.program.get(slot)
+        return f"line {self.machine.number} {slot} {row.line()}" if row else "noslot"

@@ -1,5 +1,5 @@
 -- What `asm` explains of the bytes that it has read, it explains of the whole input.
-use Rattle.std.proofs.Common.{◌≡◌, ◌≢◌, ◌⊎◌, ℕ, Bool, true, false, List, [], ◌∷◌, take, subst, refl, append-nil, Option, None, Some, IfSome, Result, Ok, Err, inl, inr}
+use Rattle.std.proofs.Common.{◌≡◌, ◌≢◌, ◌⊎◌, ℕ, Bool, true, false, List, [], ◌∷◌, ◌++◌, take, subst, refl, append-nil, Option, None, Some, IfSome, Result, Ok, Err, inl, inr}
 use Rattle.std.specs.Prelude.{⊤}
 use Rattle.std.specs.Io.KnownBytes.{Keeps}
 use Rattle.clap.specs.Words.{HasKind, Kinds, kind_of}
@@ -7,7 +7,7 @@ use Rattle.clap.specs.declared.error.Error.{Error}
 use Rattle.agent.specs.AsmLeaves.{AsmLeaves}
 use Rattle.agent.specs.ErrorShown.{Shows}
 use Rattle.asm_text.specs.Tokens.{Lexeme, IsFirstOf}
-use Rattle.agent.specs.Explained.{Explains, ReportsAsm, ReportsAsmOutcome, ReportsExplained, SaysFirst, token_text}
+use Rattle.agent.specs.Explained.{Explains, ReportsAsm, ReportsAsmOutcome, ReportsExplained, SaysFirst, end_text, token_text}
 use Rattle.agent.specs.Failures.{status_number}
 use Rattle.agent.specs.Reports.{Reports}
 use Rattle.agent.specs.declared.failure.Failure.{Failure}
@@ -107,6 +107,11 @@ memory_over (Some input) explains kinds error before after told_before told_afte
     let says = rw (only_memory kinds error right has) at shown in (Err NoMemory, status, (tt, says.0), explained_memory explains input told_before told_after status says.1, is)
 
 -- a token is named
-pub says_token : (ts : List Lexeme) (line : List ℕ) (start end : ℕ) → ts ≢ [] → IsFirstOf ts line start end → SaysFirst ts line (token_text line start end)
-says_token [] line start end some first = absurd (some refl)
-says_token (t ∷ ts) line start end some first = (start, end, first, refl)
+pub says_token : (ts : List Lexeme) (line fits : List ℕ) (start end : ℕ) → ts ≢ [] → IsFirstOf ts line start end → SaysFirst ts line fits (token_text line start end ++ fits)
+says_token [] line fits start end some first = absurd (some refl)
+says_token (t ∷ ts) line fits start end some first = (start, end, first, refl)
+
+-- the line ends too early
+pub says_end : (ts : List Lexeme) (line fits : List ℕ) → ts ≡ [] → SaysFirst ts line fits (end_text line ++ fits)
+says_end [] line fits none = refl
+says_end (t ∷ ts) line fits none = absurd (cc)

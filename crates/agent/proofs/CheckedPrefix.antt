@@ -29,7 +29,7 @@ refused limit why.Helper n input is h = subst (λ bytes. Refuses bytes n why.Hel
 refused limit why.FallsOff n input is h = subst (λ bytes. Refuses bytes n why.FallsOff) (short 32768 limit input is h.0.1) h
 refused limit why.Memory n input is h = subst (λ bytes. Refuses bytes n why.Memory) (short 32768 limit input is h.0.1) h
 
-found_whole : (limit : ℕ) (input : List ℕ) (result : Result ℕ Failure) → limit ≡ 32769 → Finds (take limit input) result → Finds input result
+pub found_whole : (limit : ℕ) (input : List ℕ) (result : Result ℕ Failure) → limit ≡ 32769 → Finds (take limit input) result → Finds input result
 found_whole limit input (Ok slots) is h = subst (λ bytes. Finds bytes (Ok slots)) (short 32768 limit input is h.0.1.short) h
 found_whole limit input (Err (Refused error)) is h = (refused limit error.why error.slot input is h.0, h.1)
 found_whole limit input (Err NoMemory) is h = tt

@@ -3,6 +3,7 @@ pub mod WholeInput
 pub mod Encoded
 pub mod OutOfMemory
 pub mod AsmReports
+pub mod CheckReports
 pub mod ErrorShown
 pub mod Numbers
 pub mod ReadNumber
@@ -10,3 +11,6 @@ pub mod Started
 pub mod Subcommands
 pub mod Setup
 pub mod Globals
+pub mod StepRows
+pub mod RunOutputs
+pub mod ServiceOutputs

@@ -6,11 +6,11 @@ use Rattle.std.specs.Option.{option_map_or}
 use Rattle.clap.specs.Facts.{explicit_source}
 use Rattle.clap.specs.Kinds.{Kinds, check_kinds, or_else}
 use Rattle.clap.specs.Faults.{built_fault, check_fault, defaults_fault, entered_fault, level_fault, settle_fault, walk_fault}
-use Rattle.clap.specs.Simple.{App, Shape, built, entered, filled, names_of, new_shape, rows_at, subcommand_of}
+use Rattle.clap.specs.Simple.{App, Shape, built, entered, filled, names_of, rows_at, subcommand_of}
 use Rattle.clap.specs.Takes.{is_given}
 use Rattle.clap.specs.Walk.{Held, Row, Rule, Text, answers_to, finished, nothing_held, rows_after, settled, walk, walk_from}
 use Rattle.clap.proofs.OnLiterals.{clap_on_literals}
-use Rattle.agent.specs.CommandLine.{HasNumber, HasServing, asm_shape, budget_limit, budget_limit_text, budget_rule, command_line, connections_limit, connections_rule, dis_shape, far_rule, faults_of, flag_rule, port_limit, port_rule, task_named, task_of, workers_limit, workers_rule}
+use Rattle.agent.specs.CommandLine.{HasNumber, HasServing, asm_shape, budget_limit, budget_limit_text, budget_rule, check_shape, command_line, connections_limit, connections_rule, dis_shape, far_rule, far_timeout_limit, far_timeout_rule, faults_of, flag_rule, port_limit, port_rule, task_named, task_of, verbose_rule, workers_limit, workers_rule}
 use Rattle.agent.proofs.Numbers.{first_empty, rest_empty, help, options_built, fits_help, fits_other, has_number}
 
 last_empty : (first second third fourth last : Kinds) → or_else first (or_else second (or_else third (or_else fourth last))) ≡ [] → last ≡ []
@@ -50,8 +50,11 @@ IsEntered (Some p) = IsSome (task_named p.0 p.1) × (p.0 ≡ codes "run" → Has
 abbrev run_built : Shape
 run_built = options_built (codes "run") (filled budget_rule ∷ help ∷ [])
 
+abbrev verbose : Rule
+verbose = filled verbose_rule
+
 abbrev store_built : Shape
-store_built = options_built (codes "store") (filled port_rule ∷ help ∷ [])
+store_built = options_built (codes "store") (filled port_rule ∷ verbose ∷ help ∷ [])
 
 abbrev sweep : Rule
 sweep = filled (flag_rule (codes "sweep"))
@@ -60,7 +63,10 @@ abbrev far : Rule
 far = filled far_rule
 
 abbrev serve_built : Shape
-serve_built = options_built (codes "serve") (filled port_rule ∷ filled connections_rule ∷ filled workers_rule ∷ filled budget_rule ∷ sweep ∷ far ∷ help ∷ [])
+serve_built = options_built (codes "serve") (filled port_rule ∷ filled connections_rule ∷ filled workers_rule ∷ filled budget_rule ∷ sweep ∷ far ∷ filled far_timeout_rule ∷ verbose ∷ help ∷ [])
+
+abbrev check_built : Shape
+check_built = record check_shape { rules = filled (flag_rule (codes "explain")) ∷ help ∷ []; no_binary_name = true; disable_help_subcommand = true; is_built = true }
 
 abbrev asm_built : Shape
 asm_built = record asm_shape { rules = filled (flag_rule (codes "explain")) ∷ help ∷ []; no_binary_name = true; disable_help_subcommand = true; is_built = true }
@@ -68,12 +74,9 @@ asm_built = record asm_shape { rules = filled (flag_rule (codes "explain")) ∷ 
 abbrev dis_built : Shape
 dis_built = record dis_shape { rules = filled (flag_rule (codes "slots")) ∷ help ∷ []; no_binary_name = true; disable_help_subcommand = true; is_built = true }
 
-abbrev other_built : Text → Shape
-other_built name = record (new_shape name) { rules = help ∷ []; no_binary_name = true; disable_help_subcommand = true; is_built = true }
-
 module _ (P : Option Shape → Type 0) where
-  among_at : (x y z w v u : Bool) → P None → P (Some run_built) → P (Some (other_built (codes "check"))) → P (Some asm_built) → P (Some dis_built) → P (Some store_built) → P (Some serve_built)
-      → P (cond x (Some run_built) (cond y (Some (other_built (codes "check"))) (cond z (Some asm_built) (cond w (Some dis_built) (cond v (Some store_built) (cond u (Some serve_built) None))))))
+  among_at : (x y z w v u : Bool) → P None → P (Some run_built) → P (Some check_built) → P (Some asm_built) → P (Some dis_built) → P (Some store_built) → P (Some serve_built)
+      → P (cond x (Some run_built) (cond y (Some check_built) (cond z (Some asm_built) (cond w (Some dis_built) (cond v (Some store_built) (cond u (Some serve_built) None))))))
   among_at true y z w v u none run check asm dis store serve = run
   among_at false true z w v u none run check asm dis store serve = check
   among_at false false true w v u none run check asm dis store serve = asm
@@ -102,7 +105,7 @@ store_named : (rows : List Row) → HasNumber (codes "port") 0 port_limit rows �
 store_named rows b = rw b.2 refl
 
 serve_named : (rows : List Row) → HasServing rows → IsSome (task_named (codes "serve") rows)
-serve_named rows b = rw (b.port.2, b.connections.2, b.workers.2, b.budget.2) refl
+serve_named rows b = rw (b.port.2, b.connections.2, b.workers.2, b.budget.2, b.far_timeout.2) refl
 
 run_entered : (words : List Text) → level_fault run_built [] nothing_held words false [] ≡ [] → IsEntered (Some (rows_at run_built words))
 run_entered words f =
@@ -115,7 +118,8 @@ run_entered words f =
 
 store_entered : (words : List Text) → level_fault store_built [] nothing_held words false [] ≡ [] → IsEntered (Some (rows_at store_built words))
 store_entered words f =
-    let b = has_number (codes "port") (codes "0") 0 port_limit refl refl (codes "store") [] (help ∷ []) tt (fits_help (codes "port") (codes "0") 0 port_limit refl refl, tt) words f in (
+    let b = has_number (codes "port") (codes "0") 0 port_limit refl refl (codes "store") [] (verbose ∷ help ∷ []) tt
+    (fits_other (codes "port") (codes "0") 0 port_limit refl refl verbose refl refl (λ _ _. refl), (fits_help (codes "port") (codes "0") 0 port_limit refl refl, tt)) words f in (
       store_named (rows_after store_built.rules [] words) b,
       λ e. absurd (other_name 0 (codes "store") (codes "run") 115 114 refl refl (omega arith) e),
       λ _. b,
@@ -129,22 +133,23 @@ serving words f =
     let connections = filled connections_rule in
     let workers = filled workers_rule in
     let budget = filled budget_rule in
+    let far_timeout = filled far_timeout_rule in
     record {
-      port = has_number (codes "port") (codes "0") 0 port_limit refl refl (codes "serve") [] (connections ∷ workers ∷ budget ∷ sweep ∷ far ∷ help ∷ []) tt
-          (let other = fits_other (codes "port") (codes "0") 0 port_limit refl refl in
-          (other connections refl refl (λ _ _. refl), (other workers refl refl (λ _ _. refl), (other budget refl refl (λ _ _. refl), (other sweep refl refl (λ _ _. refl), (other far refl refl (λ _ _. refl), (fits_help (codes "port") (codes "0") 0 port_limit refl refl, tt))))))) words f;
-      connections = has_number (codes "connections") (codes "1") 1 connections_limit refl refl (codes "serve") (port ∷ []) (workers ∷ budget ∷ sweep ∷ far ∷ help ∷ [])
-          (fits_other (codes "connections") (codes "1") 1 connections_limit refl refl port refl refl (λ _ _. refl), tt)
-          (let other = fits_other (codes "connections") (codes "1") 1 connections_limit refl refl in
-          (other workers refl refl (λ _ _. refl), (other budget refl refl (λ _ _. refl), (other sweep refl refl (λ _ _. refl), (other far refl refl (λ _ _. refl), (fits_help (codes "connections") (codes "1") 1 connections_limit refl refl, tt)))))) words f;
-      workers = has_number (codes "workers") (codes "2") 0 workers_limit refl refl (codes "serve") (port ∷ connections ∷ []) (budget ∷ sweep ∷ far ∷ help ∷ [])
-          (let other = fits_other (codes "workers") (codes "2") 0 workers_limit refl refl in (other port refl refl (λ _ _. refl), (other connections refl refl (λ _ _. refl), tt)))
-          (let other = fits_other (codes "workers") (codes "2") 0 workers_limit refl refl in
-          (other budget refl refl (λ _ _. refl), (other sweep refl refl (λ _ _. refl), (other far refl refl (λ _ _. refl), (fits_help (codes "workers") (codes "2") 0 workers_limit refl refl, tt))))) words f;
-      budget = has_number (codes "budget") budget_limit_text 0 budget_limit refl refl (codes "serve") (port ∷ connections ∷ workers ∷ []) (sweep ∷ far ∷ help ∷ [])
-          (let other = fits_other (codes "budget") budget_limit_text 0 budget_limit refl refl in (other port refl refl (λ _ _. refl), (other connections refl refl (λ _ _. refl), (other workers refl refl (λ _ _. refl), tt))))
-          (let other = fits_other (codes "budget") budget_limit_text 0 budget_limit refl refl in
-          (other sweep refl refl (λ _ _. refl), (other far refl refl (λ _ _. refl), (fits_help (codes "budget") budget_limit_text 0 budget_limit refl refl, tt)))) words f;
+      port = let other = fits_other (codes "port") (codes "0") 0 port_limit refl refl in has_number (codes "port") (codes "0") 0 port_limit refl refl (codes "serve") [] (connections ∷ workers ∷ budget ∷ sweep ∷ far ∷ far_timeout ∷ verbose ∷ help ∷ [])
+          tt
+          (other connections refl refl (λ _ _. refl), (other workers refl refl (λ _ _. refl), (other budget refl refl (λ _ _. refl), (other sweep refl refl (λ _ _. refl), (other far refl refl (λ _ _. refl), (other far_timeout refl refl (λ _ _. refl), (other verbose refl refl (λ _ _. refl), (fits_help (codes "port") (codes "0") 0 port_limit refl refl, tt)))))))) words f;
+      connections = let other = fits_other (codes "connections") (codes "1") 1 connections_limit refl refl in has_number (codes "connections") (codes "1") 1 connections_limit refl refl (codes "serve") (port ∷ []) (workers ∷ budget ∷ sweep ∷ far ∷ far_timeout ∷ verbose ∷ help ∷ [])
+          (other port refl refl (λ _ _. refl), tt)
+          (other workers refl refl (λ _ _. refl), (other budget refl refl (λ _ _. refl), (other sweep refl refl (λ _ _. refl), (other far refl refl (λ _ _. refl), (other far_timeout refl refl (λ _ _. refl), (other verbose refl refl (λ _ _. refl), (fits_help (codes "connections") (codes "1") 1 connections_limit refl refl, tt))))))) words f;
+      workers = let other = fits_other (codes "workers") (codes "2") 0 workers_limit refl refl in has_number (codes "workers") (codes "2") 0 workers_limit refl refl (codes "serve") (port ∷ connections ∷ []) (budget ∷ sweep ∷ far ∷ far_timeout ∷ verbose ∷ help ∷ [])
+          (other port refl refl (λ _ _. refl), (other connections refl refl (λ _ _. refl), tt))
+          (other budget refl refl (λ _ _. refl), (other sweep refl refl (λ _ _. refl), (other far refl refl (λ _ _. refl), (other far_timeout refl refl (λ _ _. refl), (other verbose refl refl (λ _ _. refl), (fits_help (codes "workers") (codes "2") 0 workers_limit refl refl, tt)))))) words f;
+      budget = let other = fits_other (codes "budget") budget_limit_text 0 budget_limit refl refl in has_number (codes "budget") budget_limit_text 0 budget_limit refl refl (codes "serve") (port ∷ connections ∷ workers ∷ []) (sweep ∷ far ∷ far_timeout ∷ verbose ∷ help ∷ [])
+          (other port refl refl (λ _ _. refl), (other connections refl refl (λ _ _. refl), (other workers refl refl (λ _ _. refl), tt)))
+          (other sweep refl refl (λ _ _. refl), (other far refl refl (λ _ _. refl), (other far_timeout refl refl (λ _ _. refl), (other verbose refl refl (λ _ _. refl), (fits_help (codes "budget") budget_limit_text 0 budget_limit refl refl, tt))))) words f;
+      far_timeout = let other = fits_other (codes "far-timeout") (codes "5000") 1 far_timeout_limit refl refl in has_number (codes "far-timeout") (codes "5000") 1 far_timeout_limit refl refl (codes "serve") (port ∷ connections ∷ workers ∷ budget ∷ sweep ∷ far ∷ []) (verbose ∷ help ∷ [])
+          (other port refl refl (λ _ _. refl), (other connections refl refl (λ _ _. refl), (other workers refl refl (λ _ _. refl), (other budget refl refl (λ _ _. refl), (other sweep refl refl (λ _ _. refl), (other far refl refl (λ _ _. refl), tt))))))
+          (other verbose refl refl (λ _ _. refl), (fits_help (codes "far-timeout") (codes "5000") 1 far_timeout_limit refl refl, tt)) words f;
     }
 
 serve_entered : (words : List Text) → level_fault serve_built [] nothing_held words false [] ≡ [] → IsEntered (Some (rows_at serve_built words))
@@ -162,7 +167,7 @@ entered_good None f = tt
 entered_good (Some p) f =
     among_at (λ o. option_map_or (λ s. level_fault s [] nothing_held p.1 false []) o [] ≡ [] → IsEntered (option_map (λ s. rows_at s p.1) o))
     (answers_to p.0 (codes "run", [])) (answers_to p.0 (codes "check", [])) (answers_to p.0 (codes "asm", [])) (answers_to p.0 (codes "dis", [])) (answers_to p.0 (codes "store", [])) (answers_to p.0 (codes "serve", []))
-    (λ _. tt) (run_entered p.1) (λ _. plain_entered (codes "check") 99 (rows_at (other_built (codes "check")) p.1).1 refl (omega arith) (omega arith) refl) (λ _. plain_entered (codes "asm") 97 (rows_at asm_built p.1).1 refl (omega arith) (omega arith) refl)
+    (λ _. tt) (run_entered p.1) (λ _. plain_entered (codes "check") 99 (rows_at check_built p.1).1 refl (omega arith) (omega arith) refl) (λ _. plain_entered (codes "asm") 97 (rows_at asm_built p.1).1 refl (omega arith) (omega arith) refl)
     (λ _. plain_entered (codes "dis") 100 (rows_at dis_built p.1).1 refl (omega arith) (omega arith) refl) (store_entered p.1) (serve_entered p.1) f
 
 -- right arguments enter a subcommand

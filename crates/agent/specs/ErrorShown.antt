@@ -1,5 +1,5 @@
--- What is shown of invalid arguments, and of those that ask for help.
-use Rattle.std.specs.Prelude.{◌≡◌, ◌≢◌, ℕ, ◌⊎◌, List, [], Option, Ok, Err, codes}
+-- What is shown of invalid arguments, and of those that ask for help or for the version.
+use Rattle.std.specs.Prelude.{◌≡◌, ◌≢◌, ℕ, ◌⊎◌, List, [], ◌∷◌, ◌++◌, Option, Ok, Err, codes}
 use Rattle.std.specs.Io.KnownBytes.{Appends, Keeps}
 use Rattle.clap.specs.Words.{Kinds, IsAmong}
 use Rattle.clap.specs.declared.error.kind.ErrorKind.{ErrorKind}
@@ -15,6 +15,19 @@ use Rattle.agent.specs.declared.failure.Status.TheVariants.{InvalidArguments}
 abbrev pub ReportsNoMemory : Option (List ℕ) → Option (List ℕ) → Option (List ℕ) → Option (List ℕ) → Status → Type 0
 ReportsNoMemory out_before out_after before after status = Keeps out_before out_after × Reports before after (Err NoMemory) status
 
+-- the version of the program
+abbrev pub version_text : List ℕ
+version_text = codes "0.9.0"
+
+-- the line with the program's name and version
+abbrev pub version_line : List ℕ
+version_line = codes "bpfagent " ++ version_text ++ 10 ∷ []
+
+-- the line with the version, and nothing else, goes to the output
+abbrev pub ShowsVersion : Option (List ℕ) → Option (List ℕ) → Option (List ℕ) → Option (List ℕ) → Status → Type 0
+ShowsVersion out_before out_after before after status = (Appends out_before out_after version_line × Reports before after (Ok tt) status)
+    ⊎ (AppendsPart out_before out_after version_line × Reports before after (Err Write) status)
+
 -- help, which is not empty, goes to the output
 abbrev pub ShowsHelp : Option (List ℕ) → Option (List ℕ) → Option (List ℕ) → Option (List ℕ) → Status → Type 0
 ShowsHelp out_before out_after before after status = (text : List ℕ) × (text ≢ [])
@@ -24,11 +37,11 @@ ShowsHelp out_before out_after before after status = (text : List ℕ) × (text 
 abbrev pub ShowsError : Option (List ℕ) → Option (List ℕ) → Status → Type 0
 ShowsError before after status = (text : List ℕ) × (text ≢ []) × AppendsSome before after text × (status ≡ InvalidArguments)
 
--- What is done about arguments that give this kind of error. For each text there may be no memory.
+-- What is done about arguments that give this kind of error. For each text but the version there may be no memory.
 abbrev pub Shows : ErrorKind → Option (List ℕ) → Option (List ℕ) → Option (List ℕ) → Option (List ℕ) → Status → Type 0
 Shows kind.OutOfMemory out_before out_after before after status = ReportsNoMemory out_before out_after before after status
 Shows kind.DisplayHelp out_before out_after before after status = ShowsHelp out_before out_after before after status ⊎ ReportsNoMemory out_before out_after before after status
-Shows kind.DisplayVersion out_before out_after before after status = ShowsHelp out_before out_after before after status ⊎ ReportsNoMemory out_before out_after before after status
+Shows kind.DisplayVersion out_before out_after before after status = ShowsVersion out_before out_after before after status
 Shows _ out_before out_after before after status = (Keeps out_before out_after × ShowsError before after status) ⊎ ReportsNoMemory out_before out_after before after status
 
 -- arguments that may give these kinds of error are answered by one of them, or by out of memory

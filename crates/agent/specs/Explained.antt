@@ -1,9 +1,15 @@
--- What `asm --explain` says beside the line of an error: the token that it is about, and the line that it stands in.
+-- What `asm --explain` says beside the line of an error: the token that it is about, the line that it stands in, and what would fit there.
 use Rattle.std.specs.Prelude.{◌≡◌, ℕ, ◌+◌, ◌-◌, ◌==◌, nat_le, ◌&&◌, if◌then◌else◌, Bool, true, false, ⊤, List, [], ◌∷◌, ◌++◌, map, take, slice_range, codes, decimal, Option, Some, None, Result, Ok, Err}
 use Rattle.std.specs.Str.Lines.{lines}
 use Rattle.asm_text.specs.Tokens.{Lexeme, tokens, IsFirstOf}
 use Rattle.asm_grammar.specs.declared.why.Why.{Why}
+use Rattle.asm_grammar.specs.declared.why.Why.TheVariants as why
+use Rattle.asm_grammar.specs.declared.wanted.Wanted.{Wanted}
+use Rattle.asm_grammar.specs.declared.wanted.Wanted.TheVariants as wanted
 use Rattle.asm_grammar.specs.Blame.{blamed}
+use Rattle.asm_grammar.specs.Wanting as wanting
+use Rattle.asm_table.specs.declared.mnemonic.Sort.{Sort}
+use Rattle.asm_table.specs.declared.mnemonic.Sort.TheVariants as sort
 use Rattle.assembler.specs.Numbered.{numbered}
 use Rattle.streams.specs.Streams.{AppendsSome}
 use Rattle.agent.specs.Failures.{failure_line, status_number, status_of}
@@ -24,23 +30,66 @@ quoted_byte b = if b == 9 then 32 else (if nat_le 32 b && nat_le b 126 then b el
 abbrev pub quoted : List ℕ → List ℕ
 quoted bytes = 39 ∷ (map quoted_byte (take quote_limit bytes) ++ 39 ∷ [])
 
+-- an operand of this sort
+abbrev pub operand_text : Sort → List ℕ
+operand_text sort.Register = codes "a register, r0 to r10,"
+operand_text sort.RegisterOrImm = codes "a register or a number"
+operand_text sort.Imm = codes "a number"
+operand_text sort.Memory = codes "a place in memory, such as [r1+8],"
+operand_text sort.Imm64 = codes "a number"
+operand_text sort.Target = codes "a label, or a number with a sign,"
+operand_text sort.LongTarget = codes "a label, or a number with a sign,"
+
+-- the numbers that an operand of this sort may have
+abbrev pub range_text : Sort → List ℕ
+range_text sort.Register = codes "a register, r0 to r10,"
+range_text sort.RegisterOrImm = codes "a number from -2147483648 to 2147483647"
+range_text sort.Imm = codes "a number from -2147483648 to 2147483647"
+range_text sort.Memory = codes "an offset from -32768 to 32767"
+range_text sort.Imm64 = codes "a number from -9223372036854775808 to 18446744073709551615"
+range_text sort.Target = codes "an offset from -32768 to 32767"
+range_text sort.LongTarget = codes "an offset from -2147483648 to 2147483647"
+
+-- what would fit: with the range of a number, or without
+abbrev pub place_text : Bool → Wanted → List ℕ
+place_text ranges wanted.Token = codes "a name, a number or one of :,[]+- in ASCII"
+place_text ranges wanted.Mnemonic = codes "a mnemonic"
+place_text ranges wanted.Comma = codes "a comma"
+place_text false (wanted.Operand s) = operand_text s
+place_text true (wanted.Operand s) = range_text s
+place_text ranges wanted.End = codes "the line's end"
+
+-- what would fit in place of the token that the reason is about
+abbrev pub fitting_text : Why → Wanted → List ℕ
+fitting_text why.Word w = place_text false w
+fitting_text why.Operand w = place_text false w
+fitting_text why.Range w = place_text true w
+fitting_text why.Label w = codes "a label of the text"
+fitting_text why.TwiceLabel w = codes "a label of no other line"
+fitting_text why.TooLong w = codes "no instruction after 4096 slots"
+fitting_text why.Memory w = []
+
+-- the same as the end of what is said
+abbrev pub fits_text : Why → List ℕ → List ℕ
+fits_text w line = codes ", where " ++ fitting_text w (wanting.wanted w (tokens line)) ++ codes " fits" ++ 10 ∷ []
+
 -- what is said of the token from start to end of a line
 abbrev pub token_text : List ℕ → ℕ → ℕ → List ℕ
-token_text line start end = codes "column " ++ decimal (start + 1) ++ codes ": " ++ quoted (slice_range line start end) ++ codes " in " ++ quoted line ++ 10 ∷ []
+token_text line start end = codes "column " ++ decimal (start + 1) ++ codes ": " ++ quoted (slice_range line start end) ++ codes " in " ++ quoted line
 
 -- what is said of a line that ends too early
 abbrev pub end_text : List ℕ → List ℕ
-end_text line = codes "at the end of " ++ quoted line ++ 10 ∷ []
+end_text line = codes "at the end of " ++ quoted line
 
--- what is said of the first of these tokens, with which the line ends
-abbrev pub SaysFirst : List Lexeme → List ℕ → List ℕ → Type 0
-SaysFirst [] line text = text ≡ end_text line
-SaysFirst (t ∷ ts) line text = (start end : ℕ) × IsFirstOf (t ∷ ts) line start end × (text ≡ token_text line start end)
+-- what is said of the first of these tokens, with which the line ends, and of what would fit there
+abbrev pub SaysFirst : List Lexeme → List ℕ → List ℕ → List ℕ → Type 0
+SaysFirst [] line fits text = text ≡ end_text line ++ fits
+SaysFirst (t ∷ ts) line fits text = (start end : ℕ) × IsFirstOf (t ∷ ts) line start end × (text ≡ token_text line start end ++ fits)
 
 -- what is said of this line, if there is one, against which this reason is
 abbrev pub SaysOfLine : Option (List ℕ) → Why → List ℕ → Type 0
 SaysOfLine None why text = text ≡ []
-SaysOfLine (Some line) why text = SaysFirst (blamed why (tokens line)) line text
+SaysOfLine (Some line) why text = SaysFirst (blamed why (tokens line)) line (fits_text why line) text
 
 -- What is said beside the line of a failure: nothing but of a line that isn't assembly.
 abbrev pub Explains : List ℕ → Failure → List ℕ → Type 0

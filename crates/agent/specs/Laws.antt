@@ -10,11 +10,11 @@ RightArgumentsNameATask = (arguments : List Text) → faults_of arguments ≡ []
 
 -- what `serve` alone asks for
 abbrev pub plain_serving : Serving
-plain_serving = record { port = 0; connections = 1; workers = 2; budget = budget_limit; sweep = false }
+plain_serving = record { port = 0; connections = 1; workers = 2; budget = budget_limit; sweep = false; far_timeout = 5000; verbose = false }
 
 -- `serve` with all its options
 abbrev pub all_of_serve : List Text
-all_of_serve = codes "serve" ∷ codes "--workers" ∷ codes "0" ∷ codes "--port=7070" ∷ codes "--sweep" ∷ codes "--budget" ∷ codes "64" ∷ codes "--connections" ∷ codes "8" ∷ []
+all_of_serve = codes "serve" ∷ codes "--workers" ∷ codes "0" ∷ codes "--port=7070" ∷ codes "--sweep" ∷ codes "--budget" ∷ codes "64" ∷ codes "--connections" ∷ codes "8" ∷ codes "--far-timeout" ∷ codes "250" ∷ codes "-v" ∷ []
 
 -- `serve` with a far server
 abbrev pub far_serving : List Text

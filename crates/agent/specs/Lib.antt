@@ -1,5 +1,6 @@
 pub mod Failures
 pub mod CheckLeaves
+pub mod CodeExplained
 pub mod Leaves
 pub mod AsmLeaves
 pub mod DisLeaves
@@ -12,3 +13,4 @@ pub mod Laws
 pub mod StoreLeaves
 pub mod ServeLeaves
 pub mod Servers
+pub mod Theorems

@@ -1,7 +1,7 @@
 -- What `run` leaves in its streams.
 use Rattle.std.specs.Prelude.{ℕ, ⊤, List, Option, Some, Result, Ok, Err}
 use Rattle.std.specs.Io.KnownBytes.{Keeps}
-use Rattle.world.specs.WorldState.{WorldState, world_start}
+use Rattle.world.specs.WorldState.{WorldState, WorldWithin, state_of, world_start}
 use Rattle.console.specs.Held.{Held}
 use Rattle.console.specs.Agent.{agent}
 use Rattle.console.specs.Conversations.{AnswersAll, StopsReading, StopsWriting}
@@ -19,6 +19,6 @@ RunLeaves budget input before after unread (Err (WrongLine error)) = ⊥
 RunLeaves budget input before after unread (Err InputTooLong) = ⊥
 
 -- The same of the commands and the world that they leave.
-abbrev pub CommandsLeave : ℕ → List ℕ → Option (List ℕ) → Option (List ℕ) → Option (List ℕ) → Result WorldState Failure → Type 0
-CommandsLeave budget input before after unread (Ok end) = AnswersAll agent (world_start budget 0) input before after end
+abbrev pub CommandsLeave : {X : Type 0} → ℕ → List ℕ → Option (List ℕ) → Option (List ℕ) → Option (List ℕ) → Result (WorldWithin X) Failure → Type 0
+CommandsLeave budget input before after unread (Ok end) = AnswersAll agent (world_start budget 0) input before after (state_of end)
 CommandsLeave budget input before after unread (Err failure) = RunLeaves budget input before after unread (Err failure)

@@ -9,10 +9,10 @@ use Rattle.agent.specs.declared.network.Server.TheVariants.{Store, Serve}
 
 -- the task of a server
 abbrev pub server_task : Server → Task
-server_task (Store port) = task.Store port
+server_task (Store port verbose) = task.Store port verbose
 server_task (Serve serving far) = task.Serve serving
 
 -- The server keeps its far objects where these arguments say.
 abbrev pub IsFarAs : List Text → Server → Type 0
-IsFarAs arguments (Store port) = ⊤
+IsFarAs arguments (Store port verbose) = ⊤
 IsFarAs arguments (Serve serving far) = option_map (λ text. text.now) far ≡ far_of arguments

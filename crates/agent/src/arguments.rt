@@ -1,26 +1,33 @@
 //! The arguments of the command line.
 ghost use Rattle.std.specs.Prelude.{◌≡◌, [], Some, map, codes, option_map, IfOk, IfErr};
 ghost use Rattle.clap.specs.Words.{app_of, found_of, new_app, rows_of, rule_of, HasKind};
-ghost use Rattle.agent.specs.CommandLine.{HasNumber, HasServing, IsLocal, asm_shape, bare, budget_limit, budget_rule, command_line, connections_limit, connections_rule, dis_shape, far_of, far_rule, faults_of, flag_rule, is_set, number_in, port_limit, port_rule, run_shape, serve_shape, serving_in, store_shape, task_named, task_of, workers_limit, workers_rule};
+ghost use Rattle.agent.specs.CommandLine.{HasNumber, HasServing, IsLocal, asm_shape, bare, budget_limit, budget_rule, check_shape, command_line, connections_limit, connections_rule, dis_shape, far_of, far_rule, far_timeout_limit, far_timeout_rule, faults_of, flag_rule, is_set, number_in, port_limit, port_rule, run_shape, serve_shape, serving_in, store_shape, task_named, task_of, verbose_rule, workers_limit, workers_rule};
 
+use crate::help_texts::{
+    ABOUT, ASM_HELP, CHECK_HELP, DIS_HELP, RUN_HELP, SERVE_HELP, STORE_HELP, TOP_HELP,
+};
 use clap::{Arg, ArgAction, ArgMatches, Command, Error, value_parser};
 use std::alloc::{AllocError, Global};
 use std::convert::AsStr;
+
+/// The version of the program.
+pub const VERSION: &str = "0.9.0";
 
 /// What the program can be asked for.
 #[derive(Clone, Copy, Debug, PartialEq, Eq)]
 pub enum Task {
     /// To do commands, where the objects that aren't far have at most so many bytes.
     Run { budget: u32 },
-    /// To check raw code.
-    Check,
+    /// To check raw code, and to explain a refusal where that is asked for.
+    Check { explains: bool },
     /// To turn assembly into raw code, and to explain an error where that is asked for.
     Assemble { explains: bool },
     /// To show raw code as assembly, each instruction after the number of its slot where that is
     /// asked for.
     Disassemble { has_slots: bool },
     /// To keep what clients send away, listening on this port, or on any free one where it is 0.
-    Store { port: u16 },
+    /// What happens is written down where that is asked for.
+    Store { port: u16, verbose: bool },
     /// To do the commands of the input, and then those of clients.
     Serve(Serving),
 }
@@ -38,6 +45,10 @@ pub struct Serving {
     pub budget: u32,
     /// Whether objects that nobody uses are sent away.
     pub sweep: bool,
+    /// How many milliseconds connecting to the far server, a read from it or a write to it may take.
+    pub far_timeout: u32,
+    /// Whether what happens is written down.
+    pub verbose: bool,
 }
 
 /// `--budget N`: the most bytes that the objects that aren't far may have.
@@ -100,6 +111,20 @@ fn make_far<'a>(alloc: Global) -> Arg<'a>
         )
 }
 
+/// `--far-timeout MS`: how long the far server may take.
+fn make_far_timeout<'a>(alloc: Global) -> Arg<'a>
+    ensures { rule_of result ≡ far_timeout_rule }
+{
+    Arg::new(alloc, "far-timeout")
+        .long("far-timeout")
+        .value_name("MS")
+        .value_parser(value_parser!(u32).range(1..=600_000))
+        .default_value("5000")
+        .help(
+            "The most milliseconds that connecting to the far server, a read or a write may take, 1 to 600000",
+        )
+}
+
 /// `--NAME`, which is given or not.
 fn make_flag<'a>(alloc: Global, name: &'a str, help: &'a str) -> Arg<'a>
     ensures { rule_of result ≡ flag_rule name.entry.now }
@@ -110,49 +135,16 @@ fn make_flag<'a>(alloc: Global, name: &'a str, help: &'a str) -> Arg<'a>
         .help(help)
 }
 
-/// What help says of `run`.
-const RUN_HELP: &str =
-    "Reads lines from standard input, each a command, and writes a line to standard output \
-for each, its reply, before the next is done. docs/PROTOCOL.md describes them.\n\nStatus 0: the input has ended. \
-Status 3: a stream failed, or there is no memory to begin with; standard error says which.";
-
-/// What help says of `check`.
-const CHECK_HELP: &str =
-    "Reads raw code (bytes, not hex) from standard input, and writes 'ok N' to standard output \
-where it is valid: it has N slots.\n\nStatus 0: the code is valid. Status 1: it isn't, and standard error has \
-'slot S: WHY'. Status 3: a stream failed, or out of memory.";
-
-/// What help says of `asm`.
-const ASM_HELP: &str =
-    "Reads assembly from standard input, 1048576 bytes at most, and writes raw code (bytes, not hex) \
-to standard output. docs/ASSEMBLY.md describes it.\n\nStatus 0: the code is written. Status 1: it isn't assembly, and \
-standard error has 'line L: WHY' or 'input too long'. Status 3: a stream failed, or out of memory.";
-
-/// What help says of `dis`.
-const DIS_HELP: &str =
-    "Reads raw code (bytes, not hex) from standard input, and writes assembly to standard output, a \
-line for each instruction. 'asm' makes the same code of it, where no slots are shown.\n\nStatus 0: the text is written. \
-Status 1: the code isn't valid, and standard error has 'slot S: WHY'. Status 3: a stream failed, or out of memory.";
-
-/// What help says of `store`.
-const STORE_HELP: &str =
-    "Listens on 127.0.0.1, writes 'listening P' to standard output, P the port, and serves one client \
-after another, each from an empty store, until standard input ends. docs/FAR-STREAM.md describes what a client sends \
-and is sent. A client that breaks the protocol is given up: standard error has 'client N: WHY', and the next is served.\n\n\
-Status 0: standard input has ended. Status 3: the port can't be had, a stream failed, or out of memory; standard error \
-says which.";
-
-/// What help says of `serve`.
-const SERVE_HELP: &str =
-    "Does the commands of standard input first, as 'run' does, and writes their replies. Then listens \
-on 127.0.0.1, writes 'listening P' to standard output, P the port, and takes N connections in all, each a conversation of \
-its own over the objects and machines that are there. Workers step the machines that are neither paused nor stopped, and \
-a mover takes objects away and brings them back. With --far they go to a server, as 'store' is one, to which this program \
-connects before it reads anything. When all connections have ended, 'closed' is written, then a line for each object, \
-and then the 'regs' line of each machine. docs/PROTOCOL.md describes the commands, docs/FAR-MEMORY.md far servers.\n\n\
-Status 0: all connections have ended. Status 1: an object is on its way or far when standard input ends; standard error \
-has \"object N isn't here\". Status 3: the far server can't be reached, the port can't be had, a stream failed, or out of \
-memory; standard error says which.";
+/// `-v`, `--verbose`: what happens is written down.
+fn make_verbose<'a>(alloc: Global) -> Arg<'a>
+    ensures { rule_of result ≡ verbose_rule }
+{
+    Arg::new(alloc, "verbose")
+        .long("verbose")
+        .short('v')
+        .action(ArgAction::SetTrue)
+        .help("Write what happens to standard error, a line each with the time")
+}
 
 /// A subcommand of this name, without options; in one line what it is about, and what else help says.
 fn make_subcommand<'a>(alloc: Global, name: &'a str, about: &'a str, help: &'a str) -> Command<'a>
@@ -172,6 +164,23 @@ fn make_run<'a>(alloc: Global) -> Result<Command<'a>, AllocError>
         RUN_HELP,
     )
     .arg(make_budget(alloc))
+}
+
+/// `check`, with its option.
+fn make_check<'a>(alloc: Global) -> Result<Command<'a>, AllocError>
+    ensures { IfOk result (λ c. ((app_of c).top ≡ check_shape) × IsLocal c) }
+{
+    make_subcommand(
+        alloc,
+        "check",
+        "Check the raw code of standard input",
+        CHECK_HELP,
+    )
+    .arg(make_flag(
+        alloc,
+        "explain",
+        "Name the instruction, and the rule that it breaks, in a second line",
+    ))
 }
 
 /// `asm`, with its option.
@@ -208,7 +217,7 @@ fn make_dis<'a>(alloc: Global) -> Result<Command<'a>, AllocError>
     ))
 }
 
-/// `store`, with its option.
+/// `store`, with its options.
 fn make_store<'a>(alloc: Global) -> Result<Command<'a>, AllocError>
     ensures { IfOk result (λ c. ((app_of c).top ≡ store_shape) × IsLocal c) }
 {
@@ -218,7 +227,8 @@ fn make_store<'a>(alloc: Global) -> Result<Command<'a>, AllocError>
         "Keep the objects of other agents",
         STORE_HELP,
     )
-    .arg(make_port(alloc))
+    .arg(make_port(alloc))?
+    .arg(make_verbose(alloc))
 }
 
 /// `serve`, with its options.
@@ -240,7 +250,9 @@ fn make_serve<'a>(alloc: Global) -> Result<Command<'a>, AllocError>
         "sweep",
         "Send away objects that nobody has used for a while",
     ))?
-    .arg(make_far(alloc))
+    .arg(make_far(alloc))?
+    .arg(make_far_timeout(alloc))?
+    .arg(make_verbose(alloc))
 }
 
 /// The command line without its subcommands.
@@ -250,7 +262,9 @@ fn make_top<'a>(alloc: Global) -> Result<Command<'a>, AllocError>
     let named = Command::new(alloc, "bpfagent").bin_name("bpfagent")?;
     Ok(
         named
-            .about("Runs BPF programs")
+            .about(ABOUT)
+            .after_help(TOP_HELP)
+            .version(VERSION)
             .no_binary_name(true)
             .disable_help_subcommand(true)
             .subcommand_required(true),
@@ -263,12 +277,7 @@ fn make_command<'a>(alloc: Global) -> Result<Command<'a>, AllocError>
 {
     make_top(alloc)?
         .subcommand(make_run(alloc)?)?
-        .subcommand(make_subcommand(
-            alloc,
-            "check",
-            "Check the raw code of standard input",
-            CHECK_HELP,
-        ))?
+        .subcommand(make_check(alloc)?)?
         .subcommand(make_asm(alloc)?)?
         .subcommand(make_dis(alloc)?)?
         .subcommand(make_store(alloc)?)?
@@ -319,6 +328,17 @@ fn read_workers<'a>(matches: &ArgMatches<'a>) -> u8
     workers
 }
 
+/// How many milliseconds the matches of `serve` give the far server.
+fn read_far_timeout<'a>(matches: &ArgMatches<'a>) -> u32
+    requires { HasNumber (codes "far-timeout") 1 far_timeout_limit (rows_of (found_of matches.now)) }
+    ensures { number_in (codes "far-timeout") (rows_of (found_of matches.now)) ≡ Some result }
+{
+    let Some(millis) = matches.get_one::<u32>("far-timeout") else {
+        unreachable!()
+    };
+    millis
+}
+
 /// Whether the flag of this name is given.
 fn is_set<'a>(matches: &ArgMatches<'a>, name: &str) -> bool
     ensures { result ≡ is_set name.now (rows_of (found_of matches.now)) }
@@ -340,6 +360,8 @@ fn read_serving<'a>(matches: &ArgMatches<'a>) -> Serving
         workers: read_workers(matches),
         budget: read_budget(matches),
         sweep: is_set(matches, "sweep"),
+        far_timeout: read_far_timeout(matches),
+        verbose: is_set(matches, "verbose"),
     }
 }
 
@@ -354,7 +376,9 @@ fn task_called<'a>(name: &str, matches: &ArgMatches<'a>) -> Option<Task>
         "run" => Some(Task::Run {
             budget: read_budget(matches),
         }),
-        "check" => Some(Task::Check),
+        "check" => Some(Task::Check {
+            explains: is_set(matches, "explain"),
+        }),
         "asm" => Some(Task::Assemble {
             explains: is_set(matches, "explain"),
         }),
@@ -363,6 +387,7 @@ fn task_called<'a>(name: &str, matches: &ArgMatches<'a>) -> Option<Task>
         }),
         "store" => Some(Task::Store {
             port: read_port(matches),
+            verbose: is_set(matches, "verbose"),
         }),
         "serve" => Some(Task::Serve(read_serving(matches))),
         _ => None,

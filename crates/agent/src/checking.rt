@@ -1,9 +1,13 @@
 //! `check`: raw code in, whether it is valid out.
-ghost use Rattle.std.specs.Prelude.{◌≡◌, IfSome};
+ghost use Rattle.std.specs.Prelude.{◌≡◌, IfSome, Result, ⊤};
 ghost use Rattle.agent.specs.CheckLeaves.{CheckLeaves, Finds, check_limit, ok_line};
+ghost use Rattle.agent.specs.CodeExplained.{ReportsCheck, ReportsExplainedCode};
+ghost use Rattle.agent.specs.declared.failure.Failure.{Failure};
 ghost use Rattle.streams.specs.Streams.{ConsumesAtMost};
 
-use crate::failure::Failure;
+use crate::failure::{Failure, Status};
+use crate::refusals::report_refusal;
+use crate::reporting::report;
 use arrayvec::ArrayVec;
 use loader::{CODE_LIMIT, load};
 use std::alloc::Global;
@@ -60,4 +64,58 @@ pub fn check<R: Read, W: Write>(
     let slots = find(alloc, reader)?;
     put_all(writer, &ok_line_of(slots))?;
     Ok(())
+}
+
+/// Writes how many slots the code has, where it is valid.
+fn put_slots<W: Write>(alloc: Global, code: &[u8], writer: &mut W) -> Result<(), Failure>
+    ensures { CheckLeaves code.now (W.contents writer.old) (W.contents writer.new) result }
+{
+    let slots = count_slots(alloc, code)?;
+    put_all(writer, &ok_line_of(slots))?;
+    Ok(())
+}
+
+/// Reads raw code, writes how many slots it has where it is valid, and reports how that went: a
+/// refusal with an explanation.
+fn check_explained<R: Read, W: Write, E: Write>(
+    alloc: Global,
+    reader: &mut R,
+    writer: &mut W,
+    errors: &mut E,
+) -> Status
+    ensures reported { IfSome (R.remaining reader.old) (λ input. (outcome : Result ⊤ Failure)
+        × CheckLeaves input (W.contents writer.old) (W.contents writer.new) outcome
+        × ReportsExplainedCode input (E.contents errors.old) (E.contents errors.new) outcome result) }
+    ensures consumed { ConsumesAtMost check_limit (R.remaining reader.old) (R.remaining reader.new) }
+{
+    let code = match read_at_most(alloc, reader, CHECK_LIMIT) {
+        Ok(code) => code,
+        Err(fault) => return report(Err(Failure::from(fault)), errors),
+    };
+    match put_slots(alloc, &code, writer) {
+        Ok(()) => Status::Done,
+        Err(failure) => match failure {
+            Failure::Refused(error) => report_refusal(alloc, &code, error, errors),
+            other => report(Err(other), errors),
+        },
+    }
+}
+
+/// The same, with an explanation or without.
+pub(crate) fn check_reported<R: Read, W: Write, E: Write>(
+    alloc: Global,
+    explains: bool,
+    reader: &mut R,
+    writer: &mut W,
+    errors: &mut E,
+) -> Status
+    ensures reported { IfSome (R.remaining reader.old) (λ input. (outcome : Result ⊤ Failure)
+        × CheckLeaves input (W.contents writer.old) (W.contents writer.new) outcome
+        × ReportsCheck explains input (E.contents errors.old) (E.contents errors.new) outcome result) }
+    ensures consumed { ConsumesAtMost check_limit (R.remaining reader.old) (R.remaining reader.new) }
+{
+    if explains {
+        return check_explained(alloc, reader, writer, errors);
+    }
+    report(check(alloc, reader, writer), errors)
 }

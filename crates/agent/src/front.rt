@@ -4,23 +4,25 @@ ghost use Rattle.std.specs.Io.KnownBytes.{Keeps};
 ghost use Rattle.clap.specs.Words.{kind_of};
 ghost use Rattle.agent.specs.AsmLeaves.{AsmLeaves, asm_limit};
 ghost use Rattle.agent.specs.CheckLeaves.{CheckLeaves, check_limit};
+ghost use Rattle.agent.specs.CodeExplained.{ReportsCheckOutcome};
 ghost use Rattle.agent.specs.CommandLine.{faults_of, task_of};
 ghost use Rattle.agent.specs.DisLeaves.{DisLeaves};
 ghost use Rattle.agent.specs.Explained.{ReportsAsmOutcome};
-ghost use Rattle.agent.specs.ErrorShown.{Shows, ShowsError, ShowsHelp, ShowsOneOf};
+ghost use Rattle.agent.specs.ErrorShown.{Shows, ShowsError, ShowsHelp, ShowsOneOf, ShowsVersion, version_line};
 ghost use Rattle.agent.specs.Reports.{ReportsOutcome};
 ghost use Rattle.agent.specs.RunLeaves.{RunLeaves};
 ghost use Rattle.agent.specs.StoreLeaves.{LeavesUndone};
 ghost use Rattle.agent.specs.declared.arguments.Serving.{Serving};
 ghost use Rattle.streams.specs.Streams.{ConsumesAtMost};
 
-use crate::arguments::{Task, read_arguments};
+use crate::arguments::{Task, VERSION, read_arguments};
 use crate::assembling::asm_reported;
-use crate::checking::check;
+use crate::checking::check_reported;
 use crate::disassembling::dis;
 use crate::failure::{Failure, Status};
 use crate::reporting::{report, say};
 use crate::running::run;
+use arrayvec::ArrayVec;
 use clap::Error;
 use clap::error::ErrorKind;
 use std::alloc::Global;
@@ -49,6 +51,30 @@ fn show_help<W: Write, E: Write>(text: &str, writer: &mut W, errors: &mut E) -> 
     }
 }
 
+/// A line with the name of the program and its version.
+type VersionLine = ArrayVec<u8, 32>;
+
+/// The line with the version.
+fn version_line() -> VersionLine
+    ensures { result.items ≡ version_line }
+{
+    let mut line = VersionLine::new();
+    let _ = line.try_extend_from_slice(b"bpfagent ");
+    let _ = line.try_extend_from_slice(VERSION.as_bytes());
+    let _ = line.try_push(b'\n');
+    line
+}
+
+/// Shows the version.
+fn show_version<W: Write, E: Write>(writer: &mut W, errors: &mut E) -> Status
+    ensures { ShowsVersion (W.contents writer.old) (W.contents writer.new) (E.contents errors.old) (E.contents errors.new) result }
+{
+    match put_all(writer, &version_line()) {
+        Ok(()) => Status::Done,
+        Err(_) => report(Err(Failure::Write), errors),
+    }
+}
+
 /// Says what is wrong with the arguments. What the stream doesn't take of it is lost.
 fn show_error<E: Write>(text: &str, errors: &mut E) -> Status
     ensures { ShowsError (E.contents errors.old) (E.contents errors.new) result }
@@ -57,13 +83,14 @@ fn show_error<E: Write>(text: &str, errors: &mut E) -> Status
     Status::InvalidArguments
 }
 
-/// Shows what the arguments are answered with: help, or what is wrong with them.
+/// Shows what the arguments are answered with: help, the version, or what is wrong with them.
 fn show<W: Write, E: Write>(alloc: Global, error: Error, writer: &mut W, errors: &mut E) -> Status
     ensures { Shows (kind_of error) (W.contents writer.old) (W.contents writer.new) (E.contents errors.old) (E.contents errors.new) result }
 {
     match error.kind() {
         ErrorKind::OutOfMemory => report(Err(Failure::NoMemory), errors),
-        ErrorKind::DisplayHelp | ErrorKind::DisplayVersion => match error.to_string(alloc) {
+        ErrorKind::DisplayVersion => show_version(writer, errors),
+        ErrorKind::DisplayHelp => match error.to_string(alloc) {
             Ok(text) => show_help(text.as_str(), writer, errors),
             Err(_) => report(Err(Failure::NoMemory), errors),
         },
@@ -90,8 +117,8 @@ pub fn tool<'a, S: AsStr, R: Read, W: Write, E: Write>(
     ensures run { (budget : ℕ) → faults_of (map S.text arguments.entry.now) ≡ [] → task_of (map S.text arguments.entry.now) ≡ Some (Task.Run budget)
         → IfSome (R.remaining reader.old) (λ input. ReportsOutcome (RunLeaves budget input (W.contents writer.old) (W.contents writer.new) (R.remaining reader.new))
         (E.contents errors.old) (E.contents errors.new) result) }
-    ensures check { faults_of (map S.text arguments.entry.now) ≡ [] → task_of (map S.text arguments.entry.now) ≡ Some Task.Check
-        → IfSome (R.remaining reader.old) (λ input. ReportsOutcome (CheckLeaves input (W.contents writer.old) (W.contents writer.new))
+    ensures check { (explains : Bool) → faults_of (map S.text arguments.entry.now) ≡ [] → task_of (map S.text arguments.entry.now) ≡ Some (Task.Check explains)
+        → IfSome (R.remaining reader.old) (λ input. ReportsCheckOutcome explains input (CheckLeaves input (W.contents writer.old) (W.contents writer.new))
         (E.contents errors.old) (E.contents errors.new) result) }
     ensures asm { (explains : Bool) → faults_of (map S.text arguments.entry.now) ≡ [] → task_of (map S.text arguments.entry.now) ≡ Some (Task.Assemble explains)
         → IfSome (R.remaining reader.old) (λ input. ReportsAsmOutcome explains input (AsmLeaves input (W.contents writer.old) (W.contents writer.new))
@@ -99,13 +126,13 @@ pub fn tool<'a, S: AsStr, R: Read, W: Write, E: Write>(
     ensures dis { (has_slots : Bool) → faults_of (map S.text arguments.entry.now) ≡ [] → task_of (map S.text arguments.entry.now) ≡ Some (Task.Disassemble has_slots)
         → IfSome (R.remaining reader.old) (λ input. ReportsOutcome (DisLeaves has_slots input (W.contents writer.old) (W.contents writer.new))
         (E.contents errors.old) (E.contents errors.new) result) }
-    ensures store { (port : ℕ) → faults_of (map S.text arguments.entry.now) ≡ [] → task_of (map S.text arguments.entry.now) ≡ Some (Task.Store port)
+    ensures store { (port : ℕ) (verbose : Bool) → faults_of (map S.text arguments.entry.now) ≡ [] → task_of (map S.text arguments.entry.now) ≡ Some (Task.Store port verbose)
         → IfSome (R.remaining reader.old) (λ input. ReportsOutcome (LeavesUndone input (W.contents writer.old) (W.contents writer.new) (R.remaining reader.new))
         (E.contents errors.old) (E.contents errors.new) result) }
     ensures serve { (serving : Serving) → faults_of (map S.text arguments.entry.now) ≡ [] → task_of (map S.text arguments.entry.now) ≡ Some (Task.Serve serving)
         → IfSome (R.remaining reader.old) (λ input. ReportsOutcome (LeavesUndone input (W.contents writer.old) (W.contents writer.new) (R.remaining reader.new))
         (E.contents errors.old) (E.contents errors.new) result) }
-    ensures consumed { task_of (map S.text arguments.entry.now) ≡ Some Task.Check → ConsumesAtMost check_limit (R.remaining reader.old) (R.remaining reader.new) }
+    ensures consumed { (explains : Bool) → task_of (map S.text arguments.entry.now) ≡ Some (Task.Check explains) → ConsumesAtMost check_limit (R.remaining reader.old) (R.remaining reader.new) }
     ensures consumed_by_asm { (explains : Bool) → task_of (map S.text arguments.entry.now) ≡ Some (Task.Assemble explains) → ConsumesAtMost asm_limit (R.remaining reader.old) (R.remaining reader.new) }
     ensures consumed_by_dis { (has_slots : Bool) → task_of (map S.text arguments.entry.now) ≡ Some (Task.Disassemble has_slots) → ConsumesAtMost check_limit (R.remaining reader.old) (R.remaining reader.new) }
     ensures invalid { faults_of (map S.text arguments.entry.now) ≢ []
@@ -115,7 +142,9 @@ pub fn tool<'a, S: AsStr, R: Read, W: Write, E: Write>(
 {
     match read_arguments(alloc, arguments) {
         Ok(Task::Run { budget }) => report(run(alloc, budget, reader, writer), errors).number(),
-        Ok(Task::Check) => report(check(alloc, reader, writer), errors).number(),
+        Ok(Task::Check { explains }) => {
+            check_reported(alloc, explains, reader, writer, errors).number()
+        }
         Ok(Task::Assemble { explains }) => {
             asm_reported(alloc, explains, reader, writer, errors).number()
         }

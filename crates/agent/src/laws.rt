@@ -7,15 +7,17 @@ use crate::arguments::Task;
 use clap::error::ErrorKind;
 
 /// `run`, `check`, `asm`, `dis`, `store` and `serve` alone are right arguments, and ask for what they are called; `--help` asks for
-/// help.
+/// help, `--version` for the version.
 pub fn right_arguments()
     ensures run { (faults_of (codes "run" ∷ []) ≡ []) × (task_of (codes "run" ∷ []) ≡ Some (Task.Run budget_limit)) }
-    ensures check { (faults_of (codes "check" ∷ []) ≡ []) × (task_of (codes "check" ∷ []) ≡ Some Task.Check) }
+    ensures check { (faults_of (codes "check" ∷ []) ≡ []) × (task_of (codes "check" ∷ []) ≡ Some (Task.Check false)) }
     ensures asm { (faults_of (codes "asm" ∷ []) ≡ []) × (task_of (codes "asm" ∷ []) ≡ Some (Task.Assemble false)) }
     ensures dis { (faults_of (codes "dis" ∷ []) ≡ []) × (task_of (codes "dis" ∷ []) ≡ Some (Task.Disassemble false)) }
-    ensures store { (faults_of (codes "store" ∷ []) ≡ []) × (task_of (codes "store" ∷ []) ≡ Some (Task.Store 0)) }
+    ensures store { (faults_of (codes "store" ∷ []) ≡ []) × (task_of (codes "store" ∷ []) ≡ Some (Task.Store 0 false)) }
     ensures serve { (faults_of (codes "serve" ∷ []) ≡ []) × (task_of (codes "serve" ∷ []) ≡ Some (Task.Serve plain_serving)) }
     ensures help { faults_of (codes "--help" ∷ []) ≡ ErrorKind.DisplayHelp ∷ [] }
+    ensures version { faults_of (codes "--version" ∷ []) ≡ ErrorKind.DisplayVersion ∷ [] }
+    ensures short_version { faults_of (codes "-V" ∷ []) ≡ ErrorKind.DisplayVersion ∷ [] }
 {}
 
 /// `--budget` gives `run` its budget, as a second word or after an equals sign.
@@ -30,8 +32,8 @@ pub fn right_budgets()
 /// `--port` gives `store` its port.
 pub fn right_ports()
     ensures word { (faults_of (codes "store" ∷ codes "--port" ∷ codes "8" ∷ []) ≡ [])
-        × (task_of (codes "store" ∷ codes "--port" ∷ codes "8" ∷ []) ≡ Some (Task.Store 8)) }
-    ensures most { (faults_of (codes "store" ∷ codes "--port=65535" ∷ []) ≡ []) × (task_of (codes "store" ∷ codes "--port=65535" ∷ []) ≡ Some (Task.Store port_limit)) }
+        × (task_of (codes "store" ∷ codes "--port" ∷ codes "8" ∷ []) ≡ Some (Task.Store 8 false)) }
+    ensures most { (faults_of (codes "store" ∷ codes "--port=65535" ∷ []) ≡ []) × (task_of (codes "store" ∷ codes "--port=65535" ∷ []) ≡ Some (Task.Store port_limit false)) }
     ensures great { faults_of (codes "store" ∷ codes "--port" ∷ codes "65536" ∷ []) ≢ [] }
     ensures text { faults_of (codes "store" ∷ codes "--port" ∷ codes "x" ∷ []) ≢ [] }
     ensures missing { faults_of (codes "store" ∷ codes "--port" ∷ []) ≢ [] }
@@ -39,20 +41,26 @@ pub fn right_ports()
 
 /// The options of `serve`, and numbers that are too small or too great for them. `--far` may be left out.
 pub fn right_services()
-    ensures all { (faults_of all_of_serve ≡ []) × (task_of all_of_serve ≡ Some (Task.Serve (record { port = 7070; connections = 8; workers = 0; budget = 64; sweep = true }))) }
+    ensures all { (faults_of all_of_serve ≡ []) × (task_of all_of_serve ≡ Some (Task.Serve (record { port = 7070; connections = 8; workers = 0; budget = 64; sweep = true; far_timeout = 250; verbose = true }))) }
     ensures far { (faults_of far_serving ≡ []) × (task_of far_serving ≡ Some (Task.Serve plain_serving)) × (far_of far_serving ≡ Some (codes "127.0.0.1:7070")) }
     ensures no_far { far_of all_of_serve ≡ None }
     ensures missing { faults_of (codes "serve" ∷ codes "--far" ∷ []) ≢ [] }
     ensures no_connection { faults_of (codes "serve" ∷ codes "--connections" ∷ codes "0" ∷ []) ≢ [] }
     ensures nine_connections { faults_of (codes "serve" ∷ codes "--connections=9" ∷ []) ≢ [] }
     ensures too_many_workers { faults_of (codes "serve" ∷ codes "--workers" ∷ codes "17" ∷ []) ≢ [] }
+    ensures no_time { faults_of (codes "serve" ∷ codes "--far-timeout" ∷ codes "0" ∷ []) ≢ [] }
+    ensures too_long { faults_of (codes "serve" ∷ codes "--far-timeout=600001" ∷ []) ≢ [] }
     ensures of_run { faults_of (codes "run" ∷ codes "--workers" ∷ codes "1" ∷ []) ≢ [] }
 {}
 
-/// `--slots` asks `dis` for the slots, `--explain` asks `asm` for an explanation.
+/// `--slots` asks `dis` for the slots, `--explain` asks `check` and `asm` for an explanation; `-v` and `--verbose` ask `store` to
+/// write down what happens.
 pub fn right_flags()
+    ensures explain_check { (faults_of (codes "check" ∷ codes "--explain" ∷ []) ≡ []) × (task_of (codes "check" ∷ codes "--explain" ∷ []) ≡ Some (Task.Check true)) }
     ensures explain { (faults_of (codes "asm" ∷ codes "--explain" ∷ []) ≡ []) × (task_of (codes "asm" ∷ codes "--explain" ∷ []) ≡ Some (Task.Assemble true)) }
     ensures slots { (faults_of (codes "dis" ∷ codes "--slots" ∷ []) ≡ []) × (task_of (codes "dis" ∷ codes "--slots" ∷ []) ≡ Some (Task.Disassemble true)) }
+    ensures verbose { (faults_of (codes "store" ∷ codes "--verbose" ∷ []) ≡ []) × (task_of (codes "store" ∷ codes "--verbose" ∷ []) ≡ Some (Task.Store 0 true)) }
+    ensures short { (faults_of (codes "store" ∷ codes "-v" ∷ []) ≡ []) × (task_of (codes "store" ∷ codes "-v" ∷ []) ≡ Some (Task.Store 0 true)) }
 {}
 
 /// No argument at all, another one, `help`, a second one, an option of another subcommand and a flag given twice are

@@ -8,14 +8,20 @@ mod disassembling;
 mod explaining;
 mod failure;
 mod front;
+mod help_texts;
 mod laws;
+mod moment;
 mod network;
+mod noted_stream;
+mod notes;
+mod refusals;
 mod reporting;
 mod running;
 mod serving;
 mod storing;
+mod theorems;
 
-pub use arguments::{Serving, Task};
+pub use arguments::{Serving, Task, VERSION};
 pub use assembling::asm;
 pub use checking::check;
 pub use disassembling::dis;
@@ -30,3 +36,7 @@ pub use reporting::refuse_arguments;
 pub use running::run;
 pub use serving::{ServeFault, serve};
 pub use storing::store;
+pub use theorems::{
+    closing_theorem, each_step_is_its_row, one_legal_history, replies_are_explained, run_theorem,
+    safe_and_total,
+};

@@ -13,8 +13,10 @@ use std::convert::AsStr;
 #[derive(Clone, Copy, Drop, Debug, PartialEq, Eq)]
 pub enum Server<'a> {
     /// One that keeps what clients send away, listening on this port, or on any free one where it is 0.
+    /// What happens is written down where that is asked for.
     Store {
         port: u16,
+        verbose: bool,
     },
     /// One that shares objects and machines with clients. Its far objects are kept at the server of this address, `HOST:PORT`,
     /// where one is given.
@@ -40,7 +42,7 @@ pub fn asked_server<'a, S: AsStr>(
     };
     let far = asked.far;
     match asked.task {
-        Task::Store { port } => Ok(Some(Server::Store { port })),
+        Task::Store { port, verbose } => Ok(Some(Server::Store { port, verbose })),
         Task::Serve(serving) => Ok(Some(Server::Serve { serving, far })),
         _ => Ok(None),
     }

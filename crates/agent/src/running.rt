@@ -1,6 +1,6 @@
 //! `run`: commands in, replies out.
 ghost use Rattle.std.specs.Prelude.{◌≡◌, IfOk, IfSome};
-ghost use Rattle.world.specs.WorldState.{world_start};
+ghost use Rattle.world.specs.WorldState.{state_of, world_start};
 ghost use Rattle.agent.specs.RunLeaves.{CommandsLeave, RunLeaves};
 
 use crate::failure::Failure;
@@ -12,7 +12,7 @@ use world::World;
 
 /// A world with no machine and no object, which keeps what leaves by itself.
 fn make_world(alloc: Global, budget: u32) -> Result<World<OwnStore>, AllocError>
-    ensures { IfOk result (λ w. w ≡ world_start budget 0) }
+    ensures { IfOk result (λ w. state_of w ≡ world_start budget 0) }
 {
     World::new(alloc, budget, OwnStore::new(alloc))
 }

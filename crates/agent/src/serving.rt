@@ -4,17 +4,21 @@ ghost use Rattle.agent.specs.ServeLeaves.{IsAddress, ReportsServe, ReportsServic
 
 use crate::arguments::Serving;
 use crate::failure::{Failure, Status};
+use crate::noted_stream::NotedStream;
+use crate::notes::{Note, Notes};
 use crate::reporting::say;
 use crate::running::do_commands;
 use arrayvec::ArrayVec;
+use far_server::Journal;
 use far_store::{FarStore, OwnStore};
 use far_stream::StreamStore;
 use ship_service::{ListenFault, Plan, listen_over};
 use std::alloc::Global;
-use std::io::{self, Read, Write};
+use std::io::{self, Eprint, Read, Write};
 use std::net::{Ipv4Addr, Net, SocketAddr, TcpListener, TcpStream};
 use std::sync::Wait;
 use std::thread::Threads;
+use std::time::{Clock, Duration};
 use world::World;
 
 /// Why a service ended otherwise than with its connections.
@@ -121,33 +125,53 @@ fn report_service<E: Write>(outcome: Result<(), ServeFault>, errors: &mut E) -> 
 }
 
 /// A listener on this port of 127.0.0.1, or on any free one where it is 0.
-fn bind<R: Net<Listener = TcpListener, Stream = TcpStream>>(
-    rt: &R,
-    port: u16,
-) -> io::Result<TcpListener> {
-    TcpListener::bind(rt, SocketAddr::from((Ipv4Addr::LOCALHOST, port)))
+fn bind<R>(rt: &R, port: u16, notes: &Notes<R>) -> io::Result<TcpListener>
+where
+    R: Net<Listener = TcpListener, Stream = TcpStream> + Clock + Eprint,
+{
+    match TcpListener::bind(rt, SocketAddr::from((Ipv4Addr::LOCALHOST, port))) {
+        Ok(listener) => {
+            if let Ok(address) = listener.local_addr() {
+                notes.listening(address.port());
+            }
+            Ok(listener)
+        }
+        Err(error) => {
+            notes.refused_port(port, &error);
+            Err(error)
+        }
+    }
 }
 
 /// Does the commands of the reader, and then those of clients, until all connections have ended. Objects that leave then go to
-/// this store.
+/// this store, whose stream is cut off then, if it has one.
 fn serve_over<F: FarStore + Drop + Send + Sync, R, I: Read, W: Write>(
     rt: &R,
     alloc: Global,
     serving: Serving,
     store: F,
+    far: Option<TcpStream>,
+    notes: Notes<R>,
     reader: &mut I,
     writer: &mut W,
 ) -> Result<(), ServeFault>
 where
     F::Parcel: Send,
-    R: Net<Listener = TcpListener, Stream = TcpStream> + Threads + Wait + Sync,
+    R: Net<Listener = TcpListener, Stream = TcpStream>
+        + Threads
+        + Wait
+        + Clock
+        + Eprint
+        + Copy
+        + Send
+        + Sync,
     ensures { IfSome (I.remaining reader.old) (λ input. ServesOver F F.RETURNS serving.budget input (W.contents writer.old) (W.contents writer.new) (I.remaining reader.new) result) }
 {
     let world: World<OwnStore> = match do_commands(alloc, serving.budget, reader, writer) {
         Ok(world) => world,
         Err(failure) => return Err(ServeFault::Setup(failure)),
     };
-    let Ok(listener) = bind(rt, serving.port) else {
+    let Ok(listener) = bind(rt, serving.port, &notes) else {
         return Err(ServeFault::Bind);
     };
     let plan = Plan {
@@ -155,29 +179,55 @@ where
         workers: serving.workers as usize,
         sweep: serving.sweep,
     };
-    match listen_over(rt, alloc, listener, writer, world, store, plan) {
+    match listen_over(rt, alloc, listener, writer, world, store, far, plan, &notes) {
         Ok(()) => Ok(()),
         Err(fault) => Err(ServeFault::Listen(fault)),
     }
 }
 
-/// The far store at a server, of which this is the address.
-fn connect<R: Net<Listener = TcpListener, Stream = TcpStream>>(
+/// A stream to this address; connecting, and then each read and each write, takes so long at most.
+fn connect_within<R: Net<Listener = TcpListener, Stream = TcpStream>>(
+    rt: &R,
+    address: SocketAddr,
+    longest: Duration,
+) -> io::Result<TcpStream> {
+    let stream = TcpStream::connect_timeout(rt, &address, longest)?;
+    let _ = stream.set_nodelay(true);
+    stream.set_read_timeout(Some(longest))?;
+    stream.set_write_timeout(Some(longest))?;
+    Ok(stream)
+}
+
+/// The far store at a server, of which this is the address, and another handle of its stream, if it can be had. A read or write
+/// that takes longer than so many milliseconds breaks the store's stream, as any error of the device does.
+fn connect<R>(
     rt: &R,
     alloc: Global,
     far: &str,
-) -> Result<StreamStore<TcpStream>, ServeFault>
+    timeout: u32,
+    notes: Notes<R>,
+) -> Result<(StreamStore<NotedStream<R>>, Option<TcpStream>), ServeFault>
+where
+    R: Net<Listener = TcpListener, Stream = TcpStream> + Clock + Eprint + Copy,
     ensures ok { OnOk result (IsAddress far.now) }
     ensures err { IfErr result (Unconnected far.now) }
 {
     let Ok(address) = far.parse::<SocketAddr>() else {
         return Err(ServeFault::Address);
     };
-    let Ok(stream) = TcpStream::connect(rt, address) else {
-        return Err(ServeFault::Far);
-    };
-    let _ = stream.set_nodelay(true);
-    Ok(StreamStore::new(alloc, stream))
+    let longest = Duration::from_millis(u64::from(timeout));
+    match connect_within(rt, address, longest) {
+        Ok(stream) => {
+            notes.write(Note::Connected(address));
+            let handle = stream.try_clone().ok();
+            let noted = NotedStream::new(stream, notes);
+            Ok((StreamStore::new(alloc, noted), handle))
+        }
+        Err(error) => {
+            notes.unreached(address, &error);
+            Err(ServeFault::Far)
+        }
+    }
 }
 
 /// Serves over the far server of this address, or over a store of this process where there is none.
@@ -190,22 +240,33 @@ fn serve_at<R, I: Read, W: Write>(
     writer: &mut W,
 ) -> Result<(), ServeFault>
 where
-    R: Net<Listener = TcpListener, Stream = TcpStream> + Threads + Wait + Sync,
+    R: Net<Listener = TcpListener, Stream = TcpStream>
+        + Threads
+        + Wait
+        + Clock
+        + Eprint
+        + Copy
+        + Send
+        + Sync,
     ensures { IfSome (I.remaining reader.old) (λ input. ServeLeaves serving.budget (option_map (λ text. text.now) far.entry) input (W.contents writer.old) (W.contents writer.new) (I.remaining reader.new) result) }
 {
+    let notes = Notes::new(*rt, serving.verbose);
     let Some(address) = far else {
-        return serve_over(rt, alloc, serving, OwnStore::new(alloc), reader, writer);
+        let store = OwnStore::new(alloc);
+        return serve_over(rt, alloc, serving, store, None, notes, reader, writer);
     };
-    match connect(rt, alloc, address) {
-        Ok(store) => serve_over(rt, alloc, serving, store, reader, writer),
+    match connect(rt, alloc, address, serving.far_timeout, notes) {
+        Ok((store, far)) => serve_over(rt, alloc, serving, store, far, notes, reader, writer),
         Err(fault) => Err(fault),
     }
 }
 
 /// Connects to the far server of this address, `HOST:PORT`, if one is given: objects that leave go there, and stay in this
-/// process without one. Then does the commands of the reader to its end, as [`run`](crate::run) does, and writes their replies.
-/// Then listens on the port of 127.0.0.1, or on any free one where it is 0, says which on the writer, and shares the objects and
-/// machines that there are with as many connections as are asked for. Gives the exit status when all have ended.
+/// process without one. Connecting, and each read and write of that stream, is bounded by the far time-out. Then does the
+/// commands of the reader to its end, as [`run`](crate::run) does, and writes their replies. Then listens on the port of
+/// 127.0.0.1, or on any free one where it is 0, says which on the writer, and shares the objects and machines that there are
+/// with as many connections as are asked for. Gives the exit status when all have ended. With `verbose` what happens is written
+/// to the runtime's standard error, beside what is told on `errors`.
 ///
 /// What went wrong is told on `errors`: an address that isn't an IP address and a port, a far server that can't be reached, the
 /// first of a reader or a writer that failed in the input's commands, a port that can't be had, an object that isn't here, and
@@ -220,7 +281,14 @@ pub fn serve<R, I: Read, W: Write, E: Write>(
     errors: &mut E,
 ) -> u8
 where
-    R: Net<Listener = TcpListener, Stream = TcpStream> + Threads + Wait + Sync,
+    R: Net<Listener = TcpListener, Stream = TcpStream>
+        + Threads
+        + Wait
+        + Clock
+        + Eprint
+        + Copy
+        + Send
+        + Sync,
     ensures { IfSome (I.remaining reader.old) (λ input. ReportsServe (ServeLeaves serving.budget (option_map (λ text. text.now) far.entry) input (W.contents writer.old) (W.contents writer.new) (I.remaining reader.new)) (E.contents errors.old) (E.contents errors.new) result) }
 {
     let outcome = serve_at(rt, alloc, serving, far, reader, writer);

@@ -3,13 +3,15 @@ ghost use Rattle.std.specs.Prelude.{◌≡◌, ◌++◌, ◌∷◌, [], ◌≤�
 ghost use Rattle.agent.specs.StoreLeaves.{ReportsServer, StoreLeaves, listen_text};
 
 use crate::failure::{FailureLine, Status};
+use crate::notes::Notes;
 use crate::reporting::say;
 use far_server::{ListenFault, listen};
 use std::alloc::Global;
-use std::io::{Read, Write};
+use std::io::{Eprint, Read, Write};
 use std::net::{Net, TcpListener, TcpStream};
 use std::sync::Wait;
 use std::thread::Threads;
+use std::time::Clock;
 
 /// What is said of a server that ended otherwise than with its input.
 fn text_of(fault: ListenFault) -> &'static [u8]
@@ -49,20 +51,31 @@ fn report_server<E: Write>(outcome: Result<(), ListenFault>, errors: &mut E) -> 
 }
 
 /// Listens on this port of 127.0.0.1, or on any free one where it is 0, says which on the writer,
-/// serves one client after another until the input ends, and gives the exit status.
+/// serves clients until the input ends, and gives the exit status. With `verbose` what happens is written to the runtime's
+/// standard error, beside what is told on `errors`.
 pub fn store<R, I, W: Write, E: Write>(
     rt: &R,
     alloc: Global,
     port: u16,
+    verbose: bool,
     input: I,
     writer: &mut W,
     errors: &mut E,
 ) -> u8
 where
-    R: Net<Listener = TcpListener, Stream = TcpStream> + Threads + Wait + Copy + Send + 'static,
+    R: Net<Listener = TcpListener, Stream = TcpStream>
+        + Threads
+        + Wait
+        + Clock
+        + Eprint
+        + Sync
+        + Copy
+        + Send
+        + 'static,
     I: Read + Send + Drop + 'static,
     ensures { StoreLeaves port (W.contents writer.old) (W.contents writer.new) (E.contents errors.old) (E.contents errors.new) result }
 {
-    let outcome = listen(rt, alloc, port, input, writer, errors);
+    let notes = Notes::new(*rt, verbose);
+    let outcome = listen(rt, alloc, port, input, writer, errors, notes);
     report_server(outcome, errors)
 }

@@ -74,32 +74,71 @@ fn a_wrong_line_goes_to_the_errors(rt: HostRuntime) {
 const EXPLAINED: &[(&[u8], &[u8])] = &[
     (
         b"exit\n\texot ; leave",
-        b"line 2: Word\ncolumn 2: 'exot' in ' exot ; leave'\n",
+        b"line 2: Word\ncolumn 2: 'exot' in ' exot ; leave', where a mnemonic fits\n",
     ),
     (
         b"exit # \xc3\xa9\n",
-        b"line 1: Word\ncolumn 6: '# ??' in 'exit # ??'\n",
+        b"line 1: Word\ncolumn 6: '# ??' in 'exit # ??', where a name, a number or one of :,[]+- in ASCII fits\n",
     ),
-    (b"mov r0 ", b"line 1: Operand\nat the end of 'mov r0 '\n"),
+    (
+        b"mov r0 ",
+        b"line 1: Operand\nat the end of 'mov r0 ', where a comma fits\n",
+    ),
+    (
+        b"mov r0,",
+        b"line 1: Operand\nat the end of 'mov r0,', where a register or a number fits\n",
+    ),
+    (
+        b"mov r0 5",
+        b"line 1: Operand\ncolumn 8: '5' in 'mov r0 5', where a comma fits\n",
+    ),
     (
         b"x: mov r0, 5, 6",
-        b"line 1: Operand\ncolumn 13: ',' in 'x: mov r0, 5, 6'\n",
+        b"line 1: Operand\ncolumn 13: ',' in 'x: mov r0, 5, 6', where the line's end fits\n",
     ),
     (
-        b"ldxb r1, [r2+40000]",
-        b"line 1: Range\ncolumn 14: '40000' in 'ldxb r1, [r2+40000]'\n",
+        b"ldxb r1, r2",
+        b"line 1: Operand\ncolumn 10: 'r2' in 'ldxb r1, r2', where a place in memory, such as [r1+8], fits\n",
     ),
     (
-        b"jeq r1, 2, r3\n",
-        b"line 1: Label\ncolumn 12: 'r3' in 'jeq r1, 2, r3'\n",
+        b"ja 1",
+        b"line 1: Operand\ncolumn 4: '1' in 'ja 1', where a label, or a number with a sign, fits\n",
     ),
     (
-        b"x: exit\n x:exit\n",
-        b"line 2: TwiceLabel\ncolumn 2: 'x' in ' x:exit'\n",
+        b"call x",
+        b"line 1: Operand\ncolumn 6: 'x' in 'call x', where a number fits\n",
     ),
     (
         b"mov r11, 3",
-        b"line 1: Operand\ncolumn 5: 'r11' in 'mov r11, 3'\n",
+        b"line 1: Operand\ncolumn 5: 'r11' in 'mov r11, 3', where a register, r0 to r10, fits\n",
+    ),
+    (
+        b"mov r0, 2147483648",
+        b"line 1: Range\ncolumn 9: '2147483648' in 'mov r0, 2147483648', where a number from -2147483648 to 2147483647 fits\n",
+    ),
+    (
+        b"ldxb r1, [r2+40000]",
+        b"line 1: Range\ncolumn 14: '40000' in 'ldxb r1, [r2+40000]', where an offset from -32768 to 32767 fits\n",
+    ),
+    (
+        b"jeq r1, 2, +32768",
+        b"line 1: Range\ncolumn 13: '32768' in 'jeq r1, 2, +32768', where an offset from -32768 to 32767 fits\n",
+    ),
+    (
+        b"ja32 -2147483649",
+        b"line 1: Range\ncolumn 7: '2147483649' in 'ja32 -2147483649', where an offset from -2147483648 to 2147483647 fits\n",
+    ),
+    (
+        b"lddw r1, -9223372036854775809",
+        b"line 1: Range\ncolumn 11: '9223372036854775809' in 'lddw r1, -9223372036854775809', where a number from -9223372036854775808 to 18446744073709551615 fits\n",
+    ),
+    (
+        b"jeq r1, 2, r3\n",
+        b"line 1: Label\ncolumn 12: 'r3' in 'jeq r1, 2, r3', where a label of the text fits\n",
+    ),
+    (
+        b"x: exit\n x:exit\n",
+        b"line 2: TwiceLabel\ncolumn 2: 'x' in ' x:exit', where a label of no other line fits\n",
     ),
 ];
 

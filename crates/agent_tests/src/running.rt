@@ -1,4 +1,4 @@
-//! `run`, where a stream fails or a line is cut. Whole conversations are in `conversations`.
+//! `run`, where a stream fails or a line is cut. Whole conversations are scripts, which `script_runner` runs.
 
 use crate::compared::same;
 use crate::outcome::{ended, leaves, outcome_of};

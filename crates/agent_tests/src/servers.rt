@@ -12,6 +12,8 @@ const PLAIN: Serving = Serving {
     workers: 2,
     budget: 67_108_864,
     sweep: false,
+    far_timeout: 5000,
+    verbose: false,
 };
 
 /// `serve` with all its options.
@@ -21,20 +23,36 @@ const ALL: Serving = Serving {
     workers: 16,
     budget: 0,
     sweep: true,
+    far_timeout: 600_000,
+    verbose: true,
 };
 
 /// Arguments, and the server that they ask for.
 const ASKED: &[(&[&str], Option<Server>)] = &[
-    (&["store"], Some(Server::Store { port: 0 })),
+    (
+        &["store"],
+        Some(Server::Store {
+            port: 0,
+            verbose: false,
+        }),
+    ),
     (
         &["store", "--port", "7070"],
-        Some(Server::Store { port: 7070 }),
+        Some(Server::Store {
+            port: 7070,
+            verbose: false,
+        }),
     ),
     (
-        &["store", "--port=65535"],
-        Some(Server::Store { port: 65_535 }),
+        &["store", "-v", "--port=65535"],
+        Some(Server::Store {
+            port: 65_535,
+            verbose: true,
+        }),
     ),
     (&["store", "--port=65536"], None),
+    (&["store", "-v", "--verbose"], None),
+    (&["store", "-x"], None),
     (&["store", "--help"], None),
     (
         &["serve"],
@@ -67,6 +85,8 @@ const ASKED: &[(&[&str], Option<Server>)] = &[
             "--budget",
             "0",
             "--far=[::1]:7070",
+            "--far-timeout=600000",
+            "--verbose",
             "--port=7070",
         ],
         Some(Server::Serve {
@@ -76,6 +96,10 @@ const ASKED: &[(&[&str], Option<Server>)] = &[
     ),
     (&["serve", "--connections", "9"], None),
     (&["serve", "--far"], None),
+    (&["serve", "--far-timeout", "0"], None),
+    (&["serve", "--far-timeout", "600001"], None),
+    (&["serve", "--far-timeout=x"], None),
+    (&["store", "--far-timeout", "1"], None),
     (&["serve", "--help"], None),
     (&["run"], None),
     (&["check", "--port", "1"], None),

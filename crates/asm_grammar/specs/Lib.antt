@@ -6,3 +6,4 @@ pub mod Reasons
 pub mod Views
 pub mod Canonical
 pub mod Blame
+pub mod Wanting

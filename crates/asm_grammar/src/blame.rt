@@ -26,7 +26,7 @@ fn is_about<'a>(why: Why, taken: Taken<'a>) -> bool
 
 /// Passes the operand at the front, where it can be read and the reason isn't about it.
 #[tactic(auto, unfolding(crate::specs::Blame::passed))]
-fn pass<'a>(tokens: &mut Tokens<'a>, first: bool, sort: Sort, why: Why) -> bool
+pub(crate) fn pass<'a>(tokens: &mut Tokens<'a>, first: bool, sort: Sort, why: Why) -> bool
     ensures passed { passed why first sort (lexemes_left tokens.old) ≡ (if result then Some (lexemes_left tokens.new) else None) }
     ensures line { tokens.new.line.now ≡ tokens.old.line.now }
 {

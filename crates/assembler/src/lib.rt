@@ -12,4 +12,4 @@ pub use laws::{
     canonical_spells, label_last, least_first, ok_exactly, one_meaning, one_spelling, tokens_decide,
 };
 pub use lines::line_at;
-pub use passes::assemble;
+pub use passes::{assemble, assemble_bytes};

@@ -131,7 +131,13 @@ fn assemble_all<'a>(
 pub fn assemble(alloc: Global, text: &str) -> Result<Vec<Instr>, AsmError>
     ensures { Gives (λ v. v.items) result (meaning text.now) }
 {
-    let bytes = text.as_bytes();
+    assemble_bytes(alloc, text.as_bytes())
+}
+
+/// The same of bytes, which need not be UTF-8. A byte above 127 begins no token.
+pub fn assemble_bytes(alloc: Global, bytes: &[u8]) -> Result<Vec<Instr>, AsmError>
+    ensures { Gives (λ v. v.items) result (meaning bytes.now) }
+{
     match outline_all(alloc, bytes) {
         Ok(labels) => assemble_all(alloc, bytes, &labels),
         Err(e) => Err(e),

@@ -18,10 +18,11 @@ fn main(rt: HostRuntime) -> ExitCode {
         Err(error) => return ExitCode::from(refuse_arguments(&error, &mut errors)),
     };
     let status = match asked_server(rt.alloc(), arguments.as_slice()) {
-        Ok(Some(Server::Store { port })) => store(
+        Ok(Some(Server::Store { port, verbose })) => store(
             &rt,
             rt.alloc(),
             port,
+            verbose,
             rt.stdin(),
             &mut rt.stdout(),
             &mut errors,

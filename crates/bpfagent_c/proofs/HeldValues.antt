@@ -18,7 +18,8 @@ use denote.Steps.{nothing, peeks}
 use denote.Param.{layout}
 use denote.Struct.Struct.{within}
 use denote.Struct.Owning.{shape}
-use Rattle.world.specs.WorldState.{WorldState}
+use Rattle.library_store.specs.Calls.{LibraryState}
+use Rattle.world.specs.WorldState.{WorldWithin}
 use Rattle.std.specs.contracts.alloc.Global as global
 use Rattle.std.proofs.alloc.Global.TheLaws as global_laws
 use Rattle.std.specs.contracts.impls.GlobalAllocator.TheImpl as heap
@@ -66,7 +67,7 @@ module _ {M : Type 1} {𝓤 : Ura M} {𝓛 : Logic 𝓤} {K : Type 0} {Γ : List
   held_out t d vs k = fsplit t $ fpick t (λ vss. fsplit t $ feq_l t (λ ev. fsplit t $ feq_l t (λ ep. drop t $
       k (subst (λ (ps : List Val). vs ≡ vstruct (of_list (ps ++ [])) ∷ []) ep ev))))
 
-  pub held_in : K → (p : Ptr) (y : Bool) (x : WorldState)
+  pub held_in : K → (p : Ptr) (y : Bool) (x : WorldWithin LibraryState)
       → Step K 𝓛 (‵ (Held.own_val (record { at = p; live = y; state = x }) (word p ∷ [])) ∷ Γ) G (‵ (where_live y (holds p x)) ∷ Γ) G
   held_in t p y x = step (λ s. let v : Val = word p in
       nothing t $ feq_i t (List Val) (ptr_val p ∷ []) (ptr_val p ∷ []) refl $ fjoin t $ feq_i t (List Val) (v ∷ []) (v ∷ []) refl $ fjoin t $
@@ -81,7 +82,7 @@ module _ {M : Type 1} {𝓤 : Ura M} {𝓛 : Logic 𝓤} {K : Type 0} {Γ : List
       (subst (λ (p : Ptr). vs ≡ vstruct (of_list (ptr_val p ∷ heap_word ∷ [])) ∷ []) e
       (subst (λ (ws : List Val). vs ≡ vstruct (of_list (ptr_val d.at ∷ (ws ++ []))) ∷ []) (global_laws.lowers.val_is d.alloc vss.1.0 is) (subst (λ (ps : List Val). vs ≡ vstruct (of_list (ps ++ (vss.1.0 ++ []))) ∷ []) ep ev))))))))
 
-  pub loose_in : K → (b o : ℕ) (a : Heap.Denot) (x : WorldState)
+  pub loose_in : K → (b o : ℕ) (a : Heap.Denot) (x : WorldWithin LibraryState)
       → Step K 𝓛 (‵ (Loose.own_val (record { at = block_ptr b o; alloc = a; value = x }) (both (vptr b o) heap_word ∷ [])) ∷ Γ) G (‵ (holds (block_ptr b o) x) ∷ ‵ (Heap.own_val a (heap_word ∷ [])) ∷ Γ) G
   loose_in t b o a x = step (λ s. let v : Val = both (vptr b o) heap_word in
       nothing t $ move t (2 ∷ 0 ∷ []) $ fjoin t $ feq_i t (List Val) (vptr b o ∷ []) (vptr b o ∷ []) refl $ fjoin t $ feq_i t (List Val) (v ∷ []) (v ∷ []) refl $ fjoin t $

@@ -1,4 +1,7 @@
+pub mod Back
+pub mod Encoded
 pub mod Granting
 pub mod HeldValues
 pub mod Reading
+pub mod Standing
 pub mod Values

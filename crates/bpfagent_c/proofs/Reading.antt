@@ -1,10 +1,13 @@
 -- What was read into as many bytes stands over all of them.
-use Rattle.std.proofs.Common.{◌≡◌, ◌≤◌, ℕ, min, length, List, [], ◌++◌, Some, take, drop, refl, sym, ap, ◌∙◌, arith}
+use Rattle.std.proofs.Common.{◌≡◌, ℕ, min, length, List, [], ◌++◌, Some, take, drop, refl, sym, ap, ◌∙◌, arith}
 use Rattle.std.proofs.Math.Nat.{min-eq_left}
 use Rattle.std.proofs.lemmas.List.{append-nil, take_all, drop_all}
 use Rattle.object_store.specs.declared.errors.GetError.{GetError}
 use Rattle.object_store.specs.declared.errors.GetError.TheVariants.{Outside, Away, Memory}
 use Rattle.world.specs.Answers.{refused_get}
+use Rattle.world.specs.Machines.{refused_stack}
+use Rattle.world.specs.declared.stack.StackError.{StackError}
+use Rattle.world.specs.declared.stack.StackError.TheVariants as stack_error
 use Rattle.bpfagent_c.specs.Shown.{over, bytes_of}
 
 pub over_as_many : (shown old : List ℕ) → length shown ≡ length old → shown ≡ over shown old
@@ -18,3 +21,7 @@ pub refused_shows_nothing : (n : ℕ) (why : GetError) (old : List ℕ) → old 
 refused_shows_nothing n Outside old = refl
 refused_shows_nothing n Away old = refl
 refused_shows_nothing n Memory old = refl
+
+pub stack_shows_nothing : (why : StackError) (old : List ℕ) → old ≡ bytes_of (Some (refused_stack why)) old
+stack_shows_nothing stack_error.Missing old = refl
+stack_shows_nothing stack_error.Outside old = refl

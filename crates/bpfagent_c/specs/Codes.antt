@@ -1,7 +1,15 @@
 -- Replies, places and stops as the numbers that the header names.
-use Rattle.std.specs.Prelude.{ℕ, Option, Some, None}
+use Rattle.std.specs.Prelude.{ℕ, zero, suc, Option, Some, None}
 use Rattle.far_store.specs.declared.places.Place.{Place}
 use Rattle.far_store.specs.declared.places.Place.TheVariants as place
+use Rattle.far_store.specs.declared.places.Moved.{Moved}
+use Rattle.far_store.specs.declared.places.Moved.TheVariants as moved
+use Rattle.far_store.specs.declared.fault.StoreFault.{StoreFault}
+use Rattle.far_store.specs.declared.fault.StoreFault.TheVariants.{Damaged}
+use Rattle.loader.specs.declared.loading.Why.{Why}
+use Rattle.loader.specs.declared.loading.Why.TheVariants as why
+use Rattle.asm_grammar.specs.declared.why.Why.{Why as WrongText}
+use Rattle.asm_grammar.specs.declared.why.Why.TheVariants as wrong_text
 use Rattle.machine.specs.declared.state.Stop.{Stop}
 use Rattle.machine.specs.declared.state.Stop.TheVariants as stop
 use Rattle.debugger.specs.declared.shown.State.{State}
@@ -10,6 +18,7 @@ use Rattle.debugger.specs.declared.replies.StepReply.{StepReply}
 use Rattle.debugger.specs.declared.replies.StepReply.TheVariants as step_reply
 use Rattle.world.specs.declared.replies.Reply.{Reply}
 use Rattle.world.specs.declared.replies.Reply.TheVariants as reply
+use Rattle.world.specs.Answers.{reply_to_move}
 
 -- the object is in this place, where the command can't be done
 abbrev pub code_of_place : Place → ℕ
@@ -89,3 +98,38 @@ code_of_state (state.Stopped s) = 2
 abbrev pub stop_of_state : State → ℕ
 stop_of_state (state.Stopped s) = code_of_stop s
 stop_of_state _ = 0
+
+-- bytes didn't come back: they are others, or the far store failed
+abbrev pub code_of_lost : StoreFault → ℕ
+code_of_lost Damaged = 27
+code_of_lost _ = 21
+
+-- the number of what was answered where the bytes of object n came back
+abbrev pub code_of_back : ℕ → Moved → ℕ
+code_of_back n (moved.Fault f) = code_of_lost f
+code_of_back n m = code_of_reply (reply_to_move (reply.Home n) place.Far n m)
+
+-- a place as a number
+abbrev pub number_of_place : Place → ℕ
+number_of_place place.Here = 0
+number_of_place place.Leaving = 1
+number_of_place place.Far = 2
+number_of_place place.Returning = 3
+
+-- the place of a number
+abbrev pub place_numbered : ℕ → Option Place
+place_numbered zero = Some place.Here
+place_numbered (suc zero) = Some place.Leaving
+place_numbered (suc (suc zero)) = Some place.Far
+place_numbered (suc (suc (suc zero))) = Some place.Returning
+place_numbered _ = None
+
+-- the number for code that is refused for this reason
+abbrev pub code_of_why : Why → ℕ
+code_of_why why.Memory = 10
+code_of_why _ = 25
+
+-- the number for a text that is refused for this reason
+abbrev pub code_of_text : WrongText → ℕ
+code_of_text wrong_text.Memory = 10
+code_of_text _ = 25

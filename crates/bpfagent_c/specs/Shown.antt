@@ -12,10 +12,11 @@ use Rattle.debugger.specs.declared.replies.StepReply.TheVariants as step_reply
 use Rattle.world.specs.declared.events.Event.TheVariants.{Machine}
 use Rattle.world.specs.declared.replies.Reply.{Reply}
 use Rattle.world.specs.declared.replies.Reply.TheVariants as reply
-use Rattle.world.specs.declared.running.MachineRun.{MachineRun}
+use Rattle.debugger.specs.declared.running.MachineRun.{MachineRun}
 use Rattle.world.specs.Machines.{reply_of}
 use Rattle.world.specs.Answers.{Answers}
 use Rattle.world.specs.Running.{RunsMachine}
+use Rattle.world.specs.WorldState.{state_of}
 use Rattle.bpfagent_c.specs.declared.handle.Agent.{Agent}
 use Rattle.bpfagent_c.specs.declared.shown.End.{End}
 use Rattle.bpfagent_c.specs.declared.shown.Granted.{Granted}
@@ -138,7 +139,7 @@ code_of_run (Some run) = code_of_end run.end
 pub record Steps (way : Way) (m : ℕ) (old : Agent) (before : End) (number : ℕ) (new : Agent) (after : End) : Type 0 where
   pub told : Option StepReply
   pub live : new.live ≡ true
-  pub answers : Answers old.held.state (Machine m (Step way)) (reply_of m told) new.held.state
+  pub answers : Answers (state_of old.held.state) (Machine m (Step way)) (reply_of m told) (state_of new.held.state)
   pub number_is : number ≡ code_of_step told
   pub end_is : after ≡ end_of_step told before
 
@@ -146,7 +147,7 @@ pub record Steps (way : Way) (m : ℕ) (old : Agent) (before : End) (number : �
 pub record Runs (m n : ℕ) (old : Agent) (before : End) (number : ℕ) (new : Agent) (after : End) : Type 0 where
   pub run : Option MachineRun
   pub live : new.live ≡ true
-  pub runs : RunsMachine m n old.held.state run new.held.state
+  pub runs : RunsMachine m n (state_of old.held.state) run (state_of new.held.state)
   pub number_is : number ≡ code_of_run run
   pub end_is : after ≡ end_of_run run before
 

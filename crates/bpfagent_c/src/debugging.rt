@@ -1,5 +1,5 @@
 //! Machines are shown, paused and watched.
-ghost use Rattle.std.specs.Prelude.{◌≡◌, min, length, Option};
+ghost use Rattle.std.specs.Prelude.{◌≡◌, ◌≢◌, length, Option};
 ghost use Rattle.debugger.specs.declared.commands.DebugCommand.{DebugCommand};
 ghost use Rattle.debugger.specs.declared.commands.MachineCommand.{MachineCommand};
 ghost use Rattle.debugger.specs.declared.commands.ShowCommand.{ShowCommand};
@@ -9,15 +9,12 @@ ghost use Rattle.bpfagent_c.specs.Codes.{code_of};
 ghost use Rattle.bpfagent_c.specs.Told.{Commanded, Told};
 ghost use Rattle.bpfagent_c.specs.Shown.{registers_of, values_of, value_count_of, bytes_of, text_of, text_count_of};
 
-use crate::codes::code_of;
-use crate::handle::Agent;
+use crate::codes::{NO_AGENT, OK, code_of, code_of_stack};
+use crate::handle::{Agent, give, take};
 use crate::shown::{Registers, write_bytes, write_values};
 use crate::telling::{show, tell_debug};
 use std::alloc::Global;
 use world::{DebugCommand, Reply, ShowCommand};
-
-/// One byte more than any stack has: for more a command asks for so many.
-const TOO_MANY: usize = 4097;
 
 /// Shows R0 to R10, slot, fuel and state of a machine.
 #[unsafe(no_mangle)]
@@ -55,7 +52,7 @@ pub extern "C" fn bpfagent_out(
     code_of(&given)
 }
 
-/// Reads bytes of a machine's stack: as many as there is room for.
+/// Copies bytes of a machine's stack over these, as many as they are.
 #[unsafe(no_mangle)]
 pub extern "C" fn bpfagent_stack(
     alloc: Global,
@@ -64,14 +61,18 @@ pub extern "C" fn bpfagent_stack(
     offset: u32,
     bytes: &mut [u8],
 ) -> u32
-    ensures { (given : Option Reply) × Commanded agent.old (Event.Machine machine (MachineCommand.Show (ShowCommand.Stack offset (min (length bytes.old) 4097)))) given agent.new × (result ≡ code_of given) × (bytes.new ≡ bytes_of given bytes.old) }
+    ensures told { (given : Option Reply) × Commanded agent.old (Event.Machine machine (MachineCommand.Show (ShowCommand.Stack offset (length bytes.old)))) given agent.new × (result ≡ code_of given) × (bytes.new ≡ bytes_of given bytes.old) }
+    ensures memory { result ≢ 10 }
 {
-    let length = bytes.len().min(TOO_MANY) as u32;
-    let given = show(agent, alloc, machine, ShowCommand::Stack { offset, length });
-    if let Some(Reply::Bytes(shown)) = &given {
-        write_bytes(bytes, shown.as_slice());
-    }
-    code_of(&given)
+    let Some(world) = take(agent, alloc) else {
+        return NO_AGENT;
+    };
+    let number = match world.read_stack(machine, offset, bytes) {
+        Ok(()) => OK,
+        Err(error) => code_of_stack(error),
+    };
+    give(agent, alloc, world);
+    number
 }
 
 /// The instruction at a slot, as assembly without a line end: as many bytes of it as there is room for, and how many it has.

@@ -4,13 +4,17 @@
 
 mod codes;
 mod debugging;
+mod handing;
 mod handle;
 mod life;
 mod loose;
 mod machines;
 mod objects;
+mod places;
 mod shown;
 mod telling;
+mod texts;
 
 pub use handle::Agent;
-pub use shown::{End, Granted, Refusal, Registers};
+pub use shown::{End, Granted, Parcel, Refusal, Registers};
+pub use texts::WrongLine;

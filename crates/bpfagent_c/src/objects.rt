@@ -1,5 +1,5 @@
 //! The commands on objects.
-ghost use Rattle.std.specs.Prelude.{◌≡◌, ◌≤◌, min, length, Option};
+ghost use Rattle.std.specs.Prelude.{◌≡◌, ◌≢◌, ◌≤◌, min, length, Option};
 ghost use Rattle.memory.specs.Objects.{object_bytes};
 ghost use Rattle.world.specs.declared.events.Event.{Event};
 ghost use Rattle.world.specs.declared.events.ObjectCommand.{ObjectCommand};
@@ -107,6 +107,7 @@ pub extern "C" fn bpfagent_put(
 /// Copies bytes of an object over these, as many as they are, and tells the number of the reply.
 fn get(agent: &mut Agent, alloc: Global, object: u32, offset: u32, bytes: &mut [u8]) -> u32
     ensures told { (given : Option Reply) × Commanded agent.old (Event.Object object (ObjectCommand.Get offset (length bytes.old))) given agent.new × (result ≡ code_of given) × (bytes.new ≡ bytes_of given bytes.old) }
+    ensures memory { result ≢ 10 }
 {
     let Some(world) = take(agent, alloc) else {
         return NO_AGENT;
@@ -129,6 +130,7 @@ pub extern "C" fn bpfagent_get(
     bytes: &mut [u8],
 ) -> u32
     ensures told { (given : Option Reply) × Commanded agent.old (Event.Object object (ObjectCommand.Get offset (min (length bytes.old) 65537))) given agent.new × (result ≡ code_of given) × (bytes.new ≡ bytes_of given bytes.old) }
+    ensures memory { result ≢ 10 }
 {
     let count = bytes.len().min(TOO_MANY);
     get(agent, alloc, object, offset, &mut bytes[..count])

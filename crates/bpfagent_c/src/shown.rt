@@ -59,6 +59,14 @@ pub struct Granted {
     pub writes: u32,
 }
 
+/// What the agent keeps of bytes that it handed out, beside their length.
+#[repr(C)]
+#[derive(Clone, Copy, Drop)]
+pub struct Parcel {
+    /// Their SHA-256.
+    pub digest: [u8; 32],
+}
+
 /// Writes bytes over the first ones, as many as there is room for.
 pub(crate) fn write_bytes(to: &mut [u8], shown: &[u8])
     ensures { to.new ≡ over shown.now to.old }
@@ -69,6 +77,14 @@ pub(crate) fn write_bytes(to: &mut [u8], shown: &[u8])
 
 /// Writes values over the first ones, as many as there is room for.
 pub(crate) fn write_values(to: &mut [u64], shown: &[u64])
+    ensures { to.new ≡ over shown.now to.old }
+{
+    let count = shown.len().min(to.len());
+    to[..count].copy_from_slice(&shown[..count]);
+}
+
+/// Writes numbers over the first ones, as many as there is room for.
+pub(crate) fn write_numbers(to: &mut [u32], shown: &[u32])
     ensures { to.new ≡ over shown.now to.old }
 {
     let count = shown.len().min(to.len());

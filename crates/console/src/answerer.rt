@@ -25,9 +25,11 @@ pub trait Answerer<C> {
 }
 
 impl<F: FarStore> Answerer<()> for World<F> {
+    ghost use Rattle.world.specs.WorldState.{state_of};
+
     ghost protocol = { agent };
 
-    ghost state = { λ world. world };
+    ghost state = { λ world. state_of world };
 
     fn perform(&mut self, _shared: &(), event: Event, reply: &mut ReplyLine) {
         match event {

@@ -1,6 +1,7 @@
 //! Bytes in, bytes out.
 ghost use Rattle.std.specs.Prelude.{◌≡◌, ◌++◌, ◌∷◌, ◌<◌, ◌≤◌, ℕ, List, [], length, map, IfSome, OnOk, OnErr, IsFalse, IsTrue};
 ghost use Rattle.std.specs.Result.{IsErrOf};
+ghost use Rattle.world.specs.WorldState.{state_of};
 ghost use Rattle.console.specs.Lines.{IsLine};
 ghost use Rattle.console.specs.Commands.{Reads, SpellsCommand};
 ghost use Rattle.console.specs.Held.{bytes_so_far, clip, held_bytes, nothing_held};
@@ -184,11 +185,11 @@ pub fn drive<F: FarStore, R: Read, W: Write>(
     world: &mut World<F>,
 ) -> Result<(), DriveFault>
     ensures ok { OnOk result (IfSome (R.remaining reader.old) (λ input.
-        AnswersAll agent world.old (held_bytes console.old ++ input) (W.contents writer.old) (W.contents writer.new) world.new)) }
+        AnswersAll agent (state_of world.old) (held_bytes console.old ++ input) (W.contents writer.old) (W.contents writer.new) (state_of world.new))) }
     ensures read { IsErrOf result DriveFault.Read → IfSome (R.remaining reader.old) (λ input.
-        StopsReading agent world.old (held_bytes console.old ++ input) (W.contents writer.old) (W.contents writer.new) world.new console.new (R.remaining reader.new)) }
+        StopsReading agent (state_of world.old) (held_bytes console.old ++ input) (W.contents writer.old) (W.contents writer.new) (state_of world.new) console.new (R.remaining reader.new)) }
     ensures write { IsErrOf result DriveFault.Write → IfSome (R.remaining reader.old) (λ input.
-        StopsWriting agent world.old (held_bytes console.old ++ input) (W.contents writer.old) (W.contents writer.new) world.new (R.remaining reader.new)) }
+        StopsWriting agent (state_of world.old) (held_bytes console.old ++ input) (W.contents writer.old) (W.contents writer.new) (state_of world.new) (R.remaining reader.new)) }
     ensures emptied { OnOk result (console.new ≡ nothing_held) }
     ensures dropped { IsErrOf result DriveFault.Write → console.new ≡ nothing_held }
 {

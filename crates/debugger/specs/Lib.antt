@@ -4,4 +4,6 @@ pub mod Changes
 pub mod Pausing
 pub mod Showing
 pub mod Debuggees
+pub mod Lent
+pub mod Running
 pub mod Laws

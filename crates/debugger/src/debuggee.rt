@@ -31,8 +31,7 @@ impl Debuggee {
         }
     }
 
-    /// One step over any memory, or a pause in its place.
-    #[inline]
+    /// One step over any memory, or a pause in its place. It is no `inline`: the step itself is inlined here, once.
     pub fn step<M: Memory>(&mut self, way: Way, memory: &mut M) -> StepReply
         requires { M.is_ready memory.old }
         ensures ready { M.is_ready memory.new }

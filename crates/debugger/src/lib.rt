@@ -6,6 +6,7 @@ mod debuggee;
 mod debugger;
 mod laws;
 mod replies;
+mod running;
 mod show;
 mod shown;
 mod start;
@@ -21,6 +22,7 @@ pub use laws::{
     set_watches_are_set, stops_end_pauses, waiting_changes_nothing,
 };
 pub use replies::{Debugged, ShowReply, StepReply};
+pub use running::MachineRun;
 pub use shown::{Bytes, LineText, Shown, State, Values};
 pub use start::Start;
 pub use watch::Watch;

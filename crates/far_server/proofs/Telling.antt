@@ -1,30 +1,18 @@
 -- What is told of one client more.
-use Rattle.std.proofs.Common.{ℕ, ◌+◌, ◌≤◌, List, [], ◌++◌, Option, None, Some, inl, inr, ◌∙◌, arith}
-use Rattle.std.proofs.KnownBytes.{Appends-trans, Appends-nil}
-use Rattle.std.specs.Io.KnownBytes.{Appends, Keeps}
-use Rattle.far_server.specs.Told.{IsTold, Tells, TellsBelow, TellsOne}
-use Rattle.far_server.specs.Told.IsTold.{Nothing, Line}
-
-raised : (low high : ℕ) (text : List ℕ) → low ≤ high → IsTold low text → IsTold high text
-raised low high _ below (Nothing _) = Nothing high
-raised low high _ below (Line _ number fault text part missing told less is) = Line high number fault text part missing told (omega (arith, less, below)) is
-
-kept : (a b c : Option (List ℕ)) (text : List ℕ) → Appends a b text → Keeps b c → Appends a c text
-kept None b c text p q = tt
-kept (Some x) None c text p q = absurd p
-kept (Some x) (Some y) None text p q = absurd q
-kept (Some x) (Some y) (Some z) text p q = q ∙ p
+use Rattle.std.proofs.Common.{◌≡◌, ℕ, List, [], ◌∷◌, ◌++◌, Option, Result, refl, sym, subst}
+use Rattle.std.specs.Prelude.{⊤}
+use Rattle.far_stream.specs.declared.fault.StreamFault.{StreamFault}
+use Rattle.far_server.specs.Told.{End, Tells, TellsEnd, TellsEnds}
 
 -- nothing was told before the first client
-pub nothing_told : (most : ℕ) (known : Option (List ℕ)) → TellsBelow most known known
-nothing_told most known = ([], Nothing most, Appends-nil known)
+pub nothing_told : (known : Option (List ℕ)) → Tells known known
+nothing_told known = ([], refl)
 
-pub all_told : (known : Option (List ℕ)) → Tells known known
-all_told known = (0, nothing_told 0 known)
+ends_next : (ends : List End) (end : End) (before mid after : Option (List ℕ)) → TellsEnds ends before mid → TellsEnd end.client end.outcome mid after → TellsEnds (ends ++ end ∷ []) before after
+ends_next [] end before mid after same told = (after, subst (λ k. TellsEnd end.client end.outcome k after) same told, refl)
+ends_next (e ∷ ends) end before mid after first told = (first.0, first.1, ends_next ends end first.0 mid after first.2 told)
 
 -- and what was told of the next
-pub told_next : (number : ℕ) (before mid after : Option (List ℕ)) → TellsBelow number before mid → TellsOne number mid after → TellsBelow (number + 1) before after
-told_next number before mid after told (inl same) =
-    (told.0, raised number (number + 1) told.0 (omega arith) told.1, kept before mid after told.0 told.2 same)
-told_next number before mid after told (inr (fault, (part, missing, is, appended))) =
-    (told.0 ++ part, Line (number + 1) number fault told.0 part missing told.1 (omega arith) is, Appends-trans before mid after told.0 part told.2 appended)
+pub told_next : (client : ℕ) (outcome : Result ⊤ StreamFault) (before mid after : Option (List ℕ)) → Tells before mid → TellsEnd client outcome mid after → Tells before after
+told_next client outcome before mid after told next =
+    let end : End = record { client = client; outcome = outcome } in (told.0 ++ end ∷ [], ends_next told.0 end before mid after told.1 next)

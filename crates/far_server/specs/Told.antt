@@ -1,24 +1,25 @@
 -- What is told of clients.
-use Rattle.std.specs.Prelude.{◌≡◌, ◌⊎◌, ℕ, ◌<◌, List, [], ◌++◌, Option}
-use Rattle.std.specs.Io.KnownBytes.{Appends, Keeps}
+use Rattle.std.specs.Prelude.{◌≡◌, ⊤, ℕ, List, [], ◌∷◌, Option, Result, Ok, Err}
+use Rattle.std.specs.Io.KnownBytes.{Keeps}
 use Rattle.streams.specs.Streams.{AppendsSome}
 use Rattle.far_stream.specs.declared.fault.StreamFault.{StreamFault}
 use Rattle.far_server.specs.Texts.{client_line}
 
--- of the client of this number: nothing, or its line, of which the stream took all or the first part
-abbrev pub TellsOne : ℕ → Option (List ℕ) → Option (List ℕ) → Type 0
-TellsOne number before after = Keeps before after ⊎ ((fault : StreamFault) × AppendsSome before after (client_line number fault))
+-- How the conversation of the client of this number ended.
+pub record End : Type 0 where
+  pub client : ℕ
+  pub outcome : Result ⊤ StreamFault
 
--- a text of lines of clients, each whole or its first part, in rising order of their numbers, which are below this one
-pub data IsTold : ℕ → List ℕ → Type 0 where
-  Nothing : (most : ℕ) → IsTold most []
-  Line : (most number : ℕ) (fault : StreamFault) (text part missing : List ℕ) → IsTold number text → number < most
-      → client_line number fault ≡ part ++ missing → IsTold most (text ++ part)
+-- Of a client that ended so: nothing, where it went well, else its line with that fault, of which the stream took all or the first part.
+abbrev pub TellsEnd : ℕ → Result ⊤ StreamFault → Option (List ℕ) → Option (List ℕ) → Type 0
+TellsEnd client (Ok ended) before after = Keeps before after
+TellsEnd client (Err fault) before after = AppendsSome before after (client_line client fault)
 
--- what is told of the clients below this number
-abbrev pub TellsBelow : ℕ → Option (List ℕ) → Option (List ℕ) → Type 0
-TellsBelow most before after = (text : List ℕ) × IsTold most text × Appends before after text
+-- of these ends, one after the other
+abbrev pub TellsEnds : List End → Option (List ℕ) → Option (List ℕ) → Type 0
+TellsEnds [] before after = after ≡ before
+TellsEnds (end ∷ ends) before after = (mid : Option (List ℕ)) × TellsEnd end.client end.outcome before mid × TellsEnds ends mid after
 
--- what is told of all clients that came
+-- of some clients, in the order in which they ended
 abbrev pub Tells : Option (List ℕ) → Option (List ℕ) → Type 0
-Tells before after = (most : ℕ) × TellsBelow most before after
+Tells before after = (ends : List End) × TellsEnds ends before after

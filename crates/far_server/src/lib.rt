@@ -1,11 +1,16 @@
-//! A program's server of far objects: it listens on 127.0.0.1, and serves one client after another
-//! until its input ends.
+//! A program's server of far objects: it listens on 127.0.0.1, and serves clients, each on a thread of its own, until its input
+//! ends.
 #![tactic(auto)]
 
+mod ended;
 mod fault;
-mod gate;
+mod hall;
+mod journal;
 mod listening;
 mod texts;
+mod threads;
 
 pub use fault::ListenFault;
+pub use hall::CLIENT_LIMIT;
+pub use journal::{Journal, Refusal, Unwritten};
 pub use listening::listen;

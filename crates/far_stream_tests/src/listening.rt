@@ -1,8 +1,8 @@
-//! A server that listens, with clients that come one after the other.
+//! A server that listens, and its clients.
 
 use crate::compared::same;
 use crate::frames::{ASKS, GET_ASKS, GET_SAYS, SAYS, first};
-use far_server::{ListenFault, listen};
+use far_server::{CLIENT_LIMIT, ListenFault, Unwritten, listen};
 use std::alloc::Global;
 use std::io::{Error, ErrorKind, Read, Result as IoResult, Write};
 use std::net::{Ipv4Addr, Net, SocketAddr, TcpListener, TcpStream};
@@ -99,26 +99,79 @@ fn ends<R: Net<Listener = TcpListener, Stream = TcpStream>>(
 }
 
 /// Listens on any port, with this stream as input and output, and says how that ended and whether what
-/// was told of clients is this.
+/// was told of clients is one of these.
 fn listens<R>(
     rt: &R,
     alloc: Global,
     stream: TcpStream,
-    told: &[u8],
+    told: [&[u8]; 2],
 ) -> (Result<(), ListenFault>, bool)
 where
-    R: Net<Listener = TcpListener, Stream = TcpStream> + Threads + Wait + Copy + Send + 'static,
+    R: Net<Listener = TcpListener, Stream = TcpStream>
+        + Threads
+        + Wait
+        + Sync
+        + Copy
+        + Send
+        + 'static,
 {
     let mut errors = Vec::new(alloc);
     let Ok(mut output) = stream.try_clone() else {
         return (Err(ListenFault::Net), false);
     };
-    let ended = listen(rt, alloc, 0, stream, &mut output, &mut errors);
-    (ended, errors.as_slice() == told)
+    let ended = listen(rt, alloc, 0, stream, &mut output, &mut errors, Unwritten);
+    let is_told = errors.as_slice() == told[0] || errors.as_slice() == told[1];
+    (ended, is_told)
 }
 
-/// What is told of the second and the third client.
-const TOLD: &[u8] = b"client 2: protocol fault\nclient 3: protocol fault\n";
+/// What is told of the second and the third client, whichever ends first.
+const TOLD: [&[u8]; 2] = [
+    b"client 2: protocol fault\nclient 3: protocol fault\n",
+    b"client 3: protocol fault\nclient 2: protocol fault\n",
+];
+
+/// A request for the bytes under id 1, and the answer that there are none.
+const GET_FIRST: &[u8] = b"\x02\0\0\0\0\0\0\0\x01\0\0\0\0";
+
+const NOT_KEPT: &[u8] = b"\x01\0\0\0\0\0\0\0\x01\0\0\0\0";
+
+/// How many clients are served at the same time that come to this address, of two more than there may be. The first keeps bytes
+/// that the others don't find.
+fn are_served<R: Net<Stream = TcpStream>>(
+    rt: &R,
+    alloc: Global,
+    address: SocketAddr,
+) -> IoResult<usize> {
+    let mut first_client = TcpStream::connect(rt, address)?;
+    let mut served = usize::from(answers(
+        &mut first_client,
+        first(ASKS, GET_ASKS),
+        first(SAYS, GET_SAYS),
+    )?);
+    let mut others = Vec::new(alloc);
+    for _ in 0..=CLIENT_LIMIT {
+        let mut stream = TcpStream::connect(rt, address)?;
+        if answers(&mut stream, GET_FIRST, NOT_KEPT).unwrap_or(false) {
+            served = served.saturating_add(1);
+        }
+        others.push(stream)?;
+    }
+    Ok(served)
+}
+
+/// Clients are served at the same time, each from a store of its own. One more than there is room for finds its socket closed.
+#[test]
+fn clients_are_served_at_the_same_time(rt: HostRuntime) -> Result<(), Fail> {
+    let alloc = rt.alloc();
+    let (mut held, stream) = ends(&rt)?;
+    let server = thread::spawn(&rt, move || listens(&rt, alloc, stream, [b"", b""]))?;
+    let port = port_of(&line_of(alloc, &mut held)?);
+    let address = SocketAddr::from((Ipv4Addr::LOCALHOST, port.unwrap_or(0)));
+    same!(rt; are_served(&rt, alloc, address)?, CLIENT_LIMIT);
+    drop(held);
+    same!(rt; server.join(&rt), (Ok(()), true));
+    Ok(())
+}
 
 /// Each client begins with nothing kept, and those that break the protocol are told of.
 #[test]
@@ -138,11 +191,17 @@ fn clients_are_served_one_after_another(rt: HostRuntime) -> Result<(), Fail> {
 /// says that it does.
 fn listens_on<R>(rt: &R, alloc: Global, port: u16) -> (Result<(), ListenFault>, Option<u16>)
 where
-    R: Net<Listener = TcpListener, Stream = TcpStream> + Threads + Wait + Copy + Send + 'static,
+    R: Net<Listener = TcpListener, Stream = TcpStream>
+        + Threads
+        + Wait
+        + Sync
+        + Copy
+        + Send
+        + 'static,
 {
     let (mut output, mut errors) = (Vec::new(alloc), Vec::new(alloc));
     let empty: &'static [u8] = b"";
-    let ended = listen(rt, alloc, port, empty, &mut output, &mut errors);
+    let ended = listen(rt, alloc, port, empty, &mut output, &mut errors, Unwritten);
     (
         ended,
         if errors.is_empty() {
@@ -200,21 +259,33 @@ impl Write for Full {
 /// How a server ends whose input fails, and whether it said before on which port it listens.
 fn listens_to_a_broken_one<R>(rt: &R, alloc: Global) -> (Result<(), ListenFault>, bool)
 where
-    R: Net<Listener = TcpListener, Stream = TcpStream> + Threads + Wait + Copy + Send + 'static,
+    R: Net<Listener = TcpListener, Stream = TcpStream>
+        + Threads
+        + Wait
+        + Sync
+        + Copy
+        + Send
+        + 'static,
 {
     let (mut output, mut errors) = (Vec::new(alloc), Vec::new(alloc));
-    let ended = listen(rt, alloc, 0, Broken, &mut output, &mut errors);
+    let ended = listen(rt, alloc, 0, Broken, &mut output, &mut errors, Unwritten);
     (ended, port_of(&output).is_some() && errors.is_empty())
 }
 
 /// How a server ends whose output takes nothing, and whether it told nothing of clients.
 fn listens_with_a_full_one<R>(rt: &R, alloc: Global) -> (Result<(), ListenFault>, bool)
 where
-    R: Net<Listener = TcpListener, Stream = TcpStream> + Threads + Wait + Copy + Send + 'static,
+    R: Net<Listener = TcpListener, Stream = TcpStream>
+        + Threads
+        + Wait
+        + Sync
+        + Copy
+        + Send
+        + 'static,
 {
     let mut errors = Vec::new(alloc);
     let empty: &'static [u8] = b"";
-    let ended = listen(rt, alloc, 0, empty, &mut Full, &mut errors);
+    let ended = listen(rt, alloc, 0, empty, &mut Full, &mut errors, Unwritten);
     (ended, errors.is_empty())
 }
 

@@ -5,6 +5,7 @@ use crate::trial::{Act, Answer, LEFT, Left, Row, tried, tried_with_a_gap};
 use debugger::StepReply::Ran;
 use far_store::OwnStore;
 use shared_objects::Phase;
+use std::alloc::{AllocError, Global};
 use std::test::Fail;
 use workers::Direction;
 
@@ -17,7 +18,7 @@ const IN_TURN: &[Row] = &[
     (Act::Request(2, Direction::Leave), ROOM),
     (Act::Request(9, Direction::Leave), ROOM),
     (Act::Request(2, Direction::Return), ROOM),
-    (Act::Rounds(5), Answer::Served),
+    (Act::Rounds(4), Answer::Served),
 ];
 
 /// Object 1 is far, with the number that machine 1 has added.
@@ -51,17 +52,48 @@ fn a_round_serves_one_request(rt: HostRuntime) -> Result<(), Fail> {
     Ok(())
 }
 
-const REQUESTS_65: &[Row] = &[(Act::Request(1, Direction::Leave), ROOM); 65];
+/// Requests for objects 101 to 165 to leave.
+fn requests_65(alloc: Global) -> Result<Vec<Row>, AllocError> {
+    let mut rows = Vec::new(alloc);
+    for number in 101..166u32 {
+        rows.push((Act::Request(number, Direction::Leave), ROOM))?;
+    }
+    Ok(rows)
+}
 
 /// The last of them has no room.
 #[test]
 fn there_is_room_for_64_requests(rt: HostRuntime) -> Result<(), Fail> {
-    let left = tried(&rt, rt.alloc(), OwnStore::new(rt.alloc()), REQUESTS_65)?;
+    let rows = requests_65(rt.alloc())?;
+    let left = tried(&rt, rt.alloc(), OwnStore::new(rt.alloc()), rows.as_slice())?;
     let wanted = Left {
         other: Some((64, Answer::Requested(false))),
         ..LEFT
     };
     same!(rt; left, wanted);
+    Ok(())
+}
+
+const AGAIN: &[Row] = &[(Act::Request(1, Direction::Leave), ROOM); 65];
+
+const THERE_AND_BACK: &[Row] = &[
+    (Act::Request(1, Direction::Leave), ROOM),
+    (Act::Request(2, Direction::Leave), ROOM),
+    (Act::Request(1, Direction::Leave), ROOM),
+    (Act::Rounds(2), Answer::Served),
+    (Act::Request(1, Direction::Return), ROOM),
+    (Act::Request(1, Direction::Return), ROOM),
+    (Act::Request(2, Direction::Return), ROOM),
+    (Act::Rounds(2), Answer::Served),
+];
+
+#[test]
+fn a_move_is_queued_once(rt: HostRuntime) -> Result<(), Fail> {
+    let left = tried(&rt, rt.alloc(), OwnStore::new(rt.alloc()), AGAIN)?;
+    same!(rt; left, LEFT);
+    // each round has another move
+    let left = tried(&rt, rt.alloc(), OwnStore::new(rt.alloc()), THERE_AND_BACK)?;
+    same!(rt; left, LEFT);
     Ok(())
 }
 
@@ -98,7 +130,12 @@ fn a_sweep_takes_what_is_cold(rt: HostRuntime) -> Result<(), Fail> {
     Ok(())
 }
 
-const NOTHING_ASKED: &[Row] = &[(Act::Rounds(4), Answer::Served)];
+/// There is no object 9, and object 3 is here.
+const NOTHING_ASKED: &[Row] = &[
+    (Act::Request(3, Direction::Return), ROOM),
+    (Act::Request(9, Direction::Leave), ROOM),
+    (Act::Rounds(2), Answer::Served),
+];
 
 const ASKED: &[Row] = &[
     (Act::Request(3, Direction::Leave), ROOM),

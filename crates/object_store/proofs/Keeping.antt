@@ -21,7 +21,7 @@ near_placed (o ∷ os) (q ∷ ps) zero p h e = omega arith
 near_placed (o ∷ os) (q ∷ ps) (suc n) p h e = let g = near_placed os ps n p (omega arith) (omega arith) in omega (arith, g)
 
 -- where the bytes of one object change
-near_filled : (objects : List (List ℕ)) (places : List Place) (n : ℕ) (b : List ℕ) → n < length objects → length places ≡ length objects
+pub near_filled : (objects : List (List ℕ)) (places : List Place) (n : ℕ) (b : List ℕ) → n < length objects → length places ≡ length objects
     → near_bytes (with_bytes objects n b) places + near_length (place_of places n) (bytes_of objects n) ≡ near_bytes objects places + near_length (place_of places n) b
 near_filled [] places n b h e = absurd (omega arith)
 near_filled (o ∷ os) [] n b h e = absurd (omega arith)
@@ -36,10 +36,10 @@ near_made [] (q ∷ ps) b e = absurd (omega arith)
 near_made (o ∷ os) [] b e = absurd (omega arith)
 near_made (o ∷ os) (q ∷ ps) b e = let g = near_made os ps b (omega arith) in omega (arith, g)
 
-same_length : (bodies : List Kept) → length (map place_in bodies) ≡ length (map bytes_in bodies)
+pub same_length : (bodies : List Kept) → length (map place_in bodies) ≡ length (map bytes_in bodies)
 same_length bodies = length-map bodies place_in ∙ sym (length-map bodies bytes_in)
 
-in_bytes : (bodies : List Kept) (n : ℕ) → n < length bodies → n < length (map bytes_in bodies)
+pub in_bytes : (bodies : List Kept) (n : ℕ) → n < length bodies → n < length (map bytes_in bodies)
 in_bytes bodies n h = let e = length-map bodies bytes_in in omega arith
 
 -- an object that isn't far is in the sum

@@ -7,3 +7,4 @@ pub mod Counting
 pub mod Keeping
 pub mod Returning
 pub mod Leaving
+pub mod Forgetting

@@ -4,4 +4,6 @@ pub mod Bodies
 pub mod Standings
 pub mod Calls
 pub mod Parts
+pub mod Lending
 pub mod Promised
+pub mod Handing

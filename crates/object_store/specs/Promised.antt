@@ -7,7 +7,8 @@ use Rattle.memory.specs.Objects.{DoesAll, bytes_of}
 use Rattle.memory.specs.Memories.{Promises, KeepsPromises, entries_added}
 use Rattle.memory.proofs.Accesses.{lengths}
 use Rattle.memory.proofs.Promised.{map_adds}
-use Rattle.object_store.specs.Stores.{StoreState, Touches, lent_memory}
+use Rattle.object_store.specs.Stores.{StoreState, StoreWithin, Touches}
+use Rattle.object_store.specs.Lending.{lent_memory}
 
 -- what an access is answered is as memories promise
 answered : (who : ℕ) (old new : StoreState) (n : ℕ) (op : Op) (r : Reach) → Touches who old n op r new → Promises (length (bytes_of old.objects n)) op r ⊥
@@ -38,17 +39,17 @@ kept_lengths who old new n k op Busy h = absurd h
 kept_lengths who old new n k op Worn h = absurd h
 
 -- so a store that is lent keeps all promises of memories
-pub lent_promises : {M : Type 0} (store : M → StoreState) (loan who : M → ℕ) → KeepsPromises (lent_memory store loan who)
-lent_promises {M} store loan who = record {
-  answers = λ old new n op r h. answered (who old) (store old) (store new) n op r h.0;
+pub lent_promises : {M X : Type 0} (store : M → StoreWithin X) (loan who : M → ℕ) → KeepsPromises (lent_memory store loan who)
+lent_promises {M} {X} store loan who = record {
+  answers = λ old new n op r h. answered (who old) (store old).state (store new).state n op r h.0.touches;
   reaches = λ old new n op r h. record {
-    adds = added (who old) (store old) (store new) n op r h.0;
-    lengths = λ k. kept_lengths (who old) (store old) (store new) n k op r h.0;
+    adds = added (who old) (store old).state (store new).state n op r h.0.touches;
+    lengths = λ k. kept_lengths (who old) (store old).state (store new).state n k op r h.0.touches;
     worn = λ k w. w;
   };
   closes = λ old new h. record {
-    adds = ap (λ (s : StoreState). s.objects) h.0;
-    lengths = λ k. same_length (store old) (store new) k (ap (λ (s : StoreState). s.objects) h.0);
+    adds = ap (λ (s : StoreState). s.objects) h.0.closes;
+    lengths = λ k. same_length (store old).state (store new).state k (ap (λ (s : StoreState). s.objects) h.0.closes);
     worn = λ k w. w;
   };
   lengths = λ m n. refl;

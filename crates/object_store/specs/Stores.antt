@@ -150,13 +150,3 @@ store_memory who = record {
   knows = λ s. AllBytes s.objects;
   is_worn = λ s n. ⊥;
 }
-
--- What has a store lent to it, as a memory: what its machine does is done to the store, and the loan stays the same.
-abbrev pub lent_memory : {M : Type 0} → (M → StoreState) → (M → ℕ) → (M → ℕ) → Memories M
-lent_memory {M} store loan who = record {
-  reaches = λ m n op r w. Touches (who m) (store m) n op r (store w) × (loan w ≡ loan m) × (who w ≡ who m);
-  closes = λ m w. (store w ≡ with_window (store m) (who m) []) × (loan w ≡ loan m) × (who w ≡ who m);
-  length_of = λ m n. length (bytes_of (store m).objects n);
-  knows = λ m. AllBytes (store m).objects;
-  is_worn = λ m n. ⊥;
-}

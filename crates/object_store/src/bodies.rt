@@ -11,6 +11,8 @@ ghost use Rattle.far_store.specs.Calls.{Calls, parcel_of, AsksInVain};
 ghost use Rattle.far_store.specs.declared.places.Place.TheVariants as place;
 ghost use Rattle.pointer_word.specs.declared.word.WordPlace.TheVariants.{Local, Moving, Far};
 
+mod handing;
+
 use far_store::{FarStore, Place, StoreFault};
 use memory::{Action, Op, act, overwrite};
 use pointer_word::{Word, WordPlace};

@@ -7,6 +7,7 @@
 
 mod bodies;
 mod errors;
+mod handing;
 mod moving;
 mod parts;
 mod scoping;

@@ -8,6 +8,8 @@ ghost use Rattle.object_store.specs.Parts.{AllHere, RefusesParts, bodies_of, for
 ghost use Rattle.object_store.specs.declared.errors.GetError.{GetError};
 ghost use Rattle.object_store.specs.Calls.{Makes, Frees, Gets, Puts, BeginsLeave, EndsLeave, BeginsReturn, EndsReturn};
 
+mod handing;
+
 use crate::bodies::Body;
 use crate::errors::{GetError, MakeError, PartsError, PutError};
 use crate::moving::{begin_leave_at, begin_return_at, end_leave_at, end_return_at, free_at};
@@ -344,14 +346,15 @@ pub struct StoreMemory<'a, F: FarStore> {
 }
 
 impl<'a, F: FarStore> Memory for StoreMemory<'a, F> {
-    ghost use Rattle.object_store.specs.Stores.{HasWindow, lent_memory};
+    ghost use Rattle.object_store.specs.Stores.{HasWindow};
+    ghost use Rattle.object_store.specs.Lending.{lent_memory};
     ghost use Rattle.object_store.specs.Promised.{lent_promises};
 
     ghost is_ready = { λ m. HasWindow m.who };
 
-    ghost acts = { lent_memory (λ m. m.store.now.state) (λ m. m.store.ghost_name) (λ m. m.who) };
+    ghost acts = { lent_memory (λ m. m.store.now) (λ m. m.store.ghost_name) (λ m. m.who) };
 
-    ghost promises = { lent_promises (λ m. m.store.now.state) (λ m. m.store.ghost_name) (λ m. m.who) };
+    ghost promises = { lent_promises (λ m. m.store.now) (λ m. m.store.ghost_name) (λ m. m.who) };
 
     fn length(&self, number: u64) -> usize {
         self.store.length(number)

@@ -10,7 +10,7 @@ use Rattle.atomic_table.specs.Table.{State, Joins}
 use Rattle.atomic_table.proofs.Lists.{at_set, set_else}
 use Rattle.shared_objects.specs.History.{Has, Chained, AllInside, Answers}
 use Rattle.memory.specs.Objects.{bytes_of}
-use Rattle.shared_objects.specs.Rule.{total, times, has_turn, has_open, has_pass, has_moving, has_far, place_of, taken, is_moving, is_far, is_live, spent, HasPart, PartFits, MarkFits, Stands, turns_on, Knows, Kept}
+use Rattle.shared_objects.specs.Rule.{total, times, has_turn, has_open, has_pass, has_moving, has_far, place_of, bytes_taken, is_moving, is_far, is_live, spent, HasPart, PartFits, MarkFits, Stands, turns_on, Knows, Kept}
 use Rattle.shared_objects.specs.Kinds.{gathers, gathers_all, part}
 use Rattle.shared_objects.specs.declared.body.Body.{Body}
 use Rattle.shared_objects.specs.declared.view.Entry.{Entry}
@@ -19,7 +19,7 @@ use Rattle.shared_objects.specs.declared.view.Mark.{Mark}
 use Rattle.shared_objects.specs.declared.view.View.{View}
 use Rattle.shared_objects.proofs.Sums.{at_end, total-set, terms_le, set_there}
 use Rattle.shared_objects.proofs.Logs.{has_longer, has_last, has_snoc}
-use Rattle.shared_objects.proofs.Moves.{no_live, same_fits}
+use Rattle.shared_objects.proofs.Moves.{no_live, same_fits, body_in}
 use Rattle.shared_objects.proofs.Keeps.{none_is_not, some_is}
 use Rattle.shared_objects.specs.Ends.{shown, all_shown, Shows, Closes}
 use Rattle.shared_objects.specs.Phases.{phase_of}
@@ -39,8 +39,8 @@ joins_ok returns key id v other u maker alive_ here young free shut clean past h
     let vs : List View = set s.views id w in
     let vs' : List View = set vs other spent in
     let there : get_elem? s.views other ≡ some u = sym (set_else s.views id other w apart) ∙ them in
-    let k = o.knows id v me in let ku = o.knows other u there in
-    let d = o.dealer id v me maker in
+    let k = o.seats.knows id v me in let ku = o.seats.knows other u there in
+    let d = o.seats.dealer id v me maker in
     let both : (g : View → ℕ) → total g vs' + g u + g v ≡ total g s.views + g w + g spent = λ g. omega (arith, total-set g s.views id v w me, total-set g vs other u spent them) in
     let long : length vs' ≡ length s.views = length-set vs other spent ∙ length-set s.views id w in
     let one : is_live v ≡ 1 = ap {B = ℕ} (λ (b : Bool). cond b 1 0) alive_ in let one' : is_live u ≡ 1 = ap {B = ℕ} (λ (b : Bool). cond b 1 0) here in
@@ -57,86 +57,90 @@ joins_ok returns key id v other u maker alive_ here young free shut clean past h
     } in
     let news : PartFits o.logs vs' new = record { rises = ku.rises; entries = λ e h. (let q = ku.entries e h in (q.0 ∙ sym numbered, q.1)); marks = ku.marks; gone = ap (get_elem? vs') numbered ∙ gone } in
     let not_zero : other ≡ 0 → ⊥ = λ z. (let h = (ku.first z).0 in omega (arith, young)) in
-    let fresh : (p : Part) → Has v.gathered p → p.actor ≡ new.actor → ⊥ = λ p h e. let f = o.parts id v me p h in not_live other u there here (sym (ap (get_elem? s.views) (e ∙ numbered)) ∙ f.gone) in
+    let fresh : (p : Part) → Has v.gathered p → p.actor ≡ new.actor → ⊥ = λ p h e. let f = o.seats.parts id v me p h in not_live other u there here (sym (ap (get_elem? s.views) (e ∙ numbered)) ∙ f.gone) in
     -- which seat it is
     let which : (j : ℕ) (x : View) → get_elem? vs' j ≡ some x → ((j ≡ other) × (spent ≡ x)) ⊎ (((j ≡ id) × (w ≡ x)) ⊎ ((j ≢ id) × (get_elem? s.views j ≡ some x))) = λ j x at. ⊎_elim
     (λ (t : (j ≡ other) × (spent ≡ x)). inl t) (λ (t : (j ≢ other) × (get_elem? vs j ≡ some x)). inr (at_set s.views id j w x t.1)) (at_set vs other j spent x at) in
     record {
       logs = o.logs;
-      words = o.words;
-      slots = o.slots;
-      seats = subst (λ n. n ≤ 57) (sym long) o.seats;
-      dealer = λ j x at some-made. ⊎_elim
-          (λ (t : (j ≡ other) × (spent ≡ x)). absurd (omega (arith, ap (λ (y : View). y.made) t.1)))
-          (λ t. ⊎_elim
-          (λ (q : (j ≡ id) × (w ≡ x)). (q.0 ∙ d.0, ap (λ (y : View). y.made) (sym q.1) ∙ d.1 ∙ sym long, omega (arith, ap (λ (y : View). y.alive) q.1, d.2, both is_live, terms_le is_live s.views id other v u apart me there)))
-          (λ (q : (j ≢ id) × (get_elem? s.views j ≡ some x)). absurd (q.0 ((o.dealer j x q.1 some-made).0 ∙ sym d.0))) t)
-          (which j x at);
-      parts = λ j x at p has. ⊎_elim
-          (λ (t : (j ≡ other) × (spent ≡ x)). absurd (let bad : Has [] p = subst (λ l. Has l p) (ap (λ (y : View). y.gathered) (sym t.1)) has in some-ne-none p (sym bad.1)))
-          (λ t. ⊎_elim
-          (λ (q : (j ≡ id) × (w ≡ x)). ⊎_elim (λ old. stays p (o.parts id v me p old)) (λ (e : new ≡ p). subst (PartFits o.logs vs') e news)
-          (has_snoc v.gathered new p (subst (λ l. Has l p) (ap (λ (y : View). y.gathered) (sym q.1)) has)))
-          (λ (q : (j ≢ id) × (get_elem? s.views j ≡ some x)). stays p (o.parts j x q.1 p has)) t)
-          (which j x at);
-      apart = λ j x at a b p q hp hq same. ⊎_elim
-          (λ (t : (j ≡ other) × (spent ≡ x)). absurd (let bad : get_elem? {A = Part} [] a ≡ some p = subst (λ l. get_elem? l a ≡ some p) (ap (λ (y : View). y.gathered) (sym t.1)) hp in some-ne-none p (sym bad)))
-          (λ t. ⊎_elim
-          (λ (z : (j ≡ id) × (w ≡ x)). let e : x.gathered ≡ v.gathered ++ new ∷ [] = ap (λ (y : View). y.gathered) (sym z.1) in
-          ⊎_elim
-          (λ (pa : get_elem? v.gathered a ≡ some p). ⊎_elim
-          (λ (qa : get_elem? v.gathered b ≡ some q). o.apart id v me a b p q pa qa same)
-          (λ (qa : (b ≡ length v.gathered) × (new ≡ q)). absurd (fresh p (a, pa) (same ∙ ap (λ (y : Part). y.actor) (sym qa.1))))
-          (at_end v.gathered new q b (subst (λ l. get_elem? l b ≡ some q) e hq)))
-          (λ (pa : (a ≡ length v.gathered) × (new ≡ p)). ⊎_elim
-          (λ (qa : get_elem? v.gathered b ≡ some q). absurd (fresh q (b, qa) (sym same ∙ ap (λ (y : Part). y.actor) (sym pa.1))))
-          (λ (qa : (b ≡ length v.gathered) × (new ≡ q)). pa.0 ∙ sym qa.0)
-          (at_end v.gathered new q b (subst (λ l. get_elem? l b ≡ some q) e hq)))
-          (at_end v.gathered new p a (subst (λ l. get_elem? l a ≡ some p) e hp)))
-          (λ (z : (j ≢ id) × (get_elem? s.views j ≡ some x)). o.apart j x z.1 a b p q hp hq same) t)
-          (which j x at);
-      nowhere = o.nowhere;
-      fits = λ n lt.
-          let turns : total (has_turn n) vs' ≡ total (has_turn n) s.views = omega (arith, both (has_turn n), ap (turns_on n) free) in
-          let opens : total (has_open n) vs' ≡ total (has_open n) s.views = omega (arith, both (has_open n), ap (times n) shut) in
-          let passes : total (has_pass n) vs' ≡ total (has_pass n) s.views = omega (arith, both (has_pass n), ap (times n) past) in
-          let still : has_moving n u ≡ 0 = ap (λ (l : List Place). is_moving (slice_index_or l n Here)) home in
-          let near : has_far n u ≡ 0 = ap (λ (l : List Place). is_far (slice_index_or l n Here)) home in
-          let moving : total (has_moving n) vs' ≡ total (has_moving n) s.views = omega (arith, both (has_moving n), still) in
-          let far : total (has_far n) vs' ≡ total (has_far n) s.views = omega (arith, both (has_far n), near) in
-          same_fits _ _ _ _ _ _ _ _ _ _ (λ i. record { turns = turns i; opens = opens i; passes = passes i; moving = moving i; far = far i }) refl refl refl (o.fits n lt);
-      knows = λ j x at. ⊎_elim
-          (λ (t : (j ≡ other) × (spent ≡ x)). subst (λ y. Knows returns key o.logs j y) t.1 (record {
-            actor = λ e. absurd (no_live e);
-            opening_is = λ e. absurd (no_live e);
-            returns_is = λ e. absurd (no_live e);
-            idle = λ _. refl;
-            first = λ z. absurd (not_zero (sym t.0 ∙ z));
-            alone = λ _. refl;
-            opens_once = λ n. omega arith;
-            turn = λ q e. absurd (none_is_not q e);
-            out = λ n b e. absurd (none_is_not b e);
-            entries = λ e h. absurd (some-ne-none e (sym h.1));
-            marks = λ m h. absurd (some-ne-none m (sym h.1));
-            rises = tt;
-          }))
-          (λ t. ⊎_elim
-          (λ (q : (j ≡ id) × (w ≡ x)). subst (λ y. Knows returns key o.logs j y) q.1 (subst (λ i. Knows returns key o.logs i w) (sym q.0) (record {
-            actor = k.actor;
-            opening_is = k.opening_is;
-            returns_is = k.returns_is;
-            idle = λ e. absurd (no_live (sym e ∙ alive_));
-            first = k.first;
-            alone = λ ne. absurd (ne d.0);
-            opens_once = k.opens_once;
-            turn = k.turn;
-            out = k.out;
-            entries = k.entries;
-            marks = k.marks;
-            rises = k.rises;
-          })))
-          (λ (q : (j ≢ id) × (get_elem? s.views j ≡ some x)). o.knows j x q.1) t)
-          (which j x at);
+      objects = record {
+        words = o.objects.words;
+        slots = o.objects.slots;
+        fits = λ n lt.
+            let turns : total (has_turn n) vs' ≡ total (has_turn n) s.views = omega (arith, both (has_turn n), ap (turns_on n) free) in
+            let opens : total (has_open n) vs' ≡ total (has_open n) s.views = omega (arith, both (has_open n), ap (times n) shut) in
+            let passes : total (has_pass n) vs' ≡ total (has_pass n) s.views = omega (arith, both (has_pass n), ap (times n) past) in
+            let still : has_moving n u ≡ 0 = ap (λ (l : List Place). is_moving (slice_index_or l n Here)) home in
+            let near : has_far n u ≡ 0 = ap (λ (l : List Place). is_far (slice_index_or l n Here)) home in
+            let moving : total (has_moving n) vs' ≡ total (has_moving n) s.views = omega (arith, both (has_moving n), still) in
+            let far : total (has_far n) vs' ≡ total (has_far n) s.views = omega (arith, both (has_far n), near) in
+            same_fits _ _ _ _ _ _ _ _ _ _ (λ i. record { turns = turns i; opens = opens i; passes = passes i; moving = moving i; far = far i }) refl refl refl (o.objects.fits n lt);
+        nowhere = o.objects.nowhere;
+      };
+      seats = record {
+        few = subst (λ n. n ≤ 57) (sym long) o.seats.few;
+        knows = λ j x at. ⊎_elim
+            (λ (t : (j ≡ other) × (spent ≡ x)). subst (λ y. Knows returns key o.logs j y) t.1 (record {
+              actor = λ e. absurd (no_live e);
+              opening_is = λ e. absurd (no_live e);
+              returns_is = λ e. absurd (no_live e);
+              idle = λ _. refl;
+              first = λ z. absurd (not_zero (sym t.0 ∙ z));
+              alone = λ _. refl;
+              opens_once = λ n. omega arith;
+              turn = λ q e. absurd (none_is_not q e);
+              out = λ n b e. absurd (none_is_not b e);
+              entries = λ e h. absurd (some-ne-none e (sym h.1));
+              marks = λ m h. absurd (some-ne-none m (sym h.1));
+              rises = tt;
+            }))
+            (λ t. ⊎_elim
+            (λ (q : (j ≡ id) × (w ≡ x)). subst (λ y. Knows returns key o.logs j y) q.1 (subst (λ i. Knows returns key o.logs i w) (sym q.0) (record {
+              actor = k.actor;
+              opening_is = k.opening_is;
+              returns_is = k.returns_is;
+              idle = λ e. absurd (no_live (sym e ∙ alive_));
+              first = k.first;
+              alone = λ ne. absurd (ne d.0);
+              opens_once = k.opens_once;
+              turn = k.turn;
+              out = k.out;
+              entries = k.entries;
+              marks = k.marks;
+              rises = k.rises;
+            })))
+            (λ (q : (j ≢ id) × (get_elem? s.views j ≡ some x)). o.seats.knows j x q.1) t)
+            (which j x at);
+        dealer = λ j x at some-made. ⊎_elim
+            (λ (t : (j ≡ other) × (spent ≡ x)). absurd (omega (arith, ap (λ (y : View). y.made) t.1)))
+            (λ t. ⊎_elim
+            (λ (q : (j ≡ id) × (w ≡ x)). (q.0 ∙ d.0, ap (λ (y : View). y.made) (sym q.1) ∙ d.1 ∙ sym long, omega (arith, ap (λ (y : View). y.alive) q.1, d.2, both is_live, terms_le is_live s.views id other v u apart me there)))
+            (λ (q : (j ≢ id) × (get_elem? s.views j ≡ some x)). absurd (q.0 ((o.seats.dealer j x q.1 some-made).0 ∙ sym d.0))) t)
+            (which j x at);
+        parts = λ j x at p has. ⊎_elim
+            (λ (t : (j ≡ other) × (spent ≡ x)). absurd (let bad : Has [] p = subst (λ l. Has l p) (ap (λ (y : View). y.gathered) (sym t.1)) has in some-ne-none p (sym bad.1)))
+            (λ t. ⊎_elim
+            (λ (q : (j ≡ id) × (w ≡ x)). ⊎_elim (λ old. stays p (o.seats.parts id v me p old)) (λ (e : new ≡ p). subst (PartFits o.logs vs') e news)
+            (has_snoc v.gathered new p (subst (λ l. Has l p) (ap (λ (y : View). y.gathered) (sym q.1)) has)))
+            (λ (q : (j ≢ id) × (get_elem? s.views j ≡ some x)). stays p (o.seats.parts j x q.1 p has)) t)
+            (which j x at);
+        apart = λ j x at a b p q hp hq same. ⊎_elim
+            (λ (t : (j ≡ other) × (spent ≡ x)). absurd (let bad : get_elem? {A = Part} [] a ≡ some p = subst (λ l. get_elem? l a ≡ some p) (ap (λ (y : View). y.gathered) (sym t.1)) hp in some-ne-none p (sym bad)))
+            (λ t. ⊎_elim
+            (λ (z : (j ≡ id) × (w ≡ x)). let e : x.gathered ≡ v.gathered ++ new ∷ [] = ap (λ (y : View). y.gathered) (sym z.1) in
+            ⊎_elim
+            (λ (pa : get_elem? v.gathered a ≡ some p). ⊎_elim
+            (λ (qa : get_elem? v.gathered b ≡ some q). o.seats.apart id v me a b p q pa qa same)
+            (λ (qa : (b ≡ length v.gathered) × (new ≡ q)). absurd (fresh p (a, pa) (same ∙ ap (λ (y : Part). y.actor) (sym qa.1))))
+            (at_end v.gathered new q b (subst (λ l. get_elem? l b ≡ some q) e hq)))
+            (λ (pa : (a ≡ length v.gathered) × (new ≡ p)). ⊎_elim
+            (λ (qa : get_elem? v.gathered b ≡ some q). absurd (fresh q (b, qa) (sym same ∙ ap (λ (y : Part). y.actor) (sym pa.1))))
+            (λ (qa : (b ≡ length v.gathered) × (new ≡ q)). pa.0 ∙ sym qa.0)
+            (at_end v.gathered new q b (subst (λ l. get_elem? l b ≡ some q) e hq)))
+            (at_end v.gathered new p a (subst (λ l. get_elem? l a ≡ some p) e hp)))
+            (λ (z : (j ≢ id) × (get_elem? s.views j ≡ some x)). o.seats.apart j x z.1 a b p q hp hq same) t)
+            (which j x at);
+      };
       whole = λ n e h. let t = o.whole n e h in (
         t.0,
         dite (ℕ_discrete t.1.0 other)
@@ -169,7 +173,7 @@ pub record Settled (returns : Bool) (key : List (List ℕ)) (v : View) (s : Stat
   pub legal : (n : ℕ) → n < length key → Chained 0 (logs n) × AllInside (length (bytes_of key n)) (logs n) × (returns ≡ true → Answers (bytes_of key n) (logs n))
   pub slots : length s.homes ≡ length key
   pub here : (n : ℕ) → n < length key → place_of v n ≡ Here → (body : Body) × (get_elem? s.homes n ≡ some (some body)) × Stands returns (bytes_of key n) (logs n) body.bytes.items
-  pub away : (n : ℕ) (bytes : List ℕ) → taken (place_of v n) ≡ Some bytes → Stands returns (bytes_of key n) (logs n) bytes
+  pub away : (n : ℕ) (bytes : List ℕ) → bytes_taken (place_of v n) ≡ Some bytes → Stands returns (bytes_of key n) (logs n) bytes
 
 alone : (g : View → ℕ) (vs : List View) (j k : ℕ) (v x : View) → get_elem? vs j ≡ some v → get_elem? vs k ≡ some x → g v ≡ 1 → total g vs ≡ 1 → k ≢ j → g x ≡ 0
 alone g vs j k v x at at' one all ne = omega (arith, terms_le g vs j k v x ne at at')
@@ -187,18 +191,18 @@ total_none g (x ∷ xs) h = omega (arith, h 0 x refl, total_none g xs (λ j a e.
 
 pub settles : (returns : Bool) (key : List (List ℕ)) (id : ℕ) (v : View) (s : State Body View) → Kept returns key s → get_elem? s.views id ≡ some v → 0 < v.made → v.live ≡ true → v.alive ≡ 1 → v.turn ≡ None → v.entries ≡ [] → Settled returns key v s
 settles returns key id v s o me maker alive_ last free idle_hands =
-    let d = o.dealer id v me maker in
+    let d = o.seats.dealer id v me maker in
     let one : is_live v ≡ 1 = ap {B = ℕ} (λ (b : Bool). cond b 1 0) alive_ in
     let others : (j : ℕ) (x : View) → j ≢ id → get_elem? s.views j ≡ some x → x ≡ spent = λ j x ne at.
-    (o.knows j x at).idle (live_or x.live (alone is_live s.views id j v x me at one (sym d.2 ∙ last) ne)) in
+    (o.seats.knows j x at).idle (live_or x.live (alone is_live s.views id j v x me at one (sym d.2 ∙ last) ne)) in
     let idle : (g : View → ℕ) → g spent ≡ 0 → g v ≡ 0 → total g s.views ≡ 0 = λ g none mine. total_none g s.views (λ j x at. dite (ℕ_discrete j id)
     (λ e. ap g (some-injective x v (sym at ∙ ap (get_elem? s.views) e ∙ me)) ∙ mine)
     (λ ne. ap g (others j x ne at) ∙ none)) in
     record {
       logs = o.logs;
-      parts = ((λ p h. let f = o.parts id v me p h in (f.rises, λ e q. (f.entries e q).0)), o.apart id v me);
-      into = λ e h. let f = o.parts id v me h.0 h.1 in let q : Has (o.logs e.object) e = (f.entries e h.2).1 in
-          (⊎_elim (λ near. near) (λ (far : length key ≤ e.object). absurd (let bad : Has [] e = subst (λ l. Has l e) (o.nowhere e.object far) q in some-ne-none e (sym bad.1))) (cases_lt e.object (length key)), q);
+      parts = ((λ p h. let f = o.seats.parts id v me p h in (f.rises, λ e q. (f.entries e q).0)), o.seats.apart id v me);
+      into = λ e h. let f = o.seats.parts id v me h.0 h.1 in let q : Has (o.logs e.object) e = (f.entries e h.2).1 in
+          (⊎_elim (λ near. near) (λ (far : length key ≤ e.object). absurd (let bad : Has [] e = subst (λ l. Has l e) (o.objects.nowhere e.object far) q in some-ne-none e (sym bad.1))) (cases_lt e.object (length key)), q);
       from = λ n e h. let t = o.whole n e h in (
         t.0,
         dite (ℕ_discrete t.1.0 id)
@@ -209,16 +213,16 @@ settles returns key id v s o me maker alive_ last free idle_hands =
             (λ own. absurd (let bad : Has [] e = subst (λ (y : View). Has y.entries e) z own in some-ne-none e (sym bad.1)))
             (λ got. absurd (let bad : HasPart [] e = subst (λ (y : View). HasPart y.gathered e) z got in some-ne-none bad.0 (sym bad.1.1))) t.1.3),
       );
-      nowhere = o.nowhere;
-      marks = λ p h. (o.parts id v me p h).marks;
-      legal = λ n lt. let f = o.fits n lt in (f.chained, f.inside, f.answers);
-      slots = o.slots;
+      nowhere = o.objects.nowhere;
+      marks = λ p h. (o.seats.parts id v me p h).marks;
+      legal = λ n lt. let f = o.objects.fits n lt in (f.chained, f.inside, f.answers);
+      slots = o.objects.slots;
       here = λ n lt at.
           let turns = idle (has_turn n) refl (ap (turns_on n) free) in
           let moving = idle (has_moving n) refl (ap is_moving at) in
           let far = idle (has_far n) refl (ap is_far at) in
-          (o.fits n lt).body_in (omega arith);
-      away = (o.knows id v me).out;
+          body_in (o.objects.fits n lt) (omega arith);
+      away = (o.seats.knows id v me).out;
     }
 
 -- the bytes of each object, by where it is
@@ -262,18 +266,18 @@ end_here (p ∷ ps) [] n b long at is = absurd (omega (arith, long))
 end_here (p ∷ ps) (x ∷ xs) zero b long at is = ap (λ q. end_of q x) is ∙ ap (λ (y : Body). y.bytes.items) (some-injective x b at)
 end_here (p ∷ ps) (x ∷ xs) (suc n) b long at is = end_here ps xs n b (omega (arith, long)) at is
 
-end_taken : (p : Place) (b : Body) (bytes : List ℕ) → taken p ≡ Some bytes → end_of p b ≡ bytes
+end_taken : (p : Place) (b : Body) (bytes : List ℕ) → bytes_taken p ≡ Some bytes → end_of p b ≡ bytes
 end_taken Here b bytes e = absurd (none_is_not bytes e)
 end_taken (Moving x) b bytes e = some_is x bytes e
 end_taken (Far x) b bytes e = some_is x bytes e
 
-end_away : (out : List Place) (bs : List Body) (n : ℕ) (bytes : List ℕ) → length out ≡ length bs → taken (slice_index_or out n Here) ≡ Some bytes → bytes_of (all_ends out bs) n ≡ bytes
+end_away : (out : List Place) (bs : List Body) (n : ℕ) (bytes : List ℕ) → length out ≡ length bs → bytes_taken (slice_index_or out n Here) ≡ Some bytes → bytes_of (all_ends out bs) n ≡ bytes
 end_away [] bs n bytes long e = absurd (none_is_not bytes e)
 end_away (p ∷ ps) [] n bytes long e = absurd (omega (arith, long))
 end_away (p ∷ ps) (x ∷ xs) zero bytes long e = end_taken p x bytes e
 end_away (p ∷ ps) (x ∷ xs) (suc n) bytes long e = end_away ps xs n bytes (omega (arith, long)) e
 
-here_or : (p : Place) → (p ≡ Here) ⊎ ((bytes : List ℕ) × (taken p ≡ Some bytes))
+here_or : (p : Place) → (p ≡ Here) ⊎ ((bytes : List ℕ) × (bytes_taken p ≡ Some bytes))
 here_or Here = inl refl
 here_or (Moving bytes) = inr (bytes, refl)
 here_or (Far bytes) = inr (bytes, refl)
@@ -292,7 +296,7 @@ closes returns key id d v parts slots s is clean maker alive_ free idle_hands wi
     let places : (n : ℕ) → place_of v n ≡ place_of d n = λ n. ap (λ (y : View). place_of y n) is in
     let stands : (n : ℕ) → n < length key → Stands returns (bytes_of key n) (z.logs n) (bytes_of ends n) = λ n lt. ⊎_elim
     (λ (here : place_of d n ≡ Here). let b = z.here n lt (places n ∙ here) in subst (Stands returns (bytes_of key n) (z.logs n)) (sym (end_here d.out slots n b.0 same (given n b.0 b.1) here)) b.2)
-    (λ (t : (bytes : List ℕ) × (taken (place_of d n) ≡ Some bytes)). subst (Stands returns (bytes_of key n) (z.logs n)) (sym (end_away d.out slots n t.0 same t.1)) (z.away n t.0 (ap taken (places n) ∙ t.1)))
+    (λ (t : (bytes : List ℕ) × (bytes_taken (place_of d n) ≡ Some bytes)). subst (Stands returns (bytes_of key n) (z.logs n)) (sym (end_away d.out slots n t.0 same t.1)) (z.away n t.0 (ap bytes_taken (places n) ∙ t.1)))
     (here_or (place_of d n)) in
     record {
       ends = ends;

@@ -13,8 +13,8 @@ use Rattle.atomic_table.proofs.Lists.{at_set, set_else, at_longer}
 use Rattle.memory.specs.Deeds.{EndsInside, given_by, left_by}
 use Rattle.shared_objects.specs.History.{Has, Rises, top}
 use Rattle.memory.specs.Objects.{bytes_of}
-use Rattle.shared_objects.specs.Rule.{total, same, has_turn, has_open, has_pass, has_moving, has_far, place_of, taken, is_moving, is_far, is_live, spent, Written, PartFits, TurnFits, MarkFits, Stands, turns_on, word_of, tally, Knows, Kept}
-use Rattle.shared_objects.specs.Kinds.{Sat, object_at, turn, opened, closed, passed, left, marked, holding, recorded, worn_out, opens_scope, closes_scope, leaves_pass, takes_turn, gives_turn, gives_up_turn, Took, dealer, dealt, newcomer}
+use Rattle.shared_objects.specs.Rule.{total, same, has_turn, has_open, has_pass, has_moving, has_far, place_of, bytes_taken, is_moving, is_far, is_live, spent, Written, PartFits, TurnFits, MarkFits, Stands, turns_on, word_of, tally, Knows, Kept}
+use Rattle.shared_objects.specs.Kinds.{Sat, object_at, turn, with_scope, without_scope, with_pass, without_pass, marked, holding, recorded, worn_out, opens_scope, closes_scope, leaves_pass, takes_turn, gives_turn, gives_up_turn, Took, dealer, dealt, newcomer}
 use Rattle.shared_objects.specs.declared.body.Body.{Body}
 use Rattle.shared_objects.specs.declared.view.Entry.{Entry}
 use Rattle.shared_objects.specs.declared.view.Turn.{Turn}
@@ -25,7 +25,7 @@ use Rattle.shared_objects.specs.declared.view.View.{View}
 use Rattle.shared_objects.specs.declared.view.Mark.TheVariants.{Away, Busy, Worn}
 use Rattle.shared_objects.proofs.Sums.{at_end, total-set, total-append, term_le, total_few, set_there, is_here, is_else, times-snoc, times-without, times-without_other}
 use Rattle.shared_objects.proofs.Logs.{object_home, length-left_by, has_longer, has_last, has_snoc, Rises-snoc, Chained-snoc, AllInside-snoc, top-snoc, fold-snoc, Answers-snoc}
-use Rattle.shared_objects.proofs.Moves.{St, state, same_fits, grown, grown_same, grown_here, grown_else, moves, mark_stays, turn_here, no_live, SameSeat, tally_set, out_weighs}
+use Rattle.shared_objects.proofs.Moves.{St, state, same_fits, grown, grown_same, grown_here, grown_else, moves, mark_stays, turn_here, no_live, SameSeat, tally_set, out_weighs, slot_of, body_in, body_out, body_far}
 
 -- the marks of a turn and of heat are set
 or_turn : (x : ℕ) → bit_or x 12 + (x / 4 % 2 * 4 + x / 8 % 2 * 8) ≡ x + 12
@@ -51,16 +51,16 @@ no_turn n v e = ap (turns_on n) e
 
 module _ (returns : Bool) (key : List (List ℕ)) (s : St) (o : Kept returns key s) where
   pub few_open : (n : ℕ) → total (has_open n) s.views + total (has_pass n) s.views ≤ 57
-  few_open n = let a = total_few (λ v. has_open n v + has_pass n v) s.views (λ j v e. (o.knows j v e).opens_once n) in let b = o.seats in let c = total-sum (has_open n) (has_pass n) s.views in omega arith
+  few_open n = let a = total_few (λ v. has_open n v + has_pass n v) s.views (λ j v e. (o.seats.knows j v e).opens_once n) in let b = o.seats.few in let c = total-sum (has_open n) (has_pass n) s.views in omega arith
 
   -- what a seat knows that changes neither its turn nor its entries
   pub same_knows : (id : ℕ) (v w : View) (n : ℕ) → get_elem? s.views id ≡ some v → v.live ≡ true → SameSeat v w → w.turn ≡ v.turn → w.entries ≡ v.entries
       → ((m : Mark) → Has w.marks m → MarkFits o.logs m)
       → (id ≡ 0 → (w.scopes ≡ []) × (w.passing ≡ []))
       → ((t : Turn) → v.turn ≡ Some t → length w.scopes ≤ 4)
-      → ((m : ℕ) (bytes : List ℕ) → taken (place_of w m) ≡ Some bytes → Stands returns (bytes_of key m) (o.logs m) bytes)
+      → ((m : ℕ) (bytes : List ℕ) → bytes_taken (place_of w m) ≡ Some bytes → Stands returns (bytes_of key m) (o.logs m) bytes)
       → ((m : ℕ) → has_open m w + has_pass m w ≤ 1) → Knows returns key (grown o.logs n (o.logs n)) id w
-  same_knows id v w n me alive_ sm t e marks shut few away once = let k = o.knows id v me in subst (λ l. Knows returns key l id w) (grown_same o.logs n) (record {
+  same_knows id v w n me alive_ sm t e marks shut few away once = let k = o.seats.knows id v me in subst (λ l. Knows returns key l id w) (grown_same o.logs n) (record {
     actor = λ _. sm.4 ∙ k.actor alive_;
     opening_is = λ _. sm.5 ∙ k.opening_is alive_;
     returns_is = λ _. sm.6 ∙ k.returns_is alive_;
@@ -77,33 +77,33 @@ module _ (returns : Bool) (key : List (List ℕ)) (s : St) (o : Kept returns key
 
   -- an actor's seat is not the first
   pub not_first : (id : ℕ) (v : View) → get_elem? s.views id ≡ some v → v.made ≡ 0 → id ≡ 0 → ⊥
-  not_first id v me young z = let h = ((o.knows id v me).first z).0 in omega (arith, young)
+  not_first id v me young z = let h = ((o.seats.knows id v me).first z).0 in omega (arith, young)
 
   -- the same number is written, and the seat does nothing
   pub unmoved : (id : ℕ) (v : View) (n : ℕ) → get_elem? s.views id ≡ some v → v.live ≡ true → n < length key → Kept returns key (state (set s.words (word_of n) (slice_index s.words (word_of n))) s.homes (set s.views id v))
-  unmoved id v n me alive_ near = let k = o.knows id v me in moves returns key s o id v v n (slice_index s.words (word_of n)) s.homes (o.logs n) me near alive_ refl (λ _ _. refl)
+  unmoved id v n me alive_ near = let k = o.seats.knows id v me in moves returns key s o id v v n (slice_index s.words (word_of n)) s.homes (o.logs n) me near alive_ refl (λ _ _. refl)
       (λ _ _. record { turns = refl; opens = refl; passes = refl; moving = refl; far = refl }) (refl, refl, refl, refl, refl, refl, refl)
-      (same_fits _ _ _ _ _ _ _ _ _ _ (tally_set s.views id v v n me (record { turns = refl; opens = refl; passes = refl; moving = refl; far = refl })) refl refl refl (o.fits n near))
+      (same_fits _ _ _ _ _ _ _ _ _ _ (tally_set s.views id v v n me (record { turns = refl; opens = refl; passes = refl; moving = refl; far = refl })) refl refl refl (o.objects.fits n near))
       (same_knows id v v n me alive_ (refl, refl, refl, refl, refl, refl, refl) refl refl k.marks (λ z. let h = k.first z in (h.1, h.2)) (λ t is. (k.turn t is).2) k.out k.opens_once)
       (λ e h. h) (λ e h. inl h) (λ e h. h) (omega arith) (inl refl)
 
 -- one mark more
 mark_more : (returns : Bool) (key : List (List ℕ)) (s : St) (o : Kept returns key s) (id : ℕ) (v : View) (new : Mark) → get_elem? s.views id ≡ some v → MarkFits o.logs new → (m : Mark) → Has (v.marks ++ new ∷ []) m → MarkFits o.logs m
-mark_more returns key s o id v new me h m has = ⊎_elim (λ old. (o.knows id v me).marks m old) (λ e. subst (MarkFits o.logs) e h) (has_snoc v.marks new m has)
+mark_more returns key s o id v new me h m has = ⊎_elim (λ old. (o.seats.knows id v me).marks m old) (λ e. subst (MarkFits o.logs) e h) (has_snoc v.marks new m has)
 
 -- open scope
 pub opens_ok : (returns : Bool) (key : List (List ℕ)) (slots id : ℕ) (m : Sat) (n : ℕ) → n < slots → has_open n m.0 + has_pass n m.0 ≡ 0 → m.0.live ≡ true → m.0.made ≡ 0 → m.0.turn ≡ None
     → Allows (Kept returns key) slots id m (word_of n) (λ x. (x + 256) % 2 ^ 64) (opens_scope (step slots (word_of n) 256 0 none) m)
 opens_ok returns key slots id m n lt shut alive_ young free s o wide me small =
     let v : View = m.0 in
-    let near : n < length key = omega (arith, o.slots) in
-    let f = o.fits n near in let few = few_open returns key s o n in
-    let k = o.knows id v me in
+    let near : n < length key = omega (arith, o.objects.slots) in
+    let f = o.objects.fits n near in let few = few_open returns key s o n in
+    let k = o.seats.knows id v me in
     let x : ℕ = slice_index s.words (word_of n) in
     let away : ℕ = (tally n s.views).moving + (tally n s.views).far in
     dite (ℕ_discrete away 0)
     (λ is_here_.
-    let w : View = opened n v in
+    let w : View = with_scope n v in
     let more : (j : ℕ) → has_open j w ≡ has_open j v + same n j = λ j. times-snoc j n v.scopes in
     let one : has_open n w ≡ has_open n v + 1 = omega (arith, more n, is_here n n refl) in
     let a = total-set (has_open n) s.views id v w me in let b = total-set (has_turn n) s.views id v w me in let c = total-set (has_pass n) s.views id v w me in
@@ -124,16 +124,16 @@ opens_ok returns key slots id m n lt shut alive_ young free s o wide me small =
             chained = f.chained;
             inside = f.inside;
             answers = f.answers;
-            body_in = λ z. f.body_in (omega arith);
-            body_out = λ z. f.body_out (omega arith);
-            body_far = λ q. f.body_far (omega arith);
+            slot = slot_of _ _ _ _ _ (λ z. body_in f (omega arith))
+                (λ z. body_out f (omega arith))
+                (λ q. body_far f (omega arith));
           })
           (same_knows returns key s o id v w n me alive_ (refl, refl, refl, refl, refl, refl, refl) refl refl k.marks (λ z. absurd (not_first returns key s o id v me young z)) (λ t is. absurd (none_is_not t (sym free ∙ is))) k.out (λ j. dite (ℕ_discrete n j) (λ e. subst (λ i. has_open i w + has_pass i w ≤ 1) e (omega arith)) (λ ne. omega (arith, more j, is_else n j ne, k.opens_once j))))
           (λ e h. h) (λ e h. inl h) (λ e h. h) (omega arith) (inl refl),
-      ((λ _. ap (λ j. (opened j v, m.1)) (sym (object_home n))), λ ne. absurd (ne (omega (arith, f.word_is)))),
+      ((λ _. ap (λ j. (with_scope j v, m.1)) (sym (object_home n))), λ ne. absurd (ne (omega (arith, f.word_is)))),
     ))
     (λ is_away.
-    let w : View = passed n v in
+    let w : View = with_pass n v in
     let more : (j : ℕ) → has_pass j w ≡ has_pass j v + same n j = λ j. times-snoc j n v.passing in
     let one : has_pass n w ≡ has_pass n v + 1 = omega (arith, more n, is_here n n refl) in
     let a = total-set (has_open n) s.views id v w me in let b = total-set (has_turn n) s.views id v w me in let c = total-set (has_pass n) s.views id v w me in
@@ -154,23 +154,23 @@ opens_ok returns key slots id m n lt shut alive_ young free s o wide me small =
             chained = f.chained;
             inside = f.inside;
             answers = f.answers;
-            body_in = λ z. f.body_in (omega arith);
-            body_out = λ z. f.body_out (omega arith);
-            body_far = λ q. f.body_far (omega arith);
+            slot = slot_of _ _ _ _ _ (λ z. body_in f (omega arith))
+                (λ z. body_out f (omega arith))
+                (λ q. body_far f (omega arith));
           })
           (same_knows returns key s o id v w n me alive_ (refl, refl, refl, refl, refl, refl, refl) refl refl (mark_more returns key s o id v (Away n) me tt) (λ z. absurd (not_first returns key s o id v me young z)) (λ t is. absurd (none_is_not t (sym free ∙ is))) k.out (λ j. dite (ℕ_discrete n j) (λ e. subst (λ i. has_open i w + has_pass i w ≤ 1) e (omega arith)) (λ ne. omega (arith, more j, is_else n j ne, k.opens_once j))))
           (λ e h. h) (λ e h. inl h) (λ e h. h) (omega arith) (inl refl),
-      ((λ q. let q' : x % 4 ≡ 0 = q in absurd (is_away (omega (arith, f.word_is, f.one_out, q')))), λ _. ap (λ j. (passed j v, m.1)) (sym (object_home n))),
+      ((λ q. let q' : x % 4 ≡ 0 = q in absurd (is_away (omega (arith, f.word_is, f.one_out, q')))), λ _. ap (λ j. (with_pass j v, m.1)) (sym (object_home n))),
     ))
 
 -- close scope, of a number that was open
 pub closes_ok : (returns : Bool) (key : List (List ℕ)) (slots id : ℕ) (m : Sat) (n : ℕ) → n < slots → has_open n m.0 ≡ 1 → m.0.live ≡ true → m.0.made ≡ 0 → m.0.turn ≡ None
     → Allows (Kept returns key) slots id m (word_of n) (λ x. (x + (2 ^ 64 - 256)) % 2 ^ 64) (closes_scope (step slots (word_of n) 256 0 none) m)
 closes_ok returns key slots id m n lt held alive_ young free s o wide me small =
-    let v : View = m.0 in let w : View = closed n v in
-    let near : n < length key = omega (arith, o.slots) in
-    let f = o.fits n near in let few = few_open returns key s o n in
-    let k = o.knows id v me in
+    let v : View = m.0 in let w : View = without_scope n v in
+    let near : n < length key = omega (arith, o.objects.slots) in
+    let f = o.objects.fits n near in let few = few_open returns key s o n in
+    let k = o.seats.knows id v me in
     let less : has_open n w + 1 ≡ has_open n v = times-without n v.scopes (omega arith) in
     let other : (j : ℕ) → j ≢ n → has_open j w ≡ has_open j v = λ j ne. times-without_other j n v.scopes ne in
     let part = term_le (has_open n) s.views id v me in
@@ -192,23 +192,23 @@ closes_ok returns key slots id m n lt held alive_ young free s o wide me small =
             chained = f.chained;
             inside = f.inside;
             answers = f.answers;
-            body_in = λ z. f.body_in (omega arith);
-            body_out = λ z. f.body_out (omega arith);
-            body_far = λ q. f.body_far (omega arith);
+            slot = slot_of _ _ _ _ _ (λ z. body_in f (omega arith))
+                (λ z. body_out f (omega arith))
+                (λ q. body_far f (omega arith));
           })
           (same_knows returns key s o id v w n me alive_ (refl, refl, refl, refl, refl, refl, refl) refl refl k.marks (λ z. absurd (not_first returns key s o id v me young z)) (λ t is. absurd (none_is_not t (sym free ∙ is))) k.out (λ j. dite (ℕ_discrete n j) (λ q. subst (λ i. has_open i w + has_pass i w ≤ 1) q (let h = k.opens_once n in omega arith)) (λ ne. let p = other j (λ q. ne (sym q)) in let q = k.opens_once j in omega arith)))
           (λ y h. h) (λ y h. inl h) (λ y h. h) (omega arith) (inl refl),
-      ap (λ j. (closed j v, m.1)) (sym (object_home n)),
+      ap (λ j. (without_scope j v, m.1)) (sym (object_home n)),
     )
 
 -- close scope, of a number that was found away
 pub leaves_ok : (returns : Bool) (key : List (List ℕ)) (slots id : ℕ) (m : Sat) (n : ℕ) → n < slots → has_pass n m.0 ≡ 1 → m.0.live ≡ true → m.0.made ≡ 0
     → Allows (Kept returns key) slots id m (word_of n) (λ x. (x + (2 ^ 64 - 256)) % 2 ^ 64) (leaves_pass (step slots (word_of n) 256 0 none) m)
 leaves_ok returns key slots id m n lt held alive_ young s o wide me small =
-    let v : View = m.0 in let w : View = left n v in
-    let near : n < length key = omega (arith, o.slots) in
-    let f = o.fits n near in let few = few_open returns key s o n in
-    let k = o.knows id v me in
+    let v : View = m.0 in let w : View = without_pass n v in
+    let near : n < length key = omega (arith, o.objects.slots) in
+    let f = o.objects.fits n near in let few = few_open returns key s o n in
+    let k = o.seats.knows id v me in
     let less : has_pass n w + 1 ≡ has_pass n v = times-without n v.passing (omega arith) in
     let other : (j : ℕ) → j ≢ n → has_pass j w ≡ has_pass j v = λ j ne. times-without_other j n v.passing ne in
     let part = term_le (has_pass n) s.views id v me in
@@ -230,13 +230,13 @@ leaves_ok returns key slots id m n lt held alive_ young s o wide me small =
             chained = f.chained;
             inside = f.inside;
             answers = f.answers;
-            body_in = λ z. f.body_in (omega arith);
-            body_out = λ z. f.body_out (omega arith);
-            body_far = λ q. f.body_far (omega arith);
+            slot = slot_of _ _ _ _ _ (λ z. body_in f (omega arith))
+                (λ z. body_out f (omega arith))
+                (λ q. body_far f (omega arith));
           })
           (same_knows returns key s o id v w n me alive_ (refl, refl, refl, refl, refl, refl, refl) refl refl k.marks (λ z. absurd (not_first returns key s o id v me young z)) (λ t is. (k.turn t is).2) k.out (λ j. dite (ℕ_discrete n j) (λ q. subst (λ i. has_open i w + has_pass i w ≤ 1) q (let h = k.opens_once n in omega arith)) (λ ne. let p = other j (λ q. ne (sym q)) in let q = k.opens_once j in omega arith)))
           (λ y h. h) (λ y h. inl h) (λ y h. h) (omega arith) (inl refl),
-      ap (λ j. (left j v, m.1)) (sym (object_home n)),
+      ap (λ j. (without_pass j v, m.1)) (sym (object_home n)),
     )
 
 -- take turn, of an object that is open
@@ -244,9 +244,9 @@ pub turns_ok : (returns : Bool) (key : List (List ℕ)) (slots id : ℕ) (m : Sa
     → Allows (Kept returns key) slots id m (word_of n) (λ x. bit_or x 12) (takes_turn (step slots (word_of n) 12 0 none) m)
 turns_ok returns key slots id m n lt free opened_ few_scopes alive_ young s o wide me small =
     let v : View = m.0 in
-    let near : n < length key = omega (arith, o.slots) in
-    let f = o.fits n near in let few = few_open returns key s o n in
-    let k = o.knows id v me in
+    let near : n < length key = omega (arith, o.objects.slots) in
+    let f = o.objects.fits n near in let few = few_open returns key s o n in
+    let k = o.seats.knows id v me in
     let x : ℕ = slice_index s.words (word_of n) in
     let held : ℕ = total (has_turn n) s.views in
     let away : ℕ = (tally n s.views).moving + (tally n s.views).far in
@@ -259,7 +259,7 @@ turns_ok returns key slots id m n lt free opened_ few_scopes alive_ young s o wi
     dite (ℕ_discrete held 0)
     (λ zero-held.
     let z : (tally n s.views).moving + (tally n s.views).far + (tally n s.views).turns ≡ 0 = omega arith in
-    let y = f.body_in z in let body : Body = y.0 in
+    let y = body_in f z in let body : Body = y.0 in
     let stamp_is : x / 65536 ≡ top 0 (o.logs n) = omega (arith, f.word_is, f.one_hot) in
     let w : View = holding n (x / 65536) body.bytes.items v in
     let hs : List (maybe.Option Body) = set s.homes n none in
@@ -283,9 +283,9 @@ turns_ok returns key slots id m n lt free opened_ few_scopes alive_ young s o wi
             chained = f.chained;
             inside = f.inside;
             answers = f.answers;
-            body_in = λ q. absurd (omega arith);
-            body_out = λ _. gone;
-            body_far = λ q. absurd (omega arith);
+            slot = slot_of _ _ _ _ _ (λ q. absurd (omega arith))
+                (λ _. gone)
+                (λ q. absurd (omega arith));
           })
           (subst (λ l. Knows returns key l id w) (grown_same o.logs n) (record {
             actor = k.actor;
@@ -328,9 +328,9 @@ turns_ok returns key slots id m n lt free opened_ few_scopes alive_ young s o wi
             chained = f.chained;
             inside = f.inside;
             answers = f.answers;
-            body_in = λ z. f.body_in (omega arith);
-            body_out = λ z. f.body_out (omega arith);
-            body_far = λ q. f.body_far (omega arith);
+            slot = slot_of _ _ _ _ _ (λ z. body_in f (omega arith))
+                (λ z. body_out f (omega arith))
+                (λ q. body_far f (omega arith));
           })
           (same_knows returns key s o id v w n me alive_ (refl, refl, refl, refl, refl, refl, refl) refl refl (mark_more returns key s o id v (Busy n) me tt) (λ z. absurd (not_first returns key s o id v me young z)) (λ t is. (k.turn t is).2) k.out k.opens_once)
           (λ y h. h) (λ y h. inl h) (λ y h. h) (omega arith) (inl refl),
@@ -345,9 +345,9 @@ pub records_ok : (returns : Bool) (key : List (List ℕ)) (slots id : ℕ) (m : 
     → Allows (Kept returns key) slots id m (word_of t.object) (λ x. (x + k) % 2 ^ 64) (gives_turn e (step slots (word_of t.object) k 0 none) m)
 records_ok returns key slots id m t body more e k lt carried has by on found_is within above later small_stamp answered done k_is alive_ young s o wide me small =
     let v : View = m.0 in let w : View = recorded e v in let n : ℕ = t.object in
-    let near : n < length key = omega (arith, o.slots) in
-    let f = o.fits n near in let few = few_open returns key s o n in
-    let kn = o.knows id v me in
+    let near : n < length key = omega (arith, o.objects.slots) in
+    let f = o.objects.fits n near in let few = few_open returns key s o n in
+    let kn = o.seats.knows id v me in
     let log : List Entry = o.logs n ++ e ∷ [] in
     let x : ℕ = slice_index s.words (word_of n) in
     let at = kn.turn t has in
@@ -361,7 +361,7 @@ records_ok returns key slots id m t body more e k lt carried has by on found_is 
     let last : top 0 log ≡ e.stamp = top-snoc 0 (o.logs n) e in
     let rising : top 0 (o.logs n) < e.stamp = omega arith in
     let hs : List (maybe.Option Body) = set s.homes n (some body) in
-    let back : get_elem? hs n ≡ some (some body) = set_there s.homes n none (some body) (f.body_out (omega (arith, f.one_turn))) in
+    let back : get_elem? hs n ≡ some (some body) = set_there s.homes n none (some body) (body_out f (omega (arith, f.one_turn))) in
     let done' : Stands returns (bytes_of key n) log body.bytes.items = (ap length done ∙ length-left_by e.deed t.bytes within ∙ at.1.0, λ r. done ∙ ap (left_by e.deed) (at.1.1 r) ∙ sym (fold-snoc (bytes_of key n) (o.logs n) e)) in
     let not_mine : (j : ℕ) → j ≢ n → has_turn j v ≡ 0 = λ j ne. ap (turns_on j) has ∙ is_else n j (λ q. ne (sym q)) in
     let kept = moves returns key s o id v w n ((x + k) % 2 ^ 64) hs log me near alive_ (length-set s.homes n (some body)) (λ j ne. set_else s.homes n j (some body) ne)
@@ -377,9 +377,9 @@ records_ok returns key slots id m t body more e k lt carried has by on found_is 
       chained = Chained-snoc 0 (o.logs n) e f.chained (found_is ∙ stamp_is) rising;
       inside = AllInside-snoc (length (bytes_of key n)) (o.logs n) e f.inside (subst (EndsInside e.deed) at.1.0 within);
       answers = λ r. Answers-snoc (bytes_of key n) (o.logs n) e (f.answers r) (answered ∙ ap (given_by e.deed) (at.1.1 r));
-      body_in = λ _. (body, back, done');
-      body_out = λ one. absurd (omega (arith, f.one_turn));
-      body_far = λ q. absurd (omega arith);
+      slot = slot_of _ _ _ _ _ (λ _. (body, back, done'))
+          (λ one. absurd (omega (arith, f.one_turn)))
+          (λ q. absurd (omega arith));
     })
     (record {
       actor = kn.actor;
@@ -419,9 +419,9 @@ pub wears_ok : (returns : Bool) (key : List (List ℕ)) (slots id : ℕ) (m : Sa
     → Allows (Kept returns key) slots id m (word_of t.object) (λ x. (x + (2 ^ 64 - 4)) % 2 ^ 64) (gives_up_turn (step slots (word_of t.object) 4 0 none) m)
 wears_ok returns key slots id m t body more lt carried has done alive_ young s o wide me small =
     let n : ℕ = t.object in let v : View = m.0 in let w : View = worn_out n t.stamp v in
-    let near : n < length key = omega (arith, o.slots) in
-    let f = o.fits n near in let few = few_open returns key s o n in
-    let kn = o.knows id v me in
+    let near : n < length key = omega (arith, o.objects.slots) in
+    let f = o.objects.fits n near in let few = few_open returns key s o n in
+    let kn = o.seats.knows id v me in
     let x : ℕ = slice_index s.words (word_of n) in
     let at = kn.turn t has in
     let mine : has_turn n v ≡ 1 = turn_here v t has in
@@ -431,7 +431,7 @@ wears_ok returns key slots id m t body more lt carried has done alive_ young s o
     let away : ℕ = (tally n s.views).moving + (tally n s.views).far in
     let is_here_ : away ≡ 0 = dite (ℕ_discrete away 0) (λ z. z) (λ nz. let h = f.here (omega arith) in absurd (omega arith)) in
     let hs : List (maybe.Option Body) = set s.homes n (some body) in
-    let back : get_elem? hs n ≡ some (some body) = set_there s.homes n none (some body) (f.body_out (omega (arith, f.one_turn))) in
+    let back : get_elem? hs n ≡ some (some body) = set_there s.homes n none (some body) (body_out f (omega (arith, f.one_turn))) in
     let stamp_low : t.stamp ≤ top 0 (o.logs n) = let q : t.stamp ≡ top 0 (o.logs n) = at.0 in omega arith in
     let done' : Stands returns (bytes_of key n) (o.logs n) body.bytes.items = (ap length done ∙ at.1.0, λ r. done ∙ at.1.1 r) in
     let not_mine : (j : ℕ) → j ≢ n → has_turn j v ≡ 0 = λ j ne. ap (turns_on j) has ∙ is_else n j (λ q. ne (sym q)) in
@@ -448,9 +448,9 @@ wears_ok returns key slots id m t body more lt carried has done alive_ young s o
       chained = f.chained;
       inside = f.inside;
       answers = f.answers;
-      body_in = λ _. (body, back, done');
-      body_out = λ one. absurd (omega (arith, f.one_turn));
-      body_far = λ q. absurd (omega arith);
+      slot = slot_of _ _ _ _ _ (λ _. (body, back, done'))
+          (λ one. absurd (omega (arith, f.one_turn)))
+          (λ q. absurd (omega arith));
     })
     (subst (λ l. Knows returns key l id w) (grown_same o.logs n) (record {
       actor = kn.actor;
@@ -472,21 +472,20 @@ wears_ok returns key slots id m t body more lt carried has done alive_ young s o
 
 -- a look changes nothing, and shows a table that keeps the rule
 pub sees_ok : (returns : Bool) (key : List (List ℕ)) (slots id : ℕ) (m : Sat) (n : ℕ) → n < slots → m.0.live ≡ true
-    → Allows (Kept returns key) slots id m (word_of n) (λ x. x) (Rattle.shared_objects.specs.Kinds.looks (step slots (word_of n) 0 0 none) m)
+    → Allows (Kept returns key) slots id m (word_of n) (λ x. x) (Rattle.shared_objects.specs.Kinds.looks returns key (step slots (word_of n) 0 0 none) m)
 sees_ok returns key slots id m n lt alive_ s o wide me small =
-    let near : n < length key = omega (arith, o.slots) in
-    let k = o.knows id m.0 me in
-    (m.0, keeps, tt, unmoved returns key s o id m.0 n me alive_ near, (refl, (s, (id, subst (λ q. Kept q m.0.opening s) (sym (k.returns_is alive_)) (subst (λ q. Kept returns q s) (sym (k.opening_is alive_)) o), me, ap (λ j. slice_index s.words (word_of j)) (object_home n)))))
+    let near : n < length key = omega (arith, o.objects.slots) in
+    (m.0, keeps, tt, unmoved returns key s o id m.0 n me alive_ near, (refl, (s, (id, o, me, ap (λ j. slice_index s.words (word_of j)) (object_home n)))))
 
 -- The first seat makes one more
 pub deals_ok : (returns : Bool) (key : List (List ℕ)) (id : ℕ) (v : View) → 0 < v.made → v.made < 57 → v.live ≡ true → Splits (Kept returns key) id v (dealt v) (newcomer v)
 deals_ok returns key id v is_dealer room alive_ s o me =
-    let d = o.dealer id v me is_dealer in
+    let d = o.seats.dealer id v me is_dealer in
     let w : View = dealt v in let new : View = newcomer v in
     let vs : List View = set s.views id w in
     let long : length vs ≡ length s.views = length-set s.views id w in
     let longer : length (vs ++ new ∷ []) ≡ length s.views + 1 = omega (arith, length-append vs (new ∷ []), long) in
-    let k = o.knows id v me in
+    let k = o.seats.knows id v me in
     let sum : (g : View → ℕ) → g w ≡ g v → g new ≡ 0 → total g (vs ++ new ∷ []) ≡ total g s.views = λ g p q. omega (arith, total-append g vs (new ∷ []), total-set g s.views id v w me, p, q) in
     let keeps_part : (p : Part) → PartFits o.logs s.views p → PartFits o.logs (vs ++ new ∷ []) p = λ p f. record {
       rises = f.rises;
@@ -496,55 +495,59 @@ deals_ok returns key id v is_dealer room alive_ s o me =
     } in
     record {
       logs = o.logs;
-      words = o.words;
-      slots = o.slots;
-      seats = omega (arith, longer, d.1);
-      dealer = λ j u at some-made. ⊎_elim
-          (λ old. ⊎_elim
-          (λ (t : (j ≡ id) × (w ≡ u)). (t.0 ∙ d.0, omega (arith, ap (λ (y : View). y.made) t.1, longer, d.1), omega (arith, ap (λ (y : View). y.alive) t.1, d.2, total-append is_live vs (new ∷ []), total-set is_live s.views id v w me)))
-          (λ (t : (j ≢ id) × (get_elem? s.views j ≡ some u)). absurd (t.0 ((o.dealer j u t.1 some-made).0 ∙ sym d.0)))
-          (at_set s.views id j w u old))
-          (λ (t : (j ≡ length vs) × (new ≡ u)). absurd (omega (arith, ap (λ (y : View). y.made) t.1, some-made)))
-          (at_end vs new u j at);
-      nowhere = o.nowhere;
-      parts = λ j u at p has. ⊎_elim
-          (λ old. ⊎_elim
-          (λ (t : (j ≡ id) × (w ≡ u)). keeps_part p (o.parts id v me p (subst (λ l. Has l p) (ap (λ (y : View). y.gathered) (sym t.1)) has)))
-          (λ (t : (j ≢ id) × (get_elem? s.views j ≡ some u)). keeps_part p (o.parts j u t.1 p has))
-          (at_set s.views id j w u old))
-          (λ (t : (j ≡ length vs) × (new ≡ u)). absurd (let none-there : Has [] p = subst (λ l. Has l p) (ap (λ (y : View). y.gathered) (sym t.1)) has in some-ne-none p (sym none-there.1)))
-          (at_end vs new u j at);
-      apart = λ j u at a b p q hp hq same. ⊎_elim
-          (λ old. ⊎_elim
-          (λ (t : (j ≡ id) × (w ≡ u)). let e : u.gathered ≡ v.gathered = ap (λ (y : View). y.gathered) (sym t.1) in
-          o.apart id v me a b p q (subst (λ l. get_elem? l a ≡ some p) e hp) (subst (λ l. get_elem? l b ≡ some q) e hq) same)
-          (λ (t : (j ≢ id) × (get_elem? s.views j ≡ some u)). o.apart j u t.1 a b p q hp hq same)
-          (at_set s.views id j w u old))
-          (λ (t : (j ≡ length vs) × (new ≡ u)). absurd (let none-there : get_elem? {A = Part} [] a ≡ some p = subst (λ l. get_elem? l a ≡ some p) (ap (λ (y : View). y.gathered) (sym t.1)) hp in some-ne-none p (sym none-there)))
-          (at_end vs new u j at);
-      fits = λ n lt. let f = o.fits n lt in same_fits _ _ _ _ _ _ _ _ _ _ (λ i. record { turns = sum (has_turn n) refl refl i; opens = sum (has_open n) refl refl i; passes = sum (has_pass n) refl refl i; moving = sum (has_moving n) refl refl i; far = sum (has_far n) refl refl i }) refl refl refl f;
-      knows = λ j u at. ⊎_elim
-          (λ old. ⊎_elim
-          (λ (t : (j ≡ id) × (w ≡ u)). subst (λ y. Knows returns key o.logs j y) t.1 (subst (λ i. Knows returns key o.logs i w) (sym t.0)
-          (record { actor = k.actor; opening_is = k.opening_is; returns_is = k.returns_is; idle = λ no. absurd (no_live (sym no ∙ alive_)); first = λ z. let h = k.first z in (omega (arith, h.0), h.1, h.2); alone = k.alone; opens_once = k.opens_once; turn = k.turn; out = k.out; entries = k.entries; marks = k.marks; rises = k.rises })))
-          (λ t. o.knows j u t.1)
-          (at_set s.views id j w u old))
-          (λ (t : (j ≡ length vs) × (new ≡ u)). subst (λ y. Knows returns key o.logs j y) t.1
-          (record {
-            actor = λ _. d.1 ∙ sym long ∙ sym t.0;
-            opening_is = λ _. k.opening_is alive_;
-            returns_is = λ _. k.returns_is alive_;
-            idle = λ no. absurd (no_live (sym no));
-            first = λ z. absurd (omega (arith, z, t.0, long, d.1, is_dealer));
-            alone = λ _. refl;
-            opens_once = λ n. omega arith;
-            turn = λ t e. absurd (none_is_not t e);
-            out = λ n bytes e. absurd (none_is_not bytes e);
-            entries = λ e h. absurd (some-ne-none e (sym h.1));
-            marks = λ m h. absurd (some-ne-none m (sym h.1));
-            rises = tt;
-          }))
-          (at_end vs new u j at);
+      objects = record {
+        words = o.objects.words;
+        slots = o.objects.slots;
+        fits = λ n lt. let f = o.objects.fits n lt in same_fits _ _ _ _ _ _ _ _ _ _ (λ i. record { turns = sum (has_turn n) refl refl i; opens = sum (has_open n) refl refl i; passes = sum (has_pass n) refl refl i; moving = sum (has_moving n) refl refl i; far = sum (has_far n) refl refl i }) refl refl refl f;
+        nowhere = o.objects.nowhere;
+      };
+      seats = record {
+        few = omega (arith, longer, d.1);
+        knows = λ j u at. ⊎_elim
+            (λ old. ⊎_elim
+            (λ (t : (j ≡ id) × (w ≡ u)). subst (λ y. Knows returns key o.logs j y) t.1 (subst (λ i. Knows returns key o.logs i w) (sym t.0)
+            (record { actor = k.actor; opening_is = k.opening_is; returns_is = k.returns_is; idle = λ no. absurd (no_live (sym no ∙ alive_)); first = λ z. let h = k.first z in (omega (arith, h.0), h.1, h.2); alone = k.alone; opens_once = k.opens_once; turn = k.turn; out = k.out; entries = k.entries; marks = k.marks; rises = k.rises })))
+            (λ t. o.seats.knows j u t.1)
+            (at_set s.views id j w u old))
+            (λ (t : (j ≡ length vs) × (new ≡ u)). subst (λ y. Knows returns key o.logs j y) t.1
+            (record {
+              actor = λ _. d.1 ∙ sym long ∙ sym t.0;
+              opening_is = λ _. k.opening_is alive_;
+              returns_is = λ _. k.returns_is alive_;
+              idle = λ no. absurd (no_live (sym no));
+              first = λ z. absurd (omega (arith, z, t.0, long, d.1, is_dealer));
+              alone = λ _. refl;
+              opens_once = λ n. omega arith;
+              turn = λ t e. absurd (none_is_not t e);
+              out = λ n bytes e. absurd (none_is_not bytes e);
+              entries = λ e h. absurd (some-ne-none e (sym h.1));
+              marks = λ m h. absurd (some-ne-none m (sym h.1));
+              rises = tt;
+            }))
+            (at_end vs new u j at);
+        dealer = λ j u at some-made. ⊎_elim
+            (λ old. ⊎_elim
+            (λ (t : (j ≡ id) × (w ≡ u)). (t.0 ∙ d.0, omega (arith, ap (λ (y : View). y.made) t.1, longer, d.1), omega (arith, ap (λ (y : View). y.alive) t.1, d.2, total-append is_live vs (new ∷ []), total-set is_live s.views id v w me)))
+            (λ (t : (j ≢ id) × (get_elem? s.views j ≡ some u)). absurd (t.0 ((o.seats.dealer j u t.1 some-made).0 ∙ sym d.0)))
+            (at_set s.views id j w u old))
+            (λ (t : (j ≡ length vs) × (new ≡ u)). absurd (omega (arith, ap (λ (y : View). y.made) t.1, some-made)))
+            (at_end vs new u j at);
+        parts = λ j u at p has. ⊎_elim
+            (λ old. ⊎_elim
+            (λ (t : (j ≡ id) × (w ≡ u)). keeps_part p (o.seats.parts id v me p (subst (λ l. Has l p) (ap (λ (y : View). y.gathered) (sym t.1)) has)))
+            (λ (t : (j ≢ id) × (get_elem? s.views j ≡ some u)). keeps_part p (o.seats.parts j u t.1 p has))
+            (at_set s.views id j w u old))
+            (λ (t : (j ≡ length vs) × (new ≡ u)). absurd (let none-there : Has [] p = subst (λ l. Has l p) (ap (λ (y : View). y.gathered) (sym t.1)) has in some-ne-none p (sym none-there.1)))
+            (at_end vs new u j at);
+        apart = λ j u at a b p q hp hq same. ⊎_elim
+            (λ old. ⊎_elim
+            (λ (t : (j ≡ id) × (w ≡ u)). let e : u.gathered ≡ v.gathered = ap (λ (y : View). y.gathered) (sym t.1) in
+            o.seats.apart id v me a b p q (subst (λ l. get_elem? l a ≡ some p) e hp) (subst (λ l. get_elem? l b ≡ some q) e hq) same)
+            (λ (t : (j ≢ id) × (get_elem? s.views j ≡ some u)). o.seats.apart j u t.1 a b p q hp hq same)
+            (at_set s.views id j w u old))
+            (λ (t : (j ≡ length vs) × (new ≡ u)). absurd (let none-there : get_elem? {A = Part} [] a ≡ some p = subst (λ l. get_elem? l a ≡ some p) (ap (λ (y : View). y.gathered) (sym t.1)) hp in some-ne-none p (sym none-there)))
+            (at_end vs new u j at);
+      };
       whole = λ n e h. let t = o.whole n e h in (
         t.0,
         dite (ℕ_discrete t.1.0 id)
@@ -579,41 +582,45 @@ starts_ok returns key ws bs long quiet same_bytes =
     let none-far : (n : ℕ) → has_far n (dealer returns key) ≡ 0 = λ n. ap is_far (all_here key n) in
     record {
       logs = λ _. [];
-      words = long;
-      slots = length-map bs some ∙ many;
-      seats = omega arith;
-      dealer = λ j u at some-made. let t = one_only returns key j u at in (t.0, sym (ap (λ (y : View). y.made) t.1), sym (ap (λ (y : View). y.alive) t.1));
-      nowhere = λ n far. refl;
-      parts = λ j u at p has. absurd (let none-there : Has [] p = subst (λ l. Has l p) (ap (λ (y : View). y.gathered) (sym (one_only returns key j u at).1)) has in some-ne-none p (sym none-there.1));
-      apart = λ j u at a b p q hp hq same. absurd (let none-there : get_elem? {A = Part} [] a ≡ some p = subst (λ l. get_elem? l a ≡ some p) (ap (λ (y : View). y.gathered) (sym (one_only returns key j u at).1)) hp in some-ne-none p (sym none-there));
-      fits = λ n lt. let z₀ = none-moving n in let z₁ = none-far n in record {
-        hot = 0;
-        one_hot = omega arith;
-        word_is = quiet (word_of n) ∙ omega arith;
-        one_turn = omega arith;
-        one_out = omega arith;
-        here = λ out. absurd (omega arith);
-        small = lit< tt;
-        chained = tt;
-        inside = tt;
-        answers = λ _. tt;
-        body_in = λ _. let t = body_at bs n (omega arith) in let q = t.2 ∙ ap (λ (l : List (List ℕ)). bytes_of l n) same_bytes in (t.0, t.1, (ap length q, λ _. q));
-        body_out = λ e. absurd (omega arith);
-        body_far = λ q. absurd (omega arith);
+      objects = record {
+        words = long;
+        slots = length-map bs some ∙ many;
+        fits = λ n lt. let z₀ = none-moving n in let z₁ = none-far n in record {
+          hot = 0;
+          one_hot = omega arith;
+          word_is = quiet (word_of n) ∙ omega arith;
+          one_turn = omega arith;
+          one_out = omega arith;
+          here = λ out. absurd (omega arith);
+          small = lit< tt;
+          chained = tt;
+          inside = tt;
+          answers = λ _. tt;
+          slot = slot_of _ _ _ _ _ (λ _. let t = body_at bs n (omega arith) in let q = t.2 ∙ ap (λ (l : List (List ℕ)). bytes_of l n) same_bytes in (t.0, t.1, (ap length q, λ _. q)))
+              (λ e. absurd (omega arith))
+              (λ q. absurd (omega arith));
+        };
+        nowhere = λ n far. refl;
       };
-      knows = λ j u at. let t = one_only returns key j u at in subst (λ y. Knows returns key (λ _. []) j y) t.1 (record {
-        actor = λ _. sym t.0;
-        opening_is = λ _. refl;
-        returns_is = λ _. refl;
-        idle = λ no. absurd (no_live (sym no));
-        first = λ _. (omega arith, refl, refl);
-        alone = λ _. refl;
-        opens_once = λ n. omega arith;
-        turn = λ t e. absurd (none_is_not t e);
-        out = λ n bytes e. absurd (none_is_not bytes (sym (ap taken (all_here key n)) ∙ e));
-        entries = λ e h. absurd (some-ne-none e (sym h.1));
-        marks = λ m h. absurd (some-ne-none m (sym h.1));
-        rises = tt;
-      });
+      seats = record {
+        few = omega arith;
+        knows = λ j u at. let t = one_only returns key j u at in subst (λ y. Knows returns key (λ _. []) j y) t.1 (record {
+          actor = λ _. sym t.0;
+          opening_is = λ _. refl;
+          returns_is = λ _. refl;
+          idle = λ no. absurd (no_live (sym no));
+          first = λ _. (omega arith, refl, refl);
+          alone = λ _. refl;
+          opens_once = λ n. omega arith;
+          turn = λ t e. absurd (none_is_not t e);
+          out = λ n bytes e. absurd (none_is_not bytes (sym (ap bytes_taken (all_here key n)) ∙ e));
+          entries = λ e h. absurd (some-ne-none e (sym h.1));
+          marks = λ m h. absurd (some-ne-none m (sym h.1));
+          rises = tt;
+        });
+        dealer = λ j u at some-made. let t = one_only returns key j u at in (t.0, sym (ap (λ (y : View). y.made) t.1), sym (ap (λ (y : View). y.alive) t.1));
+        parts = λ j u at p has. absurd (let none-there : Has [] p = subst (λ l. Has l p) (ap (λ (y : View). y.gathered) (sym (one_only returns key j u at).1)) has in some-ne-none p (sym none-there.1));
+        apart = λ j u at a b p q hp hq same. absurd (let none-there : get_elem? {A = Part} [] a ≡ some p = subst (λ l. get_elem? l a ≡ some p) (ap (λ (y : View). y.gathered) (sym (one_only returns key j u at).1)) hp in some-ne-none p (sym none-there));
+      };
       whole = λ n e h. absurd (some-ne-none e (sym h.1));
     }

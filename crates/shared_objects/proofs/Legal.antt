@@ -20,6 +20,7 @@ use Rattle.shared_objects.specs.declared.body.Body.{Body}
 use Rattle.shared_objects.specs.declared.view.Entry.{Entry}
 use Rattle.shared_objects.specs.declared.view.Part.{Part}
 use Rattle.shared_objects.specs.declared.view.View.{View}
+use Rattle.shared_objects.proofs.Moves.{body_in}
 use Rattle.shared_objects.proofs.Few.{counts_few}
 use Rattle.shared_objects.proofs.Logs.{chained_rises}
 use Rattle.shared_objects.proofs.One.{empty, has_cons, first, later, through, apart_by_actor, rises_above, rises_unique, pick_rises, by_is, own_log, all_after, all_runs, all_fold, all_long}
@@ -69,7 +70,7 @@ place_of_two (suc (suc m)) f h = absurd (omega (arith, h))
 pub word_shows : (returns : Bool) (opening : List (List ℕ)) (s : State Body View) (k : Kept returns opening s) (n : ℕ) → n < length opening
     → (w : WordRecord) × HasFields w × ShowsSeats (tally n s.views) (k.logs n) w × (slice_index s.words (word_of n) ≡ word_number w)
 word_shows returns opening s k n lt =
-    let f = k.fits n lt in
+    let f = k.objects.fits n lt in
     let hot = bit_of f.hot f.one_hot in
     let turn = bit_of (tally n s.views).turns f.one_turn in
     let place = place_of_two (tally n s.views).moving (tally n s.views).far f.one_out in
@@ -145,30 +146,30 @@ module _ (returns : Bool) (opening : List (List ℕ)) (s : State Body View) (k :
 
   -- a seat that took others in is the first
   takes_in : (id : ℕ) (v : View) (p : Part) → get_elem? s.views id ≡ some v → Has v.gathered p → id ≡ 0
-  takes_in id v p at h = dite (ℕ_discrete id 0) (λ (same : id ≡ 0). same) (λ (ne : id ≢ 0). absurd (empty p (subst (λ l. Has l p) ((k.knows id v at).alone ne) h)))
+  takes_in id v p at h = dite (ℕ_discrete id 0) (λ (same : id ≡ 0). same) (λ (ne : id ≢ 0). absurd (empty p (subst (λ l. Has l p) ((k.seats.knows id v at).alone ne) h)))
 
   -- an actor wrote no two entries at one stamp
   one_each : (e f : Entry) → IsWrittenIn s e → IsWrittenIn s f → e.actor ≡ f.actor → e.stamp ≡ f.stamp → e ≡ f
   one_each e f a b actor stamp =
-      let ka = k.knows a.0 a.1 a.2 in let kb = k.knows b.0 b.1 b.2 in
+      let ka = k.seats.knows a.0 a.1 a.2 in let kb = k.seats.knows b.0 b.1 b.2 in
       ⊎_elim
       (λ (own : Has a.1.entries e). ⊎_elim
       (λ (own' : Has b.1.entries f).
       let same : a.1 ≡ b.1 = same_view a.0 b.0 a.1 b.1 a.2 b.2 (sym (ka.entries e own).0 ∙ actor ∙ (kb.entries f own').0) in
       rises_unique 0 b.1.entries e f kb.rises (subst (λ (u : View). Has u.entries e) same own) own' stamp)
-      (λ (got' : HasPart b.1.gathered f). let q = k.parts b.0 b.1 b.2 got'.0 got'.1 in
+      (λ (got' : HasPart b.1.gathered f). let q = k.seats.parts b.0 b.1 b.2 got'.0 got'.1 in
       absurd (not_gone a.0 a.1 got'.0 e a.2 q.gone own (sym (ka.entries e own).0 ∙ actor ∙ (q.entries f got'.2).0))) b.3)
-      (λ (got : HasPart a.1.gathered e). let p = k.parts a.0 a.1 a.2 got.0 got.1 in ⊎_elim
+      (λ (got : HasPart a.1.gathered e). let p = k.seats.parts a.0 a.1 a.2 got.0 got.1 in ⊎_elim
       (λ (own' : Has b.1.entries f). absurd (not_gone b.0 b.1 got.0 f b.2 p.gone own' (sym (kb.entries f own').0 ∙ sym actor ∙ (p.entries e got.2).0)))
-      (λ (got' : HasPart b.1.gathered f). let q = k.parts b.0 b.1 b.2 got'.0 got'.1 in
+      (λ (got' : HasPart b.1.gathered f). let q = k.seats.parts b.0 b.1 b.2 got'.0 got'.1 in
       let same : a.1 ≡ b.1 = same_view a.0 b.0 a.1 b.1 a.2 b.2 (takes_in a.0 a.1 got.0 a.2 got.1 ∙ sym (takes_in b.0 b.1 got'.0 b.2 got'.1)) in
       let at : get_elem? b.1.gathered got.1.0 ≡ some got.0 = subst (λ (u : View). get_elem? u.gathered got.1.0 ≡ some got.0) same got.1.1 in
-      let place : got.1.0 ≡ got'.1.0 = k.apart b.0 b.1 b.2 got.1.0 got'.1.0 got.0 got'.0 at got'.1.1 (sym (p.entries e got.2).0 ∙ actor ∙ (q.entries f got'.2).0) in
+      let place : got.1.0 ≡ got'.1.0 = k.seats.apart b.0 b.1 b.2 got.1.0 got'.1.0 got.0 got'.0 at got'.1.1 (sym (p.entries e got.2).0 ∙ actor ∙ (q.entries f got'.2).0) in
       let part : got.0 ≡ got'.0 = some-injective got.0 got'.0 (sym at ∙ ap (get_elem? b.1.gathered) place ∙ got'.1.1) in
       rises_unique 0 got'.0.entries e f q.rises (subst (λ (r : Part). Has r.entries e) part got.2) got'.2 stamp) b.3) a.3
 
   near_log : (n : ℕ) (e : Entry) → Has (k.logs n) e → n < length opening
-  near_log n e h = ⊎_elim (λ (near : n < length opening). near) (λ (far : length opening ≤ n). absurd (empty e (subst (λ l. Has l e) (k.nowhere n far) h))) (cases_lt n (length opening))
+  near_log n e h = ⊎_elim (λ (near : n < length opening). near) (λ (far : length opening ≤ n). absurd (empty e (subst (λ l. Has l e) (k.objects.nowhere n far) h))) (cases_lt n (length opening))
 
   -- two entries are the same, or one stands before the other
   in_line : (e f : Entry) → IsWrittenIn s e → IsWrittenIn s f → (e ≡ f) ⊎ (Before e f ⊎ Before f e)
@@ -180,8 +181,8 @@ module _ (returns : Bool) (opening : List (List ℕ)) (s : State Body View) (k :
 
   -- what a seat wrote is in the entries of its object
   logged : (e : Entry) → IsWrittenIn s e → Has (k.logs e.object) e
-  logged e a = ⊎_elim (λ (own : Has a.1.entries e). ((k.knows a.0 a.1 a.2).entries e own).1)
-      (λ (got : HasPart a.1.gathered e). ((k.parts a.0 a.1 a.2 got.0 got.1).entries e got.2).1) a.3
+  logged e a = ⊎_elim (λ (own : Has a.1.entries e). ((k.seats.knows a.0 a.1 a.2).entries e own).1)
+      (λ (got : HasPart a.1.gathered e). ((k.seats.parts a.0 a.1 a.2 got.0 got.1).entries e got.2).1) a.3
 
   written : (n : ℕ) (e : Entry) → Has (k.logs n) e → IsWrittenIn s e
   written n e h = (k.whole n e h).1
@@ -194,26 +195,26 @@ module _ (returns : Bool) (opening : List (List ℕ)) (s : State Body View) (k :
       let history : List Entry = t.0 in
       let only : (e : Entry) → Has history e → IsWrittenIn s e = λ e h. from e (t.3 e h) in
       let all : (e : Entry) → IsWrittenIn s e → Has history e = λ e a. let l = logged e a in t.2 e (logs_there k.logs (length opening) e.object e (near_log e.object e l) l) in
-      let log : (n : ℕ) → n < length opening → entries_on n history ≡ k.logs n = λ n lt. own_log n (k.logs n) history (chained_rises 0 (k.logs n) (k.fits n lt).chained) t.1
+      let log : (n : ℕ) → n < length opening → entries_on n history ≡ k.logs n = λ n lt. own_log n (k.logs n) history (chained_rises 0 (k.logs n) (k.objects.fits n lt).chained) t.1
       (λ e h on. subst (λ j. Has (k.logs j) e) on (logged e (only e h)))
       (λ e h. (all e (written n e h), (k.whole n e h).0)) in
       let near : (e : Entry) → Has history e → e.object < length opening = λ e h. near_log e.object e (logged e (only e h)) in
-      let low : (e : Entry) → Has history e → 0 < e.stamp = λ e h. rises_above 0 (k.logs e.object) e (chained_rises 0 (k.logs e.object) (k.fits e.object (near e h)).chained) (logged e (only e h)) in
+      let low : (e : Entry) → Has history e → 0 < e.stamp = λ e h. rises_above 0 (k.logs e.object) e (chained_rises 0 (k.logs e.object) (k.objects.fits e.object (near e h)).chained) (logged e (only e h)) in
       record {
         history = history;
         only = only;
         all = all;
-        stamps = λ n lt. let f = k.fits n lt in let few = counts_few returns opening s k n in let hot = f.one_hot in let turn = f.one_turn in let out = f.one_out in
+        stamps = λ n lt. let f = k.objects.fits n lt in let few = counts_few returns opening s k n in let hot = f.one_hot in let turn = f.one_turn in let out = f.one_out in
             let stamp_is : slice_index s.words (word_of n) / 65536 ≡ top 0 (k.logs n) = omega (arith, f.word_is, few, hot, turn, out) in
             stamp_is ∙ ap (top 0) (sym (log n lt));
         legal = λ r. record {
           ordered = t.1;
           near = near;
           actors = λ a. by_actor a history t.1 low;
-          objects = λ n lt. subst (Rises 0) (sym (log n lt)) (chained_rises 0 (k.logs n) (k.fits n lt).chained);
-          answers = λ n lt. subst (Answers (bytes_of opening n)) (sym (log n lt)) ((k.fits n lt).answers r);
+          objects = λ n lt. subst (Rises 0) (sym (log n lt)) (chained_rises 0 (k.logs n) (k.objects.fits n lt).chained);
+          answers = λ n lt. subst (Answers (bytes_of opening n)) (sym (log n lt)) ((k.objects.fits n lt).answers r);
         };
-        here = λ n lt free. let f = k.fits n lt in let hot = f.one_hot in let turn = f.one_turn in let out = f.one_out in
-            let b = f.body_in (omega (arith, f.word_is, free, hot, turn, out)) in (b.0, b.1, (b.2.0, λ r. b.2.1 r ∙ ap (fold (bytes_of opening n)) (sym (log n lt))));
-        out = λ id n v bytes at lt is. let b = (k.knows id v at).out n bytes is in (b.0, λ r. b.1 r ∙ ap (fold (bytes_of opening n)) (sym (log n lt)));
+        here = λ n lt free. let f = k.objects.fits n lt in let hot = f.one_hot in let turn = f.one_turn in let out = f.one_out in
+            let b = body_in f (omega (arith, f.word_is, free, hot, turn, out)) in (b.0, b.1, (b.2.0, λ r. b.2.1 r ∙ ap (fold (bytes_of opening n)) (sym (log n lt))));
+        out = λ id n v bytes at lt is. let b = (k.seats.knows id v at).out n bytes is in (b.0, λ r. b.1 r ∙ ap (fold (bytes_of opening n)) (sym (log n lt)));
       }

@@ -12,14 +12,14 @@ use Rattle.atomic_table.specs.Table.{State, step, Act, keeps, takes, gives, Allo
 use Rattle.atomic_table.proofs.Lists.{set_here, set_else, exchanged}
 use Rattle.shared_objects.specs.History.{top}
 use Rattle.memory.specs.Objects.{bytes_of}
-use Rattle.shared_objects.specs.Rule.{has_turn, has_open, has_pass, has_moving, has_far, place_of, taken, is_moving, is_far, Stands, word_of, tally, Knows, Kept}
-use Rattle.shared_objects.specs.Kinds.{Sat, placed, sent, called, cooled, begins_leave, ends_leave, begins_return, ends_return, cools}
+use Rattle.shared_objects.specs.Rule.{has_turn, has_open, has_pass, has_moving, has_far, place_of, bytes_taken, is_moving, is_far, Stands, word_of, tally, Knows, Kept}
+use Rattle.shared_objects.specs.Kinds.{Sat, placed, sent, called, with_cooling, begins_leave, ends_leave, begins_return, ends_return, cools}
 use Rattle.shared_objects.specs.declared.body.Body.{Body}
 use Rattle.shared_objects.specs.declared.view.Place.{Place}
 use Rattle.shared_objects.specs.declared.view.Place.TheVariants.{Here, Moving, Far}
 use Rattle.shared_objects.specs.declared.view.View.{View}
 use Rattle.shared_objects.proofs.Sums.{total-set, term_le}
-use Rattle.shared_objects.proofs.Moves.{St, grown, moves, Alike}
+use Rattle.shared_objects.proofs.Moves.{St, grown, moves, Alike, slot_of, body_in, body_out, body_far}
 use Rattle.shared_objects.proofs.Logs.{object_home}
 use Rattle.shared_objects.proofs.Keeps.{few_open, same_knows, unmoved, none_is_not, some_is}
 
@@ -35,12 +35,12 @@ alike_else v n p m ne = record { turns = refl; opens = refl; passes = refl; movi
 
 -- what the mover knows after one object has got another place, with bytes that stand
 altered : (returns : Bool) (key : List (List ℕ)) (s : St) (o : Kept returns key s) (id : ℕ) (v : View) (n : ℕ) (p : Place) → get_elem? s.views id ≡ some v → v.live ≡ true → n < length v.out
-    → ((bytes : List ℕ) → taken p ≡ Some bytes → Stands returns (bytes_of key n) (o.logs n) bytes) → Knows returns key (grown o.logs n (o.logs n)) id (placed n p v)
-altered returns key s o id v n p me alive_ wide stands = let k = o.knows id v me in
+    → ((bytes : List ℕ) → bytes_taken p ≡ Some bytes → Stands returns (bytes_of key n) (o.logs n) bytes) → Knows returns key (grown o.logs n (o.logs n)) id (placed n p v)
+altered returns key s o id v n p me alive_ wide stands = let k = o.seats.knows id v me in
     same_knows returns key s o id v (placed n p v) n me alive_ (refl, refl, refl, refl, refl, refl, refl) refl refl k.marks (λ z. let h = k.first z in (h.1, h.2)) (λ t is. (k.turn t is).2)
     (λ m bytes e. dite (ℕ_discrete m n)
-    (λ here. subst (λ i. Stands returns (bytes_of key i) (o.logs i) bytes) (sym here) (stands bytes (sym (ap taken (ap (place_of (placed n p v)) here ∙ placed_here v n p wide)) ∙ e)))
-    (λ ne. k.out m bytes (sym (ap taken (placed_else v n p m ne)) ∙ e)))
+    (λ here. subst (λ i. Stands returns (bytes_of key i) (o.logs i) bytes) (sym here) (stands bytes (sym (ap bytes_taken (ap (place_of (placed n p v)) here ∙ placed_here v n p wide)) ∙ e)))
+    (λ ne. k.out m bytes (sym (ap bytes_taken (placed_else v n p m ne)) ∙ e)))
     k.opens_once
 
 -- begin leave: the word was that of an object that is here, with no scope open and no turn held
@@ -48,9 +48,9 @@ pub lifts_ok : (returns : Bool) (key : List (List ℕ)) (slots id : ℕ) (m : Sa
     → Allows (Kept returns key) slots id m (word_of n) (λ y. either (eqb y old) next y) (begins_leave (step slots (word_of n) old next none) m)
 lifts_ok returns key slots id m n old next lt quiet next_is wide alive_ s o long me small =
     let v : View = m.0 in
-    let near : n < length key = omega (arith, o.slots) in
-    let f = o.fits n near in let few = few_open returns key s o n in
-    let k = o.knows id v me in
+    let near : n < length key = omega (arith, o.objects.slots) in
+    let f = o.objects.fits n near in let few = few_open returns key s o n in
+    let k = o.seats.knows id v me in
     let x : ℕ = slice_index s.words (word_of n) in
     let low : old % 65536 ≤ 8 = ⊎_elim (λ e. omega (arith, e)) (λ e. omega (arith, e)) quiet in
     let bit : (old % 65536 ≡ 0) ⊎ (old % 65536 ≡ 8) = quiet in
@@ -60,7 +60,7 @@ lifts_ok returns key slots id m n old next lt quiet next_is wide alive_ s o long
     let z : (tally n s.views).moving + (tally n s.views).far + (tally n s.views).turns ≡ 0 = ⊎_elim (λ e. omega (arith, e, hit, f.word_is, f.one_hot, f.one_turn, f.one_out)) (λ e. omega (arith, e, hit, f.word_is, f.one_hot, f.one_turn, f.one_out)) bit in
     let none-open : (tally n s.views).opens + (tally n s.views).passes ≡ 0 = ⊎_elim (λ e. omega (arith, e, hit, z, f.word_is, f.one_hot)) (λ e. omega (arith, e, hit, z, f.word_is, f.one_hot)) bit in
     let rest_is : old - old % 65536 ≡ 65536 * top 0 (o.logs n) = omega (arith, hit, z, none-open, f.word_is, f.one_hot) in
-    let y = f.body_in z in let body : Body = y.0 in
+    let y = body_in f z in let body : Body = y.0 in
     let p : Place = Moving body.bytes.items in
     let w : View = placed n p v in
     let hs : List (maybe.Option Body) = set s.homes n none in
@@ -85,9 +85,9 @@ lifts_ok returns key slots id m n old next lt quiet next_is wide alive_ s o long
             chained = f.chained;
             inside = f.inside;
             answers = f.answers;
-            body_in = λ q. absurd (omega arith);
-            body_out = λ _. gone;
-            body_far = λ q. absurd (omega arith);
+            slot = slot_of _ _ _ _ _ (λ q. absurd (omega arith))
+                (λ _. gone)
+                (λ q. absurd (omega arith));
           })
           (altered returns key s o id v n p me alive_ wide (λ bytes e. subst (Stands returns (bytes_of key n) (o.logs n)) (some_is body.bytes.items bytes e) y.2))
           (λ e h. h) (λ e h. inl h) (λ e h. h) (omega arith) (inl refl),
@@ -98,12 +98,12 @@ lifts_ok returns key slots id m n old next lt quiet next_is wide alive_ s o long
     ))
     (λ miss. (v, keeps, tt, unmoved returns key s o id v n me alive_ near, ((λ e. absurd (miss e)), λ _. refl)))
 
-sent_taken : (p : Place) → taken (sent p) ≡ taken p
+sent_taken : (p : Place) → bytes_taken (sent p) ≡ bytes_taken p
 sent_taken Here = refl
 sent_taken (Moving bytes) = refl
 sent_taken (Far bytes) = refl
 
-called_taken : (p : Place) → taken (called p) ≡ taken p
+called_taken : (p : Place) → bytes_taken (called p) ≡ bytes_taken p
 called_taken Here = refl
 called_taken (Moving bytes) = refl
 called_taken (Far bytes) = refl
@@ -114,9 +114,9 @@ pub sends_ok : (returns : Bool) (key : List (List ℕ)) (slots id : ℕ) (m : Sa
     → Allows (Kept returns key) slots id m (word_of n) (λ x. (x + 1) % 2 ^ 64) (ends_leave (step slots (word_of n) 1 0 none) m)
 sends_ok returns key slots id m n bytes body more lt carried at wide alive_ s o long me small =
     let v : View = m.0 in
-    let near : n < length key = omega (arith, o.slots) in
-    let f = o.fits n near in let few = few_open returns key s o n in
-    let k = o.knows id v me in
+    let near : n < length key = omega (arith, o.objects.slots) in
+    let f = o.objects.fits n near in let few = few_open returns key s o n in
+    let k = o.seats.knows id v me in
     let x : ℕ = slice_index s.words (word_of n) in
     let p : Place = sent (place_of v n) in
     let p_is : p ≡ Far bytes = ap sent at in
@@ -141,9 +141,9 @@ sends_ok returns key slots id m n bytes body more lt carried at wide alive_ s o 
       chained = f.chained;
       inside = f.inside;
       answers = f.answers;
-      body_in = λ q. absurd (omega (arith, f.one_out));
-      body_out = λ q. absurd (omega (arith, quiet, f.one_out));
-      body_far = λ _. (body, home);
+      slot = slot_of _ _ _ _ _ (λ q. absurd (omega (arith, f.one_out)))
+          (λ q. absurd (omega (arith, quiet, f.one_out)))
+          (λ _. (body, home));
     })
     (altered returns key s o id v n p me alive_ wide (λ b e. k.out n b (sym (sent_taken (place_of v n)) ∙ e)))
     (λ e h. h) (λ e h. inl h) (λ e h. h) (omega arith) (inl refl) in
@@ -155,9 +155,9 @@ pub calls_ok : (returns : Bool) (key : List (List ℕ)) (slots id : ℕ) (m : Sa
     → Allows (Kept returns key) slots id m (word_of n) (λ x. (x + (2 ^ 64 - 1)) % 2 ^ 64) (begins_return (step slots (word_of n) 1 0 none) m)
 calls_ok returns key slots id m n bytes lt at wide alive_ s o long me small =
     let v : View = m.0 in
-    let near : n < length key = omega (arith, o.slots) in
-    let f = o.fits n near in let few = few_open returns key s o n in
-    let k = o.knows id v me in
+    let near : n < length key = omega (arith, o.objects.slots) in
+    let f = o.objects.fits n near in let few = few_open returns key s o n in
+    let k = o.seats.knows id v me in
     let x : ℕ = slice_index s.words (word_of n) in
     let p : Place = called (place_of v n) in
     let p_is : p ≡ Moving bytes = ap called at in
@@ -165,7 +165,7 @@ calls_ok returns key slots id m n bytes lt at wide alive_ s o long me small =
     let part = term_le (has_far n) s.views id v me in
     let was : has_moving n v ≡ 0 = ap is_moving at in let was' : has_far n v ≡ 1 = ap is_far at in
     let is : has_moving n w ≡ 1 = ap is_moving (placed_here v n p wide ∙ p_is) in let is' : has_far n w ≡ 0 = ap is_far (placed_here v n p wide ∙ p_is) in
-    let y = f.body_far (omega arith) in let body : Body = y.0 in
+    let y = body_far f (omega arith) in let body : Body = y.0 in
     let hs : List (maybe.Option Body) = set s.homes n none in
     let gone : get_elem? hs n ≡ some none = set_here s.homes n none (omega arith) in
     let quiet = f.here (omega arith) in
@@ -186,9 +186,9 @@ calls_ok returns key slots id m n bytes lt at wide alive_ s o long me small =
             chained = f.chained;
             inside = f.inside;
             answers = f.answers;
-            body_in = λ q. absurd (omega (arith, f.one_out));
-            body_out = λ _. gone;
-            body_far = λ q. absurd (omega (arith, f.one_out));
+            slot = slot_of _ _ _ _ _ (λ q. absurd (omega (arith, f.one_out)))
+                (λ _. gone)
+                (λ q. absurd (omega (arith, f.one_out)));
           })
           (altered returns key s o id v n p me alive_ wide (λ b e. k.out n b (sym (called_taken (place_of v n)) ∙ e)))
           (λ e h. h) (λ e h. inl h) (λ e h. h) (omega arith) (inl refl),
@@ -210,11 +210,11 @@ pub cools_ok : (returns : Bool) (key : List (List ℕ)) (slots id : ℕ) (m : Sa
     → Allows (Kept returns key) slots id m (word_of n) (λ x. bit_and x (2 ^ 64 - 9)) (cools (step slots (word_of n) (2 ^ 64 - 9) 0 none) m)
 cools_ok returns key slots id m n lt alive_ s o long me small =
     let v : View = m.0 in
-    let near : n < length key = omega (arith, o.slots) in
-    let f = o.fits n near in let few = few_open returns key s o n in
-    let k = o.knows id v me in
+    let near : n < length key = omega (arith, o.objects.slots) in
+    let f = o.objects.fits n near in let few = few_open returns key s o n in
+    let k = o.seats.knows id v me in
     let x : ℕ = slice_index s.words (word_of n) in
-    let w : View = cooled n (nat_eq (x / 8 % 2) 1) v in
+    let w : View = with_cooling n (nat_eq (x / 8 % 2) 1) v in
     let bits = cold_mask x small in
     let hot_is : x / 8 % 2 ≡ f.hot = omega (arith, f.word_is, f.one_turn, f.one_hot, f.one_out) in
     let a₁ = total-set (has_open n) s.views id v w me in let b₁ = total-set (has_turn n) s.views id v w me in let c₁ = total-set (has_pass n) s.views id v w me in
@@ -235,13 +235,13 @@ cools_ok returns key slots id m n lt alive_ s o long me small =
             chained = f.chained;
             inside = f.inside;
             answers = f.answers;
-            body_in = λ z. f.body_in (omega arith);
-            body_out = λ z. f.body_out (omega arith);
-            body_far = λ z. f.body_far (omega arith);
+            slot = slot_of _ _ _ _ _ (λ z. body_in f (omega arith))
+                (λ z. body_out f (omega arith))
+                (λ z. body_far f (omega arith));
           })
           (same_knows returns key s o id v w n me alive_ (refl, refl, refl, refl, refl, refl, refl) refl refl k.marks (λ z. let h = k.first z in (h.1, h.2)) (λ t is. (k.turn t is).2) k.out k.opens_once)
           (λ e h. h) (λ e h. inl h) (λ e h. h) (omega arith) (inl refl),
-      (refl, ap (λ j. (cooled j (nat_eq (x / 8 % 2) 1) v, m.1)) (sym (object_home n))),
+      (refl, ap (λ j. (with_cooling j (nat_eq (x / 8 % 2) 1) v, m.1)) (sym (object_home n))),
     )
 
 -- end return: the body is back. It is as long as the opening bytes, and what was taken where the store gives back what was put
@@ -250,9 +250,9 @@ pub lands_ok : (returns : Bool) (key : List (List ℕ)) (slots id : ℕ) (m : Sa
     → Allows (Kept returns key) slots id m (word_of n) (λ x. (x + (2 ^ 64 - 1)) % 2 ^ 64) (ends_return (step slots (word_of n) 1 0 none) m)
 lands_ok returns key slots id m n bytes body more lt carried at as_long back_ wide alive_ s o long me small =
     let v : View = m.0 in
-    let near : n < length key = omega (arith, o.slots) in
-    let f = o.fits n near in let few = few_open returns key s o n in
-    let k = o.knows id v me in
+    let near : n < length key = omega (arith, o.objects.slots) in
+    let f = o.objects.fits n near in let few = few_open returns key s o n in
+    let k = o.seats.knows id v me in
     let x : ℕ = slice_index s.words (word_of n) in
     let w : View = placed n Here v in
     let hs : List (maybe.Option Body) = set s.homes n (some body) in
@@ -262,7 +262,7 @@ lands_ok returns key slots id m n bytes body more lt carried at as_long back_ wi
     let a₁ = total-set (has_open n) s.views id v w me in let b₁ = total-set (has_turn n) s.views id v w me in let c₁ = total-set (has_pass n) s.views id v w me in
     let d₁ = total-set (has_moving n) s.views id v w me in let e₁ = total-set (has_far n) s.views id v w me in
     let home : get_elem? hs n ≡ some (some body) = set_here s.homes n (some body) (omega arith) in
-    let stood = k.out n bytes (ap taken at) in
+    let stood = k.out n bytes (ap bytes_taken at) in
     let stands : Stands returns (bytes_of key n) (o.logs n) body.bytes.items = (as_long stood.0, λ r. back_ r ∙ stood.1 r) in
     let kept = moves returns key s o id v w n ((x + (2 ^ 64 - 1)) % 2 ^ 64) hs (o.logs n) me near alive_ (length-set s.homes n (some body)) (λ j ne. set_else s.homes n j (some body) ne) (alike_else v n Here) (refl, refl, refl, refl, refl, refl, refl)
     (record {
@@ -276,9 +276,9 @@ lands_ok returns key slots id m n bytes body more lt carried at as_long back_ wi
       chained = f.chained;
       inside = f.inside;
       answers = f.answers;
-      body_in = λ _. (body, home, stands);
-      body_out = λ q. absurd (let h = f.here (omega arith) in omega (arith, f.one_out));
-      body_far = λ q. absurd (omega (arith, f.one_out));
+      slot = slot_of _ _ _ _ _ (λ _. (body, home, stands))
+          (λ q. absurd (let h = f.here (omega arith) in omega (arith, f.one_out)))
+          (λ q. absurd (omega (arith, f.one_out)));
     })
     (altered returns key s o id v n Here me alive_ wide (λ b e. absurd (none_is_not b e)))
     (λ e h. h) (λ e h. inl h) (λ e h. h) (omega arith) (inl refl) in

@@ -2,14 +2,15 @@
 use Rattle.std.proofs.Common.{◌≡◌, true, false, Bool, ℕ, ◌+◌, ◌<◌, ◌≤◌, ◌≢◌, List, length, set, sym, refl, ap, ◌∙◌, subst, arith, cond, eqb, eq-eqb, ne_eqb, ◌⊎◌, inl, inr, ⊎_elim, length-set, get_or-set_other, get_or-set_same, slice_index, Some, None}
 use mathlib.Core.Logic.{dite}
 use native.Mathlib.Decide.{ℕ_discrete}
-use mathlib.Core.Option.{some, some-injective, some-ne-none}
+use mathlib.Core.Option.{some, none, some-injective, some-ne-none}
 use mathlib.Core.Option as maybe
 use lib.ListN.{get_elem?}
 use Rattle.atomic_table.specs.Table.{State}
 use Rattle.atomic_table.proofs.Lists.{at_set, set_else}
 use Rattle.shared_objects.specs.History.{Has, top}
 use Rattle.memory.specs.Objects.{bytes_of}
-use Rattle.shared_objects.specs.Rule.{total, has_turn, has_open, has_pass, has_moving, has_far, place_of, is_moving, is_far, taken, is_live, spent, HasPart, Written, PartFits, MarkFits, Stands, turns_on, word_of, Tally, tally, Fits, Knows, Kept}
+use Rattle.shared_objects.specs.Rule.{total, has_turn, has_open, has_pass, has_moving, has_far, place_of, is_moving, is_far, bytes_taken, is_live, spent, HasPart, Written, PartFits, MarkFits, Stands, turns_on, word_of, Tally, tally, SlotFits, Fits, Knows, Kept}
+use Rattle.shared_objects.specs.Rule.SlotFits.{AtHome, Lent, Idle}
 use Rattle.shared_objects.specs.declared.body.Body.{Body}
 use Rattle.shared_objects.specs.declared.view.Entry.{Entry}
 use Rattle.shared_objects.specs.declared.view.Turn.{Turn}
@@ -45,6 +46,53 @@ pub same_fits : (returns : Bool) (opening : List ℕ) (t t' : Tally) (w w' : ℕ
 same_fits returns opening t t' w w' h h' l l' p₁ p₃ p₄ p₅ f =
     subst (λ a. Fits returns opening a w' h' l') (sym p₁) (subst (λ a. Fits returns opening t a h' l') (sym p₃) (subst (λ a. Fits returns opening t w a l') (sym p₄) (subst (λ a. Fits returns opening t w h a) (sym p₅) f)))
 
+-- ---- where the body of an object is
+
+in_of : {returns : Bool} {opening : List ℕ} {t : Tally} {home : maybe.Option (maybe.Option Body)} {log : List Entry}
+    → SlotFits returns opening t home log → t.moving + t.far + t.turns ≡ 0 → (body : Body) × (home ≡ some (some body)) × Stands returns opening log body.bytes.items
+in_of (AtHome calm body at stands) z = (body, at, stands)
+in_of (Lent out at) z = absurd (omega arith)
+in_of (Idle far body at) z = absurd (omega arith)
+
+out_of : {returns : Bool} {opening : List ℕ} {t : Tally} {home : maybe.Option (maybe.Option Body)} {log : List Entry} (hot : ℕ)
+    → t.moving + t.far ≤ 1 → (0 < t.moving + t.far → t.opens + t.turns + hot ≡ 0) → SlotFits returns opening t home log → 0 < t.moving + t.turns → home ≡ some none
+out_of hot one here (AtHome calm body at stands) z = absurd (omega arith)
+out_of hot one here (Lent out at) z = at
+out_of hot one here (Idle far body at) z = absurd (let h = here (omega arith) in omega arith)
+
+far_of : {returns : Bool} {opening : List ℕ} {t : Tally} {home : maybe.Option (maybe.Option Body)} {log : List Entry} (hot : ℕ)
+    → t.moving + t.far ≤ 1 → (0 < t.moving + t.far → t.opens + t.turns + hot ≡ 0) → SlotFits returns opening t home log → 0 < t.far → (body : Body) × (home ≡ some (some body))
+far_of hot one here (AtHome calm body at stands) z = absurd (omega arith)
+far_of hot one here (Lent out at) z = absurd (let h = here (omega arith) in omega arith)
+far_of hot one here (Idle far body at) z = (body, at)
+
+-- here and with no turn held the body is at home
+pub body_in : {returns : Bool} {opening : List ℕ} {t : Tally} {word : ℕ} {home : maybe.Option (maybe.Option Body)} {log : List Entry}
+    → Fits returns opening t word home log → t.moving + t.far + t.turns ≡ 0 → (body : Body) × (home ≡ some (some body)) × Stands returns opening log body.bytes.items
+body_in f z = in_of f.slot z
+
+-- where its turn is held, or it is on its way, a seat has the slot
+pub body_out : {returns : Bool} {opening : List ℕ} {t : Tally} {word : ℕ} {home : maybe.Option (maybe.Option Body)} {log : List Entry}
+    → Fits returns opening t word home log → 0 < t.moving + t.turns → home ≡ some none
+body_out f z = out_of f.hot f.one_out f.here f.slot z
+
+-- where it is far some body is at home
+pub body_far : {returns : Bool} {opening : List ℕ} {t : Tally} {word : ℕ} {home : maybe.Option (maybe.Option Body)} {log : List Entry}
+    → Fits returns opening t word home log → 0 < t.far → (body : Body) × (home ≡ some (some body))
+body_far f z = far_of f.hot f.one_out f.here f.slot z
+
+-- one of the three
+pub slot_of : (returns : Bool) (opening : List ℕ) (t : Tally) (home : maybe.Option (maybe.Option Body)) (log : List Entry)
+    → (t.moving + t.far + t.turns ≡ 0 → (body : Body) × (home ≡ some (some body)) × Stands returns opening log body.bytes.items)
+    → (0 < t.moving + t.turns → home ≡ some none)
+    → (0 < t.far → (body : Body) × (home ≡ some (some body)))
+    → SlotFits returns opening t home log
+slot_of returns opening t home log here out far = dite (ℕ_discrete (t.moving + t.turns) 0)
+    (λ calm. dite (ℕ_discrete t.far 0)
+    (λ near. let b = here (omega arith) in AtHome (omega arith) b.0 b.1 b.2)
+    (λ away. let b = far (omega arith) in Idle (omega arith) b.0 b.1))
+    (λ busy. Lent (omega arith) (out (omega arith)))
+
 -- two views that count the same at an object
 pub record Alike (m : ℕ) (v w : View) : Type 0 where
   pub turns : has_turn m w ≡ has_turn m v
@@ -59,12 +107,12 @@ tally_set vs id v w m me a =
     λ i. record { turns = step (has_turn m) a.turns i; opens = step (has_open m) a.opens i; passes = step (has_pass m) a.passes i; moving = step (has_moving m) a.moving i; far = step (has_far m) a.far i }
 
 -- a place with bytes counts
-pub place_weighs : (p : Place) (bytes : List ℕ) → taken p ≡ Some bytes → is_moving p + is_far p ≡ 1
+pub place_weighs : (p : Place) (bytes : List ℕ) → bytes_taken p ≡ Some bytes → is_moving p + is_far p ≡ 1
 place_weighs Here bytes e = let none : None ≡ Some bytes = e in cc
 place_weighs (Moving b) bytes e = refl
 place_weighs (Far b) bytes e = refl
 
-pub out_weighs : (u : View) (n : ℕ) (bytes : List ℕ) → taken (place_of u n) ≡ Some bytes → has_moving n u + has_far n u ≡ 1
+pub out_weighs : (u : View) (n : ℕ) (bytes : List ℕ) → bytes_taken (place_of u n) ≡ Some bytes → has_moving n u + has_far n u ≡ 1
 out_weighs u n bytes e = place_weighs (place_of u n) bytes e
 
 -- a seat that holds the turn of an object
@@ -97,7 +145,7 @@ module _ (returns : Bool) (opening : List (List ℕ)) (s : St) (o : Kept returns
 
   others : ((e : Entry) → Has (o.logs n) e → Has log e) → top 0 (o.logs n) ≤ top 0 log → (log ≡ o.logs n) ⊎ (has_turn n v ≡ 1)
       → (j : ℕ) (u : View) → j ≢ id → get_elem? s.views j ≡ some u → Knows returns opening logs' j u
-  others keeps higher mine j u ne at = let k = o.knows j u at in record {
+  others keeps higher mine j u ne at = let k = o.seats.knows j u at in record {
     actor = k.actor;
     opening_is = k.opening_is;
     returns_is = k.returns_is;
@@ -110,7 +158,7 @@ module _ (returns : Bool) (opening : List (List ℕ)) (s : St) (o : Kept returns
         let eq : logs' t.object ≡ o.logs t.object = grown_here o.logs n log t.object here ∙ same ∙ ap o.logs (sym here) in
         subst (λ l. (t.stamp ≡ top 0 l) × Stands returns (bytes_of opening t.object) l t.bytes × (length u.scopes ≤ 4)) (sym eq) (k.turn t e))
         (λ (held : has_turn n v ≡ 1). let theirs : has_turn n u ≡ 1 = subst (λ m. has_turn m u ≡ 1) here (turn_here u t e) in
-        let few = (o.fits n near).one_turn in
+        let few = (o.objects.fits n near).one_turn in
         absurd (omega (arith, terms_le (has_turn n) s.views id j v u ne me at)))
         mine)
         (λ else. subst (λ l. (t.stamp ≡ top 0 l) × Stands returns (bytes_of opening t.object) l t.bytes × (length u.scopes ≤ 4)) (sym (grown_else o.logs n log t.object else)) (k.turn t e));
@@ -119,7 +167,7 @@ module _ (returns : Bool) (opening : List (List ℕ)) (s : St) (o : Kept returns
         let eq : logs' m ≡ o.logs m = grown_here o.logs n log m here ∙ same ∙ ap o.logs (sym here) in
         subst (λ l. Stands returns (bytes_of opening m) l bytes) (sym eq) (k.out m bytes e))
         (λ (held : has_turn n v ≡ 1).
-        let gone = (o.fits n near).here in
+        let gone = (o.objects.fits n near).here in
         let theirs : has_moving n u + has_far n u ≡ 1 = subst (λ i. has_moving i u + has_far i u ≡ 1) here (out_weighs u m bytes e) in
         absurd (omega (arith, gone, term_le (has_turn n) s.views id v me, term_le (has_moving n) s.views j u at, term_le (has_far n) s.views j u at)))
         mine)
@@ -176,28 +224,32 @@ module _ (returns : Bool) (opening : List (List ℕ)) (s : St) (o : Kept returns
       let living : total is_live vs' ≡ total is_live s.views = omega (arith, total-set is_live s.views id v w me, same_live) in
       record {
         logs = logs';
-        words = length-set s.words (word_of n) x ∙ o.words;
-        slots = long ∙ o.slots;
-        seats = subst (λ k. k ≤ 57) (sym long') o.seats;
-        dealer = λ j u at some-made. ⊎_elim
-            (λ (t : (j ≡ id) × (w ≡ u)). let e : u.made ≡ v.made = ap (λ (y : View). y.made) (sym t.1) ∙ made.0 in let d = o.dealer id v me (subst (λ k. 0 < k) e some-made) in (t.0 ∙ d.0, e ∙ d.1 ∙ sym long', ap (λ (y : View). y.alive) (sym t.1) ∙ made.1 ∙ d.2 ∙ sym living))
-            (λ t. let d = o.dealer j u t.1 some-made in (d.0, d.1 ∙ sym long', d.2 ∙ sym living)) (at_set s.views id j w u at);
-        nowhere = λ m far. grown_else o.logs n log m (λ same. omega (arith, same)) ∙ o.nowhere m far;
-        parts = λ j u at p has. ⊎_elim
-            (λ (t : (j ≡ id) × (w ≡ u)). fits_on keeps higher p (o.parts id v me p (subst (λ l. Has l p) (ap (λ (y : View). y.gathered) (sym t.1) ∙ made.3) has)))
-            (λ (t : (j ≢ id) × (get_elem? s.views j ≡ some u)). fits_on keeps higher p (o.parts j u t.1 p has)) (at_set s.views id j w u at);
-        apart = λ j u at a b p q hp hq same. ⊎_elim
-            (λ (t : (j ≡ id) × (w ≡ u)). let e : u.gathered ≡ v.gathered = ap (λ (y : View). y.gathered) (sym t.1) ∙ made.3 in
-            o.apart id v me a b p q (subst (λ l. get_elem? l a ≡ some p) e hp) (subst (λ l. get_elem? l b ≡ some q) e hq) same)
-            (λ (t : (j ≢ id) × (get_elem? s.views j ≡ some u)). o.apart j u t.1 a b p q hp hq same) (at_set s.views id j w u at);
-        fits = λ m lt. dite (ℕ_discrete m n)
-            (λ e. subst (λ k. Fits returns (bytes_of opening k) (tally k vs') (slice_index (set s.words (word_of n) x) (word_of k)) (get_elem? hs k) (logs' k)) (sym e)
-            (same_fits _ _ _ _ _ _ _ _ _ _ refl (get_or-set_same s.words (word_of n) x 0 (omega (arith, o.words, near))) refl (grown_here o.logs n log n refl) fits))
-            (λ ne. same_fits _ _ _ _ _ _ _ _ _ _ (tally_set s.views id v w m me (alike m ne))
-            (get_or-set_other s.words (word_of n) (word_of m) x 0 (λ q. ne (omega (arith, q)))) (homes m ne) (grown_else o.logs n log m ne) (o.fits m lt));
-        knows = λ j u at. ⊎_elim
-            (λ (t : (j ≡ id) × (w ≡ u)). subst (λ y. Knows returns opening logs' j y) t.1 (subst (λ k. Knows returns opening logs' k w) (sym t.0) knows))
-            (λ (t : (j ≢ id) × (get_elem? s.views j ≡ some u)). others keeps higher only j u t.0 t.1) (at_set s.views id j w u at);
+        objects = record {
+          words = length-set s.words (word_of n) x ∙ o.objects.words;
+          slots = long ∙ o.objects.slots;
+          fits = λ m lt. dite (ℕ_discrete m n)
+              (λ e. subst (λ k. Fits returns (bytes_of opening k) (tally k vs') (slice_index (set s.words (word_of n) x) (word_of k)) (get_elem? hs k) (logs' k)) (sym e)
+              (same_fits _ _ _ _ _ _ _ _ _ _ refl (get_or-set_same s.words (word_of n) x 0 (omega (arith, o.objects.words, near))) refl (grown_here o.logs n log n refl) fits))
+              (λ ne. same_fits _ _ _ _ _ _ _ _ _ _ (tally_set s.views id v w m me (alike m ne))
+              (get_or-set_other s.words (word_of n) (word_of m) x 0 (λ q. ne (omega (arith, q)))) (homes m ne) (grown_else o.logs n log m ne) (o.objects.fits m lt));
+          nowhere = λ m far. grown_else o.logs n log m (λ same. omega (arith, same)) ∙ o.objects.nowhere m far;
+        };
+        seats = record {
+          few = subst (λ k. k ≤ 57) (sym long') o.seats.few;
+          knows = λ j u at. ⊎_elim
+              (λ (t : (j ≡ id) × (w ≡ u)). subst (λ y. Knows returns opening logs' j y) t.1 (subst (λ k. Knows returns opening logs' k w) (sym t.0) knows))
+              (λ (t : (j ≢ id) × (get_elem? s.views j ≡ some u)). others keeps higher only j u t.0 t.1) (at_set s.views id j w u at);
+          dealer = λ j u at some-made. ⊎_elim
+              (λ (t : (j ≡ id) × (w ≡ u)). let e : u.made ≡ v.made = ap (λ (y : View). y.made) (sym t.1) ∙ made.0 in let d = o.seats.dealer id v me (subst (λ k. 0 < k) e some-made) in (t.0 ∙ d.0, e ∙ d.1 ∙ sym long', ap (λ (y : View). y.alive) (sym t.1) ∙ made.1 ∙ d.2 ∙ sym living))
+              (λ t. let d = o.seats.dealer j u t.1 some-made in (d.0, d.1 ∙ sym long', d.2 ∙ sym living)) (at_set s.views id j w u at);
+          parts = λ j u at p has. ⊎_elim
+              (λ (t : (j ≡ id) × (w ≡ u)). fits_on keeps higher p (o.seats.parts id v me p (subst (λ l. Has l p) (ap (λ (y : View). y.gathered) (sym t.1) ∙ made.3) has)))
+              (λ (t : (j ≢ id) × (get_elem? s.views j ≡ some u)). fits_on keeps higher p (o.seats.parts j u t.1 p has)) (at_set s.views id j w u at);
+          apart = λ j u at a b p q hp hq same. ⊎_elim
+              (λ (t : (j ≡ id) × (w ≡ u)). let e : u.gathered ≡ v.gathered = ap (λ (y : View). y.gathered) (sym t.1) ∙ made.3 in
+              o.seats.apart id v me a b p q (subst (λ l. get_elem? l a ≡ some p) e hp) (subst (λ l. get_elem? l b ≡ some q) e hq) same)
+              (λ (t : (j ≢ id) × (get_elem? s.views j ≡ some u)). o.seats.apart j u t.1 a b p q hp hq same) (at_set s.views id j w u at);
+        };
         whole = λ m e has. dite (ℕ_discrete m n)
             (λ here. let at : Has log e = subst (λ l. Has l e) (grown_here o.logs n log m here) has in
             ⊎_elim (λ old. let t = o.whole n e old in (t.0 ∙ sym here, stays mine made.3 e t.1))

@@ -5,7 +5,7 @@ use Rattle.std.proofs.lemmas.List.{map-set}
 use mathlib.Core.Logic.{dite}
 use native.Mathlib.Decide.{ℕ_discrete}
 use Rattle.atomic_table.specs.Table.{turned, rest}
-use Rattle.shared_objects.specs.Rule.{times, total, place_of, taken, is_moving}
+use Rattle.shared_objects.specs.Rule.{times, total, place_of, bytes_taken, is_moving}
 use Rattle.shared_objects.specs.Kinds.{placed}
 use Rattle.shared_objects.specs.Phases.{phase_of, place_in}
 use Rattle.shared_objects.specs.declared.body.Body.{Body}
@@ -83,13 +83,13 @@ numbers_rest (p ∷ ps) = refl
 
 -- ---- where an object is
 
-inside_list : (l : List Place) (n : ℕ) (bytes : List ℕ) → taken (slice_index_or l n Here) ≡ Some bytes → n < length l
+inside_list : (l : List Place) (n : ℕ) (bytes : List ℕ) → bytes_taken (slice_index_or l n Here) ≡ Some bytes → n < length l
 inside_list [] n bytes e = absurd (none_is_not bytes e)
 inside_list (x ∷ xs) zero bytes e = omega arith
 inside_list (x ∷ xs) (suc n) bytes e = omega (arith, inside_list xs n bytes e)
 
 -- an object that is out has a place in the list
-pub inside : (v : View) (n : ℕ) (bytes : List ℕ) → taken (place_of v n) ≡ Some bytes → n < length v.out
+pub inside : (v : View) (n : ℕ) (bytes : List ℕ) → bytes_taken (place_of v n) ≡ Some bytes → n < length v.out
 inside v n bytes e = inside_list v.out n bytes e
 
 -- how many objects are on their way, after one of them has another place

@@ -1,6 +1,6 @@
--- The kinds of step, by what each tells: of the step, the seat before, the number found and the seat after. There are nine:
+-- The kinds of step, by what each tells: of the step, the seat before, the word found and the seat after. There are nine:
 -- open scope, close scope, take turn, give turn, begin leave, end leave, begin return, end return and cool.
-use Rattle.std.specs.Prelude.{◌≡◌, ◌≢◌, ℕ, ◌+◌, ◌-◌, ◌^◌, Bool, true, false, nat_eq, ◌/◌, ◌%◌, List, [], ◌∷◌, ◌++◌, length, map, slice_set, ◌==◌, if◌then◌else◌, Some, None}
+use Rattle.std.specs.Prelude.{◌≡◌, ◌≢◌, ℕ, ◌+◌, ◌-◌, ◌^◌, Bool, true, nat_eq, ◌/◌, ◌%◌, List, [], ◌∷◌, ◌++◌, length, map, slice_set, ◌==◌, if◌then◌else◌, Some, None}
 use Rattle.atomic_table.specs.Table.{Me, Step, State, rest}
 use mathlib.Core.Option.{some}
 use lib.ListN.{get_elem?}
@@ -18,11 +18,28 @@ use Rattle.shared_objects.specs.declared.view.Mark.TheVariants.{Away, Busy, Worn
 use Rattle.shared_objects.specs.declared.view.Place.{Place}
 use Rattle.shared_objects.specs.declared.view.Place.TheVariants.{Here, Moving, Far}
 use Rattle.shared_objects.specs.declared.view.Part.{Part}
+use Rattle.shared_objects.specs.declared.view.Cooling.{Cooling}
 use Rattle.shared_objects.specs.declared.view.View.{View}
 
--- a seat: its view, and the bodies that it has
+-- a seat: its view, and the bodies that it has, each with its object
 abbrev pub Sat : Type 0
 Sat = Me Body View
+
+-- what a seat knows
+abbrev pub view_of : Sat → View
+view_of seat = seat.0
+
+-- the seat with another view, and the bodies that it had
+abbrev pub seat_keeping : View → Sat → Sat
+seat_keeping view seat = (view, seat.1)
+
+-- the seat with another view, and with one body more
+abbrev pub seat_taking : View → ℕ → Body → Sat → Sat
+seat_taking view object body seat = (view, (object, body) ∷ seat.1)
+
+-- the seat with another view, and without its first body
+abbrev pub seat_giving : View → Sat → Sat
+seat_giving view seat = (view, rest seat.1)
 
 -- what a step tells
 abbrev pub Play : Type 1
@@ -43,9 +60,9 @@ without n (x ∷ xs) = if x == n then xs else x ∷ without n xs
 
 -- ---- views
 
--- the first seat of a table, with each object here and cold
+-- the first seat of a table, with each object here, of which none was cooled
 abbrev pub dealer : Bool → List (List ℕ) → View
-dealer returns opening = record { made = 1; alive = 1; live = true; gathered = []; actor = 0; opening = opening; returns = returns; scopes = []; passing = []; turn = None; entries = []; marks = []; out = map (λ _. Here) opening; heat = map (λ _. false) opening }
+dealer returns opening = record { made = 1; alive = 1; live = true; gathered = []; actor = 0; opening = opening; returns = returns; scopes = []; passing = []; turn = None; entries = []; marks = []; out = map (λ _. Here) opening; coolings = [] }
 
 -- the first seat made one more
 abbrev pub dealt : View → View
@@ -53,7 +70,7 @@ dealt v = record v { made = v.made + 1; alive = v.alive + 1 }
 
 -- the seat that the first one makes next: its actor is the number of seats before it
 abbrev pub newcomer : View → View
-newcomer v = record { made = 0; alive = 0; live = true; gathered = []; actor = v.made; opening = v.opening; returns = v.returns; scopes = []; passing = []; turn = None; entries = []; marks = []; out = []; heat = [] }
+newcomer v = record { made = 0; alive = 0; live = true; gathered = []; actor = v.made; opening = v.opening; returns = v.returns; scopes = []; passing = []; turn = None; entries = []; marks = []; out = []; coolings = [] }
 
 -- what an actor did
 abbrev pub part : ℕ → List Entry → List Mark → Part
@@ -68,20 +85,20 @@ abbrev pub gathers : View → View → View
 gathers v w = record v { alive = v.alive - 1; gathered = v.gathered ++ part w.actor w.entries w.marks ∷ [] }
 
 -- the object n is open, found here
-abbrev pub opened : ℕ → View → View
-opened n v = record v { scopes = v.scopes ++ n ∷ [] }
+abbrev pub with_scope : ℕ → View → View
+with_scope n v = record v { scopes = v.scopes ++ n ∷ [] }
 
 -- it is open no more
-abbrev pub closed : ℕ → View → View
-closed n v = record v { scopes = without n v.scopes }
+abbrev pub without_scope : ℕ → View → View
+without_scope n v = record v { scopes = without n v.scopes }
 
 -- the object n is counted, found away
-abbrev pub passed : ℕ → View → View
-passed n v = record v { passing = v.passing ++ n ∷ []; marks = v.marks ++ Away n ∷ [] }
+abbrev pub with_pass : ℕ → View → View
+with_pass n v = record v { passing = v.passing ++ n ∷ []; marks = v.marks ++ Away n ∷ [] }
 
 -- it is counted no more
-abbrev pub left : ℕ → View → View
-left n v = record v { passing = without n v.passing }
+abbrev pub without_pass : ℕ → View → View
+without_pass n v = record v { passing = without n v.passing }
 
 -- the open objects are the window, in which n was noted
 abbrev pub looking : ℕ → View → View
@@ -111,9 +128,13 @@ worn_out n found v = record v { turn = None; marks = v.marks ++ Worn n found ∷
 abbrev pub placed : ℕ → Place → View → View
 placed n p v = record v { out = slice_set v.out n p }
 
--- the object n was hot, or not, when it was cooled
-abbrev pub cooled : ℕ → Bool → View → View
-cooled n hot v = record v { heat = slice_set v.heat n hot }
+-- a cooling of the object n, which was hot then, or not
+abbrev pub cooling : ℕ → Bool → Cooling
+cooling n hot = record { object = n; hot = hot }
+
+-- the object n was cooled once more, and was hot then, or not
+abbrev pub with_cooling : ℕ → Bool → View → View
+with_cooling n hot v = record v { coolings = v.coolings ++ cooling n hot ∷ [] }
 
 -- what is on its way is far
 abbrev pub sent : Place → Place
@@ -131,63 +152,72 @@ called (Far bytes) = Moving bytes
 
 -- open scope: the object is open where it was found here, else counted
 abbrev pub opens_scope : Play
-opens_scope st m found n = (found % 4 ≡ 0 → n ≡ (opened (object_at st.word) m.0, m.1)) × (found % 4 ≢ 0 → n ≡ (passed (object_at st.word) m.0, m.1))
+opens_scope st before found after = (found % 4 ≡ 0 → after ≡ seat_keeping (with_scope (object_at st.word) (view_of before)) before)
+    × (found % 4 ≢ 0 → after ≡ seat_keeping (with_pass (object_at st.word) (view_of before)) before)
 
 -- close scope, of an object that is open
 abbrev pub closes_scope : Play
-closes_scope st m found n = n ≡ (closed (object_at st.word) m.0, m.1)
+closes_scope st before found after = after ≡ seat_keeping (without_scope (object_at st.word) (view_of before)) before
 
 -- close scope, of an object that was found away
 abbrev pub leaves_pass : Play
-leaves_pass st m found n = n ≡ (left (object_at st.word) m.0, m.1)
+leaves_pass st before found after = after ≡ seat_keeping (without_pass (object_at st.word) (view_of before)) before
 
--- the seat has the turn with the body, which is as long as the opening bytes
+-- the body is as long as the opening bytes of the object
+abbrev pub IsBodyOf : ℕ → Sat → Body → Type 0
+IsBodyOf object seat body = length body.bytes.items ≡ length (bytes_of (view_of seat).opening object)
+
+-- the seat has the turn with the body
 abbrev pub Took : ℕ → ℕ → Sat → Sat → Type 0
-Took object found m n = (body : Body) × (n ≡ (holding object (found / 65536) body.bytes.items m.0, (object, body) ∷ m.1)) × (length body.bytes.items ≡ length (bytes_of m.0.opening object))
+Took object found before after = (body : Body) × (after ≡ seat_taking (holding object (found / 65536) body.bytes.items (view_of before)) object body before) × IsBodyOf object before body
 
 -- take turn: the marks of a turn and of heat are set, and the seat has the turn where nobody had it
 abbrev pub takes_turn : Play
-takes_turn st m found n = (st.first ≡ 12) × (found / 4 % 2 ≡ 0 → Took (object_at st.word) found m n) × (found / 4 % 2 ≡ 1 → n ≡ (marked (Busy (object_at st.word)) m.0, m.1))
+takes_turn st before found after = (st.first ≡ 12) × (found / 4 % 2 ≡ 0 → Took (object_at st.word) found before after)
+    × (found / 4 % 2 ≡ 1 → after ≡ seat_keeping (marked (Busy (object_at st.word)) (view_of before)) before)
 
 -- give turn, with an entry
 abbrev pub gives_turn : Entry → Play
-gives_turn e st m found n = n ≡ (recorded e m.0, rest m.1)
+gives_turn e st before found after = after ≡ seat_giving (recorded e (view_of before)) before
 
 -- give turn, without an entry: the mark says which stamp it had found
 abbrev pub gives_up_turn : Play
-gives_up_turn st m found n = (t : Turn) × (m.0.turn ≡ Some t) × (n ≡ (worn_out t.object t.stamp m.0, rest m.1))
+gives_up_turn st before found after = (t : Turn) × ((view_of before).turn ≡ Some t) × (after ≡ seat_giving (worn_out t.object t.stamp (view_of before)) before)
 
--- begin leave: the mover has the body, which is as long as the opening bytes; where another word was found nothing changed
+-- the mover has the body, and the object is on its way
+abbrev pub Lifted : ℕ → Sat → Sat → Type 0
+Lifted object before after = (body : Body) × (after ≡ seat_taking (placed object (Moving body.bytes.items) (view_of before)) object body before) × IsBodyOf object before body
+
+-- begin leave: where another word was found nothing changed
 abbrev pub begins_leave : Play
-begins_leave st m found n = (found ≡ st.first → (body : Body) × (n ≡ (placed (object_at st.word) (Moving body.bytes.items) m.0, (object_at st.word, body) ∷ m.1)) × (length body.bytes.items ≡ length (bytes_of m.0.opening (object_at st.word))))
-    × (found ≢ st.first → n ≡ m)
+begins_leave st before found after = (found ≡ st.first → Lifted (object_at st.word) before after) × (found ≢ st.first → after ≡ before)
 
 -- end leave: what was on its way is far, and its slot is at home
 abbrev pub ends_leave : Play
-ends_leave st m found n = n ≡ (placed (object_at st.word) (sent (place_of m.0 (object_at st.word))) m.0, rest m.1)
+ends_leave st before found after = after ≡ seat_giving (placed (object_at st.word) (sent (place_of (view_of before) (object_at st.word))) (view_of before)) before
 
 -- begin return: what was far is on its way, and its slot is with the mover
 abbrev pub begins_return : Play
-begins_return st m found n = (body : Body) × (n ≡ (placed (object_at st.word) (called (place_of m.0 (object_at st.word))) m.0, (object_at st.word, body) ∷ m.1))
+begins_return st before found after = (body : Body) × (after ≡ seat_taking (placed (object_at st.word) (called (place_of (view_of before) (object_at st.word))) (view_of before)) (object_at st.word) body before)
 
 -- end return: the object is here, and its slot is at home
 abbrev pub ends_return : Play
-ends_return st m found n = n ≡ (placed (object_at st.word) Here m.0, rest m.1)
+ends_return st before found after = after ≡ seat_giving (placed (object_at st.word) Here (view_of before)) before
 
 -- cool: the mark of heat is cleared, and the mover knows whether it was set
 abbrev pub cools : Play
-cools st m found n = (st.first ≡ 2 ^ 64 - 9) × (n ≡ (cooled (object_at st.word) (nat_eq (found / 8 % 2) 1) m.0, m.1))
+cools st before found after = (st.first ≡ 2 ^ 64 - 9) × (after ≡ seat_keeping (with_cooling (object_at st.word) (nat_eq (found / 8 % 2) 1) (view_of before)) before)
 
 -- ---- a look, which is no step
 
--- There was a moment at which the whole table kept the rule, this seat had this view, and the word of the object was this
--- number.
-abbrev pub Witness : View → ℕ → ℕ → Type 0
-Witness v n word = (s : State Body View) × ((id : ℕ) × Kept v.returns v.opening s × (get_elem? s.views id ≡ some v) × (slice_index s.words (word_of n) ≡ word))
+-- There was a moment at which the whole of a table that was opened so kept the rule, this seat had this view, and the word of
+-- the object was this number.
+abbrev pub Witness : Bool → List (List ℕ) → View → ℕ → ℕ → Type 0
+Witness returns opening v n word = (s : State Body View) × ((id : ℕ) × Kept returns opening s × (get_elem? s.views id ≡ some v) × (slice_index s.words (word_of n) ≡ word))
 
 -- a look changes nothing
-abbrev pub looks : Play
-looks st m found n = (n ≡ m) × Witness m.0 (object_at st.word) found
+abbrev pub looks : Bool → List (List ℕ) → Play
+looks returns opening st before found after = (after ≡ before) × Witness returns opening (view_of before) (object_at st.word) found
 
 -- an entry that none has
 abbrev pub no_entry : Entry

@@ -9,7 +9,7 @@ use Rattle.pointer_word.specs.declared.word.WordPlace.TheVariants.{Local}
 use Rattle.shared_objects.specs.History.{Has, top}
 use Rattle.shared_objects.specs.Legal.{Legal, IsOneRun, fold_of}
 use Rattle.shared_objects.specs.One.{OneList, Runs, sorted, all_entries, entries_on}
-use Rattle.shared_objects.specs.Rule.{total, has_open, has_pass, place_of, taken, word_of, Tally, tally, Written, Kept}
+use Rattle.shared_objects.specs.Rule.{total, has_open, has_pass, place_of, bytes_taken, word_of, Tally, tally, Written, Kept}
 use Rattle.shared_objects.specs.declared.body.Body.{Body}
 use Rattle.shared_objects.specs.declared.view.Entry.{Entry}
 use Rattle.shared_objects.specs.declared.view.Part.{Part}
@@ -61,7 +61,7 @@ pub record HasHistory (returns : Bool) (opening : List (List ℕ)) (s : State Bo
   pub stamps : (n : ℕ) → n < length opening → slice_index s.words (word_of n) / 65536 ≡ top 0 (entries_on n history)
   pub legal : returns ≡ true → Legal opening history
   pub here : (n : ℕ) → n < length opening → slice_index s.words (word_of n) % 8 ≡ 0 → (body : Body) × (get_elem? s.homes n ≡ some (some body)) × IsLeft returns opening history n body.bytes.items
-  pub out : (id n : ℕ) (v : View) (bytes : List ℕ) → get_elem? s.views id ≡ some v → n < length opening → taken (place_of v n) ≡ Some bytes → IsLeft returns opening history n bytes
+  pub out : (id n : ℕ) (v : View) (bytes : List ℕ) → get_elem? s.views id ≡ some v → n < length opening → bytes_taken (place_of v n) ≡ Some bytes → IsLeft returns opening history n bytes
 
 -- Between any two steps there is such a history.
 abbrev pub TablesHaveHistories : Type 0

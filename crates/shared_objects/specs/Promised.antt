@@ -39,7 +39,7 @@ has_more xs new m h = (h.0, at_longer xs (new ∷ []) h.0 m h.1)
 -- what an access is answered is as memories promise
 seat_answers : (v : View) (before n : ℕ) (op : Op) (r : Reach) (w : View) (stamp : ℕ) → Touches v before n op r w stamp
     → Promises (length (bytes_of v.opening n)) op r ((found : ℕ) × Has w.marks (marks.Worn n found))
-seat_answers v before n op (Done x) w stamp h = let b = h.1 in (h.0, (b.0, b.1, number_is x (answer op b.0) b.2))
+seat_answers v before n op (Done x) w stamp h = (h.inside, (h.bytes, h.long, number_is x (answer op h.bytes) h.given_is))
 seat_answers v before n op Away w stamp h = h.0
 seat_answers v before n op Busy w stamp h = h.0
 seat_answers v before n op Outside w stamp h = h.0
@@ -48,8 +48,8 @@ seat_answers v before n op Worn w stamp h = let t = h.2 in (h.0, (t.0, subst (λ
 -- what it adds to the seat's own entries; lengths and marks stay
 seat_adds : (v : View) (before n : ℕ) (op : Op) (r : Reach) (w : View) (stamp : ℕ) → Touches v before n op r w stamp
     → (map own_entry w.entries ≡ map own_entry v.entries ++ entries_added n op r) × (w.opening ≡ v.opening) × ((m : Mark) → Has v.marks m → Has w.marks m)
-seat_adds v before n op (Done x) w stamp h = let t = h.2 in let e : Entry = entry v.actor stamp t.0 n (Accesses op) (Number x) in
-    (ap (λ (u : View). map own_entry u.entries) t.3 ∙ map_own v.entries (e ∷ []), ap (λ (u : View). u.opening) t.3, λ m has. subst (λ (u : View). Has u.marks m) (sym t.3) has)
+seat_adds v before n op (Done x) w stamp h = let is = h.view_is in let e : Entry = entry v.actor stamp h.found n (Accesses op) (Number x) in
+    (ap (λ (u : View). map own_entry u.entries) is ∙ map_own v.entries (e ∷ []), ap (λ (u : View). u.opening) is, λ m has. subst (λ (u : View). Has u.marks m) (sym is) has)
 seat_adds v before n op Away w stamp h = let is = h.2 in
     (ap (λ (u : View). map own_entry u.entries) is ∙ sym (append_none (map own_entry v.entries)), ap (λ (u : View). u.opening) is, λ m has. subst (λ (u : View). Has u.marks m) (sym is) (has_more v.marks (marks.Away n) m has))
 seat_adds v before n op Busy w stamp h = let is = h.2 in

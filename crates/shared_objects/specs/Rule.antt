@@ -67,10 +67,10 @@ is_far (Moving bytes) = 0
 is_far (Far bytes) = 1
 
 -- the bytes that were taken
-abbrev pub taken : Place → Option (List ℕ)
-taken Here = None
-taken (Moving bytes) = Some bytes
-taken (Far bytes) = Some bytes
+abbrev pub bytes_taken : Place → Option (List ℕ)
+bytes_taken Here = None
+bytes_taken (Moving bytes) = Some bytes
+bytes_taken (Far bytes) = Some bytes
 
 -- 1 where the seat has the object n on its way
 abbrev pub has_moving : ℕ → View → ℕ
@@ -86,7 +86,7 @@ is_live v = cond v.live 1 0
 
 -- a seat that was taken in
 abbrev pub spent : View
-spent = record { made = 0; alive = 0; live = false; gathered = []; actor = 0; opening = []; returns = false; scopes = []; passing = []; turn = None; entries = []; marks = []; out = []; heat = [] }
+spent = record { made = 0; alive = 0; live = false; gathered = []; actor = 0; opening = []; returns = false; scopes = []; passing = []; turn = None; entries = []; marks = []; out = []; coolings = [] }
 
 -- how many seats have the turn of an object, have it open, pass by, have it on its way, and have it far
 pub record Tally : Type 0 where
@@ -118,6 +118,15 @@ Stands returns opening log bytes = (length bytes ≡ length opening) × (returns
 abbrev pub word_of : ℕ → ℕ
 word_of n = n * 16
 
+-- Where the body of an object is: its opening bytes, what all seats have of it, its slot, and its entries.
+pub data SlotFits (returns : Bool) (opening : List ℕ) (t : Tally) (home : maybe.Option (maybe.Option Body)) (log : List Entry) : Type 0 where
+  -- the object is here with no turn held: the body is at home
+  AtHome : t.moving + t.far + t.turns ≡ 0 → (body : Body) → home ≡ some (some body) → Stands returns opening log body.bytes.items → SlotFits returns opening t home log
+  -- its turn is held, or it is on its way: a seat has the slot
+  Lent : 0 < t.moving + t.turns → home ≡ some none → SlotFits returns opening t home log
+  -- it is far: some body is at home, which stands for nothing
+  Idle : 0 < t.far → (body : Body) → home ≡ some (some body) → SlotFits returns opening t home log
+
 -- One object: its opening bytes, what all seats have of it, its word, its slot, and its entries.
 pub record Fits (returns : Bool) (opening : List ℕ) (t : Tally) (word : ℕ) (home : maybe.Option (maybe.Option Body)) (log : List Entry) : Type 0 where
   -- 1 where it was used since it was cooled last
@@ -132,12 +141,7 @@ pub record Fits (returns : Bool) (opening : List ℕ) (t : Tally) (word : ℕ) (
   pub chained : Chained 0 log
   pub inside : AllInside (length opening) log
   pub answers : returns ≡ true → Answers opening log
-  -- here and with no turn held the body is at home
-  pub body_in : t.moving + t.far + t.turns ≡ 0 → (body : Body) × (home ≡ some (some body)) × Stands returns opening log body.bytes.items
-  -- where its turn is held, or it is on its way, a seat has the slot
-  pub body_out : 0 < t.moving + t.turns → home ≡ some none
-  -- where it is far some body is at home, which stands for nothing
-  pub body_far : 0 < t.far → (body : Body) × (home ≡ some (some body))
+  pub slot : SlotFits returns opening t home log
 
 -- The turn that a seat holds has the latest stamp and bytes, and at most four scopes are open meanwhile.
 abbrev pub TurnFits : Bool → List (List ℕ) → (ℕ → List Entry) → List ℕ → Turn → Type 0
@@ -161,7 +165,7 @@ pub record Knows (returns : Bool) (opening : List (List ℕ)) (logs : ℕ → Li
   pub alone : id ≢ 0 → v.gathered ≡ []
   pub opens_once : (n : ℕ) → has_open n v + has_pass n v ≤ 1
   pub turn : (t : Turn) → v.turn ≡ Some t → TurnFits returns opening logs v.scopes t
-  pub out : (n : ℕ) (bytes : List ℕ) → taken (place_of v n) ≡ Some bytes → Stands returns (bytes_of opening n) (logs n) bytes
+  pub out : (n : ℕ) (bytes : List ℕ) → bytes_taken (place_of v n) ≡ Some bytes → Stands returns (bytes_of opening n) (logs n) bytes
   pub entries : (e : Entry) → Has v.entries e → (e.actor ≡ id) × Has (logs e.object) e
   pub marks : (m : Mark) → Has v.marks m → MarkFits logs m
   pub rises : Rises 0 v.entries
@@ -173,21 +177,30 @@ pub record PartFits (logs : ℕ → List Entry) (views : List View) (p : Part) :
   pub marks : (m : Mark) → Has p.marks m → MarkFits logs m
   pub gone : get_elem? views p.actor ≡ some spent
 
+-- The objects: each has its word, its slot and its entries.
+pub record ObjectsFit (returns : Bool) (opening : List (List ℕ)) (s : State Body View) (logs : ℕ → List Entry) : Type 0 where
+  pub words : length s.words ≡ word_of (length opening)
+  pub slots : length s.homes ≡ length opening
+  pub fits : (n : ℕ) → n < length opening → Fits returns (bytes_of opening n) (tally n s.views) (slice_index s.words (word_of n)) (get_elem? s.homes n) (logs n)
+  -- there are entries of the objects alone
+  pub nowhere : (n : ℕ) → length opening ≤ n → logs n ≡ []
+
+-- The seats: each knows what it has done, and the first made the others and takes them in.
+pub record SeatsFit (returns : Bool) (opening : List (List ℕ)) (s : State Body View) (logs : ℕ → List Entry) : Type 0 where
+  pub few : length s.views ≤ 57
+  pub knows : (id : ℕ) (v : View) → get_elem? s.views id ≡ some v → Knows returns opening logs id v
+  -- the first seat made the others
+  pub dealer : (id : ℕ) (v : View) → get_elem? s.views id ≡ some v → 0 < v.made → (id ≡ 0) × (v.made ≡ length s.views) × (v.alive ≡ total is_live s.views)
+  -- what it has taken in
+  pub parts : (id : ℕ) (v : View) → get_elem? s.views id ≡ some v → (p : Part) → Has v.gathered p → PartFits logs s.views p
+  -- no two parts are of one actor
+  pub apart : (id : ℕ) (v : View) → get_elem? s.views id ≡ some v → (j k : ℕ) (p q : Part) → get_elem? v.gathered j ≡ some p → get_elem? v.gathered k ≡ some q → p.actor ≡ q.actor → j ≡ k
+
 -- The whole table.
 pub record Kept (returns : Bool) (opening : List (List ℕ)) (s : State Body View) : Type 0 where
   -- the entries of each object, by rising stamps
   pub logs : ℕ → List Entry
-  pub words : length s.words ≡ word_of (length opening)
-  pub slots : length s.homes ≡ length opening
-  pub seats : length s.views ≤ 57
-  -- the first seat made the others
-  pub dealer : (id : ℕ) (v : View) → get_elem? s.views id ≡ some v → 0 < v.made → (id ≡ 0) × (v.made ≡ length s.views) × (v.alive ≡ total is_live s.views)
-  pub parts : (id : ℕ) (v : View) → get_elem? s.views id ≡ some v → (p : Part) → Has v.gathered p → PartFits logs s.views p
-  -- no two parts are of one actor
-  pub apart : (id : ℕ) (v : View) → get_elem? s.views id ≡ some v → (j k : ℕ) (p q : Part) → get_elem? v.gathered j ≡ some p → get_elem? v.gathered k ≡ some q → p.actor ≡ q.actor → j ≡ k
-  -- there are entries of the objects alone
-  pub nowhere : (n : ℕ) → length opening ≤ n → logs n ≡ []
-  pub fits : (n : ℕ) → n < length opening → Fits returns (bytes_of opening n) (tally n s.views) (slice_index s.words (word_of n)) (get_elem? s.homes n) (logs n)
-  pub knows : (id : ℕ) (v : View) → get_elem? s.views id ≡ some v → Knows returns opening logs id v
-  -- and they are entries of the seats
+  pub objects : ObjectsFit returns opening s logs
+  pub seats : SeatsFit returns opening s logs
+  -- they are entries of the seats
   pub whole : (n : ℕ) (e : Entry) → Has (logs n) e → (e.object ≡ n) × ((id : ℕ) × (v : View) × (get_elem? s.views id ≡ some v) × Written v e)

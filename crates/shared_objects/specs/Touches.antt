@@ -21,11 +21,19 @@ use Rattle.shared_objects.specs.declared.touching.Fetched.TheVariants as fetched
 abbrev pub IsInside : View → ℕ → Deed → Type 0
 IsInside v n deed = EndsInside deed (length (bytes_of v.opening n))
 
--- It is done: given what the deed gives on some bytes of the object's length, with one entry more, of this deed and this
--- answer, stamped one above the greater of the seat's stamp and the one that its turn found.
-abbrev pub Does : View → ℕ → ℕ → Deed → Given → View → ℕ → Type 0
-Does v before n deed given w stamp = IsInside v n deed × ((bytes : List ℕ) × (length bytes ≡ length (bytes_of v.opening n)) × (given ≡ given_by deed bytes))
-    × ((found : ℕ) × (stamp ≡ max before found + 1) × (stamp < 2 ^ 48) × (w ≡ recorded (entry v.actor stamp found n deed given) (looking n v)))
+-- It is done, with one entry more.
+pub record Does (v : View) (before n : ℕ) (deed : Deed) (given : Given) (w : View) (stamp : ℕ) : Type 0 where
+  pub inside : IsInside v n deed
+  -- it was given what the deed gives on these bytes, which are as long as the object
+  pub bytes : List ℕ
+  pub long : length bytes ≡ length (bytes_of v.opening n)
+  pub given_is : given ≡ given_by deed bytes
+  -- the stamp is one above the greater of the seat's and the one that its turn found
+  pub found : ℕ
+  pub stamp_is : stamp ≡ max before found + 1
+  pub below : stamp < 2 ^ 48
+  -- the entry is of this deed and this answer
+  pub view_is : w ≡ recorded (entry v.actor stamp found n deed given) (looking n v)
 
 -- The object was found away.
 abbrev pub FindsAway : View → ℕ → ℕ → Deed → View → ℕ → Type 0
@@ -39,7 +47,8 @@ FindsBusy v before n deed w stamp = IsInside v n deed × (stamp ≡ before) × (
 abbrev pub FindsWorn : View → ℕ → ℕ → Deed → View → ℕ → Type 0
 FindsWorn v before n deed w stamp = IsInside v n deed × (stamp ≡ before) × ((found : ℕ) × (2 ^ 48 ≤ max before found + 1) × (w ≡ worn_out n found (looking n v)))
 
--- It isn't inside, and nothing changed.
+-- It isn't inside, and nothing changed. No step is made; this can't be said here, since steps that undo one another, as a scope
+-- that is opened and closed again, leave the same view.
 abbrev pub FindsOutside : View → ℕ → ℕ → Deed → View → ℕ → Type 0
 FindsOutside v before n deed w stamp = (IsInside v n deed → ⊥) × (stamp ≡ before) × (w ≡ v)
 
@@ -52,17 +61,17 @@ Touches v before n op reach.Outside w stamp = FindsOutside v before n (Accesses 
 Touches v before n op reach.Worn w stamp = FindsWorn v before n (Accesses op) w stamp
 
 -- a range that is written; its answer is 0
-abbrev pub Puts : View → ℕ → ℕ → ℕ → List ℕ → Reach → View → ℕ → Type 0
-Puts v before n offset bytes (reach.Done x) w stamp = (x ≡ 0) × Does v before n (Writes offset bytes) Nothing w stamp
-Puts v before n offset bytes reach.Away w stamp = FindsAway v before n (Writes offset bytes) w stamp
-Puts v before n offset bytes reach.Busy w stamp = FindsBusy v before n (Writes offset bytes) w stamp
-Puts v before n offset bytes reach.Outside w stamp = FindsOutside v before n (Writes offset bytes) w stamp
-Puts v before n offset bytes reach.Worn w stamp = FindsWorn v before n (Writes offset bytes) w stamp
+abbrev pub PutsRange : View → ℕ → ℕ → ℕ → List ℕ → Reach → View → ℕ → Type 0
+PutsRange v before n offset bytes (reach.Done x) w stamp = (x ≡ 0) × Does v before n (Writes offset bytes) Nothing w stamp
+PutsRange v before n offset bytes reach.Away w stamp = FindsAway v before n (Writes offset bytes) w stamp
+PutsRange v before n offset bytes reach.Busy w stamp = FindsBusy v before n (Writes offset bytes) w stamp
+PutsRange v before n offset bytes reach.Outside w stamp = FindsOutside v before n (Writes offset bytes) w stamp
+PutsRange v before n offset bytes reach.Worn w stamp = FindsWorn v before n (Writes offset bytes) w stamp
 
 -- a range that is read
-abbrev pub Gets : View → ℕ → ℕ → ℕ → ℕ → Fetched → View → ℕ → Type 0
-Gets v before n offset count (fetched.Done bytes) w stamp = Does v before n (Reads offset count) (Bytes bytes.items) w stamp
-Gets v before n offset count fetched.Away w stamp = FindsAway v before n (Reads offset count) w stamp
-Gets v before n offset count fetched.Busy w stamp = FindsBusy v before n (Reads offset count) w stamp
-Gets v before n offset count fetched.Outside w stamp = FindsOutside v before n (Reads offset count) w stamp
-Gets v before n offset count fetched.Worn w stamp = FindsWorn v before n (Reads offset count) w stamp
+abbrev pub GetsRange : View → ℕ → ℕ → ℕ → ℕ → Fetched → View → ℕ → Type 0
+GetsRange v before n offset count (fetched.Done bytes) w stamp = Does v before n (Reads offset count) (Bytes bytes.items) w stamp
+GetsRange v before n offset count fetched.Away w stamp = FindsAway v before n (Reads offset count) w stamp
+GetsRange v before n offset count fetched.Busy w stamp = FindsBusy v before n (Reads offset count) w stamp
+GetsRange v before n offset count fetched.Outside w stamp = FindsOutside v before n (Reads offset count) w stamp
+GetsRange v before n offset count fetched.Worn w stamp = FindsWorn v before n (Reads offset count) w stamp

@@ -133,9 +133,26 @@ impl Play<Body, View> for Cools {
     ghost then = { cools };
 }
 
-/// A look, which changes nothing.
-pub struct Looks;
+/// What a table was told when it was opened, which a call picks.
+pub trait Opened {
+    ghost use Rattle.std.specs.Prelude.{Bool, List, ℕ};
 
-impl Play<Body, View> for Looks {
-    ghost then = { looks };
+    ghost returns: { Bool };
+
+    ghost opening: { List (List ℕ) };
+}
+
+impl Opened for Brand {
+    ghost use Rattle.std.specs.Prelude.{false, []};
+
+    ghost returns = { false };
+
+    ghost opening = { [] };
+}
+
+/// A look, which changes nothing.
+pub struct Looks<T>(PhantomData<T>);
+
+impl<T: Opened> Play<Body, View> for Looks<T> {
+    ghost then = { looks T.returns T.opening };
 }

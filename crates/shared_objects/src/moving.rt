@@ -1,10 +1,10 @@
 //! Bodies leave and come back. The slots of the objects that are on their way are with the mover's seat.
 ghost use Rattle.std.specs.Prelude.{◌≡◌, ◌≢◌, ◌⊎◌, ◌+◌, ◌-◌, ◌%◌, IfSome, ℕ, ◌<◌, ◌≤◌, true, nat_eq, List, ◌∷◌, length, map, None, Some, MatchResult, MatchOption, vec_capacity};
 ghost use Rattle.memory.specs.Objects.{bytes_of};
-ghost use Rattle.shared_objects.specs.Kinds.{placed, sent, called, cooled};
+ghost use Rattle.shared_objects.specs.Kinds.{placed, sent, called, with_cooling};
 ghost use Rattle.shared_objects.specs.Leaves.{Leaves};
 ghost use Rattle.shared_objects.specs.Phases.{phase_of, IsObject};
-ghost use Rattle.shared_objects.specs.Rule.{times, place_of, taken};
+ghost use Rattle.shared_objects.specs.Rule.{times, place_of, bytes_taken};
 ghost use Rattle.shared_objects.specs.Tables.{IsMoverOf};
 ghost use Rattle.shared_objects.specs.declared.view.Place.TheVariants.{Here};
 
@@ -143,8 +143,8 @@ impl SharedTable {
     fn land(&self, mover: &mut MoverSeat, n: usize, bytes: Vec<u8>)
         requires mover { IsMoverOf self.now mover.old }
         requires phase { phase_of (place_of mover.old.seat.me.0 n) ≡ Phase.Moving }
-        requires long { (old : List ℕ) → taken (place_of mover.old.seat.me.0 n) ≡ Some old → length old ≡ length (bytes_of mover.old.seat.me.0.opening n) → length bytes.items ≡ length (bytes_of mover.old.seat.me.0.opening n) }
-        requires body { mover.old.seat.me.0.returns ≡ true → taken (place_of mover.old.seat.me.0 n) ≡ Some bytes.items }
+        requires long { (old : List ℕ) → bytes_taken (place_of mover.old.seat.me.0 n) ≡ Some old → length old ≡ length (bytes_of mover.old.seat.me.0.opening n) → length bytes.items ≡ length (bytes_of mover.old.seat.me.0.opening n) }
+        requires body { mover.old.seat.me.0.returns ≡ true → bytes_taken (place_of mover.old.seat.me.0 n) ≡ Some bytes.items }
         ensures mover { IsMoverOf self.now mover.new }
         ensures view { mover.new.seat.me.0 ≡ placed n Here mover.old.seat.me.0 }
     {
@@ -165,7 +165,7 @@ impl SharedTable {
     pub fn undo_leave(&self, mover: &mut MoverSeat, number: u32, bytes: Vec<u8>)
         requires mover { IsMoverOf self.now mover.old }
         requires phase { phase_of (place_of mover.old.seat.me.0 number) ≡ Phase.Moving }
-        requires body { taken (place_of mover.old.seat.me.0 number) ≡ Some bytes.items }
+        requires body { bytes_taken (place_of mover.old.seat.me.0 number) ≡ Some bytes.items }
         ensures mover { IsMoverOf self.now mover.new }
         ensures view { mover.new.seat.me.0 ≡ placed number Here mover.old.seat.me.0 }
     {
@@ -183,7 +183,7 @@ impl SharedTable {
     ) -> Result<(), Vec<u8>>
         requires mover { IsMoverOf self.now mover.old }
         requires phase { phase_of (place_of mover.old.seat.me.0 number) ≡ Phase.Moving }
-        requires body { self.now.table.shared.key.returns ≡ true → taken (place_of mover.old.seat.me.0 number) ≡ Some bytes.items }
+        requires body { self.now.table.shared.key.returns ≡ true → bytes_taken (place_of mover.old.seat.me.0 number) ≡ Some bytes.items }
         ensures mover { IsMoverOf self.now mover.new }
         ensures view { MatchResult result
             (λ _. (length bytes.items ≡ length (bytes_of mover.old.seat.me.0.opening number)) × (mover.new.seat.me.0 ≡ placed number Here mover.old.seat.me.0))
@@ -203,7 +203,7 @@ impl SharedTable {
         ensures mover { IsMoverOf self.now mover.new }
         ensures cool { MatchOption result
             ((IsObject mover.old.seat.me.0.opening number → ⊥) × (mover.new.seat.me.0 ≡ mover.old.seat.me.0))
-            (λ hot. IsObject mover.old.seat.me.0.opening number × (mover.new.seat.me.0 ≡ cooled number hot mover.old.seat.me.0)) }
+            (λ hot. IsObject mover.old.seat.me.0.opening number × (mover.new.seat.me.0 ≡ with_cooling number hot mover.old.seat.me.0)) }
     {
         if self.length(number as u64) == 0 {
             return None;

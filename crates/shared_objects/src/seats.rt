@@ -63,7 +63,7 @@ pub struct MoverSeat {
     pub(crate) order: Vec<usize>,
     pub ghost makes: { Makes seat.me.0 },
     pub ghost phased: { phases.items ≡ map phase_of seat.me.0.out },
-    pub ghost wide: { (length seat.me.0.out ≡ length seat.me.0.opening) × (length seat.me.0.heat ≡ length seat.me.0.opening) },
+    pub ghost wide: { length seat.me.0.out ≡ length seat.me.0.opening },
     pub ghost ordered: { order.items ≡ map (λ p. p.0) seat.me.1 },
     pub ghost held: { (n : ℕ) → is_moving (place_of seat.me.0 n) ≡ 1 → 0 < times n order.items } by { Prim.hlevel props },
     pub ghost counted: { length order.items ≡ total is_moving seat.me.0.out },

@@ -4,7 +4,7 @@ ghost use Rattle.memory.specs.Objects.{bytes_of};
 ghost use Rattle.memory.specs.Deeds.{EndsInside, given_by, left_by};
 ghost use Rattle.shared_objects.specs.History.{top, entry};
 ghost use Rattle.shared_objects.specs.Opening.{opening_bytes};
-ghost use Rattle.shared_objects.specs.Kinds.{turn, opened, closed, passed, left, marked, holding, recorded, worn_out};
+ghost use Rattle.shared_objects.specs.Kinds.{turn, with_scope, without_scope, with_pass, without_pass, marked, holding, recorded, worn_out};
 ghost use Rattle.shared_objects.specs.Rule.{has_open, has_pass, word_of};
 ghost use Rattle.shared_objects.specs.Resting.{HoldsBody};
 ghost use Rattle.shared_objects.specs.declared.view.Mark.TheVariants.{Busy};
@@ -44,7 +44,7 @@ impl SharedTable {
         requires shut { has_open n seat.old.me.0 + has_pass n seat.old.me.0 ≡ 0 }
         requires free { seat.old.me.0.turn ≡ None }
         ensures id { seat.new.table_id ≡ seat.old.table_id }
-        ensures me { MatchBool result (seat.new.me ≡ (opened n seat.old.me.0, seat.old.me.1)) (seat.new.me ≡ (passed n seat.old.me.0, seat.old.me.1)) }
+        ensures me { MatchBool result (seat.new.me ≡ (with_scope n seat.old.me.0, seat.old.me.1)) (seat.new.me ≡ (with_pass n seat.old.me.0, seat.old.me.1)) }
     {
         let found = self
             .table
@@ -62,7 +62,7 @@ impl SharedTable {
         requires open { has_open n seat.old.me.0 ≡ 1 }
         requires free { seat.old.me.0.turn ≡ None }
         ensures id { seat.new.table_id ≡ seat.old.table_id }
-        ensures me { seat.new.me ≡ (closed n seat.old.me.0, seat.old.me.1) }
+        ensures me { seat.new.me ≡ (without_scope n seat.old.me.0, seat.old.me.1) }
     {
         self.table
             .shared
@@ -77,7 +77,7 @@ impl SharedTable {
         requires object { n < length self.now.lengths.items }
         requires counted { has_pass n seat.old.me.0 ≡ 1 }
         ensures id { seat.new.table_id ≡ seat.old.table_id }
-        ensures me { seat.new.me ≡ (left n seat.old.me.0, seat.old.me.1) }
+        ensures me { seat.new.me ≡ (without_pass n seat.old.me.0, seat.old.me.1) }
     {
         self.table
             .shared

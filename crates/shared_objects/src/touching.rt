@@ -13,11 +13,11 @@ ghost use Rattle.shared_objects.specs.Kinds.{turn, marked, looking, holding, rec
 ghost use Rattle.shared_objects.specs.Phases.{IsObject};
 ghost use Rattle.shared_objects.specs.Opening.{opening_bytes};
 ghost use Rattle.shared_objects.specs.Resting.{Rests, AllBelow, HoldsBody};
-ghost use Rattle.shared_objects.specs.Tables.{IsActorOf, table_opening};
-ghost use Rattle.shared_objects.specs.Touches.{Touches, Puts, Gets};
+ghost use Rattle.shared_objects.specs.Tables.{IsActorOf, table_opening, table_returns};
+ghost use Rattle.shared_objects.specs.Touches.{Touches, PutsRange, GetsRange};
 ghost use Rattle.shared_objects.specs.declared.view.Mark.TheVariants.{Away};
 
-use crate::kinds::{Looks, Told};
+use crate::kinds::{Looks, Opened, Told};
 use crate::seats::{ActorSeat, Seat};
 use crate::table::{SharedTable, WORDS_APART};
 use memory::{Op, Reach};
@@ -248,7 +248,7 @@ impl SharedTable {
     pub fn put(&self, actor: &mut ActorSeat, number: u32, offset: u32, bytes: &[u8]) -> Reach
         requires { IsActorOf self.now actor.old }
         ensures actor { IsActorOf self.now actor.new }
-        ensures put { Puts actor.old.seat.me.0 actor.old.stamp number offset bytes.now result actor.new.seat.me.0 actor.new.stamp }
+        ensures put { PutsRange actor.old.seat.me.0 actor.old.stamp number offset bytes.now result actor.new.seat.me.0 actor.new.stamp }
     {
         if !self.has_range(number, offset, bytes.len()) {
             return Reach::Outside;
@@ -277,7 +277,7 @@ impl SharedTable {
     ) -> Result<Fetched, AllocError>
         requires { IsActorOf self.now actor.old }
         ensures actor { IsActorOf self.now actor.new }
-        ensures get { IfOk result (λ f. Gets actor.old.seat.me.0 actor.old.stamp number offset count f actor.new.seat.me.0 actor.new.stamp) }
+        ensures get { IfOk result (λ f. GetsRange actor.old.seat.me.0 actor.old.stamp number offset count f actor.new.seat.me.0 actor.new.stamp) }
         ensures refused { OnErr result ((actor.new ≡ actor.old) × EndsInside (Reads offset count) (length (bytes_of actor.old.seat.me.0.opening number))) }
     {
         if !self.has_range(number, offset, count as usize) {
@@ -300,16 +300,28 @@ impl SharedTable {
 
     /// The object's word, as a load finds it: at that moment the whole table kept the rule, this seat had this view, and the
     /// word was this number. It changes nothing.
-    #[tactic(auto, using(crate::proofs::Logs::object_home))]
     pub fn look(&self, actor: &mut ActorSeat, number: u32) -> u64
         requires actor { IsActorOf self.now actor.old }
         requires object { IsObject actor.old.seat.me.0.opening number }
         ensures actor { IsActorOf self.now actor.new }
         ensures same { (actor.new.seat.me.0 ≡ actor.old.seat.me.0) × (actor.new.stamp ≡ actor.old.stamp) }
-        ensures rule { Witness actor.old.seat.me.0 number result }
+        ensures rule { Witness (table_returns self.now) (table_opening self.now) actor.old.seat.me.0 number result }
+    {
+        self.look_at::<Brand>(actor, number)
+    }
+
+    /// The same, where the caller picks the name of what the table was told.
+    #[tactic(auto, using(crate::proofs::Logs::object_home))]
+    fn look_at<T: Opened>(&self, actor: &mut ActorSeat, number: u32) -> u64
+        requires actor { IsActorOf self.now actor.old }
+        requires object { IsObject actor.old.seat.me.0.opening number }
+        requires table { (T.returns ≡ table_returns self.now) × (T.opening ≡ table_opening self.now) }
+        ensures actor { IsActorOf self.now actor.new }
+        ensures same { (actor.new.seat.me.0 ≡ actor.old.seat.me.0) × (actor.new.stamp ≡ actor.old.stamp) }
+        ensures rule { Witness (table_returns self.now) (table_opening self.now) actor.old.seat.me.0 number result }
     {
         self.table
             .shared
-            .load::<Looks>(&mut actor.seat, number as usize * WORDS_APART)
+            .load::<Looks<T>>(&mut actor.seat, number as usize * WORDS_APART)
     }
 }

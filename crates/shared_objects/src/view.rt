@@ -48,6 +48,12 @@ pub enum Place {
     Far(LinkedList<u8>),
 }
 
+/// One cooling of an object, and whether it was hot then.
+pub struct Cooling {
+    pub object: usize,
+    pub hot: bool,
+}
+
 /// What one seat knows.
 pub struct View {
     /// How many seats there are, where this seat made the others; else 0.
@@ -71,6 +77,6 @@ pub struct View {
     pub marks: LinkedList<Mark>,
     /// By number where each object is, at the seat of the mover; none at any other.
     pub out: LinkedList<Place>,
-    /// By number whether the object was hot when it was cooled last, at the seat of the mover; none at any other.
-    pub heat: LinkedList<bool>,
+    /// What each cooling found, in order, at the seat of the mover; none at any other.
+    pub coolings: LinkedList<Cooling>,
 }

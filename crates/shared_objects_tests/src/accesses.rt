@@ -84,6 +84,21 @@ fn outside_is_no_step(rt: HostRuntime) -> Result<(), Fail> {
 }
 
 #[test]
+fn a_look_finds_stamp_scopes_and_heat(rt: HostRuntime) -> Result<(), Fail> {
+    let mut stage: Stage<OwnStore> = Stage::open(rt.alloc(), 2, 2)?;
+    same!(rt; stage.look(1, 1), Some(0));
+    same!(rt; stage.touch(0, 1, &LOAD), Reach::Done(0));
+    same!(rt; stage.look(1, 1), Some(65_536 + 256 + 8));
+    stage.close_scopes(0);
+    same!(rt; stage.look(1, 1), Some(65_536 + 8));
+    same!(rt; stage.cool(1), Some(true));
+    same!(rt; stage.look(1, 1), Some(65_536));
+    same!(rt; stage.look(1, 2), Some(0));
+    same!(rt; stage.look(1, 3), None);
+    Ok(())
+}
+
+#[test]
 fn a_touch_heats(rt: HostRuntime) -> Result<(), Fail> {
     let mut stage: Stage<OwnStore> = Stage::open(rt.alloc(), 2, 1)?;
     same!(rt; stage.touch(0, 1, &LOAD), Reach::Done(0));

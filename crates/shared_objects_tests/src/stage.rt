@@ -135,6 +135,18 @@ impl<F: FarStore> Stage<F> {
             .get(&mut self.actors[who], number, offset, count)
     }
 
+    /// The word of an object, as an actor finds it.
+    pub fn look(&mut self, who: usize, number: u32) -> Option<u64>
+        requires { who < length self.old.actors.items }
+        ensures { length self.new.actors.items ≡ length self.old.actors.items }
+    {
+        let table = self.shared.table();
+        if table.length(number as u64) == 0 {
+            return None;
+        }
+        Some(table.look(&mut self.actors[who], number))
+    }
+
     pub fn close_scopes(&mut self, who: usize)
         requires { who < length self.old.actors.items }
         ensures { length self.new.actors.items ≡ length self.old.actors.items }

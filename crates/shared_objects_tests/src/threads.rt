@@ -81,6 +81,74 @@ fn two_threads_add(rt: HostRuntime) -> Result<(), Fail> {
     Ok(())
 }
 
+/// Looks at object 1 again and again: the seat, and whether each word was one that the object may have, with a stamp that never
+/// falls.
+fn look_all(table: &SharedTable, mut actor: ActorSeat) -> (ActorSeat, bool)
+    requires { IsActorOf table.now actor }
+    ensures { IsActorOf table.now result.0 }
+{
+    if table.length(1) == 0 {
+        return (actor, false);
+    }
+    let mut last = 0;
+    let mut fits = true;
+    for _ in 0..20_000 {
+        let word = table.look(&mut actor, 1);
+        fits = fits && word >> 16 >= last && word % 4 == 0 && word >> 8 & 0xff <= 2;
+        last = word >> 16;
+    }
+    (actor, fits)
+}
+
+/// Two actors add to object 1, while a third one looks at it.
+fn by_three<R: Threads + Sync>(
+    rt: &R,
+    table: &SharedTable,
+    one: ActorSeat,
+    two: ActorSeat,
+    three: ActorSeat,
+) -> ((ActorSeat, ActorSeat), (ActorSeat, bool))
+    requires { IsActorOf table.now one × IsActorOf table.now two × IsActorOf table.now three }
+    ensures { IsActorOf table.now result.0.0 × IsActorOf table.now result.0.1 × IsActorOf table.now result.1.0 }
+{
+    join(
+        rt,
+        || -> (ActorSeat, ActorSeat)
+            requires { IsSync R.row × IsActorOf table.now one × IsActorOf table.now two }
+            ensures { IsActorOf table.entry.now result.0 × IsActorOf table.entry.now result.1 }
+        { by_two(rt, table, one, two) },
+        || -> (ActorSeat, bool)
+            requires { IsActorOf table.now three }
+            ensures { IsActorOf table.entry.now result.0 }
+        { look_all(table, three) },
+    )
+}
+
+#[test]
+fn a_look_while_two_threads_add_finds_rising_stamps(rt: HostRuntime) -> Result<(), Fail> {
+    let bodies = bodies(rt.alloc(), 1)?;
+    let (shared, mut actors, mover): (Shared<OwnStore>, Vec<ActorSeat>, MoverSeat) = Shared::open(
+        rt.alloc(),
+        bodies,
+        3,
+    )?;
+    let three = actors.remove(2);
+    let two = actors.remove(1);
+    let one = actors.remove(0);
+    let ((one, two), (mut three, fits)) = by_three(&rt, shared.table(), one, two, three);
+    same!(rt; fits, true);
+    same!(rt; shared.table().length(1), 8);
+    if shared.table().length(1) > 0 {
+        same!(rt; shared.table().look(&mut three, 1), 2000 * 65_536 + 8);
+    }
+    actors.push(one)?;
+    actors.push(two)?;
+    actors.push(three)?;
+    let ended = shared.close(actors, mover)?;
+    same!(rt; number_of(&ended[1]), Some(2000));
+    Ok(())
+}
+
 /// How many objects the eight threads have, and how often each adds to each of them.
 const OBJECTS: u32 = 4;
 

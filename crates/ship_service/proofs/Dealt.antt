@@ -20,7 +20,7 @@ use Rattle.shared_objects.specs.declared.view.View.{View}
 use Rattle.memory.specs.Objects.{bytes_of}
 use Rattle.workers.specs.Cells.{IsSeatOf, IsTableOf}
 use Rattle.workers.specs.Moves.{KeepsParcel, KeepsParcels, MoverState}
-use Rattle.ship_service.specs.Opening.{AreFreshSeats, first_mover, seat_count}
+use Rattle.ship_service.specs.Opening.{AreFreshSeats, first_view, first_mover, seat_count}
 
 -- ---- one after the other
 
@@ -49,10 +49,10 @@ fresh_from : (shared : SharedTable) (table : TableId) (returns : Bool) (opening 
 fresh_from shared table returns opening k [] t f a = tt
 fresh_from shared table returns opening k (s ∷ ss) t f a =
     let own = All-head (IsActorOf shared) s ss a in
-    let here : k + 0 ≡ k + 1 - 1 = omega arith in
+    let here : 1 + (k + 0) ≡ k + 1 = omega arith in
     let first = f 0 s refl in
     let next : FreshFrom returns opening (k + 1) ss = λ j b e. let same : k + suc j ≡ k + 1 + j = omega arith in subst (λ i. (b.seat.me.0 ≡ newcomer (seated i (dealer returns opening))) × (b.stamp ≡ 0)) same (f (suc j) b e) in (
-      (own.0 ∙ t.0, subst (λ i. s.seat.me.0 ≡ newcomer (seated i (dealer returns opening))) here first.0, first.1),
+      record { table_is = own.0 ∙ t.0; view_is = subst (λ i. s.seat.me.0 ≡ first_view returns opening i) here first.0; stamp_is = first.1 },
       fresh_from shared table returns opening (k + 1) ss t next (All-tail (IsActorOf shared) s ss a),
     )
 

@@ -8,7 +8,7 @@ use Rattle.debugger.specs.declared.commands.DebugCommand.TheVariants.{Resume}
 use Rattle.debugger.specs.declared.replies.Debugged.{Debugged}
 use Rattle.debugger.specs.declared.replies.Debugged.TheVariants as debugged
 use Rattle.machine.specs.MachineState.{MachineState}
-use Rattle.workers.specs.Cells.{SeatState, CellState, FitsCell}
+use Rattle.workers.specs.Cells.{SeatState, CellState, IsStamped, FitsCell}
 use Rattle.world.specs.declared.replies.Reply.{Reply}
 use Rattle.world.specs.declared.replies.Reply.TheVariants as reply
 use Rattle.ship_service.specs.Lent.{informed, Requeues, AnswersCell, AnswersLent, ShipsCell}
@@ -18,12 +18,13 @@ abbrev number_of : CellState → ℕ
 number_of c = c.number
 
 -- the type's fact, of a cell of this number
-pub cell_now : (opening : List (List ℕ)) (starts : List MachineState) (m : ℕ) (c : CellState) → c.number ≡ m → c.seat.view.actor ≡ c.number → c.seat.view.opening ≡ opening → FitsCell opening starts c.number c.seat c.running
+pub cell_now : (opening : List (List ℕ)) (starts : List MachineState) (m : ℕ) (c : CellState) → c.number ≡ m → c.seat.view.actor ≡ c.number → c.seat.view.opening ≡ opening → IsStamped c.seat → FitsCell opening starts c.number c.seat c.running
     → IsCell opening starts m c
-cell_now opening starts m c number actor opens fits = record {
+cell_now opening starts m c number actor opens stamped fits = record {
   number_is = number;
   actor_is = actor ∙ number;
   opening_is = opens;
+  stamped = stamped;
   fits = subst (λ n. FitsCell opening starts n c.seat c.running) number fits;
 }
 

@@ -1,8 +1,11 @@
 mod Short
+mod Tried
 mod Told
 mod Found
 mod Kept
-mod Settled
+mod Seen
+mod Rising
+pub mod Settled
 mod Dealt
 mod Written
 pub mod Saying

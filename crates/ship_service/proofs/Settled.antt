@@ -2,7 +2,7 @@
 use Rattle.std.proofs.Common.{◌≡◌, ℕ, zero, suc, ◌+◌, ◌<◌, Bool, List, [], ◌∷◌, ◌++◌, length, map, get_or, All, Some, refl, sym, ap, ◌∙◌, append_assoc, subst, None, arith}
 use Rattle.std.proofs.lemmas.List.{map-append}
 use Rattle.std.proofs.lemmas.List.Elements.{All-nil, All-cons, All-weaker}
-use Rattle.std.specs.Prelude.{Option, slice_index_or}
+use Rattle.std.specs.Prelude.{Option, slice_get, slice_index_or}
 use mathlib.Core.Option.{some, some-injective, some-ne-none}
 use lib.ListN.{get_elem?}
 use Rattle.atomic_table.specs.Seated.{TableId}
@@ -28,7 +28,8 @@ use Rattle.workers.specs.Cells.{IsSeatOf, IsTableOf, seat_state, RunningState, I
 use Rattle.workers.specs.Closing.{WasCell, WereCells}
 use Rattle.workers.specs.Moves.{MoverState, KeepsParcel, KeepsParcels}
 use Rattle.workers.specs.declared.closing.ClosedCell.{ClosedCell}
-use Rattle.ship_service.specs.Closing.{ClosedState, AreLengths, KeepsEnd, Settles, ReplaysShare, MachinesReplayTheList}
+use Rattle.ship_service.specs.Closing.{ClosedState, AreLengths, EndsAs, Settles, ReplaysShare, MachinesReplayTheList}
+use Rattle.ship_service.specs.Closing.EndsAs.{AtHome, Away}
 
 -- ---- seats
 
@@ -42,7 +43,7 @@ pub cell_seats : (table : TableId) (opening : List (List ℕ)) (starts : List Ma
 cell_seats table opening starts [] [] h = All-nil (IsSeatOf table opening)
 cell_seats table opening starts [] (c ∷ cs) h = absurd h
 cell_seats table opening starts (s ∷ ss) [] h = absurd h
-cell_seats table opening starts (s ∷ ss) (c ∷ cs) h = All-cons (IsSeatOf table opening) s ss h.0.0 (cell_seats table opening starts ss cs h.1)
+cell_seats table opening starts (s ∷ ss) (c ∷ cs) h = All-cons (IsSeatOf table opening) s ss h.0.seat_of (cell_seats table opening starts ss cs h.1)
 
 -- and so actors of it
 pub actors : (table : TableId) (opening : List (List ℕ)) (shared : SharedTable) (ss : List ActorSeat) → IsTableOf table opening shared → All (IsSeatOf table opening) ss → All (IsActorOf shared) ss
@@ -51,17 +52,18 @@ actors table opening shared ss t h = All-weaker (IsSeatOf table opening) (IsActo
 -- ---- objects
 
 -- there is an element in that place
-pub there : {A : Type 0} (xs : List A) (n : ℕ) → n < length xs → (x : A) × (get_elem? xs n ≡ some x)
+there : {A : Type 0} (xs : List A) (n : ℕ) → n < length xs → (x : A) × (get_elem? xs n ≡ some x) × (slice_get xs n ≡ Some x)
 there [] n lt = absurd (omega arith)
-there (x ∷ xs) zero lt = (x, refl)
+there (x ∷ xs) zero lt = (x, refl, refl)
 there (x ∷ xs) (suc n) lt = there xs n (omega arith)
 
--- the parcel of an object that closes so
-pub kept : (opening bytes : List ℕ) (p : Place) (e : Ended) (parcel : Option (List ℕ)) → KeepsParcel opening p parcel → Shows p bytes e → KeepsEnd p bytes parcel
-kept opening bytes Here e parcel k s = k
-kept opening bytes (Moving was) e parcel k s = absurd k
-kept opening bytes (Far was) (shown.Here found) parcel k s = absurd s
-kept opening bytes (Far was) shown.Out parcel k s = k.0 ∙ ap (λ (b : List ℕ). Some b) s
+-- how an object closes, by its parcel and what is shown of it
+ends_as : (opening bytes : List ℕ) (p : Place) (e : Ended) (parcel : Option (List ℕ)) → KeepsParcel opening p parcel → Shows p bytes e → EndsAs p bytes e parcel
+ends_as opening bytes Here (shown.Here found) parcel k s = AtHome refl found refl s k
+ends_as opening bytes Here shown.Out parcel k s = absurd s
+ends_as opening bytes (Moving was) e parcel k s = absurd k
+ends_as opening bytes (Far was) (shown.Here found) parcel k s = absurd s
+ends_as opening bytes (Far was) shown.Out parcel k s = Away (ap (λ (b : List ℕ). Far b) s) refl (k.0 ∙ ap (λ (b : List ℕ). Some b) s)
 
 -- the parcel that is kept stands for its bytes
 pub stands : {P : Type 0} (bytes_in : P → List ℕ) (ps : List (Option P)) (n : ℕ) (d : Option P) (p : P) → n < length ps → d ≡ get_or ps n d → d ≡ Some p → slice_index_or (map (parcel_bytes bytes_in) ps) n None ≡ Some (bytes_in p)
@@ -72,16 +74,22 @@ stands bytes_in (q ∷ ps) (suc n) d p lt e f = stands bytes_in ps n d p (omega 
 -- ---- all of it
 
 pub settles : {X : Type 0} (returns : Bool) (table : TableId) (opening : List (List ℕ)) (starts : List MachineState) (mover : MoverState X) (seats connections : List ActorSeat) (c : ClosedState X)
-    → length seats ≡ machine_limit → WereCells table opening starts seats c.cells → Closes returns opening mover.view (map part_of (seats ++ connections)) c.objects → KeepsParcels mover.view c.parcels → AreLengths opening c.lengths → c.store ≡ mover.store
+    → length seats ≡ machine_limit → WereCells table opening starts seats c.cells → Closes returns opening mover.view (map part_of (seats ++ connections)) c.objects → KeepsParcels mover.view c.parcels → mover.view.opening ≡ opening → AreLengths opening c.lengths → c.store ≡ mover.store
     → Settles returns table opening starts mover connections c
-settles returns table opening starts mover seats connections c all cells closes keeps lengths store = record {
+settles returns table opening starts mover seats connections c all cells closes keeps known lengths store = record {
   seats = seats;
   all = all;
   machines = cells;
-  closes = closes;
-  parcels = λ n lt. let e = there c.objects n (omega (arith, lt, closes.long.0)) in
-      kept (bytes_of mover.view.opening n) (bytes_of closes.ends n) (place_of mover.view n) e.0 (slice_index_or c.parcels n None) (keeps.1 n) (closes.shows n e.0 e.1);
-  lengths = lengths;
+  ends = closes.ends;
+  numbers = record { ends_are = closes.long.1; lengths_are = lengths.0; objects_are = closes.long.0; parcels_are = keeps.0 ∙ ap length known };
+  objects = λ n lt. let e = there c.objects n (omega (arith, lt, closes.long.0)) in record {
+    long = closes.lengths n lt;
+    length_is = lengths.1 n lt;
+    shown = e.0;
+    shown_is = e.2;
+    ends_as = ends_as (bytes_of mover.view.opening n) (bytes_of closes.ends n) (place_of mover.view n) e.0 (slice_index_or c.parcels n None) (keeps.1 n) (closes.shows n e.0 e.1);
+  };
+  list = closes.list;
   store = store;
 }
 
@@ -119,4 +127,4 @@ pub machines_replay : (X : Type 0) (returns : Bool) (table : TableId) (opening :
 machines_replay X returns table opening starts mover connections closed s c r has e =
     let a = seat_at table opening starts s.seats closed.cells has.0 c s.machines has.1 in let seat = a.0 in
     let there : Has (map part_of (s.seats ++ connections)) (part_of seat) = (has.0, part_there s.seats connections has.0 seat a.1) in
-    share opening starts (map part_of (s.seats ++ connections)) s.closes.list.one c.number seat c.running r there a.2.1 (ap (λ n. entries_by n s.closes.list.one) (sym a.2.1) ∙ s.closes.list.own (part_of seat) there) e a.2.2
+    share opening starts (map part_of (s.seats ++ connections)) s.list.one c.number seat c.running r there a.2.actor_is (ap (λ n. entries_by n s.list.one) (sym a.2.actor_is) ∙ s.list.own (part_of seat) there) e a.2.fits

@@ -5,12 +5,13 @@ use Rattle.memory.specs.declared.access.Reach.{Reach}
 use Rattle.memory.specs.declared.access.Reach.TheVariants as reach
 use Rattle.memory.specs.declared.deeds.Given.TheVariants.{Bytes}
 use Rattle.memory.specs.Access.{part}
-use Rattle.shared_objects.specs.Touches.{Gets}
+use Rattle.shared_objects.specs.Touches.{GetsRange}
 use Rattle.shared_objects.specs.declared.touching.Fetched.{Fetched}
 use Rattle.shared_objects.specs.declared.touching.Fetched.TheVariants as fetched
 use Rattle.machine.specs.MachineState.{MachineState}
 use Rattle.debugger.specs.declared.commands.MachineCommand.{MachineCommand}
 use Rattle.debugger.specs.declared.commands.MachineCommand.TheVariants.{Step, Show, Debug}
+use Rattle.workers.specs.declared.cell.Taken.{Taken}
 use Rattle.workers.specs.Cells.{SeatState, CellState}
 use Rattle.world.specs.declared.events.Event.{Event}
 use Rattle.world.specs.declared.events.Event.TheVariants as event
@@ -25,9 +26,9 @@ use Rattle.console.proofs.CommandReading.{AsksShort, step_short, show_short, deb
 use Rattle.ship_service.specs.declared.replies.ServiceReply.{ServiceReply}
 use Rattle.ship_service.specs.declared.replies.ServiceReply.TheVariants.{Plain}
 use Rattle.ship_service.specs.Replies.{IsShortReply}
-use Rattle.ship_service.specs.Ranges.{reply_to_put, reply_to_get, ServesGet, AsksMover}
+use Rattle.ship_service.specs.Ranges.{reply_to_put, reply_to_get, GetsOnce, AsksMover}
 use Rattle.ship_service.specs.Lent.{AnswersCell, AnswersLent, ShipsCell, informed}
-use Rattle.ship_service.specs.Served.{Serves, ServesObject, ServesMachine, ServesShip}
+use Rattle.ship_service.specs.Served.{reply_to_ship, Serves, ServesObject, ServesMachine, ServesShip}
 use Rattle.debugger.specs.declared.start.Start.{Start}
 
 put_short : (n : ℕ) (r : Reach) → IsShortReply (reply_to_put n r)
@@ -40,15 +41,15 @@ put_short n reach.Worn = tt
 bytes_are : (xs ys : List ℕ) → Bytes xs ≡ Bytes ys → xs ≡ ys
 bytes_are xs ys e = cc
 
-get_short : (old new : SeatState) (n offset size : ℕ) (f : Fetched) → Gets old.view old.stamp n offset size f new.view new.stamp → size ≤ range_limit → IsShortReply (reply_to_get n f)
+get_short : (old new : SeatState) (n offset size : ℕ) (f : Fetched) → GetsRange old.view old.stamp n offset size f new.view new.stamp → size ≤ range_limit → IsShortReply (reply_to_get n f)
 get_short old new n offset size (fetched.Done bytes) h short =
-    let b = h.1 in let e = ap length (bytes_are bytes.items (part offset size b.0) b.2) in let l = length-take size (drop offset b.0) in omega (arith, e, l, short)
+    let e = ap length (bytes_are bytes.items (part offset size h.bytes) h.given_is) in let l = length-take size (drop offset h.bytes) in omega (arith, e, l, short)
 get_short old new n offset size fetched.Away h short = tt
 get_short old new n offset size fetched.Busy h short = tt
 get_short old new n offset size fetched.Outside h short = tt
 get_short old new n offset size fetched.Worn h short = tt
 
-get_tells_short : (old new : SeatState) (n offset size : ℕ) (told : ServiceReply) → ServesGet old n offset size told new → size ≤ range_limit → IsShortReply told
+get_tells_short : (old new : SeatState) (n offset size : ℕ) (told : ServiceReply) → GetsOnce old n offset size told new → size ≤ range_limit → IsShortReply told
 get_tells_short old new n offset size told (inl h) short = subst IsShortReply (sym h.told_is) tt
 get_tells_short old new n offset size told (inr h) short = subst IsShortReply (sym h.told_is) (get_short old new n offset size h.outcome h.gets short)
 
@@ -57,8 +58,8 @@ asked_short opening n (Plain (reply.Bytes b)) h = absurd h
 asked_short opening n _ h = tt
 
 object_short : (old new : SeatState) (n : ℕ) (c : ObjectCommand) (told : ServiceReply) → ServesObject old n c told new → AsksShort (event.Object n c) → IsShortReply told
-object_short old new n (object.Put offset bytes) told h short = subst IsShortReply (sym h.told_is) (put_short n h.outcome)
-object_short old new n (object.Get offset size) told h short = get_tells_short old new n offset size told h short
+object_short old new n (object.Put offset bytes) told h short = subst IsShortReply (sym h.last.told_is) (put_short n h.last.outcome)
+object_short old new n (object.Get offset size) told h short = get_tells_short h.mid new n offset size told h.last short
 object_short old new n object.Free told h short = subst IsShortReply (sym h.0) tt
 object_short old new n (object.Move move.Leave) told h short = asked_short old.view.opening n told h.0
 object_short old new n (object.Move move.Return) told h short = asked_short old.view.opening n told h.0
@@ -83,9 +84,13 @@ shipped_short : (start : Start) (code : List ℕ) (before after : CellState) (sa
 shipped_short start code before after (reply.Bytes b) h = absurd h
 shipped_short start code before after _ h = tt
 
+to_ship_short : (said : Reply) (taken : Taken) → IsShort said → IsShortReply (reply_to_ship said taken)
+to_ship_short (reply.Shipped m) taken h = tt
+to_ship_short said taken h = h
+
 ship_short : (opening : List (List ℕ)) (starts : List MachineState) (start : Start) (code : List ℕ) (told : ServiceReply) → ServesShip opening starts start code told → IsShortReply told
 ship_short opening starts start code told (inl h) = subst IsShortReply (sym h.told_is) tt
-ship_short opening starts start code told (inr h) = subst IsShortReply (sym h.told_is) (shipped_short start code h.before h.after h.said h.ships)
+ship_short opening starts start code told (inr h) = subst IsShortReply (sym h.told_is) (to_ship_short h.said h.taken (shipped_short start code h.before h.after h.said h.ships))
 
 -- a reply fits its line
 pub serves_short : (opening : List (List ℕ)) (starts : List MachineState) (old new : SeatState) (c : Event) (told : ServiceReply)

@@ -1,5 +1,5 @@
 -- The replies are the answers of the entries that are added.
-use Rattle.std.proofs.Common.{◌≡◌, ℕ, ◌≤◌, max, List, [], ◌∷◌, ◌++◌, map, refl, sym, ap, ◌∙◌, append_assoc, append-nil, subst, arith, inl, inr}
+use Rattle.std.proofs.Common.{◌≡◌, ℕ, zero, suc, ◌≤◌, max, List, [], ◌∷◌, ◌++◌, map, refl, sym, ap, ◌∙◌, append_assoc, append-nil, subst, arith, inl, inr}
 use Rattle.std.proofs.lemmas.List.{map-append}
 use Rattle.std.proofs.Math.Nat.{le-max_left}
 use Rattle.memory.specs.declared.access.Reach.{Reach}
@@ -11,7 +11,7 @@ use Rattle.memory.specs.declared.deeds.Given.{Given}
 use Rattle.memory.specs.declared.deeds.Given.TheVariants.{Bytes, Nothing}
 use Rattle.shared_objects.specs.History.{entry}
 use Rattle.shared_objects.specs.SeatMemories.{own_entry}
-use Rattle.shared_objects.specs.Touches.{Puts, Gets, Does}
+use Rattle.shared_objects.specs.Touches.{PutsRange, GetsRange, Does}
 use Rattle.shared_objects.specs.declared.touching.Fetched.{Fetched}
 use Rattle.shared_objects.specs.declared.touching.Fetched.TheVariants as fetched
 use Rattle.shared_objects.specs.declared.view.Entry.{Entry}
@@ -27,7 +27,8 @@ use Rattle.world.specs.declared.events.ObjectCommand.TheVariants as object
 use Rattle.world.specs.declared.events.Move.TheVariants as move
 use Rattle.console.specs.Conversations.{turn_commands, turn_replies}
 use Rattle.ship_service.specs.declared.replies.ServiceReply.{ServiceReply}
-use Rattle.ship_service.specs.Ranges.{reply_to_put, reply_to_get, ServesGet}
+use Rattle.ship_service.specs.declared.replies.ServiceReply.TheVariants.{Busy}
+use Rattle.ship_service.specs.Ranges.{reply_to_put, reply_to_get, PutsOnce, GetsOnce, FoundBusy, ServesPut, ServesGet}
 use Rattle.ship_service.specs.Lent.{AnswersLent}
 use Rattle.ship_service.specs.Served.{Serves, ServesObject, ServesMachine, ServesTurn, service}
 use Rattle.ship_service.specs.Telling.{added, RiseTo, TellsEntries, RepliesAreEntries, ReplyIsEntry}
@@ -59,15 +60,15 @@ unmoved old new v s e entries actor = nothing old new (ap (λ (u : View). u.entr
 
 one : (old new : SeatState) (n : ℕ) (deed : Deed) (given : Given) → Does old.view old.stamp n deed given new.view new.stamp
     → Tells old (record { number = n; deed = deed; given = given } ∷ []) new
-one old new n deed given h = let t = h.2 in let l = le-max_left old.stamp t.0 in record {
-  more = entry old.view.actor new.stamp t.0 n deed given ∷ [];
-  entries = ap (λ (u : View). u.entries) t.3;
+one old new n deed given h = let l = le-max_left old.stamp h.found in record {
+  more = entry old.view.actor new.stamp h.found n deed given ∷ [];
+  entries = ap (λ (u : View). u.entries) h.view_is;
   tells = refl;
-  stamps = (refl, omega (arith, t.1, l), omega arith);
-  actor = ap (λ (u : View). u.actor) t.3;
+  stamps = (refl, omega (arith, h.stamp_is, l), omega arith);
+  actor = ap (λ (u : View). u.actor) h.view_is;
 }
 
-put_adds : (old new : SeatState) (n offset : ℕ) (bytes : List ℕ) (r : Reach) → Puts old.view old.stamp n offset bytes r new.view new.stamp
+put_adds : (old new : SeatState) (n offset : ℕ) (bytes : List ℕ) (r : Reach) → PutsRange old.view old.stamp n offset bytes r new.view new.stamp
     → Tells old (added (event.Object n (object.Put offset bytes)) (reply_to_put n r)) new
 put_adds old new n offset bytes (reach.Done x) h = one old new n (Writes offset bytes) Nothing h.1
 put_adds old new n offset bytes reach.Away h = unmoved old new _ h.1 h.2 refl refl
@@ -75,7 +76,7 @@ put_adds old new n offset bytes reach.Busy h = unmoved old new _ h.1 h.2 refl re
 put_adds old new n offset bytes reach.Outside h = unmoved old new _ h.1 h.2 refl refl
 put_adds old new n offset bytes reach.Worn h = unmoved old new _ h.1 h.2.2 refl refl
 
-get_adds : (old new : SeatState) (n offset size : ℕ) (f : Fetched) → Gets old.view old.stamp n offset size f new.view new.stamp
+get_adds : (old new : SeatState) (n offset size : ℕ) (f : Fetched) → GetsRange old.view old.stamp n offset size f new.view new.stamp
     → Tells old (added (event.Object n (object.Get offset size)) (reply_to_get n f)) new
 get_adds old new n offset size (fetched.Done bytes) h = one old new n (Reads offset size) (Bytes bytes.items) h
 get_adds old new n offset size fetched.Away h = unmoved old new _ h.1 h.2 refl refl
@@ -83,13 +84,54 @@ get_adds old new n offset size fetched.Busy h = unmoved old new _ h.1 h.2 refl r
 get_adds old new n offset size fetched.Outside h = unmoved old new _ h.1 h.2 refl refl
 get_adds old new n offset size fetched.Worn h = unmoved old new _ h.1 h.2.2 refl refl
 
+put_once_tells : (old new : SeatState) (n offset : ℕ) (bytes : List ℕ) (told : ServiceReply) → PutsOnce old n offset bytes told new → Tells old (added (event.Object n (object.Put offset bytes)) told) new
+put_once_tells old new n offset bytes told h =
+    subst (λ r. Tells old (added (event.Object n (object.Put offset bytes)) r) new) (sym h.told_is) (put_adds old new n offset bytes h.outcome h.puts)
+
+get_once_tells : (old new : SeatState) (n offset size : ℕ) (told : ServiceReply) → GetsOnce old n offset size told new → Tells old (added (event.Object n (object.Get offset size)) told) new
+get_once_tells old new n offset size told (inl h) = subst (λ r. Tells old (added (event.Object n (object.Get offset size)) r) new) (sym h.told_is) (same old new h.same)
+get_once_tells old new n offset size told (inr h) = subst (λ r. Tells old (added (event.Object n (object.Get offset size)) r) new) (sym h.told_is) (get_adds old new n offset size h.outcome h.gets)
+
+-- ---- tries
+
+rise_from : (actor low mid high : ℕ) (es : List Entry) → low ≤ mid → RiseTo actor mid es high → RiseTo actor low es high
+rise_from actor low mid high [] h r = omega (arith, h, r)
+rise_from actor low mid high (e ∷ es) h r = let k = r.1 in (r.0, omega (arith, h, k), r.2)
+
+rise_join : (actor low mid high : ℕ) (es fs : List Entry) → RiseTo actor low es mid → RiseTo actor mid fs high → RiseTo actor low (es ++ fs) high
+rise_join actor low mid high [] fs r s = rise_from actor low mid high fs r s
+rise_join actor low mid high (e ∷ es) fs r s = (r.0, r.1, rise_join actor e.stamp mid high es fs r.2 s)
+
+-- one that adds nothing, and then another
+after : (old mid new : SeatState) (whats : List OwnEntry) → Tells old [] mid → Tells mid whats new → Tells old whats new
+after old mid new whats t u = record {
+  more = t.more ++ u.more;
+  entries = u.entries ∙ ap (λ l. l ++ u.more) t.entries ∙ append_assoc old.view.entries t.more u.more;
+  tells = map-append own_entry t.more u.more ∙ ap (λ l. l ++ map own_entry u.more) t.tells ∙ u.tells;
+  stamps = rise_join old.view.actor old.stamp mid.stamp new.stamp t.more u.more t.stamps (subst (λ a. RiseTo a mid.stamp u.more new.stamp) t.actor u.stamps);
+  actor = u.actor ∙ t.actor;
+}
+
+-- tries that are answered `busy` add nothing
+busy_tells : (once : SeatState → ServiceReply → SeatState → Type 0) (n : ℕ) → ((s t : SeatState) → once s (Busy n) t → Tells s [] t)
+    → (k : ℕ) (old new : SeatState) → FoundBusy once n k old new → Tells old [] new
+busy_tells once n adds zero old new h = same old new h
+busy_tells once n adds (suc k) old new h = after old h.0 new [] (busy_tells once n adds k old h.0 h.1) (adds h.0 new h.2)
+
+put_tells : (old new : SeatState) (n offset : ℕ) (bytes : List ℕ) (told : ServiceReply) → ServesPut old n offset bytes told new → Tells old (added (event.Object n (object.Put offset bytes)) told) new
+put_tells old new n offset bytes told h = after old h.mid new (added (event.Object n (object.Put offset bytes)) told)
+    (busy_tells (λ s r t. PutsOnce s n offset bytes r t) n (λ s t b. put_once_tells s t n offset bytes (Busy n) b) h.tries old h.mid h.busy)
+    (put_once_tells h.mid new n offset bytes told h.last)
+
 get_tells : (old new : SeatState) (n offset size : ℕ) (told : ServiceReply) → ServesGet old n offset size told new → Tells old (added (event.Object n (object.Get offset size)) told) new
-get_tells old new n offset size told (inl h) = subst (λ r. Tells old (added (event.Object n (object.Get offset size)) r) new) (sym h.told_is) (same old new h.same)
-get_tells old new n offset size told (inr h) = subst (λ r. Tells old (added (event.Object n (object.Get offset size)) r) new) (sym h.told_is) (get_adds old new n offset size h.outcome h.gets)
+get_tells old new n offset size told h = after old h.mid new (added (event.Object n (object.Get offset size)) told)
+    (busy_tells (λ s r t. GetsOnce s n offset size r t) n (λ s t b. get_once_tells s t n offset size (Busy n) b) h.tries old h.mid h.busy)
+    (get_once_tells h.mid new n offset size told h.last)
+
+-- ---- commands
 
 object_tells : (old new : SeatState) (n : ℕ) (c : ObjectCommand) (told : ServiceReply) → ServesObject old n c told new → Tells old (added (event.Object n c) told) new
-object_tells old new n (object.Put offset bytes) told h =
-    subst (λ r. Tells old (added (event.Object n (object.Put offset bytes)) r) new) (sym h.told_is) (put_adds old new n offset bytes h.outcome h.puts)
+object_tells old new n (object.Put offset bytes) told h = put_tells old new n offset bytes told h
 object_tells old new n (object.Get offset size) told h = get_tells old new n offset size told h
 object_tells old new n object.Free told h = same old new h.1
 object_tells old new n (object.Move move.Leave) told h = same old new h.1
@@ -113,14 +155,6 @@ serves_tells opening starts old new (event.Object n c) told h = object_tells old
 serves_tells opening starts old new (event.Machine m c) told h = machine_tells opening starts old new m c told h
 
 -- ---- one after the other
-
-rise_from : (actor low mid high : ℕ) (es : List Entry) → low ≤ mid → RiseTo actor mid es high → RiseTo actor low es high
-rise_from actor low mid high [] h r = omega (arith, h, r)
-rise_from actor low mid high (e ∷ es) h r = let k = r.1 in (r.0, omega (arith, h, k), r.2)
-
-rise_join : (actor low mid high : ℕ) (es fs : List Entry) → RiseTo actor low es mid → RiseTo actor mid fs high → RiseTo actor low (es ++ fs) high
-rise_join actor low mid high [] fs r s = rise_from actor low mid high fs r s
-rise_join actor low mid high (e ∷ es) fs r s = (r.0, r.1, rise_join actor e.stamp mid high es fs r.2 s)
 
 turn_tells : (opening : List (List ℕ)) (starts : List MachineState) (old new : SeatState) (c : Event) (told : ServiceReply) → ServesTurn opening starts old c told new → Tells old (added c told) new
 turn_tells opening starts old new c told h = subst (λ (s : SeatState). Tells old (added c told) s) (sym h.2) (

@@ -5,18 +5,18 @@ use Rattle.atomic_table.specs.Seated.{TableId}
 use Rattle.far_store.specs.declared.fault.StoreFault.{StoreFault}
 use Rattle.memory.specs.Objects.{bytes_of}
 use Rattle.object_store.specs.Stores.{machine_limit}
-use Rattle.shared_objects.specs.Ends.{Closes}
 use Rattle.shared_objects.specs.History.{Has}
-use Rattle.shared_objects.specs.One.{entries_by}
+use Rattle.shared_objects.specs.One.{OneList, entries_by}
 use Rattle.shared_objects.specs.Parts.{part_of}
 use Rattle.shared_objects.specs.Rule.{place_of}
 use Rattle.shared_objects.specs.SeatMemories.{own_entry}
 use Rattle.shared_objects.specs.declared.closing.Ended.{Ended}
+use Rattle.shared_objects.specs.declared.closing.Ended.TheVariants as ended
 use Rattle.shared_objects.specs.declared.seats.ActorSeat.{ActorSeat}
 use Rattle.shared_objects.specs.declared.view.Entry.{Entry}
 use Rattle.shared_objects.specs.declared.view.Part.{Part}
 use Rattle.shared_objects.specs.declared.view.Place.{Place}
-use Rattle.shared_objects.specs.declared.view.Place.TheVariants.{Here, Moving, Far}
+use Rattle.shared_objects.specs.declared.view.Place.TheVariants.{Here, Far}
 use Rattle.machine.specs.MachineState.{MachineState}
 use Rattle.machine.specs.Replay.{IsReplay}
 use Rattle.workers.specs.Cells.{RunningState, StartedAs, lengths_of, is_marked_worn}
@@ -41,25 +41,43 @@ pub record ClosedState (X : Type 0) : Type 0 where
 abbrev pub AreLengths : List (List ℕ) → List ℕ → Type 0
 AreLengths opening lengths = (length lengths ≡ length opening) × ((n : ℕ) → n < length opening → slice_index_or lengths n 0 ≡ length (bytes_of opening n))
 
--- Of an object that is far a parcel is kept that stands for these bytes, and of one that is here none. None is on its way.
-abbrev pub KeepsEnd : Place → List ℕ → Option (List ℕ) → Type 0
-KeepsEnd Here bytes parcel = parcel ≡ None
-KeepsEnd (Moving was) bytes parcel = ⊥
-KeepsEnd (Far was) bytes parcel = parcel ≡ Some bytes
+-- How an object closes, by its place for the mover: with these bytes, shown so, and with a parcel that stands for these bytes, or none.
+pub data EndsAs (place : Place) (bytes : List ℕ) (shown : Ended) (parcel : Option (List ℕ)) : Type 0 where
+  -- it is here, with its bytes, and no parcel is kept
+  AtHome : place ≡ Here → (found : Vec ℕ Global) → shown ≡ ended.Here found → found.items ≡ bytes → parcel ≡ None → EndsAs place bytes shown parcel
+  -- it is far, and shown as out; the parcel stands for its bytes
+  Away : place ≡ Far bytes → shown ≡ ended.Out → parcel ≡ Some bytes → EndsAs place bytes shown parcel
 
--- What the service of the table of this name leaves, by what its mover and the seats of its connections were then. The entries of
--- all seats, those of the machines first, are one list, by which each object closes.
+-- The object of a number, as it closes. None is on its way.
+pub record ObjectCloses {X : Type 0} (opening : List (List ℕ)) (mover : MoverState X) (ends : List (List ℕ)) (closed : ClosedState X) (n : ℕ) : Type 0 where
+  -- it has as many bytes as it was opened with
+  pub long : length (bytes_of ends n) ≡ length (bytes_of opening n)
+  pub length_is : slice_index_or closed.lengths n 0 ≡ length (bytes_of opening n)
+  pub shown : Ended
+  pub shown_is : slice_get closed.objects n ≡ Some shown
+  pub ends_as : EndsAs (place_of mover.view n) (bytes_of ends n) shown (slice_index_or closed.parcels n None)
+
+-- There are as many numbers as there were at the opening.
+pub record KeepsNumbers {X : Type 0} (opening ends : List (List ℕ)) (closed : ClosedState X) : Type 0 where
+  pub ends_are : length ends ≡ length opening
+  pub lengths_are : length closed.lengths ≡ length opening
+  pub objects_are : length closed.objects ≡ length opening
+  pub parcels_are : length closed.parcels ≡ length opening
+
+-- What the service of the table of this name leaves, by what its mover and the seats of its connections were then.
 pub record Settles {X : Type 0} (returns : Bool) (table : TableId) (opening : List (List ℕ)) (starts : List MachineState) (mover : MoverState X) (connections : List ActorSeat) (closed : ClosedState X) : Type 0 where
-  -- the seats of the cells, one for each machine that there may be: each machine is the replay of its seat's entries from its
-  -- start
+  -- the seats of the cells, one for each machine that there may be
   pub seats : List ActorSeat
   pub all : length seats ≡ machine_limit
+  -- each machine is the replay of its seat's entries from its start
   pub machines : WereCells table opening starts seats closed.cells
-  -- each object is out where the mover has it out, else here with its bytes; each seat's part is its actor's share of the list
-  pub closes : Closes returns opening mover.view (map part_of (seats ++ connections)) closed.objects
-  -- of each object that is far the parcel stands for its bytes
-  pub parcels : (n : ℕ) → n < length opening → KeepsEnd (place_of mover.view n) (bytes_of closes.ends n) (slice_index_or closed.parcels n None)
-  pub lengths : AreLengths opening closed.lengths
+  -- the bytes with which each object closes, by number
+  pub ends : List (List ℕ)
+  pub numbers : KeepsNumbers opening ends closed
+  pub objects : (n : ℕ) → n < length opening → ObjectCloses opening mover ends closed n
+  -- all entries of all seats, those of the machines first, are one list, in which each actor has its own; by it each object has
+  -- these bytes
+  pub list : OneList returns opening (map part_of (seats ++ connections)) ends
   pub store : closed.store ≡ mover.store
 
 -- ---- what is read of it
@@ -88,4 +106,4 @@ pub record ReplaysShare (opening : List (List ℕ)) (starts : List MachineState)
 -- Each machine that is left is the replay of its own share of the one list.
 abbrev pub MachinesReplayTheList : Type 0 → Bool → TableId → List (List ℕ) → List MachineState → Type 0
 MachinesReplayTheList X returns table opening starts = (mover : MoverState X) (connections : List ActorSeat) (closed : ClosedState X) → (s : Settles returns table opening starts mover connections closed)
-    → (c : ClosedCell) (r : RunningState) → Has closed.cells c → c.running ≡ Some r → ReplaysShare opening starts (map part_of (s.seats ++ connections)) s.closes.list.one c.number r
+    → (c : ClosedCell) (r : RunningState) → Has closed.cells c → c.running ≡ Some r → ReplaysShare opening starts (map part_of (s.seats ++ connections)) s.list.one c.number r

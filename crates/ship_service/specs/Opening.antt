@@ -1,12 +1,11 @@
 -- A world is opened for many connections: its objects become a table, which its machines and the connections share.
-use Rattle.std.specs.Prelude.{◌≡◌, ℕ, ◌+◌, ◌-◌, Bool, List, [], ◌∷◌, length, replicate, None}
+use Rattle.std.specs.Prelude.{◌≡◌, ℕ, ◌+◌, Bool, true, List, [], ◌∷◌, length, map, replicate, None}
 use Rattle.atomic_table.specs.Seated.{TableId}
 use Rattle.object_store.specs.Parts.{AllHere, IsFirstAway, bodies_of}
 use Rattle.object_store.specs.Stores.{machine_limit}
-use Rattle.shared_objects.specs.Kinds.{dealer, newcomer}
-use Rattle.shared_objects.specs.Opened.{seated}
 use Rattle.shared_objects.specs.declared.seats.ActorSeat.{ActorSeat}
 use Rattle.shared_objects.specs.declared.table.SharedTable.{SharedTable}
+use Rattle.shared_objects.specs.declared.view.Place.TheVariants.{Here}
 use Rattle.shared_objects.specs.declared.view.View.{View}
 use Rattle.machine.specs.MachineState.{MachineState}
 use Rattle.debugger.specs.declared.debuggee.Debuggee.{Debuggee}
@@ -41,14 +40,32 @@ RefusesWorld w Memory = AllHere w.store.places
 
 -- ---- seats
 
--- what the seat of this actor knows as it is made: the bytes with which the table was opened; it has no scope open, and has done
--- nothing
+-- What the seat of this actor knows as it is made: the bytes with which the table was opened, and whether the far store returns
+-- what was put. It has done nothing, found nothing away, taken or worn, has no scope open and holds no turn. Only the mover's seat
+-- makes others, takes others in, sends objects away and cools.
 abbrev pub first_view : Bool → List (List ℕ) → ℕ → View
-first_view returns opening actor = newcomer (seated (actor - 1) (dealer returns opening))
+first_view returns opening actor = record {
+  actor = actor;
+  live = true;
+  opening = opening;
+  returns = returns;
+  entries = [];
+  marks = [];
+  scopes = [];
+  passing = [];
+  turn = None;
+  made = 0;
+  alive = 0;
+  gathered = [];
+  out = [];
+  coolings = [];
+}
 
 -- The seat of this actor, as the table of this name made it: no stamp was seen.
-abbrev pub IsFreshSeat : TableId → Bool → List (List ℕ) → ℕ → ActorSeat → Type 0
-IsFreshSeat table returns opening actor seat = (seat.seat.table_id ≡ table) × (seat.seat.me.0 ≡ first_view returns opening actor) × (seat.stamp ≡ 0)
+pub record IsFreshSeat (table : TableId) (returns : Bool) (opening : List (List ℕ)) (actor : ℕ) (seat : ActorSeat) : Type 0 where
+  pub table_is : seat.seat.table_id ≡ table
+  pub view_is : seat.seat.me.0 ≡ first_view returns opening actor
+  pub stamp_is : seat.stamp ≡ 0
 
 -- The seats of the actors from this number on, in order, as that table made them.
 abbrev pub AreFreshSeats : TableId → Bool → List (List ℕ) → ℕ → List ActorSeat → Type 0
@@ -62,6 +79,11 @@ AreFreshSeats table returns opening actor (seat ∷ seats) = IsFreshSeat table r
 abbrev pub IsNamed : TableId → List (List ℕ) → List MachineState → ℕ → SharedTable → List Debuggee → Type 0
 IsNamed table opening starts seats shared machines = IsTableOf table opening shared × (starts ≡ machines_of machines) × (seats ≡ seat_count)
 
--- the mover as it begins, over this far store: all objects are here and cold, it keeps no parcel, and it has looked at none
+-- What the mover's seat knows as it begins, which is the first one: it made all others and took none of them in, and all objects are
+-- here.
+abbrev pub first_mover_view : Bool → List (List ℕ) → View
+first_mover_view returns opening = record (first_view returns opening 0) { made = 1 + seat_count; alive = 1 + seat_count; out = map (λ _. Here) opening }
+
+-- the mover as it begins, over this far store: it keeps no parcel, and has looked at no object
 abbrev pub first_mover : {X : Type 0} → Bool → List (List ℕ) → X → MoverState X
-first_mover returns opening store = record { view = seated seat_count (dealer returns opening); store = store; parcels = replicate (length opening) None; last = 0 }
+first_mover returns opening store = record { view = first_mover_view returns opening; store = store; parcels = replicate (length opening) None; last = 0 }

@@ -1,16 +1,17 @@
 -- Commands on objects: what they are answered, and what they do to the connection's seat.
-use Rattle.std.specs.Prelude.{◌≡◌, ◌⊎◌, ℕ, List}
+use Rattle.std.specs.Prelude.{◌≡◌, ◌⊎◌, ◌≤◌, ℕ, zero, suc, true, List}
 use Rattle.memory.specs.declared.access.Reach.{Reach}
 use Rattle.memory.specs.declared.access.Reach.TheVariants as reach
 use Rattle.memory.specs.declared.deeds.Deed.TheVariants.{Reads}
 use Rattle.shared_objects.specs.Phases.{IsObject}
-use Rattle.shared_objects.specs.Touches.{IsInside, Puts, Gets}
+use Rattle.shared_objects.specs.Touches.{IsInside, PutsRange, GetsRange}
 use Rattle.shared_objects.specs.declared.touching.Fetched.{Fetched}
 use Rattle.shared_objects.specs.declared.touching.Fetched.TheVariants as fetched
 use Rattle.workers.specs.Cells.{SeatState}
 use Rattle.world.specs.declared.replies.Reply.TheVariants as reply
 use Rattle.ship_service.specs.declared.replies.ServiceReply.{ServiceReply}
 use Rattle.ship_service.specs.declared.replies.ServiceReply.TheVariants.{Plain, Busy, Worn, Asked}
+use Rattle.ship_service.specs.Replies.{is_busy}
 
 -- ---- ranges
 
@@ -30,17 +31,17 @@ reply_to_get n fetched.Busy = Busy n
 reply_to_get n fetched.Outside = Plain reply.Outside
 reply_to_get n fetched.Worn = Worn
 
--- `put`: the reply is what the table did with these bytes at the seat.
-pub record ServesPut (old : SeatState) (n offset : ℕ) (bytes : List ℕ) (told : ServiceReply) (new : SeatState) : Type 0 where
+-- One try to put: the reply is what the table did with these bytes at the seat.
+pub record PutsOnce (old : SeatState) (n offset : ℕ) (bytes : List ℕ) (told : ServiceReply) (new : SeatState) : Type 0 where
   pub outcome : Reach
   pub told_is : told ≡ reply_to_put n outcome
-  pub puts : Puts old.view old.stamp n offset bytes outcome new.view new.stamp
+  pub puts : PutsRange old.view old.stamp n offset bytes outcome new.view new.stamp
 
--- The reply to `get` is what the table did with this range at the seat.
+-- One try to get: the reply is what the table did with this range at the seat.
 pub record Fetches (old : SeatState) (n offset size : ℕ) (told : ServiceReply) (new : SeatState) : Type 0 where
   pub outcome : Fetched
   pub told_is : told ≡ reply_to_get n outcome
-  pub gets : Gets old.view old.stamp n offset size outcome new.view new.stamp
+  pub gets : GetsRange old.view old.stamp n offset size outcome new.view new.stamp
 
 -- There was no memory for the bytes of a range that is inside, and nothing was done.
 pub record LacksMemory (old : SeatState) (n offset size : ℕ) (told : ServiceReply) (new : SeatState) : Type 0 where
@@ -48,9 +49,37 @@ pub record LacksMemory (old : SeatState) (n offset size : ℕ) (told : ServiceRe
   pub inside : IsInside old.view n (Reads offset size)
   pub same : new ≡ old
 
+-- one try to get
+abbrev pub GetsOnce : SeatState → ℕ → ℕ → ℕ → ServiceReply → SeatState → Type 0
+GetsOnce old n offset size told new = LacksMemory old n offset size told new ⊎ Fetches old n offset size told new
+
+-- ---- tries
+
+-- a range that was found busy is tried again so often at most
+abbrev pub retry_limit : ℕ
+retry_limit = 64
+
+-- So many tries at object n, one after the other, were each answered `busy`: each left its mark, and nothing else was done.
+abbrev pub FoundBusy : (SeatState → ServiceReply → SeatState → Type 0) → ℕ → ℕ → SeatState → SeatState → Type 0
+FoundBusy once n zero old new = new ≡ old
+FoundBusy once n (suc k) old new = (mid : SeatState) × FoundBusy once n k old mid × once mid (Busy n) new
+
+-- After tries that were answered `busy` the reply is that of one more. It is `busy` only after all of them.
+pub record InTries (once : SeatState → ServiceReply → SeatState → Type 0) (n : ℕ) (old : SeatState) (told : ServiceReply) (new : SeatState) : Type 0 where
+  pub tries : ℕ
+  pub mid : SeatState
+  pub busy : FoundBusy once n tries old mid
+  pub last : once mid told new
+  pub few : tries ≤ retry_limit
+  pub all : is_busy told ≡ true → tries ≡ retry_limit
+
+-- `put`
+abbrev pub ServesPut : SeatState → ℕ → ℕ → List ℕ → ServiceReply → SeatState → Type 0
+ServesPut old n offset bytes told new = InTries (λ before reply after. PutsOnce before n offset bytes reply after) n old told new
+
 -- `get`
 abbrev pub ServesGet : SeatState → ℕ → ℕ → ℕ → ServiceReply → SeatState → Type 0
-ServesGet old n offset size told new = LacksMemory old n offset size told new ⊎ Fetches old n offset size told new
+ServesGet old n offset size told new = InTries (λ before reply after. GetsOnce before n offset size reply after) n old told new
 
 -- ---- moves
 

@@ -1,13 +1,15 @@
 -- The text of each reply of the service, without its line end.
-use Rattle.std.specs.Prelude.{ℕ, List, ◌++◌, codes, Option, Some, None}
+use Rattle.std.specs.Prelude.{ℕ, Bool, true, false, List, ◌++◌, codes, Option, Some, None}
 use Rattle.world.specs.declared.replies.Reply.TheVariants as reply
 use Rattle.console.specs.Replies.{reply_text, number_text, IsShort}
 use Rattle.ship_service.specs.declared.replies.ServiceReply.{ServiceReply}
-use Rattle.ship_service.specs.declared.replies.ServiceReply.TheVariants.{Plain, Busy, Worn, Asked, Unserved}
+use Rattle.ship_service.specs.declared.replies.ServiceReply.TheVariants.{Plain, Shipped, Full, Busy, Worn, Asked, Unserved}
 
 -- the text of a reply
 abbrev pub service_text : ServiceReply → List ℕ
 service_text (Plain r) = reply_text r
+service_text (Shipped m taken) = reply_text (reply.Shipped m)
+service_text (Full taken) = reply_text reply.Full
 service_text (Busy n) = codes "busy" ++ number_text n
 service_text Worn = codes "worn"
 service_text (Asked n) = codes "asked" ++ number_text n
@@ -23,3 +25,8 @@ abbrev pub missed_object : ServiceReply → Option ℕ
 missed_object (Plain (reply.Away n)) = Some n
 missed_object (Plain (reply.Waiting m n)) = Some n
 missed_object _ = None
+
+-- another had its turn on the object
+abbrev pub is_busy : ServiceReply → Bool
+is_busy (Busy n) = true
+is_busy _ = false

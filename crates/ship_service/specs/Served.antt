@@ -1,13 +1,15 @@
 -- The service: which reply a command may have at a connection's seat, and what it does to the seat. Of a cell, whose machine
 -- others may step at any time, it is told what its lock lends: what the type of the cell says of it before and after, and
 -- what the command did in between.
-use Rattle.std.specs.Prelude.{◌≡◌, ◌⊎◌, ℕ, zero, suc, ◌+◌, ◌<◌, ◌≤◌, List, Some, None, true, is_some}
+use Rattle.std.specs.Prelude.{◌≡◌, ◌⊎◌, ℕ, ◌+◌, ◌<◌, ◌≤◌, List, Some, None}
 use Rattle.object_store.specs.Stores.{machine_limit}
+use Rattle.shared_objects.specs.History.{top}
 use Rattle.shared_objects.specs.Kinds.{shut}
 use Rattle.machine.specs.MachineState.{MachineState}
 use Rattle.debugger.specs.declared.start.Start.{Start}
 use Rattle.debugger.specs.declared.commands.MachineCommand.{MachineCommand}
-use Rattle.workers.specs.Cells.{SeatState, CellState, FitsCell, opened_as}
+use Rattle.workers.specs.declared.cell.Taken.{Taken}
+use Rattle.workers.specs.Cells.{SeatState, CellState, RunningState, IsReplayed, IsStamped, FitsCell, opened_as}
 use Rattle.world.specs.declared.replies.Reply.{Reply}
 use Rattle.world.specs.declared.replies.Reply.TheVariants as reply
 use Rattle.world.specs.declared.events.Event.{Event}
@@ -17,31 +19,21 @@ use Rattle.world.specs.declared.events.ObjectCommand.TheVariants as object
 use Rattle.world.specs.declared.events.Move.TheVariants as move
 use Rattle.console.specs.Conversations.{Protocol}
 use Rattle.ship_service.specs.declared.replies.ServiceReply.{ServiceReply}
-use Rattle.ship_service.specs.declared.replies.ServiceReply.TheVariants.{Plain, Unserved}
+use Rattle.ship_service.specs.declared.replies.ServiceReply.TheVariants.{Plain, Shipped, Full, Unserved}
 use Rattle.ship_service.specs.Replies.{service_text}
 use Rattle.ship_service.specs.Ranges.{ServesPut, ServesGet, AsksMover}
 use Rattle.ship_service.specs.Lent.{AnswersLent, ShipsCell}
 
 -- ---- cells
 
--- What the type of a cell says of what its lock lends: the seat is that of the number's actor, and the machine, if there is
--- one, is the replay of the seat's entries from its start.
+-- What the type of a cell says of what its lock lends: the seat is that of the number's actor and has seen up to its last
+-- entry, and the machine, if there is one, is the replay of the seat's entries from its start.
 pub record IsCell (opening : List (List ℕ)) (starts : List MachineState) (number : ℕ) (c : CellState) : Type 0 where
   pub number_is : c.number ≡ number
   pub actor_is : c.seat.view.actor ≡ number
   pub opening_is : c.seat.view.opening ≡ opening
+  pub stamped : IsStamped c.seat
   pub fits : FitsCell opening starts number c.seat c.running
-
--- The cell of this number was lent with a machine in it.
-pub record IsTaken (opening : List (List ℕ)) (starts : List MachineState) (number : ℕ) : Type 0 where
-  pub cell : CellState
-  pub is_cell : IsCell opening starts number cell
-  pub taken : is_some cell.running ≡ true
-
--- So were the cells of the numbers 1 to count.
-abbrev pub AreTaken : List (List ℕ) → List MachineState → ℕ → Type 0
-AreTaken opening starts zero = Unit {0}
-AreTaken opening starts (suc count) = AreTaken opening starts count × IsTaken opening starts (count + 1)
 
 -- ---- machines
 
@@ -65,28 +57,33 @@ pub record NoCell (old : SeatState) (m : ℕ) (told : ServiceReply) (new : SeatS
 abbrev pub ServesMachine : List (List ℕ) → List MachineState → SeatState → ℕ → MachineCommand → ServiceReply → SeatState → Type 0
 ServesMachine opening starts old m command told new = NoCell old m told new ⊎ OnCell opening starts old m command told new
 
--- All cells have machines.
-pub record NoRoom (opening : List (List ℕ)) (starts : List MachineState) (told : ServiceReply) : Type 0 where
-  pub told_is : told ≡ Plain reply.Full
-  pub taken : AreTaken opening starts machine_limit
+-- the reply to code that is shipped after so many cells were each lent with a machine
+abbrev pub reply_to_ship : Reply → Taken → ServiceReply
+reply_to_ship (reply.Shipped m) taken = Shipped m taken
+reply_to_ship said taken = Plain said
 
--- The code comes into the first cell without a machine: those of the lesser numbers have one.
+-- All cells have machines: each was lent with one.
+pub record NoRoom (told : ServiceReply) : Type 0 where
+  pub taken : Taken
+  pub all : taken.count ≡ machine_limit
+  pub told_is : told ≡ Full taken
+
+-- The code comes into a cell without a machine: the cells of the lesser numbers were each lent with one.
 pub record IntoCell (opening : List (List ℕ)) (starts : List MachineState) (start : Start) (code : List ℕ) (told : ServiceReply) : Type 0 where
-  pub lesser : ℕ
+  pub taken : Taken
   pub before : CellState
   pub after : CellState
   pub said : Reply
-  pub taken : AreTaken opening starts lesser
-  pub exists : lesser < machine_limit
-  pub before_is : IsCell opening starts (lesser + 1) before
-  pub after_is : IsCell opening starts (lesser + 1) after
+  pub exists : taken.count < machine_limit
+  pub before_is : IsCell opening starts (taken.count + 1) before
+  pub after_is : IsCell opening starts (taken.count + 1) after
   pub empty : before.running ≡ None
-  pub told_is : told ≡ Plain said
+  pub told_is : told ≡ reply_to_ship said taken
   pub ships : ShipsCell start code before said after
 
 -- `ship`
 abbrev pub ServesShip : List (List ℕ) → List MachineState → Start → List ℕ → ServiceReply → Type 0
-ServesShip opening starts start code told = NoRoom opening starts told ⊎ IntoCell opening starts start code told
+ServesShip opening starts start code told = NoRoom told ⊎ IntoCell opening starts start code told
 
 -- ---- commands
 
@@ -128,3 +125,13 @@ service opening starts = record { State = SeatState; Reply = ServiceReply; step 
 abbrev pub OpenedMachinesStay : List (List ℕ) → List MachineState → Type 0
 OpenedMachinesStay opening starts = (old new : SeatState) (m : ℕ) (command : MachineCommand) (start : MachineState) → 1 ≤ m → m ≤ machine_limit → opened_as starts m ≡ Some start
     → ServesMachine opening starts old m command (Plain reply.Missing) new → ⊥
+
+-- A machine is seen up to a stamp: it is the replay, from its start, of entries of which the last stands at that stamp or below.
+pub record IsSeen (opening : List (List ℕ)) (starts : List MachineState) (number stamp : ℕ) (seat : SeatState) (r : RunningState) : Type 0 where
+  pub replayed : IsReplayed opening starts number seat r
+  pub up_to : top 0 seat.view.entries ≤ stamp
+
+-- Whatever a command on a machine is answered, the connection has seen the machine as the command left it.
+abbrev pub AnsweredMachinesAreSeen : List (List ℕ) → List MachineState → Type 0
+AnsweredMachinesAreSeen opening starts = (old new : SeatState) (m : ℕ) (command : MachineCommand) (told : ServiceReply) (c : OnCell opening starts old m command told new) (r : RunningState)
+    → c.after.running ≡ Some r → IsSeen opening starts m new.stamp c.after.seat r

@@ -7,6 +7,8 @@ use Rattle.memory.specs.declared.deeds.Given.TheVariants.{Bytes, Nothing}
 use Rattle.shared_objects.specs.SeatMemories.{own_entry}
 use Rattle.shared_objects.specs.declared.view.Entry.{Entry}
 use Rattle.machine.specs.MachineState.{MachineState}
+use Rattle.debugger.specs.declared.commands.Way.{Way}
+use Rattle.debugger.specs.declared.commands.MachineCommand.TheVariants.{Step}
 use Rattle.workers.specs.Cells.{SeatState}
 use Rattle.world.specs.declared.events.Event.{Event}
 use Rattle.world.specs.declared.events.Event.TheVariants.{Object}
@@ -15,7 +17,7 @@ use Rattle.world.specs.declared.replies.Reply.TheVariants as reply
 use Rattle.console.specs.Conversations.{Exchange, Answered, turn_commands, turn_replies}
 use Rattle.ship_service.specs.declared.replies.ServiceReply.{ServiceReply}
 use Rattle.ship_service.specs.declared.replies.ServiceReply.TheVariants.{Plain}
-use Rattle.ship_service.specs.Served.{service}
+use Rattle.ship_service.specs.Served.{OnCell, service}
 
 -- what a command with this reply adds: object, what was done, and what was given
 abbrev pub added : Event → ServiceReply → List OwnEntry
@@ -50,3 +52,15 @@ RepliesAreEntries opening starts = (old new : SeatState) (input output rest : Li
 abbrev pub ReplyIsEntry : List (List ℕ) → List MachineState → Type 0
 ReplyIsEntry opening starts = (old new : SeatState) (line bytes : List ℕ) (a : Answered (service opening starts) old line bytes new)
     → TellsEntries old (turn_commands (service opening starts) a.0) (turn_replies (service opening starts) a.0) new
+
+-- What a step adds at the machine's seat: entries of its actor, stamped above all that the connection had seen before it, and at
+-- most at what it has seen after.
+pub record StepsAbove (m : ℕ) (old : SeatState) (before after : SeatState) (new : SeatState) : Type 0 where
+  pub more : List Entry
+  pub entries : after.view.entries ≡ before.view.entries ++ more
+  pub stamps : RiseTo m old.stamp more new.stamp
+
+-- So it is for each step that a connection asks for.
+abbrev pub StepsStandAbove : List (List ℕ) → List MachineState → Type 0
+StepsStandAbove opening starts = (old new : SeatState) (m : ℕ) (way : Way) (told : ServiceReply) (c : OnCell opening starts old m (Step way) told new)
+    → StepsAbove m old c.before.seat c.after.seat new

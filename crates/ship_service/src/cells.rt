@@ -1,9 +1,9 @@
 //! Commands on machines by their numbers, each under the lock of the machine's cell.
-ghost use Rattle.std.specs.Prelude.{◌≡◌, ◌≤◌, ◌<◌, ◌+◌, ℕ, None, IfSome, IfNone};
+ghost use Rattle.std.specs.Prelude.{◌≡◌, ◌≤◌, ◌<◌, ◌+◌, ℕ, None, IfSome, IfNone, IfOk, IfErr};
 ghost use Rattle.std.specs.Sync.Mutex.{mutex_guard_value};
 ghost use Rattle.object_store.specs.Stores.{machine_limit};
 ghost use Rattle.workers.specs.Cells.{seat_state};
-ghost use Rattle.ship_service.specs.Served.{IsCell, AreTaken, ServesMachine, ServesShip};
+ghost use Rattle.ship_service.specs.Served.{IsCell, reply_to_ship, ServesMachine, ServesShip};
 
 use crate::lent::{answer_lent, ship_lent};
 use crate::replies::ServiceReply;
@@ -14,7 +14,7 @@ use object_store::MACHINE_LIMIT;
 use shared_objects::ActorSeat;
 use std::alloc::Global;
 use std::sync::{MutexGuard, Wait};
-use workers::{Locked, Mark};
+use workers::{Locked, Mark, Taken};
 use world::Reply;
 
 /// The lock of the cell of this number, if there can be such a machine.
@@ -58,22 +58,36 @@ pub(crate) fn answer_machine<F: FarStore, K: Mark, R: Wait>(
     ServiceReply::Plain(said)
 }
 
-/// The lock of the first cell that has no machine.
+/// The lock of the first cell that has no machine, and the cells of the lesser numbers, which were each lent with a machine; or
+/// else all cells, which were. No cell is lent that is known to have one, since a worker may have its lock.
 fn lend_empty<'a, F: FarStore, K: Mark, R: Wait>(
     rt: &R,
     agent: &'a Agent<F, K>,
-) -> Option<MutexGuard<'a, Locked<K>>>
-    ensures some { IfSome result (λ guard. (lesser : ℕ) × AreTaken K.opening K.starts lesser × (lesser < machine_limit)
-        × IsCell K.opening K.starts (lesser + 1) (mutex_guard_value guard) × ((mutex_guard_value guard).running ≡ None)) }
-    ensures none { IfNone result (AreTaken K.opening K.starts machine_limit) }
+) -> Result<(MutexGuard<'a, Locked<K>>, Taken), Taken>
+    ensures found { IfOk result (λ r. (r.1.count < machine_limit) × IsCell K.opening K.starts (r.1.count + 1) (mutex_guard_value r.0) × ((mutex_guard_value r.0).running ≡ None)) }
+    ensures none { IfErr result (λ taken. taken.count ≡ machine_limit) }
 {
-    for lesser in 0..MACHINE_LIMIT {
-        let locked = lend(rt, agent, lesser + 1)?;
+    let mut taken = agent.pool().taken(rt, MACHINE_LIMIT);
+    for lesser in taken.count()..MACHINE_LIMIT {
+        let Some(locked) = lend(rt, agent, lesser + 1) else {
+            unreachable!()
+        };
         if !locked.has_machine() {
-            return Some(locked);
+            return Ok((locked, taken));
         }
+        taken = taken.and(&locked);
     }
-    None
+    Err(taken)
+}
+
+/// The reply to code that is shipped after so many cells were each lent with a machine.
+fn told_of(said: Reply, taken: Taken) -> ServiceReply
+    ensures { result ≡ reply_to_ship said taken }
+{
+    match said {
+        Reply::Shipped { machine } => ServiceReply::Shipped { machine, taken },
+        said => ServiceReply::Plain(said),
+    }
 }
 
 /// Makes the code a machine, in the first cell that has none.
@@ -86,10 +100,12 @@ pub(crate) fn ship<F: FarStore, K: Mark, R: Wait>(
 ) -> ServiceReply
     ensures { ServesShip K.opening K.starts start code.now result }
 {
-    let Some(mut locked) = lend_empty(rt, agent) else {
-        return ServiceReply::Plain(Reply::Full);
+    let (mut locked, taken) = match lend_empty(rt, agent) {
+        Ok(found) => found,
+        Err(taken) => return ServiceReply::Full(taken),
     };
     let said = ship_lent(rt, alloc, agent.pool(), &mut locked, start, code);
     locked.fact();
-    ServiceReply::Plain(said)
+    agent.pool().know_taken(rt, &taken, &locked);
+    told_of(said, taken)
 }

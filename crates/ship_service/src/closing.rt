@@ -1,12 +1,14 @@
 //! The service closes, once workers, mover and connections have ended.
 ghost use Rattle.std.specs.Prelude.{◌≡◌, ◌+◌, ◌++◌, length, map, slice_index_or, All, IfOk, IfSome, IfNone, None};
 ghost use Rattle.std.specs.Option.{option_copied};
+ghost use Rattle.far_store.specs.Stores.{parcel_bytes};
 ghost use Rattle.object_store.specs.Stores.{machine_limit};
 ghost use Rattle.shared_objects.specs.Tables.{table_opening};
 ghost use Rattle.workers.specs.Cells.{IsSeatOf};
 ghost use Rattle.ship_service.specs.Closing.{AreLengths, Settles, live_object, GivesParcel};
 
 use crate::connection::Connection;
+use crate::journal::{Journal, Tally};
 use crate::shared_agent::Agent;
 use far_store::{FarStore, StoreFault};
 use shared_objects::{ActorSeat, Ended, SharedTable};
@@ -25,6 +27,18 @@ pub struct Closed<F: FarStore> {
     store: F,
     // by number
     parcels: Vec<Option<F::Parcel>>,
+}
+
+/// What the service leaves, apart.
+#[derive(Drop)]
+pub struct ClosedParts<F: FarStore> {
+    /// By number, whether the object is here, with its bytes, or out. A number that is no object's is here without bytes.
+    pub objects: Vec<Ended>,
+    /// Number and machine of each cell.
+    pub cells: Vec<ClosedCell>,
+    pub store: F,
+    /// By number, the parcel of each object that is far.
+    pub parcels: Vec<Option<F::Parcel>>,
 }
 
 impl<F: FarStore> Model for Closed<F> {
@@ -56,6 +70,21 @@ impl<F: FarStore> Closed<F> {
         self.objects.get(number)
     }
 
+    /// Tells a journal how many objects are here, and how many are far.
+    pub(crate) fn tell<J: Journal>(&self, journal: &J) {
+        let mut here = Tally::none();
+        let mut far = Tally::none();
+        for number in 0..self.lengths.len() {
+            let length = self.lengths[number];
+            match self.object(number) {
+                Some(Ended::Here(_)) => here = here.and(length),
+                Some(Ended::Out) => far = far.and(length),
+                None => {}
+            }
+        }
+        journal.closed(here, far);
+    }
+
     /// Number and machine of each cell.
     pub fn cells(&self) -> &[ClosedCell]
         ensures { result.now ≡ self.now.cells }
@@ -76,6 +105,28 @@ impl<F: FarStore> Closed<F> {
             return None;
         };
         Some(self.store.get(parcel))
+    }
+
+    /// Hands out all that is left.
+    pub fn into_parts(self) -> ClosedParts<F>
+        ensures objects { result.objects.items ≡ self.objects }
+        ensures cells { result.cells.items ≡ self.cells }
+        ensures store { result.store ≡ self.store }
+        ensures parcels { map (parcel_bytes F.bytes_in) result.parcels.items ≡ self.parcels }
+    {
+        let Closed {
+            lengths: _,
+            objects,
+            cells,
+            store,
+            parcels,
+        } = self;
+        ClosedParts {
+            objects,
+            cells,
+            store,
+            parcels,
+        }
     }
 }
 

@@ -1,7 +1,7 @@
 //! What the definitions say, apart from any call.
 ghost use Rattle.ship_service.specs.Closing.{MachinesReplayTheList};
-ghost use Rattle.ship_service.specs.Served.{OpenedMachinesStay};
-ghost use Rattle.ship_service.specs.Telling.{RepliesAreEntries, ReplyIsEntry};
+ghost use Rattle.ship_service.specs.Served.{AnsweredMachinesAreSeen, OpenedMachinesStay};
+ghost use Rattle.ship_service.specs.Telling.{RepliesAreEntries, ReplyIsEntry, StepsStandAbove};
 
 use far_store::FarStore;
 use workers::Mark;
@@ -20,6 +20,18 @@ pub fn reply_is_entry<K: Mark>()
 /// A machine that was there when the table was opened is never answered to be none.
 pub fn opened_machines_stay<K: Mark>()
     ensures { OpenedMachinesStay K.opening K.starts }
+{}
+
+/// Whatever a command on a machine is answered, the machine is then the replay of entries up to the stamp that the connection
+/// has seen, from the state that the table was opened with or from the start of valid code.
+pub fn answered_machines_are_seen<K: Mark>()
+    ensures { AnsweredMachinesAreSeen K.opening K.starts }
+{}
+
+/// What a machine does in a step that a connection asks for stands above all that the connection had seen before, and the
+/// connection has seen it then.
+pub fn steps_stand_above<K: Mark>()
+    ensures { StepsStandAbove K.opening K.starts }
 {}
 
 /// Each machine that a closed service leaves is the replay of its own share of the one list.

@@ -5,6 +5,7 @@ mod cells;
 mod closing;
 mod closing_lines;
 mod connection;
+mod journal;
 mod laws;
 mod lent;
 mod listening;
@@ -16,11 +17,13 @@ mod shared_agent;
 mod texts;
 mod threads;
 
-pub use closing::Closed;
+pub use closing::{Closed, ClosedParts};
 pub use closing_lines::{print_machine, print_object, write_closing_lines};
 pub use connection::{Connection, Post};
+pub use journal::{Journal, Tally, Unwritten};
 pub use laws::{
-    machines_replay_the_list, opened_machines_stay, replies_are_entries, reply_is_entry,
+    answered_machines_are_seen, machines_replay_the_list, opened_machines_stay,
+    replies_are_entries, reply_is_entry, steps_stand_above,
 };
 pub use listening::{ListenFault, listen, listen_over};
 pub use opened::{CONNECTION_LIMIT, OpenAgent, Opened};

@@ -3,11 +3,13 @@ ghost use Rattle.std.specs.Prelude.{◌≡◌, ◌+◌, length, OnErr, OnOk, IfO
 ghost use Rattle.std.specs.Io.KnownBytes.{Appends};
 ghost use Rattle.streams.specs.Streams.{AppendsPart};
 ghost use Rattle.object_store.specs.Stores.{machine_limit};
+ghost use Rattle.world.specs.WorldState.{state_of};
 ghost use Rattle.ship_service.specs.Listening.{FindsHere, OpensAll, SaysAs, SaysClosing, TellsClosing, TellsClosingOf, listening_line};
 ghost use Rattle.ship_service.specs.Opening.{IsNamed};
 
 use crate::closing_lines::write_closing_lines;
 use crate::connection::Connection;
+use crate::journal::{Journal, Unwritten};
 use crate::opened::{OpenAgent, Opened};
 use crate::shared_agent::Agent;
 use crate::texts::{closed_line, listening};
@@ -16,7 +18,7 @@ use far_store::FarStore;
 use std::alloc::Global;
 use std::io::Write;
 use std::marker::Brand;
-use std::net::TcpListener;
+use std::net::{TcpListener, TcpStream};
 use std::sync::Wait;
 use std::thread::Threads;
 use streams::{WriteFault, put_all};
@@ -50,8 +52,9 @@ fn announce<W: Write>(port: u16, writer: &mut W) -> Result<(), WriteFault>
 }
 
 /// Closes with all its connections, and says what is left.
-fn close<F: FarStore + Drop, K: Mark, W: Write>(
+fn close<F: FarStore + Drop, K: Mark, W: Write, J: Journal>(
     alloc: Global,
+    journal: &J,
     writer: &mut W,
     agent: Agent<F, K>,
     connections: Vec<Connection<K>>,
@@ -63,6 +66,7 @@ fn close<F: FarStore + Drop, K: Mark, W: Write>(
     let Ok(closed) = agent.close(alloc, connections, mover) else {
         return Err(ListenFault::Memory);
     };
+    closed.tell(journal);
     let Ok(()) = put_all(writer, closed_line()) else {
         return Err(ListenFault::Write);
     };
@@ -78,13 +82,16 @@ fn listen_opened<
     K: Mark + Send + Sync,
     W: Write,
     R: Threads + Wait + Sync,
+    J: Journal + Sync,
 >(
     rt: &R,
     alloc: Global,
     listener: TcpListener,
     writer: &mut W,
     opened: Opened<F>,
+    far: Option<TcpStream>,
     plan: Plan,
+    journal: &J,
 ) -> Result<(), ListenFault>
 where
     F::Parcel: Send,
@@ -101,7 +108,17 @@ where
     let Ok(()) = announce(address.port(), writer) else {
         return Err(ListenFault::Write);
     };
-    let Ok(served) = serve_all(rt, alloc, &agent, connections, &mut mover, &listener, plan) else {
+    let Ok(served) = serve_all(
+        rt,
+        alloc,
+        &agent,
+        connections,
+        &mut mover,
+        listener,
+        far,
+        plan,
+        journal,
+    ) else {
         return Err(ListenFault::Memory);
     };
     match served.outcome {
@@ -109,7 +126,7 @@ where
         Err(ThreadFault::Net) => return Err(ListenFault::Net),
         Err(ThreadFault::Memory) => return Err(ListenFault::Memory),
     }
-    close(alloc, writer, agent, served.connections, mover)
+    close(alloc, journal, writer, agent, served.connections, mover)
 }
 
 /// Shares the objects and machines of a world, which all have to be here, with so many connections, at most eight, on a
@@ -131,8 +148,8 @@ pub fn listen<F: FarStore + Drop + Send + Sync, W: Write, R: Threads + Wait + Sy
 ) -> Result<(), ListenFault>
 where
     F::Parcel: Send,
-    ensures says { SaysAs (TellsClosingOf F F.RETURNS world) (W.contents writer.old) (W.contents writer.new) result }
-    ensures here { FindsHere world.store.places result }
+    ensures says { SaysAs (TellsClosingOf F F.RETURNS (state_of world)) (W.contents writer.old) (W.contents writer.new) result }
+    ensures here { FindsHere world.store.state.places result }
 {
     let opened = match Opened::new(alloc, world) {
         Ok(opened) => opened,
@@ -144,15 +161,20 @@ where
         workers,
         sweep,
     };
-    listen_opened::<F, Brand, W, R>(rt, alloc, listener, writer, opened, plan)
+    listen_opened::<F, Brand, W, R, Unwritten>(
+        rt, alloc, listener, writer, opened, None, plan, &Unwritten,
+    )
 }
 
-/// The same over another far store than the world's, which is dropped: objects that leave go to this one.
+/// The same over another far store than the world's, which is dropped: objects that leave go to this one. If it has a stream, `far` is
+/// another handle of that: it is shut down with the last connection, so that no move keeps the service from ending. The journal is
+/// told of clients, of moves and of what is left.
 pub fn listen_over<
     F: FarStore + Drop,
     S: FarStore + Drop + Send + Sync,
     W: Write,
     R: Threads + Wait + Sync,
+    J: Journal + Sync,
 >(
     rt: &R,
     alloc: Global,
@@ -160,17 +182,19 @@ pub fn listen_over<
     writer: &mut W,
     world: World<F>,
     store: S,
+    far: Option<TcpStream>,
     plan: Plan,
+    journal: &J,
 ) -> Result<(), ListenFault>
 where
     S::Parcel: Send,
-    ensures says { SaysAs (TellsClosingOf S S.RETURNS world) (W.contents writer.old) (W.contents writer.new) result }
-    ensures here { FindsHere world.store.places result }
+    ensures says { SaysAs (TellsClosingOf S S.RETURNS (state_of world)) (W.contents writer.old) (W.contents writer.new) result }
+    ensures here { FindsHere world.store.state.places result }
 {
     let opened = match Opened::over(alloc, world, store) {
         Ok(opened) => opened,
         Err(OpenAgent::NotHere(number)) => return Err(ListenFault::NotHere(number)),
         Err(OpenAgent::Memory) => return Err(ListenFault::Memory),
     };
-    listen_opened::<S, Brand, W, R>(rt, alloc, listener, writer, opened, plan)
+    listen_opened::<S, Brand, W, R, J>(rt, alloc, listener, writer, opened, far, plan, journal)
 }

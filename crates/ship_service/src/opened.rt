@@ -1,7 +1,9 @@
 //! A world is opened for many connections.
 ghost use Rattle.std.specs.Prelude.{◌≡◌, ◌≤◌, ◌+◌, length, map, All, IfOk, IfErr, OnOk};
 ghost use Rattle.console.specs.Held.{nothing_held};
-ghost use Rattle.object_store.specs.Parts.{AllHere};
+ghost use Rattle.far_store.specs.Calls.{Calls};
+ghost use Rattle.object_store.specs.Parts.{AllHere, forgets_all};
+ghost use Rattle.world.specs.WorldState.{state_of};
 ghost use Rattle.object_store.specs.Stores.{machine_limit};
 ghost use Rattle.memory.specs.Objects.{object_limit};
 ghost use Rattle.shared_objects.specs.Kinds.{dealer};
@@ -83,12 +85,12 @@ fn open_parts<F: FarStore + Drop>(
 
 /// The parts of a world, whose objects all have to be here. On a refusal it is dropped.
 fn take_apart<F: FarStore + Drop>(world: World<F>) -> Result<WorldParts<F>, OpenAgent>
-    ensures here { OnOk result (AllHere world.store.places) }
-    ensures bodies { IfOk result (λ parts. opening_bytes parts.bodies ≡ opened_bytes world) }
+    ensures here { OnOk result (AllHere world.store.state.places) }
+    ensures bodies { IfOk result (λ parts. opening_bytes parts.bodies ≡ opened_bytes (state_of world)) }
     ensures machines { IfOk result (λ parts. parts.machines.items ≡ world.machines) }
     ensures few { IfOk result (λ parts. (length parts.machines.items ≤ machine_limit) × (length parts.bodies.items ≤ object_limit)) }
-    ensures store { IfOk result (λ parts. world.store.faults ≤ F.faults_of parts.store) }
-    ensures refused { IfErr result (λ why. RefusesWorld world why) }
+    ensures store { IfOk result (λ parts. Calls F.called world.store.far (forgets_all world.store.sent) parts.store) }
+    ensures refused { IfErr result (λ why. RefusesWorld (state_of world) why) }
 {
     match world.into_parts() {
         Ok(parts) => Ok(parts),
@@ -102,11 +104,11 @@ impl<F: FarStore + Drop> Opened<F> {
     /// object was ever made, the table has one body without bytes. The machines and their debug states stay as they are; no scope
     /// is open. On a refusal all is dropped.
     pub fn new(alloc: Global, world: World<F>) -> Result<Opened<F>, OpenAgent>
-        ensures here { OnOk result (AllHere world.store.places) }
-        ensures opening { IfOk result (λ opened. table_opening opened.shared.table ≡ opened_bytes world) }
+        ensures here { OnOk result (AllHere world.store.state.places) }
+        ensures opening { IfOk result (λ opened. table_opening opened.shared.table ≡ opened_bytes (state_of world)) }
         ensures machines { IfOk result (λ opened. opened.machines.items ≡ world.machines) }
-        ensures store { IfOk result (λ opened. world.store.faults ≤ F.faults_of opened.store) }
-        ensures refused { IfErr result (λ why. RefusesWorld world why) }
+        ensures store { IfOk result (λ opened. Calls F.called world.store.far (forgets_all world.store.sent) opened.store) }
+        ensures refused { IfErr result (λ why. RefusesWorld (state_of world) why) }
     {
         let parts = match take_apart(world) {
             Ok(parts) => parts,
@@ -124,11 +126,11 @@ impl<F: FarStore + Drop> Opened<F> {
         world: World<G>,
         store: F,
     ) -> Result<Opened<F>, OpenAgent>
-        ensures here { OnOk result (AllHere world.store.places) }
-        ensures opening { IfOk result (λ opened. table_opening opened.shared.table ≡ opened_bytes world) }
+        ensures here { OnOk result (AllHere world.store.state.places) }
+        ensures opening { IfOk result (λ opened. table_opening opened.shared.table ≡ opened_bytes (state_of world)) }
         ensures machines { IfOk result (λ opened. opened.machines.items ≡ world.machines) }
         ensures store { IfOk result (λ opened. opened.store ≡ store) }
-        ensures refused { IfErr result (λ why. RefusesWorld world why) }
+        ensures refused { IfErr result (λ why. RefusesWorld (state_of world) why) }
     {
         let WorldParts {
             machines,

@@ -2,9 +2,10 @@
 ghost use Rattle.std.specs.Prelude.{◌≡◌, ◌<◌, ◌≤◌, ◌+◌, ◌++◌, length};
 ghost use Rattle.console.specs.Lines.{ended};
 ghost use Rattle.console.specs.Replies.{number_text};
-ghost use Rattle.ship_service.specs.Replies.{service_text, IsShortReply, missed_object};
+ghost use Rattle.ship_service.specs.Replies.{service_text, IsShortReply, missed_object, is_busy};
 
 use console::{REPLY_LIMIT, ReplyLine, print_reply, put, put_named};
+use workers::Taken;
 use world::Reply;
 
 /// What a command was answered.
@@ -12,6 +13,10 @@ use world::Reply;
 pub enum ServiceReply {
     /// What an agent with one conversation may answer too.
     Plain(Reply),
+    /// The code is a machine now, in the next cell after those that were each lent with a machine.
+    Shipped { machine: usize, taken: Taken },
+    /// All cells were lent with a machine.
+    Full(Taken),
     /// Another has its turn on the object.
     Busy { object: u32 },
     /// The stamps of the object, or those of the connection, have run out.
@@ -32,6 +37,13 @@ impl ServiceReply {
             ServiceReply::Plain(Reply::Waiting { object, .. }) => Some(*object),
             _ => None,
         }
+    }
+
+    /// Whether another had its turn on the object.
+    pub(crate) fn is_busy(&self) -> bool
+        ensures { result ≡ is_busy self.now }
+    {
+        matches!(self, ServiceReply::Busy { .. })
     }
 }
 
@@ -62,6 +74,10 @@ pub(crate) fn print_service_reply(reply: &ServiceReply, line: &mut ReplyLine)
 {
     match reply {
         ServiceReply::Plain(reply) => print_reply(reply, line),
+        ServiceReply::Shipped { machine, .. } => {
+            print_reply(&Reply::Shipped { machine: *machine }, line)
+        }
+        ServiceReply::Full(_) => print_reply(&Reply::Full, line),
         ServiceReply::Busy { object } => print_named(b"busy", *object, line),
         ServiceReply::Worn => print_text(b"worn", line),
         ServiceReply::Asked { object } => print_named(b"asked", *object, line),

@@ -42,9 +42,16 @@ fn answer_object<F: FarStore, K: Mark, R: Wait>(
     let pool = agent.pool();
     match command {
         ObjectCommand::Put { offset, bytes } => {
-            put(pool.table(), seat, object, offset, bytes.as_slice())
+            put(rt, pool.table(), seat, object, offset, bytes.as_slice())
         }
-        ObjectCommand::Get { offset, length } => get(pool.table(), seat, object, offset, length),
+        ObjectCommand::Get { offset, length } => get(
+            rt,
+            pool.table(),
+            seat,
+            object,
+            offset,
+            length,
+        ),
         ObjectCommand::Move(Move::Leave) => ask(rt, pool, object, Direction::Leave),
         ObjectCommand::Move(Move::Return) => ask(rt, pool, object, Direction::Return),
         _ => ServiceReply::Unserved,
@@ -86,7 +93,7 @@ impl<'a, R: Wait, F: FarStore, K: Mark> Answerer<Service<'a, R, F, K>> for Post<
         let told = answer(shared.rt, self.alloc, shared.agent, &mut self.seat, event);
         pool.table().close_scopes(&mut self.seat);
         if let Some(object) = told.missed() {
-            pool.request(shared.rt, object, Direction::Return);
+            pool.call(shared.rt, object);
         }
         print_service_reply(&told, reply);
     }

@@ -3,9 +3,10 @@ ghost use Rattle.std.specs.Prelude.{◌≡◌, length, IfOk};
 ghost use denote.Param.Send.{IsSend};
 
 use crate::connection::Connection;
+use crate::journal::Journal;
 use crate::serving::serve;
 use crate::shared_agent::Agent;
-use far_store::FarStore;
+use far_store::{FarStore, Moved};
 use std::alloc::{AllocError, Global};
 use std::io::{self, Error, ErrorKind};
 use std::net::{Shutdown, TcpListener, TcpStream};
@@ -13,7 +14,7 @@ use std::sync::atomic::{AtomicBool, Ordering};
 use std::sync::{Mutex, Wait};
 use std::thread;
 use std::thread::Threads;
-use workers::{Gate, Mark, Mover, mover, work};
+use workers::{Gate, Mark, Mover, Request, mover, work};
 
 /// Why a service ended before all its connections had.
 #[derive(Clone, Copy, Drop, Debug, PartialEq, Eq)]
@@ -42,31 +43,32 @@ pub struct Served<K: Mark> {
     pub outcome: Result<(), ThreadFault>,
 }
 
-/// Lets workers and mover go on until it is told that the service ends.
+/// Lets workers and mover go on until it is told that the service ends. It passes moves on to a journal.
 #[derive(Drop)]
-struct UntilEnd {
+struct UntilEnd<'a, J: Journal> {
     ended: AtomicBool,
+    journal: &'a J,
 }
 
-impl UntilEnd {
-    fn new() -> Self {
+impl<'a, J: Journal> UntilEnd<'a, J> {
+    fn new(journal: &'a J) -> Self {
         UntilEnd {
             ended: AtomicBool::new(false),
+            journal,
         }
-    }
-
-    /// From now on workers and mover end.
-    fn end(&self) {
-        self.ended.store(true, Ordering::SeqCst);
     }
 }
 
-impl Gate for UntilEnd {
+impl<'a, J: Journal> Gate for UntilEnd<'a, J> {
     const IS_TOLD: bool = false;
 
     fn before(&self, _worker: usize, _machine: usize) {}
 
     fn after(&self, _worker: usize, _machine: usize) {}
+
+    fn moved(&self, request: Request, moved: Moved) {
+        self.journal.moved(request, moved);
+    }
 
     fn go_on(&self) -> bool {
         !self.ended.load(Ordering::SeqCst)
@@ -75,19 +77,32 @@ impl Gate for UntilEnd {
 
 /// What all threads of a service share.
 #[derive(Drop)]
-struct Tools<'a, R: Wait, F: FarStore, K: Mark> {
+struct Tools<'a, R: Wait, F: FarStore, K: Mark, J: Journal> {
     rt: &'a R,
-    gate: &'a UntilEnd,
+    gate: &'a UntilEnd<'a, J>,
     agent: &'a Agent<F, K>,
     sweep: bool,
+}
+
+impl<'a, R: Wait, F: FarStore, K: Mark, J: Journal> Tools<'a, R, F, K, J> {
+    /// From now on workers and mover end, also those that sleep, and a move that waits for the far store of this stream is cut off.
+    fn end(&self, far: &Option<TcpStream>) {
+        self.gate.ended.store(true, Ordering::SeqCst);
+        self.agent.pool().wake_all();
+        if let Some(stream) = far {
+            let _ = stream.shutdown(Shutdown::Both);
+        }
+    }
 }
 
 /// Where connections come from, and what serves them.
 #[derive(Drop)]
 struct Front<'a, K: Mark> {
     alloc: Global,
-    listener: &'a TcpListener,
+    listener: TcpListener,
     locks: &'a [Mutex<Connection<K>>],
+    // the stream of the far store, if it has one
+    far: Option<TcpStream>,
 }
 
 /// Whether a client went before it was accepted, or a signal came: the next may be accepted.
@@ -114,16 +129,18 @@ fn accept<R: Wait>(rt: &R, listener: &TcpListener) -> io::Result<(TcpStream, Tcp
     unreachable!()
 }
 
-/// Answers all that a client says. What goes wrong on its stream ends its connection alone.
-fn serve_client<R: Wait, F: FarStore, K: Mark>(
-    tools: &Tools<R, F, K>,
+/// Answers all that the client of a number says. What goes wrong on its stream ends its connection alone.
+fn serve_client<R: Wait, F: FarStore, K: Mark, J: Journal>(
+    tools: &Tools<R, F, K, J>,
+    client: u64,
     lock: &Mutex<Connection<K>>,
     stream: TcpStream,
 ) {
+    tools.gate.journal.came(client);
     let mut connection = lock.lock(tools.rt);
     let mut reader = &stream;
     let mut writer = &stream;
-    let _ = serve(
+    let outcome = serve(
         tools.rt,
         &mut reader,
         &mut writer,
@@ -131,6 +148,7 @@ fn serve_client<R: Wait, F: FarStore, K: Mark>(
         &mut connection,
     );
     let _ = stream.shutdown(Shutdown::Both);
+    tools.gate.journal.went(client, outcome);
 }
 
 /// Ends the connections of these streams.
@@ -141,10 +159,18 @@ fn cut_off(streams: &[TcpStream]) {
 }
 
 /// Accepts one client for each connection of the front, each served on a thread of its own, and waits for the ends of all.
-/// Where one can't be, those that are there are cut off.
-fn serve_clients<F: FarStore + Send + Sync, K: Mark + Send + Sync, R: Threads + Wait + Sync>(
-    tools: &Tools<R, F, K>,
-    front: &Front<K>,
+/// The listener is closed with the last of them, so that a client too many is refused at once. Where one can't be accepted, those
+/// that are there are cut off.
+fn serve_clients<
+    F: FarStore + Send + Sync,
+    K: Mark + Send + Sync,
+    R: Threads + Wait + Sync,
+    J: Journal + Sync,
+>(
+    tools: &Tools<R, F, K, J>,
+    alloc: Global,
+    listener: TcpListener,
+    locks: &[Mutex<Connection<K>>],
 ) -> Result<(), ThreadFault>
 where
     F::Parcel: Send,
@@ -153,32 +179,41 @@ where
         thread::scope_env(),
         tools.rt,
         |scope| -> Result<(), ThreadFault> {
-            let mut streams = Vec::new(front.alloc);
-            for lock in front.locks {
-                let Ok((stream, shown)) = accept(tools.rt, front.listener) else {
+            let mut streams = Vec::new(alloc);
+            let mut client: u64 = 0;
+            for lock in locks {
+                let Ok((stream, shown)) = accept(tools.rt, &listener) else {
                     cut_off(&streams);
                     return Err(ThreadFault::Net);
                 };
+                client = client.wrapping_add(1);
                 let room = streams.push(shown).is_ok();
                 if !room
                     || scope
-                        .spawn(move || serve_client(tools, lock, stream))
+                        .spawn(move || serve_client(tools, client, lock, stream))
                         .is_err()
                 {
                     cut_off(&streams);
                     return Err(ThreadFault::Memory);
                 }
             }
+            drop(listener);
             Ok(())
         },
     )
 }
 
-fn step_machines<R: Wait, F: FarStore, K: Mark>(tools: &Tools<R, F, K>, worker: usize) {
+fn step_machines<R: Wait, F: FarStore, K: Mark, J: Journal>(
+    tools: &Tools<R, F, K, J>,
+    worker: usize,
+) {
     work(tools.rt, tools.gate, tools.agent.pool(), worker);
 }
 
-fn move_objects<R: Wait, F: FarStore, K: Mark>(tools: &Tools<R, F, K>, served: &mut Mover<F, K>) {
+fn move_objects<R: Wait, F: FarStore, K: Mark, J: Journal>(
+    tools: &Tools<R, F, K, J>,
+    served: &mut Mover<F, K>,
+) {
     mover(
         tools.rt,
         tools.gate,
@@ -189,14 +224,21 @@ fn move_objects<R: Wait, F: FarStore, K: Mark>(tools: &Tools<R, F, K>, served: &
 }
 
 /// Serves clients beside so many workers, which end with the last connection, as the mover does.
-fn serve_beside_workers<F: FarStore + Send + Sync, K: Mark + Send + Sync, R: Threads + Wait + Sync>(
-    tools: &Tools<R, F, K>,
-    front: &Front<K>,
-    workers: usize,
-) -> Result<(), ThreadFault>
+fn serve_beside_workers<
+    F: FarStore + Send + Sync,
+    K: Mark + Send + Sync,
+    R: Threads + Wait + Sync,
+    J: Journal + Sync,
+>(tools: &Tools<R, F, K, J>, front: Front<K>, workers: usize) -> Result<(), ThreadFault>
 where
     F::Parcel: Send,
 {
+    let Front {
+        alloc,
+        listener,
+        locks,
+        far,
+    } = front;
     thread::scope(
         thread::scope_env(),
         tools.rt,
@@ -205,21 +247,26 @@ where
         {
             for worker in 0..workers {
                 if scope.spawn(move || step_machines(tools, worker)).is_err() {
-                    tools.gate.end();
+                    tools.end(&far);
                     return Err(ThreadFault::Memory);
                 }
             }
-            let outcome = serve_clients(tools, front);
-            tools.gate.end();
+            let outcome = serve_clients(tools, alloc, listener, locks);
+            tools.end(&far);
             outcome
         },
     )
 }
 
 /// Serves clients beside the mover and so many workers.
-fn serve_beside_mover<F: FarStore + Send + Sync, K: Mark + Send + Sync, R: Threads + Wait + Sync>(
-    tools: &Tools<R, F, K>,
-    front: &Front<K>,
+fn serve_beside_mover<
+    F: FarStore + Send + Sync,
+    K: Mark + Send + Sync,
+    R: Threads + Wait + Sync,
+    J: Journal + Sync,
+>(
+    tools: &Tools<R, F, K, J>,
+    front: Front<K>,
     served: &mut Mover<F, K>,
     workers: usize,
 ) -> Result<(), ThreadFault>
@@ -270,24 +317,32 @@ fn unlocked<K: Mark>(
 }
 
 /// Serves as many clients as are planned, one after another as they come and each on a thread of its own, beside workers and
-/// mover, until all have ended. Where a client can't be accepted or a thread can't be made, those that are there are cut off.
-/// All threads have ended then, so agent and mover can be closed, with all connections, which come back. Out of memory
+/// mover, until all have ended. Where a client can't be accepted or a thread can't be made, those that are there are cut off. A move
+/// that still waits for the far store then is cut off by `far`, which is its stream, if it has one.
+/// The journal is told of clients and moves. All threads have ended then, so agent and mover can be closed, with all connections, which come back. Out of memory
 /// is an error before the first thread or after the last, and drops them.
-pub fn serve_all<F: FarStore + Send + Sync, K: Mark + Send + Sync, R: Threads + Wait + Sync>(
+pub fn serve_all<
+    F: FarStore + Send + Sync,
+    K: Mark + Send + Sync,
+    R: Threads + Wait + Sync,
+    J: Journal + Sync,
+>(
     rt: &R,
     alloc: Global,
     agent: &Agent<F, K>,
     connections: Vec<Connection<K>>,
     mover: &mut Mover<F, K>,
-    listener: &TcpListener,
+    listener: TcpListener,
+    far: Option<TcpStream>,
     plan: Plan,
+    journal: &J,
 ) -> Result<Served<K>, AllocError>
 where
     F::Parcel: Send,
     ensures { IfOk result (λ served. length served.connections.items ≡ length connections.items) }
 {
     let locks = locked(alloc, connections)?;
-    let gate = UntilEnd::new();
+    let gate = UntilEnd::new(journal);
     let tools = Tools {
         rt,
         gate: &gate,
@@ -298,8 +353,9 @@ where
         alloc,
         listener,
         locks: &locks[..plan.connections.min(locks.len())],
+        far,
     };
-    let outcome = serve_beside_mover(&tools, &front, mover, plan.workers);
+    let outcome = serve_beside_mover(&tools, front, mover, plan.workers);
     let connections = unlocked(alloc, locks)?;
     Ok(Served {
         connections,

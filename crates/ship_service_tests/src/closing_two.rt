@@ -86,6 +86,7 @@ where
         }
         let ended = converses(tools);
         tools.gate.ended.store(true, Ordering::SeqCst);
+        tools.agent.pool().wake_all();
         made == 2 && ended
     })
 }

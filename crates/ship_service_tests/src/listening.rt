@@ -3,7 +3,7 @@
 use crate::compared::same;
 use console::{Console, drive};
 use far_store::OwnStore;
-use ship_service::{ListenFault, Plan, listen, listen_over};
+use ship_service::{ListenFault, Plan, Unwritten, listen, listen_over};
 use std::alloc::Global;
 use std::io::{Read, Write};
 use std::net::{Ipv4Addr, Net, Shutdown, TcpListener, TcpStream};
@@ -148,7 +148,17 @@ where
     let mut output = Vec::new(alloc);
     let world = world_after(alloc, setup)?;
     let store = OwnStore::new(alloc);
-    let ended = listen_over(rt, alloc, listener, &mut output, world, store, ALONE);
+    let ended = listen_over(
+        rt,
+        alloc,
+        listener,
+        &mut output,
+        world,
+        store,
+        None,
+        ALONE,
+        &Unwritten,
+    );
     Ok((ended, output_of(&output)))
 }
 

@@ -100,10 +100,61 @@ fn repeated(alloc: Global, count: usize, bytes: &[u8], last: &[u8]) -> Result<Ve
     Ok(all)
 }
 
+/// What is asked and answered where objects from this number to 65 are to leave, in order, and the queue has room for all but the
+/// last.
+fn leaves(alloc: Global, first: u32) -> Result<(String, String), AllocError> {
+    let mut said = String::new(alloc);
+    let mut told = String::new(alloc);
+    for number in first..65 {
+        said.push_str(format!(in alloc; "leave {number}\n")?.as_str())?;
+        told.push_str(format!(in alloc; "asked {number}\n")?.as_str())?;
+    }
+    said.push_str("leave 65\n")?;
+    told.push_str("full\n")?;
+    Ok((said, told))
+}
+
+/// 65 objects.
+const MANY: Setting<'static> = Setting {
+    objects: 65,
+    ..PLAIN
+};
+
+/// The same, of which the first is on its way.
+const MANY_AWAY: Setting<'static> = Setting {
+    objects: 65,
+    ..LOAD_AWAY
+};
+
 #[test]
 fn requests_without_a_mover(rt: HostRuntime) -> Result<(), Fail> {
-    let said = repeated(rt.alloc(), 64, b"leave 1\n", b"return 1\nleave 2\n")?;
-    let told = repeated(rt.alloc(), 64, b"asked 1\n", b"full\nnone\n")?;
+    let (leaves, answers_to_leaves) = leaves(rt.alloc(), 1)?;
+    // a move that is asked for already needs no room
+    let said = repeated(
+        rt.alloc(),
+        1,
+        leaves.as_bytes(),
+        b"leave 1\nreturn 1\nleave 66\n",
+    )?;
+    let told = repeated(
+        rt.alloc(),
+        1,
+        answers_to_leaves.as_bytes(),
+        b"asked 1\nfull\nnone\n",
+    )?;
+    answers(
+        &rt,
+        rt.alloc(),
+        &MANY,
+        [(said.as_slice(), told.as_slice()), NOTHING],
+    )?;
+    Ok(())
+}
+
+#[test]
+fn moves_of_one_object_take_two_places(rt: HostRuntime) -> Result<(), Fail> {
+    let said = repeated(rt.alloc(), 64, b"leave 1\nreturn 1\n", b"leave 2\n")?;
+    let told = repeated(rt.alloc(), 64, b"asked 1\nasked 1\n", b"none\n")?;
     answers(
         &rt,
         rt.alloc(),
@@ -114,18 +165,25 @@ fn requests_without_a_mover(rt: HostRuntime) -> Result<(), Fail> {
 }
 
 #[test]
-fn missed_objects_are_asked_for(rt: HostRuntime) -> Result<(), Fail> {
+fn missed_objects_are_asked_for_once(rt: HostRuntime) -> Result<(), Fail> {
+    let (leaves, answers_to_leaves) = leaves(rt.alloc(), 2)?;
     let said = repeated(
         rt.alloc(),
         32,
-        b"get 1 0 1\nstep 1\n",
-        b"leave 1\nget 1 8 1\n",
+        b"get 1 0 1\nstep 1\nget 1 8 1\n",
+        leaves.as_bytes(),
     )?;
-    let told = repeated(rt.alloc(), 32, b"away 1\nwaiting 1 1\n", b"full\noutside\n")?;
+    let told = repeated(
+        rt.alloc(),
+        32,
+        b"away 1\nwaiting 1 1\noutside\n",
+        answers_to_leaves.as_bytes(),
+    )?;
+    // the object that is missed has one of the 64 places
     answers(
         &rt,
         rt.alloc(),
-        &LOAD_AWAY,
+        &MANY_AWAY,
         [(said.as_slice(), told.as_slice()), NOTHING],
     )?;
     Ok(())

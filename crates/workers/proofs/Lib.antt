@@ -3,3 +3,5 @@ pub mod Replayed
 pub mod Coming
 pub mod Placing
 pub mod Emptied
+pub mod Chained
+pub mod Turned

@@ -18,6 +18,7 @@ use Rattle.shared_objects.specs.declared.view.Mark.{Mark}
 use Rattle.shared_objects.specs.declared.view.Mark.TheVariants.{Away, Busy, Worn}
 use Rattle.shared_objects.specs.declared.view.Entry.{Entry as ViewEntry}
 use Rattle.shared_objects.specs.declared.view.View.{View}
+use Rattle.loader.specs.ValidCode.{ValidCode}
 use Rattle.machine.specs.Grants.{GrantState}
 use Rattle.machine.specs.declared.state.Stepped.{Stepped}
 use Rattle.machine.specs.MachineState.{MachineState, IsWholeMachine, granted_start}
@@ -138,7 +139,7 @@ walk_replays opening start way old new before after told same r h =
     subst (λ (d : Debuggee). IsReplay (lengths_of opening) (is_marked_worn after.view.marks) start (map own_entry after.view.entries) d.machine) (sym h.changed)
     (step_replays opening start old.machine h.machine before after h.answer same r h.step)
 
-answer_replays : (opening : List (List ℕ)) (start : MachineState) (way : Way) (old new : Debuggee) (before after : SeatState) (told : StepReply) → before.view.opening ≡ opening
+pub answer_replays : (opening : List (List ℕ)) (start : MachineState) (way : Way) (old new : Debuggee) (before after : SeatState) (told : StepReply) → before.view.opening ≡ opening
     → IsReplay (lengths_of opening) (is_marked_worn before.view.marks) start (map own_entry before.view.entries) old.machine → AnswersStep seat_acts way old before told new after
     → IsReplay (lengths_of opening) (is_marked_worn after.view.marks) start (map own_entry after.view.entries) new.machine
 answer_replays opening start way old new before after (step_reply.Paused slot) same r h =
@@ -185,16 +186,17 @@ fresh_replayed opening starts number seat r none started = record {
 
 -- and a machine that is shipped is one
 pub shipped_replayed : (opening : List (List ℕ)) (starts : List MachineState) (number : ℕ) (seat : SeatState) (r : RunningState) (code : List ℕ) (s : Start)
-    → r ≡ record { debuggee = debuggee_start number code s; shipped = Some (granted_start number code s.fuel s.arguments s.grants) } → seat.view.entries ≡ [] → opened_as starts number ≡ None
+    → ValidCode code → length s.arguments ≡ 5 → r ≡ record { debuggee = debuggee_start number code s; shipped = Some (granted_start number code s.fuel s.arguments s.grants) } → seat.view.entries ≡ [] → opened_as starts number ≡ None
     → IsReplayed opening starts number seat r
-shipped_replayed opening starts number seat r code s e none free =
+shipped_replayed opening starts number seat r code s valid five e none free =
     subst (λ (x : RunningState). IsReplayed opening starts number seat x) (sym e)
-    (fresh_replayed opening starts number seat (record { debuggee = debuggee_start number code s; shipped = Some (granted_start number code s.fuel s.arguments s.grants) }) none (free, refl, refl))
+    (fresh_replayed opening starts number seat (record { debuggee = debuggee_start number code s; shipped = Some (granted_start number code s.fuel s.arguments s.grants) }) none
+    (free, refl, record { code = code; fuel = s.fuel; arguments = s.arguments; grants = s.grants; valid = valid; five = five; start_is = refl }))
 
 -- ---- the actor stays
 
 touch_actor : (v : View) (before n : ℕ) (op : Op) (r : Reach) (w : View) (stamp : ℕ) → Touches v before n op r w stamp → w.actor ≡ v.actor
-touch_actor v before n op (reach.Done x) w stamp h = ap (λ (u : View). u.actor) h.2.3
+touch_actor v before n op (reach.Done x) w stamp h = ap (λ (u : View). u.actor) h.view_is
 touch_actor v before n op reach.Away w stamp h = ap (λ (u : View). u.actor) h.2
 touch_actor v before n op reach.Busy w stamp h = ap (λ (u : View). u.actor) h.2
 touch_actor v before n op reach.Outside w stamp h = ap (λ (u : View). u.actor) h.2

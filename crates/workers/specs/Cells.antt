@@ -1,9 +1,12 @@
 -- What a cell keeps under its lock: a seat of the table, and a machine that is the replay of the seat's entries.
-use Rattle.std.specs.Prelude.{◌≡◌, ℕ, ◌-◌, nat_eq, Bool, true, false, List, [], length, map, Option, Some, None, is_some, is_none, not, ◌&&◌, slice_get}
+use Rattle.std.specs.Prelude.{◌≡◌, ◌<◌, ◌≤◌, ℕ, zero, suc, ◌-◌, ◌%◌, ◌==◌, nat_eq, Bool, true, false, List, [], length, map, Option, Some, None, is_some, is_none, not, ◌&&◌, slice_get}
 use Rattle.std.specs.List.{list_any}
 use Rattle.atomic_table.specs.Seated.{TableId}
 use Rattle.memory.specs.Memories.{Memories}
 use Rattle.memory.specs.Objects.{bytes_of}
+use Rattle.shared_objects.specs.History.{top}
+use Rattle.shared_objects.specs.Kinds.{Witness}
+use Rattle.shared_objects.specs.Phases.{IsObject}
 use Rattle.shared_objects.specs.SeatMemories.{seat_memory, own_entry}
 use Rattle.shared_objects.specs.Tables.{table_opening}
 use Rattle.shared_objects.specs.declared.seats.ActorSeat.{ActorSeat}
@@ -11,16 +14,21 @@ use Rattle.shared_objects.specs.declared.table.SharedTable.{SharedTable}
 use Rattle.shared_objects.specs.declared.view.Mark.{Mark}
 use Rattle.shared_objects.specs.declared.view.Mark.TheVariants.{Away, Busy, Worn}
 use Rattle.shared_objects.specs.declared.view.View.{View}
+use Rattle.loader.specs.ValidCode.{ValidCode}
+use Rattle.machine.specs.Grants.{GrantState}
 use Rattle.machine.specs.MachineState.{MachineState, granted_start}
 use Rattle.machine.specs.Replay.{IsReplay}
 use Rattle.debugger.specs.declared.commands.Way.{Way}
+use Rattle.debugger.specs.declared.commands.Way.TheVariants as way
 use Rattle.debugger.specs.declared.commands.DebugCommand.{DebugCommand}
 use Rattle.debugger.specs.declared.commands.ShowCommand.{ShowCommand}
 use Rattle.debugger.specs.declared.replies.StepReply.{StepReply}
+use Rattle.debugger.specs.declared.replies.StepReply.TheVariants.{Ran}
 use Rattle.debugger.specs.declared.replies.ShowReply.{ShowReply}
 use Rattle.debugger.specs.declared.replies.Debugged.{Debugged}
 use Rattle.debugger.specs.declared.debuggee.Debuggee.{Debuggee}
 use Rattle.debugger.specs.Debuggees.{AnswersStep, DebugsMachine}
+use Rattle.debugger.specs.Running.{is_ran}
 use Rattle.debugger.specs.Showing.{Shows}
 use Rattle.workers.specs.declared.running.Begun.{Begun}
 
@@ -63,10 +71,20 @@ shipped_as m (Some b) = Some (granted_start m.number m.code b.fuel b.arguments m
 abbrev pub opened_as : List MachineState → ℕ → Option MachineState
 opened_as starts number = slice_get starts (number - 1)
 
+-- A machine of this number that is shipped: at the start of some valid code, with some fuel, five arguments and some grants.
+pub record IsShipped (number : ℕ) (start : MachineState) : Type 0 where
+  pub code : List ℕ
+  pub fuel : ℕ
+  pub arguments : List ℕ
+  pub grants : GrantState
+  pub valid : ValidCode code
+  pub five : length arguments ≡ 5
+  pub start_is : start ≡ granted_start number code fuel arguments grants
+
 -- The machine of a number started so: as it was opened, or, where none was, as it was shipped.
 abbrev pub StartedAs : List MachineState → ℕ → Option MachineState → MachineState → Type 0
 StartedAs starts number None start = opened_as starts number ≡ Some start
-StartedAs starts number (Some shipped) start = (opened_as starts number ≡ None) × (start ≡ shipped) × (start.number ≡ number)
+StartedAs starts number (Some shipped) start = (opened_as starts number ≡ None) × (start ≡ shipped) × IsShipped number start
 
 -- how many bytes each object has
 abbrev pub lengths_of : List (List ℕ) → ℕ → ℕ
@@ -80,6 +98,10 @@ is_worn_mark n _ = false
 -- one of the marks says so
 abbrev pub is_marked_worn : List Mark → ℕ → Bool
 is_marked_worn marks n = list_any (is_worn_mark n) marks
+
+-- The seat has seen up to a stamp that is at least that of its last entry, and so of each of its entries.
+abbrev pub IsStamped : SeatState → Type 0
+IsStamped s = top 0 s.view.entries ≤ s.stamp
 
 -- The machine of a number is the replay of the seat's entries from its start.
 pub record IsReplayed (opening : List (List ℕ)) (starts : List MachineState) (number : ℕ) (seat : SeatState) (r : RunningState) : Type 0 where
@@ -113,6 +135,24 @@ pub record StepsCell (way : Way) (old : CellState) (reply : StepReply) (new : Ce
   pub same : after.shipped ≡ before.shipped
   pub becomes : new ≡ record old { seat = seat; running = Some after }
 
+-- So many steps of the cell's machine, one after the other, each of which ran.
+abbrev pub RanCell : ℕ → CellState → CellState → Type 0
+RanCell zero old new = new ≡ old
+RanCell (suc n) old new = (slot : ℕ) × (mid : CellState) × StepsCell way.Step old (Ran slot) mid × RanCell n mid new
+
+-- Fewer steps than n ran, and the next one was answered otherwise.
+pub record EndsCell (n : ℕ) (old : CellState) (ran : ℕ) (told : StepReply) (new : CellState) : Type 0 where
+  pub fewer : ran < n
+  pub other : is_ran told ≡ false
+  pub mid : CellState
+  pub steps : RanCell ran old mid
+  pub answer : StepsCell way.Step mid told new
+
+-- At most n steps: n of them ran, or fewer, and the next one was answered otherwise.
+abbrev pub RunsCell : ℕ → CellState → ℕ → Option StepReply → CellState → Type 0
+RunsCell n old ran None new = (ran ≡ n) × RanCell n old new
+RunsCell n old ran (Some told) new = EndsCell n old ran told new
+
 -- The machine's state is shown as it is.
 abbrev pub ShowsCell : ShowCommand → CellState → ShowReply → Type 0
 ShowsCell command c reply = (r : RunningState) × (c.running ≡ Some r) × Shows command r.debuggee reply
@@ -125,6 +165,15 @@ pub record DebugsCell (command : DebugCommand) (old : CellState) (reply : Debugg
   pub debugs : DebugsMachine command before.debuggee reply after.debuggee
   pub same : after.shipped ≡ before.shipped
   pub becomes : new ≡ record old { running = Some after }
+
+-- ---- looks
+
+-- What is told of a look at object n: whether it is away.
+pub data SeesAway (returns : Bool) (opening : List (List ℕ)) (v : View) (n : ℕ) (away : Bool) : Type 0 where
+  -- there is no such object
+  NoObject : (IsObject opening n → ⊥) → away ≡ false → SeesAway returns opening v n away
+  -- there was a moment at which the whole table kept its rule and the seat knew this; the object's word said so then
+  Looked : (word : ℕ) → Witness returns opening v n word → away ≡ not (word % 4 == 0) → SeesAway returns opening v n away
 
 -- ---- queueing
 

@@ -3,3 +3,4 @@ pub mod Cells
 pub mod Pools
 pub mod Moves
 pub mod Closing
+pub mod Turning

@@ -11,9 +11,9 @@ use Rattle.far_store.specs.declared.places.Place.{Place}
 use Rattle.far_store.specs.declared.places.Place.TheVariants as told
 use Rattle.far_store.specs.declared.places.Moved.{Moved}
 use Rattle.far_store.specs.declared.places.Moved.TheVariants.{Done, NoObject, Misplaced, Scoped, NoRoom, Fault}
-use Rattle.shared_objects.specs.Kinds.{placed, cooled}
+use Rattle.shared_objects.specs.Kinds.{placed, with_cooling}
 use Rattle.shared_objects.specs.Phases.{IsObject, phase_of}
-use Rattle.shared_objects.specs.Rule.{place_of, taken}
+use Rattle.shared_objects.specs.Rule.{place_of}
 use Rattle.shared_objects.specs.declared.seats.MoverSeat.{MoverSeat}
 use Rattle.shared_objects.specs.declared.seats.Phase.{Phase}
 use Rattle.shared_objects.specs.declared.seats.Phase.TheVariants as phases
@@ -96,29 +96,57 @@ MovesOne Return v n moved w = ReturnsFrom v n moved w
 abbrev pub AsksNothing : {X : Type 0} → X → X → Type 0
 AsksNothing old new = new ≡ old
 
--- An object that leaves: its bytes are put, once. They are those with which it is far then.
+-- The bytes of object n were put, once, and it is far with these.
+pub record Sends {X : Type 0} (called : X → Call → X → Type 0) (faults : X → ℕ) (old : X) (n : ℕ) (w : View) (new : X) : Type 0 where
+  pub bytes : List ℕ
+  pub is_far : place_of w n ≡ Far bytes
+  pub calls : Calls called old (Put bytes None ∷ []) new
+  pub no_fault : faults new ≡ faults old
+
+-- Its bytes were put, once, and that failed.
+pub record FailsToSend {X : Type 0} (called : X → Call → X → Type 0) (faults : X → ℕ) (v : View) (old : X) (n : ℕ) (f : StoreFault) (new : X) : Type 0 where
+  pub bytes : List ℕ
+  pub as_long : length bytes ≡ length (bytes_of v.opening n)
+  pub calls : Calls called old (Put bytes (Some f) ∷ []) new
+  pub one_fault : Rises (faults old) (faults new)
+
+-- What an object that leaves asks, by what became of it.
 abbrev pub AsksToLeave : {X : Type 0} → (X → Call → X → Type 0) → (X → ℕ) → View → X → ℕ → Moved → View → X → Type 0
-AsksToLeave called faults v old n Done w new = ((bytes : List ℕ) × (place_of w n ≡ Far bytes) × Calls called old (Put bytes None ∷ []) new) × (faults new ≡ faults old)
-AsksToLeave called faults v old n (Fault f) w new = ((bytes : List ℕ) × (length bytes ≡ length (bytes_of v.opening n)) × Calls called old (Put bytes (Some f) ∷ []) new) × Rises (faults old) (faults new)
+AsksToLeave called faults v old n Done w new = Sends called faults old n w new
+AsksToLeave called faults v old n (Fault f) w new = FailsToSend called faults v old n f new
 AsksToLeave called faults v old n _ w new = AsksNothing old new
+
+-- The bytes with which object n was taken were got, once, and as many came. Then its parcel was forgotten, which may count faults.
+pub record Brings {X : Type 0} (called : X → Call → X → Type 0) (faults : X → ℕ) (v : View) (old : X) (n : ℕ) (new : X) : Type 0 where
+  pub bytes : List ℕ
+  pub was_far : place_of v n ≡ Far bytes
+  pub came : List ℕ
+  pub as_many : length came ≡ length bytes
+  pub calls : Calls called old (Get bytes (Ok came) ∷ Forget bytes ∷ []) new
+  pub no_fewer_faults : faults old ≤ faults new
 
 -- The far store's faults rose by one; or it doesn't promise to return what was put, and gave more bytes or fewer.
 abbrev pub FailsToBring : Bool → ℕ → StoreFault → ℕ → Type 0
 FailsToBring returns old f new = Rises old new ⊎ ((returns ≡ false) × (f ≡ Damaged) × (new ≡ old))
 
--- An object that returns: the bytes with which it was taken are got, once. Where as many came, its parcel is forgotten then.
-abbrev pub AsksToReturn : {X : Type 0} → Bool → (X → Call → X → Type 0) → (X → ℕ) → View → X → ℕ → Moved → View → X → Type 0
-AsksToReturn returns called faults v old n Done w new =
-    ((bytes came : List ℕ) × (place_of v n ≡ Far bytes) × (length came ≡ length bytes) × Calls called old (Get bytes (Ok came) ∷ Forget bytes ∷ []) new) × (faults old ≤ faults new)
-AsksToReturn returns called faults v old n (Fault f) w new =
-    ((bytes : List ℕ) × (place_of v n ≡ Far bytes) × AsksInVain called old (Some bytes) (length bytes) f new) × FailsToBring returns (faults old) f (faults new)
-AsksToReturn returns called faults v old n _ w new = AsksNothing old new
+-- The bytes with which it was taken were asked for, once, and what came was not taken. Its parcel is kept.
+pub record BringsNone {X : Type 0} (returns : Bool) (called : X → Call → X → Type 0) (faults : X → ℕ) (v : View) (old : X) (n : ℕ) (f : StoreFault) (new : X) : Type 0 where
+  pub bytes : List ℕ
+  pub was_far : place_of v n ≡ Far bytes
+  pub asked : AsksInVain called old (Some bytes) (length bytes) f new
+  pub faults_are : FailsToBring returns (faults old) f (faults new)
+
+-- What an object that returns asks, by what became of it.
+abbrev pub AsksToReturn : {X : Type 0} → Bool → (X → Call → X → Type 0) → (X → ℕ) → View → X → ℕ → Moved → X → Type 0
+AsksToReturn returns called faults v old n Done new = Brings called faults v old n new
+AsksToReturn returns called faults v old n (Fault f) new = BringsNone returns called faults v old n f new
+AsksToReturn returns called faults v old n _ new = AsksNothing old new
 
 -- What one request asks of the far store, call by call and in order, and what becomes of its count of faults: whether it returns
 -- what was put, its calls, its faults, the mover's view and the store before, the object, what became of it, and both after.
 abbrev pub AsksOne : {X : Type 0} → Bool → (X → Call → X → Type 0) → (X → ℕ) → Direction → View → X → ℕ → Moved → View → X → Type 0
 AsksOne returns called faults Leave v old n moved w new = AsksToLeave called faults v old n moved w new
-AsksOne returns called faults Return v old n moved w new = AsksToReturn returns called faults v old n moved w new
+AsksOne returns called faults Return v old n moved w new = AsksToReturn returns called faults v old n moved new
 
 -- ---- looking
 
@@ -129,5 +157,5 @@ number_after count last = if nat_lt (last + 1) count && nat_lt last object_limit
 -- A mover looks at an object: one that was hot is cooled and stays; one that was cold is asked to leave.
 abbrev pub LooksAt : {X : Type 0} → (X → Call → X → Type 0) → (X → ℕ) → View → X → ℕ → Looked → View → X → Type 0
 LooksAt called faults v old n looked.NoObject w new = (IsObject v.opening n → ⊥) × (w ≡ v) × (new ≡ old)
-LooksAt called faults v old n looked.Hot w new = IsObject v.opening n × (w ≡ cooled n true v) × (new ≡ old)
-LooksAt called faults v old n (looked.Cold moved) w new = IsObject v.opening n × LeavesFor (cooled n false v) n moved w × AsksToLeave called faults (cooled n false v) old n moved w new
+LooksAt called faults v old n looked.Hot w new = IsObject v.opening n × (w ≡ with_cooling n true v) × (new ≡ old)
+LooksAt called faults v old n (looked.Cold moved) w new = IsObject v.opening n × LeavesFor (with_cooling n false v) n moved w × AsksToLeave called faults (with_cooling n false v) old n moved w new

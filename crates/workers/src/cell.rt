@@ -1,20 +1,24 @@
 //! What lies under a cell's lock.
-ghost use Rattle.std.specs.Prelude.{◌≡◌, [], None, Some, is_some, not, ◌&&◌, IfSome, IfNone, max, true, false, if◌then◌else◌};
+ghost use Rattle.std.specs.Prelude.{◌≡◌, ◌+◌, [], None, Some, is_some, not, ◌&&◌, IfSome, IfNone, max, min, true, false, if◌then◌else◌};
 ghost use Rattle.debugger.specs.Debuggees.{DebugsMachine, debuggee_start};
 ghost use Rattle.debugger.specs.Showing.{Shows};
 ghost use Rattle.machine.specs.MachineState.{granted_start};
-ghost use Rattle.workers.specs.Cells.{IsSeatOf, IsTableOf, seat_state, opened_as, FitsCell, StepsCell, DebugsCell, ShowsCell, may_queue, is_going};
+ghost use Rattle.shared_objects.specs.Tables.{table_returns};
+ghost use Rattle.workers.specs.Cells.{IsSeatOf, IsTableOf, seat_state, opened_as, IsStamped, FitsCell, StepsCell, RunsCell, DebugsCell, ShowsCell, SeesAway, may_queue, is_going};
 
 use crate::mark::Mark;
 use crate::running::Running;
 use crossbeam_utils::CachePadded;
-use debugger::{DebugCommand, Debugged, Debuggee, ShowCommand, ShowReply, Start, StepReply, Way};
+use debugger::{
+    DebugCommand, Debugged, Debuggee, MachineRun, ShowCommand, ShowReply, Start, StepReply, Way,
+};
 use loader::Program;
 use shared_objects::{ActorSeat, SharedTable};
 use std::alloc::Global;
 use std::marker::{Model, PhantomData};
-use std::sync::atomic::{AtomicU64, Ordering};
+use std::sync::atomic::{AtomicBool, AtomicU64, Ordering};
 use std::sync::{Mutex, MutexGuard, Wait};
+use std::time::Duration;
 
 /// A machine, or none, with its seat, under a lock. Whoever keeps the lock for more than one instruction can see whether another
 /// wants it. Neighbouring cells share no cache line.
@@ -23,7 +27,12 @@ pub struct MachineCell<K: Mark> {
     locked: CachePadded<Mutex<Locked<K>>>,
     // how many want the lock and haven't got it yet
     wanting: AtomicU64,
+    // whether a worker gave the lock up and sleeps until one of them has it
+    gave_way: AtomicBool,
 }
+
+/// How many milliseconds a worker that gave the lock up sleeps at most.
+const GIVEN_MILLIS: u64 = 10;
 
 impl<K: Mark> MachineCell<K> {
     /// What the lock is to lend, which nobody wants yet.
@@ -31,15 +40,45 @@ impl<K: Mark> MachineCell<K> {
         MachineCell {
             locked: CachePadded::new(Mutex::new(locked)),
             wanting: AtomicU64::new(0),
+            gave_way: AtomicBool::new(false),
         }
     }
 
-    /// The lock, once nobody else has it.
+    /// The lock, once nobody else has it. The worker that gave it up for this wakes.
     pub fn lock<R: Wait>(&self, rt: &R) -> MutexGuard<'_, Locked<K>> {
         self.wanting.fetch_add(1, Ordering::SeqCst);
         let guard = self.locked.lock(rt);
         self.wanting.fetch_sub(1, Ordering::SeqCst);
+        if self.gave_way.load(Ordering::SeqCst) {
+            self.wanting.wake_all();
+        }
         guard
+    }
+
+    /// The lock for the worker that has the machine's ticket, which gives it up where it is wanted.
+    pub(crate) fn lock_for_turns<R: Wait>(&self, rt: &R) -> MutexGuard<'_, Locked<K>> {
+        self.locked.lock(rt)
+    }
+
+    /// Gives the lock to somebody who wants it, and takes it again after that. A lock that is only given up goes back to the worker that
+    /// runs, before whoever sleeps has woken: so the worker sleeps until the lock was taken.
+    pub(crate) fn give_way<'a, R: Wait>(
+        &'a self,
+        rt: &R,
+        held: MutexGuard<'a, Locked<K>>,
+    ) -> MutexGuard<'a, Locked<K>> {
+        let wanting = self.wanting.load(Ordering::SeqCst);
+        self.gave_way.store(true, Ordering::SeqCst);
+        drop(held);
+        if wanting != 0 {
+            self.wanting.park_timeout(
+                rt,
+                (wanting % (1 << 32)) as u32,
+                Duration::from_millis(GIVEN_MILLIS),
+            );
+        }
+        self.gave_way.store(false, Ordering::SeqCst);
+        self.locked.lock(rt)
     }
 
     /// Whether somebody wants the lock and hasn't got it yet.
@@ -50,7 +89,11 @@ impl<K: Mark> MachineCell<K> {
 
     /// What the lock lent, which nobody has any more.
     pub(crate) fn into_inner(self) -> Locked<K> {
-        let MachineCell { locked, wanting: _ } = self;
+        let MachineCell {
+            locked,
+            wanting: _,
+            gave_way: _,
+        } = self;
         locked.into_inner().into_inner()
     }
 }
@@ -68,6 +111,56 @@ impl Ticket {
         ensures { result ≡ self.now.number }
     {
         self.number
+    }
+}
+
+/// How many cells, from that of number 1 on, were each lent with a machine in it. It counts on by a cell that is lent, and by
+/// nothing else. A machine that has come stays, so what was known of the first cells is known later too.
+#[derive(Drop, Debug, PartialEq, Eq)]
+pub struct Taken {
+    count: usize,
+}
+
+impl Taken {
+    /// None yet.
+    pub fn none() -> Self
+        ensures { result.count ≡ 0 }
+    {
+        Taken { count: 0 }
+    }
+
+    /// How many they are.
+    pub fn count(&self) -> usize
+        ensures { result ≡ self.now.count }
+    {
+        self.count
+    }
+
+    /// The first so many of them, or all, where they are fewer.
+    pub fn up_to(&self, most: usize) -> Self
+        ensures { result.count ≡ min self.now.count most }
+    {
+        Taken {
+            count: self.count.min(most),
+        }
+    }
+
+    /// Whether this is the next cell, with a machine.
+    pub fn is_next<K: Mark>(&self, locked: &Locked<K>) -> bool
+        ensures { result ≡ true → (locked.now.number ≡ self.now.count + 1) × (is_some locked.now.running ≡ true) }
+    {
+        locked.has_machine() && locked.number() > self.count && locked.number() - self.count == 1
+    }
+
+    /// One more: the next cell, which has a machine.
+    pub fn and<K: Mark>(self, locked: &Locked<K>) -> Self
+        requires next { locked.now.number ≡ self.count + 1 }
+        requires machine { is_some locked.now.running ≡ true }
+        ensures { result.count ≡ self.count + 1 }
+    {
+        Taken {
+            count: locked.number(),
+        }
     }
 }
 
@@ -134,10 +227,12 @@ impl<K: Mark> Locked<K> {
         self.running = Some(Running::shipped(program, self.number, start));
     }
 
-    /// What the lock keeps: the seat is of the table and of this number, and the machine is the replay of its entries.
+    /// What the lock keeps: the seat is of the table and of this number, and has seen up to its last entry, and the machine is
+    /// the replay of its entries.
     pub fn fact(&self)
         ensures number { self.now.seat.view.actor ≡ self.now.number }
         ensures opening { self.now.seat.view.opening ≡ K.opening }
+        ensures stamped { IsStamped self.now.seat }
         ensures fits { FitsCell K.opening K.starts self.now.number self.now.seat self.now.running }
     {
         let _number = self.number;
@@ -189,6 +284,29 @@ impl<K: Mark> Locked<K> {
     {
         let running = self.running.as_mut()?;
         Some(running.step(shared, &mut self.seat, way))
+    }
+
+    /// At most so many steps of the machine over its seat, up to the first that doesn't run, if the machine has come. From where
+    /// nothing is set for it they are done in one go.
+    pub fn run(&mut self, shared: &SharedTable, most: u64) -> Option<MachineRun>
+        requires { IsTableOf K.table K.opening shared.now }
+        ensures none { IfNone result ((self.old.running ≡ None) × (self.new ≡ self.old)) }
+        ensures run { IfSome result (λ run. RunsCell most self.old run.ran run.end self.new) }
+    {
+        let running = self.running.as_mut()?;
+        Some(running.run(shared, &mut self.seat, most))
+    }
+
+    /// Whether the object of this number is away, as a look at its word finds it. One that there isn't is not.
+    pub fn finds_away(&mut self, shared: &SharedTable, object: u32) -> bool
+        requires { IsTableOf K.table K.opening shared.now }
+        ensures same { self.new ≡ self.old }
+        ensures away { SeesAway (table_returns shared.now) K.opening self.old.seat.view object result }
+    {
+        if shared.length(object as u64) == 0 {
+            return false;
+        }
+        shared.look(&mut self.seat, object) % 4 != 0
     }
 
     /// What is shown of the machine, if it has come: its state, as it is.

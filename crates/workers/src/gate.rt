@@ -1,10 +1,13 @@
-//! Who is told of each instruction that a worker does.
+//! Who is told of each instruction that a worker does, and of each move.
 
-/// Told of each instruction, before and after it, while no cell's lock is held, unless it says that it isn't; and asked whether to
-/// go on.
+use crate::job::Request;
+use far_store::Moved;
+
+/// Told of each instruction, before and after it, while no cell's lock is held, unless it says that it isn't. It is told of moves too,
+/// and asked whether to go on.
 pub trait Gate {
     /// Whether it is told of instructions. One that isn't is only asked whether to go on, and a worker keeps a cell's lock in its
-    /// turn until another wants it.
+    /// turn.
     const IS_TOLD: bool = true;
 
     /// This worker comes to an instruction of the machine of this number.
@@ -12,6 +15,10 @@ pub trait Gate {
 
     /// The instruction was done, or the machine waited, paused or was stopped.
     fn after(&self, worker: usize, machine: usize);
+
+    /// The mover served a request, with this outcome. It also tells of an object that it looked at of its own accord, where that left
+    /// or the far store failed.
+    fn moved(&self, _request: Request, _moved: Moved) {}
 
     /// Whether workers and mover go on. One that isn't told of instructions may be asked while a cell's lock is held.
     fn go_on(&self) -> bool;

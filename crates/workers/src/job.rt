@@ -11,9 +11,18 @@ pub enum Direction {
     Return,
 }
 
-/// What lies in a queue: the ticket of a machine that is to be run, or an object that is to be moved.
+/// What lies in a queue: the ticket of a machine that is to be run, or of one that waits for the object of a number, or what the
+/// mover is asked for. It is one type, since the prover takes queues of one type alone in a struct.
 #[derive(Drop, Debug)]
 pub enum Job {
     Run(Ticket),
-    Move { number: u32, direction: Direction },
+    Wait(Ticket, u32),
+    Move(Request),
+}
+
+/// An object that is to be moved.
+#[derive(Clone, Copy, Drop, Debug, PartialEq, Eq)]
+pub struct Request {
+    pub number: u32,
+    pub direction: Direction,
 }

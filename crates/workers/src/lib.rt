@@ -8,14 +8,16 @@ mod job;
 mod mark;
 mod movers;
 mod pool;
+mod requests;
+mod retries;
 mod running;
 mod threads;
 
-pub use cell::{Locked, MachineCell, Ticket};
+pub use cell::{Locked, MachineCell, Taken, Ticket};
 pub use closing::{ClosedCell, PoolParts};
 pub use far_store::{Moved, Place};
 pub use gate::Gate;
-pub use job::{Direction, Job};
+pub use job::{Direction, Job, Request};
 pub use mark::Mark;
 pub use movers::{Looked, Mover};
 pub use pool::{Pool, QUEUE_LIMIT, TURN_LIMIT, work};

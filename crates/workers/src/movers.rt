@@ -215,7 +215,7 @@ impl<F: FarStore, K: Mark> Mover<F, K> {
         requires table { IsTableOf K.table K.opening shared.now × (table_returns shared.now ≡ F.RETURNS) }
         requires object { IsObject K.opening number }
         ensures moves { ReturnsFrom self.old.view number result self.new.view }
-        ensures asks { AsksToReturn F.RETURNS F.called F.faults_of self.old.view self.old.store number result self.new.view self.new.store }
+        ensures asks { AsksToReturn F.RETURNS F.called F.faults_of self.old.view self.old.store number result self.new.store }
         ensures last { self.new.last ≡ self.old.last }
     {
         let n = number as usize;
@@ -248,6 +248,13 @@ impl<F: FarStore, K: Mark> Mover<F, K> {
             Some(true) => Looked::Hot,
             Some(false) => Looked::Cold(self.leave(shared, number)),
         }
+    }
+
+    /// The number of the object at which it looked last: 0, if it didn't look yet.
+    pub fn last(&self) -> u32
+        ensures { result ≡ self.now.last }
+    {
+        self.last
     }
 
     /// Its seat, the far store, and by number the parcels of the objects that are far.

@@ -8,43 +8,61 @@ ghost use Rattle.workers.specs.Cells.{IsTableOf, opened_as};
 ghost use Rattle.workers.specs.Closing.{WereCells};
 ghost use Rattle.workers.specs.Pools.{IsNewSeat, AreSeats, machines_of, machine_of, QueuesCell};
 
-use crate::cell::{Locked, MachineCell, Ticket};
+use crate::cell::{Locked, MachineCell, Taken, Ticket};
 use crate::closing::{PoolParts, parts_of};
 use crate::gate::Gate;
-use crate::job::{Direction, Job};
+use crate::job::{Direction, Job, Request};
 use crate::mark::Mark;
+use crate::requests::Requests;
 use crossbeam_queue::ArrayQueue;
 use debugger::{Debuggee, StepReply, Way};
-use far_store::FarStore;
+use far_store::{FarStore, Moved};
 use shared_objects::{ActorSeat, Shared, SharedTable};
 use std::alloc::{AllocError, Global};
 use std::sync::atomic::{AtomicU64, Ordering};
-use std::sync::{MutexGuard, Wait};
+use std::sync::{Mutex, MutexGuard, Wait};
 use std::time::Duration;
 use std::vec::IntoIter;
 
-/// How many places each queue has: this project's choice.
+/// How many machines may be queued, and how many requests by command: this project's choice.
 pub const QUEUE_LIMIT: usize = 64;
 
 /// How many instructions a worker does in one turn of a machine at most: this project's choice.
 pub const TURN_LIMIT: u32 = 64;
 
-/// How many milliseconds a worker sleeps at most where no machine is queued, and the mover where it isn't asked to move anything.
-const IDLE_MILLIS: u64 = 10;
-
 /// One table, the cells of its machines, the queue of machines to be run, and that of objects to be moved.
+///
+/// No thread sleeps through what it has to do. Who sleeps has read the count on which it sleeps first, and then looked at its queue
+/// and asked its gate; who gives it something to do does so first, and raises the count then. A machine is put among those that wait
+/// before the worker looks whether the return of its object is still asked for; the mover ends the return first, and looks for
+/// machines that wait for it then. Those that wait are under one lock, so none of them is out of sight meanwhile.
 #[derive(Drop)]
 pub struct Pool<F: FarStore, K: Mark> {
     shared: Shared<F>,
     // that of machine 1 first
     cells: Vec<MachineCell<K>>,
+    // cells that are known to have machines, so that nobody waits for their locks to look for an empty one
+    taken: Mutex<Taken>,
     runs: ArrayQueue<Job>,
-    moves: ArrayQueue<Job>,
-    // how often a machine was queued by others than workers
+    // machines that wait for an object which is away
+    waits: Mutex<ArrayQueue<Job>>,
+    requests: Requests,
+    // how often a worker that sleeps was to be woken
     queued: AtomicU64,
-    // how often the mover was asked
-    asked: AtomicU64,
+    // how often all threads were to be woken
+    called: AtomicU64,
     pub ghost of: { IsTableOf K.table K.opening shared.table },
+}
+
+/// How a turn of a machine ended.
+#[derive(Clone, Copy, Drop, Debug, PartialEq, Eq)]
+enum Ending {
+    /// As many instructions were done as a turn has.
+    Full,
+    /// It waits for the object of this number, which is away.
+    Waits(u32),
+    /// It is paused or stopped, or there is none.
+    Over,
 }
 
 /// Puts the number of the cell's machine into the queue, unless it is there.
@@ -55,6 +73,23 @@ fn queue_machine<K: Mark, R: Wait>(rt: &R, runs: &ArrayQueue<Job>, locked: &mut 
         return;
     };
     if let Err(Job::Run(ticket)) = runs.push(rt, Job::Run(ticket)) {
+        locked.dequeue(ticket);
+    }
+}
+
+/// Puts the number of the cell's machine among those that wait for an object, unless it is queued.
+fn queue_waiting<K: Mark, R: Wait>(
+    rt: &R,
+    waits: &Mutex<ArrayQueue<Job>>,
+    locked: &mut Locked<K>,
+    object: u32,
+)
+    ensures { QueuesCell locked.old locked.new }
+{
+    let Some(ticket) = locked.enqueue() else {
+        return;
+    };
+    if let Err(Job::Wait(ticket, _)) = waits.lock(rt).push(rt, Job::Wait(ticket, object)) {
         locked.dequeue(ticket);
     }
 }
@@ -125,6 +160,19 @@ fn cells_of<K: Mark, R: Wait>(
     Ok(cells)
 }
 
+/// The first cells, as long as they have machines.
+fn taken_of<K: Mark, R: Wait>(rt: &R, cells: &[MachineCell<K>]) -> Taken {
+    let mut taken = Taken::none();
+    for cell in cells {
+        let locked = cell.lock(rt);
+        if !taken.is_next(&locked) {
+            return taken;
+        }
+        taken = taken.and(&locked);
+    }
+    taken
+}
+
 impl<F: FarStore, K: Mark> Pool<F, K> {
     /// A pool over a table that was opened, with a cell for each of these seats. The first ones have these machines, in order,
     /// as K names them; those that are neither paused nor stopped are queued. On a refusal all is dropped.
@@ -142,15 +190,19 @@ impl<F: FarStore, K: Mark> Pool<F, K> {
         ensures { IfOk result (λ pool. (pool.shared ≡ shared) × (length pool.cells.items ≡ length seats.items)) }
     {
         let runs = ArrayQueue::new(alloc, QUEUE_LIMIT)?;
-        let moves = ArrayQueue::new(alloc, QUEUE_LIMIT)?;
+        let waits = ArrayQueue::new(alloc, QUEUE_LIMIT)?;
+        let requests = Requests::new(alloc)?;
         let cells = cells_of(rt, alloc, &runs, seats, machines)?;
+        let taken = Mutex::new(taken_of(rt, &cells));
         Ok(Pool {
             shared,
             cells,
+            taken,
             runs,
-            moves,
+            waits: Mutex::new(waits),
+            requests,
             queued: AtomicU64::new(0),
-            asked: AtomicU64::new(0),
+            called: AtomicU64::new(0),
         })
     }
 
@@ -174,14 +226,58 @@ impl<F: FarStore, K: Mark> Pool<F, K> {
         self.cells.get(number - 1)
     }
 
+    /// Of the first so many cells those that are known to have machines.
+    pub fn taken<R: Wait>(&self, rt: &R, most: usize) -> Taken
+        ensures { result.count ≤ most }
+    {
+        self.taken.lock(rt).up_to(most)
+    }
+
+    /// From now on these cells are known to have machines, and so is the next one, if it has one.
+    pub fn know_taken<R: Wait>(&self, rt: &R, taken: &Taken, next: &Locked<K>) {
+        let first = taken.up_to(taken.count());
+        let found = if first.is_next(next) {
+            first.and(next)
+        } else {
+            first
+        };
+        let mut known = self.taken.lock(rt);
+        if known.count() < found.count() {
+            *known = found;
+        }
+    }
+
     /// Puts the number of the cell's machine into the queue of those to be run, unless it is there, and wakes a worker that
     /// sleeps. Where the queue is full it isn't put, and isn't marked as queued.
     pub fn queue<R: Wait>(&self, rt: &R, locked: &mut Locked<K>)
         ensures { QueuesCell locked.old locked.new }
     {
         queue_machine(rt, &self.runs, locked);
+        self.wake_worker();
+    }
+
+    /// Wakes a worker that sleeps.
+    fn wake_worker(&self) {
         self.queued.fetch_add(1, Ordering::SeqCst);
         self.queued.wake_one();
+    }
+
+    /// Puts the machines that wait for an object back into the queue, to be stepped again, and wakes a worker for each.
+    fn resume_waiting<R: Wait>(&self, rt: &R, object: u32) {
+        let waits = self.waits.lock(rt);
+        for _ in 0..waits.len(rt) {
+            match waits.pop(rt) {
+                Some(Job::Wait(ticket, awaited)) if awaited == object => {
+                    // there are fewer machines than places
+                    let _ = self.runs.push(rt, Job::Run(ticket));
+                    self.wake_worker();
+                }
+                Some(job) => {
+                    let _ = waits.push(rt, job);
+                }
+                None => return,
+            }
+        }
     }
 
     /// The ticket of the next machine in the queue, if there is one.
@@ -192,65 +288,81 @@ impl<F: FarStore, K: Mark> Pool<F, K> {
         }
     }
 
-    /// The ticket of the next machine in the queue. Where there is none, it sleeps until one is queued, for 10 ms at most, and
-    /// looks again.
-    fn wait_for_run<R: Wait>(&self, rt: &R) -> Option<Ticket> {
-        let seen = self.queued.load(Ordering::SeqCst);
-        if let Some(ticket) = self.next_run(rt) {
-            return Some(ticket);
-        }
-        self.queued.park_timeout(
-            rt,
-            (seen % (1 << 32)) as u32,
-            Duration::from_millis(IDLE_MILLIS),
-        );
-        self.next_run(rt)
-    }
-
-    /// Asks the mover to move an object, and says whether there was room for that.
+    /// Asks the mover to move an object, and says whether there was room for that. A move that is asked for already isn't asked for
+    /// twice, and needs no room.
     pub fn request<R: Wait>(&self, rt: &R, number: u32, direction: Direction) -> bool {
-        let room = self.moves.push(rt, Job::Move { number, direction }).is_ok();
-        self.asked.fetch_add(1, Ordering::SeqCst);
-        self.asked.wake_one();
-        room
+        let request = Request { number, direction };
+        if self.requests.is_full(rt) && !self.requests.is_open(request) {
+            return false;
+        }
+        self.requests.ask(rt, request);
+        true
     }
 
-    /// The next object that the mover was asked to move, if there is one.
-    fn next_move<R: Wait>(&self, rt: &R) -> Option<(u32, Direction)> {
-        match self.moves.pop(rt) {
-            Some(Job::Move { number, direction }) => Some((number, direction)),
-            _ => None,
+    /// Asks the mover to bring back an object for which somebody waits, unless it is asked to do so already. There is room for that.
+    pub fn call<R: Wait>(&self, rt: &R, number: u32) {
+        let direction = Direction::Return;
+        self.requests.ask(rt, Request { number, direction });
+    }
+
+    /// What the mover is asked for.
+    pub(crate) fn requests(&self) -> &Requests {
+        &self.requests
+    }
+
+    /// Sleeps for so many milliseconds, or until all threads are woken.
+    pub(crate) fn rest<R: Wait>(&self, rt: &R, millis: u64) {
+        let seen = self.called.load(Ordering::SeqCst);
+        self.called.park_timeout(rt, (seen % (1 << 32)) as u32, Duration::from_millis(millis));
+    }
+
+    /// Wakes all workers and the mover, which ask their gate then. Whoever changes what a gate says calls it after that.
+    pub fn wake_all(&self) {
+        self.queued.fetch_add(1, Ordering::SeqCst);
+        self.queued.wake_all();
+        self.called.fetch_add(1, Ordering::SeqCst);
+        self.called.wake_all();
+        self.requests.wake();
+    }
+
+    /// A move that was asked for has ended in this way. Machines that wait for a return are stepped again, unless it failed and is
+    /// still asked for.
+    pub(crate) fn end_request<R: Wait>(&self, rt: &R, request: Request, moved: Moved) {
+        let ended = self.requests.end(rt, request, moved);
+        if ended && request.direction == Direction::Return {
+            self.resume_waiting(rt, request.number);
         }
     }
 
-    /// The next object that the mover was asked to move. Where there is none, it sleeps until it is asked, for 10 ms at most,
-    /// and looks again.
-    pub(crate) fn wait_for_move<R: Wait>(&self, rt: &R) -> Option<(u32, Direction)> {
-        let seen = self.asked.load(Ordering::SeqCst);
-        if let Some(asked) = self.next_move(rt) {
-            return Some(asked);
-        }
-        self.asked.park_timeout(
-            rt,
-            (seen % (1 << 32)) as u32,
-            Duration::from_millis(IDLE_MILLIS),
-        );
-        self.next_move(rt)
-    }
-
-    /// After a step of a turn: nothing where the turn goes on, else whether the machine is to be queued again.
-    fn end_after<R: Wait>(&self, rt: &R, reply: Option<StepReply>) -> Option<bool> {
+    /// After a step of a turn: nothing where the turn goes on, else how it ends. One that found another's turn on an object goes
+    /// on, since the object is here.
+    fn end_after<R: Wait>(
+        &self,
+        rt: &R,
+        locked: &mut Locked<K>,
+        reply: Option<StepReply>,
+    ) -> Option<Ending> {
         match reply {
             Some(StepReply::Ran(_)) => None,
             Some(StepReply::Waiting(object)) => {
-                self.request(rt, object, Direction::Return);
-                Some(true)
+                if !locked.finds_away(self.table(), object) {
+                    return None;
+                }
+                self.call(rt, object);
+                Some(Ending::Waits(object))
             }
-            _ => Some(false),
+            _ => Some(Ending::Over),
         }
     }
 
-    /// At most so many instructions of the cell's machine, of each of which the gate is told: whether it is to be queued again.
+    /// One step of a turn: nothing where the turn goes on, else how it ends.
+    fn step_told<R: Wait>(&self, rt: &R, cell: &MachineCell<K>) -> Option<Ending> {
+        let mut locked = cell.lock(rt);
+        let reply = locked.step(self.table(), Way::Step);
+        self.end_after(rt, &mut locked, reply)
+    }
+
+    /// At most so many instructions of the cell's machine, of each of which the gate is told: how the turn ended.
     fn run_told<R: Wait, G: Gate>(
         &self,
         rt: &R,
@@ -258,41 +370,67 @@ impl<F: FarStore, K: Mark> Pool<F, K> {
         worker: usize,
         number: usize,
         cell: &MachineCell<K>,
-    ) -> bool {
+    ) -> Ending {
         for _ in 0..TURN_LIMIT {
             gate.before(worker, number);
-            let reply = cell.lock(rt).step(self.table(), Way::Step);
+            let end = self.step_told(rt, cell);
             gate.after(worker, number);
-            if let Some(again) = self.end_after(rt, reply) {
-                return again;
+            if let Some(ending) = end {
+                return ending;
             }
         }
-        true
+        Ending::Full
     }
 
-    /// The same with no gate to be told, with the lock of the cell, which comes back. It is kept until another wants it, who then
-    /// waits for one instruction.
+    /// The same with no gate to be told, with the lock of the cell, which comes back. From where nothing is set for the machine a
+    /// turn is done in one go. Where another wants the lock, it has it before a step that found another's turn is tried again.
     fn run_untold<'a, R: Wait>(
         &self,
         rt: &R,
         cell: &'a MachineCell<K>,
         held: MutexGuard<'a, Locked<K>>,
-    ) -> (MutexGuard<'a, Locked<K>>, bool) {
+    ) -> (MutexGuard<'a, Locked<K>>, Ending) {
         let mut locked = held;
+        let mut left = TURN_LIMIT as u64;
         for _ in 0..TURN_LIMIT {
-            let reply = locked.step(self.table(), Way::Step);
-            if let Some(again) = self.end_after(rt, reply) {
-                return (locked, again);
+            let Some(run) = locked.run(self.table(), left) else {
+                return (locked, Ending::Over);
+            };
+            if run.end.is_none() {
+                return (locked, Ending::Full);
             }
+            if let Some(ending) = self.end_after(rt, &mut locked, run.end) {
+                return (locked, ending);
+            }
+            left = left.saturating_sub(run.ran);
             if cell.is_wanted() {
-                drop(locked);
-                locked = cell.lock(rt);
+                locked = cell.give_way(rt, locked);
             }
         }
-        (locked, true)
+        (locked, Ending::Full)
     }
 
-    /// One turn of a machine whose ticket was taken from the queue, with a gate to be told of each instruction.
+    /// After a turn: puts the machine into the queue of those to be run, or among those that wait, or nowhere.
+    fn requeue<R: Wait>(&self, rt: &R, locked: &mut Locked<K>, ending: Ending) {
+        match ending {
+            // no worker is woken for it, since this one looks at the queue next
+            Ending::Full => queue_machine(rt, &self.runs, locked),
+            Ending::Waits(object) => {
+                queue_waiting(rt, &self.waits, locked, object);
+                let awaited = Request {
+                    number: object,
+                    direction: Direction::Return,
+                };
+                if !self.requests.is_open(awaited) {
+                    self.resume_waiting(rt, object);
+                }
+            }
+            Ending::Over => {}
+        }
+    }
+
+    /// One turn of a machine whose ticket was taken from the queue, with a gate to be told of each instruction. Says whether the gate
+    /// lets the worker go on.
     fn turn<R: Wait, G: Gate>(
         &self,
         rt: &R,
@@ -300,19 +438,18 @@ impl<F: FarStore, K: Mark> Pool<F, K> {
         worker: usize,
         cell: &MachineCell<K>,
         ticket: Ticket,
-    ) {
+    ) -> bool {
         let number = ticket.number();
-        if !take_back(&mut cell.lock(rt), ticket) {
-            return;
+        if take_back(&mut cell.lock(rt), ticket) {
+            let ending = self.run_told(rt, gate, worker, number, cell);
+            self.requeue(rt, &mut cell.lock(rt), ending);
         }
-        // no worker is woken for it, since this one looks at the queue next
-        if self.run_told(rt, gate, worker, number, cell) {
-            queue_machine(rt, &self.runs, &mut cell.lock(rt));
-        }
+        gate.go_on()
     }
 
     /// Turns of a machine whose ticket was taken from the queue, with no gate to be told: one, and others as long as the queue is
-    /// empty, from which this worker would take the machine next. Says whether the gate lets the worker go on.
+    /// empty, from which this worker would take the machine next. Between two of them the lock of the cell is another's, who wants
+    /// it. Says whether the gate lets the worker go on.
     fn turns<R: Wait, G: Gate>(
         &self,
         rt: &R,
@@ -320,37 +457,45 @@ impl<F: FarStore, K: Mark> Pool<F, K> {
         cell: &MachineCell<K>,
         ticket: Ticket,
     ) -> bool {
-        let mut locked = cell.lock(rt);
+        let mut locked = cell.lock_for_turns(rt);
         if !take_back(&mut locked, ticket) {
             return gate.go_on();
         }
         for _ in rt.forever() {
-            let (held, again) = self.run_untold(rt, cell, locked);
+            let (held, ending) = self.run_untold(rt, cell, locked);
             locked = held;
             let on = gate.go_on();
-            if again && on && self.runs.is_empty() {
+            if on && ending == Ending::Full && self.runs.is_empty() {
+                if cell.is_wanted() {
+                    locked = cell.give_way(rt, locked);
+                }
                 continue;
             }
-            if again {
-                queue_machine(rt, &self.runs, &mut locked);
-            }
+            self.requeue(rt, &mut locked, ending);
             return on;
         }
         true
     }
 
-    /// The turn of the next machine in the queue, if there is one, or its turns. The ticket is back before its first instruction.
-    /// Says whether the gate lets the worker go on.
+    /// The turn of the next machine in the queue, or its turns. The ticket is back before its first instruction. Where no machine is
+    /// queued, the worker sleeps until it is woken, if the gate lets it. Says whether the worker goes on.
     fn take_turns<R: Wait, G: Gate>(&self, rt: &R, gate: &G, worker: usize) -> bool {
-        if let Some(ticket) = self.wait_for_run(rt) {
-            if let Some(cell) = self.cell(ticket.number()) {
-                if !G::IS_TOLD {
-                    return self.turns(rt, gate, cell, ticket);
-                }
-                self.turn(rt, gate, worker, cell, ticket);
+        let seen = self.queued.load(Ordering::SeqCst);
+        let Some(ticket) = self.next_run(rt) else {
+            let on = gate.go_on();
+            if on {
+                self.queued.park(rt, (seen % (1 << 32)) as u32);
             }
+            return on;
+        };
+        let Some(cell) = self.cell(ticket.number()) else {
+            return gate.go_on();
+        };
+        if G::IS_TOLD {
+            self.turn(rt, gate, worker, cell, ticket)
+        } else {
+            self.turns(rt, gate, cell, ticket)
         }
-        gate.go_on()
     }
 
     /// Takes the pool apart. Requests and machines that are queued are dropped. Where memory runs out all is dropped.
@@ -361,10 +506,12 @@ impl<F: FarStore, K: Mark> Pool<F, K> {
         let Pool {
             shared,
             cells,
+            taken: _,
             runs: _,
-            moves: _,
+            waits: _,
+            requests: _,
             queued: _,
-            asked: _,
+            called: _,
         } = self;
         let (seats, cells) = parts_of(alloc, cells)?;
         Ok(PoolParts {
@@ -376,19 +523,19 @@ impl<F: FarStore, K: Mark> Pool<F, K> {
 }
 
 /// Steps machines of the queue, each until it waits, pauses, stops or has done 64 instructions, as long as the gate lets it. Where no
-/// other machine is queued it goes on with the same.
+/// other machine is queued it goes on with the same, and where none is it sleeps until it is woken. Wakes all others at its end.
 pub fn work<F: FarStore, K: Mark, R: Wait, G: Gate>(
     rt: &R,
     gate: &G,
     pool: &Pool<F, K>,
     worker: usize,
 ) {
-    if !gate.go_on() {
-        return;
-    }
-    for _ in rt.forever() {
-        if !pool.take_turns(rt, gate, worker) {
-            return;
+    if gate.go_on() {
+        for _ in rt.forever() {
+            if !pool.take_turns(rt, gate, worker) {
+                break;
+            }
         }
     }
+    pool.wake_all();
 }

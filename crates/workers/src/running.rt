@@ -1,11 +1,13 @@
 //! A machine with what it started as, and its steps over a seat.
-ghost use Rattle.std.specs.Prelude.{◌≡◌, Some, None};
+ghost use Rattle.std.specs.Prelude.{◌≡◌, Some, None, length};
+ghost use Rattle.loader.specs.ValidCode.{ValidCode};
 ghost use Rattle.shared_objects.specs.Tables.{IsActorOf};
 ghost use Rattle.machine.specs.MachineState.{granted_start};
 ghost use Rattle.debugger.specs.Debuggees.{AnswersStep, DebugsMachine, debuggee_start};
+ghost use Rattle.debugger.specs.Running.{RunsUpTo};
 ghost use Rattle.workers.specs.Cells.{seat_acts, seat_state, shipped_as, is_going_on};
 
-use debugger::{DebugCommand, Debugged, Debuggee, Start, StepReply, Way};
+use debugger::{DebugCommand, Debugged, Debuggee, MachineRun, Start, StepReply, Way};
 use loader::Program;
 use shared_objects::{ActorSeat, SeatMemory, SharedTable};
 use std::marker::Model;
@@ -32,6 +34,13 @@ impl Model for Running {
     ghost view = { λ r. record { debuggee = r.debuggee; shipped = shipped_as r.debuggee.machine r.begun } };
 }
 
+/// There are five arguments.
+fn are_five(arguments: [u64; 5])
+    ensures { length arguments ≡ 5 }
+{
+    prove!(arguments.len() == 5);
+}
+
 impl Running {
     /// A machine that was there when the table was opened.
     pub fn opened(debuggee: Debuggee) -> Self
@@ -45,9 +54,13 @@ impl Running {
 
     /// A machine that is shipped, at the start of its program.
     pub fn shipped(program: Program, number: usize, start: Start) -> Self
-        ensures { result ≡ record { debuggee = debuggee_start number program start; shipped = Some (granted_start number program start.fuel start.arguments start.grants) } }
+        ensures is { result ≡ record { debuggee = debuggee_start number program start; shipped = Some (granted_start number program start.fuel start.arguments start.grants) } }
+        ensures valid { ValidCode program }
+        ensures five { length start.arguments ≡ 5 }
     {
+        prove!(program.slots() > 0);
         let arguments = start.arguments;
+        are_five(arguments);
         let begun = Begun {
             fuel: start.fuel,
             arguments,
@@ -63,6 +76,14 @@ impl Running {
         ensures { result.now ≡ self.now.debuggee }
     {
         &self.debuggee
+    }
+
+    /// What it started with, where it was shipped after the table was opened. Its start is then that of its code and grants
+    /// with these; that of a machine which was there before is the one that it was opened with.
+    pub fn begun(&self) -> Option<Begun>
+        ensures { shipped_as self.now.debuggee.machine result ≡ self.now.shipped }
+    {
+        self.begun
     }
 
     /// Whether the machine is neither paused nor stopped.
@@ -82,6 +103,19 @@ impl Running {
         prove!(self.debuggee.machine.frames().len() <= 8);
         let mut memory = SeatMemory { shared, seat };
         self.debuggee.step(way, &mut memory)
+    }
+
+    /// At most so many steps over a seat of the table, up to the first that doesn't run. From where nothing is set for the
+    /// machine they are done in one go.
+    pub fn run(&mut self, shared: &SharedTable, seat: &mut ActorSeat, most: u64) -> MachineRun
+        requires { IsActorOf shared.now seat.old }
+        ensures seat { IsActorOf shared.now seat.new }
+        ensures runs { RunsUpTo seat_acts most self.old.debuggee (seat_state seat.old) result.ran result.end self.new.debuggee (seat_state seat.new) }
+        ensures same { self.new.shipped ≡ self.old.shipped }
+    {
+        prove!(self.debuggee.machine.frames().len() <= 8);
+        let mut memory = SeatMemory { shared, seat };
+        self.debuggee.run(most, &mut memory)
     }
 
     /// Does a command of the debugger.

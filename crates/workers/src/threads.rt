@@ -1,39 +1,144 @@
 //! Workers and the mover, on threads of their own.
 ghost use denote.Param.Send.{IsSend};
+ghost use Rattle.std.specs.Prelude.{length};
+ghost use Rattle.workers.specs.Turning.{MovesOn};
 
 use crate::gate::Gate;
+use crate::job::{Direction, Request};
 use crate::mark::Mark;
-use crate::movers::Mover;
+use crate::movers::{Looked, Mover};
 use crate::pool::{Pool, work};
-use far_store::FarStore;
+use far_store::{FarStore, Moved};
 use std::sync::Wait;
 use std::thread;
 use std::thread::Threads;
 
-/// Serves the requests of a pool, as long as the gate lets it: one that doesn't fit, or finds its object held, is dropped.
-/// With `sweep` it looks, where there was no request for 10 ms, at the next object of its own accord.
+/// For how many milliseconds the mover sleeps at most where it looks of its own accord, or has to ask for a return again.
+const PAUSE_MILLIS: u64 = 10;
+
+/// Serves the requests of a pool, as long as the gate lets it: one that doesn't fit, or finds its object held, is dropped, and a
+/// return that the far store failed to give is asked for again after a while. Where there is none it sleeps until it is woken. With
+/// `sweep` it looks, where there was no request for 10 ms, at the next object of its own accord. What it leaves of the mover is what
+/// requests and looks made of it, one after the other.
 pub fn mover<F: FarStore, K: Mark, R: Wait, G: Gate>(
     rt: &R,
     gate: &G,
     pool: &Pool<F, K>,
     mover: &mut Mover<F, K>,
     sweep: bool,
-) {
+)
+    ensures chain { MovesOn F.RETURNS F.called F.faults_of (length K.opening) mover.old mover.new }
+{
+    let mut turn = false;
     for _ in rt.forever() {
+        let seen = pool.requests().count();
         if !gate.go_on() {
+            pool.wake_all();
             return;
         }
-        match pool.wait_for_move(rt) {
-            Some((number, direction)) => {
-                mover.one(pool, number, direction);
-            }
-            None => {
-                if sweep {
-                    mover.look(pool);
-                }
-            }
+        turn = !turn;
+        match next_request(rt, pool, turn) {
+            Some(request) => serve(rt, gate, pool, mover, request),
+            None => rest(rt, gate, pool, mover, seen, sweep),
         }
     }
+}
+
+/// The next request of the queue, or a return that is due again, if there is one: this first in every other turn.
+fn next_request<F: FarStore, K: Mark, R: Wait>(
+    rt: &R,
+    pool: &Pool<F, K>,
+    turn: bool,
+) -> Option<Request> {
+    let due = pool.requests().due(rt);
+    if turn && due.is_some() {
+        return due;
+    }
+    match pool.requests().next(rt) {
+        Some(request) => Some(request),
+        None => due,
+    }
+}
+
+/// Serves a request.
+fn serve<F: FarStore, K: Mark, R: Wait, G: Gate>(
+    rt: &R,
+    gate: &G,
+    pool: &Pool<F, K>,
+    mover: &mut Mover<F, K>,
+    request: Request,
+)
+    ensures chain { MovesOn F.RETURNS F.called F.faults_of (length K.opening) mover.old mover.new }
+{
+    let moved = mover.one(pool, request.number, request.direction);
+    pool.end_request(rt, request, moved);
+    gate.moved(request, moved);
+    leave_alone(rt, pool, request.direction, moved);
+}
+
+/// Leaves the far store alone for a while, if it failed.
+fn leave_alone<F: FarStore, K: Mark, R: Wait>(
+    rt: &R,
+    pool: &Pool<F, K>,
+    direction: Direction,
+    moved: Moved,
+) {
+    let millis = pool.requests().pause_after(rt, direction, moved);
+    if millis > 0 {
+        pool.rest(rt, millis);
+        pool.requests().pass(rt, millis);
+    }
+}
+
+/// Where there is no request: sleeps, and looks at the next object, with `sweep`, if there is none still.
+fn rest<F: FarStore, K: Mark, R: Wait, G: Gate>(
+    rt: &R,
+    gate: &G,
+    pool: &Pool<F, K>,
+    mover: &mut Mover<F, K>,
+    seen: u64,
+    sweep: bool,
+)
+    ensures chain { MovesOn F.RETURNS F.called F.faults_of (length K.opening) mover.old mover.new }
+{
+    sleep(rt, pool, seen, sweep);
+    if !sweep || !pool.requests().is_empty() {
+        return;
+    }
+    let looked = mover.look(pool);
+    heed_look(rt, gate, pool, mover.last(), looked);
+}
+
+/// Sleeps until the mover is woken, or until it looks of its own accord, or for as long as is left until a return is due again.
+fn sleep<F: FarStore, K: Mark, R: Wait>(rt: &R, pool: &Pool<F, K>, seen: u64, sweep: bool) {
+    match pool.requests().due_in(rt) {
+        Some(left) => {
+            let millis = left.min(PAUSE_MILLIS);
+            pool.rest(rt, millis);
+            pool.requests().pass(rt, millis);
+        }
+        None if sweep => pool.requests().sleep_for(rt, seen, PAUSE_MILLIS),
+        None => pool.requests().sleep(rt, seen),
+    }
+}
+
+/// After a look at the object of this number: tells the gate of one that left, and of a far store that failed, which is left alone for
+/// a while.
+fn heed_look<F: FarStore, K: Mark, R: Wait, G: Gate>(
+    rt: &R,
+    gate: &G,
+    pool: &Pool<F, K>,
+    number: u32,
+    looked: Looked,
+) {
+    let Looked::Cold(moved) = looked else {
+        return;
+    };
+    let direction = Direction::Leave;
+    if matches!(moved, Moved::Done | Moved::Fault(_)) {
+        gate.moved(Request { number, direction }, moved);
+    }
+    leave_alone(rt, pool, direction, moved);
 }
 
 /// What the mover's thread takes, as one reference.

@@ -11,7 +11,7 @@ use crate::gates::{Heard, LeftByFour, LeftByTwo, four, looks_at_fuel, numbers, t
 use crate::leaving::steps;
 use crate::moving::{MovesLeft, moves};
 use crate::turns::{Plan, TurnsLeft, turned};
-use crate::untold::beside;
+use crate::untold::{beside, beside_waiting};
 use debugger::{DebugCommand, Debuggee, Start, StepReply};
 use far_store::OwnStore;
 use shared_objects::{ActorSeat, MoverSeat, Shared};
@@ -44,6 +44,7 @@ pub enum Course {
     Moves,
     Turns(Plan),
     Beside,
+    Waiting,
 }
 
 /// What it leaves.
@@ -79,6 +80,7 @@ fn left_by<K: Mark + Send + Sync, R: Threads + Wait + Sync>(
         Course::Moves => Ok(Left::Moves(moves(rt, alloc, pool, mover)?)),
         Course::Turns(plan) => Ok(Left::Turns(turned(rt, alloc, pool, mover, plan))),
         Course::Beside => Ok(Left::Found(beside(rt, alloc, pool))),
+        Course::Waiting => Ok(Left::Found(beside_waiting(rt, alloc, pool, mover))),
     }
 }
 

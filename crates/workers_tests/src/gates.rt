@@ -54,6 +54,7 @@ where
         look(rt, gate, pool);
         let ended = waits_for_ends(rt, pool, LOOKS);
         gate.ends.store(true, Ordering::SeqCst);
+        pool.wake_all();
         (made, ended)
     })
 }
@@ -77,6 +78,7 @@ where
         }
         let ended = waits_for_ends(rt, pool, 100 * LOOKS);
         gate.ends.store(true, Ordering::SeqCst);
+        pool.wake_all();
         (made, ended)
     })
 }

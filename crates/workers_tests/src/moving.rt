@@ -130,6 +130,7 @@ fn drive<F: FarStore, K: Mark, R: Wait>(
     let ended = leave_until_ended(rt, pool);
     let left = leave_until_away(rt, pool, program);
     gate.ends.store(true, Ordering::SeqCst);
+    pool.wake_all();
     (ended, left)
 }
 

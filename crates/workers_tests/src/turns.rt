@@ -10,17 +10,20 @@ use machine::Stop;
 use shared_objects::{MoverSeat, SharedTable};
 use std::alloc::{AllocError, Global};
 use std::sync::Wait;
-use std::sync::atomic::{AtomicU64, Ordering};
+use std::sync::atomic::{AtomicBool, AtomicU64, Ordering};
 use std::test::Fail;
 use std::thread::Threads;
 use workers::{Direction, Gate, Mark, Pool, work};
 
-/// Lets a worker have so many turns, and counts how often it comes to an instruction of machine 1, and of another.
+/// Lets a worker have so many turns, but doesn't let it sleep, and counts how often it comes to an instruction of machine 1, and of
+/// another.
 #[derive(Drop)]
 struct Turns {
     left: AtomicU64,
     first: AtomicU64,
     other: AtomicU64,
+    /// Whether the worker came to an instruction since it asked last.
+    busy: AtomicBool,
 }
 
 impl Gate for Turns {
@@ -31,12 +34,13 @@ impl Gate for Turns {
             &self.other
         };
         count.fetch_add(1, Ordering::SeqCst);
+        self.busy.store(true, Ordering::SeqCst);
     }
 
     fn after(&self, _worker: usize, _machine: usize) {}
 
     fn go_on(&self) -> bool {
-        self.left.fetch_sub(1, Ordering::SeqCst) > 0
+        self.busy.swap(false, Ordering::SeqCst) && self.left.fetch_sub(1, Ordering::SeqCst) > 0
     }
 }
 
@@ -56,6 +60,7 @@ impl Gate for Untold<'_> {
     fn after(&self, _worker: usize, _machine: usize) {}
 
     fn go_on(&self) -> bool {
+        self.turns.busy.store(true, Ordering::SeqCst);
         self.turns.go_on()
     }
 }
@@ -70,7 +75,7 @@ pub struct Plan {
     away: bool,
     /// How often both machines are queued beforehand, beside that they are queued when the pool is made.
     queued: u32,
-    /// How many requests to move an object are made beforehand.
+    /// How many objects are asked to leave beforehand, each twice: from number 100 on, so that no such object is there.
     requests: u32,
     /// Whether both machines are resumed and queued after it, and the worker has as many turns again.
     resumed: bool,
@@ -145,6 +150,7 @@ fn have_turns<F: FarStore, K: Mark, R: Wait>(
         left: AtomicU64::new(plan.turns),
         first: AtomicU64::new(0),
         other: AtomicU64::new(0),
+        busy: AtomicBool::new(true),
     };
     if plan.told {
         work(rt, &gate, pool, 0);
@@ -174,8 +180,9 @@ fn left_by<F: FarStore, K: Mark, R: Wait>(
     for _ in 0..plan.queued {
         queue_both(rt, pool, false);
     }
-    for _ in 0..plan.requests {
-        pool.request(rt, 2, Direction::Leave);
+    for other in 0..plan.requests {
+        pool.request(rt, other.wrapping_add(100), Direction::Leave);
+        pool.request(rt, other.wrapping_add(100), Direction::Leave);
     }
     let first = have_turns(rt, alloc, pool, plan);
     if !plan.resumed {
@@ -322,7 +329,8 @@ fn a_machine_waits_and_its_object_is_asked_for(rt: HostRuntime) -> Result<(), Fa
     same!(rt; here.room, true);
     let plan = Plan { away: true, ..plan };
     let [away, _] = left_of_two(&rt, rt.alloc(), LOADS, plan)?;
-    same!(rt; away.came, [2, 1]);
+    // the one that waits isn't stepped again
+    same!(rt; away.came, [1, 1]);
     same!(rt; away.machines, WAITED);
     same!(rt; away.room, false);
     Ok(())

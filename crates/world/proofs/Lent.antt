@@ -1,6 +1,7 @@
--- A store that is lent to a machine, seen as the store's state.
-use Rattle.std.proofs.Common.{◌≡◌, ℕ, true, [], refl, ap, ◌∙◌, subst}
-use Rattle.object_store.specs.Stores.{StoreState, Touches, lent_memory, store_memory, with_window}
+-- A store that is lent to a machine, seen as the store, and as its state alone.
+use Rattle.std.proofs.Common.{◌≡◌, ℕ, true, refl, ap, ◌∙◌, subst}
+use Rattle.object_store.specs.Lending.{ClosesWithin, TouchesWithin, lent_memory, within_memory}
+use Rattle.object_store.specs.Stores.{StoreWithin, store_memory}
 use Rattle.machine.specs.declared.state.Stepped.{Stepped}
 use Rattle.machine.specs.MachineState.{MachineState}
 use Rattle.machine.specs.TableStep.{TableStep}
@@ -17,27 +18,27 @@ pub record IsLent {M : Type 0} (loan who : M → ℕ) (first m : M) : Type 0 whe
   pub loan_is : loan m ≡ loan first
   pub who_is : who m ≡ who first
 
-lent_carries : {M : Type 0} (store : M → StoreState) (loan who : M → ℕ) (first : M) → Carries true (lent_memory store loan who) (store_memory (who first)) store (IsLent loan who first)
+lent_carries : {M X : Type 0} (store : M → StoreWithin X) (loan who : M → ℕ) (first : M) → Carries true (lent_memory store loan who) (within_memory (who first)) store (IsLent loan who first)
 lent_carries store loan who first = record {
   reached = λ before after n op r i _ h. (
-    subst (λ w. Touches w (store before) n op r (store after)) i.who_is h.0,
+    subst (λ w. TouchesWithin w (store before) n op r (store after)) i.who_is h.0,
     record { loan_is = h.1 ∙ i.loan_is; who_is = h.2 ∙ i.who_is },
   );
   closed = λ before after i h. (
-    h.0 ∙ ap (λ w. with_window (store before) w []) i.who_is,
+    subst (λ w. ClosesWithin w (store before) (store after)) i.who_is h.0,
     record { loan_is = h.1 ∙ i.loan_is; who_is = h.2 ∙ i.who_is },
   );
   measured = λ before n. refl;
 }
 
-pub lent_step : {M : Type 0} (store : M → StoreState) (loan who : M → ℕ) (old new : MachineState) (before after : M) (a : Stepped)
-    → TableStep (lent_memory store loan who) old before a new after → TableStep (store_memory (who before)) old (store before) a new (store after) × IsLent loan who before after
+pub lent_step : {M X : Type 0} (store : M → StoreWithin X) (loan who : M → ℕ) (old new : MachineState) (before after : M) (a : Stepped)
+    → TableStep (lent_memory store loan who) old before a new after → TableStep (within_memory (who before)) old (store before) a new (store after) × IsLent loan who before after
 lent_step store loan who old new before after a t =
-    step_carries true (lent_memory store loan who) (store_memory (who before)) store (IsLent loan who before) (lent_carries store loan who before)
+    step_carries true (lent_memory store loan who) (within_memory (who before)) store (IsLent loan who before) (lent_carries store loan who before)
     old new before after a (record { loan_is = refl; who_is = refl }) refl t
 
-lent_walk : {M : Type 0} (store : M → StoreState) (loan who : M → ℕ) (way : Way) (old new : Debuggee) (before after : M) (told : StepReply)
-    → Walks (lent_memory store loan who) way old before told new after → Walks (store_memory (who before)) way old (store before) told new (store after) × IsLent loan who before after
+lent_walk : {M X : Type 0} (store : M → StoreWithin X) (loan who : M → ℕ) (way : Way) (old new : Debuggee) (before after : M) (told : StepReply)
+    → Walks (lent_memory store loan who) way old before told new after → Walks (within_memory (who before)) way old (store before) told new (store after) × IsLent loan who before after
 lent_walk store loan who way old new before after told h =
     let t = lent_step store loan who old.machine h.machine before after h.answer h.step in (
       record { goes = h.goes; answer = h.answer; machine = h.machine; step = t.0; told = h.told; changed = h.changed },
@@ -45,10 +46,31 @@ lent_walk store loan who way old new before after told h =
     )
 
 -- a step over a store that is lent is one over the store
-pub lent_answer : {M : Type 0} (store : M → StoreState) (loan who : M → ℕ) (way : Way) (old new : Debuggee) (before after : M) (told : StepReply)
-    → AnswersStep (lent_memory store loan who) way old before told new after → AnswersStep (store_memory (who before)) way old (store before) told new (store after) × IsLent loan who before after
+pub lent_answer : {M X : Type 0} (store : M → StoreWithin X) (loan who : M → ℕ) (way : Way) (old new : Debuggee) (before after : M) (told : StepReply)
+    → AnswersStep (lent_memory store loan who) way old before told new after → AnswersStep (within_memory (who before)) way old (store before) told new (store after) × IsLent loan who before after
 lent_answer store loan who way old new before after (step_reply.Paused slot) h = (
   record { held = h.held; slot_is = h.slot_is; changed = h.changed; same = ap store h.same },
   record { loan_is = ap loan h.same; who_is = ap who h.same },
 )
 lent_answer store loan who way old new before after told h = lent_walk store loan who way old new before after told h
+
+-- ---- without the far store
+
+within_carries : {X : Type 0} (who : ℕ) → Carries true (within_memory {X = X} who) (store_memory who) (λ (s : StoreWithin X). s.state) (λ _. Unit {0})
+within_carries who = record {
+  reached = λ before after n op r _ _ h. (h.touches, tt);
+  closed = λ before after _ h. (h.closes, tt);
+  measured = λ before n. refl;
+}
+
+within_walk : {X : Type 0} (who : ℕ) (way : Way) (old new : Debuggee) (before after : StoreWithin X) (told : StepReply)
+    → Walks (within_memory who) way old before told new after → Walks (store_memory who) way old before.state told new after.state
+within_walk {X} who way old new before after told h =
+    let t = step_carries true (within_memory who) (store_memory who) (λ (s : StoreWithin X). s.state) (λ _. Unit {0}) (within_carries who) old.machine h.machine before after h.answer tt refl h.step in
+    record { goes = h.goes; answer = h.answer; machine = h.machine; step = t.0; told = h.told; changed = h.changed }
+
+-- a step over a store is one over its state
+pub within_answer : {X : Type 0} (who : ℕ) (way : Way) (old new : Debuggee) (before after : StoreWithin X) (told : StepReply)
+    → AnswersStep (within_memory who) way old before told new after → AnswersStep (store_memory who) way old before.state told new after.state
+within_answer {X} who way old new before after (step_reply.Paused slot) h = record { held = h.held; slot_is = h.slot_is; changed = h.changed; same = ap (λ (s : StoreWithin X). s.state) h.same }
+within_answer who way old new before after told h = within_walk who way old new before after told h

@@ -2,6 +2,7 @@ pub mod Joined
 pub mod Lent
 pub mod Numbered
 pub mod Ran
+pub mod StackRead
 pub mod Undebugged_machines
 pub mod Moves
 pub mod Unmoved

@@ -23,7 +23,7 @@ begins_leave old new n moved.Scoped h = ap (λ (s : StoreState). s.objects) h.2
 begins_leave old new n moved.Done h = ap (λ (s : StoreState). s.objects) h.2
 begins_leave old new n m h = refuses_stay place.Here old new n m h
 
-ends_leave : (old new : StoreState) (n : ℕ) (m : Moved) → EndsLeave old n m new → new.objects ≡ old.objects
+pub ends_leave : (old new : StoreState) (n : ℕ) (m : Moved) → EndsLeave old n m new → new.objects ≡ old.objects
 ends_leave old new n (moved.Fault f) h = ap (λ (s : StoreState). s.objects) h.2
 ends_leave old new n moved.Done h = ap (λ (s : StoreState). s.objects) h.2
 ends_leave old new n m h = refuses_stay place.Leaving old new n m h

@@ -8,3 +8,4 @@ pub mod Plain
 pub mod Undebugged
 pub mod Unseen
 pub mod Running
+pub mod Asking

@@ -13,6 +13,8 @@ use Rattle.debugger.specs.declared.debuggee.Debuggee.{Debuggee}
 use Rattle.debugger.specs.Showing.{Shows}
 use Rattle.debugger.specs.Debuggees.{AnswersStep, DebugsMachine}
 use Rattle.world.specs.declared.replies.Reply.{Reply}
+use Rattle.world.specs.declared.stack.StackError.{StackError}
+use Rattle.world.specs.declared.stack.StackError.TheVariants as stack_error
 use Rattle.world.specs.declared.replies.Reply.TheVariants.{Ran, Hit, Waiting, Paused, Stopped, Registers, Emitted, Bytes, Disassembled, Done, NoMemory, Outside, NoSlot, Full, NoWatch, NotPaused, Missing}
 use Rattle.world.specs.WorldState.{machine_at, with_machine}
 
@@ -40,6 +42,11 @@ reply_to_show m (show_reply.Disassembled slot text) = Disassembled m slot text
 reply_to_show m show_reply.Outside = Outside
 reply_to_show m show_reply.NoSlot = NoSlot
 reply_to_show m show_reply.NoMemory = NoMemory
+
+-- the reply to a reading of a stack that was refused
+abbrev pub refused_stack : StackError → Reply
+refused_stack stack_error.Missing = Missing
+refused_stack stack_error.Outside = Outside
 
 -- the reply to a command of the debugger
 abbrev pub reply_to_debug : Debugged → Reply

@@ -1,6 +1,6 @@
 -- The machines that were shipped, each with its debug state, and the store of the objects that were made.
-use Rattle.std.specs.Prelude.{◌≤◌, ℕ, zero, suc, ◌-◌, List, [], length, slice_get, slice_set, Option, None}
-use Rattle.object_store.specs.Stores.{StoreState, machine_limit, store_start}
+use Rattle.std.specs.Prelude.{◌≤◌, ℕ, zero, suc, ◌-◌, List, [], ◌∷◌, length, slice_get, slice_set, Option, None}
+use Rattle.object_store.specs.Stores.{StoreState, StoreWithin, machine_limit, store_start, unsent}
 use Rattle.debugger.specs.declared.debuggee.Debuggee.{Debuggee}
 
 -- the machines that were shipped, each with its debug state, and the store of the objects that were made
@@ -9,9 +9,22 @@ pub record WorldState : Type 0 where
   pub machines : List Debuggee
   pub store : StoreState
 
+-- A world, as those see it who look at its far store too.
+pub record WorldWithin (X : Type 0) : Type 0 where
+  pub machines : List Debuggee
+  pub store : StoreWithin X
+
+-- what is left of it for those who don't
+abbrev pub state_of : {X : Type 0} → WorldWithin X → WorldState
+state_of w = record { machines = w.machines; store = w.store.state }
+
 -- with this budget, over a far store that had so many faults
 abbrev pub world_start : ℕ → ℕ → WorldState
 world_start budget faults = record { machines = []; store = store_start budget faults }
+
+-- the same with the far store beside it, which has nothing of this world
+abbrev pub opened_world : {X : Type 0} → ℕ → ℕ → X → WorldWithin X
+opened_world budget faults far = record { machines = []; store = record { state = store_start budget faults; far = far; sent = unsent ∷ [] } }
 
 -- ---- machines
 

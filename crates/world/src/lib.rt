@@ -6,15 +6,16 @@ mod laws;
 mod machines;
 mod replies;
 mod running;
+mod stack;
 mod world;
 
 pub use debugger::{
-    Bytes, DebugCommand, Debuggee, LineText, MachineCommand, ShowCommand, Shown, Start, State,
-    StepReply, Values, Way,
+    Bytes, DebugCommand, Debuggee, LineText, MachineCommand, MachineRun, ShowCommand, Shown, Start,
+    State, StepReply, Values, Way,
 };
 pub use events::{Event, Move, ObjectCommand, ObjectLength};
 pub use laws::{debugging_changes_nothing, moving_changes_nothing, neither_changes_anything};
-pub use object_store::{MACHINE_LIMIT, PartsError, Place};
+pub use object_store::{MACHINE_LIMIT, Moved, PartsError, Place};
 pub use replies::Reply;
-pub use running::MachineRun;
+pub use stack::StackError;
 pub use world::{World, WorldParts};

@@ -1,22 +1,23 @@
 //! Commands on machines, by their numbers.
 ghost use Rattle.std.specs.Prelude.{◌≡◌, ◌≤◌, ◌<◌, suc, None, length, IfSome, IfNone};
+ghost use Rattle.object_store.specs.Lending.{within_memory};
 ghost use Rattle.object_store.specs.Stores.{HasWindow, machine_limit, store_memory};
 ghost use Rattle.debugger.specs.declared.commands.MachineCommand.{MachineCommand};
 ghost use Rattle.debugger.specs.Debuggees.{AnswersStep};
 ghost use Rattle.world.specs.WorldState.{machine_at};
 ghost use Rattle.world.specs.Machines.{AnswersMachine, AnswersCommand, reply_of};
-ghost use Rattle.world.specs.Running.{RunsMachine};
+ghost use Rattle.world.specs.Running.{RunsMachine, RunAsks};
 
 use crate::replies::Reply;
-use crate::running::{MachineRun, run_over};
-use debugger::{Debuggee, MachineCommand, StepReply, Way};
+use crate::running::run_over;
+use debugger::{Debuggee, MachineCommand, MachineRun, StepReply, Way};
 use far_store::FarStore;
 use object_store::{ObjectStore, StoreMemory};
 use std::alloc::Global;
 
 /// The index of the machine of a number.
 #[inline]
-fn index_of(machines: &[Debuggee], machine: usize) -> Option<usize>
+pub(crate) fn index_of(machines: &[Debuggee], machine: usize) -> Option<usize>
     ensures some { IfSome result (λ index. (machine ≡ suc index) × (index < length machines.now)) }
     ensures none { IfNone result (machine_at machines.now machine ≡ None) }
 {
@@ -26,7 +27,8 @@ fn index_of(machines: &[Debuggee], machine: usize) -> Option<usize>
     Some(machine - 1)
 }
 
-/// One step of a machine over the objects. It is no `inline`: the step itself is inlined here, once.
+/// One step of a machine over the objects.
+#[inline]
 pub(crate) fn step_over<F: FarStore>(
     debuggee: &mut Debuggee,
     store: &mut ObjectStore<F>,
@@ -34,7 +36,8 @@ pub(crate) fn step_over<F: FarStore>(
     way: Way,
 ) -> StepReply
     requires { HasWindow who }
-    ensures { AnswersStep (store_memory who) way debuggee.old store.old.state result debuggee.new store.new.state }
+    ensures steps { AnswersStep (store_memory who) way debuggee.old store.old.state result debuggee.new store.new.state }
+    ensures asks { AnswersStep (within_memory who) way debuggee.old store.old result debuggee.new store.new }
 {
     let mut memory = StoreMemory { store, who };
     debuggee.step(way, &mut memory)
@@ -49,7 +52,8 @@ pub(crate) fn step_machine<F: FarStore>(
     way: Way,
 ) -> Option<StepReply>
     requires { length machines.old ≤ machine_limit }
-    ensures { AnswersMachine (store_memory machine) machines.old store.old.state machine (MachineCommand.Step way) (reply_of machine result) machines.new store.new.state }
+    ensures answers { AnswersMachine (store_memory machine) machines.old store.old.state machine (MachineCommand.Step way) (reply_of machine result) machines.new store.new.state }
+    ensures asks { AnswersMachine (within_memory machine) machines.old store.old machine (MachineCommand.Step way) (reply_of machine result) machines.new store.new }
 {
     let index = index_of(machines, machine)?;
     Some(step_over(&mut machines[index], store, machine, way))
@@ -63,7 +67,8 @@ pub(crate) fn run_machine<F: FarStore>(
     most: u64,
 ) -> Option<MachineRun>
     requires { length machines.old ≤ machine_limit }
-    ensures { RunsMachine machine most (record { machines = machines.old; store = store.old.state }) result (record { machines = machines.new; store = store.new.state }) }
+    ensures runs { RunsMachine machine most (record { machines = machines.old; store = store.old.state }) result (record { machines = machines.new; store = store.new.state }) }
+    ensures asks { RunAsks machine most (record { machines = machines.old; store = store.old }) result (record { machines = machines.new; store = store.new }) }
 {
     let index = index_of(machines, machine)?;
     Some(run_over(&mut machines[index], store, machine, most))
@@ -78,7 +83,8 @@ fn answer_debuggee<F: FarStore>(
     command: MachineCommand,
 ) -> Reply
     requires { HasWindow machine }
-    ensures { AnswersCommand (store_memory machine) debuggee.old store.old.state machine command result debuggee.new store.new.state }
+    ensures answers { AnswersCommand (store_memory machine) debuggee.old store.old.state machine command result debuggee.new store.new.state }
+    ensures asks { AnswersCommand (within_memory machine) debuggee.old store.old machine command result debuggee.new store.new }
 {
     match command {
         MachineCommand::Step(way) => {
@@ -98,7 +104,8 @@ pub(crate) fn answer_machine<F: FarStore>(
     command: MachineCommand,
 ) -> Reply
     requires { length machines.old ≤ machine_limit }
-    ensures { AnswersMachine (store_memory machine) machines.old store.old.state machine command result machines.new store.new.state }
+    ensures answers { AnswersMachine (store_memory machine) machines.old store.old.state machine command result machines.new store.new.state }
+    ensures asks { AnswersMachine (within_memory machine) machines.old store.old machine command result machines.new store.new }
 {
     let Some(index) = index_of(machines, machine) else {
         return Reply::Missing;

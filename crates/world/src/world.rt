@@ -1,25 +1,32 @@
 //! What the commands do.
 ghost use Rattle.std.specs.Prelude.{◌≡◌, ◌≢◌, ◌≤◌, ◌++◌, List, map, true, length, IfOk, IfErr, OnOk, OnErr};
+ghost use Rattle.far_store.specs.Calls.{Calls};
 ghost use Rattle.memory.specs.Objects.{object_limit};
+ghost use Rattle.object_store.specs.Lending.{within_memory};
 ghost use Rattle.object_store.specs.Stores.{machine_limit, store_memory};
 ghost use Rattle.object_store.specs.Calls.{Frees};
-ghost use Rattle.object_store.specs.Parts.{AllHere, RefusesParts, bodies_of};
+ghost use Rattle.object_store.specs.Asking.{AsksToFree};
+ghost use Rattle.object_store.specs.Parts.{AllHere, RefusesParts, bodies_of, forgets_all};
 ghost use Rattle.debugger.specs.declared.commands.MachineCommand.{MachineCommand};
 ghost use Rattle.world.specs.declared.replies.Reply.{Reply};
 ghost use Rattle.world.specs.declared.events.Event.{Event};
 ghost use Rattle.world.specs.Run.{Runs};
-ghost use Rattle.world.specs.WorldState.{world_start};
-ghost use Rattle.world.specs.Machines.{AnswersMachine, reply_of};
-ghost use Rattle.world.specs.Running.{RunsMachine};
+ghost use Rattle.world.specs.WorldState.{opened_world, state_of};
+ghost use Rattle.world.specs.Asking.{AsksToMake, AsksToPut, AsksMove, AsksObject, Asks, AnswersWithin, MoveAsks};
+ghost use Rattle.debugger.specs.declared.commands.ShowCommand.{ShowCommand};
+ghost use Rattle.world.specs.Machines.{AnswersMachine, reply_of, refused_stack};
+ghost use Rattle.world.specs.Running.{RunsMachine, RunAsks};
 ghost use Rattle.world.specs.Unseen.{IsPlainRun};
 ghost use Rattle.object_store.specs.declared.errors.GetError.{GetError};
 ghost use Rattle.world.specs.Answers.{Answers, AnswersMake, AnswersPut, AnswersGet, refused_get, AnswersMove, AnswersObject, AnswersShip, Moves, moved_reply, place_before};
 
+mod handing;
+
 use crate::events::{Event, Move, ObjectCommand, ObjectLength};
 use crate::machines::{answer_machine, run_machine, step_machine};
 use crate::replies::Reply;
-use crate::running::MachineRun;
-use debugger::{Bytes, Debuggee, MachineCommand, Start, StepReply, Way};
+use crate::stack::{StackError, read_stack};
+use debugger::{Bytes, Debuggee, MachineCommand, MachineRun, Start, StepReply, Way};
 use far_store::FarStore;
 use loader::{Why, load};
 use object_store::{
@@ -51,11 +58,11 @@ pub struct WorldParts<F> {
 impl<F: FarStore> Model for World<F> {
     ghost use Rattle.std.specs.Prelude.{◌≡◌, ◌≤◌, true, length, vec_capacity};
     ghost use Rattle.object_store.specs.Stores.{machine_limit};
-    ghost use Rattle.world.specs.WorldState.{WorldState};
+    ghost use Rattle.world.specs.WorldState.{WorldWithin};
 
-    ghost Value = { WorldState };
+    ghost Value = { WorldWithin F };
 
-    ghost view = { λ w. record { machines = w.machines.items; store = w.store.state } };
+    ghost view = { λ w. record { machines = w.machines.items; store = w.store } };
 
     ghost invariant = { λ w. (length w.machines.items ≤ machine_limit) × (vec_capacity w.machines ≡ machine_limit) × (F.RETURNS ≡ true) };
 }
@@ -65,7 +72,7 @@ impl<F: FarStore + Drop> World<F> {
     /// bytes. The objects that aren't far have at most `budget` bytes; the bytes of the others are in the far store.
     pub fn new(alloc: Global, budget: u32, store: F) -> Result<Self, AllocError>
         requires { F.RETURNS ≡ true }
-        ensures { IfOk result (λ w. w ≡ world_start budget (F.faults_of store)) }
+        ensures { IfOk result (λ w. w ≡ opened_world budget (F.faults_of store) store) }
     {
         let machines = Vec::with_capacity(alloc, MACHINE_LIMIT)?;
         let store = ObjectStore::new(alloc, budget, store)?;
@@ -76,14 +83,16 @@ impl<F: FarStore + Drop> World<F> {
         })
     }
 
-    /// Takes the world apart, where all objects are here. All scopes close, and parcels that are kept are forgotten.
+    /// Takes the world apart, where all objects are here. All scopes close, and parcels that are kept are forgotten, by
+    /// rising numbers.
     pub fn into_parts(self) -> Result<WorldParts<F>, PartsError>
-        ensures here { OnOk result (AllHere self.store.places) }
+        ensures here { OnOk result (AllHere self.store.state.places) }
         ensures machines { IfOk result (λ p. p.machines.items ≡ self.machines) }
-        ensures bodies { IfOk result (λ p. map (λ b. b.items) p.bodies.items ≡ bodies_of self.store.objects) }
+        ensures bodies { IfOk result (λ p. map (λ b. b.items) p.bodies.items ≡ bodies_of self.store.state.objects) }
         ensures few { IfOk result (λ p. (length p.machines.items ≤ machine_limit) × (length p.bodies.items ≤ object_limit)) }
-        ensures faults { IfOk result (λ p. self.store.faults ≤ F.faults_of p.store) }
-        ensures refused { IfErr result (λ e. RefusesParts self.store e) }
+        ensures calls { IfOk result (λ p. Calls F.called self.store.far (forgets_all self.store.sent) p.store) }
+        ensures faults { IfOk result (λ p. self.store.state.faults ≤ F.faults_of p.store) }
+        ensures refused { IfErr result (λ e. RefusesParts self.store.state e) }
     {
         let World {
             machines,
@@ -104,7 +113,8 @@ impl<F: FarStore + Drop> World<F> {
 impl<F: FarStore> World<F> {
     /// Does one command.
     pub fn apply(&mut self, event: Event) -> Reply
-        ensures { Answers self.old event result self.new }
+        ensures answers { Answers (state_of self.old) event result (state_of self.new) }
+        ensures asks { Asks F.called self.old event result self.new }
     {
         match event {
             Event::Make { length } => self.make(length),
@@ -118,8 +128,9 @@ impl<F: FarStore> World<F> {
     /// objects never move and that nobody debugs. An `Err` comes before the first command, and changes nothing.
     pub fn run(&mut self, events: Vec<Event>, replies: &mut Vec<Reply>) -> Result<(), AllocError>
         ensures ok { OnOk result ((given : List Reply) × (replies.new.items ≡ replies.old.items ++ given)
-            × Runs Answers self.old events.items given self.new
-            × IsPlainRun self.old events.items given self.new) }
+            × Runs (AnswersWithin F.called) self.old events.items given self.new
+            × Runs Answers (state_of self.old) events.items given (state_of self.new)
+            × IsPlainRun (state_of self.old) events.items given (state_of self.new)) }
         ensures err { OnErr result ((self.new ≡ self.old) × (replies.new.items ≡ replies.old.items)) }
     {
         replies.reserve(events.len())?;
@@ -133,7 +144,8 @@ impl<F: FarStore> World<F> {
 
     /// Does a command on an object.
     fn answer_object(&mut self, object: u32, command: ObjectCommand) -> Reply
-        ensures { AnswersObject self.old object command result self.new }
+        ensures answers { AnswersObject (state_of self.old) object command result (state_of self.new) }
+        ensures asks { AsksObject F.called self.old.store object command result self.new.store }
     {
         match command {
             ObjectCommand::Free => self.free(object),
@@ -145,7 +157,8 @@ impl<F: FarStore> World<F> {
 
     /// Makes an object.
     fn make(&mut self, length: ObjectLength) -> Reply
-        ensures { AnswersMake self.old length result self.new }
+        ensures answers { AnswersMake (state_of self.old) length result (state_of self.new) }
+        ensures asks { AsksToMake self.old.store result self.new.store }
     {
         match self.store.make(length.get()) {
             Ok(object) => Reply::Made { object },
@@ -157,7 +170,8 @@ impl<F: FarStore> World<F> {
 
     /// Frees an object.
     fn free(&mut self, object: u32) -> Reply
-        ensures { AnswersMove Frees (Reply.Freed object) Place.Here self.old object result self.new }
+        ensures answers { AnswersMove Frees (Reply.Freed object) Place.Here (state_of self.old) object result (state_of self.new) }
+        ensures asks { AsksMove (AsksToFree F.called) (Reply.Freed object) Place.Here self.old.store object result self.new.store }
     {
         let moved = self.store.free(object);
         Reply::to_move(Reply::Freed { object }, Place::Here, object, moved)
@@ -165,7 +179,8 @@ impl<F: FarStore> World<F> {
 
     /// Writes bytes into an object.
     pub fn put(&mut self, object: u32, offset: u32, bytes: &[u8]) -> Reply
-        ensures { AnswersPut self.old object offset bytes.now result self.new }
+        ensures answers { AnswersPut (state_of self.old) object offset bytes.now result (state_of self.new) }
+        ensures asks { AsksToPut self.old.store object result self.new.store }
     {
         match self.store.put(object, offset, bytes) {
             Ok(()) => Reply::Done,
@@ -177,8 +192,8 @@ impl<F: FarStore> World<F> {
     /// Copies bytes of an object over these, as many as they are, which the command `get` would show. Where it is refused, the
     /// bytes stay. It takes no memory.
     pub fn read(&self, object: u32, offset: u32, into: &mut [u8]) -> Result<(), GetError>
-        ensures shown { OnOk result (AnswersGet self.now.store object offset (length into.old) (Reply.Bytes into.new)) }
-        ensures refused { IfErr result (λ error. AnswersGet self.now.store object offset (length into.old) (refused_get object error) × (error ≢ GetError.Memory)) }
+        ensures shown { OnOk result (AnswersGet self.now.store.state object offset (length into.old) (Reply.Bytes into.new)) }
+        ensures refused { IfErr result (λ error. AnswersGet self.now.store.state object offset (length into.old) (refused_get object error) × (error ≢ GetError.Memory)) }
         ensures kept { OnErr result (into.new ≡ into.old) }
     {
         self.store.read(object, offset, into)
@@ -186,7 +201,7 @@ impl<F: FarStore> World<F> {
 
     /// Bytes of an object.
     fn get(&self, object: u32, offset: u32, length: u32) -> Reply
-        ensures { AnswersGet self.now.store object offset length result }
+        ensures { AnswersGet self.now.store.state object offset length result }
     {
         match self.store.get(object, offset, length) {
             Ok(bytes) => Reply::Bytes(Bytes::new(bytes)),
@@ -200,7 +215,8 @@ impl<F: FarStore> World<F> {
 
     /// Does a move of an object, or ends it.
     fn move_(&mut self, object: u32, kind: Move) -> Reply
-        ensures { AnswersMove (Moves kind) (moved_reply kind object) (place_before kind) self.old object result self.new }
+        ensures answers { AnswersMove (Moves kind) (moved_reply kind object) (place_before kind) (state_of self.old) object result (state_of self.new) }
+        ensures asks { AsksMove (MoveAsks F.called kind) (moved_reply kind object) (place_before kind) self.old.store object result self.new.store }
     {
         let moved = self.moved(object, kind);
         Reply::to_move(kind.reply(object), kind.back(), object, moved)
@@ -208,8 +224,9 @@ impl<F: FarStore> World<F> {
 
     /// What the store does at a move.
     fn moved(&mut self, object: u32, kind: Move) -> Moved
-        ensures store { Moves kind self.old.store object result self.new.store }
-        ensures machines { self.new ≡ record self.old { store = self.new.store } }
+        ensures store { Moves kind self.old.store.state object result self.new.store.state }
+        ensures asks { MoveAsks F.called kind self.old.store object result self.new.store }
+        ensures machines { self.new.machines ≡ self.old.machines }
     {
         match kind {
             Move::Leave => self.store.leave(object),
@@ -243,7 +260,8 @@ impl<F: FarStore> World<F> {
 
     /// Does a command on a machine.
     fn answer_machine(&mut self, machine: usize, command: MachineCommand) -> Reply
-        ensures { AnswersMachine (store_memory machine) self.old.machines self.old.store machine command result self.new.machines self.new.store }
+        ensures answers { AnswersMachine (store_memory machine) self.old.machines self.old.store.state machine command result self.new.machines self.new.store.state }
+        ensures asks { AnswersMachine (within_memory machine) self.old.machines self.old.store machine command result self.new.machines self.new.store }
     {
         answer_machine(
             self.alloc,
@@ -257,14 +275,27 @@ impl<F: FarStore> World<F> {
     /// One step of a machine, if there is one of this number: what the commands `step` and `one` do. Its reply is small,
     /// and is moved faster than one of [`apply`](World::apply).
     pub fn step(&mut self, machine: usize, way: Way) -> Option<StepReply>
-        ensures { Answers self.old (Event.Machine machine (MachineCommand.Step way)) (reply_of machine result) self.new }
+        ensures answers { Answers (state_of self.old) (Event.Machine machine (MachineCommand.Step way)) (reply_of machine result) (state_of self.new) }
+        ensures asks { Asks F.called self.old (Event.Machine machine (MachineCommand.Step way)) (reply_of machine result) self.new }
     {
         step_machine(self.machines.as_mut_slice(), &mut self.store, machine, way)
     }
+
+    /// Copies bytes of a machine's stack over these, as many as they are, which the command `stack` would show. Where it is
+    /// refused, the bytes stay. It takes no memory.
+    pub fn read_stack(&self, machine: usize, offset: u32, into: &mut [u8]) -> Result<(), StackError>
+        ensures shown { OnOk result (Answers (state_of self.now) (Event.Machine machine (MachineCommand.Show (ShowCommand.Stack offset (length into.old)))) (Reply.Bytes into.new) (state_of self.now)) }
+        ensures refused { IfErr result (λ error. Answers (state_of self.now) (Event.Machine machine (MachineCommand.Show (ShowCommand.Stack offset (length into.old)))) (refused_stack error) (state_of self.now)) }
+        ensures kept { OnErr result (into.new ≡ into.old) }
+    {
+        read_stack(self.machines.as_slice(), machine, offset, into)
+    }
+
     /// At most so many steps of a machine, if there is one of this number: what as many commands `step` do, up to the first
     /// that doesn't run. The machine is found once.
     pub fn run_machine(&mut self, machine: usize, most: u64) -> Option<MachineRun>
-        ensures { RunsMachine machine most self.old result self.new }
+        ensures runs { RunsMachine machine most (state_of self.old) result (state_of self.new) }
+        ensures asks { RunAsks machine most self.old result self.new }
     {
         run_machine(self.machines.as_mut_slice(), &mut self.store, machine, most)
     }

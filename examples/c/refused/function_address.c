@@ -1,6 +1,6 @@
 // The address of a function.
-// ship.py: slot 2 has to be filled in: the address of .text
-#include "../bpfagent.h"
+// bpfagent-ship: slot 2 of program needs the address of a function: only direct calls can be shipped
+#include "bpfagent.h"
 
 CALLED uint64_t twice(uint64_t number)
 {

@@ -1,7 +1,7 @@
 // A function of another file.
-// ship.py: slot 0 has to be filled in: a call of other
+// bpfagent-ship: slot 0 of program calls other, which this file doesn't define
 // run: stopped 1 depth
-#include "../bpfagent.h"
+#include "bpfagent.h"
 
 uint64_t other(uint64_t number);
 

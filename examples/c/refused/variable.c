@@ -1,6 +1,6 @@
 // A variable outside functions.
-// ship.py: slot 0 has to be filled in: the address of .bss
-#include "../bpfagent.h"
+// bpfagent-ship: slot 0 of program needs the address of total in .bss: a program has no data of its own; put it into an object
+#include "bpfagent.h"
 
 static uint64_t total;
 

@@ -1,6 +1,6 @@
 // An array on the stack whose length isn't known.
 // clang: Unsupported dynamic stack allocation
-#include "../bpfagent.h"
+#include "bpfagent.h"
 
 uint64_t program(uint64_t length)
 {

@@ -1,7 +1,7 @@
 use Rattle.std.proofs.Common.{◌∙◌, ◌||◌, ap, ap₂, refl, codes}
 use Rattle.std.proofs.lemmas.Result.{IfOk-weaker}
 use Rattle.clap.specs.Words.{App, with_rule}
-use Rattle.agent.specs.CommandLine.{budget_rule, connections_rule, far_rule, flag_rule, port_rule, workers_rule}
+use Rattle.agent.specs.CommandLine.{budget_rule, connections_rule, far_rule, far_timeout_rule, flag_rule, port_rule, verbose_rule, workers_rule}
 use Rattle.agent.proofs.Globals.{not_global}
 use Rattle.agent.proofs.arguments.make_serve.Goals as goal
 
@@ -24,4 +24,10 @@ returns c =
     let with_sweep = c.in_ok-arg-5.ensures.shape sweep_local ∙ ap₂ with_rule with_budget c.make_flag.ensures in
     let local_sweep = c.in_ok-arg-5.ensures.globals ∙ ap₂ (λ a b. a || b) local_budget sweep_local in
     let far_local = not_global c.make_far.result far_rule refl c.make_far.ensures in
-    IfOk-weaker c.arg-6.result _ _ (λ r adds. (ap (λ (a : App). a.top) (adds.shape far_local ∙ ap₂ with_rule with_sweep c.make_far.ensures), adds.globals ∙ ap₂ (λ a b. a || b) local_sweep far_local)) c.arg-6.ensures
+    let with_far = c.in_ok-arg-6.ensures.shape far_local ∙ ap₂ with_rule with_sweep c.make_far.ensures in
+    let local_far = c.in_ok-arg-6.ensures.globals ∙ ap₂ (λ a b. a || b) local_sweep far_local in
+    let timeout_local = not_global c.make_far_timeout.result far_timeout_rule refl c.make_far_timeout.ensures in
+    let with_timeout = c.in_ok-arg-7.ensures.shape timeout_local ∙ ap₂ with_rule with_far c.make_far_timeout.ensures in
+    let local_timeout = c.in_ok-arg-7.ensures.globals ∙ ap₂ (λ a b. a || b) local_far timeout_local in
+    let verbose_local = not_global c.make_verbose.result verbose_rule refl c.make_verbose.ensures in
+    IfOk-weaker c.arg-8.result _ _ (λ r adds. (ap (λ (a : App). a.top) (adds.shape verbose_local ∙ ap₂ with_rule with_timeout c.make_verbose.ensures), adds.globals ∙ ap₂ (λ a b. a || b) local_timeout verbose_local)) c.arg-8.ensures

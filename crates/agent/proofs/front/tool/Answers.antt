@@ -5,12 +5,13 @@ use Rattle.agent.specs.Failures.{status_number}
 use Rattle.agent.specs.Reports.{Reports, ReportsOutcome}
 use Rattle.agent.specs.declared.failure.Failure.{Failure}
 use Rattle.agent.specs.declared.failure.Status.{Status}
-use Rattle.agent.specs.declared.arguments.Task.TheVariants.{Assemble, Run, Disassemble}
+use Rattle.agent.specs.declared.arguments.Task.TheVariants.{Assemble, Check, Run, Disassemble}
 use Rattle.agent.specs.AsmLeaves.{asm_limit}
-use Rattle.agent.specs.CheckLeaves.{CheckLeaves, check_limit}
+use Rattle.agent.specs.CheckLeaves.{check_limit}
 use Rattle.agent.specs.DisLeaves.{DisLeaves}
 use Rattle.agent.specs.RunLeaves.{RunLeaves}
 use Rattle.agent.proofs.AsmReports.{memory_over, numbered_over}
+use Rattle.agent.proofs.CheckReports.{memory_over as check_memory, numbered_over as check_numbered}
 use Rattle.agent.specs.StoreLeaves.{LeavesUndone}
 use Rattle.agent.proofs.OutOfMemory.{reads_nothing, reported_over}
 use Rattle.agent.proofs.front.tool.Goals as goal
@@ -21,12 +22,11 @@ returns-in-Err-clause-run g c budget right asked =
     (λ input. RunLeaves budget input (g.W.Write.contents c.args.writer.now) (g.W.Write.contents c.show.new.writer) (g.R.Read.remaining c.args.reader.now)) (λ input unread kept. (kept, unread))
 
 pub returns-in-Err-clause-check : goal.returns-in-Err-clause-check
-returns-in-Err-clause-check g c right asked =
-    reported_over (g.R.Read.remaining c.args.reader.now) _ c.in-Err.error _ _ _ _ c.show.result _ right c.in-Err.ensures.err c.show.ensures c.number-in-Err.ensures
-    (λ input. CheckLeaves input (g.W.Write.contents c.args.writer.now) (g.W.Write.contents c.show.new.writer)) (λ input unread kept. kept)
+returns-in-Err-clause-check g c explains right asked =
+    check_memory (g.R.Read.remaining c.args.reader.now) explains _ c.in-Err.error _ _ _ _ c.show.result _ right c.in-Err.ensures.err c.show.ensures c.number-in-Err.ensures
 
 pub returns-in-Err-clause-consumed : goal.returns-in-Err-clause-consumed
-returns-in-Err-clause-consumed g c asked = reads_nothing check_limit (g.R.Read.remaining c.args.reader.now)
+returns-in-Err-clause-consumed g c explains asked = reads_nothing check_limit (g.R.Read.remaining c.args.reader.now)
 
 pub returns-in-Err-clause-asm : goal.returns-in-Err-clause-asm
 returns-in-Err-clause-asm g c explains right asked =
@@ -44,7 +44,7 @@ pub returns-in-Err-clause-consumed_by_dis : goal.returns-in-Err-clause-consumed_
 returns-in-Err-clause-consumed_by_dis g c has_slots asked = reads_nothing check_limit (g.R.Read.remaining c.args.reader.now)
 
 pub returns-in-Err-clause-store : goal.returns-in-Err-clause-store
-returns-in-Err-clause-store g c port right asked =
+returns-in-Err-clause-store g c port verbose right asked =
     reported_over (g.R.Read.remaining c.args.reader.now) _ c.in-Err.error _ _ _ _ c.show.result _ right c.in-Err.ensures.err c.show.ensures c.number-in-Err.ensures
     (λ input. LeavesUndone input (g.W.Write.contents c.args.writer.now) (g.W.Write.contents c.show.new.writer) (g.R.Read.remaining c.args.reader.now)) (λ input unread kept. (kept, unread))
 
@@ -80,7 +80,7 @@ undone None written = tt
 undone (Some input) written = (Keeps-refl written, refl)
 
 pub returns-in-Ok-Store-clause-store : goal.returns-in-Ok-Store-clause-store
-returns-in-Ok-Store-clause-store g c port right asked =
+returns-in-Ok-Store-clause-store g c port verbose right asked =
     reported_run _ (λ input. LeavesUndone input (g.W.Write.contents c.args.writer.now) (g.W.Write.contents c.args.writer.now) (g.R.Read.remaining c.args.reader.now)) _ _ (Ok tt) _ _
     (undone (g.R.Read.remaining c.args.reader.now) (g.W.Write.contents c.args.writer.now)) c.report-in-Ok-Store.ensures c.number-in-Ok-Store.ensures
 
@@ -95,3 +95,10 @@ returns-in-Ok-Assemble-clause-asm g c explains right asked =
     let is : c.in-Ok-Assemble.field-0 ≡ Assemble c.in-Ok-Assemble.explains = c.in-Ok-Assemble.field-0-is in
     let same : explains ≡ c.in-Ok-Assemble.explains = cc in
     rw same (numbered_over _ _ _ _ _ _ _ _ c.asm_reported.ensures.reported c.number-in-Ok-Assemble.ensures)
+
+pub returns-in-Ok-Check-clause-check : goal.returns-in-Ok-Check-clause-check
+returns-in-Ok-Check-clause-check g c explains right asked =
+    let told : Some c.in-Ok-Check.field-0 ≡ Some (Check explains) = sym c.in-Ok-Check.ensures.ok.1 ∙ asked in
+    let is : c.in-Ok-Check.field-0 ≡ Check c.in-Ok-Check.explains = c.in-Ok-Check.field-0-is in
+    let same : explains ≡ c.in-Ok-Check.explains = cc in
+    rw same (check_numbered _ _ _ _ _ _ _ _ c.check_reported.ensures.reported c.number-in-Ok-Check.ensures)

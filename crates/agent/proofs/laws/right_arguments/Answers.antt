@@ -12,4 +12,6 @@ returns c = record {
   store = (refl, refl);
   serve = (refl, refl);
   help = refl;
+  version = refl;
+  short_version = refl;
 }

@@ -12,5 +12,7 @@ returns c = record {
   no_connection = λ e. cc;
   nine_connections = λ e. cc;
   too_many_workers = λ e. cc;
+  no_time = λ e. cc;
+  too_long = λ e. cc;
   of_run = λ e. cc;
 }

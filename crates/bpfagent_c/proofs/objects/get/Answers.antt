@@ -1,5 +1,7 @@
-use Rattle.std.proofs.Common.{rules, ◌≡◌, length, true, Some, subst, ◌∙◌}
-use Rattle.world.specs.WorldState.{WorldState}
+use Rattle.std.proofs.Common.{rules, ◌≡◌, ◌≢◌, length, true, Some, sym, subst, ◌∙◌, ap, arith}
+use Rattle.object_store.specs.declared.errors.GetError.TheVariants.{Memory}
+use Rattle.library_store.specs.Calls.{LibraryState}
+use Rattle.world.specs.WorldState.{WorldWithin, state_of}
 use Rattle.world.specs.Answers.{AnswersGet, refused_get}
 use Rattle.world.specs.declared.replies.Reply.TheVariants.{Bytes}
 use Rattle.bpfagent_c.proofs.Reading.{over_as_many, refused_shows_nothing}
@@ -14,9 +16,10 @@ returns c =
     let after : c.give.new.agent.held.state ≡ c.args.agent.now.held.state = search rules in
     elim c.match-read.branch [
       | in-Ok w ↦
-          let shown : AnswersGet c.deref.result.now.store c.args.object c.args.offset (length c.args.bytes.now) (Bytes c.read.new.into) = search rules in
-          record { told = (Some (Bytes c.read.new.into), (live, c.give.ensures.live, (subst (λ (x : WorldState). AnswersGet x.store c.args.object c.args.offset (length c.args.bytes.now) (Bytes c.read.new.into)) same shown, after)), w.number-is, over_as_many c.read.new.into c.args.bytes.now (search rules)) }
+          let shown : AnswersGet c.deref.result.now.store.state c.args.object c.args.offset (length c.args.bytes.now) (Bytes c.read.new.into) = search rules in
+          record { told = (Some (Bytes c.read.new.into), (live, c.give.ensures.live, (subst (λ (x : WorldWithin LibraryState). AnswersGet x.store.state c.args.object c.args.offset (length c.args.bytes.now) (Bytes c.read.new.into)) same shown, ap state_of after)), w.number-is, over_as_many c.read.new.into c.args.bytes.now (search rules)); memory = λ e. let k : 0 ≡ 10 = sym w.number-is ∙ e in omega (arith, k) }
       | in-Err w ↦
-          let refused : AnswersGet c.deref.result.now.store c.args.object c.args.offset (length c.args.bytes.now) (refused_get c.args.object w.in-Err.error) = search rules in
-          record { told = (Some (refused_get c.args.object w.in-Err.error), (live, c.give.ensures.live, (subst (λ (x : WorldState). AnswersGet x.store c.args.object c.args.offset (length c.args.bytes.now) (refused_get c.args.object w.in-Err.error)) same refused, after)), w.number-is ∙ w.code_of_get-number.ensures c.args.object, search rules ∙ refused_shows_nothing c.args.object w.in-Err.error c.args.bytes.now) }
+          let refused : AnswersGet c.deref.result.now.store.state c.args.object c.args.offset (length c.args.bytes.now) (refused_get c.args.object w.in-Err.error) = search rules in
+          let other : w.in-Err.error ≢ Memory = search rules in
+          record { told = (Some (refused_get c.args.object w.in-Err.error), (live, c.give.ensures.live, (subst (λ (x : WorldWithin LibraryState). AnswersGet x.store.state c.args.object c.args.offset (length c.args.bytes.now) (refused_get c.args.object w.in-Err.error)) same refused, ap state_of after)), w.number-is ∙ w.code_of_get-number.ensures.number c.args.object, search rules ∙ refused_shows_nothing c.args.object w.in-Err.error c.args.bytes.now); memory = λ e. other (w.code_of_get-number.ensures.memory (sym w.number-is ∙ e)) }
     ]

@@ -1,11 +1,9 @@
-use Rattle.std.proofs.Common.{arith, sym}
-use Rattle.world.proofs.Ran.{steps_more, runs_join}
+use Rattle.std.proofs.Common.{rules}
+use Rattle.world.proofs.Ran.{lent_run, within_run}
 use Rattle.world.proofs.running.run_over.Goals as goal
 
-pub returns-then-is_none : goal.returns-then-is_none
-returns-then-is_none g c = runs_join _ c.args.most c.run.ran c.run_unset-rest.result.ran _ _ _ _ _ _ _ c.run.invariant.1 c.run.invariant.0 c.run_unset-rest.ensures
+pub returns-clause-runs : goal.returns-clause-runs
+returns-clause-runs g c = let k = lent_run (λ m. m.store.now) (λ m. m.store.ghost_name) (λ m. m.who) _ _ _ _ _ _ _ c.run.ensures.runs in let t = within_run _ _ _ _ _ _ _ _ k.0 in let l = k.1.loan_is in search rules
 
-pub run-preserved : goal.run-preserved
-run-preserved g c =
-    let below = c.run-test.true in
-    (steps_more _ c.run.ran _ _ _ _ _ _ _ c.run.invariant.0 (rw (sym c.has_run.ensures) c.if-not-has_run.false) c.step_over-told.ensures, omega (arith, below))
+pub returns-clause-asks : goal.returns-clause-asks
+returns-clause-asks g c = let k = lent_run (λ m. m.store.now) (λ m. m.store.ghost_name) (λ m. m.who) _ _ _ _ _ _ _ c.run.ensures.runs in let t = k.0 in let l = k.1.loan_is in search rules

@@ -22,7 +22,7 @@ compare_exchange-found-requires c = let m = c.args.mover.now in let z = c.args.s
     let key : List (List ℕ) = opening_bytes z.table.shared.key.bodies.value in
     let lt : n < length z.lengths.items = c.length.ensures.object (omega (arith, c.if-length-eq0.false)) in
     let long : length z.lengths.items ≡ length key = ap length z.sizes ∙ length-map key length in
-    (c.requires.mover.0, omega (arith, z.words), lifts_ok _ _ _ _ _ n _ _ (omega (arith, z.slots)) c.in-Some.ensures.some.0 c.in-Some.ensures.some.1 (omega (arith, m.wide.0, ap length c.requires.mover.1)) m.makes.1)
+    (c.requires.mover.0, omega (arith, z.words), lifts_ok _ _ _ _ _ n _ _ (omega (arith, z.slots)) c.in-Some.ensures.some.0 c.in-Some.ensures.some.1 (omega (arith, m.wide, ap length c.requires.mover.1)) m.makes.1)
 
 pub exchange-bytes-requires : goal.exchange-bytes-requires
 exchange-bytes-requires c = let n : ℕ = c.args.number in let h = c.compare_exchange-found.ensures in let t = subst (λ k. (b : Body) × (◌≡◌ {A = Sat} c.compare_exchange-found.new.seat.me (placed k (places.Moving b.bytes.items) c.args.mover.now.seat.me.0, (k, b) ∷ c.args.mover.now.seat.me.1)) × (length b.bytes.items ≡ length (bytes_of c.args.mover.now.seat.me.0.opening k))) (object_home n) (h.2.0 c.if-found-old.false) in
@@ -33,15 +33,15 @@ push_reserved-requires c = let m = c.args.mover.now in let z = c.args.self.now i
     let key : List (List ℕ) = opening_bytes z.table.shared.key.bodies.value in
     let lt : n < length z.lengths.items = c.length.ensures.object (omega (arith, c.if-length-eq0.false)) in
     let long : length z.lengths.items ≡ length key = ap length z.sizes ∙ length-map key length in
-    let wide : n < length v.out = omega (arith, m.wide.0, ap length c.requires.mover.1) in
-    omega (arith, m.counted, m.room, m.wide.0, m.order.ok.0, room_left v.out n wide (ap is_moving (c.if-not-is_here.ensures.here refl)))
+    let wide : n < length v.out = omega (arith, m.wide, ap length c.requires.mover.1) in
+    omega (arith, m.counted, m.room, m.wide, m.order.ok.0, room_left v.out n wide (ap is_moving (c.if-not-is_here.ensures.here refl)))
 
 pub invariant_of-mover-2 : goal.invariant_of-mover-2
 invariant_of-mover-2 c = let m = c.args.mover.now in let v : View = m.seat.me.0 in let n : ℕ = c.args.number in let z = c.args.self.now in
     let key : List (List ℕ) = opening_bytes z.table.shared.key.bodies.value in
     let lt : n < length z.lengths.items = c.length.ensures.object (omega (arith, c.if-length-eq0.false)) in
     let long : length z.lengths.items ≡ length key = ap length z.sizes ∙ length-map key length in
-    let wide : n < length v.out = omega (arith, m.wide.0, ap length c.requires.mover.1) in
+    let wide : n < length v.out = omega (arith, m.wide, ap length c.requires.mover.1) in
     let t = subst (λ k. (b : Body) × (◌≡◌ {A = Sat} c.compare_exchange-found.new.seat.me (placed k (places.Moving b.bytes.items) v, (k, b) ∷ m.seat.me.1)) × (length b.bytes.items ≡ length (bytes_of v.opening k))) (object_home n) (c.compare_exchange-found.ensures.2.0 c.if-found-old.false) in
     let x = c.exchange-bytes.ensures.3 in let r = c.turn.ensures.2 in
     let p : Place = places.Moving t.0.bytes.items in
@@ -53,7 +53,7 @@ invariant_of-mover-2 c = let m = c.args.mover.now in let v : View = m.seat.me.0 
     let was : is_moving (place_of v n) ≡ 0 = ap is_moving (c.if-not-is_here.ensures.here refl) in record {
       makes = subst Makes (sym e) m.makes;
       phased = subst (λ (u : View). slice_set m.phases.items n phases.Moving ≡ map phase_of u.out) (sym e) (phased_after m.phases.items v.out n p phases.Moving m.phased refl);
-      wide = subst (λ (u : View). (length u.out ≡ length u.opening) × (length u.heat ≡ length u.opening)) (sym e) (length-set v.out n p ∙ m.wide.0, m.wide.1);
+      wide = subst (λ (u : View). length u.out ≡ length u.opening) (sym e) (length-set v.out n p ∙ m.wide);
       ordered = is ∙ ap (λ l. l ++ n ∷ []) m.ordered ∙ sym slots;
       held = subst (λ (u : View). (k : ℕ) → is_moving (place_of u k) ≡ 1 → 0 < times k c.push_reserved.new.self.items) (sym e)
           (subst (λ l. (k : ℕ) → is_moving (place_of (placed n p v) k) ≡ 1 → 0 < times k l) (sym is) (held_taken v n p m.order.items m.held));

@@ -3,7 +3,7 @@ use Rattle.std.specs.Prelude.{slice_set, vec_capacity}
 use Rattle.std.proofs.lemmas.List.{length-map}
 use Rattle.atomic_table.specs.Table.{rest}
 use Rattle.shared_objects.specs.Opening.{opening_bytes}
-use Rattle.shared_objects.specs.Rule.{place_of, times, taken, is_moving, total}
+use Rattle.shared_objects.specs.Rule.{place_of, times, bytes_taken, is_moving, total}
 use Rattle.shared_objects.specs.Phases.{phase_of, Makes}
 use Rattle.shared_objects.specs.Kinds.{placed, sent}
 use Rattle.shared_objects.specs.declared.view.View.{View}
@@ -18,8 +18,8 @@ pub fetch_add-requires : goal.fetch_add-requires
 fetch_add-requires c = let m = c.args.mover.now in let v : View = m.seat.me.0 in let n : ℕ = c.args.number in let t = is_moving_place (place_of v n) c.requires.phase in let z = c.args.self.now in
     let b = c.bring.ensures in
     let key : List (List ℕ) = opening_bytes c.args.self.now.table.shared.key.bodies.value in
-    let wide = inside v n t.0 (ap taken t.1) in
-    let near : n < length key = omega (arith, wide, m.wide.0, ap length c.requires.mover.1) in
+    let wide = inside v n t.0 (ap bytes_taken t.1) in
+    let near : n < length key = omega (arith, wide, m.wide, ap length c.requires.mover.1) in
     let long : length c.args.self.now.lengths.items ≡ length key = ap length z.sizes ∙ length-map key length in
     let slot = first_slot c.bring.new.seat.me.1 n b.first.0 (sym b.ordered ∙ b.first.1) in
     let e = b.same.1 in (
@@ -36,7 +36,7 @@ returns-clause-view c = let n : ℕ = c.args.number in let b = c.bring.ensures i
 pub invariant_of-mover : goal.invariant_of-mover
 invariant_of-mover c = let m = c.args.mover.now in let v : View = m.seat.me.0 in let n : ℕ = c.args.number in let t = is_moving_place (place_of v n) c.requires.phase in
     let b = c.bring.ensures in let f = c.fetch_add.ensures.2 in
-    let wide = inside v n t.0 (ap taken t.1) in
+    let wide = inside v n t.0 (ap bytes_taken t.1) in
     let p : Place = sent (place_of v n) in
     let e : c.fetch_add.new.seat.me.0 ≡ placed n p v = ap (λ y. y.0) f ∙ ap (λ k. placed k (sent (place_of c.bring.new.seat.me.0 k)) c.bring.new.seat.me.0) (object_home n) ∙ ap (λ (u : View). placed n (sent (place_of u n)) u) b.same.1 in
     let slots : numbers c.fetch_add.new.seat.me.1 ≡ numbers (rest c.bring.new.seat.me.1) = ap (λ y. numbers y.1) f in
@@ -47,7 +47,7 @@ invariant_of-mover c = let m = c.args.mover.now in let v : View = m.seat.me.0 in
     let still : is_moving p ≡ 0 = ap (λ (y : Place). is_moving (sent y)) t.1 in record {
       makes = subst Makes (sym e) m.makes;
       phased = subst (λ (u : View). slice_set m.phases.items n phases.Far ≡ map phase_of u.out) (sym e) (phased_after m.phases.items v.out n p phases.Far m.phased (ap (λ (y : Place). phase_of (sent y)) t.1));
-      wide = subst (λ (u : View). (length u.out ≡ length u.opening) × (length u.heat ≡ length u.opening)) (sym e) (length-set v.out n p ∙ m.wide.0, m.wide.1);
+      wide = subst (λ (u : View). length u.out ≡ length u.opening) (sym e) (length-set v.out n p ∙ m.wide);
       ordered = is ∙ ap (drop 1) b.ordered ∙ numbers_rest c.bring.new.seat.me.1 ∙ sym slots;
       held = subst (λ (u : View). (k : ℕ) → is_moving (place_of u k) ≡ 1 → 0 < times k c.remove.new.self.items) (sym e)
           (subst (λ l. (k : ℕ) → is_moving (place_of (placed n p v) k) ≡ 1 → 0 < times k l) (sym less)

@@ -1,4 +1,4 @@
-use Rattle.std.proofs.Common.{arith, ap, sym, ◌∙◌, ◌≡◌, ℕ, ◌+◌, ◌*◌, ◌<◌, ◌≤◌, length, map, List, subst, get_or, replicate, Vec, Global, refl, lit<, false}
+use Rattle.std.proofs.Common.{arith, ap, sym, ◌∙◌, ◌≡◌, ℕ, ◌+◌, ◌*◌, ◌<◌, ◌≤◌, length, map, List, subst, get_or, replicate, Vec, Global, refl, lit<}
 use Rattle.std.specs.Prelude.{vec_capacity}
 use Rattle.std.proofs.lemmas.List.{length-map}
 use Rattle.shared_objects.specs.Opening.{opening_bytes}
@@ -47,7 +47,7 @@ invariant_of-result-2 c = let o = c.in-Ok.ensures.ok in
     let e = ap (λ y. y.0) o.4 in record {
       makes = subst Makes (sym e) (lit< tt, refl, refl, refl, refl, refl);
       phased = subst (λ (u : View). c.in_ok-phases.phases.items ≡ map phase_of u.out) (sym e) (c.in_ok-phases.ensures ∙ all_in c.deref-2.result.now os (ap length c.deref-2.ensures.value ∙ many));
-      wide = subst (λ (u : View). (length u.out ≡ length u.opening) × (length u.heat ≡ length u.opening)) (sym e) (length-map os (λ (_ : List ℕ). places.Here), length-map os (λ (_ : List ℕ). false));
+      wide = subst (λ (u : View). length u.out ≡ length u.opening) (sym e) (length-map os (λ (_ : List ℕ). places.Here));
       ordered = c.in_ok-order.ensures.items ∙ ap (λ y. numbers y.1) (sym o.4);
       held = subst (λ (u : View). (n : ℕ) → is_moving (place_of u n) ≡ 1 → 0 < times n c.in_ok-order.order.items) (sym e) (λ n q. absurd (let z : is_moving (place_of (dealer c.args.returns os) n) ≡ 0 = ap is_moving (all_here os n) in omega (arith, z, q)));
       counted = subst (λ (u : View). length c.in_ok-order.order.items ≡ total is_moving u.out) (sym e) (ap length c.in_ok-order.ensures.items ∙ sym (none_on_way os));

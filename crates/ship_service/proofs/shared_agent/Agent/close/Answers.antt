@@ -31,5 +31,6 @@ returns g c =
     (subst (λ (v : View). Closes R before v (map part_of (first ++ others)) objects) m.same.0
     (subst (λ (l : List ActorSeat). Closes R before was (map part_of l) objects) c.in_ok-seats.ensures.seats c.in_ok-objects.ensures)))
     (subst (λ (v : View). KeepsParcels v parcels) m.same.0 m.keeps)
+    (subst (λ (v : View). v.opening ≡ g.K.Mark.opening) m.same.0 m.of.1.0)
     (subst (λ (o : List (List ℕ)). AreLengths o c.in_ok-lengths.lengths.items) e.1.1 (subst (λ (t : SharedTable). AreLengths (table_opening t) c.in_ok-lengths.lengths.items) c.table.ensures c.in_ok-lengths.ensures))
     m.same.1

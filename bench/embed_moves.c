@@ -1,0 +1,187 @@
+/* What a move of the library for C takes: bpfagent_left_into and bpfagent_returned_from, beside memcpy and SHA-256 alone. The SHA-256
+   is written here in plain C, with its rounds unrolled by eight as usual libraries without instructions of their own have it. Of
+   interleaved runs the tenth percentile counts.
+
+   moves */
+#include "bpfagent.h"
+#include "percentile.h"
+#include <inttypes.h>
+#include <stdio.h>
+#include <stdlib.h>
+#include <string.h>
+#include <time.h>
+
+#define RUNS 201
+#define SIDES 4
+#define LARGEST 65536
+
+static const size_t LENGTHS[] = { 64, 4096, 65536 };
+static uint8_t bytes[LARGEST], kept[LARGEST], copied[LARGEST];
+
+static double now(void)
+{
+    struct timespec t;
+    clock_gettime(CLOCK_MONOTONIC, &t);
+    return 1e9 * (double)t.tv_sec + (double)t.tv_nsec;
+}
+
+static void must(uint32_t reply)
+{
+    if (reply == BPFAGENT_OK)
+        return;
+    fprintf(stderr, "moves: answered %s\n", bpfagent_name(reply));
+    exit(1);
+}
+
+/* ---- SHA-256 (FIPS 180-4) */
+
+static const uint32_t K[64] = {
+    0x428a2f98, 0x71374491, 0xb5c0fbcf, 0xe9b5dba5, 0x3956c25b, 0x59f111f1, 0x923f82a4, 0xab1c5ed5, 0xd807aa98, 0x12835b01, 0x243185be,
+    0x550c7dc3, 0x72be5d74, 0x80deb1fe, 0x9bdc06a7, 0xc19bf174, 0xe49b69c1, 0xefbe4786, 0x0fc19dc6, 0x240ca1cc, 0x2de92c6f, 0x4a7484aa,
+    0x5cb0a9dc, 0x76f988da, 0x983e5152, 0xa831c66d, 0xb00327c8, 0xbf597fc7, 0xc6e00bf3, 0xd5a79147, 0x06ca6351, 0x14292967, 0x27b70a85,
+    0x2e1b2138, 0x4d2c6dfc, 0x53380d13, 0x650a7354, 0x766a0abb, 0x81c2c92e, 0x92722c85, 0xa2bfe8a1, 0xa81a664b, 0xc24b8b70, 0xc76c51a3,
+    0xd192e819, 0xd6990624, 0xf40e3585, 0x106aa070, 0x19a4c116, 0x1e376c08, 0x2748774c, 0x34b0bcb5, 0x391c0cb3, 0x4ed8aa4a, 0x5b9cca4f,
+    0x682e6ff3, 0x748f82ee, 0x78a5636f, 0x84c87814, 0x8cc70208, 0x90befffa, 0xa4506ceb, 0xbef9a3f7, 0xc67178f2
+};
+
+#define ROR(x, n) ((x) >> (n) | (x) << (32 - (n)))
+#define ROUND(a, b, c, d, e, f, g, h, i) \
+    do { \
+        uint32_t t = h + (ROR(e, 6) ^ ROR(e, 11) ^ ROR(e, 25)) + (g ^ (e & (f ^ g))) + K[i] + w[i]; \
+        d += t; \
+        h = t + (ROR(a, 2) ^ ROR(a, 13) ^ ROR(a, 22)) + ((a & b) | (c & (a | b))); \
+    } while (0)
+
+static void block(uint32_t s[8], const uint8_t *p)
+{
+    uint32_t w[64], a = s[0], b = s[1], c = s[2], d = s[3], e = s[4], f = s[5], g = s[6], h = s[7];
+    for (unsigned i = 0; i < 16; i++)
+        w[i] = (uint32_t)p[4 * i] << 24 | (uint32_t)p[4 * i + 1] << 16 | (uint32_t)p[4 * i + 2] << 8 | p[4 * i + 3];
+    for (unsigned i = 16; i < 64; i++)
+        w[i] = w[i - 16] + (ROR(w[i - 15], 7) ^ ROR(w[i - 15], 18) ^ w[i - 15] >> 3) + w[i - 7] + (ROR(w[i - 2], 17) ^ ROR(w[i - 2], 19) ^ w[i - 2] >> 10);
+    for (unsigned i = 0; i < 64; i += 8) {
+        ROUND(a, b, c, d, e, f, g, h, i);
+        ROUND(h, a, b, c, d, e, f, g, i + 1);
+        ROUND(g, h, a, b, c, d, e, f, i + 2);
+        ROUND(f, g, h, a, b, c, d, e, i + 3);
+        ROUND(e, f, g, h, a, b, c, d, i + 4);
+        ROUND(d, e, f, g, h, a, b, c, i + 5);
+        ROUND(c, d, e, f, g, h, a, b, i + 6);
+        ROUND(b, c, d, e, f, g, h, a, i + 7);
+    }
+    uint32_t by[8] = { a, b, c, d, e, f, g, h };
+    for (unsigned i = 0; i < 8; i++)
+        s[i] += by[i];
+}
+
+static void sha256(const uint8_t *p, size_t length, uint8_t digest[32])
+{
+    uint32_t s[8] = { 0x6a09e667, 0xbb67ae85, 0x3c6ef372, 0xa54ff53a, 0x510e527f, 0x9b05688c, 0x1f83d9ab, 0x5be0cd19 };
+    uint8_t last[128] = { 0 };
+    size_t whole = length / 64 * 64, rest = length - whole, end = rest < 56 ? 64 : 128;
+    for (size_t k = 0; k < whole; k += 64)
+        block(s, p + k);
+    memcpy(last, p + whole, rest);
+    last[rest] = 0x80;
+    for (unsigned k = 0; k < 8; k++)
+        last[end - 1 - k] = (uint8_t)((uint64_t)length * 8 >> 8 * k);
+    for (size_t k = 0; k < end; k += 64)
+        block(s, last + k);
+    for (unsigned k = 0; k < 32; k++)
+        digest[k] = (uint8_t)(s[k / 4] >> (24 - 8 * (k % 4)));
+}
+
+/* ---- sides */
+
+/* So many moves out and back of one object, which is written in between so that its bytes go out each time. */
+static void move(bpfagent *agent, uint32_t object, size_t count, double *out, double *back)
+{
+    size_t length;
+    bpfagent_parcel parcel;
+    *out = *back = 0;
+    for (size_t k = 0; k < count; k++) {
+        must(bpfagent_put(agent, object, 0, (const uint8_t *)&k, sizeof k));
+        must(bpfagent_leave(agent, object));
+        double a = now();
+        must(bpfagent_left_into(agent, object, kept, sizeof kept, &length, &parcel));
+        double b = now();
+        must(bpfagent_return(agent, object));
+        double c = now();
+        must(bpfagent_returned_from(agent, object, kept, length));
+        *back += now() - c;
+        *out += b - a;
+    }
+}
+
+/* The same bytes by memcpy and SHA-256 alone, or by memcpy. */
+static double alone(size_t length, size_t count, int digests)
+{
+    uint8_t digest[32], all = 0;
+    double took = 0;
+    for (size_t k = 0; k < count; k++) {
+        memcpy(bytes, &k, sizeof k);
+        double a = now();
+        memcpy(copied, bytes, length);
+        if (digests)
+            sha256(copied, length, digest);
+        took += now() - a;
+        all ^= digests ? digest[0] : copied[k % length];
+    }
+    return all == 1 ? took + 1e-9 : took;
+}
+
+static void measure(size_t length)
+{
+    static double times[SIDES][RUNS];
+    static const char *const names[2] = { "left_into", "returned_from" };
+    double best[SIDES];
+    size_t count = length < 4096 ? 200 : length < 65536 ? 20 : 4;
+    bpfagent agent = BPFAGENT_INIT;
+    uint32_t object;
+    must(bpfagent_new_handing(&agent, 1 << 20));
+    must(bpfagent_make(&agent, length, &object));
+    must(bpfagent_put(&agent, object, 0, bytes, length));
+    for (int run = 0; run < RUNS; run++) {
+        move(&agent, object, count, &times[0][run], &times[1][run]);
+        times[2][run] = alone(length, count, 1);
+        times[3][run] = alone(length, count, 0);
+    }
+    for (int side = 0; side < SIDES; side++)
+        best[side] = tenth_percentile(times[side], RUNS) / (double)count;
+    for (int side = 0; side < 2; side++)
+        printf("%s of %zu bytes: %.0f ns, ratio %.2f beside %.0f ns of memcpy and SHA-256 in C; memcpy alone %.1f ns\n", names[side], length,
+               best[side], best[side] / best[2], best[2], best[3]);
+    bpfagent_delete(&agent);
+}
+
+/* SHA-256 of "abc", as FIPS 180-4 has it; and the agent's of the same bytes. */
+static int agrees(void)
+{
+    static const uint8_t wanted[4] = { 0xba, 0x78, 0x16, 0xbf };
+    uint8_t digest[32], buffer[3];
+    bpfagent agent = BPFAGENT_INIT;
+    bpfagent_parcel parcel;
+    uint32_t object;
+    size_t length;
+    sha256((const uint8_t *)"abc", 3, digest);
+    must(bpfagent_new_handing(&agent, 3));
+    must(bpfagent_make(&agent, 3, &object));
+    must(bpfagent_put(&agent, object, 0, (const uint8_t *)"abc", 3));
+    must(bpfagent_leave(&agent, object));
+    must(bpfagent_left_into(&agent, object, buffer, 3, &length, &parcel));
+    bpfagent_delete(&agent);
+    return !memcmp(digest, wanted, 4) && !memcmp(digest, parcel.digest, 32);
+}
+
+int main(void)
+{
+    for (size_t k = 0; k < LARGEST; k++)
+        bytes[k] = (uint8_t)(k * 131);
+    if (!agrees()) {
+        fprintf(stderr, "moves: the two SHA-256 differ\n");
+        return 1;
+    }
+    for (size_t k = 0; k < sizeof LENGTHS / sizeof LENGTHS[0]; k++)
+        measure(LENGTHS[k]);
+    return 0;
+}

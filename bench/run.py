@@ -1,0 +1,132 @@
+#!/usr/bin/env python3
+"""Measures the proved program and its crates beside plain C, as ratios in one run: run.py RT PROGRAM [PART..]
+
+Steps, lines, accesses to shared objects, a far store over TCP and a service, and the time of a line of assembly. Where there is
+valgrind, each with its machine instructions, which repeat exactly on a busy machine too. It needs a C compiler. What was measured
+is kept in bench/figures.json, a row a line, and drawn as docs/performance.svg; worse.py compares it with the last commit's.
+"""
+from __future__ import annotations
+
+import os
+import pathlib
+import subprocess
+import sys
+from typing import Callable
+
+from bars import draw
+from rows import Row, joined, read_rows, store_figures, words
+
+ROOT = pathlib.Path(__file__).resolve().parents[1]
+MADE = ROOT / "out/bench"
+PROGRAMS = "bench/programs"
+THREADS = "crates/bench_threads/out/bench_threads"
+COMPILER = [os.environ.get("CC", "cc"), "-O2"]
+
+
+class Bench:
+    """The toolchain and the program that is measured."""
+
+    def __init__(self, rt: str, program: str) -> None:
+        self.rt, self.program = rt, program
+        self.runtime = pathlib.Path(rt).resolve().parents[1] / "c/liblibc_c.a"
+        self.rows: list[Row] = []
+
+    def run(self, part: str, *command: object) -> None:
+        """A command at the top of the repository. Shows what it prints, and keeps the rows of it."""
+        told = []
+        with subprocess.Popen([str(word) for word in command], cwd=ROOT, stdout=subprocess.PIPE, text=True) as process:
+            assert process.stdout is not None
+            for line in process.stdout:
+                print(line, end="", flush=True)
+                told.append(line)
+        if process.returncode:
+            raise subprocess.CalledProcessError(process.returncode, process.args)
+        self.rows += read_rows(part, told)
+
+    def python(self, part: str, script: str, *arguments: object) -> None:
+        self.run(part, sys.executable, "-B", f"bench/{script}", *arguments)
+
+    def library(self, crate: str) -> pathlib.Path:
+        subprocess.run([self.rt, "lib"], cwd=ROOT / "crates" / crate, stdout=subprocess.DEVNULL, check=True)
+        return ROOT / f"crates/{crate}/out/lib{crate}.a"
+
+    def threads(self) -> str:
+        subprocess.run([self.rt, "run"], cwd=ROOT / "crates/bench_threads", stdout=subprocess.DEVNULL, check=True)
+        return THREADS
+
+    def compile(self, name: str, *arguments: object) -> pathlib.Path:
+        """The program in C of this name, of these sources and with these options."""
+        subprocess.run([*COMPILER, "-o", str(MADE / name), *(str(word) for word in arguments)], cwd=ROOT, check=True)
+        return MADE / name
+
+
+def steps(bench: Bench) -> None:
+    for side, title in (("steps", "Machine::step, called once an instruction"), ("runs", "Machine::run, called once a program")):
+        made = bench.compile(side, "bench/steps.c", "bench/flat.c", bench.library(f"bench_{side}"), bench.runtime)
+        counted = MADE / f"counts_{side}"
+        with counted.open("w") as counts:
+            subprocess.run([sys.executable, "bench/counts.py", made, PROGRAMS], cwd=ROOT, stdout=counts, check=True)
+        print(title, flush=True)
+        bench.run(side[:-1], made, PROGRAMS, counted)
+
+
+def library(bench: Bench) -> None:
+    made = bench.compile("embed", "-Iinclude", "bench/embed.c", bench.library("bpfagent_c"), bench.library("bench_steps"), bench.runtime)
+    print("the library for C", flush=True)
+    timed, part = len(bench.rows), "library for C"
+    bench.run(part, made, PROGRAMS)
+    bench.python(part, "embed.py", made, PROGRAMS)
+    bench.rows[timed:] = joined(bench.rows[timed:])
+    bench.run("move of the library", bench.compile("embed_moves", "-Iinclude", "bench/embed_moves.c", bench.library("bpfagent_c"), bench.runtime))
+
+
+def lines(bench: Bench) -> None:
+    bench.python("line", "lines.py", bench.program, bench.compile("lines", "bench/lines.c", "bench/flat.c"))
+
+
+def assembly(bench: Bench) -> None:
+    bench.python("assembly", "assembly.py", bench.program)
+
+
+def shared(bench: Bench) -> None:
+    bench.python("shared object", "shared.py", bench.threads(), bench.compile("shared", "-pthread", "bench/shared.c"))
+
+
+def far(bench: Bench) -> None:
+    bench.python("far store", "far.py", bench.threads(), bench.compile("far", "-pthread", "bench/far.c"))
+
+
+def service(bench: Bench) -> None:
+    bench.python("service", "service.py", bench.program, bench.compile("service", "-pthread", "bench/service.c", "bench/flat.c"))
+
+
+def turns(bench: Bench) -> None:
+    bench.python("worker", "turns.py", bench.threads())
+
+
+def stores(bench: Bench) -> None:
+    bench.python("far store's server", "stores.py", bench.program)
+
+
+PARTS: list[Callable[[Bench], None]] = [steps, library, lines, assembly, shared, far, service, turns, stores]
+
+
+def main() -> None:
+    rt, program, *named = words("run.py RT PROGRAM [PART..]", 2, 2 + len(PARTS))
+    parts = {part.__name__: part for part in PARTS}
+    unknown = [name for name in named if name not in parts]
+    if unknown:
+        print(f"bench: no part is called {', '.join(unknown)}; there are {', '.join(parts)}", file=sys.stderr)
+        sys.exit(2)
+    MADE.mkdir(parents=True, exist_ok=True)
+    bench = Bench(rt, program)
+    try:
+        for name in named or parts:
+            parts[name](bench)
+    except (OSError, subprocess.CalledProcessError) as wrong:
+        sys.exit(f"bench: {wrong}")
+    draw(store_figures(bench.rows))
+
+
+if __name__ == "__main__":
+    main()

@@ -1,0 +1,139 @@
+-- What `check` explains of the bytes that it has read, it explains of the whole input.
+use Rattle.std.proofs.Common.{◌≡◌, ◌⊎◌, ℕ, Bool, true, false, List, [], ◌∷◌, take, ap, subst, refl, arith, codes, Option, None, Some, IfSome, Result, Ok, Err, inl, inr}
+use Rattle.std.proofs.lemmas.List.{take-take}
+use Rattle.std.specs.Str.{bytes_eq}
+use Rattle.std.specs.Prelude.{⊤}
+use Rattle.std.specs.Io.KnownBytes.{Keeps}
+use Rattle.clap.specs.Words.{HasKind, Kinds, kind_of}
+use Rattle.clap.specs.declared.error.Error.{Error}
+use Rattle.loader.specs.Refusals.{Refuses}
+use Rattle.loader.specs.declared.loading.LoadError.{LoadError}
+use Rattle.loader.specs.declared.loading.Why.{Why}
+use Rattle.loader.specs.declared.loading.Why.TheVariants as why
+use Rattle.agent.specs.CheckLeaves.{CheckLeaves}
+use Rattle.agent.specs.CodeExplained.{ReportsCheck, ReportsCheckOutcome, ReportsExplainedCode, ReportsRefusal, Says, SaysOfCode, is_elf}
+use Rattle.agent.specs.ErrorShown.{Shows}
+use Rattle.agent.specs.Failures.{status_number}
+use Rattle.agent.specs.Reports.{Reports}
+use Rattle.agent.specs.declared.failure.Failure.{Failure}
+use Rattle.agent.specs.declared.failure.Failure.TheVariants.{Refused, WrongLine, InputTooLong, Read, Write, NoMemory}
+use Rattle.agent.specs.declared.failure.Status.{Status}
+use Rattle.agent.proofs.AsmReports.{stays}
+use Rattle.agent.proofs.CheckedPrefix.{found_whole, short}
+use Rattle.agent.proofs.OutOfMemory.{only_memory}
+
+left_whole : (limit : ℕ) (input : List ℕ) (before after : Option (List ℕ)) (outcome : Result ⊤ Failure) → limit ≡ 32769 → CheckLeaves (take limit input) before after outcome → CheckLeaves input before after outcome
+left_whole limit input before after (Ok done) is l = (l.0, found_whole limit input (Ok l.0) is l.1, l.2)
+left_whole limit input before after (Err (Refused error)) is l = (found_whole limit input (Err (Refused error)) is l.0, l.1)
+left_whole limit input before after (Err Write) is l = (l.0, found_whole limit input (Ok l.0) is l.1, l.2)
+left_whole limit input before after (Err Read) is l = l
+left_whole limit input before after (Err NoMemory) is l = l
+left_whole limit input before after (Err (WrongLine error)) is l = absurd l
+left_whole limit input before after (Err InputTooLong) is l = absurd l
+
+-- of code as a whole nothing is said that its rest would change
+said_whole : (elf : Bool) (code input : List ℕ) (n : ℕ) (w : Why) (text : List ℕ) → Says elf false code n w text → Says elf false input n w text
+said_whole true code input n w text s = s
+said_whole false code input n w text s = s
+
+same_elf : (limit : ℕ) (input : List ℕ) → limit ≡ 32769 → is_elf (take limit input) ≡ is_elf input
+same_elf limit input is = ap (λ (bytes : List ℕ). bytes_eq (127 ∷ codes "ELF") bytes) (take-take 4 limit input (omega (arith, is)))
+
+-- what is said of the bytes that were read is said of the whole input
+said_of_whole : (limit : ℕ) (input text : List ℕ) (n : ℕ) (w : Why) → limit ≡ 32769 → Refuses (take limit input) n w → SaysOfCode (take limit input) n w text → SaysOfCode input n w text
+said_of_whole limit input text n (why.Decoder f) is h s = subst (λ bytes. SaysOfCode bytes n (why.Decoder f) text) (short 32768 limit input is h.0.1) s
+said_of_whole limit input text n why.Empty is h s =
+    said_whole (is_elf input) (take limit input) input n why.Empty text (subst (λ elf. Says elf false (take limit input) n why.Empty text) (same_elf limit input is) s)
+said_of_whole limit input text n why.TooLong is h s =
+    said_whole (is_elf input) (take limit input) input n why.TooLong text (subst (λ elf. Says elf false (take limit input) n why.TooLong text) (same_elf limit input is) s)
+said_of_whole limit input text n why.JumpOut is h s = subst (λ bytes. SaysOfCode bytes n why.JumpOut text) (short 32768 limit input is h.0.1) s
+said_of_whole limit input text n why.JumpInside is h s = subst (λ bytes. SaysOfCode bytes n why.JumpInside text) (short 32768 limit input is h.0.1) s
+said_of_whole limit input text n why.WritesR10 is h s = subst (λ bytes. SaysOfCode bytes n why.WritesR10 text) (short 32768 limit input is h.0.1) s
+said_of_whole limit input text n why.Helper is h s = subst (λ bytes. SaysOfCode bytes n why.Helper text) (short 32768 limit input is h.0.1) s
+said_of_whole limit input text n why.FallsOff is h s = subst (λ bytes. SaysOfCode bytes n why.FallsOff text) (short 32768 limit input is h.0.1) s
+said_of_whole limit input text n why.Memory is h s = subst (λ bytes. SaysOfCode bytes n why.Memory text) (short 32768 limit input is h.0.1) s
+
+reported_whole : (limit : ℕ) (input : List ℕ) (error : LoadError) (before after told_before told_after : Option (List ℕ)) (status : Status) → limit ≡ 32769
+    → CheckLeaves (take limit input) before after (Err (Refused error)) → ReportsRefusal (take limit input) error told_before told_after status → ReportsRefusal input error told_before told_after status
+reported_whole limit input error before after told_before told_after status is l s = (s.0, said_of_whole limit input s.0 error.slot error.why is l.0.0 s.1, s.2, s.3)
+
+-- what is left and reported of an input
+abbrev pub IsReported : Option (List ℕ) → Option (List ℕ) → Option (List ℕ) → Option (List ℕ) → List ℕ → Status → Type 0
+IsReported before after told_before told_after input status = (outcome : Result ⊤ Failure) × CheckLeaves input before after outcome × ReportsExplainedCode input told_before told_after outcome status
+
+-- the code was refused, and that was explained, or there was no memory for it
+pub refused_over : (given before after told_before told_after : Option (List ℕ)) (status : Status) (error : LoadError) (limit : ℕ) (read : List ℕ) → limit ≡ 32769 → IfSome given (λ input. read ≡ take limit input)
+    → CheckLeaves read before after (Err (Refused error)) → ReportsRefusal read error told_before told_after status ⊎ Reports told_before told_after (Err NoMemory) status
+    → IfSome given (λ input. IsReported before after told_before told_after input status)
+refused_over None before after told_before told_after status error limit read is read_is left says = tt
+refused_over (Some input) before after told_before told_after status error limit read is read_is left (inl says) =
+    let l = subst (λ bytes. CheckLeaves bytes before after (Err (Refused error))) read_is left in
+    let s = subst (λ bytes. ReportsRefusal bytes error told_before told_after status) read_is says in
+    (Err (Refused error), left_whole limit input before after (Err (Refused error)) is l, reported_whole limit input error before after told_before told_after status is l s)
+refused_over (Some input) before after told_before told_after status error limit read is read_is left (inr says) = (Err NoMemory, left.1, says)
+
+-- an outcome that is no refusal
+abbrev pub IsNoRefusal : Result ⊤ Failure → Type 0
+IsNoRefusal outcome = (error : LoadError) → outcome ≡ Err (Refused error) → ⊥
+
+plainly : (input : List ℕ) (told_before told_after : Option (List ℕ)) (outcome : Result ⊤ Failure) (status : Status) → IsNoRefusal outcome → Reports told_before told_after outcome status → ReportsExplainedCode input told_before told_after outcome status
+plainly input told_before told_after (Ok done) status none says = says
+plainly input told_before told_after (Err (Refused error)) status none says = absurd (none error refl)
+plainly input told_before told_after (Err (WrongLine error)) status none says = says
+plainly input told_before told_after (Err InputTooLong) status none says = says
+plainly input told_before told_after (Err Read) status none says = says
+plainly input told_before told_after (Err Write) status none says = says
+plainly input told_before told_after (Err NoMemory) status none says = says
+
+-- it was not refused
+pub taken_over : (given before after told_before told_after : Option (List ℕ)) (status : Status) (outcome : Result ⊤ Failure) (limit : ℕ) (read : List ℕ) → limit ≡ 32769 → IfSome given (λ input. read ≡ take limit input)
+    → CheckLeaves read before after outcome → IsNoRefusal outcome → Reports told_before told_after outcome status
+    → IfSome given (λ input. IsReported before after told_before told_after input status)
+taken_over None before after told_before told_after status outcome limit read is read_is left none says = tt
+taken_over (Some input) before after told_before told_after status outcome limit read is read_is left none says =
+    let l = subst (λ bytes. CheckLeaves bytes before after outcome) read_is left in
+    (outcome, left_whole limit input before after outcome is l, plainly input told_before told_after outcome status none says)
+
+unread : (input : List ℕ) (out told_before told_after : Option (List ℕ)) (status : Status) (failure : Failure) → (failure ≡ Read) ⊎ (failure ≡ NoMemory)
+    → Reports told_before told_after (Err failure) status → IsReported out out told_before told_after input status
+unread input out told_before told_after status Read why says = (Err Read, stays out, says)
+unread input out told_before told_after status NoMemory why says = (Err NoMemory, stays out, says)
+unread input out told_before told_after status Write (inl e) says = absurd (cc)
+unread input out told_before told_after status Write (inr e) says = absurd (cc)
+unread input out told_before told_after status InputTooLong (inl e) says = absurd (cc)
+unread input out told_before told_after status InputTooLong (inr e) says = absurd (cc)
+unread input out told_before told_after status (Refused error) (inl e) says = absurd (cc)
+unread input out told_before told_after status (Refused error) (inr e) says = absurd (cc)
+unread input out told_before told_after status (WrongLine error) (inl e) says = absurd (cc)
+unread input out told_before told_after status (WrongLine error) (inr e) says = absurd (cc)
+
+-- the input couldn't be had
+pub unread_over : (given out told_before told_after : Option (List ℕ)) (status : Status) (failure : Failure) → (failure ≡ Read) ⊎ (failure ≡ NoMemory)
+    → Reports told_before told_after (Err failure) status → IfSome given (λ input. IsReported out out told_before told_after input status)
+unread_over None out told_before told_after status failure why says = tt
+unread_over (Some input) out told_before told_after status failure why says = unread input out told_before told_after status failure why says
+
+-- without an explanation
+pub plain_over : (given before after told_before told_after : Option (List ℕ)) (outcome : Result ⊤ Failure) (status : Status) → IfSome given (λ input. CheckLeaves input before after outcome) → Reports told_before told_after outcome status
+    → IfSome given (λ input. (outcome : Result ⊤ Failure) × CheckLeaves input before after outcome × ReportsCheck false input told_before told_after outcome status)
+plain_over None before after told_before told_after outcome status left says = tt
+plain_over (Some input) before after told_before told_after outcome status left says = (outcome, left, says)
+
+-- the status by its number
+pub numbered_over : (given before after told_before told_after : Option (List ℕ)) (explains : Bool) (status : Status) (number : ℕ)
+    → IfSome given (λ input. (outcome : Result ⊤ Failure) × CheckLeaves input before after outcome × ReportsCheck explains input told_before told_after outcome status) → number ≡ status_number status
+    → IfSome given (λ input. ReportsCheckOutcome explains input (CheckLeaves input before after) told_before told_after number)
+numbered_over None before after told_before told_after explains status number says is = tt
+numbered_over (Some input) before after told_before told_after explains status number says is = (says.0, status, says.1, says.2, is)
+
+checked_memory : (explains : Bool) (input : List ℕ) (told_before told_after : Option (List ℕ)) (status : Status) → Reports told_before told_after (Err NoMemory) status → ReportsCheck explains input told_before told_after (Err NoMemory) status
+checked_memory false input told_before told_after status says = says
+checked_memory true input told_before told_after status says = says
+
+-- right arguments that are answered by an error: there was no memory to read them
+pub memory_over : (given : Option (List ℕ)) (explains : Bool) (kinds : Kinds) (error : Error) (before after told_before told_after : Option (List ℕ)) (status : Status) (number : ℕ)
+    → kinds ≡ [] → HasKind kinds error → Shows (kind_of error) before after told_before told_after status → number ≡ status_number status
+    → IfSome given (λ input. ReportsCheckOutcome explains input (CheckLeaves input before after) told_before told_after number)
+memory_over None explains kinds error before after told_before told_after status number right has shown is = tt
+memory_over (Some input) explains kinds error before after told_before told_after status number right has shown is =
+    let says = rw (only_memory kinds error right has) at shown in (Err NoMemory, status, says.0, checked_memory explains input told_before told_after status says.1, is)

@@ -1,0 +1,89 @@
+//! The clients that are there.
+
+use std::alloc::{AllocError, Global};
+use std::net::{Shutdown, TcpStream};
+use std::sync::{Mutex, Wait};
+
+/// How many clients are served at the same time: this project's choice.
+pub const CLIENT_LIMIT: usize = 64;
+
+/// A client that is served.
+#[derive(Drop)]
+struct Guest {
+    client: u64,
+    stream: TcpStream,
+}
+
+/// What all threads know: whether the input has ended, how many clients came, and who is there.
+#[derive(Drop)]
+struct Room {
+    is_closed: bool,
+    came: u64,
+    guests: Vec<Guest>,
+}
+
+/// Whether a client is let in.
+#[derive(Clone, Copy, Drop, Debug, PartialEq, Eq)]
+pub(crate) enum Entry {
+    /// It is, as the client of this number.
+    Admitted(u64),
+    /// As many are there as are served at the same time.
+    Full,
+    /// The input has ended.
+    Closed,
+}
+
+/// What lets clients in, so many at the same time, until it is closed.
+#[derive(Drop)]
+pub(crate) struct Hall {
+    room: Mutex<Room>,
+}
+
+impl Hall {
+    /// A hall that is open and empty. All the memory that it needs is taken here.
+    pub fn new(alloc: Global) -> Result<Hall, AllocError> {
+        let guests = Vec::with_capacity(alloc, CLIENT_LIMIT)?;
+        Ok(Hall {
+            room: Mutex::new(Room {
+                is_closed: false,
+                came: 0,
+                guests,
+            }),
+        })
+    }
+
+    /// Lets a client in, if there is room. By its stream it can be cut off.
+    pub fn admit<R: Wait>(&self, rt: &R, stream: TcpStream) -> Entry {
+        let mut room = self.room.lock(rt);
+        if room.is_closed {
+            return Entry::Closed;
+        }
+        let client = room.came.saturating_add(1);
+        let is_full = room.guests.len() >= CLIENT_LIMIT;
+        if is_full || room.guests.push(Guest { client, stream }).is_err() {
+            return Entry::Full;
+        }
+        room.came = client;
+        Entry::Admitted(client)
+    }
+
+    /// Whether the input goes on.
+    pub fn is_open<R: Wait>(&self, rt: &R) -> bool {
+        !self.room.lock(rt).is_closed
+    }
+
+    /// Lets the client of this number out.
+    pub fn dismiss<R: Wait>(&self, rt: &R, client: u64) {
+        let mut room = self.room.lock(rt);
+        room.guests.retain(|guest| guest.client != client);
+    }
+
+    /// Closes the hall for good: who is there is cut off.
+    pub fn close<R: Wait>(&self, rt: &R) {
+        let mut room = self.room.lock(rt);
+        room.is_closed = true;
+        for guest in &room.guests {
+            let _ = guest.stream.shutdown(Shutdown::Both);
+        }
+    }
+}

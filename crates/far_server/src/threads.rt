@@ -1,0 +1,230 @@
+//! The threads of a server: one that waits for the end of the input, one that waits for clients, and one for each client.
+ghost use Rattle.std.specs.Prelude.{OnOk};
+ghost use Rattle.std.specs.Io.KnownBytes.{IsAtEnd};
+
+use crate::ended::Ended;
+use crate::hall::{Entry, Hall};
+use crate::journal::{Journal, Refusal};
+use crossbeam_channel::{Receiver, Sender, bounded};
+use std::alloc::{AllocError, Global};
+use std::io::{Error, ErrorKind, Read};
+use std::net::{Net, SocketAddr, TcpListener, TcpStream};
+use std::sync::{Arc, Wait};
+use std::thread::{self, JoinHandle, Threads};
+use streams::ReadFault;
+
+/// The network failed.
+#[derive(Clone, Copy, Drop, Debug, PartialEq, Eq)]
+pub(crate) struct NetFault;
+
+/// How many bytes of the input are read at once.
+const PIECE: usize = 512;
+
+/// How many ends of clients may wait to be told.
+const UNTOLD_LIMIT: usize = 64;
+
+/// Reads the input to its end, and drops it.
+fn drain<I: Read>(input: &mut I) -> Result<(), ReadFault>
+    ensures { OnOk result (IsAtEnd (I.remaining input.new)) }
+{
+    let mut piece = [0u8; PIECE];
+    for _ in 0..u64::MAX {
+        match input.read(&mut piece) {
+            Ok(0) => return Ok(()),
+            Ok(_) => {}
+            Err(_) => return Err(ReadFault),
+        }
+    }
+    Err(ReadFault)
+}
+
+/// Closes the hall. A connection of its own wakes whoever waits for the next client.
+fn close<R: Net + Wait>(rt: &R, hall: &Hall, address: SocketAddr) {
+    hall.close(rt);
+    drop(TcpStream::connect(rt, address));
+}
+
+/// Waits for the end of the input, and closes the hall.
+fn watch<R: Net + Wait, I: Read + Drop>(
+    rt: &R,
+    hall: &Hall,
+    address: SocketAddr,
+    input: I,
+) -> Result<(), ReadFault> {
+    let mut input = input;
+    let outcome = drain(&mut input);
+    close(rt, hall, address);
+    outcome
+}
+
+/// Whether a client went before it was accepted, or a signal came: the next may be accepted.
+fn is_passing(error: &Error) -> bool {
+    matches!(
+        error.kind(),
+        ErrorKind::ConnectionAborted | ErrorKind::Interrupted
+    )
+}
+
+/// What the threads of clients share.
+#[derive(Drop)]
+struct Tools<'a, R: Wait, J: Journal> {
+    rt: &'a R,
+    alloc: Global,
+    hall: &'a Hall,
+    ends: &'a Sender<Ended, Global>,
+    journal: &'a J,
+}
+
+/// Serves a client, and hands on how that ended, unless it was cut off by the end of the input.
+fn serve_client<R: Wait, J: Journal>(tools: &Tools<R, J>, client: u64, stream: TcpStream) {
+    let mut stream = stream;
+    let ended = Ended::of_client(tools.alloc, client, &mut stream);
+    tools.journal.went(client, ended.outcome());
+    if tools.hall.is_open(tools.rt) {
+        let _ = tools.ends.send(tools.rt, ended);
+    }
+    tools.hall.dismiss(tools.rt, client);
+}
+
+/// The next client that is let in, and its number; none where the input has ended. One for which there is no room finds its
+/// socket closed.
+fn next_client<R: Wait, J: Journal>(
+    tools: &Tools<R, J>,
+    listener: &TcpListener,
+) -> Result<Option<(u64, TcpStream)>, NetFault> {
+    for _ in tools.rt.forever() {
+        let stream = match listener.accept() {
+            Ok((stream, _)) => stream,
+            Err(error) if is_passing(&error) => continue,
+            Err(_) => return Err(NetFault),
+        };
+        let Ok(shown) = stream.try_clone() else {
+            return Err(NetFault);
+        };
+        let _ = stream.set_nodelay(true);
+        match tools.hall.admit(tools.rt, shown) {
+            Entry::Admitted(client) => {
+                tools.journal.came(client);
+                return Ok(Some((client, stream)));
+            }
+            Entry::Full => tools.journal.refused(Refusal::TooMany),
+            Entry::Closed => return Ok(None),
+        }
+    }
+    unreachable!()
+}
+
+/// Serves each client that comes on a thread of its own, until the input has ended and all have gone. One for which no thread
+/// can be made finds its socket closed. Where no more can be accepted, those that are there are cut off.
+fn serve_all<R: Threads + Wait + Sync, J: Journal + Sync>(
+    tools: &Tools<R, J>,
+    listener: &TcpListener,
+) -> Result<(), NetFault> {
+    thread::scope(
+        thread::scope_env(),
+        tools.rt,
+        |scope| -> Result<(), NetFault> {
+            for _ in 0..u64::MAX {
+                let Ok(next) = next_client(tools, listener) else {
+                    tools.hall.close(tools.rt);
+                    return Err(NetFault);
+                };
+                let Some((client, stream)) = next else {
+                    return Ok(());
+                };
+                if scope
+                    .spawn(move || serve_client(tools, client, stream))
+                    .is_err()
+                {
+                    tools.hall.dismiss(tools.rt, client);
+                    tools.journal.refused(Refusal::NoThread);
+                }
+            }
+            Err(NetFault)
+        },
+    )
+}
+
+/// Serves all clients. What it was given is dropped when the last has gone.
+fn host<R: Threads + Wait + Sync + Copy, J: Journal + Sync + Copy>(
+    rt: R,
+    alloc: Global,
+    hall: Arc<Hall>,
+    listener: TcpListener,
+    ends: Sender<Ended, Global>,
+    journal: J,
+) -> Result<(), NetFault> {
+    let tools = Tools {
+        rt: &rt,
+        alloc,
+        hall: &hall,
+        ends: &ends,
+        journal: &journal,
+    };
+    serve_all(&tools, &listener)
+}
+
+/// A server whose threads were made.
+#[derive(Drop)]
+pub(crate) struct Server {
+    hall: Arc<Hall>,
+    address: SocketAddr,
+    host: JoinHandle<Result<(), NetFault>>,
+    /// How clients ended, one after the other, until the last has gone.
+    pub ends: Receiver<Ended, Global>,
+}
+
+impl Server {
+    /// Starts to serve all clients that come to this listener.
+    pub fn start<R, J>(
+        rt: R,
+        alloc: Global,
+        listener: TcpListener,
+        address: SocketAddr,
+        journal: J,
+    ) -> Result<Server, AllocError>
+    where
+        R: Threads + Wait + Sync + Copy + Send + 'static,
+        J: Journal + Copy + Sync + Send + 'static,
+    {
+        let hall = Arc::new(alloc, Hall::new(alloc)?)?;
+        let theirs = Arc::try_clone(&hall)?;
+        let (sender, ends) = bounded(alloc, UNTOLD_LIMIT)?;
+        let host = thread::spawn(&rt, move || {
+            host(rt, alloc, theirs, listener, sender, journal)
+        })?;
+        Ok(Server {
+            hall,
+            address,
+            host,
+            ends,
+        })
+    }
+
+    /// Starts to wait for the end of the input, which ends the server.
+    pub fn end_with<R, I>(
+        &self,
+        rt: R,
+        input: I,
+    ) -> Result<JoinHandle<Result<(), ReadFault>>, AllocError>
+    where
+        R: Net<Listener = TcpListener, Stream = TcpStream> + Threads + Wait + Copy + Send + 'static,
+        I: Read + Send + Drop + 'static,
+    {
+        let theirs = Arc::try_clone(&self.hall)?;
+        let address = self.address;
+        Ok(thread::spawn(&rt, move || { watch(&rt, &theirs, address, input) })?)
+    }
+
+    /// Cuts off all clients, and waits for the threads that served them.
+    pub fn stop<R: Net + Threads + Wait>(self, rt: &R) {
+        close(rt, &self.hall, self.address);
+        let _ = self.join(rt);
+    }
+
+    /// Waits for the end of all clients.
+    pub fn join<R: Threads>(self, rt: &R) -> Result<(), NetFault> {
+        let Server { host, .. } = self;
+        host.join(rt)
+    }
+}

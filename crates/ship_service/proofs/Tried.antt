@@ -1,0 +1,57 @@
+-- Ranges that are tried again.
+use Rattle.std.proofs.Common.{◌≡◌, ℕ, suc, ◌+◌, ◌≤◌, List, true, false, refl, sym, ap, ◌∙◌, subst, inl, inr, arith}
+use Rattle.memory.specs.declared.access.Reach.{Reach}
+use Rattle.memory.specs.declared.access.Reach.TheVariants as reach
+use Rattle.shared_objects.specs.declared.touching.Fetched.{Fetched}
+use Rattle.shared_objects.specs.declared.touching.Fetched.TheVariants as fetched
+use Rattle.workers.specs.Cells.{SeatState}
+use Rattle.ship_service.specs.declared.replies.ServiceReply.{ServiceReply}
+use Rattle.ship_service.specs.declared.replies.ServiceReply.TheVariants.{Busy}
+use Rattle.ship_service.specs.Replies.{is_busy}
+use Rattle.ship_service.specs.Ranges.{reply_to_put, reply_to_get, PutsOnce, GetsOnce, FoundBusy, InTries, retry_limit}
+
+-- a reply that isn't `busy` is not
+unlike : (told other : ServiceReply) → told ≡ other → is_busy told ≡ true → is_busy other ≡ false → ⊥
+unlike told other e b f = let g : true ≡ false = sym b ∙ ap is_busy e ∙ f in absurd (cc)
+
+put_busy : (n : ℕ) (told : ServiceReply) (r : Reach) → told ≡ reply_to_put n r → is_busy told ≡ true → told ≡ Busy n
+put_busy n told (reach.Done x) e b = absurd (unlike told _ e b refl)
+put_busy n told reach.Away e b = absurd (unlike told _ e b refl)
+put_busy n told reach.Busy e b = e
+put_busy n told reach.Outside e b = absurd (unlike told _ e b refl)
+put_busy n told reach.Worn e b = absurd (unlike told _ e b refl)
+
+get_busy : (n : ℕ) (told : ServiceReply) (f : Fetched) → told ≡ reply_to_get n f → is_busy told ≡ true → told ≡ Busy n
+get_busy n told (fetched.Done bytes) e b = absurd (unlike told _ e b refl)
+get_busy n told fetched.Away e b = absurd (unlike told _ e b refl)
+get_busy n told fetched.Busy e b = e
+get_busy n told fetched.Outside e b = absurd (unlike told _ e b refl)
+get_busy n told fetched.Worn e b = absurd (unlike told _ e b refl)
+
+-- one try more that was answered `busy`
+one_more : (once : SeatState → ServiceReply → SeatState → Type 0) (n k : ℕ) (old mid new : SeatState) → FoundBusy once n k old mid → once mid (Busy n) new → FoundBusy once n (k + 1) old new
+one_more once n k old mid new h t = let e : k + 1 ≡ suc k = omega arith in subst (λ j. FoundBusy once n j old new) (sym e) (mid, h, t)
+
+pub put_again : (n offset : ℕ) (bytes : List ℕ) (k : ℕ) (old mid new : SeatState) (told : ServiceReply) → is_busy told ≡ true
+    → FoundBusy (λ s r t. PutsOnce s n offset bytes r t) n k old mid → PutsOnce mid n offset bytes told new → FoundBusy (λ s r t. PutsOnce s n offset bytes r t) n (k + 1) old new
+put_again n offset bytes k old mid new told b h t = one_more (λ s r t. PutsOnce s n offset bytes r t) n k old mid new h
+    (subst (λ r. PutsOnce mid n offset bytes r new) (put_busy n told t.outcome t.told_is b) t)
+
+get_named : (n offset size : ℕ) (old new : SeatState) (told : ServiceReply) → is_busy told ≡ true → GetsOnce old n offset size told new → told ≡ Busy n
+get_named n offset size old new told b (inl t) = absurd (unlike told _ t.told_is b refl)
+get_named n offset size old new told b (inr t) = get_busy n told t.outcome t.told_is b
+
+pub get_again : (n offset size k : ℕ) (old mid new : SeatState) (told : ServiceReply) → is_busy told ≡ true
+    → FoundBusy (λ s r t. GetsOnce s n offset size r t) n k old mid → GetsOnce mid n offset size told new → FoundBusy (λ s r t. GetsOnce s n offset size r t) n (k + 1) old new
+get_again n offset size k old mid new told b h t = one_more (λ s r t. GetsOnce s n offset size r t) n k old mid new h
+    (subst (λ r. GetsOnce mid n offset size r new) (get_named n offset size mid new told b t) t)
+
+-- the last try is answered otherwise
+pub tried : (once : SeatState → ServiceReply → SeatState → Type 0) (n k : ℕ) (old mid new : SeatState) (told : ServiceReply)
+    → FoundBusy once n k old mid → once mid told new → is_busy told ≡ false → k ≤ retry_limit → InTries once n old told new
+tried once n k old mid new told h t b few = record { tries = k; mid = mid; busy = h; last = t; few = few; all = λ e. let f : true ≡ false = sym e ∙ b in absurd (cc) }
+
+-- it is the last of all
+pub tried_all : (once : SeatState → ServiceReply → SeatState → Type 0) (n k : ℕ) (old mid new : SeatState) (told : ServiceReply)
+    → FoundBusy once n k old mid → once mid told new → k ≡ retry_limit → InTries once n old told new
+tried_all once n k old mid new told h t e = record { tries = k; mid = mid; busy = h; last = t; few = omega (arith, e); all = λ b. e }

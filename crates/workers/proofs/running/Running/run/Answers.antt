@@ -1,0 +1,20 @@
+use Rattle.std.proofs.Common.{rules, ap, ◌∙◌}
+use Rattle.workers.specs.Cells.{RunningState}
+use Rattle.workers.proofs.Seated.{seat_run}
+use Rattle.workers.proofs.Chained.{run_ships}
+use Rattle.workers.proofs.running.Running.run.Goals as goal
+
+pub returns-clause-seat : goal.returns-clause-seat
+returns-clause-seat c =
+    let k = seat_run (λ m. m.seat.now.seat.me.0) (λ m. m.seat.now.stamp) (λ m. m.seat.ghost_name) (λ m. m.shared) _ _ _ _ _ _ _ c.run.ensures.runs in
+    let l = k.1.loan_is in let t = ap (λ b. b.now) k.1.table_is in let r = c.run.ensures.ready in search rules
+
+pub returns-clause-runs : goal.returns-clause-runs
+returns-clause-runs c =
+    let k = seat_run (λ m. m.seat.now.seat.me.0) (λ m. m.seat.now.stamp) (λ m. m.seat.ghost_name) (λ m. m.shared) _ _ _ _ _ _ _ c.run.ensures.runs in
+    let a = k.0 in let l = k.1.loan_is in let v = ap (λ (r : RunningState). r.debuggee) c.self.view_is in search rules
+
+pub returns-clause-same : goal.returns-clause-same
+returns-clause-same c =
+    let k = seat_run (λ m. m.seat.now.seat.me.0) (λ m. m.seat.now.stamp) (λ m. m.seat.ghost_name) (λ m. m.shared) _ _ _ _ _ _ _ c.run.ensures.runs in
+    run_ships _ _ _ _ _ _ _ c.self.inside.begun c.frames.ensures.whole k.0 ∙ ap (λ (r : RunningState). r.shipped) c.self.view_is

@@ -1,0 +1,16 @@
+// Takes so many numbers from a queue, and waits while it is empty. Returns their sum.
+#include "queue.h"
+
+uint64_t program(struct queue *queue, uint64_t count)
+{
+    uint64_t places = places_of(queue), sum = 0;
+
+    for (uint64_t i = 0; i < count; i++) {
+        uint64_t taken = queue->taken;
+        while (atomic_read(&queue->put) == taken)
+            close_scopes();
+        sum += queue->places[taken % places];
+        atomic_write(&queue->taken, taken + 1);
+    }
+    return sum;
+}

@@ -1,0 +1,195 @@
+#!/usr/bin/env python3
+"""Measures a fleet on this machine and keeps the figures: measure_fleet.py PROGRAM [options]
+
+Jobs and bytes a second by agents, by size of object and by length of program, beside plain Python on the same workers; the
+processor time that a job takes of each part; what a lost worker costs; and the examples of words and transfers, also while workers
+and a node of Redis are killed. The figures go to figures.json, from which report.py makes the tables and plots of docs/SCALING.md
+and simulate_fleet.py its costs. Takes about half an hour on four processors. --quick measures a little of everything, in two.
+"""
+from __future__ import annotations
+
+import argparse
+import json
+import os
+import pathlib
+import statistics
+import time
+from dataclasses import asdict, dataclass
+from typing import Callable, Iterator
+
+import costs
+import engines
+
+HERE = pathlib.Path(__file__).resolve().parent
+FIGURES = HERE / "figures.json"
+OBJECTS, FUEL = 256, 10_000_000
+AGENTS = (1, 2, 4, 8)
+# Turns of spin.c with the smallest object, and sizes of object with the shortest program.
+TURNS, LENGTHS = (10, 1000, 10_000, 100_000), (64, 4096, 16_384, 65_536)
+KINDS = [(LENGTHS[0], turns) for turns in TURNS] + [(length, TURNS[0]) for length in LENGTHS[1:]]
+# The parts of the figures.
+PARTS = ("rows", "lost", "words", "transfers")
+# The most jobs that are measured at once.
+MOST = 4000
+# Of what a lost worker costs: turns of each job, agents, and seconds between two deaths.
+LONG, FEW, APART = 20_000, 4, 1.0
+
+
+@dataclass(frozen=True)
+class Row:
+    """Jobs that were measured: how many, how long they took, and the seconds of processor of each part."""
+
+    way: str
+    agents: int
+    length: int
+    turns: int
+    jobs: int
+    seconds: float
+    client: float
+    workers: float
+    agent: float
+    redis: float
+
+    @property
+    def rate(self) -> float:
+        """Jobs a second."""
+        return self.jobs / self.seconds
+
+
+class Bench:
+    """Workers over one Redis, with objects of each length."""
+
+    def __init__(self, client, made, server: engines.Server, program: str) -> None:
+        from bpfagent.fleet import Fleet
+        import plain
+
+        self.client, self.made, self.server = client, made, server
+        self.fleet = Fleet(client, server.url, program)
+        self.code = (HERE / "spin.code").read_bytes()
+        self.ways: dict[str, Callable] = {"agents": self.fleet.map, "plain": lambda jobs: plain.start(client, plain.spin, jobs, self.fleet.setting)}
+
+    def put(self, lengths: tuple[int, ...]) -> None:
+        """Objects that end in 7, and totals."""
+        for number in range(OBJECTS):
+            self.fleet.put(f"total:{number}", bytes(8))
+            for length in lengths:
+                self.fleet.put(f"object:{length}:{number}", b"\x07".rjust(length, b"\0"))
+
+    def jobs(self, length: int, turns: int, count: int) -> list:
+        from bpfagent.fleet import Job
+
+        for number in range(count):
+            total, name = f"total:{number % OBJECTS}", f"object:{length}:{number % OBJECTS}"
+            yield Job(self.code, {total: "w", name: "r"}, (total, name, turns), FUEL, name="spin")
+
+    def take(self, way: str, jobs: list) -> float:
+        """Seconds until all jobs are done; each gives 7."""
+        begin = time.monotonic()
+        found = engines.results(self.client, self.ways[way](jobs))
+        took = time.monotonic() - begin
+        if {it.value for it in found} != {7}:
+            raise SystemExit("a job gave a wrong result")
+        return took
+
+    def row(self, way: str, agents: int, length: int, turns: int, seconds: float) -> Row:
+        """As many jobs as take so many seconds, after some that aren't counted."""
+        first = list(self.jobs(length, turns, 4 * agents))
+        rate = len(first) / self.take(way, first)
+        count = min(max(int(rate * seconds), 8 * agents), MOST)
+        jobs = list(self.jobs(length, turns, count))
+        before = self.spent()
+        took = self.take(way, jobs)
+        used = self.spent() - before
+        return Row(way, agents, length, turns, count, took, used.client, used.workers, used.agents, used.redis)
+
+    def spent(self) -> costs.Spent:
+        workers = [it.pid for it in self.made.scheduler.workers.values()]
+        return costs.spent(workers, [self.server.process.pid])
+
+
+def throughput(program: str, agents: tuple[int, ...], seconds: float) -> Iterator[Row]:
+    """Each kind of job, by agents and by plain Python."""
+    for count in agents:
+        with engines.single() as server, engines.workers(count) as (client, made):
+            bench = Bench(client, made, server, program)
+            bench.put(LENGTHS)
+            for length, turns in KINDS:
+                for way in bench.ways:
+                    row = bench.row(way, count, length, turns, seconds)
+                    print(f"{way:7}{count:3} agents, {length:6} bytes, {turns:7} turns: {row.rate:8.1f} jobs/s", flush=True)
+                    yield row
+
+
+def lost(program: str, jobs: int, rounds: int) -> dict[str, float]:
+    """What a lost worker costs: the same jobs with and without deaths, in worker-seconds for each death."""
+    costly = []
+    with engines.single() as server, engines.workers(FEW) as (client, made):
+        bench = Bench(client, made, server, program)
+        bench.put(LENGTHS[:1])
+        killed = 0
+        for _ in range(rounds):
+            calm = bench.take("agents", list(bench.jobs(LENGTHS[0], LONG, jobs)))
+            with engines.Killer(made, APART) as killer:
+                wild = bench.take("agents", list(bench.jobs(LENGTHS[0], LONG, jobs)))
+            engines.all_back(made, FEW)
+            if killer.killed:
+                costly.append((wild - calm) * FEW / killer.killed)
+                killed += killer.killed
+    found = {"worker_seconds": statistics.median(costly) if costly else 0.0, "killed": killed, "agents": FEW, "turns": LONG, "jobs": jobs * rounds}
+    print(f"a lost worker costs {found['worker_seconds']:.2f} worker-seconds, in the median of {len(costly)} rounds with {killed} deaths", flush=True)
+    return found
+
+
+def words(program: str, objects: int, agents: int) -> Iterator[dict]:
+    """The example that counts words."""
+    import word_count
+
+    for more in (["--plain"], ["--kill-workers", "1"], ["--kill-node", "2"]):
+        yield from word_count.run(word_count.options().parse_args([program, "--objects", str(objects), "--agents", str(agents), *more]))
+
+
+def transfers(program: str, jobs: int, agents: int) -> Iterator[dict]:
+    """The example that moves money."""
+    import transfers as example
+
+    for seconds in ("0", "1"):
+        yield example.run(example.options().parse_args([program, "--jobs", str(jobs), "--agents", str(agents), "--kill-workers", seconds]))
+
+
+def machine() -> dict:
+    """The machine at hand, and how busy it is with other work."""
+    names = [line.partition(":")[2].strip() for line in pathlib.Path("/proc/cpuinfo").read_text().splitlines() if line.startswith("model name")]
+    return {"processors": os.cpu_count(), "model": names[0] if names else "", "load": round(os.getloadavg()[0], 1)}
+
+
+def measured(part: str, program: str, quick: bool) -> object:
+    """The figures of a part."""
+    agents = AGENTS[:2] if quick else AGENTS
+    if part == "rows":
+        return [asdict(row) for row in throughput(program, agents, 0.2 if quick else 2.0)]
+    if part == "lost":
+        return lost(program, 60 if quick else 2000, 1 if quick else 2)
+    if part == "words":
+        return list(words(program, 64 if quick else 4096, agents[-1]))
+    return list(transfers(program, 200 if quick else 10_000, agents[-1]))
+
+
+def main() -> None:
+    options = argparse.ArgumentParser(description="Measures a fleet on this machine.")
+    options.add_argument("program")
+    options.add_argument("--output", type=pathlib.Path, default=FIGURES, metavar="FILE", help="where the figures are kept")
+    options.add_argument("--note", default="", metavar="TEXT", help="what PROGRAM is; it is kept with the figures")
+    options.add_argument("--part", action="append", choices=PARTS, help="only this part, beside the others that FILE has; may be repeated")
+    options.add_argument("--quick", action="store_true", help="a little of everything")
+    given = options.parse_args()
+    program = str(pathlib.Path(given.program).resolve())
+    figures: dict = json.loads(given.output.read_text()) if given.part else {}
+    figures.update(program=given.note, machine=machine())
+    for part in given.part or PARTS:
+        figures[part] = measured(part, program, given.quick)
+        given.output.write_text(json.dumps(figures, indent=1) + "\n")
+    print(f"the figures are in {given.output}")
+
+
+if __name__ == "__main__":
+    engines.guarded(main)

@@ -1,0 +1,157 @@
+#!/usr/bin/env python3
+"""Writes the tables and pictures of docs/SCALING.md anew from figures.json: report.py [--check]
+
+A table stands between `<!-- NAME -->` and `<!-- end -->`. With --check nothing is written, and the status is 1 if the page or a
+picture isn't what the figures make it. Standard library only.
+"""
+from __future__ import annotations
+
+import contextlib
+import io
+import json
+import pathlib
+import re
+import sys
+from typing import Iterator
+
+import costs
+import simulate_fleet
+from plots import Curve, Panel, picture, short
+
+HERE = pathlib.Path(__file__).resolve().parent
+DOCS = HERE.parents[1] / "docs"
+PAGE = DOCS / "SCALING.md"
+SIMULATION = "python3 examples/scaling/simulate_fleet.py"
+# Objects of which the bytes a second are shown, in bytes.
+LARGE = 4096
+WAYS = {"agents": "agents", "plain": "plain Python"}
+
+
+def rates(rows: list[dict], way: str, length: int, turns: int) -> list[tuple[float, float]]:
+    """(agents, jobs a second) of a kind of job."""
+    return [(row["agents"], row["jobs"] / row["seconds"]) for row in rows if (row["way"], row["length"], row["turns"]) == (way, length, turns)]
+
+
+def kinds(rows: list[dict]) -> list[tuple[int, int]]:
+    """The kinds of jobs, as (length, turns) in the order in which they were measured."""
+    return list(dict.fromkeys((row["length"], row["turns"]) for row in rows))
+
+
+def table(head: list[str], lines: list[list[str]]) -> str:
+    """A table of Markdown, of which all columns but the first are numbers."""
+    ruler = ["---", *["---:"] * (len(head) - 1)]
+    return "\n".join("| " + " | ".join(line) + " |" for line in [head, ruler, *lines])
+
+
+def throughput(rows: list[dict]) -> str:
+    """Jobs a second by workers, of agents and of plain Python; also MB a second, for as many workers as do most."""
+    agents = list(dict.fromkeys(row["agents"] for row in rows))
+    lines = []
+    for length, turns in kinds(rows):
+        both = [dict(rates(rows, way, length, turns)) for way in WAYS]
+        cells = [f"{short(both[0][count])}/{short(both[1][count])}" for count in agents]
+        best = [short(max(rate.values()) * length / 1e6) for rate in both]
+        lines.append([f"{length:,}", f"{costs.instructions_of(turns):,}", *cells, "/".join(best) if length >= LARGE else ""])
+    return table(["Bytes", "Instructions", *[f"{count} worker{'s' * (count > 1)}" for count in agents], "MB/s at most"], lines)
+
+
+def examples(figures: dict) -> str:
+    """The examples, line by line."""
+    lines = []
+    for it in figures["words"]:
+        what = (
+            f", {it['killed']} workers killed"
+            if it["killed"]
+            else f", a node killed, its replica takes over after {it['takeover']:.1f} s"
+            if it["takeover"]
+            else ""
+        )
+        lines.append(
+            [
+                f"words, {WAYS[it['way']]}{what}",
+                f"{it['objects']:,}",
+                f"{it['seconds']:.1f}",
+                f"{it['objects'] / it['seconds']:.0f}",
+                f"{it['objects'] * it['length'] / it['seconds'] / 1e6:.1f}",
+            ]
+        )
+    for it in figures["transfers"]:
+        what = f", {it['killed']} workers killed" if it["killed"] else ""
+        lines.append([f"transfers, agents{what}", f"{it['jobs']:,}", f"{it['seconds']:.1f}", f"{it['jobs'] / it['seconds']:.0f}", ""])
+    return table(["Example", "Jobs", "Seconds", "Jobs/s", "MB/s"], lines)
+
+
+def facts(figures: dict) -> str:
+    """What was measured on what, and what a lost worker costs."""
+    machine, gone = figures["machine"], figures["lost"]
+    return (
+        f"Measured on {figures['program']}, on {machine['processors']} processors ({machine['model']}), "
+        f"at a load of {machine['load']} by other work at the start.\n"
+        f"A lost worker costs {gone['worker_seconds']:.1f} worker-seconds, by the times of two runs of words over {gone['killed']} deaths."
+    )
+
+
+def simulation(figures: dict, laws: simulate_fleet.Laws) -> str:
+    """The simulation as it is called and what it prints."""
+    with contextlib.redirect_stdout(io.StringIO()) as printed:
+        simulate_fleet.print_tables(figures, laws)
+    return f"```\n$ {SIMULATION}\n{printed.getvalue()}```"
+
+
+def measured(rows: list[dict]) -> str:
+    """The picture of jobs and bytes by agents."""
+    agents = [float(it) for it in dict.fromkeys(row["agents"] for row in rows)]
+    short_one, *_ = kinds(rows)
+    long_one = max(kinds(rows), key=lambda kind: kind[1] if kind[1] < 100_000 else 0)
+    jobs = [
+        Curve(f"{costs.instructions_of(turns):,} instructions, {name}", rates(rows, way, length, turns))
+        for length, turns in (short_one, long_one)
+        for way, name in WAYS.items()
+    ]
+    sizes = sorted(length for length, _ in kinds(rows))
+    sizes = [sizes[-1], sizes[-3]]
+    moved = [
+        Curve(f"{length:,} bytes, {name}", [(count, rate * length / 1e6) for count, rate in rates(rows, way, length, short_one[1])])
+        for length in sizes
+        for way, name in WAYS.items()
+    ]
+    return picture([Panel(0, "jobs a second, by workers", jobs, agents), Panel(1, "MB a second, by workers", moved, agents)])
+
+
+def simulated(laws: simulate_fleet.Laws) -> str:
+    """The picture of jobs by simulated agents."""
+    marks = [float(it) for it in simulate_fleet.COUNTS]
+    panels = []
+    for number, count in enumerate(simulate_fleet.SCHEDULERS):
+        title = f"simulated jobs a second, by agents, {count} scheduler{'s' * (count > 1)}"
+        panels.append(Panel(number, title, simulate_fleet.curves(laws, schedulers=[count]), marks))
+    return picture(panels)
+
+
+def made(figures: dict) -> Iterator[tuple[pathlib.Path, str]]:
+    """The page and the pictures as the figures make them."""
+    text, laws = PAGE.read_text(), simulate_fleet.Laws.of(figures)
+    blocks = {"throughput": throughput(figures["rows"]), "examples": examples(figures), "facts": facts(figures), "simulation": simulation(figures, laws)}
+    for name, content in blocks.items():
+        text, count = re.subn(rf"(<!-- {name} -->\n).*?(\n<!-- end -->)", lambda found: found[1] + content + found[2], text, flags=re.S)
+        if count != 1:
+            raise SystemExit(f"{PAGE} has {count} places for {name}")
+    yield PAGE, text
+    yield DOCS / "scaling-measured.svg", measured(figures["rows"]) + "\n"
+    yield DOCS / "scaling-simulated.svg", simulated(laws) + "\n"
+
+
+def main() -> None:
+    if sys.argv[1:] not in ([], ["--check"]):
+        print(__doc__, file=sys.stderr)
+        sys.exit(2)
+    figures = json.loads(simulate_fleet.FIGURES.read_text())
+    for path, text in made(figures):
+        if sys.argv[1:] and (not path.is_file() or path.read_text() != text):
+            sys.exit(f"{path} isn't what the figures make it: run {pathlib.Path(sys.argv[0]).name}")
+        if not sys.argv[1:]:
+            path.write_text(text)
+
+
+if __name__ == "__main__":
+    main()

@@ -1,0 +1,59 @@
+"""A client of bpfagent, of the standard library alone.
+
+An `Agent` is a conversation: with a program that it starts, or with a service over TCP. It has a method for each command of
+docs/PROTOCOL.md. Replies are values, and refusals are exceptions with the words of the reply. Here `program` is the path of
+bpfagent, and the code is `ldxdw r0, [r1]`, `add r0, r2`, `exit`:
+
+    >>> code = bytes.fromhex("7910000000000000" "0f20000000000000" "9500000000000000")
+    >>> with Agent.run(program, "--budget", "4096", timeout=10) as agent:
+    ...     number = agent.make(8)
+    ...     agent.put(number, 0, (40).to_bytes(8, "little"))
+    ...     machine = agent.ship(code, 100, address(number), 2)
+    ...     first = agent.step(machine)
+    ...     run = agent.run_until(machine)
+    >>> first
+    Ran(machine=1, slot=1)
+    >>> run
+    Run(last=Stopped(machine=1, why='exit', value=42), instructions=1)
+
+A refusal says why. The command changed nothing, and the conversation goes on:
+
+    >>> with Agent.run(program) as agent:
+    ...     agent.get(7, 0, 1)
+    Traceback (most recent call last):
+    bpfagent.replies.Refused: outside
+
+`Agent.connect(host, port)` talks to a service in the same way, and `Service` starts one. README.md of this package shows two
+clients of one service. An agent isn't for several threads at once: give each its own connection.
+"""
+from .agent import ARGUMENTS, PIECE, REPLY, STACK, Agent, address, patiently
+from .image import Image, Unloadable, load
+from .replies import Broken, Hit, Move, NotExited, Paused, Ran, Refused, Registers, Run, Step, Stopped, Waiting
+from .service import Service
+
+__version__ = "0.9.0"
+__all__ = [
+    "ARGUMENTS",
+    "PIECE",
+    "REPLY",
+    "STACK",
+    "Agent",
+    "Broken",
+    "Hit",
+    "Image",
+    "Move",
+    "NotExited",
+    "Paused",
+    "Ran",
+    "Refused",
+    "Registers",
+    "Run",
+    "Service",
+    "Step",
+    "Stopped",
+    "Unloadable",
+    "Waiting",
+    "address",
+    "load",
+    "patiently",
+]

@@ -1,0 +1,59 @@
+"""What the commands of this package share: options, and faults as one line on standard error instead of a traceback."""
+from __future__ import annotations
+
+import argparse
+import os
+import sys
+from typing import Callable
+
+from . import __version__
+
+
+def guarded(name: str, call: Callable[[], None], *faults: type[BaseException]) -> None:
+    """Does a command. One of these faults, or an `OSError`, ends it with status 1, an interrupt with 130.
+
+    If nobody reads standard output any more, the command ends quietly.
+    """
+    known: tuple[type[BaseException], ...] = (OSError, *faults)
+    # A file's name, or a line of it, may have bytes that the terminal can't show.
+    for stream in (sys.stdout, sys.stderr):
+        if hasattr(stream, "reconfigure"):
+            stream.reconfigure(errors="backslashreplace")
+    try:
+        call()
+        if sys.stdout:
+            sys.stdout.flush()
+    except BrokenPipeError:
+        os.dup2(os.open(os.devnull, os.O_WRONLY), sys.stdout.fileno())
+        sys.exit(1)
+    except KeyboardInterrupt:
+        sys.exit(130)
+    except known as why:
+        sys.exit(f"{name}: {fault_text(why)}")
+
+
+def fault_text(why: BaseException) -> str:
+    """A fault as a person reads it. An error of the system is the file, if it is about one, and the reason."""
+    if isinstance(why, OSError) and why.strerror:
+        return f"{os.fsdecode(why.filename)}: {why.strerror}" if isinstance(why.filename, (str, bytes)) else why.strerror
+    return str(why)
+
+
+def add_version(options: argparse.ArgumentParser) -> None:
+    """The option `--version`."""
+    options.add_argument("--version", action="version", version=f"%(prog)s {__version__}")
+
+
+def port_of(text: str) -> int:
+    """A TCP port as an argument, 0 to 65535."""
+    if not text.isdecimal() or int(text) > 65_535:
+        raise argparse.ArgumentTypeError(f"{text!r} is not a port, 0 to 65535")
+    return int(text)
+
+
+def place_of(text: str) -> tuple[str, int]:
+    """HOST:PORT as an argument. Without a host it is this one."""
+    host, _, port = text.rpartition(":")
+    if not port.isdecimal() or not 1 <= int(port) <= 65_535:
+        raise argparse.ArgumentTypeError(f"{text!r} is not HOST:PORT, with a port from 1 to 65535")
+    return host.strip("[]") or "127.0.0.1", int(port)

@@ -1,0 +1,72 @@
+"""The messages of the Debug Adapter Protocol on two streams: JSON behind a head with its length."""
+from __future__ import annotations
+
+import json
+import os
+import select
+from typing import Any, Optional
+
+# No message of an editor is longer.
+LONGEST = 1 << 24
+PIECE = 1 << 16
+
+
+class Ended(Exception):
+    """Nothing more comes, or what came is no message."""
+
+
+class Channel:
+    """Reads and writes messages; both streams are given by their descriptors."""
+
+    def __init__(self, reads: int, writes: int) -> None:
+        self._reads, self._writes, self._rest, self._sequence = reads, writes, b"", 0
+
+    def send(self, kind: str, **parts: Any) -> None:
+        """Writes a message of this kind."""
+        self._sequence += 1
+        content = json.dumps({"seq": self._sequence, "type": kind, **parts}).encode()
+        rest = memoryview(b"Content-Length: %d\r\n\r\n" % len(content) + content)
+        while rest:
+            rest = rest[os.write(self._writes, rest) :]
+
+    def receive(self, seconds: Optional[float]) -> Optional[dict[str, Any]]:
+        """The next message; None if none comes within so many seconds."""
+        while True:
+            found = self._whole()
+            if found is not None:
+                return found
+            if not select.select([self._reads], [], [], seconds)[0]:
+                return None
+            piece = os.read(self._reads, PIECE)
+            if not piece:
+                raise Ended("the editor has gone")
+            self._rest += piece
+
+    def _whole(self) -> Optional[dict[str, Any]]:
+        """The first message, if all of it is there."""
+        head, separator, rest = self._rest.partition(b"\r\n\r\n")
+        if not separator:
+            if len(head) > PIECE:
+                raise Ended("this is no message of the Debug Adapter Protocol")
+            return None
+        length = length_of(head)
+        if len(rest) < length:
+            return None
+        self._rest = rest[length:]
+        try:
+            found = json.loads(rest[:length])
+        except ValueError:
+            raise Ended("a message is no JSON") from None
+        if not isinstance(found, dict):
+            raise Ended("a message is no object")
+        return found
+
+
+def length_of(head: bytes) -> int:
+    """The length that a message's head says."""
+    for line in head.split(b"\r\n"):
+        name, _, value = line.partition(b":")
+        digits = value.strip()
+        if name.strip().lower() == b"content-length" and digits.isdigit() and len(digits) <= len(str(LONGEST)) and int(digits) <= LONGEST:
+            return int(digits)
+    raise Ended("a message has no length")

@@ -1,0 +1,132 @@
+"""Starts what is debugged, or attaches to it."""
+from __future__ import annotations
+
+import contextlib
+import pathlib
+from dataclasses import dataclass, field
+from types import TracebackType
+from typing import Iterator, Optional, Sequence, Union
+
+from ..agent import Agent, pauses
+from ..commands import fault_text
+from ..image import load, program_path
+from ..replies import Broken, Refused
+from ..service import Service
+from ..ship import FUEL, make_objects, shipped, values_of
+from .engine import PAUSED, Engine, Impossible
+from .program import Program
+
+# By default C is compiled so that all variables are there; a flag that is given comes later, and wins.
+DEBUG_FLAGS = ("-O0",)
+# The workers of a service, if nothing else is said.
+WORKERS = 2
+# How long an agent may take for a reply, and the workers of a service to find a machine, in seconds.
+TIMEOUT, PATIENCE = 30.0, 2.0
+
+
+@dataclass
+class Plan:
+    """What is to be debugged: a file with its arguments, or a service to which the debugger connects."""
+
+    file: Optional[str] = None
+    arguments: Sequence[str] = ()
+    bpfagent: Optional[str] = None
+    fuel: int = FUEL
+    entry: Optional[str] = None
+    flags: Sequence[str] = ()
+    serve: bool = False
+    workers: int = WORKERS
+    machines: int = 1
+    host: str = "127.0.0.1"
+    port: Optional[int] = None
+    others: Sequence[str] = field(default_factory=tuple)
+
+
+@contextlib.contextmanager
+def closed_at_a_fault(agent: Agent) -> Iterator[None]:
+    """Ends a conversation if its block raises."""
+    try:
+        yield
+    except BaseException:
+        with contextlib.suppress(Broken):
+            agent.close()
+        raise
+
+
+def attached(host: str, port: int, programs: Sequence[Program]) -> Engine:
+    """A debugger of the machines of a service that runs."""
+    try:
+        agent = Agent.connect(host, port, TIMEOUT)
+    except OSError as why:
+        raise Impossible(f"no service can be reached at {host}:{port}: {fault_text(why)}") from None
+    with closed_at_a_fault(agent):
+        engine = Engine(agent, True, programs)
+        engine.look()
+        return engine
+
+
+class Session:
+    """A debugger with what it started. It is a context manager that ends both."""
+
+    def __init__(self, plan: Plan) -> None:
+        values = values_of(plan.arguments)
+        self._service: Optional[Service] = None
+        self.is_started = plan.port is None
+        files = [file for file in (plan.file, *plan.others) if file]
+        programs = [Program(load(pathlib.Path(file), plan.entry, [*DEBUG_FLAGS, *plan.flags], plan.bpfagent)) for file in files]
+        if plan.port is not None:
+            self.engine = attached(plan.host, plan.port, programs)
+        elif not programs:
+            raise Impossible("there is no program to debug: name a file, or connect to a service")
+        elif plan.serve:
+            self.engine = self._serve(plan, programs, values)
+        else:
+            self.engine = Engine(Agent.run(program_path(plan.bpfagent), timeout=TIMEOUT), False, programs)
+            with closed_at_a_fault(self.engine.agent):
+                self._ship(self.engine, plan, programs, values)
+
+    @staticmethod
+    def _ship(engine: Engine, plan: Plan, programs: Sequence[Program], values: Sequence[Union[int, bytes]]) -> None:
+        """Makes the objects, and a machine of each program as often as the plan says; with the same arguments."""
+        numbers, objects = make_objects(engine.agent, values)
+        engine.objects.update(objects)
+        for program in programs:
+            for _ in range(plan.machines):
+                engine.add(shipped(engine.agent, program.image, plan.fuel, numbers, plan.bpfagent), program)
+
+    def _serve(self, plan: Plan, programs: Sequence[Program], values: Sequence[Union[int, bytes]]) -> Engine:
+        """Starts a service whose machines stand at their beginning."""
+        service = self._service = Service(program_path(plan.bpfagent), "--workers", str(plan.workers), timeout=TIMEOUT)
+        try:
+            engine = Engine(service.setup, True, programs)
+            self._ship(engine, plan, programs, values)
+            for number in engine.machines:
+                service.setup.break_(number, 0)
+            service.listen()
+            engine.agent = service.connect(TIMEOUT)
+            for number in engine.machines:
+                for _ in pauses(PATIENCE if plan.workers else 0.0):
+                    if engine.registers(number).state == PAUSED:
+                        break
+                engine.clear(number, [0])
+            return engine
+        except BaseException:
+            service.kill()
+            raise
+
+    def close(self) -> None:
+        """Ends the conversation, and what was started. Machines of a service to which it is attached go on, without breakpoints."""
+        with contextlib.suppress(Broken, Refused):
+            if not self.is_started:
+                self.engine.leave()
+        with contextlib.suppress(Broken):
+            self.engine.agent.close()
+        if self._service:
+            with contextlib.suppress(Broken):
+                self._service.close()
+
+    def __enter__(self) -> Session:
+        return self
+
+    def __exit__(self, kind: Optional[type[BaseException]], error: Optional[BaseException], trace: Optional[TracebackType]) -> None:
+        self.close()

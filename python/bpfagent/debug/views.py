@@ -1,0 +1,242 @@
+"""What the debugger shows, as lines of text."""
+from __future__ import annotations
+
+from typing import TYPE_CHECKING, Iterator, Optional
+
+from ..accesses import OF_MEMORY, access_text, place_text
+from ..agent import STACK
+from .engine import RUNNING, SLOTS, Engine, Impossible, Stop
+from .frames import CALL, TOP
+from .lines import SourceLine, short
+from .sources import lines_of
+from .symbols import FRAME
+from .types import Type, shown
+
+if TYPE_CHECKING:
+    from .terminal import Terminal
+
+AROUND = 5
+ROW = 16
+STOPS = {
+    "spent": "it has no fuel left",
+    "outside": "an access to bytes that aren't all there",
+    "misaligned": "an atomic operation at no multiple of its size",
+    "notgranted": "an access to an object without the grant that it needs",
+    "depth": "a ninth nested call",
+    "worn": "an access whose stamp would be too great",
+}
+
+
+def source_line(at: SourceLine, mark: str = "") -> str:
+    """A source line with its number."""
+    lines = lines_of(at.path)
+    text = lines[at.line - 1] if 1 <= at.line <= len(lines) else f"({short(at.path)} can't be read)"
+    return f"{mark}{at.line}\t{text}"
+
+
+def source_lines(at: SourceLine, current: Optional[SourceLine]) -> Iterator[str]:
+    """The lines around one, with the current one marked."""
+    lines = lines_of(at.path)
+    if not lines:
+        raise Impossible(f"{short(at.path)} can't be read")
+    for line in range(max(at.line - AROUND, 1), min(at.line + AROUND, len(lines) + 1)):
+        here = SourceLine(at.path, line)
+        yield source_line(here, "> " if here == current else "  ")
+
+
+def machine_line(engine: Engine, number: int, is_selected: bool) -> str:
+    """A machine: its state, and where it is."""
+    registers = engine.registers(number)
+    machine = engine.machine(number)
+    state = (
+        "running"
+        if machine.goal is not None or (engine.is_service and registers.state == RUNNING)
+        else "standing"
+        if registers.state == RUNNING
+        else registers.state
+    )
+    if machine.waits_for is not None:
+        state += f", waits for object {machine.waits_for}"
+    name = machine.program.function_name(registers.slot) if machine.program else ""
+    at = machine.program.line_at(registers.slot) if machine.program else None
+    where = f"{name or 'program'} at {at}" if at else f"slot {registers.slot}"
+    unknown = "" if machine.program or not engine.programs else ", another program"
+    return f"{'*' if is_selected else ' '} machine {number}: {state}, {where}, fuel {registers.fuel}{unknown}"
+
+
+def stop_lines(engine: Engine, stop: Stop) -> Iterator[str]:
+    """Why a machine stopped, and the source line where it is."""
+    program = engine.machine(stop.machine).program
+    if stop.reason == "exit":
+        yield f"machine {stop.machine} ended: {stop.text}"
+        return
+    if stop.reason == "stopped":
+        yield f"machine {stop.machine} stopped: {stop.text} ({STOPS.get(stop.text, 'a stop')})"
+        yield from access_lines(engine, stop)
+    elif stop.reason == "breakpoint":
+        yield f"machine {stop.machine}, breakpoint {', '.join(map(str, stop.breakpoints))}"
+    elif stop.reason == "watch":
+        yield f"machine {stop.machine}, watchpoint: {stop.text}"
+    elif stop.reason == "finish":
+        yield f"machine {stop.machine}: {stop.text}" + (f" {stop.value}" if stop.value else "")
+    elif stop.reason != "step" or stop.text:
+        yield f"machine {stop.machine}: {stop.reason}{', ' if stop.text else ''}{stop.text}"
+    frame = engine.frames(stop.machine)[0]
+    if program and frame.at:
+        yield f"{frame.name} at {frame.at}"
+        yield source_line(frame.at)
+    else:
+        yield f"slot {stop.slot}: {engine.agent.line(stop.machine, stop.slot)}"
+
+
+def access_lines(engine: Engine, stop: Stop) -> Iterator[str]:
+    """Which memory an instruction was about to reach, if that stopped it."""
+    if stop.text in OF_MEMORY:
+        found = access_text(
+            engine.agent.line(stop.machine, stop.slot), engine.registers(stop.machine), {number: length for number, length, _ in engine.all_objects()}
+        )
+        if found:
+            yield found
+
+
+def disassembly(engine: Engine, number: int, slot: int) -> Iterator[str]:
+    """The function to which a slot belongs, each instruction behind its source line, the current one marked."""
+    program = engine.machine(number).program
+    placed = program.image.linked.function_at(slot) if program and program.image.linked else None
+    begin, end = (placed.slot, placed.end) if placed else (max(slot - 8, 0), slot + 16)
+    now, before = engine.registers(number).slot, None
+    if placed:
+        yield f"{placed.function.name}:"
+    for at in range(begin, end):
+        reply = engine.agent.tell(f"line {number} {at}")
+        if not reply.startswith("line "):
+            continue
+        line = program.line_at(at) if program else None
+        if line and line != before:
+            yield f"  {short(line.path)}:{source_line(line)}"
+            before = line
+        yield f"{'=>' if at == now else '  '} {at:5}: {reply.split(' ', 3)[3]}"
+
+
+def memory_lines(engine: Engine, number: int, address: int, count: int, kind: str, size: int) -> Iterator[str]:
+    """Memory from an address on, in a form of `x`."""
+    if kind == "i":
+        for slot in range(address, min(address + count, SLOTS)):
+            reply = engine.agent.tell(f"line {number} {slot}")
+            if reply.startswith("line "):
+                yield f"{slot:5}: {reply.split(' ', 3)[3]}"
+        return
+    if kind == "s":
+        content = engine.memory(number, address, count)
+        yield f"{place_text(address)}: {shown(Type('array', target=Type('base', 'char', 1, encoding=6), count=count), content)}"
+        return
+    content = engine.memory(number, address, count * size)
+    for begin in range(0, len(content), ROW):
+        row = content[begin : begin + ROW]
+        yield f"0x{address + begin:x} <{place_text(address + begin)}>: " + " ".join(unit(row[at : at + size], kind) for at in range(0, len(row), size))
+
+
+def unit(content: bytes, kind: str) -> str:
+    """A unit of memory in a form."""
+    value = int.from_bytes(content, "little")
+    if kind == "d":
+        return str(int.from_bytes(content, "little", signed=True))
+    if kind == "c":
+        return shown(Type("base", size=1, encoding=6), content[:1])
+    return str(value) if kind == "u" else f"0x{value:0{2 * len(content)}x}"
+
+
+# ---- info
+
+
+def info_breakpoints(terminal: Terminal) -> Iterator[str]:
+    """The breakpoints."""
+    found = terminal.engine.breakpoints.values()
+    for point in found:
+        yield f"{point.number}: {point.text} at {point}{', once' if point.is_temporary else ''}, {point.hits} hits"
+    if not found:
+        yield "no breakpoints"
+
+
+def info_watchpoints(terminal: Terminal) -> Iterator[str]:
+    """The watched values."""
+    found = terminal.engine.watches.values()
+    for watch in found:
+        yield f"{watch.number}: {watch.text}, machine {watch.machine}, {watch.length} bytes at {place_text(watch.address)}"
+    if not found:
+        yield "no watchpoints"
+
+
+def info_machines(terminal: Terminal) -> Iterator[str]:
+    """The machines."""
+    for number in sorted(terminal.engine.machines):
+        yield machine_line(terminal.engine, number, number == terminal.selected)
+
+
+def info_objects(terminal: Terminal) -> Iterator[str]:
+    """The objects. The protocol has no list of them, so each number is asked for."""
+    found = terminal.engine.all_objects()
+    for number, length, place in found:
+        yield f"object {number}: {length} bytes at 0x{number << 32:x}, {place}"
+    if not found:
+        yield "no objects"
+    if terminal.engine.is_service and any(place == "away" for _, _, place in found):
+        yield "asking for the objects that are away has the service bring them back"
+
+
+def info_scopes(terminal: Terminal) -> Iterator[str]:
+    """Which objects are in a scope of some machine: those are refused to leave."""
+    for number, _, place in terminal.engine.all_objects():
+        yield f"object {number}: {terminal.engine.scoped(number) if place == 'here' else place}"
+    yield "the protocol doesn't show which machine holds a scope"
+
+
+def info_registers(terminal: Terminal) -> Iterator[str]:
+    """The registers of the frame that is looked at."""
+    frame, registers = terminal.frame, terminal.engine.registers(terminal.selected)
+    for number, value in enumerate(frame.registers):
+        yield f"r{number:<3}" + (
+            "not shown by the protocol" if value is None else f"0x{value:016x}  {value}" + (f"  <{place_text(value)}>" if value >> 32 else "")
+        )
+    yield f"slot {registers.slot}, fuel {registers.fuel}, {registers.state}"
+
+
+def info_locals(terminal: Terminal) -> Iterator[str]:
+    """The variables of the frame that is looked at."""
+    context = terminal.engine.context(terminal.frame)
+    found = context.variables()
+    for variable in found:
+        yield f"{variable.name} = {context.value_of(variable)}"
+    if not found:
+        yield "no variables"
+
+
+def info_frame(terminal: Terminal) -> Iterator[str]:
+    """The frame that is looked at."""
+    frame = terminal.frame
+    top = frame.registers[FRAME]
+    yield f"#{terminal.level} {frame}"
+    if top is not None:
+        begin = (top & 0xFFFF_FFFF) - CALL if top >> 32 == STACK else 0
+        yield f"R10 is 0x{top:x}, {(TOP - top) // CALL} calls are open, the frame's {CALL} bytes begin at stack+{begin}"
+
+
+def info_line(terminal: Terminal) -> Iterator[str]:
+    """The source line of the frame."""
+    frame = terminal.frame
+    yield f"slot {frame.slot} is of {frame.at}" if frame.at else f"slot {frame.slot} has no source line"
+
+
+def info_functions(terminal: Terminal) -> Iterator[str]:
+    """The functions of the program, by slot."""
+    for program in terminal.engine.programs:
+        linked = program.image.linked
+        for placed in linked.functions if linked else ():
+            at = program.line_at(placed.slot)
+            yield f"slots {placed.slot} to {placed.end - 1}: {placed.function.name}{f' at {at}' if at else ''}"
+
+
+def info_sources(terminal: Terminal) -> Iterator[str]:
+    """The source files of the programs."""
+    for program in terminal.engine.programs:
+        yield from program.symbols.lines.paths() if program.symbols else [f"{program.image.path}: {program.why}"]

@@ -1,0 +1,98 @@
+"""Loads a program for shipping: a C file, an object file of clang, a text of assembly, or raw code."""
+from __future__ import annotations
+
+import os
+import pathlib
+import shutil
+import subprocess
+import sys
+import tempfile
+from dataclasses import dataclass
+from typing import Optional, Sequence
+
+from .agent import PathLike
+from .compiler import Uncompiled, compile_c
+from .objectfile import SLOT, Linked, Unlinkable, is_object_file, link
+
+
+class Unloadable(Exception):
+    """Why a file can't be shipped."""
+
+
+@dataclass(frozen=True)
+class Image:
+    """A program: its raw code and, if it comes from an object file, that file's bytes and where its functions are."""
+
+    path: pathlib.Path
+    code: bytes
+    linked: Optional[Linked] = None
+    content: bytes = b""
+
+    @property
+    def slots(self) -> int:
+        """The number of its slots."""
+        return len(self.code) // SLOT
+
+
+def load(file: PathLike, entry: Optional[str] = None, flags: Sequence[str] = (), bpfagent: Optional[str] = None) -> Image:
+    """Loads a program, or raises `Unloadable`.
+
+    `.c` files are compiled by clang with these further flags, `.asm` files are assembled by bpfagent. Other files are object
+    files of clang, or raw code. The program begins at the function `entry`; without one at `program`, or at the only function
+    that isn't static.
+    """
+    path = pathlib.Path(file)
+    try:
+        content = path.read_bytes()
+    except OSError as why:
+        raise Unloadable(f"{path}: {why.strerror}") from None
+    if path.suffix == ".c":
+        content = compiled(path, flags)
+    elif path.suffix == ".asm":
+        content = assembled(path, content, program_path(bpfagent))
+    if not is_object_file(content):
+        if entry is not None:
+            raise Unloadable(f"{path}: raw code has no names, so --entry can't choose one")
+        return Image(path, content)
+    try:
+        linked = link(content, entry)
+    except Unlinkable as why:
+        raise Unloadable(f"{place_of(path, content, why)}: {why}") from None
+    return Image(path, linked.code, linked, content)
+
+
+def compiled(path: pathlib.Path, flags: Sequence[str]) -> bytes:
+    """The object file of a C file. Clang's warnings are shown."""
+    try:
+        with tempfile.TemporaryDirectory() as folder:
+            target = pathlib.Path(folder) / "program.o"
+            sys.stderr.write(compile_c(path, target, flags))
+            return target.read_bytes()
+    except (OSError, Uncompiled) as why:
+        raise Unloadable(str(why)) from None
+
+
+def assembled(path: pathlib.Path, text: bytes, program: str) -> bytes:
+    """The raw code of a text of assembly."""
+    done = subprocess.run([program, "asm", "--explain"], input=text, stdout=subprocess.PIPE, stderr=subprocess.PIPE)
+    if done.returncode:
+        raise Unloadable(f"{path}: {done.stderr.decode('ascii', 'replace').rstrip()}")
+    return done.stdout
+
+
+def place_of(path: pathlib.Path, content: bytes, why: Unlinkable) -> str:
+    """The source line that a refusal is about, if there is one, or else the file."""
+    from .debug.lines import line_of_place
+
+    found = line_of_place(content, why.place) if why.place else None
+    return str(found) if found else str(path)
+
+
+def program_path(given: Optional[str]) -> str:
+    """The path of bpfagent: the one that is given, that of the environment's BPFAGENT, or the one on PATH."""
+    path = given or os.environ.get("BPFAGENT") or shutil.which("bpfagent")
+    if not path:
+        raise Unloadable("bpfagent isn't on PATH: give its path by --bpfagent, or set BPFAGENT")
+    if not shutil.which(path):
+        raise Unloadable(f"{path} can't be run: give the path of bpfagent by --bpfagent, or set BPFAGENT")
+    return path

@@ -1,0 +1,153 @@
+"""What the tests of the debugger share: the program, a terminal, and an editor."""
+from __future__ import annotations
+
+import contextlib
+import fcntl
+import importlib.util
+import io
+import os
+import pathlib
+import pty
+import re
+import select
+import shutil
+import signal
+import subprocess
+import sys
+import termios
+import time
+import unittest
+from types import ModuleType, TracebackType
+from typing import Callable, Optional, Sequence
+
+from bpfagent import Agent, patiently
+
+ROOT = pathlib.Path(__file__).resolve().parents[2]
+# What these tests share with those of the product.
+sys.path.append(str(ROOT / "tests"))
+DEBUG = ROOT / "examples/debug"
+PROGRAM = os.environ.get("BPFAGENT", "")
+DEBUGGER = [sys.executable, "-m", "bpfagent.debug.main"]
+SECONDS = 60.0
+PROMPT = "(bpfagent) "
+# Find 7, which is there with 40, and then 8, when only the first pair counts.
+TABLE = [str(DEBUG / "table.c"), f"@{DEBUG / 'table.object'}", "7"]
+
+
+def has_elftools() -> bool:
+    """Whether pyelftools is installed."""
+    return importlib.util.find_spec("elftools") is not None
+
+
+needs_debugger = unittest.skipUnless(PROGRAM and has_elftools() and shutil.which("clang"), "needs BPFAGENT, clang and pyelftools (python3-pyelftools)")
+
+
+def editor_module() -> ModuleType:
+    """The client of examples/debug/editor.py."""
+    spec = importlib.util.spec_from_file_location("editor", DEBUG / "editor.py")
+    assert spec and spec.loader
+    made = importlib.util.module_from_spec(spec)
+    spec.loader.exec_module(made)
+    return made
+
+
+def program_of(path: pathlib.Path, text: str) -> pathlib.Path:
+    """A program in Python of this text."""
+    path.write_text(f"#!{sys.executable}\nimport sys\n{text}\n")
+    path.chmod(0o755)
+    return path
+
+
+def usage_of(main: Callable[[Sequence[str]], None], words: Sequence[str]) -> tuple[object, str, str]:
+    """Status, output and errors of a command that ends while it reads its words. It runs in this process."""
+    output, errors = io.StringIO(), io.StringIO()
+    with contextlib.redirect_stdout(output), contextlib.redirect_stderr(errors):
+        try:
+            main(words)
+        except SystemExit as ended:
+            return ended.code, output.getvalue(), errors.getvalue()
+    raise AssertionError(f"{words} are taken")
+
+
+def changes(client: Agent, number: int) -> bool:
+    """Whether somebody writes to the first 8 bytes of an object of a service."""
+    before, end = patiently(client.get, number, 0, 8), time.monotonic() + SECONDS
+    while patiently(client.get, number, 0, 8) == before:
+        if time.monotonic() > end:
+            return False
+        time.sleep(0.01)
+    return True
+
+
+def take_terminal() -> None:
+    """Makes standard input the terminal from which a new session is interrupted."""
+    signal.signal(signal.SIGINT, signal.SIG_DFL)
+    fcntl.ioctl(0, termios.TIOCSCTTY, 0)
+
+
+class Pseudoterminal:
+    """The debugger in a pseudo-terminal, which is typed to as by a person."""
+
+    def __init__(self, *arguments: str, home: str) -> None:
+        self._main, other = pty.openpty()
+        environment = {**os.environ, "HOME": home, "TERM": "dumb", "INPUTRC": "/dev/null"}
+        self.process = subprocess.Popen(
+            [*DEBUGGER, *arguments], stdin=other, stdout=other, stderr=other, env=environment, cwd=ROOT, start_new_session=True, preexec_fn=take_terminal
+        )
+        os.close(other)
+        self.greeting = self._until_prompt()
+
+    def _until(self, holds: Callable[[str], bool]) -> str:
+        """What is shown until this holds of it, or the debugger has ended."""
+        end, read, got = time.monotonic() + SECONDS, b"", ""
+        while not holds(got):
+            if time.monotonic() > end or not select.select([self._main], [], [], SECONDS)[0]:
+                raise AssertionError(f"the terminal shows {got!r}, and no more")
+            try:
+                piece = os.read(self._main, 1 << 16)
+            except OSError:
+                break
+            if not piece:
+                break
+            # a piece may end within a character or an escape sequence
+            read += piece
+            got = re.sub(r"\x1b\[[0-9;?]*[a-zA-Z]|\r", "", read.decode(errors="replace"))
+        return got
+
+    def _until_prompt(self, shown: str = "") -> list[str]:
+        """What is shown until the next prompt, as lines; and that comes after this text, for readline may show the prompt again."""
+        return self._until(lambda got: got.endswith(PROMPT) and shown in got).removesuffix(PROMPT).splitlines()
+
+    def begin(self, command: str) -> None:
+        """Types a command, waits until it has been read, and lets it go on."""
+        self.press(command + "\n")
+        self._until(lambda got: got.endswith(f"{command}\n"))
+        time.sleep(0.2)
+
+    def press(self, keys: str) -> None:
+        """Types keys, and doesn't wait."""
+        os.write(self._main, keys.encode())
+
+    def ask(self, command: str) -> list[str]:
+        """What a command shows, without its echo."""
+        self.press(command + "\n")
+        return self._until_prompt()[1:]
+
+    def wait(self, shown: str = "") -> list[str]:
+        """What is shown until the next prompt after this text."""
+        return self._until_prompt(shown)
+
+    def close(self) -> int:
+        """Leaves the debugger: its status."""
+        self.press("quit\n")
+        status = self.process.wait(SECONDS)
+        os.close(self._main)
+        return status
+
+    def __enter__(self) -> Pseudoterminal:
+        return self
+
+    def __exit__(self, kind: Optional[type[BaseException]], error: Optional[BaseException], trace: Optional[TracebackType]) -> None:
+        if self.process.poll() is None:
+            self.process.kill()
+            self.process.wait()

@@ -1,0 +1,273 @@
+"""The debugger for editors: whole sessions by a client of the Debug Adapter Protocol, over `run` and over `serve`."""
+from __future__ import annotations
+
+import base64
+import pathlib
+import subprocess
+import sys
+import tempfile
+import time
+import unittest
+from typing import Any
+
+from bpfagent import Service, patiently
+from support import DEBUG, DEBUGGER, PROGRAM, SECONDS, TABLE, changes, editor_module, needs_debugger
+from test_terminal import ENDLESS
+
+Body = dict[str, Any]
+SOURCE = {"path": str(DEBUG / "table.c")}
+
+
+@needs_debugger
+class Sessions(unittest.TestCase):
+    """Sessions of an editor with the debugger."""
+
+    def setUp(self) -> None:
+        folder = tempfile.TemporaryDirectory()
+        self.addCleanup(folder.cleanup)
+        self.folder = pathlib.Path(folder.name)
+        self.editor = editor_module().Editor([*DEBUGGER, "--dap"], is_quiet=True)
+        self.addCleanup(self.editor.__exit__)
+
+    def ask(self, command: str, **arguments: Any) -> Body:
+        """The body of a response."""
+        body: Body = self.editor.ask(command, **arguments)
+        return body
+
+    def refused(self, command: str, **arguments: Any) -> str:
+        """Why a request is refused."""
+        with self.assertRaises(RuntimeError) as found:
+            self.ask(command, **arguments)
+        return str(found.exception).removeprefix(f"{command}: ")
+
+    def stopped(self, machine: int, reason: str) -> list[Body]:
+        """The frames of a machine, once it has stopped for this reason."""
+        while (body := self.editor.wait("stopped")["body"])["threadId"] != machine:
+            pass
+        self.assertEqual(body["reason"], reason, body)
+        self.text = body.get("text", "")
+        frames: list[Body] = self.ask("stackTrace", threadId=machine)["stackFrames"]
+        return frames
+
+    def launch(self, program: str = TABLE[0], arguments: tuple[str, ...] = tuple(TABLE[1:]), **options: Any) -> None:
+        """Starts a program, up to the point at which breakpoints are set."""
+        capabilities = self.ask("initialize", adapterID="test")
+        self.assertTrue(capabilities["supportsConfigurationDoneRequest"] and capabilities["supportsDisassembleRequest"])
+        self.ask("launch", program=program, arguments=list(arguments), **options)
+        self.editor.wait("initialized")
+
+    def variables(self, frame: Body, scope: int = 0) -> dict[str, Body]:
+        """The variables of a frame's scope, by name."""
+        found = self.ask("scopes", frameId=frame["id"])["scopes"][scope]
+        return {variable["name"]: variable for variable in self.ask("variables", variablesReference=found["variablesReference"])["variables"]}
+
+    def session(self, machine: int) -> None:
+        """Break on a line, look at variables and at a struct in an object, step into a function, out of it, watch, go on."""
+        self.assertEqual(
+            [(found["verified"], found["line"]) for found in self.ask("setBreakpoints", source=SOURCE, breakpoints=[{"line": 23}])["breakpoints"]], [(True, 23)]
+        )
+        self.ask("configurationDone")
+        frames = self.stopped(machine, "breakpoint")
+        self.assertEqual([(frame["name"], frame["line"], frame["source"]["path"]) for frame in frames], [("program", 23, SOURCE["path"])])
+        found = self.variables(frames[0])
+        self.assertEqual({name: found[name]["value"] for name in found}, {"table": "(struct table *) 0x100000000 <object 1>", "key": "7", "sum": "0"})
+        table = self.ask("variables", variablesReference=found["table"]["variablesReference"])["variables"][0]
+        members = {each["name"]: each for each in self.ask("variables", variablesReference=table["variablesReference"])["variables"]}
+        self.assertEqual((members["count"]["value"], members["count"]["memoryReference"]), ("2", "0x100000000"))
+        pairs = self.ask("variables", variablesReference=members["pairs"]["variablesReference"])["variables"]
+        self.assertEqual([each["value"] for each in pairs[:2]], ["{key = 7, value = 40}", "{key = 8, value = 2}"])
+        self.ask("stepIn", threadId=machine)
+        frames = self.stopped(machine, "step")
+        self.assertEqual([(frame["name"], frame["line"]) for frame in frames], [("find", 15), ("program", 23)])
+        self.assertEqual(self.variables(frames[0])["i"]["value"], "0")
+        self.assertEqual(self.variables(frames[1])["key"]["value"], "7")
+        self.ask("next", threadId=machine)
+        self.assertEqual(self.stopped(machine, "step")[0]["line"], 16)
+        self.ask("stepOut", threadId=machine)
+        frames = self.stopped(machine, "step")
+        self.assertEqual((self.text, frames[0]["name"], frames[0]["line"]), ("find returned 40", "program", 23))
+        identity = self.ask("dataBreakpointInfo", name="table->count", frameId=frames[0]["id"])["dataId"]
+        self.assertTrue(self.ask("setDataBreakpoints", breakpoints=[{"dataId": identity}])["breakpoints"][0]["verified"])
+        self.ask("continue", threadId=machine)
+        self.assertEqual(self.stopped(machine, "data breakpoint")[0]["line"], 25)
+        self.assertEqual(self.text, "table->count: 2 -> 1")
+        self.assertEqual(
+            base64.b64decode(self.ask("readMemory", memoryReference="0x100000000", count=16)["data"]), bytes.fromhex("01000000000000000700000028000000")
+        )
+        self.ask("setDataBreakpoints", breakpoints=[])
+
+    def test_run(self) -> None:
+        """A whole session over `run`."""
+        self.launch()
+        self.session(1)
+        self.assertEqual(self.ask("continue", threadId=1), {"allThreadsContinued": False})
+        self.assertEqual(self.editor.wait("exited")["body"]["exitCode"], 40)
+        self.editor.wait("terminated")
+        self.ask("disconnect")
+        self.assertEqual(self.editor.process.wait(SECONDS), 0)
+
+    def test_serve(self) -> None:
+        """The same over `serve` with four workers and three machines, each a thread; then the other two go on."""
+        self.launch(serve=True, workers=4, machines=3)
+        self.session(2)
+        self.assertEqual([thread["id"] for thread in self.ask("threads")["threads"]], [1, 2, 3])
+        for thread in (1, 3):
+            self.assertEqual(self.ask("stackTrace", threadId=thread)["stackFrames"][0]["line"], 23)
+        for thread in (1, 2, 3):
+            self.ask("continue", threadId=thread)
+        self.assertEqual(self.editor.wait("exited")["body"]["exitCode"], 40)
+        self.ask("disconnect")
+        self.assertEqual(self.editor.process.wait(SECONDS), 0)
+
+    def test_attach(self) -> None:
+        """A service that runs: pause, a breakpoint on a function, evaluate, and leave; the machine goes on."""
+        path = self.folder / "endless.c"
+        path.write_text(ENDLESS)
+        code = self.folder / "endless.code"
+        subprocess.run([sys.executable, "-m", "bpfagent.ship", "--flag=-O0", "--output", str(code), str(path)], check=True)
+        with Service(PROGRAM, "--workers", "4", "--connections", "2", timeout=SECONDS) as service:
+            service.setup.make(8)
+            service.setup.ship(code.read_bytes(), 2**63, 1 << 32)
+            service.listen()
+            other = service.connect(SECONDS)
+            self.ask("initialize")
+            self.ask("attach", port=service.port, program=str(path))
+            self.editor.wait("initialized")
+            self.ask("configurationDone")
+            self.assertEqual(self.refused("stackTrace", threadId=1), "machine 1 is running")
+            self.ask("pause", threadId=1)
+            frames = self.stopped(1, "pause")
+            self.assertIn(frames[-1]["name"], ("program", "program (call site unknown)"))
+            self.assertTrue(self.ask("setFunctionBreakpoints", breakpoints=[{"name": "more"}, {"name": "none"}])["breakpoints"][0]["verified"])
+            self.ask("continue", threadId=1)
+            frames = self.stopped(1, "breakpoint")
+            count = int.from_bytes(patiently(other.get, 1, 0, 8), "little")
+            self.assertEqual(self.ask("evaluate", expression="*count + 1", frameId=frames[0]["id"])["result"], str(count + 1))
+            self.assertEqual(other.regs(1).state, "paused")
+            self.ask("setFunctionBreakpoints", breakpoints=[])
+            self.ask("continue", threadId=1)
+            self.ask("disconnect")
+            self.assertEqual(self.editor.process.wait(SECONDS), 0)
+            self.assertTrue(changes(other, 1), "the machine doesn't go on")
+
+    def test_looking(self) -> None:
+        """Registers, the machine, single instructions, disassembly past both ends, memory of the stack and past an object."""
+        self.launch(stopOnEntry=True)
+        self.ask("configurationDone")
+        frame = self.stopped(1, "entry")[0]
+        self.assertEqual(self.variables(frame, 1)["r1"]["value"], str(1 << 32))
+        self.assertEqual(self.variables(frame, 2)["fuel"]["value"], "1000000")
+        self.ask("stepIn", threadId=1, granularity="instruction")
+        frame = self.stopped(1, "step")[0]
+        self.assertEqual(self.variables(frame, 2)["slot"]["value"], "1")
+        reference = frame["instructionPointerReference"]
+        found = self.ask("disassemble", memoryReference=reference, instructionOffset=-3, instructionCount=60)["instructions"]
+        self.assertEqual((len(found), [each["instruction"] for each in found[:4]]), (60, ["(none)", "(none)", "stxdw [r10-8], r1", "stxw [r10-12], r2"]))
+        self.assertEqual((found[3]["address"], found[3]["line"], found[3]["symbol"]), (reference, 22, "program"))
+        self.assertEqual(found[-1]["instruction"], "(none)")
+        pointer = self.variables(frame)["table"]
+        self.assertEqual(pointer["value"], "(struct table *) 0x100000000 <object 1>")
+        whole = self.ask("readMemory", memoryReference="0x100000000", offset=32, count=100)
+        self.assertEqual((len(base64.b64decode(whole["data"])), whole["unreadableBytes"]), (8, 92))
+        stack = self.ask("readMemory", memoryReference="1:0xffffffff00000ff8", count=8)
+        self.assertEqual(base64.b64decode(stack["data"]), (1 << 32).to_bytes(8, "little"))
+        self.assertEqual(self.ask("dataBreakpointInfo", name="$r1", frameId=frame["id"])["dataId"], None)
+        self.ask("disconnect")
+
+    def test_wrong(self) -> None:
+        """Requests that can't be done are refused with a reason, and the session goes on."""
+        self.assertEqual(self.refused("threads"), "nothing is debugged yet: launch or attach comes first")
+        self.assertEqual(self.refused("fly"), "fly isn't supported")
+        self.assertIn("No such file", self.refused("launch", program="/none.c"))
+        self.assertEqual(self.refused("launch"), "there is no program to debug: name a file, or connect to a service")
+        self.assertEqual(self.refused("launch", program=TABLE[0], arguments=["1", "nine"]), "argument 2, `nine`: is neither a number nor +N, =TEXT or @FILE")
+        self.assertEqual(self.refused("launch", program=TABLE[0], arguments=["1"] * 6), "6 arguments are given, and a program takes five")
+        self.assertEqual(self.refused("attach", port=1, program=TABLE[0]), "no service can be reached at 127.0.0.1:1: Connection refused")
+        self.launch()
+        self.assertEqual(self.refused("launch", program=TABLE[0]), "something is debugged already")
+        found = self.ask("setBreakpoints", source=SOURCE, breakpoints=[{"line": 999}, {"line": 14}])["breakpoints"]
+        self.assertEqual((found[0]["verified"], found[1]["verified"], found[1]["line"]), (False, True, 15))
+        self.assertIn("no code is at or after line 999", found[0]["message"])
+        self.assertIn("there is no source file", self.ask("setBreakpoints", source={"path": "/none.c"}, breakpoints=[{"line": 1}])["breakpoints"][0]["message"])
+        self.ask("configurationDone")
+        frames = self.stopped(1, "breakpoint")
+        self.assertEqual(frames[1]["name"], "program (call site unknown)")
+        self.assertEqual(self.refused("evaluate", expression="none", frameId=frames[0]["id"]), "there is no variable none in find")
+        self.assertTrue(self.refused("stackTrace").startswith("these arguments can't be understood"))
+        self.assertEqual(self.refused("continue", threadId=9), "there is no machine 9")
+        for wrong in (float("inf"), "x", None, [], 2**200):
+            self.assertTrue(self.refused("pause", threadId=wrong), wrong)
+        self.assertEqual(self.refused("evaluate", expression="(" * 900, frameId=frames[0]["id"]), "the expression is nested too deeply")
+        self.ask("setBreakpoints", source=SOURCE, breakpoints=[])
+        self.ask("continue", threadId=1)
+        self.editor.wait("terminated")
+        self.assertEqual(self.refused("continue", threadId=1), "machine 1 has stopped: exit 0000000000000028")
+        self.ask("disconnect")
+
+    def test_pause(self) -> None:
+        """A program that doesn't end is paused while it runs here, looked at, and goes on; requests are answered meanwhile."""
+        path = self.folder / "endless.c"
+        path.write_text(ENDLESS)
+        self.launch(program=str(path), arguments=("+8",), fuel=2**63)
+        self.ask("configurationDone")
+        counts = []
+        for _ in range(3):
+            time.sleep(0.1)
+            self.assertEqual(len(self.ask("threads")["threads"]), 1)
+            self.ask("pause", threadId=1)
+            frames = self.stopped(1, "pause")
+            counts.append(int(self.ask("evaluate", expression="*(uint64_t *)0x100000000", frameId=frames[0]["id"])["result"]))
+            self.ask("continue", threadId=1)
+        self.assertTrue(0 < counts[0] < counts[1] < counts[2], counts)
+        self.ask("disconnect")
+        self.assertEqual(self.editor.process.wait(SECONDS), 0)
+
+    def test_terminate(self) -> None:
+        """The editor ends a program that goes on, in `run` and in a service, hears so, and may begin another."""
+        path = self.folder / "endless.c"
+        path.write_text(ENDLESS)
+        ways: list[Body] = [{}, {"serve": True, "workers": 4}]
+        for options in ways:
+            self.launch(program=str(path), arguments=("+8",), fuel=2**63, **options)
+            self.ask("configurationDone")
+            self.ask("terminate")
+            self.editor.wait("terminated")
+            self.assertEqual(self.refused("threads"), "nothing is debugged yet: launch or attach comes first")
+        self.ask("disconnect")
+        self.assertEqual(self.editor.process.wait(SECONDS), 0)
+
+    def test_condition(self) -> None:
+        """A breakpoint with a condition stops only where it holds."""
+        self.launch(arguments=(TABLE[1], "8"))
+        self.ask("setBreakpoints", source=SOURCE, breakpoints=[{"line": 16, "condition": "i == 1"}])
+        self.ask("configurationDone")
+        frames = self.stopped(1, "breakpoint")
+        self.assertEqual((frames[0]["line"], self.variables(frames[0])["i"]["value"]), (16, "1"))
+        self.ask("setBreakpoints", source=SOURCE, breakpoints=[])
+        self.ask("continue", threadId=1)
+        self.assertEqual(self.editor.wait("exited")["body"]["exitCode"], 2)
+        self.ask("disconnect")
+
+    def test_stop(self) -> None:
+        """A program that goes wrong stops with the reason, and can be looked at."""
+        self.launch(arguments=("+4", "7"))
+        self.ask("configurationDone")
+        frames = self.stopped(1, "exception")
+        self.assertEqual((self.text, frames[0]["name"], frames[0]["line"]), ("outside: an access to bytes that aren't all there", "find", 15))
+        self.assertEqual(self.variables(frames[0])["key"]["value"], "7")
+        self.assertIn(
+            "is outside any object",
+            self.ask("evaluate", expression="table", frameId=frames[0]["id"])["result"]
+            + self.refused("evaluate", expression="*table", frameId=frames[0]["id"]),
+        )
+        self.ask("disconnect")
+
+    def test_garbage(self) -> None:
+        """What is no message ends the adapter without a traceback."""
+        for garbage in (b"hello\r\n\r\n", b"Content-Length: 3\r\n\r\nabc", b"Content-Length: x\r\n\r\n", b"Content-Length: 2\r\n\r\n[]", b"x" * 70_000, b""):
+            done = subprocess.run([*DEBUGGER, "--dap"], input=garbage, capture_output=True, timeout=SECONDS)
+            self.assertEqual((done.returncode, done.stdout, done.stderr), (0, b"", b""), garbage[:20])
+
+
+if __name__ == "__main__":
+    unittest.main()

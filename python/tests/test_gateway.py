@@ -1,0 +1,436 @@
+"""`bpfagent-redis` over a stand-in for Redis, and over redis-server where it is installed.
+
+Byte for byte what docs/FAR-MEMORY.md shows, clients that break the protocol, two clients at once, keys that are gone when a
+client or the gateway has ended, a Redis that is full, goes away, lies or answers nonsense, one that sends its clients on, as a
+cluster does, signals, and that an idle gateway sleeps. `bpfagent serve`, whose objects leave for the gateway.
+"""
+from __future__ import annotations
+
+import hashlib
+import pathlib
+import re
+import shutil
+import signal
+import socket
+import socketserver
+import subprocess
+import sys
+import tempfile
+import threading
+import time
+import unittest
+from typing import Callable, Optional
+
+from bpfagent import __version__
+from bpfagent.far import DONE, FORGET, GET, LIMIT, NO_ROOM, PUT, REFUSED_ID, Store
+from support import PROGRAM, ROOT, SECONDS
+
+from lib.programs import Client, Process, Server, Service, object_line
+from product.service import away
+from product.store import KEPT, frame, talk, unanswered
+
+GATEWAY = [sys.executable, "-m", "bpfagent.gateway"]
+CLIENT = [sys.executable, "-m", "bpfagent.far"]
+
+
+class Talk(socketserver.StreamRequestHandler):
+    """A client of the stand-in."""
+
+    disable_nagle_algorithm = True
+    server: Redis
+
+    def handle(self) -> None:
+        self.server.connected.append(self.connection)
+        try:
+            while words := self.command():
+                self.server.heard.append(words)
+                reply = self.server.instead.pop(0) if self.server.instead else self.answer(words)
+                self.wfile.write(reply)
+                if not reply.endswith(b"\r\n"):
+                    return
+        except OSError:
+            pass
+
+    def command(self) -> Optional[list[bytes]]:
+        """The words of the next command; none at the end."""
+        head = self.rfile.readline()
+        if not head:
+            return None
+        words = []
+        for _ in range(int(head[1:])):
+            length = int(self.rfile.readline()[1:])
+            words.append(self.rfile.read(length + 2)[:-2])
+        return words
+
+    def answer(self, words: list[bytes]) -> bytes:
+        kept, (name, *rest) = self.server.kept, words
+        if name == b"SET" and rest[2:] == [b"NX"]:
+            return b"+OK\r\n" if kept.setdefault(rest[0], rest[1]) is rest[1] else b"$-1\r\n"
+        if name == b"GET":
+            return b"$%d\r\n%b\r\n" % (len(kept[rest[0]]), kept[rest[0]]) if rest[0] in kept else b"$-1\r\n"
+        if name == b"DEL":
+            return b":%d\r\n" % (kept.pop(rest[0], None) is not None)
+        if name == b"PING":
+            return b"+PONG\r\n"
+        return b"+OK\r\n" if name == b"ASKING" else b"-ERR unknown command\r\n"
+
+
+class Redis(socketserver.ThreadingTCPServer):
+    """A stand-in for Redis: what it keeps, what it has heard, and what it answers instead, if anything."""
+
+    allow_reuse_address = True
+    daemon_threads = True
+
+    def __init__(self, port: int = 0) -> None:
+        super().__init__(("127.0.0.1", port), Talk)
+        self.kept: dict[bytes, bytes] = {}
+        self.heard: list[list[bytes]] = []
+        self.instead: list[bytes] = []
+        self.connected: list[socket.socket] = []
+        self.address = f"127.0.0.1:{self.server_address[1]}"
+        threading.Thread(target=self.serve_forever, args=(0.01,), daemon=True).start()
+
+    def end(self) -> None:
+        """Goes away, with its connections."""
+        self.shutdown()
+        self.server_close()
+        for connection in self.connected:
+            try:
+                connection.shutdown(socket.SHUT_RDWR)
+            except OSError:
+                pass
+
+
+class Gateway(Server):
+    """The gateway, listening, as another server of far memory."""
+
+    port: int
+
+    def __init__(self, redis: str, *arguments: str) -> None:
+        Process.__init__(self, *GATEWAY, "--redis", redis, *arguments)
+        _, port = self.hear_port()
+        assert port, "the gateway doesn't listen"
+        self.port = port
+
+
+def eventually(holds: Callable[[], bool], what: str) -> None:
+    """What comes to hold in time."""
+    end = time.monotonic() + SECONDS
+    while not holds():
+        assert time.monotonic() < end, what
+        time.sleep(0.005)
+
+
+def kept(store: Store, content: bytes) -> tuple[int, bytes]:
+    """Id and digest of bytes that a store takes."""
+    number, digest = store.put(content)
+    assert number is not None
+    return number, digest
+
+
+def setUpModule() -> None:
+    """Where the tests run in the background, an interrupt is ignored, and would be by the gateways too."""
+    signal.signal(signal.SIGINT, signal.default_int_handler)
+
+
+def wakings(process: subprocess.Popen[bytes]) -> int:
+    """How often the threads of a process have gone to sleep by themselves."""
+    texts = [path.read_text() for path in pathlib.Path(f"/proc/{process.pid}/task").glob("*/status")]
+    return sum(int(count) for text in texts for count in re.findall(r"(?m)^voluntary_ctxt_switches:\s*(\d+)", text))
+
+
+def is_listening(port: int) -> bool:
+    """Whether somebody listens on a port of this host."""
+    try:
+        socket.create_connection(("127.0.0.1", port)).close()
+        return True
+    except OSError:
+        return False
+
+
+@unittest.skipUnless(PROGRAM, "needs BPFAGENT")
+class Gateways(unittest.TestCase):
+    """The gateway, over a stand-in for Redis and over Redis itself."""
+
+    def test_frames(self) -> None:
+        """Byte for byte what docs/FAR-MEMORY.md shows, and the example of the package's page; nothing is left in Redis."""
+        redis = Redis()
+        self.frames(redis.address)
+        self.example(redis.address)
+        self.assertEqual(redis.kept, {})
+        redis.end()
+
+    def frames(self, address: str) -> None:
+        """What the page shows, one answer of each kind, and what is no request."""
+        gateway = Gateway(address)
+        self.assertTrue(
+            talk(gateway, bytes.fromhex("01 0000000000000001 00000003 616263")) == bytes.fromhex("00 0000000000000001 00000000"), "the put of the page"
+        )
+        crlf = b"\r\n$-1\r\n\0\xff" * 9
+        asked = [
+            frame(PUT, 1, b"abc"),
+            frame(PUT, 1, b"x"),
+            frame(GET, 1),
+            frame(GET, 2),
+            frame(PUT, 2**64 - 1, b"z" * LIMIT),
+            frame(GET, 2**64 - 1),
+            frame(FORGET, 1),
+            frame(FORGET, 1),
+            frame(GET, 1),
+            frame(PUT, 3, crlf),
+            frame(GET, 3),
+        ]
+        answered = [
+            frame(DONE, 1),
+            frame(REFUSED_ID, 1),
+            frame(DONE, 1, b"abc"),
+            frame(REFUSED_ID, 2),
+            frame(DONE, 2**64 - 1),
+            frame(DONE, 2**64 - 1, b"z" * LIMIT),
+            frame(DONE, 1),
+            frame(REFUSED_ID, 1),
+            frame(REFUSED_ID, 1),
+            frame(DONE, 3),
+            frame(DONE, 3, crlf),
+        ]
+        self.assertTrue(talk(gateway, *asked) == b"".join(answered), "a conversation")
+        for wrong in (
+            frame(4, 1),
+            frame(0, 1),
+            frame(PUT, 1),
+            frame(PUT, 1, length=LIMIT + 1),
+            frame(PUT, 1, b"z" * (LIMIT + 1)),
+            frame(GET, 1, b"x"),
+            frame(FORGET, 1, b"x"),
+            frame(PUT, 1, b"abc")[:-1],
+            b"\x01",
+            frame(GET, 1)[:-1],
+        ):
+            self.assertTrue(unanswered(gateway, wrong), f"{wrong[:16]!r} is answered")
+        numbers = range(1, KEPT + 2)
+        self.assertTrue(
+            talk(gateway, *[frame(PUT, n, b"%d" % n) for n in numbers], *[frame(GET, n) for n in numbers])
+            == b"".join([frame(DONE, n) for n in numbers] + [frame(DONE, n, b"%d" % n) for n in numbers]),
+            "1025 parcels",
+        )
+        self.assertTrue(gateway.end() == (0, b"", b""), "a gateway whose clients have gone")
+
+    def example(self, address: str) -> None:
+        """Gateway and client, as the package's page starts them, but for the ports."""
+        page = (ROOT / "python/README.md").read_text()
+        self.assertTrue("\nbpfagent-redis --port 7070 --redis 127.0.0.1:6379\n" in page, "the page starts the gateway otherwise")
+        with socket.create_server(("127.0.0.1", 0)) as listener:
+            port = listener.getsockname()[1]
+        gateway = Gateway(address, "--port", str(port))
+        self.assertTrue(gateway.port == port, "the port that is asked for")
+        texts = ["hello", "é" * 1000]
+        done = subprocess.run([*CLIENT, str(gateway.port), *texts], capture_output=True, timeout=SECONDS)
+        lines = [f"{k} {len(text.encode())} {hashlib.sha256(text.encode()).hexdigest()}" for k, text in enumerate(texts, 1)]
+        self.assertTrue(done.returncode == 0 and done.stdout.decode().splitlines() == lines, f"the example ended with {done}")
+        self.assertTrue(gateway.end() == (0, b"", b""), "the gateway of the example")
+
+    def test_keys(self) -> None:
+        """Two clients at once have keys of their own, which are gone when they are; so they are when the gateway ends."""
+        redis = Redis()
+        gateway = Gateway(redis.address, "--prefix", "far/")
+        one, two = Store(gateway.port), Store(gateway.port)
+        first, second = kept(one, b"one"), kept(two, b"two")
+        self.assertTrue((first[0], second[0]) == (1, 1) and one.get(*first) == b"one" and two.get(*second) == b"two", "two clients with one id")
+        self.assertTrue(
+            sorted(redis.kept.values()) == [b"one", b"two"] and all(key.startswith(b"far/") and key.endswith(b":1") for key in redis.kept),
+            f"the keys {redis.kept}",
+        )
+        two.put(b"more")
+        two.forget(2)
+        one.close()
+        eventually(lambda: list(redis.kept.values()) == [b"two"], f"the keys of a client that has gone: {redis.kept}")
+        self.assertTrue(gateway.end() == (0, b"", b"") and redis.kept == {}, f"the keys of a gateway that has ended: {redis.kept}")
+        gone = [words[1] for words in redis.heard if words[0] == b"DEL"]
+        self.assertTrue(len(gone) == len(set(gone)) == 3, f"what was deleted: {gone}")
+        two.close()
+        redis.end()
+
+    def test_faults(self) -> None:
+        """A Redis that is full or answers nonsense: the request is answered 2, the next is served. One that lies is found out."""
+        redis = Redis()
+        gateway = Gateway(redis.address)
+        store = Store(gateway.port)
+        number, digest = kept(store, b"abc")
+        full = b"-OOM command not allowed when used memory > 'maxmemory'.\r\n"
+        for reply in (
+            full,
+            b"",
+            b"+OK",
+            b"hello\r\n",
+            b"$3\r\nab",
+            b"$x\r\n",
+            b":1\r\n",
+            b"-MOVED 1\r\n",
+            b"-MOVED 7 127.0.0.1:x\r\n",
+            b"$65537\r\n" + bytes(LIMIT + 1) + b"\r\n",
+            b"$1000000000000\r\n",
+            b"$9223372036854775807\r\n",
+            b"$-2\r\n",
+        ):
+            redis.instead.append(reply)
+            self.assertTrue(store.ask(GET, number) == (NO_ROOM, b""), f"a get while Redis answers {reply[:20]!r}")
+            self.assertTrue(store.get(number, digest) == b"abc", f"a get after Redis answered {reply[:20]!r}")
+        redis.instead.append(full)
+        self.assertTrue(store.put(b"more")[0] is None and store.put(b"more")[0] == 3, "a put while Redis is full, and after")
+        redis.instead.append(b"$3\r\nabd\r\n")
+        self.assertTrue(store.get(number, digest) is None and store.get(number, digest) == b"abc", "a lie, and what is asked again")
+        redis.kept.clear()
+        self.assertTrue(store.get(number, digest) is None and store.ask(FORGET, number) == (REFUSED_ID, b""), "a parcel that Redis has lost")
+        store.close()
+        status, _, errors = gateway.end()
+        self.assertTrue(status == 0 and errors.count(b"redis: ") == 28 and errors.count(b" again\n") == 14, f"what was said of faults: {errors!r}")
+        redis.end()
+
+    def test_absence(self) -> None:
+        """Redis goes away and comes back with what it kept, which is said once each, however often it is asked. A client that goes
+        meanwhile leaves its keys."""
+        redis = Redis()
+        gateway = Gateway(redis.address)
+        store = Store(gateway.port)
+        number, digest = kept(store, b"abc")
+        redis.end()
+        self.assertTrue(store.ask(PUT, 2, b"x") == (NO_ROOM, b"") and all(store.ask(GET, number) == (NO_ROOM, b"") for _ in range(100)), "a Redis that is away")
+        back = Redis(redis.server_address[1])
+        back.kept = redis.kept
+        self.assertTrue(store.get(number, digest) == b"abc" and store.ask(PUT, 3, b"y") == (DONE, b""), "a Redis that is back")
+        back.end()
+        store.close()
+        status, _, errors = gateway.end()
+        said = [re.sub("reached: .*", "reached: why", line) for line in errors.decode().splitlines()]
+        gone, again = "redis: can't be reached: why", "redis: can be reached again"
+        self.assertTrue(
+            (status, said) == (0, [gone, again, gone]) and sorted(back.kept.values()) == [b"abc", b"y"],
+            f"keys that couldn't be deleted, and what was said: {errors!r}",
+        )
+
+    def test_start(self) -> None:
+        """Before the gateway says that it listens, it has tried to reach Redis, and says if that failed. Wrong arguments get a usage."""
+        redis = Redis()
+        gateway = Gateway(redis.address)
+        self.assertTrue([words[0] for words in redis.heard] == [b"PING"], f"what Redis heard before the gateway listens: {redis.heard}")
+        self.assertTrue(gateway.end() == (0, b"", b""), "a gateway without clients")
+        redis.end()
+        process = subprocess.run(
+            [*GATEWAY, "--redis", redis.address], stdin=subprocess.DEVNULL, stdout=subprocess.PIPE, stderr=subprocess.STDOUT, text=True, timeout=SECONDS
+        )
+        lines = process.stdout.splitlines()
+        self.assertTrue(
+            process.returncode == 0 and len(lines) == 2 and lines[0].startswith("redis: can't be reached: ") and lines[1].startswith("listening "),
+            f"a gateway whose Redis is away says {lines}",
+        )
+        closed = subprocess.run(["sh", "-c", 'exec "$@" <&-', "sh", *GATEWAY, "--redis", "127.0.0.1:1"], capture_output=True, text=True, timeout=SECONDS)
+        self.assertTrue(
+            closed.returncode == 0 and closed.stdout.startswith("listening ") and closed.stderr == "redis: can't be reached: 127.0.0.1:1: Connection refused\n",
+            f"a gateway without an input says {closed}",
+        )
+        version = subprocess.run([*GATEWAY, "--version"], stdin=subprocess.DEVNULL, capture_output=True, text=True, timeout=SECONDS)
+        self.assertTrue((version.returncode, version.stdout) == (0, f"bpfagent-redis {__version__}\n"), f"the version: {version}")
+        for words in (["--redis", "x"], ["--redis", "127.0.0.1:0"], ["--port", "65536"], ["--port", "x"], ["x"]):
+            wrong = subprocess.run([*GATEWAY, *words], stdin=subprocess.DEVNULL, capture_output=True, text=True, timeout=SECONDS)
+            self.assertTrue(
+                (wrong.returncode, wrong.stdout) == (2, "") and wrong.stderr.startswith("usage: bpfagent-redis "), f"wrong arguments of the gateway: {wrong}"
+            )
+        with socket.create_server(("127.0.0.1", 0)) as taken:
+            wrong = subprocess.run([*GATEWAY, "--port", str(taken.getsockname()[1])], stdin=subprocess.DEVNULL, capture_output=True, text=True, timeout=SECONDS)
+        self.assertTrue(
+            (wrong.returncode, wrong.stdout) == (1, "") and re.fullmatch(r"bpfagent-redis: port \d+: Address already in use\n", wrong.stderr),
+            f"a port that is taken: {wrong}",
+        )
+
+    def test_signals(self) -> None:
+        """SIGINT and SIGTERM end the gateway as the end of its input does, and its clients' keys are deleted."""
+        for number in (signal.SIGINT, signal.SIGTERM):
+            redis = Redis()
+            gateway = Gateway(redis.address)
+            store = Store(gateway.port)
+            self.assertTrue(store.put(b"abc")[0] == 1 and len(redis.kept) == 1, "a parcel before the signal")
+            gateway.process.send_signal(number)
+            self.assertTrue(gateway.process.wait(timeout=SECONDS) == 0, f"a gateway that gets {number.name}")
+            eventually(lambda: redis.kept == {}, f"keys of a gateway that got {number.name}")
+            self.assertTrue(gateway.end() == (0, b"", b""), f"what a gateway says that gets {number.name}")
+            store.close()
+            redis.end()
+
+    def test_idleness(self) -> None:
+        """A gateway that nobody asks sleeps, with a client and without."""
+        redis = Redis()
+        gateway = Gateway(redis.address)
+        store: Optional[Store] = None
+        for store in (None, Store(gateway.port)):
+            if store:
+                store.put(b"abc")
+            time.sleep(0.1)
+            before = wakings(gateway.process)
+            time.sleep(0.5)
+            self.assertTrue(wakings(gateway.process) - before <= 2, f"an idle gateway wakes up {wakings(gateway.process) - before} times in half a second")
+        assert store
+        store.close()
+        self.assertTrue(gateway.end() == (0, b"", b""), "an idle gateway")
+        redis.end()
+
+    def test_redirections(self) -> None:
+        """A cluster of two: the one sends its clients to the other, for good or while a key is on its way."""
+        near, far = Redis(), Redis()
+        gateway = Gateway(near.address)
+        store = Store(gateway.port)
+        moved, asking = f"-MOVED 3999 {far.address}\r\n".encode(), f"-ASK 3999 :{far.server_address[1]}\r\n".encode()
+        near.instead += [moved, asking, moved]
+        number, digest = kept(store, b"abc")
+        self.assertTrue(store.get(number, digest) == b"abc" and list(far.kept.values()) == [b"abc"] and near.kept == {}, "what is kept by the other")
+        self.assertTrue([words[0] for words in far.heard] == [b"SET", b"ASKING", b"GET"], f"what the other heard: {far.heard}")
+        far.instead += [moved] * 9
+        self.assertTrue(store.ask(GET, number) == (NO_ROOM, b""), "redirections without end")
+        store.close()
+        self.assertTrue(gateway.end()[0] == 0, "the gateway of a cluster")
+        near.end()
+        far.end()
+
+    def test_service(self) -> None:
+        """An object of `bpfagent serve` that leaves is in Redis, and comes home; where Redis gives other bytes it stays away until it
+        gives the right ones."""
+        redis, held = Redis(), bytes(range(8))
+        gateway = Gateway(redis.address)
+        service = Service(PROGRAM, "--far", f"127.0.0.1:{gateway.port}", "--workers", 0, setup=["make 8", f"put 1 0 {held.hex()}"])
+        client = Client(service)
+        self.assertTrue(client.ask("leave 1") == "asked 1", "a request to the mover")
+        eventually(lambda: list(redis.kept.values()) == [held], f"the object is in Redis: {redis.kept}")
+        redis.instead += [b"$8\r\nabcdefgh\r\n", b"-OOM\r\n"]
+        self.assertTrue(client.ask("get 1 0 8") == "away 1", "an object that is away")
+        self.assertTrue(
+            client.ask_until("get 1 0 8", "bytes", pause=0.001) == f"bytes {held.hex()}" and redis.instead == [], "the object that came home at the third time"
+        )
+        eventually(lambda: redis.kept == {}, f"what is in Redis of an object that is home: {redis.kept}")
+        away(client, f"bytes {held.hex()}")  # type: ignore[no-untyped-call]
+        client.ask_until("get 1 0 8", "bytes", pause=0.001)
+        self.assertTrue(client.end() == "" and service.ends_with([object_line(1, held)]), "the end of a service over the gateway")
+        self.assertTrue(gateway.end()[0] == 0 and redis.kept == {}, "the gateway of a service")
+        redis.end()
+
+    @unittest.skipUnless(shutil.which("redis-server"), "needs redis-server")
+    def test_redis(self) -> None:
+        """The frames and the example over Redis itself."""
+        with socket.create_server(("127.0.0.1", 0)) as listener:
+            port = listener.getsockname()[1]
+        with tempfile.TemporaryDirectory() as folder:
+            process = subprocess.Popen(
+                ["redis-server", "--port", str(port), "--bind", "127.0.0.1", "--save", "", "--appendonly", "no", "--dir", folder], stdout=subprocess.DEVNULL
+            )
+            try:
+                eventually(lambda: is_listening(port), "redis-server listens")
+                self.frames(f"127.0.0.1:{port}")
+                self.example(f"127.0.0.1:{port}")
+                with socket.create_connection(("127.0.0.1", port)) as stream:
+                    stream.sendall(b"*1\r\n$6\r\nDBSIZE\r\n")
+                    self.assertTrue(stream.recv(100) == b":0\r\n", "keys that are left in Redis")
+            finally:
+                process.terminate()
+                process.wait()
+
+
+if __name__ == "__main__":
+    unittest.main()

@@ -1,0 +1,112 @@
+#!/usr/bin/env python3
+"""Checks that documents are true of the repository as far as a script can see it: each link leads to a file and a heading,
+each file, each target of make and each option of a script that is named is there, each line of Rust that is quoted stands in the
+file that is named before it; the picture of the crates has each crate, with what it stands on by crates.txt. With --write the
+script draws it."""
+from __future__ import annotations
+
+import pathlib
+import re
+import sys
+from typing import Iterator, Sequence
+
+sys.path.insert(0, str(pathlib.Path(__file__).resolve().parents[1]))
+from lib.checks import report
+from lib.sources import ROOT, crates_below, crates, pages
+
+PICTURE = "docs/ARCHITECTURE.md"
+DRAWN = re.compile(r"(?ms)(^```mermaid\n).*?(?=^```)")
+FOR_TESTS = re.compile(r"_tests$|^test_devices$|^script_runner$|^bench_\w+$|^failing_allocations$")
+# A command of a page: of make, with its folder and its target, or of a script in Python, with its options.
+MAKE = re.compile(r"(?:`|^|&& )make (?:-C ([\w/]+) ?)?([a-z-]*)(?=`| +#|$)", re.M)
+SCRIPT = re.compile(r"python3 (?:-B )?([\w/]+\.py)((?: --[a-z]+(?=[ `\n]))*)")
+TARGET = re.compile(r"(?m)^([a-z-]+)(?: [a-z-]+)*:(?!=)")
+PATH = re.compile(r"`((?:crates|tests|docs|examples|bench|python|include)/[\w./-]+)`")
+
+
+def anchors(text: str) -> set[str]:
+    """The names by which the headings of a page can be linked."""
+    heads = re.findall(r"(?m)^#+ (.*)$", re.sub(r"(?ms)^```.*?^```", "", text))
+    return {re.sub(r"[^\w\- ]", "", head.lower()).replace(" ", "-") for head in heads}
+
+
+def wrong_links(page: pathlib.Path, text: str) -> Iterator[str]:
+    for target in re.findall(r"\]\(([^)\s]+)\)", text):
+        if "://" in target:
+            continue
+        file, _, anchor = target.partition("#")
+        path = (page.parent / file).resolve() if file else page
+        if not path.exists():
+            yield f"links to {target}, which isn't there"
+        elif anchor and anchor not in anchors(path.read_text()):
+            yield f"links to {target}, which has no such heading"
+
+
+def wrong_paths(text: str) -> Iterator[str]:
+    for named in PATH.findall(re.sub(r"(?ms)^```.*?^```", "", text)):
+        if "NAME" in named or "/out" in named or re.search(r"/(?:FILE|F)\b", named):
+            continue
+        if not (ROOT / named.rstrip("/")).exists():
+            yield f"names {named}, which isn't there"
+
+
+def wrong_commands(text: str) -> Iterator[str]:
+    """The targets of make, the scripts and their options that aren't there."""
+    for folder, target in MAKE.findall(text):
+        path = ROOT / folder / "Makefile"
+        if not path.is_file() or target and target not in TARGET.findall(path.read_text()):
+            yield f"names make {target}{f' in {folder}' if folder else ''}, which isn't there"
+    for script, options in SCRIPT.findall(text):
+        path = ROOT / script
+        said = path.read_text() if path.is_file() else ""
+        for word in [script, *options.split()]:
+            if not said or word.startswith("--") and word not in said:
+                yield f"has a command of {script} with {word}, which isn't there"
+
+
+def wrong_quotes(text: str) -> Iterator[str]:
+    """The lines of Rust that don't stand in the file that is named last before them."""
+    for found in re.finditer(r"(?ms)^```rust\n(.*?)^```", text):
+        named = [path for path in PATH.findall(text[: found.start()]) if path.endswith(".rt")]
+        source = " ".join((ROOT / named[-1]).read_text().split()) if named and (ROOT / named[-1]).is_file() else ""
+        for line in found[1].splitlines():
+            if line.strip() and " ".join(line.split()) not in source:
+                yield f"quotes {line.strip()!r}, which isn't in {named[-1] if named else 'any file'}"
+
+
+def edges(names: Sequence[str]) -> Iterator[tuple[str, str]]:
+    """What each crate stands on, by crates.txt, without what it stands on through another."""
+    known = crates()
+    direct = {name: [other for other in known[name] if other in names] for name in names}
+    for name in names:
+        through = {below for other in direct[name] for below in crates_below(other) if below != other}
+        yield from ((name, other) for other in direct[name] if other not in through)
+
+
+def picture() -> str:
+    """The crates that are no tests, each with what it stands on."""
+    names = [name for name in crates() if not FOR_TESTS.search(name)]
+    return "graph TD\n" + "".join(f"  {name} --> {other}\n" for name, other in sorted(edges(names)))
+
+
+def wrong_picture(is_written: bool) -> Iterator[str]:
+    path = ROOT / PICTURE
+    text = path.read_text()
+    wanted = DRAWN.sub(lambda found: found[1] + picture(), text)
+    if is_written:
+        path.write_text(wanted)
+    elif wanted != text or not DRAWN.search(text):
+        yield f"{PICTURE}: the picture isn't what crates.txt says: tests/form/documents.py --write makes it so"
+
+
+def main() -> None:
+    wrong = list(wrong_picture(sys.argv[1:] == ["--write"]))
+    for page in pages():
+        text = page.read_text()
+        said = [*wrong_links(page, text), *wrong_paths(text), *wrong_commands(text), *wrong_quotes(text)]
+        wrong += [f"{page.relative_to(ROOT)} {what}" for what in said]
+    report(wrong, f"links, files, commands, quotes, and the picture of the crates in {len(pages())} documents are right")
+
+
+if __name__ == "__main__":
+    main()

@@ -1,0 +1,101 @@
+#!/usr/bin/env python3
+"""Checks that nothing lies in the repository that the gate would pass over: a folder of crates/ that isn't in crates.txt, a
+folder of edits of another name, a file that no `mod` leads to, a test that is left out, an edit that can't be made, a script
+or a part of one that nothing calls.
+"""
+from __future__ import annotations
+
+import pathlib
+import re
+import sys
+from typing import Iterator
+
+sys.path.insert(0, str(pathlib.Path(__file__).resolve().parents[1]))
+from lib.checks import report
+from lib.sources import ROOT, blanked, crates
+
+# What a crate's folder has: sources, statements, proofs, edits, and what a program is run on. Scripts that write sources, too.
+PARTS = {"src", "specs", "proofs", "must-fail", "edits", "data", "args", "stdin", "stdout", "status", "out", "__pycache__"}
+ROOMS = ("must-fail", "edits")
+# How many edits the gate tries at most; the others lie in edits/.
+MOST = 150
+# What calls the scripts of tests/.
+CALLERS = ("Makefile", "tests/lib/calls.py")
+
+
+def edits_in(room: str) -> list[pathlib.Path]:
+    return sorted((ROOT / "crates").glob(f"*/{room}/*.edit"))
+
+
+def edits() -> int:
+    """How many edits `rt ci` has to refuse."""
+    return len(edits_in("must-fail"))
+
+
+def strays() -> Iterator[str]:
+    """What the gate would pass over."""
+    named = crates()
+    for folder in sorted(path for path in (ROOT / "crates").iterdir() if path.is_dir()):
+        if folder.name not in named:
+            yield f"crates/{folder.name} isn't in crates.txt"
+        for part in sorted(folder.iterdir()):
+            if part.name not in PARTS and part.suffix != ".py":
+                yield f"crates/{folder.name}/{part.name} is nothing that the gate knows"
+        for path in sorted(path for room in ROOMS for path in (folder / room).glob("*")):
+            if path.name != "TRIED" and (path.suffix != ".edit" or "\nnew:" not in path.read_text()):
+                yield f"{path.relative_to(ROOT)} is no edit"
+    if edits() > MOST:
+        yield f"there are {edits()} edits in must-fail/, and the gate takes {MOST}: those that show least go to crates/NAME/edits/"
+
+
+def unread() -> Iterator[str]:
+    """The files that no `mod` leads to, and what is compiled for other than tests alone."""
+    for crate in sorted(crates()):
+        src = ROOT / "crates" / crate / "src"
+        found = [path for path in (src / "lib.rt", src / "main.rt") if path.is_file()]
+        for path in found:
+            code = blanked(path.read_text())
+            below = src if path.parent == src and path.stem in ("lib", "main") else path.parent if path.stem == "mod" else path.with_suffix("")
+            named = re.findall(r"(?m)^\s*(?:pub(?:\([^)]*\))? )?mod (\w+);", code)
+            found += [file for name in named for file in (below / f"{name}.rt", below / name / "mod.rt") if file.is_file() and file not in found]
+            yield from (f"{path.relative_to(ROOT)} has {other}, which may leave out a test" for other in re.findall(r"#!?\s*\[\s*cfg[^\]]*\]", code) if other != "#[cfg(test)]")
+        yield from (f"{path.relative_to(ROOT)} is in no `mod` of its crate" for path in sorted(src.rglob("*.rt")) if path not in found)
+
+
+def uncalled() -> Iterator[str]:
+    """The functions of scripts that are named nowhere but where they stand, and the scripts that nothing calls."""
+    texts = {path: path.read_text() for path in sorted((ROOT / "tests").rglob("*.py"))}
+    everything, calls = "\n".join(texts.values()), "\n".join((ROOT / name).read_text() for name in CALLERS)
+    for path, text in texts.items():
+        for name in re.findall(r"(?m)^def (\w+)", text):
+            if len(re.findall(rf"\b{name}\b", text)) < 2 and not re.search(rf"(?m)^from (?:\w+\.)?{path.stem} import .*\b{name}\b|\b{path.stem}\.{name}\b", everything):
+                yield f"{path.relative_to(ROOT)}: nothing calls {name}"
+        if path.parent.name in ("form", "product") and not re.search(rf'{path.parent.name}/{path.name}|"{path.stem}"', calls):
+            yield f"{path.relative_to(ROOT)} is called by none of {', '.join(CALLERS)}"
+
+
+def misfits() -> Iterator[str]:
+    """The edits that can't be made: of a file that isn't there, or of a text that doesn't stand there once."""
+    for edit in [*edits_in("must-fail"), *edits_in("edits")]:
+        texts: dict[pathlib.Path, str] = {}
+        path, old = ROOT, None
+        for line in edit.read_text().split("\n"):
+            if line.startswith("file: "):
+                path = edit.parent.parent / line[6:].strip()
+                if path.is_file():
+                    texts.setdefault(path, path.read_text())
+            elif line.startswith("old: "):
+                old = line[5:]
+            elif line.startswith("new:") and old is not None:
+                if texts.get(path, "").count(old) != 1:
+                    yield f"{edit.relative_to(ROOT)}: {old!r} stands {texts.get(path, '').count(old)} times in {path}"
+                texts[path] = texts.get(path, "").replace(old, line[4:].removeprefix(" "))
+
+
+def main() -> None:
+    wrong = [*strays(), *unread(), *uncalled(), *misfits()]
+    report(wrong, f"all files of the {len(crates())} crates are read; {edits()} edits in must-fail/ and {len(edits_in('edits'))} in edits/ can be made")
+
+
+if __name__ == "__main__":
+    main()

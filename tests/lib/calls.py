@@ -1,0 +1,94 @@
+"""What `make test` and `make prove` run over the program. A line is a call; a new script gets a line in TEST or ALONE, and in PROVE.
+
+PROGRAM is the program: that of `make try` in TEST and ALONE, the proved one in PROVE. BOTH is the program of LLVM and that of
+Rattle's own compiler, one after the other. RT is the toolchain's command.
+"""
+from __future__ import annotations
+
+import os
+import pathlib
+import subprocess
+import sys
+import time
+from dataclasses import dataclass
+
+from lib.sources import ROOT
+
+FORM = [f"tests/form/{name}.py" for name in ("protocol", "definitions", "generated", "failures", "documents", "kinds", "listed", "planted")]
+
+# Side by side, the longest first.
+TEST = [
+    "tests/product/python_package.py PROGRAM",
+    "tests/product/program.py PROGRAM",
+    "tests/product/sweep.py PROGRAM --thin",
+    "tests/product/store.py PROGRAM",
+    "tests/product/deploy.py PROGRAM",
+    "tests/product/header.py",
+    "tests/product/manual.py PROGRAM",
+    "tests/product/verbose.py PROGRAM",
+]
+
+# After the others, one by one, since they look at how long something takes.
+ALONE = [
+    "tests/product/service.py PROGRAM",
+    "tests/product/waiting.py PROGRAM",
+    "tests/product/silence.py PROGRAM",
+    "tests/product/python_package.py PROGRAM test_fleet",
+]
+
+# One by one.
+PROVE = [
+    "tests/product/program.py BOTH",
+    "tests/product/store.py BOTH",
+    "tests/product/service.py BOTH",
+    "tests/product/waiting.py PROGRAM",
+    "tests/product/silence.py PROGRAM",
+    "tests/form/generated.py --vectors",
+    "tests/product/python_package.py PROGRAM",
+    "tests/product/python_package.py PROGRAM test_fleet",
+    "tests/product/deploy.py PROGRAM",
+    "tests/product/manual.py PROGRAM",
+    "tests/product/verbose.py PROGRAM",
+    "tests/product/sweep.py PROGRAM",
+    "tests/product/refusals.py RT",
+    "tests/product/header.py",
+    "tests/product/embed.py RT",
+    "tests/product/consumer.py RT PROGRAM",
+    "tools/build.py RT stamp",
+    "tests/product/targets.py RT",
+]
+
+
+@dataclass
+class Done:
+    """What a call came to: of a script one passed or failed, of a crate its tests."""
+
+    name: str
+    passed: int
+    failed: int
+    output: str
+    seconds: float
+
+
+def jobs(memory: int) -> int:
+    """How many programs that take so many bytes of memory run side by side, each on one processor."""
+    there = os.sysconf("SC_PAGE_SIZE") * os.sysconf("SC_PHYS_PAGES")
+    return max(1, min(len(os.sched_getaffinity(0)), there // memory))
+
+
+def call(name: str, words: list[str], folder: pathlib.Path = ROOT, seconds: float | None = None) -> Done:
+    """Calls a command, and waits until it ends."""
+    start = time.monotonic()
+    try:
+        done = subprocess.run(words, cwd=folder, stdin=subprocess.DEVNULL, stdout=subprocess.PIPE, stderr=subprocess.STDOUT, text=True, errors="replace", timeout=seconds)
+        passed, output = int(done.returncode == 0), done.stdout.rstrip()
+    except subprocess.TimeoutExpired as slow:
+        said = slow.output.decode(errors="replace") if isinstance(slow.output, bytes) else slow.output or ""
+        passed, output = 0, f"{said}\nit hadn't ended after {seconds:.0f} seconds"
+    return Done(name, passed, 1 - passed, output, time.monotonic() - start)
+
+
+def call_script(line: str, rt: str, program: str, seconds: float | None = None) -> Done:
+    """Calls a script of the lists above."""
+    words = [{"BOTH": program, "PROGRAM": program, "RT": rt}.get(word, word) for word in line.split()]
+    return call(" ".join(words), [sys.executable, *words], seconds=seconds)

@@ -1,0 +1,229 @@
+"""Starts and stops the program, for the tests of the product."""
+from __future__ import annotations
+
+import datetime
+import functools
+import hashlib
+import pathlib
+import re
+import resource
+import socket
+import subprocess
+import time
+from types import TracebackType
+from typing import Any, Callable, Iterable, Mapping, Sequence
+
+from lib.checks import Failed, want
+
+# How long a program, or one answer of it, may take, in seconds.
+SECONDS = 60
+LOOKS = 10_000
+# How much slower a program of `make try` is taken to be: it has run-time checks and isn't optimized.
+SLOWER = 20
+# What the stack of a thread takes where there are to be few of them: more than all else that a thread takes.
+STACK = 1 << 30
+LISTENING = re.compile(r"listening (\d+)\n")
+# A line that a server writes with `-v`.
+NOTED = re.compile(r"(\d{4}-\d{2}-\d{2}T\d{2}:\d{2}:\d{2}\.\d{3})Z (.*)")
+
+
+@functools.lru_cache(maxsize=None)
+def has_checks(program: str | pathlib.Path) -> bool:
+    """Whether it is a program of `make try`, which has run-time checks, is slow and takes much memory."""
+    return b"AddressSanitizer" in pathlib.Path(program).read_bytes()
+
+
+def patience(program: str | pathlib.Path) -> int:
+    """By how much the time limits of this program are multiplied."""
+    return SLOWER if has_checks(program) else 1
+
+
+def run(*words: object, seconds: float = 900, **how: Any) -> str:
+    """What a command writes that has to end well."""
+    said = [str(word) for word in words]
+    done = subprocess.run(said, stdin=subprocess.DEVNULL, stdout=subprocess.PIPE, stderr=subprocess.STDOUT, text=True, errors="replace", timeout=seconds, **how)
+    want(done.returncode == 0, f"{' '.join(said)} ended with {done.returncode}: {done.stdout.strip()[-2000:]}")
+    return done.stdout.strip()
+
+
+def ended(*command: object, given: bytes = b"", seconds: float = SECONDS, limits: Mapping[int, int] | None = None, **how: Any) -> tuple[int, bytes, bytes]:
+    """The status, standard output and standard error of a program that has this input, or the streams that are named."""
+    if "stdin" not in how:
+        how["input"] = given
+    how.setdefault("stdout", subprocess.PIPE)
+    done = subprocess.run([word if isinstance(word, bytes) else str(word) for word in command], stderr=subprocess.PIPE, timeout=seconds, preexec_fn=limited_to(limits), **how)
+    return done.returncode, done.stdout or b"", done.stderr
+
+
+def limited_to(limits: Mapping[int, int] | None) -> Callable[[], None] | None:
+    """Limits a child process, each resource by its number, where there are limits."""
+
+    def limit() -> None:
+        for kind, most in (limits or {}).items():
+            resource.setrlimit(kind, (most, resource.getrlimit(kind)[1]))
+
+    return limit if limits else None
+
+
+def of_data(program: str, data: int) -> dict[int, int]:
+    """The limit of so many bytes of data; a program with run-time checks is left alone."""
+    return {} if has_checks(program) else {resource.RLIMIT_DATA: data}
+
+
+def size_of(pid: int | str, field: str) -> int:
+    """How many bytes of this kind a process has, by its status."""
+    return int(re.search(rf"{field}:\s*(\d+) kB", pathlib.Path(f"/proc/{pid}/status").read_text())[1]) << 10
+
+
+def room_for(program: str, threads: int) -> dict[int, int]:
+    """Limits under which so many threads have room for their stacks, and no more, beside what the program takes that starts none."""
+    with Process(program, "run") as process:
+        process.answer(b"step 1\n")
+        size = size_of(process.process.pid, "VmSize")
+    return {resource.RLIMIT_STACK: STACK, resource.RLIMIT_AS: size + threads * STACK + STACK // 2}
+
+
+def is_heard(host: str, port: int) -> bool:
+    """Whether somebody listens on this port of an address."""
+    try:
+        socket.create_connection((host, port), timeout=SECONDS).close()
+    except OSError:
+        return False
+    return True
+
+
+class Process:
+    """A program that was started with pipes. Leaving its block kills it where it hasn't ended."""
+
+    def __init__(self, *command: object, limits: Mapping[int, int] | None = None) -> None:
+        pipe = subprocess.PIPE
+        self.process = subprocess.Popen([str(word) for word in command], stdin=pipe, stdout=pipe, stderr=pipe, preexec_fn=limited_to(limits))
+
+    def __enter__(self) -> Process:
+        return self
+
+    def __exit__(self, kind: type[BaseException] | None, error: BaseException | None, trace: TracebackType | None) -> None:
+        self.process.kill()
+        self.process.communicate()
+
+    def hear_port(self) -> tuple[list[str], int | None]:
+        """The lines before `listening P`, and P; no port where it ends before."""
+        told: list[str] = []
+        while line := self.process.stdout.readline().decode():
+            if found := LISTENING.fullmatch(line):
+                return told, int(found[1])
+            told.append(line.rstrip("\n"))
+        return told, None
+
+    def answer(self, line: bytes) -> bytes:
+        """The line that comes when it has this one."""
+        self.process.stdin.write(line)
+        self.process.stdin.flush()
+        return self.process.stdout.readline()
+
+    def end(self) -> tuple[int, bytes, bytes]:
+        """Its input ends: the status, the rest of its output, and standard error."""
+        output, errors = self.process.communicate(timeout=SECONDS)
+        return self.process.returncode, output, errors
+
+
+class Server(Process):
+    """A server of far memory, `bpfagent store` or another, listening."""
+
+    def __init__(self, program: object, *arguments: object, limits: Mapping[int, int] | None = None) -> None:
+        super().__init__(program, "store", *arguments, limits=limits)
+        _, self.port = self.hear_port()
+
+    def connect(self) -> socket.socket:
+        return socket.create_connection(("127.0.0.1", self.port), timeout=SECONDS)
+
+
+class Service(Process):
+    """`bpfagent serve`, listening after these commands of its input."""
+
+    def __init__(self, program: object, *arguments: object, setup: Iterable[str] = (), limits: Mapping[int, int] | None = None) -> None:
+        super().__init__(program, "serve", *arguments, limits=limits)
+        self.process.stdin.write("".join(f"{command}\n" for command in setup).encode())
+        self.process.stdin.close()
+        # `communicate` flushes an input that isn't there any more.
+        self.process.stdin = None
+        self.told, self.port = self.hear_port()
+
+    def texts(self) -> tuple[int, str, str]:
+        """When it has ended: the status, the rest of its output, and standard error."""
+        status, output, errors = self.end()
+        return status, output.decode(), errors.decode()
+
+    def ends_with(self, lines: Iterable[str]) -> bool:
+        """Whether it ended by itself, and said that it closed, and then these lines."""
+        return self.texts() == (0, "".join(f"{line}\n" for line in ["closed", *lines]), "")
+
+    def ends_well(self, objects: Mapping[int, bytes] | None = None, machines: Sequence[str] = (), may_be_out: bool = False) -> bool:
+        """Whether it ended by itself, and left these objects, by number, and machines, by their `regs` lines. Where the mover
+        was asked for an object it may still have taken it away."""
+        objects = objects or {}
+        status, output, errors = self.texts()
+        said, lines = output.splitlines(), [object_line(number, held) for number, held in objects.items()]
+        if may_be_out and len(said) > len(lines):
+            lines = [out if found == out else line for line, found, out in zip(lines, said[1:], [f"object {number} out" for number in objects])]
+        return status == 0 and errors == "" and output.endswith("\n") and said == ["closed", *lines, *machines]
+
+
+class Client:
+    """A connection to a service that is asked line by line."""
+
+    def __init__(self, service: Service) -> None:
+        self.stream = socket.create_connection(("127.0.0.1", service.port), timeout=SECONDS)
+        self.replies = self.stream.makefile("r", newline="\n")
+
+    def ask(self, command: str) -> str:
+        self.stream.sendall(f"{command}\n".encode())
+        return self.replies.readline().rstrip("\n")
+
+    def ask_at_once(self, commands: Sequence[str]) -> list[str]:
+        """The replies to commands that are sent together."""
+        self.stream.sendall("".join(f"{command}\n" for command in commands).encode())
+        return [self.replies.readline().rstrip("\n") for _ in commands]
+
+    def ask_until(self, command: str, wanted: str, looks: int = LOOKS, pause: float = 0.0) -> str:
+        """The first reply that begins so, of so many at most, with a pause before each."""
+        reply = ""
+        for _ in range(looks):
+            time.sleep(pause)
+            reply = self.ask(command)
+            if reply.startswith(wanted):
+                return reply
+        raise Failed(f"{command} is answered {reply}, and not {wanted}")
+
+    def end(self) -> str:
+        """Says that nothing more comes, and gives what it still hears."""
+        self.stream.shutdown(socket.SHUT_WR)
+        rest = self.replies.read()
+        self.stream.close()
+        return rest
+
+
+def opened(program: str, *arguments: object, setup: Iterable[str] = ()) -> tuple[Service, Client]:
+    """A service after these commands of its input, and a client of it."""
+    service = Service(program, *arguments, setup=setup)
+    return service, Client(service)
+
+
+def object_line(number: int, held: bytes) -> str:
+    """How a service tells of an object with these bytes when it has closed."""
+    return f"object {number} {len(held)} {hashlib.sha256(held).hexdigest()}"
+
+
+def noted(errors: bytes) -> tuple[list[str], list[str]]:
+    """Of what a server writes to standard error with `-v` the lines with the time, which is now, without it; and the other lines."""
+    notes: list[str] = []
+    others: list[str] = []
+    for line in errors.decode().splitlines():
+        found = NOTED.fullmatch(line)
+        if not found:
+            others.append(line)
+            continue
+        age = datetime.datetime.now(datetime.timezone.utc) - datetime.datetime.fromisoformat(f"{found[1]}+00:00")
+        want(0 <= age.total_seconds() < SECONDS, f"the time of {line}")
+        notes.append(found[2])
+    return notes, others

@@ -1,0 +1,212 @@
+#!/usr/bin/env python3
+"""The header of the library for C is what the sources say: header.py
+
+The exports of crates/bpfagent_c and what include/bpfagent.h declares have to be alike: names, parameters, results, the fields of
+structs, each number of each enum, the version. Its table of answers and the calls in examples/embed/ have to be alike. Then the
+header is compiled as C and as C++, where there is a compiler, with all warnings as errors.
+"""
+from __future__ import annotations
+
+import pathlib
+import re
+import shutil
+import sys
+import tempfile
+from typing import Iterator
+
+sys.path.insert(0, str(pathlib.Path(__file__).resolve().parents[1]))
+from lib.checks import run_parts, want, want_equal
+from lib.programs import run
+from lib.sources import ROOT, uncommented
+
+CRATE = ROOT / "crates/bpfagent_c"
+HEADER = ROOT / "include/bpfagent.h"
+TEXT = re.sub(r"(?s)/\*.*?\*/", "", HEADER.read_text())
+WARNINGS = ["-Wall", "-Wextra", "-Wpedantic", "-Werror"]
+
+# What is passed in C for a parameter of these types.
+STRUCTS = {"Agent": "bpfagent", "End": "bpfagent_end", "Registers": "bpfagent_registers", "Refusal": "bpfagent_refusal", "Granted": "bpfagent_grant", "Parcel": "bpfagent_parcel", "WrongLine": "bpfagent_wrong_line"}
+WORDS = {"u8": "uint8_t", "u32": "uint32_t", "u64": "uint64_t", "usize": "size_t", "bool": "bool", **STRUCTS}
+
+# Where the numbers of each enum stand: in a constant of src/codes.rt, or in an arm of one of its functions.
+REPLIES = {
+    "OK": "OK", "RAN": "code_of_reply Ran", "HIT": "code_of_reply Hit", "WAITING": "code_of_reply Waiting", "PAUSED": "code_of_reply Paused",
+    "STOPPED": "code_of_reply Stopped", "NOMEM": "code_of_reply NoMemory", "FULL": "code_of_reply Full", "NOROOM": "code_of_reply NoRoom",
+    "OUTSIDE": "code_of_reply Outside", "AWAY": "code_of_reply Away", "IS_HERE": "code_of_place Here", "IS_LEAVING": "code_of_place Leaving",
+    "IS_FAR": "code_of_place Far", "IS_RETURNING": "code_of_place Returning", "SCOPED": "code_of_reply Scoped", "FAULT_HERE": "code_of_fault Here",
+    "FAULT_FAR": "code_of_fault _", "NOSLOT": "code_of_reply NoSlot", "NOWATCH": "code_of_reply NoWatch", "NOTPAUSED": "code_of_reply NotPaused",
+    "REFUSED": "code_of_reply Refused", "NONE": "code_of_reply Missing", "DAMAGED": "DAMAGED", "SHORT": "SHORT", "NOAGENT": "NO_AGENT", "BAD": "BAD",
+}
+STOPS = {
+    "GOES_ON": "stop_of_state _", "EXIT": "code_of_stop Exit", "STOP_OUTSIDE": "code_of_stop Outside", "MISALIGNED": "code_of_stop Misaligned",
+    "DEPTH": "code_of_stop Depth", "SPENT": "code_of_stop Spent", "WORN": "code_of_stop Worn", "NOT_GRANTED": "code_of_stop NotGranted",
+}
+STATES = {"RUNNING": "code_of_state Running", "IS_PAUSED": "code_of_state Paused", "IS_STOPPED": "code_of_state Stopped"}
+PLACES = {"HERE": "number_of_place Here", "LEAVING": "number_of_place Leaving", "FAR": "number_of_place Far", "RETURNING": "number_of_place Returning"}
+WRONG = {"WRONG_WORD": "number Word", "WRONG_OPERAND": "number Operand", "WRONG_RANGE": "number Range", "WRONG_LABEL": "number Label", "WRONG_TWICE_LABEL": "number TwiceLabel", "WRONG_TOO_LONG": "number TooLong"}
+ENUMS = {"bpfagent_reply": REPLIES, "bpfagent_stop": STOPS, "bpfagent_state": STATES, "bpfagent_place": PLACES, "bpfagent_wrong": WRONG}
+# Arms that say what another one says, or that pass the question on: none of them is a number of its own.
+SHARED = {"code_of_reply Misplaced", "code_of_reply Faulted", "code_of_reply _", "number Memory"}
+
+Signature = tuple[str, list[str]]
+
+
+# ---- functions and structs
+
+
+def passed(kind: str) -> list[str]:
+    """The types of C in which a parameter of this type is passed."""
+    slice_of = re.fullmatch(r"&(mut )?\[(\w+)\]", kind)
+    if slice_of:
+        return [("" if slice_of[1] else "const ") + WORDS[slice_of[2]] + " *", "size_t"]
+    lent = re.fullmatch(r"&mut (\w+)", kind)
+    if lent:
+        return [WORDS[lent[1]] + " *"]
+    return [] if kind == "Global" else [WORDS[kind]]
+
+
+def sources() -> str:
+    return "\n".join(uncommented(path.read_text()) for path in sorted((CRATE / "src").glob("*.rt")))
+
+
+def exports() -> dict[str, Signature]:
+    """Each export, with its result and its parameters as they are in C."""
+    found = {}
+    for name, taken, given in re.findall(r'pub extern "C" fn (\w+)\(([^)]*)\)(?: -> (\w+))?', sources()):
+        kinds = [one.split(":", 1)[1].strip() for one in taken.split(",") if one.strip()]
+        found[name] = (WORDS[given] if given else "void", [word for kind in kinds for word in passed(kind)] or ["void"])
+    return found
+
+
+def declared() -> dict[str, Signature]:
+    """Each function that the header declares, in the same form."""
+    found = re.findall(r"(?m)^(\w+) (bpfagent_\w+)\(([^)]*)\);", TEXT)
+    return {name: (given, [re.sub(r"(?<=[* ])\w+$", "", " ".join(one.split())).strip() for one in taken.split(",")]) for given, name, taken in found}
+
+
+def structs_of_crate() -> Iterator[tuple[str, list[tuple[str, str, str]]]]:
+    """Each struct that crosses, as in C. The handle's own fields are no matter of C."""
+    for name, body in re.findall(r"(?s)pub struct (\w+) \{(.*?)\n\}", sources()):
+        if name in STRUCTS and name != "Agent":
+            yield STRUCTS[name], [(field, WORDS[kind], count) for field, kind, count in re.findall(r"pub (\w+): \[?(\w+)(?:; (\d+)\])?,", body)]
+
+
+def structs_of_header() -> Iterator[tuple[str, list[tuple[str, str, str]]]]:
+    for body, name in re.findall(r"(?s)typedef struct \w+ \{(.*?)\n\} (\w+);", TEXT):
+        if name != STRUCTS["Agent"]:
+            yield name, [(field, kind, count) for kind, field, count in re.findall(r"(?m)^\s*(\w+) (\w+)(?:\[(\d+)\])?;", body)]
+
+
+def show_functions() -> str:
+    ours, theirs = exports(), declared()
+    for name in sorted({*ours, *theirs}):
+        want(ours.get(name) == theirs.get(name), f"{name}: the crate has {ours.get(name)}, the header {theirs.get(name)}")
+    want_equal(dict(structs_of_header()), dict(structs_of_crate()), "the structs of the header")
+    return f"{len(ours)} exports"
+
+
+# ---- numbers
+
+
+def arms(text: str) -> dict[str, int]:
+    """The number of each arm of each function, and of each constant."""
+    numbers = {name: int(number) for name, number in re.findall(r"const (\w+): u32 = (\d+);", text)}
+    for name, body in re.findall(r"(?s)fn (\w+)\([^)]*\)[^{]*(?:ensures[^\n]*\n)*\{(.*?)\n\s*\}\n\}", text):
+        for arm, value in re.findall(r"(?:\w+::)?(\w+)(?: \{ \.\. \}|\(\w+\))? => (\w+),", body):
+            if value in numbers or value.isdigit():
+                numbers[f"{name} {arm}"] = int(value) if value.isdigit() else numbers[value]
+    return numbers
+
+
+def declared_enums() -> dict[str, dict[str, int]]:
+    return {name: {one: int(number) for one, number in re.findall(r"BPFAGENT_(\w+) = (\d+)", body)} for name, body in re.findall(r"(?s)enum (bpfagent_\w+) \{(.*?)\}", TEXT)}
+
+
+def show_enums() -> str:
+    codes = arms(uncommented((CRATE / "src/codes.rt").read_text()))
+    why = uncommented((ROOT / "crates/asm_grammar/src/why.rt").read_text())
+    codes.update({f"number {arm}": int(number) for arm, number in re.findall(r"Why::(\w+) => (\d+),", why)})
+    enums = declared_enums()
+    want_equal(sorted(enums), sorted(ENUMS), "the enums of the header")
+    for name, sources_of in ENUMS.items():
+        want_equal(enums[name], {one: codes.get(source) for one, source in sources_of.items()}, name)
+    named = {source for enum in ENUMS.values() for source in enum.values()} | SHARED
+    for function in ("code_of_reply", "code_of_place", "code_of_fault", "code_of_stop", "code_of_state", "number_of_place", "number"):
+        unnamed = [arm for arm in codes if arm.split()[0] == function and arm not in named]
+        want(not unnamed, f"the header names no {', '.join(unnamed)}")
+    told = re.findall(r'case (BPFAGENT_\w+): return "(\w+)";', TEXT)
+    want_equal(told, [(f"BPFAGENT_{one}", f"BPFAGENT_{one}") for one in enums["bpfagent_reply"]], "bpfagent_name")
+    return f"{sum(map(len, enums.values()))} numbers"
+
+
+def show_version() -> None:
+    """The version of the header, of the library, and of the Python package, which has it as a text."""
+    number = int(re.search(r"#define BPFAGENT_VERSION (\d+)", TEXT)[1])
+    text = re.search(r'#define BPFAGENT_VERSION_TEXT "([\d.]+)"', TEXT)[1]
+    want_equal(text, f"{number // 10000}.{number // 100 % 100}.{number % 100}", "BPFAGENT_VERSION_TEXT")
+    want_equal(re.search(r"const VERSION: u32 = (\d+);", sources())[1], str(number), "the version of the library")
+    want_equal(re.search(r'(?m)^__version__ = "([\d.]+)"', (ROOT / "python/bpfagent/__init__.py").read_text())[1], text, "the version of the Python package")
+
+
+# ---- answers
+
+MISUSE, FAILING = ((ROOT / f"examples/embed/{name}.c").read_text() for name in ("misuse", "failing"))
+# A call in C with what it is to answer; its arguments may have calls of one level.
+ANSWERED = re.compile(r"bpfagent_(\w+)\((?:[^();]|\([^()]*\))*\), BPFAGENT_(\w+)")
+
+
+def answers() -> dict[str, set[str]]:
+    """What each call may answer, by the table in the header's first comment."""
+    table = re.search(r"(?s)\n   ANSWERS, [^\n]*\n(.*?) \*/", HEADER.read_text())[1]
+    return {name: set(told.split()) for names, told in re.findall(r"(?m)^ {6}(\w+(?:, \w+)*) {2,}(.+)$", table) for name in names.split(", ")}
+
+
+def show_answers() -> str:
+    """The table has each call, misuse.c gets each answer of each, and failing.c knows which calls take memory."""
+    table = answers()
+    for name, (given, taken) in declared().items():
+        want((name[9:] in table) == (given == "uint32_t" and name != "bpfagent_version"), f"{name} in the table of answers")
+        if taken[0] == "bpfagent *" and name[9:] in table.keys() - {"new", "new_handing"}:
+            table[name[9:]].add("NOAGENT")
+    seen: dict[str, set[str]] = {}
+    for name, told in ANSWERED.findall(re.sub(r"(?<!_)\bship\(", "bpfagent_ship(", MISUSE)):
+        seen.setdefault(name, set()).add(told)
+    taking = {name for name, told in table.items() if "NOMEM" in told} | {"returned", "returned_from"}
+    table["returned_from"].discard("FAULT_FAR")  # which only a failed allocation brings about
+    for name, told in table.items():
+        want_equal(sorted(seen.get(name, ())), sorted(told - {"NOMEM"}), f"what misuse.c has of bpfagent_{name}")
+    want_equal(sorted(set(re.findall(r"TAKES\(\d+, bpfagent_(\w+)\(", FAILING))), sorted(taking), "the calls of failing.c that take memory")
+    want_equal(sorted(set(re.findall(r"QUIET\(bpfagent_(\w+)\(", FAILING))), sorted(table.keys() - taking), "those that take none")
+    return f"{sum(map(len, table.values()))} answers"
+
+
+# ---- compilers
+
+ALONE = """#include "bpfagent.h"
+int main(void)
+{
+    bpfagent zeros = { 0 }, agent = BPFAGENT_INIT;
+    return bpfagent_address(1, 2) == 0 || zeros.private_words[0] || agent.private_words[1] || bpfagent_name(0)[0] != 'B';
+}
+"""
+LANGUAGES = {"c": ("gcc", "clang", "cc"), "cc": ("g++", "clang++", "c++")}
+STANDARDS = {"c": ("c99", "c11", "c17"), "cc": ("c++11", "c++17", "c++20")}
+
+
+def show_compiled() -> str:
+    """That the header alone is C and C++ of each standard, without a warning; how many times it was compiled."""
+    count = 0
+    with tempfile.TemporaryDirectory(prefix="header-") as room:
+        made = pathlib.Path(room) / "alone"
+        for language, names in LANGUAGES.items():
+            made.with_suffix(f".{language}").write_text(ALONE)
+            for compiler in filter(None, map(shutil.which, names)):
+                for standard in STANDARDS[language]:
+                    run(compiler, f"-std={standard}", "-O1", *WARNINGS, f"-I{HEADER.parent}", "-o", made, made.with_suffix(f".{language}"))
+                    run(made)
+                    count += 1
+    return f"compiled {count} times without a warning" if count else "not compiled, since there is no compiler"
+
+
+if __name__ == "__main__":
+    run_parts("header", [show_functions, show_enums, show_version, show_answers, show_compiled])

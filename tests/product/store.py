@@ -1,0 +1,275 @@
+#!/usr/bin/env python3
+"""Runs `bpfagent store` with clients of another language: store.py PROGRAM
+
+Byte for byte what docs/FAR-MEMORY.md shows, clients that break the protocol, 1025 parcels of each of 64 clients, the 65th, memory that
+is given back, too few threads, the end of standard input while clients are connected, what `-v` writes, each status, and that it
+listens on 127.0.0.1 alone.
+"""
+from __future__ import annotations
+
+import contextlib
+import os
+import pathlib
+import re
+import resource
+import socket
+import subprocess
+import sys
+import threading
+import time
+
+sys.path.insert(0, str(pathlib.Path(__file__).resolve().parents[1]))
+from lib.checks import run_parts, want, want_equal
+from lib.programs import Server, ended, has_checks, is_heard, noted, room_for, size_of
+from lib.sources import ROOT
+
+sys.path.append(str(ROOT / "python"))
+from bpfagent.far import DONE, FORGET, GET, HEAD, LIMIT, NO_ROOM, PUT, REFUSED_ID
+
+KEPT = 1024
+CLIENTS = 64
+# How many bytes of parcels show whether memory is given back, and how much more than before may stay.
+MUCH = 128 << 20
+LITTLE = 16 << 20
+ENDS_WELL = (0, b"", b"")
+
+
+def hear(stream: socket.socket, count: float = float("inf")) -> bytes:
+    """So many bytes, or fewer where the stream ends."""
+    got = b""
+    while len(got) < count and (piece := stream.recv(int(min(count - len(got), 1 << 16)))):
+        got += piece
+    return got
+
+
+def talk(server: Server, *frames: bytes) -> bytes:
+    """What a client is answered that sends this and says that nothing more comes."""
+    with server.connect() as stream:
+        threading.Thread(target=lambda: (stream.sendall(b"".join(frames)), stream.shutdown(socket.SHUT_WR))).start()
+        return hear(stream)
+
+
+def unanswered(server: Server, wrong: bytes) -> bool:
+    """Whether these bytes, after a request that is answered, end the stream without an answer. Bytes that the server didn't
+    read may reset it."""
+    with server.connect() as stream:
+        answered = asked(stream, frame(PUT, 9, b"before")) == frame(DONE, 9)
+        try:
+            stream.sendall(wrong)
+            stream.shutdown(socket.SHUT_WR)
+            return answered and hear(stream) == b""
+        except OSError:
+            return answered
+
+
+def frame(kind: int, number: int, payload: bytes = b"", length: int | None = None) -> bytes:
+    return HEAD.pack(kind, number, len(payload) if length is None else length) + payload
+
+
+def asked(stream: socket.socket, request: bytes, length: int = 0) -> bytes:
+    """The answer to a request, which has a payload of this length."""
+    stream.sendall(request)
+    return hear(stream, HEAD.size + length)
+
+
+def show_frames(program: str) -> None:
+    """What the page shows, and one answer of each kind."""
+    server = Server(program)
+    shown = bytes.fromhex("01 0000000000000001 00000003 616263")
+    want_equal(shown, frame(PUT, 1, b"abc"), "the frame of the page")
+    want_equal(talk(server, shown), bytes.fromhex("00 0000000000000001 00000000"), "the put of the page")
+    requests = [frame(PUT, 1, b"abc"), frame(PUT, 1, b"x"), frame(GET, 1), frame(GET, 2), frame(PUT, 2**64 - 1, b"z" * LIMIT), frame(GET, 2**64 - 1), frame(FORGET, 1), frame(FORGET, 1), frame(GET, 1)]
+    answers = [frame(DONE, 1), frame(REFUSED_ID, 1), frame(DONE, 1, b"abc"), frame(REFUSED_ID, 2), frame(DONE, 2**64 - 1), frame(DONE, 2**64 - 1, b"z" * LIMIT), frame(DONE, 1), frame(REFUSED_ID, 1), frame(REFUSED_ID, 1)]
+    want_equal(talk(server, *requests), b"".join(answers), "a conversation")
+    want_equal(server.end(), ENDS_WELL, "a server whose clients went properly")
+
+
+def parcel(mark: int, number: int) -> bytes:
+    """The bytes of this number that a client of this mark puts."""
+    return b"%d of %d" % (number, mark)
+
+
+def filled(mark: int) -> tuple[bytes, bytes]:
+    """Requests that put 1024 parcels and one more; and their answers."""
+    requests = [frame(PUT, number, parcel(mark, number)) for number in range(1, KEPT + 2)]
+    return b"".join(requests), b"".join([*(frame(DONE, number) for number in range(1, KEPT + 1)), frame(NO_ROOM, KEPT + 1)])
+
+
+def show_limits(program: str) -> None:
+    """1024 parcels, then no room; an id that is kept is refused first."""
+    server = Server(program)
+    puts, answers = filled(8)
+    requests = [frame(PUT, 5, b"x"), frame(GET, KEPT), frame(FORGET, 7), frame(PUT, KEPT + 1, b"late"), frame(GET, KEPT + 1), frame(PUT, 7, b"x")]
+    wanted = [frame(REFUSED_ID, 5), frame(DONE, KEPT, parcel(8, KEPT)), frame(DONE, 7), frame(DONE, KEPT + 1), frame(DONE, KEPT + 1, b"late"), frame(NO_ROOM, 7)]
+    want_equal(talk(server, puts, *requests), answers + b"".join(wanted), "1025 parcels")
+    want_equal(talk(server, frame(GET, 1)), frame(REFUSED_ID, 1), "a store that isn't empty for the next client")
+    want_equal(server.end(), ENDS_WELL, "a server with 1025 parcels")
+
+
+def is_refused(server: Server) -> bool:
+    """Whether one client more finds its socket closed, and no answer."""
+    try:
+        with server.connect() as stream:
+            return asked(stream, frame(GET, 1)) == b""
+    except OSError:
+        return True
+
+
+def is_taken(server: Server) -> bool:
+    """Whether a client is served before long."""
+    for _ in range(200):
+        with contextlib.suppress(OSError), server.connect() as stream:
+            if asked(stream, frame(GET, 1)) == frame(REFUSED_ID, 1):
+                return True
+        time.sleep(0.02)
+    return False
+
+
+def show_many(program: str) -> None:
+    """64 clients at the same time, each with 1024 parcels of its own; the 65th is refused, until one of them goes; the end cuts all off."""
+    server = Server(program)
+    with contextlib.ExitStack() as held:
+        streams = [held.enter_context(server.connect()) for _ in range(CLIENTS)]
+        for mark, stream in enumerate(streams):
+            puts, answers = filled(mark)
+            threading.Thread(target=stream.sendall, args=(puts,)).start()
+            want(hear(stream, len(answers)) == answers, f"client {mark + 1} of {CLIENTS}")
+        want(is_refused(server) and is_refused(server), f"a client beside {CLIENTS} others is served")
+        for mark, stream in enumerate(streams):
+            for number in (1, KEPT):
+                text = parcel(mark, number)
+                want_equal(asked(stream, frame(GET, number), len(text)), frame(DONE, number, text), "the bytes of a client")
+        streams[7].close()
+        want(is_taken(server), "no client is served after one has gone")
+        want_equal(server.end(), ENDS_WELL, "a server with as many clients as there may be")
+        want(all(stream.recv(1) == b"" for stream in streams[:7]), "a client that is cut off hears more")
+
+
+def put_much(server: Server, clients: int) -> int:
+    """How much memory the server takes while so many clients keep what is much together. They have gone then."""
+    with contextlib.ExitStack() as held:
+        for stream in [held.enter_context(server.connect()) for _ in range(clients)]:
+            for number in range(1, MUCH // LIMIT // clients + 1):
+                want_equal(asked(stream, frame(PUT, number, bytes(LIMIT))), frame(DONE, number), "a put of the longest parcel")
+        return size_of(server.process.pid, "VmRSS")
+
+
+def show_memory(program: str) -> None:
+    """A client's memory is given back when it goes: after one that kept much, after eight at the same time, and after many in turn."""
+    if has_checks(program):
+        return
+    server = Server(program)
+    before = size_of(server.process.pid, "VmRSS")
+    for clients in (2, 8, 2, 8):
+        took = put_much(server, clients) - before
+        want(took > MUCH, f"{MUCH} bytes are kept in {took}")
+        for _ in range(100):
+            left = size_of(server.process.pid, "VmRSS") - before
+            if left < LITTLE:
+                break
+            time.sleep(0.02)
+        want(left < LITTLE, f"{left} bytes stay when {clients} clients have gone")
+    for _ in range(500):
+        want_equal(talk(server, frame(PUT, 1, bytes(LIMIT))), frame(DONE, 1), "one client of many")
+    want(size_of(server.process.pid, "VmRSS") - before < LITTLE, "memory grows with the clients that went")
+    want_equal(server.end(), ENDS_WELL, "a server whose clients kept much")
+
+
+def show_few_threads(program: str) -> None:
+    """Without the two threads of the server it doesn't listen; a client for which there is no thread finds its socket closed."""
+    if has_checks(program):
+        return
+    for threads in range(4):
+        server = Server(program, limits=room_for(program, threads))
+        if threads < 2:
+            want(server.port is None and server.end() == (3, b"", b"no memory\n"), f"a server with room for {threads} threads")
+        else:
+            want(is_refused(server) == (threads == 2), f"a client of a server with room for {threads} threads")
+            want_equal(server.end(), ENDS_WELL, f"the end of a server with room for {threads} threads")
+
+
+def show_notes(program: str) -> None:
+    """What `-v` writes: the port, clients that come, go, are given up or are refused; what is written without it stays."""
+    for flag in ("-v", "--verbose"):
+        server = Server(program, flag)
+        want_equal(talk(server, frame(PUT, 1, b"abc")), frame(DONE, 1), "the first client")
+        want(unanswered(server, frame(4, 1)), "a request that is none")
+        want_equal(talk(server, frame(GET, 1)), frame(REFUSED_ID, 1), "the third client")
+        status, _, errors = server.end()
+        told = ["client 1 came", "client 1 went", "client 2 came", "client 2 is given up: protocol broken", "client 3 came", "client 3 went"]
+        want_equal((status, noted(errors)), (0, ([f"listening on 127.0.0.1:{server.port}", *told], ["client 2: protocol fault"])), "the notes")
+    server = Server(program, "-v")
+    with contextlib.ExitStack() as held:
+        for stream in [held.enter_context(server.connect()) for _ in range(CLIENTS)]:
+            want_equal(asked(stream, frame(GET, 1)), frame(REFUSED_ID, 1), "one of many clients")
+        want(is_refused(server), "a client too many")
+        notes, others = noted(server.end()[2])
+    want(f"a client is refused: {CLIENTS} are served" in notes and others == [], f"the notes about a client too many are {notes}")
+    with Server(program) as server:
+        status, _, errors = ended(program, "store", "-v", "--port", server.port)
+        want_equal((status, noted(errors)), (3, ([f"port {server.port} is taken"], ["net fault"])), "a port that is taken")
+
+
+def show_broken_clients(program: str) -> None:
+    """A client that breaks the protocol is told of in a line, and the next is served."""
+    server = Server(program)
+    told = b""
+    wrong = [frame(4, 1), frame(0, 1), frame(PUT, 1), frame(PUT, 1, length=LIMIT + 1), frame(PUT, 1, length=2**32 - 1), frame(GET, 1, b"x"), frame(FORGET, 1, b"x"), frame(PUT, 1, b"abc")[:-1], b"\x01", frame(GET, 1)[:-1]]
+    for k, bytes_sent in enumerate(wrong):
+        want(unanswered(server, bytes_sent), f"{bytes_sent[:16]} is answered")
+        told += b"client %d: protocol fault\n" % (2 * k + 1)
+        want_equal(talk(server, frame(GET, 9)), frame(REFUSED_ID, 9), "what the next client finds")
+    want_equal(server.end(), (0, b"", told), "the lines of clients that broke the protocol")
+
+
+def show_end(program: str) -> None:
+    """The input ends while a client is connected: it is cut off, and the program ends."""
+    for begun in (b"", frame(PUT, 1, b"abc")[:-1]):
+        server = Server(program)
+        with server.connect() as stream:
+            want_equal(asked(stream, frame(GET, 1)), frame(REFUSED_ID, 1), "the client before the end")
+            stream.sendall(begun)
+            want_equal(server.end(), ENDS_WELL, "the end of the input while a client is connected")
+            with contextlib.suppress(ConnectionResetError):
+                want_equal(stream.recv(1), b"", "what a client hears that is cut off")
+    status, output, _ = ended(program, "store", stdin=subprocess.DEVNULL)
+    want(status == 0 and re.fullmatch(rb"listening \d+\n", output), "input that has ended before")
+
+
+def show_statuses(program: str) -> None:
+    """Status 3 for a port that is taken and streams that fail, 2 for a port that is none."""
+    server = Server(program)
+    want_equal(ended(program, "store", "--port", server.port), (3, b"", b"net fault\n"), "a port that is taken")
+    want_equal(server.end(), ENDS_WELL, "a server without a client")
+    again = Server(program, "--port", server.port)
+    want(again.port == server.port and again.end()[0] == 0, "the port that is asked for")
+    with open("/dev/full", "wb") as full:
+        want_equal(ended(program, "store", stdin=subprocess.PIPE, stdout=full), (3, b"", b"write fault\n"), "a full device")
+    status, output, errors = ended(program, "store", stdin=os.open("/", os.O_RDONLY))
+    want((status, errors) == (3, b"read fault\n") and output.startswith(b"listening "), f"an input that fails: {status}, {output}, {errors}")
+    for port in ("65536", "-1", "x", ""):
+        status, output, errors = ended(program, "store", f"--port={port}")
+        want((status, output) == (2, b"") and errors.startswith(b"error: "), f"port {port}: {status}, {output}, {errors}")
+
+
+def show_address(program: str) -> None:
+    """It listens on 127.0.0.1 alone, of all the addresses by which a host is its own neighbour."""
+    server = Server(program)
+    want(is_heard("127.0.0.1", server.port) and not is_heard("127.0.0.2", server.port), "the address that is listened on")
+    want_equal(server.end(), ENDS_WELL, "a server that is asked for at another address")
+
+
+def show_few_files(program: str) -> None:
+    """A client that can't be accepted, since the listener is the last file that may be open, or of whose stream there can be no second."""
+    for files in (4, 5):
+        server = Server(program, limits={resource.RLIMIT_NOFILE: files})
+        with contextlib.suppress(OSError), server.connect():
+            pass
+        want_equal(server.end(), (3, b"", b"net fault\n"), f"a server that may open {files} files")
+
+
+SHOWN = [show_frames, show_limits, show_many, show_memory, show_few_threads, show_notes, show_broken_clients, show_end, show_statuses, show_address, show_few_files]
+
+
+if __name__ == "__main__":
+    run_parts("store", SHOWN)

@@ -1,0 +1,83 @@
+#!/usr/bin/env python3
+"""Calls make as the pages do: targets.py RT
+
+Once the program is proved, `make program` has nothing to do, and `make run` shows the first conversation. `make try` builds
+the program without a proof. `make -C examples/c check` compares what is stored with what
+the compilers make, where they are there. Of `make bench`, whose times say nothing beside other work and which proves the library
+for C once more, only what it is made of is looked at: each file that it names is there and is one that its compiler takes.
+"""
+from __future__ import annotations
+
+import os
+import pathlib
+import re
+import shutil
+import sys
+
+sys.path.insert(0, str(pathlib.Path(__file__).resolve().parents[1]))
+from lib.checks import run_parts, want, want_equal
+from lib.programs import run
+from product.program import has_clang, talk_to
+from lib.scripts import conversations
+from lib.sources import ROOT
+
+FIRST = ROOT / "crates/bpfagent"
+UNPROVED = ROOT / "out/bpfagent-unproved"
+
+
+def make(*arguments: str) -> str:
+    """What make writes, called as by a user, and not by another make."""
+    env = {name: value for name, value in os.environ.items() if not name.startswith(("MAKE", "MFLAGS", "GNUMAKE"))}
+    return run("make", "--no-print-directory", *arguments, cwd=ROOT, env=env)
+
+
+def show_program(rt: str) -> None:
+    """The gate has proved it, so there is nothing to do, and nothing is said."""
+    want_equal(make(f"RT={rt}", "program"), "", "what make program says")
+
+
+def show_run(rt: str) -> None:
+    """Each command beside its reply, by the proved program, of which nothing is said."""
+    talk = zip(*((FIRST / name).read_text().splitlines() for name in ("stdin", "stdout")))
+    want_equal(make(f"RT={rt}", "run"), "\n".join(f"{command}\n> {reply}" for command, reply in talk), "what make run shows")
+
+
+def show_try(rt: str) -> None:
+    """It says that its program isn't proved, and that one holds the first conversation; `make test` looks at the rest of it."""
+    said = make(f"RT={rt}", "try")
+    want("is not proved" in said, f"make try says {said}")
+    arguments, talk = conversations((ROOT / "crates/script_runner/data/protocol.script").read_text())[0]
+    talk_to(str(UNPROVED), arguments, talk)
+
+
+def show_help(rt: str) -> None:
+    """Each target that pages may name is in the list."""
+    said = make("help")
+    for name in ("run", "try", "program", "test", "prove", "edits", "vectors", "bench"):
+        want(f"make {name} " in said, f"make help doesn't name {name}: {said}")
+
+
+def show_c(rt: str) -> str | None:
+    """What clang 14 and gcc make of the programs in C."""
+    if not (has_clang() and shutil.which("llvm-objcopy") and shutil.which("gcc")):
+        return "skipped what is made of programs in C, since clang 14, llvm-objcopy or gcc isn't there"
+    make(f"RT={rt}", "-C", "examples/c", "check")
+    return None
+
+
+def show_bench(rt: str) -> str | None:
+    """What `make bench` names is there, and compiles."""
+    named = re.findall(r'"((?:bench/)?\w+\.(?:py|c))"', (ROOT / "bench/run.py").read_text())
+    gone = [name for name in named if not (ROOT / "bench" / name.removeprefix("bench/")).exists()]
+    want(named and not gone, f"bench/run.py names {gone or named}")
+    for path in sorted((ROOT / "bench").glob("*.py")):
+        compile(path.read_text(), path.name, "exec")
+    if not shutil.which("cc"):
+        return "skipped what make bench compiles, since there is no C compiler"
+    for path in sorted((ROOT / "bench").glob("*.c")):
+        run("cc", "-fsyntax-only", "-Wall", "-Wextra", "-Werror", "-Iinclude", path, cwd=ROOT)
+    return None
+
+
+if __name__ == "__main__":
+    run_parts("targets", [show_help, show_program, show_run, show_try, show_c, show_bench])

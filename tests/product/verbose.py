@@ -1,0 +1,129 @@
+#!/usr/bin/env python3
+"""Reads what `bpfagent serve -v` writes to standard error: verbose.py PROGRAM
+
+A whole session over a far store: clients that come, go and break, objects that leave, return and fail by their numbers, and what is here and
+far at the end. A port that is taken, a far server that isn't there. Without `-v` there is nothing.
+"""
+from __future__ import annotations
+
+import pathlib
+import socket
+import struct
+import sys
+import time
+
+sys.path.insert(0, str(pathlib.Path(__file__).resolve().parents[1]))
+from lib.checks import run_parts, want, want_equal
+from lib.programs import SECONDS, Server, Service, ended, noted, opened
+
+# Closing such a socket breaks its connection.
+AT_ONCE = struct.pack("ii", 1, 0)
+SETUP = ["make 8", "put 1 0 2a", "make 24", "make 1"]
+FAILED = "object 2 couldn't return: the store's device failed"
+END = "the service ends: 2 objects of 9 bytes here, 1 object of 24 bytes far"
+
+
+class Told:
+    """What a service writes to standard error, read as it comes."""
+
+    def __init__(self, service: Service, is_told: bool) -> None:
+        self.service = service
+        self.is_told = is_told
+        self.errors = b""
+
+    def hear(self, note: str) -> None:
+        """Waits until this is written, or for a while where nothing is."""
+        if not self.is_told:
+            time.sleep(0.1)
+        line = b""
+        while self.is_told and not line.endswith(f" {note}\n".encode()):
+            line = self.service.process.stderr.readline()
+            want(line != b"", f"{note} isn't written, but {self.errors.decode()}")
+            self.errors += line
+
+    def end(self) -> bytes:
+        """The service ends: all that it wrote."""
+        self.errors += self.service.process.stderr.read()
+        want_equal(self.service.process.wait(timeout=SECONDS), 0, "the end of the service")
+        return self.errors
+
+
+def session(program: str, far: Server, *flags: str) -> tuple[bytes, Service]:
+    """A session in which the far store is killed before its end: its standard error, and the service."""
+    service, client = opened(program, *flags, "--far", f"127.0.0.1:{far.port}", "--connections", 2, "--workers", 0, setup=SETUP)
+    told = Told(service, bool(flags))
+    want_equal(client.ask("leave 1"), "asked 1", "object 1 is to leave")
+    told.hear("object 1 left")
+    want_equal(client.ask("return 1"), "asked 1", "object 1 is to return")
+    told.hear("object 1 returned")
+    want_equal(client.ask("leave 2"), "asked 2", "object 2 is to leave")
+    told.hear("object 2 left")
+    far.process.kill()
+    far.process.wait(timeout=SECONDS)
+    want_equal(client.ask("return 2"), "asked 2", "object 2 is to return")
+    for _ in range(3):
+        told.hear(FAILED)
+    want_equal(client.ask("leave 3"), "asked 3", "object 3 is to leave")
+    told.hear("object 3 couldn't leave: the store's device failed")
+    want_equal((client.ask("get 1 0 1"), client.end()), ("bytes 2a", ""), "the end of the first client")
+    told.hear("client 1 went")
+    with socket.create_connection(("127.0.0.1", service.port), timeout=SECONDS) as second:
+        second.sendall(b"get 1 0 1\n")
+        want_equal(second.recv(64), b"bytes 2a\n", "the second client")
+        second.setsockopt(socket.SOL_SOCKET, socket.SO_LINGER, AT_ONCE)
+    return told.end(), service
+
+
+def show_session(program: str) -> None:
+    """Each line of a session, in order; a move that fails is told of each time that it is tried."""
+    with Server(program) as far:
+        errors, service = session(program, far, "-v")
+    notes, others = noted(errors)
+    want_equal(others, [], "what isn't a note")
+    want(notes.count(FAILED) > 1, f"a return that is tried again: {notes}")
+    ordered = [note for k, note in enumerate(notes) if note != FAILED or notes.index(FAILED) == k]
+    wanted = [
+        f"connected to the far server 127.0.0.1:{far.port}", f"listening on 127.0.0.1:{service.port}", "client 1 came", "object 1 left", "object 1 returned",
+        "object 2 left", "the stream of the far server broke: connection closed", FAILED, "object 3 couldn't leave: the store's device failed", "client 1 went",
+        "client 2 came", "client 2 is given up: read fault", END,
+    ]
+    want_equal(ordered, wanted, "the notes of a session")
+
+
+def show_silence(program: str) -> None:
+    """Without the flag the same session writes nothing."""
+    with Server(program) as far:
+        want_equal(session(program, far)[0], b"", "standard error without -v")
+
+
+def show_slow_server(program: str) -> None:
+    """A far server that connects and is silent: the move fails when its time has passed."""
+    with socket.create_server(("127.0.0.1", 0)) as listener:
+        far = f"127.0.0.1:{listener.getsockname()[1]}"
+        service, client = opened(program, "--verbose", "--far", far, "--far-timeout", 200, "--workers", 0, setup=["make 8"])
+        want_equal(client.ask("leave 1"), "asked 1", "an object that is to leave")
+        told = Told(service, True)
+        told.hear("object 1 couldn't leave: the store's device failed")
+        client.end()
+        wanted = [
+            f"connected to the far server {far}", f"listening on 127.0.0.1:{service.port}", "client 1 came", "the stream of the far server broke: no answer in time",
+            "object 1 couldn't leave: the store's device failed", "client 1 went", "the service ends: 1 object of 8 bytes here, 0 objects of 0 bytes far",
+        ]
+        want_equal(noted(told.end()), (wanted, []), "the notes of a service over a silent server")
+
+
+def show_refusals(program: str) -> None:
+    """A port that is taken, and a far server that isn't there, with the flag and without."""
+    with Server(program) as server:
+        taken = server.port
+        for flags, notes in ((["-v"], [f"port {taken} is taken"]), ([], [])):
+            status, _, errors = ended(program, "serve", *flags, "--port", taken)
+            want_equal((status, noted(errors)), (3, (notes, ["net fault"])), "a port that is taken")
+    far = f"127.0.0.1:{taken}"
+    for flags, notes in ((["-v"], [f"the far server {far} can't be reached"]), ([], [])):
+        status, _, errors = ended(program, "serve", *flags, "--far", far)
+        want_equal((status, noted(errors)), (3, (notes, ["far server can't be reached"])), "a server that isn't there")
+
+
+if __name__ == "__main__":
+    run_parts("verbose", [show_session, show_silence, show_slow_server, show_refusals])

@@ -1,0 +1,75 @@
+#!/usr/bin/env python3
+"""Whether everything works, without a proof, in minutes: test.py RT
+
+Builds the program as `make try` does, runs the tests of every crate by `rt try --test`, and the scripts over that program, as
+many side by side as processors and memory allow. A line tells of each part. The last line is `N passed, M failed`: tests of
+crates and scripts. What fits only the proved program runs in `make prove`.
+"""
+from __future__ import annotations
+
+import concurrent.futures
+import os
+import re
+import sys
+import time
+from typing import Callable
+
+from lib.calls import ALONE, FORM, TEST, Done, call, call_script, jobs
+from lib.sources import ROOT, crates, has_tests
+
+PROGRAM = "out/bpfagent-unproved"
+# What building and running a crate's tests takes of memory at most, in bytes, and how long it may take, in seconds.
+OF_A_CRATE = 3_000_000_000
+SECONDS = 900
+RESULT = re.compile(r"(?m)^test result: \w+\. (\d+) passed; (\d+) failed;")
+# How many lines of a part that fails are shown, and how much of each.
+SHOWN, WIDTH = 40, 300
+
+
+def of_crate(rt: str, crate: str) -> Done:
+    """The tests of a crate, without a proof."""
+    done = call(f"crates/{crate}", [rt, "try", "--test"], ROOT / "crates" / crate, SECONDS)
+    found = RESULT.search(done.output)
+    passed, failed = (int(found[1]), int(found[2])) if found else (0, 0)
+    done.passed, done.failed = passed, max(failed, done.failed, int(passed == 0))
+    return done
+
+
+def tell(done: Done) -> None:
+    print(f"test: {done.name}: {done.passed} passed{f', {done.failed} FAILED' if done.failed else ''}, {done.seconds:.0f} s", flush=True)
+    if done.failed:
+        lines = [line[:WIDTH] for line in done.output.splitlines() if not line.endswith(" ... ok")]
+        print("\n".join(lines[-SHOWN:]), flush=True)
+
+
+def run_all(calls: list[Callable[[], Done]], width: int) -> tuple[int, int]:
+    """Runs so many of these at a time, tells of each as it ends, and gives how much passed and failed."""
+    passed = failed = 0
+    with concurrent.futures.ThreadPoolExecutor(width) as pool:
+        for ended in concurrent.futures.as_completed([pool.submit(call) for call in calls]):
+            done = ended.result()
+            tell(done)
+            passed, failed = passed + done.passed, failed + done.failed
+    return passed, failed
+
+
+def main() -> None:
+    if len(sys.argv) != 2:
+        sys.exit(__doc__)
+    rt, start = sys.argv[1], time.monotonic()
+
+    def scripts(lines: list[str]) -> list[Callable[[], Done]]:
+        return [lambda line=line: call_script(line, rt, PROGRAM, SECONDS) for line in lines]
+
+    of_crates = [lambda crate=crate: of_crate(rt, crate) for crate in crates() if has_tests(crate)]
+    width = jobs(OF_A_CRATE)
+    found = [run_all([*scripts(["tools/build.py RT try"]), *of_crates[::-1], *scripts(FORM)], width)]
+    found += [run_all(scripts(TEST), width), run_all(scripts(ALONE), 1)]
+    passed, failed = (sum(counts) for counts in zip(*found))
+    print(f"test: {(time.monotonic() - start) / 60:.1f} minutes on {len(os.sched_getaffinity(0))} processors", flush=True)
+    print(f"{passed} passed, {failed} failed", flush=True)
+    sys.exit(1 if failed or not passed else 0)
+
+
+if __name__ == "__main__":
+    main()
