@@ -2,23 +2,26 @@
 """Tries the edits of crates/*/edits, wrong bodies that the prover has to refuse: edits.py RT [CRATE..], edits.py --check
 
 The gate tries those of must-fail/, which show most; these are tried when their crate has changed. They run in a copy of the
-repository, out/edits, where they lie in must-fail/. Where all edits of a crate are refused, edits/TRIED gets a checksum of
+crates, where they lie in must-fail/. It is in the folder for temporary files, since `rt ci` refuses a second crates.txt below the
+repository, and stays there with what its checks have kept. Where all edits of a crate are refused, edits/TRIED gets a checksum of
 the crate's sources and edits. `--check` fails where a crate differs from what its edits were tried on, or where they weren't
 tried yet, and names the command; the gate fails for the first of these.
 """
 from __future__ import annotations
 
 import hashlib
+import os
 import pathlib
 import re
 import shutil
 import subprocess
 import sys
+import tempfile
 from typing import Iterable, Iterator
 
 from lib.sources import ROOT, crates
 
-COPY = ROOT / "out/edits"
+COPY = pathlib.Path(tempfile.gettempdir()) / f"bpfagent-edits-{os.getuid()}-{hashlib.sha256(bytes(ROOT)).hexdigest()[:8]}"
 TRIED = "TRIED"
 SAID = re.compile(r"rt: must-fail (\w+)/(\S+\.edit): (refused|NOT REFUSED|BAD EDIT|NOT TRIED)")
 ENTRIES = ("crates.txt", "HANDLES")

@@ -2,23 +2,27 @@
 """The gate: gate.py RT, or gate.py --quick for what takes seconds.
 
 First the scripts that compare pages and lists with the sources, the test of .ci/run itself, and whether a crate has changed since
-its edits in edits/ were tried. Then `rt ci`, with a line on how far it is. Then what runs the program as `rt ci` has built it, by
-LLVM and by Rattle's own compiler. The last line is that of `rt ci`; whatever else fails is counted in it.
+its edits in edits/ were tried. Then `rt ci`, with a line on how far it is, and beside it the library for C in a copy of the
+repository. Then what runs the program as `rt ci` has built it, by LLVM and by Rattle's own compiler, and the library. The last line
+is that of `rt ci`; whatever else fails is counted in it.
 """
 from __future__ import annotations
 
+import concurrent.futures
 import os
+import pathlib
 import re
 import resource
 import subprocess
 import sys
+import tempfile
 import time
 from typing import Iterable
 
 import edits
 from form import listed
-from lib.calls import FORM, PROVE, call_script, jobs
-from lib.sources import ROOT, crates
+from lib.calls import FORM, LIBRARY, PROVE, Done, call_script, jobs
+from lib.sources import ROOT, copied, crates
 
 BUILT = ["crates/bpfagent/out/bpfagent", "crates/bpfagent/out/bpfagent.by-rattle"]
 PROVED = re.compile(r"rt: \w+(: its tests are)? proved$")
@@ -27,15 +31,15 @@ LAST = re.compile(r"(\d+) passed, (\d+) failed")
 OF_A_CHECK = 5_000_000_000
 
 
-def failures_of(lines: Iterable[str], rt: str = "") -> int:
-    """How many of these scripts fail, over the proved programs; what each says and how long it took is told."""
-    failed = 0
-    for line in lines:
-        for program in BUILT if "BOTH" in line else BUILT[:1]:
-            done = call_script(line, rt, program)
-            print("\n".join(filter(None, [done.output, f"gate: {done.name}: {'FAILED, ' * done.failed}{done.seconds:.0f} s"])), flush=True)
-            failed += done.failed
-    return failed
+def told(done: Done) -> int:
+    """Tells what a script says and how long it took; how many failed."""
+    print("\n".join(filter(None, [done.output, f"gate: {done.name}: {'FAILED, ' * done.failed}{done.seconds:.0f} s"])), flush=True)
+    return done.failed
+
+
+def failures_of(lines: Iterable[str], rt: str = "", folder: pathlib.Path = ROOT) -> int:
+    """How many of these scripts fail, over the proved programs."""
+    return sum(told(call_script(line, rt, str(ROOT / program), folder=folder)) for line in lines for program in (BUILT if "BOTH" in line else BUILT[:1]))
 
 
 def spent(start: float) -> str:
@@ -74,6 +78,19 @@ def judged(status: int, last: str) -> tuple[int, int]:
     return passed, failed + (status != 0 and failed == 0)
 
 
+def prove(rt: str, start: float) -> tuple[int, int]:
+    """How much passed and failed by `rt ci`, and of the scripts over what is proved."""
+    with tempfile.TemporaryDirectory(prefix="gate-") as folder, concurrent.futures.ThreadPoolExecutor(1) as beside:
+        copy = copied(folder)
+        library = beside.submit(call_script, LIBRARY[0], rt, "", folder=copy)
+        passed, failed = judged(*run_ci(rt))
+        print(f"gate: rt ci: {spent(start)}", flush=True)
+        failed += told(library.result())
+        if not failed or all((ROOT / program).is_file() for program in BUILT):
+            failed += failures_of(PROVE, rt) + failures_of(LIBRARY[1:], rt, copy)
+    return passed, failed
+
+
 def main() -> None:
     if not sys.argv[1:]:
         sys.exit(__doc__)
@@ -83,10 +100,7 @@ def main() -> None:
     if failed or "--quick" in sys.argv:
         print(f"{len(FORM) + 1 - failed} passed, {failed} failed")
         sys.exit(1 if failed else 0)
-    passed, failed = judged(*run_ci(sys.argv[1]))
-    print(f"gate: rt ci: {spent(start)}", flush=True)
-    if not failed or all((ROOT / program).is_file() for program in BUILT):
-        failed += failures_of(PROVE, sys.argv[1])
+    passed, failed = prove(sys.argv[1], start)
     print(f"gate: {spent(start)}", flush=True)
     print(f"{passed} passed, {failed} failed", flush=True)
     sys.exit(1 if failed else 0)

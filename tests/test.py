@@ -1,14 +1,16 @@
 #!/usr/bin/env python3
 """Whether everything works, without a proof, in minutes: test.py RT
 
-Builds the program as `make try` does, runs the tests of every crate by `rt try --test`, and the scripts over that program, as
-many side by side as processors and memory allow. A line tells of each part. The last line is `N passed, M failed`: tests of
-crates and scripts. What fits only the proved program runs in `make prove`.
+Builds the program as `make try` does, and runs the scripts over it; beside that the tests of every crate by `rt try --test`, as
+many at a time as processors and memory allow. What looks at how long something takes runs at the end, alone. A line tells of each
+part. The last line is `N passed, M failed`: tests of crates and scripts. What fits only the proved program runs in `make prove`.
 """
 from __future__ import annotations
 
 import concurrent.futures
+import contextlib
 import os
+import queue
 import re
 import sys
 import time
@@ -17,6 +19,7 @@ from typing import Callable
 from lib.calls import ALONE, FORM, TEST, Done, call, call_script, jobs
 from lib.sources import ROOT, crates, has_tests
 
+Call = Callable[[], Done]
 PROGRAM = "out/bpfagent-unproved"
 # What building and running a crate's tests takes of memory at most, in bytes, and how long it may take, in seconds.
 OF_A_CRATE = 3_000_000_000
@@ -35,22 +38,33 @@ def of_crate(rt: str, crate: str) -> Done:
     return done
 
 
-def tell(done: Done) -> None:
+def told(done: Done) -> Done:
+    """Tells of a part that has ended."""
     print(f"test: {done.name}: {done.passed} passed{f', {done.failed} FAILED' if done.failed else ''}, {done.seconds:.0f} s", flush=True)
     if done.failed:
         lines = [line[:WIDTH] for line in done.output.splitlines() if not line.endswith(" ... ok")]
         print("\n".join(lines[-SHOWN:]), flush=True)
+    return done
 
 
-def run_all(calls: list[Callable[[], Done]], width: int) -> tuple[int, int]:
-    """Runs so many of these at a time, tells of each as it ends, and gives how much passed and failed."""
-    passed = failed = 0
+def run_all(first: list[Call], others: list[Call], width: int) -> tuple[int, int]:
+    """Runs so many at a time, tells of each as it ends, and gives how much passed and failed. One lane does `first` in their order, since
+    each may need what those before it built, and then helps with the others."""
+    left: queue.SimpleQueue[Call] = queue.SimpleQueue()
+    for other in others:
+        left.put(other)
+
+    def lane(own: list[Call]) -> list[Done]:
+        found = [told(call()) for call in own]
+        with contextlib.suppress(queue.Empty):
+            while True:
+                found.append(told(left.get_nowait()()))
+        return found
+
     with concurrent.futures.ThreadPoolExecutor(width) as pool:
-        for ended in concurrent.futures.as_completed([pool.submit(call) for call in calls]):
-            done = ended.result()
-            tell(done)
-            passed, failed = passed + done.passed, failed + done.failed
-    return passed, failed
+        lanes = [pool.submit(lane, first if number == 0 else []) for number in range(width)]
+        found = [done for ended in lanes for done in ended.result()]
+    return sum(done.passed for done in found), sum(done.failed for done in found)
 
 
 def main() -> None:
@@ -58,13 +72,12 @@ def main() -> None:
         sys.exit(__doc__)
     rt, start = sys.argv[1], time.monotonic()
 
-    def scripts(lines: list[str]) -> list[Callable[[], Done]]:
+    def scripts(lines: list[str]) -> list[Call]:
         return [lambda line=line: call_script(line, rt, PROGRAM, SECONDS) for line in lines]
 
     of_crates = [lambda crate=crate: of_crate(rt, crate) for crate in crates() if has_tests(crate)]
     width = jobs(OF_A_CRATE)
-    found = [run_all([*scripts(["tools/build.py RT try"]), *of_crates[::-1], *scripts(FORM)], width)]
-    found += [run_all(scripts(TEST), width), run_all(scripts(ALONE), 1)]
+    found = [run_all(scripts(["tools/build.py RT try", *TEST]), [*of_crates[::-1], *scripts(FORM)], width), run_all(scripts(ALONE), [], 1)]
     passed, failed = (sum(counts) for counts in zip(*found))
     print(f"test: {(time.monotonic() - start) / 60:.1f} minutes on {len(os.sched_getaffinity(0))} processors", flush=True)
     print(f"{passed} passed, {failed} failed", flush=True)

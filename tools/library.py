@@ -1,8 +1,9 @@
 #!/usr/bin/env python3
-"""Proves and builds the library for C: library.py RT
+"""Proves and builds the library for C: library.py RT [JOBS]
 
 It writes out/lib/libbpfagent.a: the crate bpfagent_c, and what that needs of the toolchain's C runtime. A program links it and the
-C library alone. It says how many crates are proved, and how long that took; what didn't change isn't proved again.
+C library alone. It says how many crates are proved, and how long that took; what didn't change isn't proved again. With JOBS each
+check takes so many processors.
 """
 from __future__ import annotations
 
@@ -34,12 +35,12 @@ def home_of(rt: str) -> pathlib.Path:
     return pathlib.Path(subprocess.run([rt, "doc"], stdout=subprocess.PIPE, text=True, check=True).stdout.strip()).parent
 
 
-def prove(rt: str) -> None:
+def prove(rt: str, flags: list[str]) -> None:
     """Proves the crates and builds the crate's archive, and tells each crate that is done."""
     crates = crates_below(CRATE.name)
     say(f"Proving and building the library, of {len(crates)} crates. The first time takes about half an hour; later runs prove what changed.")
     done, told, start = set(), [], time.monotonic()
-    with subprocess.Popen([rt, "lib"], cwd=CRATE, stdin=subprocess.DEVNULL, stdout=subprocess.PIPE, stderr=subprocess.STDOUT, text=True, errors="replace") as process:
+    with subprocess.Popen([rt, "lib", *flags], cwd=CRATE, stdin=subprocess.DEVNULL, stdout=subprocess.PIPE, stderr=subprocess.STDOUT, text=True, errors="replace") as process:
         for line in process.stdout:
             told.append(line)
             proved = re.match(r"crate (\w+): ", line)
@@ -65,20 +66,21 @@ def join(archiver: pathlib.Path, archives: list[pathlib.Path], made: pathlib.Pat
         made.write_bytes(joined.read_bytes())
 
 
-def build(rt: str) -> pathlib.Path:
+def build(rt: str, flags: list[str]) -> pathlib.Path:
     """The library, proved and built."""
-    prove(rt)
+    prove(rt, flags)
     home = home_of(rt)
     join(home / "toolchain/bin/llvm-ar", [CRATE / f"out/lib{CRATE.name}.a", home / "c/liblibc_c.a"], MADE)
     return MADE
 
 
 def main() -> None:
-    if len(sys.argv) != 2:
+    rt, *jobs = sys.argv[1:] or [""]
+    if not rt or len(jobs) > 1 or not all(word.isdigit() for word in jobs):
         say(__doc__.splitlines()[0])
         sys.exit(2)
     try:
-        print(f"{build(sys.argv[1]).relative_to(ROOT)} is built")
+        print(f"{build(rt, ['--jobs', *jobs] if jobs else []).relative_to(ROOT)} is built")
     except (Wrong, OSError, subprocess.CalledProcessError) as wrong:
         sys.exit(f"library: {wrong}")
 

@@ -1,6 +1,6 @@
 """What `make test` and `make prove` run over the program. A line is a call; a new script gets a line in TEST or ALONE, and in PROVE.
 
-PROGRAM is the program: that of `make try` in TEST and ALONE, the proved one in PROVE. BOTH is the program of LLVM and that of
+PROGRAM is the program: that of `make try` in TEST and ALONE, the proved one in PROVE and LIBRARY. BOTH is the program of LLVM and that of
 Rattle's own compiler, one after the other. RT is the toolchain's command.
 """
 from __future__ import annotations
@@ -16,7 +16,7 @@ from lib.sources import ROOT
 
 FORM = [f"tests/form/{name}.py" for name in ("protocol", "definitions", "generated", "failures", "documents", "kinds", "listed", "planted")]
 
-# Side by side, the longest first.
+# One by one, beside the tests of crates.
 TEST = [
     "tests/product/python_package.py PROGRAM",
     "tests/product/program.py PROGRAM",
@@ -52,10 +52,15 @@ PROVE = [
     "tests/product/sweep.py PROGRAM",
     "tests/product/refusals.py RT",
     "tests/product/header.py",
-    "tests/product/embed.py RT",
-    "tests/product/consumer.py RT PROGRAM",
     "tools/build.py RT stamp",
     "tests/product/targets.py RT",
+]
+
+# One by one, in a copy of the repository. The first proves once more what the library is made of, so it runs beside `rt ci`.
+LIBRARY = [
+    "tools/library.py RT 1",
+    "tests/product/embed.py RT",
+    "tests/product/consumer.py RT PROGRAM",
 ]
 
 
@@ -88,7 +93,7 @@ def call(name: str, words: list[str], folder: pathlib.Path = ROOT, seconds: floa
     return Done(name, passed, 1 - passed, output, time.monotonic() - start)
 
 
-def call_script(line: str, rt: str, program: str, seconds: float | None = None) -> Done:
-    """Calls a script of the lists above."""
+def call_script(line: str, rt: str, program: str, seconds: float | None = None, folder: pathlib.Path = ROOT) -> Done:
+    """Calls a script of the lists above, in the repository or a copy of it."""
     words = [{"BOTH": program, "PROGRAM": program, "RT": rt}.get(word, word) for word in line.split()]
-    return call(" ".join(words), [sys.executable, *words], seconds=seconds)
+    return call(" ".join(words), [sys.executable, *words], folder, seconds)

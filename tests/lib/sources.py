@@ -3,9 +3,17 @@ from __future__ import annotations
 
 import pathlib
 import re
+import shutil
 from typing import Iterator
 
 ROOT = pathlib.Path(__file__).resolve().parents[2]
+
+
+def copied(folder: str | pathlib.Path, *without: str) -> pathlib.Path:
+    """A copy of the repository in this folder, without what is built."""
+    copy = pathlib.Path(folder) / "copy"
+    shutil.copytree(ROOT, copy, ignore=shutil.ignore_patterns("out", ".git", "__pycache__", *without), symlinks=True)
+    return copy
 
 
 def crates() -> dict[str, list[str]]:

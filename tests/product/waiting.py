@@ -12,6 +12,7 @@ from __future__ import annotations
 import contextlib
 import os
 import pathlib
+import signal
 import socket
 import statistics
 import sys
@@ -28,6 +29,8 @@ sys.path.append(str(ROOT / "python"))
 from bpfagent.far import DONE, FORGET, GET, HEAD, PUT
 
 TRIES = 6
+# how often two services take turns whose processor time is compared
+TURNS = 4
 # how long a command may take that is never answered, in seconds
 NEVER = 5
 # how long a slow store takes
@@ -253,14 +256,29 @@ def most_in_a_second(times: list[float]) -> int:
     return max((sum(1 for other in times if at <= other < at + 1) for at in times), default=0)
 
 
-def cost_beside(trial: Trial, other: Trial, seconds: float) -> float:
-    """The processor time of an instruction in a trial, as a ratio to that in another at the same time."""
-    trials = (trial, other)
-    before = [(processor_time(one.pid), one.fuel()) for one in trials]
+def cost_alone(trial: Trial, seconds: float) -> tuple[float, int]:
+    """The processor time and the instructions of a service that was stopped, and is stopped again after so many seconds."""
+    os.kill(trial.pid, signal.SIGCONT)
+    time_before, fuel_before = processor_time(trial.pid), trial.fuel()
     time.sleep(seconds)
-    after = [(processor_time(one.pid), one.fuel()) for one in trials]
-    want(all(fuel[1] > left[1] for fuel, left in zip(before, after)), "machines that run don't")
-    ours, theirs = ((spent[1][0] - spent[0][0]) / (spent[0][1] - spent[1][1]) for spent in zip(before, after))
+    time_after, fuel_after = processor_time(trial.pid), trial.fuel()
+    os.kill(trial.pid, signal.SIGSTOP)
+    want(fuel_after < fuel_before, "machines that run don't")
+    return time_after - time_before, fuel_before - fuel_after
+
+
+def cost_beside(trial: Trial, other: Trial, seconds: float) -> float:
+    """The processor time of an instruction in a trial, as a ratio to that in another. They take turns, so that neither slows the other
+    down, and whatever else runs on the machine slows both."""
+    trials = (trial, other)
+    for one in trials:
+        os.kill(one.pid, signal.SIGSTOP)
+    try:
+        turns = [[cost_alone(one, seconds) for one in trials] for _ in range(TURNS)]
+    finally:
+        for one in trials:
+            os.kill(one.pid, signal.SIGCONT)
+    ours, theirs = (sum(spent for spent, _ in of_one) / sum(fuel for _, fuel in of_one) for of_one in zip(*turns))
     return ours / theirs
 
 
