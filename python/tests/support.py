@@ -28,8 +28,11 @@ sys.path.append(str(ROOT / "tests"))
 DEBUG = ROOT / "examples/debug"
 PROGRAM = os.environ.get("BPFAGENT", "")
 DEBUGGER = [sys.executable, "-m", "bpfagent.debug.main"]
-SECONDS = 60.0
+# How long an answer may take, also on a busy machine.
+SECONDS = 180.0
 PROMPT = "(bpfagent) "
+# What the debugger shows when an interrupt gives up the line that was typed.
+GIVEN_UP = "^C (quit leaves the debugger)"
 # Find 7, which is there with 40, and then 8, when only the first pair counts.
 TABLE = [str(DEBUG / "table.c"), f"@{DEBUG / 'table.object'}", "7"]
 
@@ -101,7 +104,7 @@ class Pseudoterminal:
         """What is shown until this holds of it, or the debugger has ended."""
         end, read, got = time.monotonic() + SECONDS, b"", ""
         while not holds(got):
-            if time.monotonic() > end or not select.select([self._main], [], [], SECONDS)[0]:
+            if not select.select([self._main], [], [], max(end - time.monotonic(), 0))[0]:
                 raise AssertionError(f"the terminal shows {got!r}, and no more")
             try:
                 piece = os.read(self._main, 1 << 16)
@@ -115,14 +118,22 @@ class Pseudoterminal:
         return got
 
     def _until_prompt(self, shown: str = "") -> list[str]:
-        """What is shown until the next prompt, as lines; and that comes after this text, for readline may show the prompt again."""
-        return self._until(lambda got: got.endswith(PROMPT) and shown in got).removesuffix(PROMPT).splitlines()
+        """What is shown until the next prompt, as lines; and that comes after this text. While a line is typed readline may show the prompt
+        again, but within the line."""
+        return self._until(lambda got: got.endswith(f"\n{PROMPT}") and shown in got).removesuffix(PROMPT).splitlines()
 
-    def begin(self, command: str) -> None:
-        """Types a command, waits until it has been read, and lets it go on."""
-        self.press(command + "\n")
-        self._until(lambda got: got.endswith(f"{command}\n"))
-        time.sleep(0.2)
+    def interrupt(self, command: str) -> list[str]:
+        """Types a command that doesn't end by itself, and interrupts it: what is shown until the next prompt. An interrupt that comes
+        after the line was read, but before the command has begun, gives the line up. Then it is typed again."""
+        end = time.monotonic() + SECONDS
+        while time.monotonic() < end:
+            self.press(command + "\n")
+            self._until(lambda got: f"{command}\n" in got)
+            self.press("\x03")
+            shown = self.wait()
+            if not any(GIVEN_UP in line for line in shown):
+                return shown
+        raise AssertionError(f"{command} doesn't begin")
 
     def press(self, keys: str) -> None:
         """Types keys, and doesn't wait."""
@@ -140,9 +151,7 @@ class Pseudoterminal:
     def close(self) -> int:
         """Leaves the debugger: its status."""
         self.press("quit\n")
-        status = self.process.wait(SECONDS)
-        os.close(self._main)
-        return status
+        return self.process.wait(SECONDS)
 
     def __enter__(self) -> Pseudoterminal:
         return self
@@ -151,3 +160,6 @@ class Pseudoterminal:
         if self.process.poll() is None:
             self.process.kill()
             self.process.wait()
+        if self._main >= 0:
+            os.close(self._main)
+            self._main = -1

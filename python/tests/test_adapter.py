@@ -11,6 +11,7 @@ import unittest
 from typing import Any
 
 from bpfagent import Service, patiently
+from bpfagent.agent import pauses
 from support import DEBUG, DEBUGGER, PROGRAM, SECONDS, TABLE, changes, editor_module, needs_debugger
 from test_terminal import ENDLESS
 
@@ -48,6 +49,16 @@ class Sessions(unittest.TestCase):
         self.text = body.get("text", "")
         frames: list[Body] = self.ask("stackTrace", threadId=machine)["stackFrames"]
         return frames
+
+    def standing(self, machine: int) -> list[Body]:
+        """The frames of a machine, once it stands still."""
+        for _ in pauses(SECONDS):
+            try:
+                frames: list[Body] = self.ask("stackTrace", threadId=machine)["stackFrames"]
+                return frames
+            except RuntimeError as why:
+                self.assertIn(f"machine {machine} is running", str(why))
+        raise AssertionError(f"machine {machine} doesn't stop")
 
     def launch(self, program: str = TABLE[0], arguments: tuple[str, ...] = tuple(TABLE[1:]), **options: Any) -> None:
         """Starts a program, up to the point at which breakpoints are set."""
@@ -112,7 +123,7 @@ class Sessions(unittest.TestCase):
         self.session(2)
         self.assertEqual([thread["id"] for thread in self.ask("threads")["threads"]], [1, 2, 3])
         for thread in (1, 3):
-            self.assertEqual(self.ask("stackTrace", threadId=thread)["stackFrames"][0]["line"], 23)
+            self.assertEqual(self.standing(thread)[0]["line"], 23)
         for thread in (1, 2, 3):
             self.ask("continue", threadId=thread)
         self.assertEqual(self.editor.wait("exited")["body"]["exitCode"], 40)

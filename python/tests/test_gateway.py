@@ -139,6 +139,13 @@ def wakings(process: subprocess.Popen[bytes]) -> int:
     return sum(int(count) for text in texts for count in re.findall(r"(?m)^voluntary_ctxt_switches:\s*(\d+)", text))
 
 
+def wakings_in(seconds: float, process: subprocess.Popen[bytes]) -> int:
+    """How often they do within so many seconds."""
+    before = wakings(process)
+    time.sleep(seconds)
+    return wakings(process) - before
+
+
 def is_listening(port: int) -> bool:
     """Whether somebody listens on a port of this host."""
     try:
@@ -364,10 +371,11 @@ class Gateways(unittest.TestCase):
         for store in (None, Store(gateway.port)):
             if store:
                 store.put(b"abc")
-            time.sleep(0.1)
-            before = wakings(gateway.process)
-            time.sleep(0.5)
-            self.assertTrue(wakings(gateway.process) - before <= 2, f"an idle gateway wakes up {wakings(gateway.process) - before} times in half a second")
+            counts = [wakings_in(0.5, gateway.process)]
+            # On a busy machine it may take a while until what was asked last is over.
+            while counts[-1] > 2 and len(counts) < 10:
+                counts.append(wakings_in(0.5, gateway.process))
+            self.assertLessEqual(counts[-1], 2, f"how often an idle gateway wakes up in half a second, again and again: {counts}")
         assert store
         store.close()
         self.assertTrue(gateway.end() == (0, b"", b""), "an idle gateway")

@@ -194,9 +194,7 @@ class Sessions(unittest.TestCase):
                 self.assertEqual(terminal.ask("print *count"), [f"*count = {int.from_bytes(patiently(other.get, number, 0, 8), 'little')}"])
                 self.assertRegex(terminal.ask("finish")[0], r"^machine 1: more returned \d+$")
                 terminal.ask("delete")
-                terminal.begin("continue")
-                terminal.press("\x03")
-                self.assertIn("machine 1: pause", terminal.wait())
+                self.assertIn("machine 1: pause", terminal.interrupt("continue"))
                 self.assertEqual(other.regs(1).state, "paused")
                 self.assertEqual(terminal.close(), 0)
             self.assertTrue(changes(other, number), "the machine doesn't go on")
@@ -226,10 +224,8 @@ class Sessions(unittest.TestCase):
     def test_interrupt(self) -> None:
         """An interrupt stops a program that doesn't end, over `run`."""
         with self.debugger("--fuel", str(2**63), self.source(ENDLESS), "+8") as terminal:
-            terminal.begin("continue")
+            self.assertIn("machine 1: pause", terminal.interrupt("continue"))
             self.assertIsNone(terminal.process.poll())
-            terminal.press("\x03")
-            self.assertIn("machine 1: pause", terminal.wait())
             self.assertGreater(int(terminal.ask("print *(uint64_t *)0x100000000")[0].split(" = ")[1]), 0)
             self.assertEqual(terminal.close(), 0)
 
@@ -351,8 +347,12 @@ class Sessions(unittest.TestCase):
             terminal.ask("delete")
             self.assertEqual(terminal.ask("continue"), ["machine 1 ended: exit 0000000000000028"])
         with self.debugger("--serve", "--workers", "4", *TABLE) as terminal:
-            self.assertEqual(terminal.ask("tell leave 1"), ["> asked 1"])
-            time.sleep(0.2)
+            # The look that finds it away has it brought back, so it is sent away once more.
+            end = time.monotonic() + SECONDS
+            while terminal.ask("tell get 1 0 1") != ["> away 1"]:
+                self.assertIn(terminal.ask("tell leave 1"), (["> asked 1"], ["> full"]))
+                self.assertLess(time.monotonic(), end, "the object doesn't leave")
+            self.assertIn(terminal.ask("tell leave 1"), (["> asked 1"], ["> full"]))
             terminal.ask("break 25")
             self.assertEqual(terminal.ask("continue")[0], "machine 1, breakpoint 1")
             self.assertEqual(terminal.ask("print *table")[0][:19], "*table = {count = 1")

@@ -24,8 +24,8 @@ MACHINES, SLOTS, OBJECTS, PIECE, STACK_SIZE, LONGEST = 48, 4096, 1024, 4096, 409
 RUNNING, PAUSED = "run", "paused"
 # How often a service is asked for machines that others shipped, in seconds.
 LOOK = 0.5
-# How long a byte is asked for while another has its turn on the object, in seconds.
-BUSY = 1.0
+# How long a byte is asked for while the object comes back, or another has its turn on it, in seconds.
+BUSY = 3.0
 
 
 class Impossible(Exception):

@@ -7,21 +7,21 @@ from dataclasses import dataclass, field
 from types import TracebackType
 from typing import Iterator, Optional, Sequence, Union
 
-from ..agent import Agent, pauses
+from ..agent import Agent
 from ..commands import fault_text
 from ..image import load, program_path
 from ..replies import Broken, Refused
 from ..service import Service
 from ..ship import FUEL, make_objects, shipped, values_of
-from .engine import PAUSED, Engine, Impossible
+from .engine import Engine, Impossible
 from .program import Program
 
 # By default C is compiled so that all variables are there; a flag that is given comes later, and wins.
 DEBUG_FLAGS = ("-O0",)
 # The workers of a service, if nothing else is said.
 WORKERS = 2
-# How long an agent may take for a reply, and the workers of a service to find a machine, in seconds.
-TIMEOUT, PATIENCE = 30.0, 2.0
+# How long an agent may take for a reply, in seconds.
+TIMEOUT = 30.0
 
 
 @dataclass
@@ -105,9 +105,8 @@ class Session:
             service.listen()
             engine.agent = service.connect(TIMEOUT)
             for number in engine.machines:
-                for _ in pauses(PATIENCE if plan.workers else 0.0):
-                    if engine.registers(number).state == PAUSED:
-                        break
+                # This pauses it at its breakpoint, also if no worker has come to it yet.
+                engine.agent.step(number)
                 engine.clear(number, [0])
             return engine
         except BaseException:

@@ -23,7 +23,8 @@ from .program import NoPlace, Program
 from .running import Runner
 from .symbols import Nowhere
 
-HISTORY = pathlib.Path("~/.bpfagent_history").expanduser()
+# Where no home is known, this stays a path that can't be read or written.
+HISTORY = pathlib.Path(os.path.expanduser("~/.bpfagent_history"))
 HISTORY_LENGTH = 1000
 PROMPT = "(bpfagent) "
 # No number that the debugger takes has more digits.
@@ -51,8 +52,13 @@ class Interrupts:
 
     @contextlib.contextmanager
     def kept(self) -> Iterator[None]:
-        """Keeps those that come meanwhile."""
-        self.count, before = 0, signal.signal(signal.SIGINT, self._note)
+        """Keeps those that come meanwhile. A block within a block keeps them for the outer one."""
+        if signal.getsignal(signal.SIGINT) == self._note:
+            yield
+            return
+        # First the count: one that comes as soon as the handler is there counts.
+        self.count = 0
+        before = signal.signal(signal.SIGINT, self._note)
         try:
             yield
         finally:
@@ -85,7 +91,9 @@ class Terminal(cmd.Cmd):
                 import readline
 
                 readline.set_completer_delims(" \t\n*&(")
-                readline.read_history_file(HISTORY)
+                # The loop begins anew after an interrupt; the history is read once.
+                if readline.get_current_history_length() == 0:
+                    readline.read_history_file(HISTORY)
 
     def postloop(self) -> None:
         """Keeps the history."""
@@ -370,6 +378,12 @@ class Terminal(cmd.Cmd):
         return True
 
     # ---- completion
+
+    def complete(self, text: str, state: int) -> Optional[str]:
+        """A completion. An interrupt doesn't come between a line to the agent and its reply."""
+        with self.interrupts.kept():
+            found: Optional[str] = super().complete(text, state)
+            return found
 
     def completenames(self, text: str, *ignored: object) -> list[str]:
         """Commands that begin so."""
