@@ -16,7 +16,7 @@ import tempfile
 import threading
 import time
 import unittest
-from typing import Any, Callable, Optional, Sequence
+from typing import Callable, Optional, Sequence
 
 import bpfagent
 import stand_in

@@ -1,9 +1,11 @@
 """Starts and stops the program, for the tests of the product."""
 from __future__ import annotations
 
+import contextlib
 import datetime
 import functools
 import hashlib
+import os
 import pathlib
 import re
 import resource
@@ -11,13 +13,15 @@ import socket
 import subprocess
 import time
 from types import TracebackType
-from typing import Any, Callable, Iterable, Mapping, Sequence
+from typing import Any, Callable, Iterable, Iterator, Mapping, Sequence
 
 from lib.checks import Failed, want
 
 # How long a program, or one answer of it, may take, in seconds.
 SECONDS = 60
 LOOKS = 10_000
+# How long something that comes by itself may take, also on a busy machine, in seconds.
+LONG = 180
 # How much slower a program of `make try` is taken to be: it has run-time checks and isn't optimized.
 SLOWER = 20
 # What the stack of a thread takes where there are to be few of them: more than all else that a thread takes.
@@ -53,6 +57,16 @@ def ended(*command: object, given: bytes = b"", seconds: float = SECONDS, limits
     how.setdefault("stdout", subprocess.PIPE)
     done = subprocess.run([word if isinstance(word, bytes) else str(word) for word in command], stderr=subprocess.PIPE, timeout=seconds, preexec_fn=limited_to(limits), **how)
     return done.returncode, done.stdout or b"", done.stderr
+
+
+@contextlib.contextmanager
+def unreadable() -> Iterator[int]:
+    """A descriptor from which reading fails: that of a folder."""
+    made = os.open("/", os.O_RDONLY)
+    try:
+        yield made
+    finally:
+        os.close(made)
 
 
 def limited_to(limits: Mapping[int, int] | None) -> Callable[[], None] | None:
@@ -170,11 +184,19 @@ class Service(Process):
 
 
 class Client:
-    """A connection to a service that is asked line by line."""
+    """A connection to a service that is asked line by line. Leaving its block closes it."""
 
     def __init__(self, service: Service) -> None:
         self.stream = socket.create_connection(("127.0.0.1", service.port), timeout=SECONDS)
         self.replies = self.stream.makefile("r", newline="\n")
+
+    def __enter__(self) -> Client:
+        return self
+
+    def __exit__(self, kind: type[BaseException] | None, error: BaseException | None, trace: TracebackType | None) -> None:
+        # The stream stays open as long as the file does.
+        self.replies.close()
+        self.stream.close()
 
     def ask(self, command: str) -> str:
         self.stream.sendall(f"{command}\n".encode())
@@ -185,10 +207,10 @@ class Client:
         self.stream.sendall("".join(f"{command}\n" for command in commands).encode())
         return [self.replies.readline().rstrip("\n") for _ in commands]
 
-    def ask_until(self, command: str, wanted: str, looks: int = LOOKS, pause: float = 0.0) -> str:
-        """The first reply that begins so, of so many at most, with a pause before each."""
-        reply = ""
-        for _ in range(looks):
+    def ask_until(self, command: str, wanted: str, seconds: float = LONG, pause: float = 0.0) -> str:
+        """The first reply that begins so, within so many seconds, with a pause before each."""
+        reply, end = "", time.monotonic() + seconds
+        while time.monotonic() < end:
             time.sleep(pause)
             reply = self.ask(command)
             if reply.startswith(wanted):
@@ -198,9 +220,8 @@ class Client:
     def end(self) -> str:
         """Says that nothing more comes, and gives what it still hears."""
         self.stream.shutdown(socket.SHUT_WR)
-        rest = self.replies.read()
-        self.stream.close()
-        return rest
+        with self:
+            return self.replies.read()
 
 
 def opened(program: str, *arguments: object, setup: Iterable[str] = ()) -> tuple[Service, Client]:

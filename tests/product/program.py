@@ -21,7 +21,7 @@ from typing import Any, Sequence
 sys.path.insert(0, str(pathlib.Path(__file__).resolve().parents[1]))
 from lib import package
 from lib.checks import run_parts, want, want_equal
-from lib.programs import Process, ended, has_checks, of_data, patience
+from lib.programs import Process, ended, has_checks, of_data, patience, unreadable
 from lib.scripts import Talk, conversations
 from lib.sources import ROOT, pages
 
@@ -147,7 +147,8 @@ def show_help_examples(program: str) -> None:
 def show_faults(program: str) -> None:
     """3 for a stream that fails."""
     for task in ("run", "check", "asm", "dis"):
-        want_ended(program, [task], b"", 3, b"", b"read fault\n", stdin=os.open("/", os.O_RDONLY))
+        with unreadable() as fails:
+            want_ended(program, [task], b"", 3, b"", b"read fault\n", stdin=fails)
     for arguments, given in ((["run"], b"step 1\n"), (["check"], EXIT), (["asm"], b"exit\n"), (["dis"], EXIT), (["--help"], b""), (["--version"], b"")):
         with open("/dev/full", "wb") as full:
             want_ended(program, arguments, given, 3, b"", b"write fault\n", stdout=full)

@@ -10,7 +10,6 @@ from __future__ import annotations
 
 import contextlib
 import hashlib
-import os
 import pathlib
 import re
 import resource
@@ -23,7 +22,7 @@ from typing import Any, Callable, TypeVar
 
 sys.path.insert(0, str(pathlib.Path(__file__).resolve().parents[1]))
 from lib.checks import Failed, run_parts, want, want_equal
-from lib.programs import LOOKS, SECONDS, Client, Server, Service, ended, is_heard, object_line, opened, room_for
+from lib.programs import LONG, SECONDS, Client, Server, Service, ended, is_heard, object_line, opened, room_for, unreadable
 from lib.scripts import Talk
 from lib.sources import ROOT
 
@@ -107,7 +106,8 @@ class Meeting:
 
 def until(what: str, look: Callable[[], Found | None]) -> Found:
     """What a look gives as soon as it gives something. It looks every millisecond."""
-    for _ in range(LOOKS):
+    end = time.monotonic() + LONG
+    while time.monotonic() < end:
         if (found := look()) is not None:
             return found
         time.sleep(0.001)
@@ -276,7 +276,7 @@ def service_moves(program: str) -> None:
 def service_sweeps(program: str) -> None:
     """An object that nobody uses leaves by itself, and returns when it is missed."""
     service, client = opened(program, "--sweep", setup=["make 8", "put 1 0 2a"])
-    client.ask_until("get 1 0 1", "away 1", looks=100, pause=0.1)
+    client.ask_until("get 1 0 1", "away 1", pause=0.1)
     want(client.ask_until("get 1 0 1", "bytes") == "bytes 2a", "the object that returned")
     want(client.end() == "" and service.ends_well({1: of_eight(42)}, may_be_out=True), "the end of a service that sweeps")
 
@@ -310,7 +310,7 @@ def show_crowd(program: str, *arguments: object) -> None:
     times = 200
     service = Service(program, "--connections", 8, "--workers", 4, *arguments, setup=["make 8"])
     reader = Client(service)
-    shown = [reply for _, reply in Meeting(7, SECONDS, ship_counter, service, times).end()]
+    shown = [reply for _, reply in Meeting(7, LONG, ship_counter, service, times).end()]
     want_equal([reader.ask(f"regs {machine}") for machine in range(1, 8)], shown, "machines that have stopped stay as they are")
     found = reader.ask_until("get 1 0 8", "bytes")
     want_equal(found, f"bytes {of_eight(7 * times).hex()}", f"what seven counters of {times} count")
@@ -342,7 +342,7 @@ def show_lost_server(program: str) -> None:
     service, client = opened(program, "--far", f"127.0.0.1:{server.port}", "--workers", 0, setup=setup)
     away_unmissed(client)
     server.process.kill()
-    server.process.wait()
+    server.process.communicate()
     for _ in range(20):
         want(client.ask("leave 3") in ("asked 3", "full") and client.ask("get 1 0 1") == "away 1" and client.ask("step 1") == "waiting 1 1", "an object whose server is gone")
         time.sleep(0.01)
@@ -410,7 +410,7 @@ def left_often(client: Client) -> list[int]:
     """Object 1 is asked to leave until it did a few times, while machines use it, which call it back at once: the numbers that it showed
     meanwhile."""
     shown, seen, was_away = [], 0, False
-    end = time.monotonic() + SECONDS / 2
+    end = time.monotonic() + LONG / 2
     while time.monotonic() < end:
         asked, *found = client.ask_at_once(["leave 1", *["get 1 0 8"] * 15])
         want(asked in ("asked 1", "full"), f"leave is answered {asked}")
@@ -482,7 +482,7 @@ def show_debuggers(program: str) -> None:
         away_unmissed(reader)
 
     leaves(0)
-    meeting = Meeting(7, SECONDS, debug_machine, service)
+    meeting = Meeting(7, LONG, debug_machine, service)
     meeting.lead(lambda: leaves(once))
     counts = [once, *left_often(reader)]
     want(counts == sorted(counts), f"the counter shows {counts}")
@@ -590,7 +590,7 @@ def move_under_lock(program: str, machines: int, *arguments: object) -> None:
         for machine in (1, 2):
             paused(reader, machine, OUTSIDE)
 
-    meeting = Meeting(machines, SECONDS, take_lock, service)
+    meeting = Meeting(machines, LONG, take_lock, service)
     for _ in range(MEETINGS - 1):
         meeting.lead(leaves)
     meeting.lead(leaves_while_two_run)
@@ -615,8 +615,8 @@ def show_lost(program: str) -> None:
     stays, goes, breaks = Client(service), Client(service), Client(service)
     want([client.ask("get 1 0 1") for client in (stays, goes, breaks)] == ["bytes 00"] * 3, "three clients")
     goes.stream.setsockopt(socket.SOL_SOCKET, socket.SO_LINGER, b"\1\0\0\0\0\0\0\0")
-    goes.replies.close()
-    goes.stream.close()
+    with goes:
+        pass
     breaks.stream.sendall(b"get 1 0")
     want(breaks.end() == "cut\n", "a line that is broken off")
     want(stays.ask("put 1 0 05") == "ok" and stays.ask("get 1 0 1") == "bytes 05", "the client that stays")
@@ -627,7 +627,6 @@ def show_first_end(program: str) -> None:
     """A client hears the end of its conversation while another is still to come."""
     service = Service(program, "--connections", 2)
     first = Client(service)
-    first.stream.settimeout(SECONDS / 4)
     want(first.ask("get 1 0 1") == "outside", "the first client")
     try:
         want(first.end() == "", "more than the reply")
@@ -641,8 +640,7 @@ def show_few_threads(program: str) -> None:
     end, the client is cut off, and nothing is said to have closed."""
     for threads in range(5):
         service, answered = Service(program, "--workers", 2, setup=["make 8"], limits=room_for(program, threads)), ""
-        with contextlib.suppress(OSError):
-            client = Client(service)
+        with contextlib.suppress(OSError), Client(service) as client:
             answered = client.ask("get 1 0 1") + client.end()
         try:
             service.process.wait(SECONDS)
@@ -659,10 +657,11 @@ def show_few_files(program: str) -> None:
     end: it has three streams, listens by a fourth file, and takes two for each client."""
     for files in (4, 5, 6, 7):
         service = Service(program, "--connections", 2, setup=["make 8", f"ship 100000 0 0 0 0 0 {COUNTS}"], limits={resource.RLIMIT_NOFILE: files})
-        clients = [Client(service) for _ in range((files - 4) // 2)]
-        want(files < 7 or clients[0].ask("get 1 0 1") == "bytes 00", "a client that is served")
-        want(files % 2 == 0 or is_heard("127.0.0.1", service.port), "one client more")
-        want([client.replies.read() for client in clients] == [""] * len(clients), "the end of those that are connected")
+        with contextlib.ExitStack() as held:
+            clients = [held.enter_context(Client(service)) for _ in range((files - 4) // 2)]
+            want(files < 7 or clients[0].ask("get 1 0 1") == "bytes 00", "a client that is served")
+            want(files % 2 == 0 or is_heard("127.0.0.1", service.port), "one client more")
+            want([client.replies.read() for client in clients] == [""] * len(clients), "the end of those that are connected")
         want(service.texts() == (3, "", "net fault\n"), f"a service that may open {files} files")
 
 
@@ -687,7 +686,8 @@ def show_statuses(program: str) -> None:
     with open("/dev/full", "wb") as full:
         want(served(program, setup="make 8\n", stdout=full) == (3, "", "write fault\n"), "a full device, in the input's commands")
         want(served(program, stdout=full) == (3, "", "write fault\n"), "a full device, as it listens")
-    want(served(program, stdin=os.open("/", os.O_RDONLY)) == (3, "", "read fault\n"), "an input that fails")
+    with unreadable() as fails:
+        want(served(program, stdin=fails) == (3, "", "read fault\n"), "an input that fails")
     far = ["--far", "127.0.0.1:1"]
     for words in (["--far"], far * 2, [*far, "--workers", "17"], ["--connections", "0"], ["--connections=9"], ["--workers", "17"], ["--workers=-1"], ["--port", "65536"], ["--budget", "67108865"], ["--sweep", "--sweep"], ["--connections"], ["--workers", "x"], ["x"], ["--sweep=true"]):
         status, output, errors = served(program, *words)

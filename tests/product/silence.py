@@ -16,19 +16,22 @@ from typing import Iterator
 
 sys.path.insert(0, str(pathlib.Path(__file__).resolve().parents[1]))
 from lib.checks import run_parts, want, want_equal
-from lib.programs import SECONDS, Client, Server, Service, ended, object_line, opened, patience
+from lib.programs import SECONDS, Client, Server, Service, ended, object_line, opened
 from lib.sources import ROOT
 
 sys.path.append(str(ROOT / "python"))
 from bpfagent.far import DONE, HEAD, PUT
 
-# The time that the far server is given, in milliseconds, and in seconds.
-MILLIS = 400
+# The time that the far server is given, in milliseconds, and in seconds. It is long beside the pauses of a busy machine.
+MILLIS = 3000
 GIVEN = MILLIS / 1000
-# How much longer than that a move may take to fail, and the longest time that a reply, and the end of a service, may take, in seconds.
-LATE = 0.3
-REPLY = 0.2
-END = 1.0
+# How much longer than that a move may take to fail, and the longest time that a reply, and the end of a service, may take, in seconds. Each
+# is shorter than what the server is given: a reply that waited for the server would be found out.
+LATE = 1.5
+REPLY = 1.5
+END = 1.5
+# How long the mover may take to come to a request, in seconds.
+BEGINS = 0.5
 HELD = b"\x2a" + bytes(7)
 
 
@@ -72,7 +75,7 @@ def unaccepting() -> Iterator[str]:
         yield f"127.0.0.1:{listener.getsockname()[1]}"
 
 
-def wait_until(client: Client, command: str, wanted: str, slower: int) -> float:
+def wait_until(client: Client, command: str, wanted: str) -> float:
     """How long it takes until a command is answered so, where each reply comes soon."""
     start = time.monotonic()
     reply = ""
@@ -81,92 +84,87 @@ def wait_until(client: Client, command: str, wanted: str, slower: int) -> float:
         want(asked - start < SECONDS, f"{command} is answered {reply}, and not {wanted}")
         reply = client.ask(command)
         took = time.monotonic() - asked
-        want(took < REPLY * slower, f"{command} is answered after {took:.3f} s, while the far server is silent")
+        want(took < REPLY, f"{command} is answered after {took:.3f} s, while the far server is silent")
         time.sleep(0.005)
     return time.monotonic() - start
 
 
-def ends(client: Client, service: Service, lines: list[str], slower: int) -> None:
-    """The last client goes, and the service ends soon."""
+def ends(client: Client, service: Service, lines: list[str], seconds: float = END) -> None:
+    """The last client goes, and the service ends within so many seconds."""
     want_equal(client.end(), "", "what is said beyond the replies")
     start = time.monotonic()
-    service.process.wait()
+    service.process.wait(SECONDS)
     took = time.monotonic() - start
-    want(took < END * slower, f"the service ends {took:.1f} s after its last client")
+    want(took < seconds, f"the service ends {took:.1f} s after its last client")
     want(service.ends_with(lines), "the end of a service whose far server is silent")
 
 
 def show_silent_put(program: str) -> None:
     """A server that never answers: the object stays here when the time has passed, and the next one at once."""
-    slower = patience(program)
     with silent() as far:
         service, client = opened(program, "--far", far, "--far-timeout", MILLIS, "--workers", 1, setup=["make 8", "put 1 0 2a", "make 8"])
         start = time.monotonic()
         want_equal(client.ask("leave 1"), "asked 1", "an object that is to leave")
-        wait_until(client, "get 1 0 8", "away 1", slower)
-        wait_until(client, "get 1 0 8", "bytes 2a", slower)
+        wait_until(client, "get 1 0 8", "away 1")
+        wait_until(client, "get 1 0 8", "bytes 2a")
         took = time.monotonic() - start
-        want(GIVEN / 2 < took < GIVEN + LATE * slower, f"a silent server is given {took:.2f} s")
+        want(GIVEN / 2 < took < GIVEN + LATE, f"a silent server is given {took:.2f} s")
         want_equal(client.ask("leave 2"), "asked 2", "an object that is to leave over a broken stream")
-        time.sleep(LATE / 2)
-        took = wait_until(client, "get 2 0 8", "bytes 00", slower)
-        want(took < LATE * slower, f"a move over a stream that is broken takes {took:.2f} s")
-        ends(client, service, [object_line(1, HELD), object_line(2, bytes(8))], slower)
+        time.sleep(BEGINS)
+        took = wait_until(client, "get 2 0 8", "bytes 00")
+        want(took < LATE, f"a move over a stream that is broken takes {took:.2f} s")
+        ends(client, service, [object_line(1, HELD), object_line(2, bytes(8))])
 
 
 def show_silent_get(program: str) -> None:
     """A server that keeps two objects and then is silent: they stay far, and what is here is answered as ever."""
-    slower = patience(program)
     with silent(2) as far:
         service, client = opened(program, "--far", far, "--far-timeout", MILLIS, "--workers", 1, setup=["make 8", "make 8", "make 8", "put 3 0 2a"])
         want_equal(client.ask_at_once(["leave 1", "leave 2"]), ["asked 1", "asked 2"], "objects that are to leave")
-        wait_until(client, "get 2 0 8", "away 2", slower)
+        wait_until(client, "get 2 0 8", "away 2")
         start = time.monotonic()
         while time.monotonic() - start < 2 * GIVEN:
-            want(wait_until(client, "get 3 0 8", "bytes 2a", slower) < REPLY * slower, "an object that is here")
+            want(wait_until(client, "get 3 0 8", "bytes 2a") < REPLY, "an object that is here")
             want_equal(client.ask("get 1 0 8"), "away 1", "an object that is far")
-        ends(client, service, ["object 1 out", "object 2 out", object_line(3, HELD)], slower)
+        ends(client, service, ["object 1 out", "object 2 out", object_line(3, HELD)])
 
 
 def show_end_within_a_move(program: str) -> None:
     """The last client goes while a move waits for a silent server: the service ends when that move has failed at the latest."""
-    slower = patience(program)
     with silent() as far:
         service, client = opened(program, "--far", far, "--far-timeout", MILLIS, setup=["make 8"])
         want_equal(client.ask("leave 1"), "asked 1", "an object that is to leave")
-        ends(client, service, [object_line(1, bytes(8))], slower)
+        ends(client, service, [object_line(1, bytes(8))], GIVEN + END)
 
 
 def show_unaccepting(program: str) -> None:
     """A server that takes no connection can't be reached, when the time has passed."""
-    slower = patience(program)
     with unaccepting() as far:
         start = time.monotonic()
         done = ended(program, "serve", "--far", far, "--far-timeout", MILLIS)
         took = time.monotonic() - start
     want_equal(done, (3, b"", b"far server can't be reached\n"), "a server that takes no connection")
-    want(GIVEN / 2 < took < GIVEN + LATE * slower, f"a server that takes no connection is given {took:.2f} s")
+    want(GIVEN / 2 < took < GIVEN + LATE, f"a server that takes no connection is given {took:.2f} s")
 
 
-def there_and_back(client: Client, held: str, slower: int) -> None:
+def there_and_back(client: Client, held: str) -> None:
     """Object 1 leaves when it is asked to, and returns when it is missed."""
     want_equal(client.ask("leave 1"), "asked 1", "an object that is to leave")
-    wait_until(client, "get 1 0 8", "away 1", slower)
-    wait_until(client, "get 1 0 8", held, slower)
+    wait_until(client, "get 1 0 8", "away 1")
+    wait_until(client, "get 1 0 8", held)
 
 
 def show_two_services(program: str) -> None:
     """Two services at one server at the same time: objects of both leave and return."""
-    slower = patience(program)
     with Server(program) as server:
         far = f"127.0.0.1:{server.port}"
         services = [Service(program, "--far", far, "--workers", 0, setup=["make 8", f"put 1 0 0{mark}"]) for mark in (1, 2)]
         clients = [Client(service) for service in services]
         for _ in range(3):
             for mark, client in enumerate(clients, 1):
-                there_and_back(client, f"bytes 0{mark}", slower)
+                there_and_back(client, f"bytes 0{mark}")
         for mark, (client, service) in enumerate(zip(clients, services), 1):
-            ends(client, service, [object_line(1, bytes([mark, *bytes(7)]))], slower)
+            ends(client, service, [object_line(1, bytes([mark, *bytes(7)]))])
         want_equal(server.end(), (0, b"", b""), "the far server of two services")
 
 

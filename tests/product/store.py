@@ -8,7 +8,6 @@ listens on 127.0.0.1 alone.
 from __future__ import annotations
 
 import contextlib
-import os
 import pathlib
 import re
 import resource
@@ -20,7 +19,7 @@ import time
 
 sys.path.insert(0, str(pathlib.Path(__file__).resolve().parents[1]))
 from lib.checks import run_parts, want, want_equal
-from lib.programs import Server, ended, has_checks, is_heard, noted, room_for, size_of
+from lib.programs import SECONDS, Server, ended, has_checks, is_heard, noted, room_for, size_of, unreadable
 from lib.sources import ROOT
 
 sys.path.append(str(ROOT / "python"))
@@ -117,7 +116,8 @@ def is_refused(server: Server) -> bool:
 
 def is_taken(server: Server) -> bool:
     """Whether a client is served before long."""
-    for _ in range(200):
+    end = time.monotonic() + SECONDS
+    while time.monotonic() < end:
         with contextlib.suppress(OSError), server.connect() as stream:
             if asked(stream, frame(GET, 1)) == frame(REFUSED_ID, 1):
                 return True
@@ -163,10 +163,8 @@ def show_memory(program: str) -> None:
     for clients in (2, 8, 2, 8):
         took = put_much(server, clients) - before
         want(took > MUCH, f"{MUCH} bytes are kept in {took}")
-        for _ in range(100):
-            left = size_of(server.process.pid, "VmRSS") - before
-            if left < LITTLE:
-                break
+        end = time.monotonic() + SECONDS
+        while (left := size_of(server.process.pid, "VmRSS") - before) >= LITTLE and time.monotonic() < end:
             time.sleep(0.02)
         want(left < LITTLE, f"{left} bytes stay when {clients} clients have gone")
     for _ in range(500):
@@ -245,7 +243,8 @@ def show_statuses(program: str) -> None:
     want(again.port == server.port and again.end()[0] == 0, "the port that is asked for")
     with open("/dev/full", "wb") as full:
         want_equal(ended(program, "store", stdin=subprocess.PIPE, stdout=full), (3, b"", b"write fault\n"), "a full device")
-    status, output, errors = ended(program, "store", stdin=os.open("/", os.O_RDONLY))
+    with unreadable() as fails:
+        status, output, errors = ended(program, "store", stdin=fails)
     want((status, errors) == (3, b"read fault\n") and output.startswith(b"listening "), f"an input that fails: {status}, {output}, {errors}")
     for port in ("65536", "-1", "x", ""):
         status, output, errors = ended(program, "store", f"--port={port}")
