@@ -313,6 +313,13 @@ def run(given: argparse.Namespace, image: Image) -> bool:
         return converse(agent, image, given.fuel, values, given.bpfagent)
 
 
+def reader_of(given: argparse.Namespace) -> Callable[[str], object]:
+    """What an argument of the program may be, by what the options have done with it."""
+    if given.line:
+        return number_of
+    return object_of if given.connect else form_of
+
+
 def main(words: Optional[Sequence[str]] = None) -> None:
     """The command line."""
     options = parser()
@@ -320,7 +327,7 @@ def main(words: Optional[Sequence[str]] = None) -> None:
     if given.arguments and (given.check or given.output):
         options.error(f"{'--check' if given.check else '--output'} takes no ARGUMENT: nothing is run")
     try:
-        each_of(given.arguments, number_of if given.line else object_of if given.connect else form_of)
+        each_of(given.arguments, reader_of(given))
     except WrongArgument as why:
         options.error(str(why))
     guarded("bpfagent-ship", lambda: ship(given), Unshippable, Unloadable, Broken)

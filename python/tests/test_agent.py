@@ -16,6 +16,7 @@ import tempfile
 import threading
 import time
 import unittest
+import unittest.mock
 from typing import Callable, Optional, Sequence
 
 import bpfagent
@@ -397,12 +398,15 @@ class Conversations(Case):
             asleep = pathlib.Path(folder) / "asleep"
             asleep.write_text("#!/bin/sh\nexec sleep 30\n")
             asleep.chmod(0o755)
-            agent = Agent.run(asleep, timeout=0.05)
-            self.assertEqual(why_broken(lambda: agent.make(8)), "no reply came within 0.05 seconds", "a program that doesn't answer")
-            agent = Agent.run(asleep, timeout=0.2)
+            hung = Agent.run(asleep, timeout=0.05)
+            self.assertEqual(why_broken(lambda: hung.make(8)), "no reply came within 0.05 seconds", "a program that doesn't answer")
+            deaf = Agent.run(asleep, timeout=0.2)
             self.assertEqual(
-                why_broken(lambda: agent.tell_all(["put 1 0 " + "00" * 4096] * 100)), "no reply came within 0.2 seconds", "a program that doesn't read"
+                why_broken(lambda: deaf.tell_all(["put 1 0 " + "00" * 4096] * 100)), "no reply came within 0.2 seconds", "a program that doesn't read"
             )
+            with unittest.mock.patch("bpfagent.agent.PATIENCE", 0.1):
+                for sleeping in (hung, deaf):
+                    self.assertEqual(why_broken(sleeping.close), "the program didn't end, and was killed")
         agent = Agent.run(shutil.which("false") or "false")
         self.assertTrue(is_broken(lambda: agent.make(8)) and is_broken(agent.close), "a program that ends early")
         agent = Agent.run(PROGRAM, "--budget", "x")

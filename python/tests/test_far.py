@@ -11,15 +11,22 @@ import threading
 import unittest
 from typing import Sequence
 
-from bpfagent.far import DONE, HEAD, LIMIT, REFUSED_ID, Broken, Store
+from bpfagent import Broken
+from bpfagent.far import DONE, HEAD, LIMIT, REFUSED_ID, Store
 from support import PROGRAM, ROOT, SECONDS
 
 from lib.programs import Server
 
 
-
 def frame(kind: int, number: int, payload: bytes = b"", length: int | None = None) -> bytes:
     return HEAD.pack(kind, number, len(payload) if length is None else length) + payload
+
+
+def kept(store: Store, content: bytes) -> tuple[int, bytes]:
+    """Id and digest of bytes that a store takes."""
+    number, digest = store.put(content)
+    assert number is not None
+    return number, digest
 
 
 def called(words: Sequence[str]) -> tuple[int, str, str]:
@@ -46,15 +53,14 @@ def lied_to(answer: bytes) -> object:
 
         liar = threading.Thread(target=lie)
         liar.start()
-        store = Store(listener.getsockname()[1])
-        number, digest = store.put(b"abc")
-        try:
-            return store.get(number, digest)
-        except (Broken, ConnectionResetError):
-            return Broken
-        finally:
-            liar.join()
-            store.stream.close()
+        with Store(listener.getsockname()[1], timeout=SECONDS) as store:
+            number, digest = kept(store, b"abc")
+            try:
+                return store.get(number, digest)
+            except (Broken, ConnectionResetError):
+                return Broken
+            finally:
+                liar.join()
 
 
 @unittest.skipUnless(PROGRAM, "needs BPFAGENT")
@@ -64,7 +70,8 @@ class FarTest(unittest.TestCase):
         with Server(PROGRAM) as server:
             texts = ["hello", "é" * 1000]
             self.assertEqual(called([str(server.port), *texts]), (0, "".join(map(line_of, (1, 2), texts)), ""))
-            for words in ([], ["x"], [str(server.port), ""], [str(server.port), "a", "z" * (LIMIT + 1)]):
+            wrong: list[list[str]] = [[], ["x"], [str(server.port), ""], [str(server.port), "a", "z" * (LIMIT + 1)]]
+            for words in wrong:
                 status, output, errors = called(words)
                 self.assertEqual((status, output, errors[:7]), (2, "", "usage: "), words)
             self.assertEqual(server.end(), (0, b"", b""))
@@ -75,19 +82,19 @@ class FarTest(unittest.TestCase):
             text = (ROOT / page).read_text()
             self.assertIn("bpfagent store --port 7070", text, page)
             asked = re.search(r"`python3 -m bpfagent\.far 7070 (\w+)`", text)
-            self.assertTrue(asked, page)
+            assert asked, page
             with Server(PROGRAM, "--port", "0") as server:
                 self.assertEqual(called([str(server.port), asked[1]]), (0, line_of(1, asked[1]), ""), page)
                 self.assertEqual(server.end(), (0, b"", b""), page)
 
     def test_methods(self) -> None:
         with Server(PROGRAM) as server:
-            store = Store(server.port)
-            number, digest = store.put(b"abc")
-            self.assertEqual((store.get(number, digest), store.get(number, bytes(32)), store.get(7, digest)), (b"abc", None, None))
-            store.forget(number)
-            self.assertIsNone(store.get(number, digest))
-            store.stream.close()
+            assert server.port
+            with Store(server.port, timeout=SECONDS) as store:
+                number, digest = kept(store, b"abc")
+                self.assertEqual((store.get(number, digest), store.get(number, bytes(32)), store.get(7, digest)), (b"abc", None, None))
+                store.forget(number)
+                self.assertIsNone(store.get(number, digest))
             self.assertEqual(server.end(), (0, b"", b""))
 
     def test_lies(self) -> None:

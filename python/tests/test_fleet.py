@@ -13,11 +13,12 @@ import pickle
 import random
 import subprocess
 import sys
+import time
 import unittest
 import unittest.mock
 from typing import Any, Callable, TypeVar
 
-from support import PROGRAM, ROOT, needs_debugger
+from support import PROGRAM, ROOT, SECONDS, needs_debugger
 
 sys.path.append(str(ROOT / "examples/scaling"))
 import engines
@@ -29,6 +30,7 @@ import simulate_fleet
 import transfers
 import word_count
 from bpfagent.fleet import Fleet, Job, JobRefused, JobStopped, Owner, Result, Setting, Store, Unconfirmed, lines_of
+from bpfagent.fleet.store import Read
 from bpfagent.image import load
 from redis.backoff import NoBackoff
 from redis.retry import Retry
@@ -54,6 +56,19 @@ def number(value: int) -> bytes:
 
 def value(content: bytes) -> int:
     return int.from_bytes(content, "little")
+
+
+def number_in(read: Read, key: str) -> int:
+    """The number that a body of a job reads."""
+    content = read(key, None)[1]
+    assert content is not None
+    return value(content)
+
+
+def random_pair(chance: random.Random) -> tuple[int, int]:
+    """Two of five accounts."""
+    one, other = chance.sample(range(5), 2)
+    return one, other
 
 
 def transfer(one: str, other: str, amount: int, **more: Any) -> Job:
@@ -85,8 +100,8 @@ class FleetTest(unittest.TestCase):
     def test_missing(self) -> None:
         """Without its packages an example says which it needs, and that it was skipped."""
         for name in ("word_count", "transfers", "measure_fleet"):
-            command = [sys.executable, "-S", ROOT / f"examples/scaling/{name}.py", PROGRAM]
-            done = subprocess.run(command, env={**os.environ, "BPFAGENT_FLEET": "tried"}, stdout=subprocess.PIPE, text=True, timeout=60)
+            command = [sys.executable, "-S", str(ROOT / f"examples/scaling/{name}.py"), PROGRAM]
+            done = subprocess.run(command, env={**os.environ, "BPFAGENT_FLEET": "tried"}, stdout=subprocess.PIPE, text=True, timeout=SECONDS)
             wanted = f"{name}.py: skipped, for it needs Debian's python3-distributed, python3-redis\n"
             self.assertEqual((done.returncode, done.stdout), (0, wanted), f"{name}.py without packages")
 
@@ -171,13 +186,13 @@ class FleetTest(unittest.TestCase):
             job = transfer("a", "b", 1)
             self.assertEqual([Owner(setting).run(job), Owner(setting).run(job)], [Result(1, ())] * 2, "a job that is run twice")
             self.assertEqual(value(store.get("b")), 1, "the account")
-            seen = []
+            seen: list[int] = []
 
-            def body(read):
-                seen.append(value(read("a", None)[1]))
+            def body(read: Read) -> tuple[Result, dict[str, bytes]]:
+                seen.append(number_in(read, "a"))
                 if len(seen) < 3:
                     other.put("b", number(len(seen)))
-                return Result(7, (8,)), {"a": number(seen[-1] + value(read("b", None)[1]))}
+                return Result(7, (8,)), {"a": number(seen[-1] + number_in(read, "b"))}
 
             job = Job(b"", {"a": "w", "b": "r"})
             self.assertEqual(store.once(job, body)[0], Result(7, (8,)), "a job whose key changes")
@@ -186,8 +201,8 @@ class FleetTest(unittest.TestCase):
             self.assertEqual(len(seen), 3, "how often it was run then")
             seen.clear()
 
-            def stopping(read):
-                seen.append(read("a", None))
+            def stopping(read: Read) -> tuple[Result, dict[str, bytes]]:
+                seen.append(number_in(read, "a"))
                 if len(seen) == 1:
                     other.put("a", number(5))
                 raise JobStopped("job", "outside", 0, "exit", None, ())
@@ -200,9 +215,9 @@ class FleetTest(unittest.TestCase):
         with engines.single() as server, unittest.mock.patch("bpfagent.fleet.store.REPLICATED", 10):
             store = Store(Setting((server.url,), False, PROGRAM, 1, 60))
             store._retry = Retry(NoBackoff(), 1, (Unconfirmed,))
-            job, runs = Job(b"", {"a": "w"}), []
+            job, runs = Job(b"", {"a": "w"}), list[int]()
 
-            def body(read):
+            def body(read: Read) -> tuple[Result, dict[str, bytes]]:
                 runs.append(1)
                 return Result(7, ()), {"a": b"x"}
 
@@ -218,10 +233,15 @@ class FleetTest(unittest.TestCase):
             for name in accounts:
                 fleet.put(name, number(transfers.START))
             chance = random.Random(1)
-            asked = [(*chance.sample(range(5), 2), chance.randint(1, 2000)) for _ in range(60)]
-            jobs = [transfer(accounts[one], accounts[other], amount) for one, other, amount in asked]
+            asked, moved = list[tuple[int, int, int]](), list[int]()
+            end = time.monotonic() + SECONDS
             with engines.Killer(made, 0.1) as killer:
-                moved = [it.value for it in client.gather(fleet.map(jobs, priority=5))]
+                # A fast machine may do so many before a worker is killed.
+                while not killer.killed and time.monotonic() < end:
+                    more = [(*random_pair(chance), chance.randint(1, 2000)) for _ in range(60)]
+                    jobs = [transfer(accounts[one], accounts[other], amount) for one, other, amount in more]
+                    moved += [it.value for it in engines.results(client, fleet.map(jobs, priority=5))]
+                    asked += more
             self.assertTrue(killer.killed, "no worker was killed")
             self.assertEqual(set(moved), {0, 1}, "results of transfers, some of more than there is")
             transfers.compare([value(fleet.get(name)) for name in accounts], moved, asked)
@@ -255,7 +275,7 @@ class FleetTest(unittest.TestCase):
     def test_page(self) -> None:
         """The tables and pictures of the page are those of the figures."""
         done = subprocess.run(
-            [sys.executable, ROOT / "examples/scaling/report.py", "--check"], stdout=subprocess.PIPE, stderr=subprocess.STDOUT, text=True, timeout=60
+            [sys.executable, ROOT / "examples/scaling/report.py", "--check"], stdout=subprocess.PIPE, stderr=subprocess.STDOUT, text=True, timeout=SECONDS
         )
         self.assertEqual((done.returncode, done.stdout), (0, ""), "report.py --check")
 

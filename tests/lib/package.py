@@ -1,6 +1,7 @@
 """Runs the commands of the Python package from its sources, without installing it."""
 from __future__ import annotations
 
+import atexit
 import functools
 import os
 import pathlib
@@ -41,6 +42,7 @@ def reads_object_files() -> bool:
 def folder() -> tempfile.TemporaryDirectory[str]:
     """A folder with the package's commands, and a `python3` that has pyelftools, if there is one."""
     made = tempfile.TemporaryDirectory()
+    atexit.register(made.cleanup)
     (pathlib.Path(made.name) / "python3").symlink_to(python())
     for name, module in MODULES.items():
         path = pathlib.Path(made.name) / name

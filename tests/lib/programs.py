@@ -13,7 +13,7 @@ import socket
 import subprocess
 import time
 from types import TracebackType
-from typing import Any, Callable, Iterable, Iterator, Mapping, Sequence
+from typing import Any, Callable, Iterable, Iterator, Mapping, Sequence, TypeVar
 
 from lib.checks import Failed, want
 
@@ -106,6 +106,9 @@ def is_heard(host: str, port: int) -> bool:
     return True
 
 
+P = TypeVar("P", bound="Process")
+
+
 class Process:
     """A program that was started with pipes. Leaving its block kills it where it hasn't ended."""
 
@@ -113,7 +116,7 @@ class Process:
         pipe = subprocess.PIPE
         self.process = subprocess.Popen([str(word) for word in command], stdin=pipe, stdout=pipe, stderr=pipe, preexec_fn=limited_to(limits))
 
-    def __enter__(self) -> Process:
+    def __enter__(self: P) -> P:
         return self
 
     def __exit__(self, kind: type[BaseException] | None, error: BaseException | None, trace: TracebackType | None) -> None:

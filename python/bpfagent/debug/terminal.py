@@ -8,7 +8,7 @@ import pathlib
 import re
 import signal
 import sys
-from typing import Callable, Iterator, Optional
+from typing import Any, Callable, Iterator, Optional
 
 from ..accesses import place_text
 from ..agent import pauses
@@ -379,11 +379,11 @@ class Terminal(cmd.Cmd):
 
     # ---- completion
 
-    def complete(self, text: str, state: int) -> Optional[str]:
+    # The stubs of `cmd` have it give a list.
+    def complete(self, text: str, state: int) -> Any:
         """A completion. An interrupt doesn't come between a line to the agent and its reply."""
         with self.interrupts.kept():
-            found: Optional[str] = super().complete(text, state)
-            return found
+            return super().complete(text, state)
 
     def completenames(self, text: str, *ignored: object) -> list[str]:
         """Commands that begin so."""
