@@ -15,7 +15,6 @@ import json
 import pathlib
 import random
 import sys
-from collections import deque
 from dataclasses import dataclass
 from typing import Iterator, Optional, Sequence
 
@@ -75,38 +74,32 @@ class Site:
     is_one: bool = False
 
 
-class Servers:
-    """Some that serve alike, whoever comes first."""
-
-    def __init__(self, count: int) -> None:
-        self.free = [0.0] * count
-
-    def take(self, now: float, seconds: float) -> float:
-        """When a request that comes now and takes so many seconds is served."""
-        end = max(now, heapq.heappop(self.free)) + seconds
-        heapq.heappush(self.free, end)
-        return end
-
-
 class Simulated:
-    """A closed network: each agent has jobs at hand, and asks for another when one is done."""
+    """A closed network: each agent has jobs at hand, and asks for another when one is done.
+
+    Servers that serve alike, whoever comes first, are a heap of the times at which they are free. Events are (time, agent, stage that
+    ends then), also in a heap.
+    """
 
     def __init__(self, site: Site, laws: Laws, length: float, instructions: float, deaths: float = 0.0) -> None:
         """`deaths` is how many workers of the fleet die each second."""
-        self.site, self.laws, self.deaths = site, laws, deaths
+        self.agents, self.death, self.mortality, self.is_one = site.agents, laws.death, deaths / site.agents, site.is_one
         self.chance = random.Random(SEED)
-        self.schedulers = [Servers(1) for _ in range(site.schedulers)]
-        self.hosts = [Servers(laws.processors) for _ in range(site.hosts)]
-        self.nodes = [Servers(1) for _ in range(site.nodes)]
-        # The stages of a job at its agent: which part serves, how long, and the pause before it.
+        schedulers = [[0.0] for _ in range(site.schedulers)]
+        hosts = [[0.0] * laws.processors for _ in range(site.hosts)]
+        self.nodes = [[0.0] for _ in range(site.nodes)]
+        # Of each agent its host and its scheduler.
+        self.hosts = [hosts[agent % site.hosts] for agent in range(site.agents)]
+        self.schedulers = [schedulers[agent % site.schedulers] for agent in range(site.agents)]
+        # The stages of a job at its agent: whether a node of Redis serves, how long, and the pause before it.
         worker, redis, agent = (law.of(length, instructions) for law in (laws.worker, laws.redis, laws.agent))
         wire, trips = site.trip / 2, costs.TRIPS * site.trip / 2
         self.stages = [
-            ("host", worker / 2, wire),
-            ("node", redis / 2, trips),
-            ("host", agent, site.wire * length),
-            ("host", worker / 2, 0.0),
-            ("node", redis / 2, trips),
+            (False, worker / 2, wire),
+            (True, redis / 2, trips),
+            (False, agent, site.wire * length),
+            (False, worker / 2, 0.0),
+            (True, redis / 2, trips),
         ]
         self.scheduling = laws.scheduler.of(length, instructions)
         self.events: list[tuple[float, int, int]] = []
@@ -114,39 +107,39 @@ class Simulated:
         # When each agent began its job.
         self.begun: list[Optional[float]] = [None] * site.agents
 
-    def serve(self, part: str, agent: int, now: float, seconds: float) -> float:
+    def serve(self, servers: list[float], agent: int, now: float, seconds: float) -> float:
         """When a part has done its work for a job. On one host all parts share its processors."""
-        host = self.hosts[0 if self.site.is_one else agent % self.site.hosts]
-        if part == "host":
-            return host.take(now, seconds)
-        servers = self.schedulers[agent % len(self.schedulers)] if part == "scheduler" else self.chance.choice(self.nodes)
-        return servers.take(host.take(now, seconds) - seconds if self.site.is_one else now, seconds)
+        host = self.hosts[agent]
+        if self.is_one and servers is not host:
+            now = taken(host, now, seconds) - seconds
+        return taken(servers, now, seconds)
 
     def schedule(self, agent: int, now: float) -> None:
         """A scheduler hands a job to an agent."""
-        heapq.heappush(self.events, (self.serve("scheduler", agent, now, self.scheduling), agent, SCHEDULED))
-
-    def advance(self, agent: int, now: float, stage: int) -> None:
-        """A job at its agent goes on."""
-        part, seconds, pause = self.stages[stage]
-        heapq.heappush(self.events, (self.serve(part, agent, now + pause, seconds), agent, stage))
+        heapq.heappush(self.events, (self.serve(self.schedulers[agent], agent, now, self.scheduling), agent, SCHEDULED))
 
     def begin(self, agent: int, now: float) -> None:
         """An agent that is free takes its next job."""
         if self.waiting[agent] and self.begun[agent] is None:
             self.waiting[agent] -= 1
             self.begun[agent] = now
-            self.advance(agent, now, 0)
+            heapq.heappush(self.events, self.after(agent, now, 0))
+
+    def after(self, agent: int, now: float, stage: int) -> tuple[float, int, int]:
+        """The end of a stage that a job comes to now."""
+        is_node, seconds, pause = self.stages[stage]
+        servers = self.chance.choice(self.nodes) if is_node else self.hosts[agent]
+        return self.serve(servers, agent, now + pause, seconds), agent, stage
 
     def has_died(self, agent: int, now: float) -> bool:
         """Whether the worker died while it did the job that would end now."""
-        return self.chance.random() < self.deaths / self.site.agents * (now - (self.begun[agent] or now))
+        return self.chance.random() < self.mortality * (now - (self.begun[agent] or now))
 
     def end(self, agent: int, now: float) -> bool:
         """The last stage of a job is over: whether the job is done. Else its worker has died, and it is done again."""
         if self.has_died(agent, now):
-            self.begun[agent] = now + self.laws.death
-            heapq.heappush(self.events, (now + self.laws.death, agent, AGAIN))
+            self.begun[agent] = now + self.death
+            heapq.heappush(self.events, (now + self.death, agent, AGAIN))
             return False
         self.begun[agent] = None
         self.schedule(agent, now)
@@ -155,21 +148,32 @@ class Simulated:
 
     def rate(self, jobs: int = JOBS) -> float:
         """Jobs a second over so many of each agent, after a quarter of them."""
-        wanted, done, now, first = max(jobs * self.site.agents, FEWEST), 0, 0.0, 0.0
-        for agent in range(self.site.agents):
+        wanted, done, now, first = max(jobs * self.agents, FEWEST), 0, 0.0, 0.0
+        events, last = self.events, len(self.stages) - 1
+        for agent in range(self.agents):
             for _ in range(AHEAD):
                 self.schedule(agent, now)
         while done < wanted:
-            now, agent, stage = heapq.heappop(self.events)
+            now, agent, stage = events[0]
+            if SCHEDULED < stage < last:
+                heapq.heapreplace(events, self.after(agent, now, stage + 1))
+                continue
+            heapq.heappop(events)
             if stage == SCHEDULED:
                 self.waiting[agent] += 1
                 self.begin(agent, now)
-            elif stage + 1 < len(self.stages):
-                self.advance(agent, now, stage + 1)
             elif self.end(agent, now):
                 done += 1
                 first = now if done == wanted // 4 else first
         return (done - wanted // 4) / (now - first)
+
+
+def taken(servers: list[float], now: float, seconds: float) -> float:
+    """When a request that comes now and takes so many seconds is served by the first of these that is free."""
+    free = servers[0]
+    end = (now if now > free else free) + seconds
+    heapq.heapreplace(servers, end)
+    return end
 
 
 def here(agents: int) -> Site:

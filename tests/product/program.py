@@ -7,6 +7,7 @@ so that a program that waits for more is found out.
 """
 from __future__ import annotations
 
+import concurrent.futures
 import os
 import pathlib
 import re
@@ -28,6 +29,8 @@ from lib.sources import ROOT, pages
 EXIT = bytes.fromhex("9500000000000000")
 ALL_ONES = bytes.fromhex("18000000ffffffff00000000ffffffff") + EXIT
 SECONDS = 20
+# How many runs of it go on side by side.
+PROCESSES = 4
 # What the program may have of data, in bytes, while it runs the conversations of examples/.
 SCRIPT_DATA = 8 << 20
 PROGRAM = "crates/bpfagent/out/bpfagent"
@@ -101,12 +104,14 @@ def show_statuses(program: str) -> None:
             (["dis"], ALL_ONES, b"lddw r0, 0xffffffffffffffff\nexit\n"), (["dis", "--slots"], ALL_ONES, b"0: lddw r0, 0xffffffffffffffff\n2: exit\n")]
     for arguments, given, output in done:
         is_done(program, arguments, given, output)
-    for task, given, line in REFUSED:
-        want_ended(program, [task], given, 1, b"", line)
+    refused = [([task], given, line) for task, given, line in REFUSED]
     for task, cases in (("asm", EXPLAINED), ("check", EXPLAINED_CODE)):
         for given, line, explanation in cases:
-            want_ended(program, [task], given, 1, b"", line)
-            want_ended(program, [task, "--explain"], given, 1, b"", line + explanation)
+            refused += [([task], given, line), ([task, "--explain"], given, line + explanation)]
+    # The longest texts take a program of `make try` a quarter of a minute each.
+    with concurrent.futures.ThreadPoolExecutor(PROCESSES) as pool:
+        for found in [pool.submit(want_ended, program, arguments, given, 1, b"", line) for arguments, given, line in refused]:
+            found.result()
     for arguments in (["--help"], ["-h"], *([task, "--help"] for task in HELP)):
         status, output, errors = call(program, arguments)
         want((status, errors) == (0, b"") and b"Usage: bpfagent" in output, f"{arguments} ended with {status}, {output}, {errors}")
