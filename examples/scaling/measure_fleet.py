@@ -4,12 +4,16 @@
 Jobs and bytes a second by agents, by size of object and by length of program, beside plain Python on the same workers; the
 processor time that a job takes of each part; what a lost worker costs; and the examples of words and transfers, also while workers
 and a node of Redis are killed. The figures go to figures.json, from which report.py makes the tables and plots of docs/SCALING.md
-and simulate_fleet.py its costs. Takes about half an hour on four processors. --quick measures a little of everything, in two.
+and simulate_fleet.py its costs. All parts take about half an hour on four processors.
+
+Each part is kept as soon as it is measured, with the program, the machine and the load. So an interrupted run keeps what it has,
+and --part measures what is still to come. --size 0.1 measures a tenth of the jobs, which goes to out/figures.json unless --output
+names a file.
 """
 from __future__ import annotations
 
 import argparse
-import json
+import datetime
 import os
 import pathlib
 import statistics
@@ -19,16 +23,17 @@ from typing import Callable, Iterator
 
 import costs
 import engines
+import figures
 
 HERE = pathlib.Path(__file__).resolve().parent
-FIGURES = HERE / "figures.json"
+# Where figures are kept that the page isn't made of.
+TRIED = HERE / "out" / "figures.json"
 OBJECTS, FUEL = 256, 10_000_000
-AGENTS = (1, 2, 4, 8)
+# Seconds for each row, jobs for what a death costs, texts, and transfers.
+SECONDS, LOST, TEXTS, MOVED = 2.0, 2000, 4096, 10_000
 # Turns of spin.c with the smallest object, and sizes of object with the shortest program.
 TURNS, LENGTHS = (10, 1000, 10_000, 100_000), (64, 4096, 16_384, 65_536)
 KINDS = [(LENGTHS[0], turns) for turns in TURNS] + [(length, TURNS[0]) for length in LENGTHS[1:]]
-# The parts of the figures.
-PARTS = ("rows", "lost", "words", "transfers")
 # The most jobs that are measured at once.
 MOST = 4000
 # Of what a lost worker costs: turns of each job, agents, and seconds between two deaths.
@@ -107,17 +112,16 @@ class Bench:
         return costs.spent(workers, [self.server.process.pid])
 
 
-def throughput(program: str, agents: tuple[int, ...], seconds: float) -> Iterator[Row]:
+def throughput(program: str, agents: int, seconds: float) -> Iterator[Row]:
     """Each kind of job, by agents and by plain Python."""
-    for count in agents:
-        with engines.single() as server, engines.workers(count) as (client, made):
-            bench = Bench(client, made, server, program)
-            bench.put(LENGTHS)
-            for length, turns in KINDS:
-                for way in bench.ways:
-                    row = bench.row(way, count, length, turns, seconds)
-                    print(f"{way:7}{count:3} agents, {length:6} bytes, {turns:7} turns: {row.rate:8.1f} jobs/s", flush=True)
-                    yield row
+    with engines.single() as server, engines.workers(agents) as (client, made):
+        bench = Bench(client, made, server, program)
+        bench.put(LENGTHS)
+        for length, turns in KINDS:
+            for way in bench.ways:
+                row = bench.row(way, agents, length, turns, seconds)
+                print(f"{way:7}{agents:3} agents, {length:6} bytes, {turns:7} turns: {row.rate:8.1f} jobs/s", flush=True)
+                yield row
 
 
 def lost(program: str, jobs: int, rounds: int) -> dict[str, float]:
@@ -140,20 +144,18 @@ def lost(program: str, jobs: int, rounds: int) -> dict[str, float]:
     return found
 
 
-def words(program: str, objects: int, agents: int) -> Iterator[dict]:
+def words(program: str, objects: int, agents: int, *more: str) -> list[dict]:
     """The example that counts words."""
     import word_count
 
-    for more in (["--plain"], ["--kill-workers", "1"], ["--kill-node", "2"]):
-        yield from word_count.run(word_count.options().parse_args([program, "--objects", str(objects), "--agents", str(agents), *more]))
+    return list(word_count.run(word_count.options().parse_args([program, "--objects", str(objects), "--agents", str(agents), *more])))
 
 
-def transfers(program: str, jobs: int, agents: int) -> Iterator[dict]:
+def transfers(program: str, jobs: int, agents: int, *more: str) -> list[dict]:
     """The example that moves money."""
     import transfers as example
 
-    for seconds in ("0", "1"):
-        yield example.run(example.options().parse_args([program, "--jobs", str(jobs), "--agents", str(agents), "--kill-workers", seconds]))
+    return [example.run(example.options().parse_args([program, "--jobs", str(jobs), "--agents", str(agents), *more]))]
 
 
 def machine() -> dict:
@@ -162,33 +164,54 @@ def machine() -> dict:
     return {"processors": os.cpu_count(), "model": names[0] if names else "", "load": round(os.getloadavg()[0], 1)}
 
 
-def measured(part: str, program: str, quick: bool) -> object:
-    """The figures of a part."""
-    agents = AGENTS[:2] if quick else AGENTS
-    if part == "rows":
-        return [asdict(row) for row in throughput(program, agents, 0.2 if quick else 2.0)]
+# The options of the examples by part.
+EXAMPLES = {
+    "words": ("--plain",),
+    "words-deaths": ("--kill-workers", "1"),
+    "words-crash": ("--kill-node", "2"),
+    "transfers": (),
+    "transfers-deaths": ("--kill-workers", "1"),
+}
+
+
+def measured(part: str, program: str, size: float) -> object:
+    """The figures of a part, of so large a share of the jobs."""
+    if part in figures.ROWS:
+        return [asdict(row) for row in throughput(program, figures.AGENTS[figures.ROWS.index(part)], size * SECONDS)]
     if part == "lost":
-        return lost(program, 60 if quick else 2000, 1 if quick else 2)
-    if part == "words":
-        return list(words(program, 64 if quick else 4096, agents[-1]))
-    return list(transfers(program, 200 if quick else 10_000, agents[-1]))
+        return lost(program, max(round(size * LOST), 60), 2)
+    if part in figures.WORDS:
+        return words(program, max(round(size * TEXTS), 64), figures.AGENTS[-1], *EXAMPLES[part])
+    return transfers(program, max(round(size * MOVED), 200), figures.AGENTS[-1], *EXAMPLES[part])
+
+
+def parser() -> argparse.ArgumentParser:
+    """The options of the command line."""
+    options = argparse.ArgumentParser(description="Measures a fleet on this machine.")
+    options.add_argument("program")
+    options.add_argument("--output", type=pathlib.Path, metavar="FILE", help="where the figures are kept")
+    options.add_argument("--note", default="", metavar="TEXT", help="what PROGRAM is; it is kept with the figures")
+    options.add_argument("--part", action="append", choices=figures.PARTS, help="only this part; may be repeated")
+    options.add_argument("--size", type=float, default=1.0, metavar="F", help="measure so large a part of the jobs, 0 to 1")
+    return options
 
 
 def main() -> None:
-    options = argparse.ArgumentParser(description="Measures a fleet on this machine.")
-    options.add_argument("program")
-    options.add_argument("--output", type=pathlib.Path, default=FIGURES, metavar="FILE", help="where the figures are kept")
-    options.add_argument("--note", default="", metavar="TEXT", help="what PROGRAM is; it is kept with the figures")
-    options.add_argument("--part", action="append", choices=PARTS, help="only this part, beside the others that FILE has; may be repeated")
-    options.add_argument("--quick", action="store_true", help="a little of everything")
+    options = parser()
     given = options.parse_args()
+    if not 0 < given.size <= 1:
+        options.error("--size takes a number above 0, and at most 1")
+    output = given.output or (figures.FIGURES if given.size == 1 else TRIED)
     program = str(pathlib.Path(given.program).resolve())
-    figures: dict = json.loads(given.output.read_text()) if given.part else {}
-    figures.update(program=given.note, machine=machine())
-    for part in given.part or PARTS:
-        figures[part] = measured(part, program, given.quick)
-        given.output.write_text(json.dumps(figures, indent=1) + "\n")
-    print(f"the figures are in {given.output}")
+    # The load later is also that of these jobs.
+    on = machine()
+    for part in given.part or figures.PARTS:
+        begin = time.monotonic()
+        found = measured(part, program, given.size)
+        took = round(time.monotonic() - begin)
+        day = datetime.date.today().isoformat()
+        figures.keep(output, part, {"program": given.note or given.program, "machine": on, "day": day, "took": took, "figures": found})
+        print(f"{part} took {took} s, and is kept in {output}", flush=True)
 
 
 if __name__ == "__main__":

@@ -8,13 +8,13 @@ from __future__ import annotations
 
 import contextlib
 import io
-import json
 import pathlib
 import re
 import sys
 from typing import Iterator
 
 import costs
+import figures as kept
 import simulate_fleet
 from plots import Curve, Panel, picture, short
 
@@ -83,11 +83,15 @@ def examples(figures: dict) -> str:
 
 def facts(figures: dict) -> str:
     """What was measured on what, and what a lost worker costs."""
-    machine, gone = figures["machine"], figures["lost"]
+    parts, gone = figures["parts"].values(), figures["lost"]
+    programs = dict.fromkeys(part["program"] for part in parts)
+    machines = dict.fromkeys(f"{part['machine']['processors']} processors ({part['machine']['model']})" for part in parts)
+    loads = sorted(part["machine"]["load"] for part in parts)
+    load = f"{loads[0]}" if loads[0] == loads[-1] else f"{loads[0]} to {loads[-1]}"
+    rough = " So the figures are rough." if loads[-1] > figures["processors"] / 2 else ""
     return (
-        f"Measured on {figures['program']}, on {machine['processors']} processors ({machine['model']}), "
-        f"at a load of {machine['load']} by other work at the start.\n"
-        f"A lost worker costs {gone['worker_seconds']:.1f} worker-seconds, by the times of two runs of words over {gone['killed']} deaths."
+        f"Measured on {' and '.join(programs)}, on {' and '.join(machines)}, at a load of {load} by other work at the start.{rough}\n"
+        f"A lost worker costs {gone['worker_seconds']:.1f} worker-seconds, by the times of {gone['jobs']:,} jobs over {gone['killed']} deaths."
     )
 
 
@@ -145,7 +149,10 @@ def main() -> None:
     if sys.argv[1:] not in ([], ["--check"]):
         print(__doc__, file=sys.stderr)
         sys.exit(2)
-    figures = json.loads(simulate_fleet.FIGURES.read_text())
+    try:
+        figures = kept.load()
+    except (OSError, ValueError, KeyError, TypeError) as why:
+        sys.exit(f"{kept.FIGURES}: {why}")
     for path, text in made(figures):
         if sys.argv[1:] and (not path.is_file() or path.read_text() != text):
             sys.exit(f"{path} isn't what the figures make it: run {pathlib.Path(sys.argv[0]).name}")

@@ -11,7 +11,6 @@ from __future__ import annotations
 
 import functools
 import heapq
-import json
 import pathlib
 import random
 import sys
@@ -19,9 +18,9 @@ from dataclasses import dataclass
 from typing import Iterator, Optional, Sequence
 
 import costs
+import figures as kept
 from plots import Curve, short
 
-FIGURES = pathlib.Path(__file__).resolve().with_name("figures.json")
 SEED = 1
 # Agents of each host, hosts like the measured one, and primaries of Redis.
 EACH, NODES = 10, 16
@@ -58,7 +57,7 @@ class Laws:
         laws = []
         for part, terms in PARTS.items():
             laws.append(costs.fitted([(row["length"], costs.instructions_of(row["turns"]), row[part] / row["jobs"]) for row in rows], terms))
-        return cls(*laws, death=figures["lost"]["worker_seconds"], processors=figures["machine"]["processors"])
+        return cls(*laws, death=figures["lost"]["worker_seconds"], processors=figures["processors"])
 
 
 @dataclass(frozen=True)
@@ -227,11 +226,11 @@ def main() -> None:
     if len(sys.argv) > 2 or sys.argv[1:2] in (["-h"], ["--help"]):
         print(__doc__, file=sys.stderr)
         sys.exit(2)
-    path = pathlib.Path(sys.argv[1]) if sys.argv[1:] else FIGURES
+    path = pathlib.Path(sys.argv[1]) if sys.argv[1:] else kept.FIGURES
     try:
-        figures = json.loads(path.read_text())
+        figures = kept.load(path)
         laws = Laws.of(figures)
-    except (OSError, ValueError, KeyError) as why:
+    except (OSError, ValueError, KeyError, TypeError) as why:
         sys.exit(f"{path}: {why}")
     print_tables(figures, laws)
 

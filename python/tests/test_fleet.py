@@ -78,6 +78,12 @@ def transfer(one: str, other: str, amount: int, **more: Any) -> Job:
 class FleetTest(unittest.TestCase):
     maxDiff = None
 
+    def owner(self, setting: Setting) -> Owner:
+        """An owner that is closed at the end of the test."""
+        made = Owner(setting)
+        self.addCleanup(made.close)
+        return made
+
     def fails(self, call: Callable[[], object], kind: type[Raised], text: str) -> Raised:
         """What a call raises."""
         with self.assertRaises(kind) as raised:
@@ -109,7 +115,7 @@ class FleetTest(unittest.TestCase):
         """Results, objects and stops of one agent, by itself."""
         with engines.single() as server:
             setting = Setting((server.url,), False, PROGRAM, 0, 60)
-            store, owner = Store(setting), Owner(setting)
+            store, owner = Store(setting), self.owner(setting)
             store.put("a", number(AMOUNT))
             store.put("b", number(0))
             self.assertEqual(owner.run(transfer("a", "b", 300)), Result(1, ()), "a transfer")
@@ -145,13 +151,13 @@ class FleetTest(unittest.TestCase):
             for name in ("a", "b"):
                 Store(setting).put(name, number(AMOUNT))
             job = Job(image.code, {"a": "r", "b": "w"}, ("a", "b", 1), lines=lines_of(image))
-            self.fails(lambda: Owner(setting).run(job), JobStopped, f"transfer.c:{wanted}; r0=")
+            self.fails(lambda: self.owner(setting).run(job), JobStopped, f"transfer.c:{wanted}; r0=")
 
     def test_texts(self) -> None:
         """The program that counts words, beside Python; each text is brought in anew, also with another length."""
         with engines.single() as server:
             setting = Setting((server.url,), False, PROGRAM, 0, 60)
-            store, owner, chance, wanted = Store(setting), Owner(setting), random.Random(1), 0
+            store, owner, chance, wanted = Store(setting), self.owner(setting), random.Random(1), 0
             store.put("total", number(0))
             for length in LENGTHS:
                 text = bytes(chance.choice(b" \t\n\r\x0b\x0c!az\x7f\x80\xff") for _ in range(length))
@@ -165,7 +171,7 @@ class FleetTest(unittest.TestCase):
         """More jobs than an agent takes machines, and more objects than it makes."""
         with engines.single() as server:
             setting = Setting((server.url,), False, PROGRAM, 0, 60)
-            store, owner = Store(setting), Owner(setting)
+            store, owner = Store(setting), self.owner(setting)
             store.put("a", number(AMOUNT))
             store.put("b", number(0))
             for _ in range(100):
@@ -184,7 +190,7 @@ class FleetTest(unittest.TestCase):
             store.put("a", number(AMOUNT))
             store.put("b", number(0))
             job = transfer("a", "b", 1)
-            self.assertEqual([Owner(setting).run(job), Owner(setting).run(job)], [Result(1, ())] * 2, "a job that is run twice")
+            self.assertEqual([self.owner(setting).run(job) for _ in range(2)], [Result(1, ())] * 2, "a job that is run twice")
             self.assertEqual(value(store.get("b")), 1, "the account")
             seen: list[int] = []
 
@@ -283,7 +289,7 @@ class FleetTest(unittest.TestCase):
         """Keys in hash slots."""
         with engines.cluster() as servers:
             setting = Setting(tuple(it.url for it in servers), True, PROGRAM, 1, 60)
-            store, owner = Store(setting), Owner(setting)
+            store, owner = Store(setting), self.owner(setting)
             for name in ("a{1}", "b{1}", "c{2}"):
                 store.put(name, number(AMOUNT))
             self.assertEqual(owner.run(transfer("a{1}", "b{1}", 1)).value, 1, "a transfer in a hash slot")

@@ -5,6 +5,7 @@ import contextlib
 import threading
 import time
 from dataclasses import dataclass
+from types import TracebackType
 from typing import Iterable, Iterator, Mapping, Optional
 
 from ..agent import PIECE, Agent, address
@@ -77,7 +78,7 @@ class Runner(Agent):
 
 
 class Owner:
-    """A worker's one agent, with the objects that it has."""
+    """A worker's one agent, with the objects that it has. It is a context manager that ends the agent."""
 
     def __init__(self, setting: Setting) -> None:
         self._program = setting.program
@@ -94,6 +95,17 @@ class Owner:
             for key in job.written if version else ():
                 self._held[key].version = version
             return result
+
+    def close(self) -> None:
+        """Ends the agent, after the job that runs. A further job starts another."""
+        with self._lock:
+            self._end()
+
+    def __enter__(self) -> Owner:
+        return self
+
+    def __exit__(self, kind: Optional[type[BaseException]], error: Optional[BaseException], trace: Optional[TracebackType]) -> None:
+        self.close()
 
     @contextlib.contextmanager
     def _closed_if_broken(self) -> Iterator[None]:
