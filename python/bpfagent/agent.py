@@ -124,7 +124,7 @@ class Agent:
             try:
                 end()
             except OSError as error:
-                raise Broken(f"the stream failed: {error}") from None
+                raise Broken(f"the stream failed: {error.strerror or error}") from None
 
     def __enter__(self) -> Agent:
         return self
@@ -165,7 +165,7 @@ class Agent:
         except TimeoutError:
             raise self._broken(f"no reply came within {self.timeout:g} seconds") from None
         except OSError as error:
-            raise self._broken(f"the stream failed: {error}") from None
+            raise self._broken(f"the stream failed: {error.strerror or error}") from None
         except KeyboardInterrupt:
             # What is still to come would be taken for the reply to a later line.
             self._broken("it was interrupted while a reply was awaited")

@@ -57,3 +57,8 @@ def place_of(text: str) -> tuple[str, int]:
     if not port.isdecimal() or not 1 <= int(port) <= 65_535:
         raise argparse.ArgumentTypeError(f"{text!r} is not HOST:PORT, with a port from 1 to 65535")
     return host.strip("[]") or "127.0.0.1", int(port)
+
+
+def address_text(host: str, port: int) -> str:
+    """HOST:PORT as `place_of` reads it."""
+    return f"[{host}]:{port}" if ":" in host else f"{host}:{port}"

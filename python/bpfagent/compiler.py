@@ -50,6 +50,8 @@ def compile_c(source: pathlib.Path, target: pathlib.Path, flags: Sequence[str] =
         raise Uncompiled(f"{clang}: {why}") from None
     if done.returncode:
         raise Uncompiled("\n".join([without_traces(done.stderr), *advice_on(done.stderr)]))
+    if not target.is_file():
+        raise Uncompiled(f"{clang} made no object file of {source}: its flags ask for something else")
     return done.stderr
 
 

@@ -110,7 +110,7 @@ def main() -> None:
     options = argparse.ArgumentParser(prog="bpfagent.far", description="Sends texts to a far store and fetches them home.")
     add_version(options)
     options.add_argument("port", type=port_of, help="the store's port on 127.0.0.1")
-    options.add_argument("texts", type=text_of, nargs="*", metavar="TEXT", help=f"1 to {LIMIT} bytes")
+    options.add_argument("texts", type=text_of, nargs="*", default=[], metavar="TEXT", help=f"1 to {LIMIT} bytes")
     given = options.parse_args()
     guarded("bpfagent.far", lambda: send_and_fetch(given.port, given.texts), Broken)
 

@@ -76,7 +76,8 @@ def assembled(path: pathlib.Path, text: bytes, program: str) -> bytes:
     """The raw code of a text of assembly."""
     done = subprocess.run([program, "asm", "--explain"], input=text, stdout=subprocess.PIPE, stderr=subprocess.PIPE)
     if done.returncode:
-        raise Unloadable(f"{path}: {done.stderr.decode('ascii', 'replace').rstrip()}")
+        why = done.stderr.decode("ascii", "replace").rstrip()
+        raise Unloadable(f"{path}: {why or f'{program} asm ended with status {done.returncode}'}")
     return done.stdout
 
 

@@ -17,7 +17,7 @@ from typing import Callable, Mapping, Optional, Sequence, TypeVar, Union
 
 from .accesses import OF_MEMORY, access_text
 from .agent import ARGUMENTS, Agent, address
-from .commands import add_version, guarded, place_of
+from .commands import add_version, address_text, guarded, place_of
 from .image import Image, Unloadable, load, program_path
 from .replies import Broken, Refused, Run, Stopped
 
@@ -86,11 +86,19 @@ def object_of(text: str) -> int:
     return address(number)
 
 
+def wrong_length(content: bytes) -> str:
+    """Why there is no object of these bytes; empty if there is one."""
+    return "" if 1 <= len(content) <= LONGEST else f"has {len(content)} bytes, and an object has 1 to {LONGEST}"
+
+
 def form_of(argument: str) -> None:
     """Raises `WrongArgument` unless this is an argument of a program. A file isn't read yet."""
     if argument.startswith("+"):
         length_of(argument[1:])
-    elif argument[:1] not in ("=", "@"):
+    elif argument.startswith("="):
+        if wrong := wrong_length(os.fsencode(argument[1:])):
+            raise WrongArgument(wrong)
+    elif not argument.startswith("@"):
         number_of(argument)
 
 
@@ -132,8 +140,8 @@ def values_of(arguments: Sequence[str]) -> list[Union[int, bytes]]:
             value = value_of(argument)
         except (OSError, ValueError) as why:
             raise Unshippable(f"argument {place}, `{argument}`: {getattr(why, 'strerror', None) or why}") from None
-        if isinstance(value, bytes) and not 1 <= len(value) <= LONGEST:
-            raise Unshippable(f"argument {place}, `{argument}`: has {len(value)} bytes, and an object has 1 to {LONGEST}")
+        if isinstance(value, bytes) and (wrong := wrong_length(value)):
+            raise Unshippable(f"argument {place}, `{argument}`: {wrong}")
         found.append(value)
     return found
 
@@ -165,6 +173,8 @@ def shipped(agent: Agent, image: Image, fuel: int, numbers: Sequence[int], bpfag
     except Refused as why:
         if why.word == "bad":
             raise Unshippable(f"{image.path}: has {image.slots} slots, and a program has 1 to {SLOTS}") from None
+        if why.word == "full":
+            raise Unshippable(f"{image.path}: the agent has as many machines as it can have") from None
         raise Unshippable(f"{image.path}: {why}{source_of(image, why)}{explained(image.code, bpfagent)}") from None
 
 
@@ -280,7 +290,7 @@ def parser() -> argparse.ArgumentParser:
     task.add_argument("--connect", type=place_of, metavar="HOST:PORT", help="ship it to this service, and run it there")
     task.add_argument("--output", metavar="PATH", help="only write the raw code to a file")
     options.add_argument("file", metavar="FILE")
-    options.add_argument("arguments", nargs="*", metavar="ARGUMENT")
+    options.add_argument("arguments", nargs="*", default=[], metavar="ARGUMENT")
     return options
 
 
@@ -300,7 +310,7 @@ def connected(host: str, port: int) -> Agent:
     try:
         return Agent.connect(host, port, timeout=SECONDS)
     except OSError as why:
-        raise Unshippable(f"the service at {host}:{port} can't be reached: {why.strerror or why}") from None
+        raise Unshippable(f"the service at {address_text(host, port)} can't be reached: {why.strerror or why}") from None
 
 
 def run(given: argparse.Namespace, image: Image) -> bool:

@@ -8,6 +8,7 @@ from __future__ import annotations
 
 import os
 import pathlib
+import shutil
 import struct
 import subprocess
 import sys
@@ -155,6 +156,8 @@ class Ships(unittest.TestCase):
                 self.want_usage(["none.c", *["0"] * (place - 1), given], f"bpfagent-ship: error: argument {place}, `{given}`: {why}")
         self.want_usage([code, *"123456"], "bpfagent-ship: error: 6 arguments are given, and a program takes five")
         self.want_usage(["--line", code, "+8"], f"argument 1, `+8`: {TAKES}")
+        self.want_usage([code, "7", "="], "argument 2, `=`: has 0 bytes, and an object has 1 to 65536")
+        self.want_usage([], "bpfagent-ship: error: the following arguments are required: FILE")
         for words in (["--check", code, "1"], ["--output", f"{folder}/x", code, "1"]):
             self.want_usage(words, f"{words[0]} takes no ARGUMENT: nothing is run")
         self.want_said([code, "1", f"@{folder}/none"], 1, "", f"bpfagent-ship: argument 2, `@{folder}/none`: No such file or directory\n")
@@ -163,6 +166,9 @@ class Ships(unittest.TestCase):
             long.write_bytes(content)
             self.want_said([code, f"@{long}"], 1, "", f"bpfagent-ship: argument 1, `@{long}`: has {len(content)} bytes, and an object has 1 to 65536\n")
         self.want_said([f"{folder}/none"], 1, "", f"bpfagent-ship: {folder}/none: No such file or directory\n")
+        (folder / "any.asm").write_text("exit")
+        silent = shutil.which("false")
+        self.want_said(["--bpfagent", str(silent), f"{folder}/any.asm"], 1, "", f"bpfagent-ship: {folder}/any.asm: {silent} asm ended with status 1\n")
         self.want_said(["--output", f"{folder}/none/x", code], 1, "", f"bpfagent-ship: {folder}/none/x: No such file or directory\n")
         self.want_said([code, str(2**64 - 1), "0", "0", "0", "0x10"], 0, "stopped 1 exit 0000000000000000\n1 instructions\n", "")
 

@@ -51,7 +51,7 @@ def parser() -> argparse.ArgumentParser:
         "--execute", "-x", action="append", default=[], metavar="COMMAND", help="a command of the debugger that is done first; may be repeated"
     )
     options.add_argument("file", nargs="?", metavar="FILE")
-    options.add_argument("arguments", nargs="*", metavar="ARGUMENT")
+    options.add_argument("arguments", nargs="*", default=[], metavar="ARGUMENT")
     return options
 
 

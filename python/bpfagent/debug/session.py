@@ -8,7 +8,7 @@ from types import TracebackType
 from typing import Iterator, Optional, Sequence, Union
 
 from ..agent import Agent
-from ..commands import fault_text
+from ..commands import address_text, fault_text
 from ..image import load, program_path
 from ..replies import Broken, Refused
 from ..service import Service
@@ -58,7 +58,7 @@ def attached(host: str, port: int, programs: Sequence[Program]) -> Engine:
     try:
         agent = Agent.connect(host, port, TIMEOUT)
     except OSError as why:
-        raise Impossible(f"no service can be reached at {host}:{port}: {fault_text(why)}") from None
+        raise Impossible(f"no service can be reached at {address_text(host, port)}: {fault_text(why)}") from None
     with closed_at_a_fault(agent):
         engine = Engine(agent, True, programs)
         engine.look()

@@ -73,7 +73,7 @@ class Runner(Agent):
                 count -= piece.count(b"\n")
                 end = (end + piece)[-LONGEST:]
         except OSError as error:
-            raise self._broken(f"the stream failed: {error}") from None
+            raise self._broken(f"the stream failed: {error.strerror or error}") from None
         return end.split(b"\n")[-2].decode("ascii", "replace")
 
 
