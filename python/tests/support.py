@@ -124,15 +124,17 @@ class Pseudoterminal:
 
     def interrupt(self, command: str) -> list[str]:
         """Types a command that doesn't end by itself, and interrupts it: what is shown until the next prompt. An interrupt that comes
-        after the line was read, but before the command has begun, gives the line up. Then it is typed again."""
-        end = time.monotonic() + SECONDS
+        after the line was read, but before the command has begun, gives the line up. Then it is typed again, and interrupted later."""
+        end, pause = time.monotonic() + SECONDS, 0.05
         while time.monotonic() < end:
             self.press(command + "\n")
             self._until(lambda got: f"{command}\n" in got)
+            time.sleep(pause)
             self.press("\x03")
             shown = self.wait()
             if not any(GIVEN_UP in line for line in shown):
                 return shown
+            pause *= 2
         raise AssertionError(f"{command} doesn't begin")
 
     def press(self, keys: str) -> None:
