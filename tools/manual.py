@@ -248,7 +248,9 @@ def page(name: str, version: str, said: Help, others: list[str]) -> str:
             lines += [".TP", f".BR {escaped(f'{NAME}-{command}')} (1)", escaped(about)]
     lines += [*listed(said.options), *protocol_of(name), ".SH SEE ALSO"]
     lines += [f".BR {escaped(other)} (1){',' if other != others[-1] else ''}" for other in others]
-    return "\n".join(lines) + "\n"
+    # a heading begins a paragraph by itself
+    heads = ("", *lines)
+    return "\n".join(line for head, line in zip(heads, lines) if line != ".PP" or not head.startswith((".SH", ".SS"))) + "\n"
 
 
 # ---- completion
