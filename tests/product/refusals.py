@@ -42,8 +42,10 @@ WIDE = bytes.fromhex("18000000ffffffff00000000ffffffff9500000000000000")
 TEXT = b"mov r0, 0 # n\nagain: add r0, 1\njlt r0, 3, again\nexit\n"
 # An object file is refused as code, and a jump that leads outside.
 JUMP = bytes.fromhex("05000500000000009500000000000000")
+# A swap of 24 bits.
+SWAP = bytes.fromhex("d401000018000000")
 LOOP = bytes.fromhex("b7000000000000000700000001000000a500feff030000009500000000000000")
-OTHERS = [(["check"], WIDE), (["check", "--explain"], JUMP), (["check", "--explain"], b"\x7fELF" + bytes(60)), (["check", "--explain"], bytes(9)), (["asm"], TEXT),
+OTHERS = [(["check"], WIDE), (["check", "--explain"], JUMP), (["check", "--explain"], b"\x7fELF" + bytes(60)), (["check", "--explain"], bytes(9)), (["check", "--explain"], SWAP), (["asm"], TEXT),
           (["asm", "--explain"], TEXT + b"\nexot"), (["dis"], WIDE), (["dis"], LOOP), (["dis", "--slots"], WIDE), (["--help"], b""), (["--version"], b""), (["run", "--wrong"], b""),
           (["asm"], b"jump +1\n"), (["asm"], b"mov r0\n"), (["asm"], b"mov r0, 2147483648\n"), (["asm"], b"ja x\n"), (["asm"], b"a:\na:\n"), (["run"], b"\n" + b"a" * 70_001 + b"\nregs 1")]
 # How many allocations of one conversation are tried after its first line, spread over all of them, and how many before it.

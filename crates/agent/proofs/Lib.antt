@@ -4,6 +4,7 @@ pub mod Encoded
 pub mod OutOfMemory
 pub mod AsmReports
 pub mod CheckReports
+pub mod FirstSlot
 pub mod ErrorShown
 pub mod Numbers
 pub mod ReadNumber

@@ -5,13 +5,15 @@ use Rattle.std.specs.Str.{bytes_eq}
 use Rattle.hex.specs.Hex.{encode_lower}
 use Rattle.isa_table.specs.declared.instr.Instr.{Instr}
 use Rattle.bpf_codec.specs.Slots.{Fits, Begins}
-use Rattle.bpf_codec.specs.declared.fault.Fault.TheVariants as fault
+use Rattle.bpf_codec.specs.Faults.{IsLeastFault}
+use Rattle.bpf_codec.specs.declared.fault.Fault.{Fault}
 use Rattle.asm_table.specs.Canonical.{line_text}
 use Rattle.loader.specs.Instructions.{target}
 use Rattle.loader.specs.declared.loading.LoadError.{LoadError}
 use Rattle.loader.specs.declared.loading.Why.{Why}
 use Rattle.loader.specs.declared.loading.Why.TheVariants as why
 use Rattle.streams.specs.Streams.{AppendsSome}
+use Rattle.agent.specs.FaultsExplained.{fault_text}
 use Rattle.agent.specs.Failures.{failure_line, status_number}
 use Rattle.agent.specs.Reports.{Reports}
 use Rattle.agent.specs.declared.failure.Failure.{Failure}
@@ -41,13 +43,7 @@ is_about_target _ = false
 
 -- the rule that code breaks which is refused for this reason
 abbrev pub rule_text : Why → List ℕ
-rule_text (why.Decoder fault.Opcode) = codes "no instruction has this opcode (RFC 9669, section 3.1)"
-rule_text (why.Decoder fault.Register) = codes "a register above R10 is named (RFC 9669, section 3.1)"
-rule_text (why.Decoder fault.Field) = codes "a field that isn't used isn't zero, or one has a value that it can't have (RFC 9669, section 3.1)"
-rule_text (why.Decoder fault.HalfWide) = codes "the second slot of a wide instruction is missing (RFC 9669, section 3.2)"
-rule_text (why.Decoder fault.Packet) = codes "legacy packet access is deprecated, and isn't run here (RFC 9669, section 5.5)"
-rule_text (why.Decoder fault.Platform) = codes "it needs a map, a variable or a function of a platform, and there are none here (RFC 9669, sections 4.3.1 and 5.4)"
-rule_text (why.Decoder fault.Short) = codes "fewer than eight bytes are left (RFC 9669, section 3.1)"
+rule_text (why.Decoder f) = codes "no instruction begins here (RFC 9669, section 3)"
 rule_text why.Empty = codes "there are no bytes, and code has at least one instruction"
 rule_text why.TooLong = codes "there are more than 32768 bytes, which are 4096 slots"
 rule_text why.JumpOut = codes "outside the code; slots are counted from the next one (RFC 9669, section 4.3)"
@@ -71,13 +67,13 @@ lead_text false o = []
 abbrev pub instruction_text : ℕ → Instr → Why → List ℕ
 instruction_text n i w = line_text i ++ codes ": " ++ lead_text (is_about_target w) (target n i) ++ rule_line w
 
--- what is said of bytes that begin with no instruction
-abbrev pub bytes_text : List ℕ → Why → List ℕ
-bytes_text bytes w = encode_lower (take 8 bytes) ++ codes ": " ++ rule_line w
+-- what is said of bytes that begin with no instruction, and of which this is the least fault
+abbrev pub bytes_text : List ℕ → Fault → List ℕ
+bytes_text bytes f = encode_lower (take 8 bytes) ++ codes ": " ++ fault_text f bytes ++ 10 ∷ []
 
 -- what is said of the bytes from slot n on
 abbrev pub SaysAt : List ℕ → ℕ → Why → List ℕ → Type 0
-SaysAt bytes n w text = ((i : Instr) × Fits i × Begins bytes i × (text ≡ instruction_text n i w)) ⊎ (((i : Instr) → Fits i → Begins bytes i → ⊥) × (text ≡ bytes_text bytes w))
+SaysAt bytes n w text = ((i : Instr) × Fits i × Begins bytes i × (text ≡ instruction_text n i w)) ⊎ ((f : Fault) × IsLeastFault f bytes × (text ≡ bytes_text bytes f))
 
 -- what is said of an object file, of code as a whole, or else of what stands at slot n
 abbrev pub Says : Bool → Bool → List ℕ → ℕ → Why → List ℕ → Type 0

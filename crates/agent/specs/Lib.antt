@@ -1,5 +1,6 @@
 pub mod Failures
 pub mod CheckLeaves
+pub mod FaultsExplained
 pub mod CodeExplained
 pub mod Leaves
 pub mod AsmLeaves

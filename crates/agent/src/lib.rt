@@ -7,6 +7,7 @@ mod checking;
 mod disassembling;
 mod explaining;
 mod failure;
+mod faults;
 mod front;
 mod help_texts;
 mod laws;

@@ -1,12 +1,14 @@
 //! What `check --explain` says beside the line of a refusal.
-ghost use Rattle.std.specs.Prelude.{◌≡◌, ◌⊎◌, ◌*◌, ◌++◌, List, ℕ, take, drop, codes, OnOk, IfOk, Err};
+ghost use Rattle.std.specs.Prelude.{◌≡◌, ◌⊎◌, ◌*◌, ◌++◌, List, ℕ, drop, codes, OnOk, IfOk, Err};
 ghost use Rattle.std.specs.Fmt.{signed_decimal};
+ghost use Rattle.bpf_codec.specs.Faults.{IsLeastFault};
 ghost use Rattle.loader.specs.Instructions.{target};
 ghost use Rattle.agent.specs.CodeExplained.{ReportsRefusal, Says, SaysAt, SaysOfCode, bytes_text, instruction_text, is_about_slot, is_about_target, is_elf, lead_text, rule_line, rule_text};
 ghost use Rattle.agent.specs.Failures.{failure_line};
 ghost use Rattle.agent.specs.Reports.{Reports};
 
 use crate::failure::{Failure, Status};
+use crate::faults::{put_fault, put_hex};
 use crate::reporting::{report, say};
 use bpf_codec::{Fault, decode_at};
 use disassembler::line;
@@ -22,35 +24,12 @@ const ELF: &[u8] = b"\x7fELF";
 const ELF_LINE: &[u8] =
     b"this is an ELF object file, and not raw code; 'bpfagent-ship FILE' takes object files\n";
 
-/// The rule that bytes break which begin with no instruction.
-fn fault_rule(fault: Fault) -> &'static [u8]
-    ensures { result.now ≡ rule_text (Why.Decoder fault) }
-{
-    match fault {
-        Fault::Opcode => b"no instruction has this opcode (RFC 9669, section 3.1)",
-        Fault::Register => b"a register above R10 is named (RFC 9669, section 3.1)",
-        Fault::Field => {
-            b"a field that isn't used isn't zero, or one has a value that it can't have (RFC 9669, section 3.1)"
-        }
-        Fault::HalfWide => {
-            b"the second slot of a wide instruction is missing (RFC 9669, section 3.2)"
-        }
-        Fault::Packet => {
-            b"legacy packet access is deprecated, and isn't run here (RFC 9669, section 5.5)"
-        }
-        Fault::Platform => {
-            b"it needs a map, a variable or a function of a platform, and there are none here (RFC 9669, sections 4.3.1 and 5.4)"
-        }
-        Fault::Short => b"fewer than eight bytes are left (RFC 9669, section 3.1)",
-    }
-}
-
 /// The rule that code breaks which is refused for this reason.
 fn rule_of(why: Why) -> &'static [u8]
     ensures { result.now ≡ rule_text why }
 {
     match why {
-        Why::Decoder(fault) => fault_rule(fault),
+        Why::Decoder(_) => b"no instruction begins here (RFC 9669, section 3)",
         Why::Empty => b"there are no bytes, and code has at least one instruction",
         Why::TooLong => b"there are more than 32768 bytes, which are 4096 slots",
         Why::JumpOut => {
@@ -141,29 +120,23 @@ fn put_instruction(
     put_rule(out, why)
 }
 
-/// The bytes of a slot, as many as there are.
-fn bytes_at(code: &[u8], slot: usize) -> &[u8]
-    ensures { result.now ≡ take 8 (drop (8 * slot) code.now) }
+/// The bytes from a slot on.
+fn bytes_from(code: &[u8], slot: usize) -> &[u8]
+    ensures { result.now ≡ drop (8 * slot) code.now }
 {
     let start = code.len().min(slot.saturating_mul(8));
-    let rest = &code[start..];
-    &rest[..rest.len().min(8)]
+    &code[start..]
 }
 
 /// Adds what is said of bytes that begin with no instruction.
-fn put_bytes(
-    alloc: Global,
-    out: &mut Vec<u8>,
-    code: &[u8],
-    slot: usize,
-    why: Why,
-) -> Result<(), AllocError>
-    ensures { OnOk result (out.new.items ≡ out.old.items ++ bytes_text (drop (8 * slot) code.now) why) }
+fn put_bytes(alloc: Global, out: &mut Vec<u8>, bytes: &[u8], fault: Fault) -> Result<(), AllocError>
+    requires { IsLeastFault fault bytes.now }
+    ensures { OnOk result (out.new.items ≡ out.old.items ++ bytes_text bytes.now fault) }
 {
-    let digits = hex::encode(alloc, bytes_at(code, slot))?;
-    out.extend_from_slice(digits.as_bytes())?;
+    put_hex(alloc, out, &bytes[..bytes.len().min(8)])?;
     out.extend_from_slice(b": ")?;
-    put_rule(out, why)
+    put_fault(alloc, out, bytes, fault)?;
+    out.extend_from_slice(b"\n")
 }
 
 /// Adds what is said of what stands at a slot.
@@ -178,7 +151,7 @@ fn put_place(
 {
     match decode_at(code, slot) {
         Ok((instr, _)) => put_instruction(out, slot, &instr, why),
-        Err(_) => put_bytes(alloc, out, code, slot, why),
+        Err(fault) => put_bytes(alloc, out, bytes_from(code, slot), fault),
     }
 }
 

@@ -2,6 +2,8 @@
 
 use crate::compared::same;
 use crate::outcome::{ended, leaves, outcome_of};
+use std::alloc::Global;
+use std::process::Abort;
 use std::test::Fail;
 use test_devices::{FailingReader, Narrow};
 
@@ -42,37 +44,37 @@ const EXPLAINED: &[(&[u8], &[u8], &[u8])] = &[
     (
         b"\x95\x00",
         b"slot 0: Short\n",
-        b"9500: fewer than eight bytes are left (RFC 9669, section 3.1)\n",
+        b"9500: the slot has 2 of 8 bytes (RFC 9669, section 3.1)\n",
     ),
     (
         b"\x95\x00\x00\x00\x00\x00\x00\x00\x8d\x00\x00\x00\x00\x00\x00\x00",
         b"slot 1: Opcode\n",
-        b"8d00000000000000: no instruction has this opcode (RFC 9669, section 3.1)\n",
+        b"8d00000000000000: no instruction has opcode 0x8d (RFC 9669, section 3.1)\n",
     ),
     (
         b"\xb7\x0b\x00\x00\x00\x00\x00\x00\x95\x00\x00\x00\x00\x00\x00\x00",
         b"slot 0: Register\n",
-        b"b70b000000000000: a register above R10 is named (RFC 9669, section 3.1)\n",
+        b"b70b000000000000: dst is 11, and has to be 0 to 10 in mov; see RFC 9669, sections 3 to 5\n",
     ),
     (
         b"\x95\x00\x00\x00\x01\x00\x00\x00",
         b"slot 0: Field\n",
-        b"9500000001000000: a field that isn't used isn't zero, or one has a value that it can't have (RFC 9669, section 3.1)\n",
+        b"9500000001000000: imm is 1, and has to be 0 in exit; see RFC 9669, sections 3 to 5\n",
     ),
     (
         b"\x18\x00\x00\x00\x00\x00\x00\x00",
         b"slot 0: HalfWide\n",
-        b"1800000000000000: the second slot of a wide instruction is missing (RFC 9669, section 3.2)\n",
+        b"1800000000000000: lddw takes two slots, and the second one has 0 of 8 bytes (RFC 9669, section 3.2)\n",
     ),
     (
         b"\x20\x00\x00\x00\x00\x00\x00\x00\x95\x00\x00\x00\x00\x00\x00\x00",
         b"slot 0: Packet\n",
-        b"2000000000000000: legacy packet access is deprecated, and isn't run here (RFC 9669, section 5.5)\n",
+        b"2000000000000000: opcode 0x20 is legacy packet access, which is deprecated and isn't run here (RFC 9669, section 5.5)\n",
     ),
     (
         b"\x18\x10\x00\x00\x00\x00\x00\x00\x00\x00\x00\x00\x00\x00\x00\x00\x95\x00\x00\x00\x00\x00\x00\x00",
         b"slot 0: Platform\n",
-        b"1810000000000000: it needs a map, a variable or a function of a platform, and there are none here (RFC 9669, sections 4.3.1 and 5.4)\n",
+        b"1810000000000000: src is 1, so lddw loads a map by its file descriptor; there is no platform here to supply it (RFC 9669, section 5.4)\n",
     ),
     (
         b"\x05\x00\x05\x00\x00\x00\x00\x00\x95\x00\x00\x00\x00\x00\x00\x00",
@@ -127,6 +129,185 @@ fn an_explanation_names_the_instruction_and_the_rule(rt: HostRuntime) -> Result<
         );
     }
     Ok(())
+}
+
+/// Slots with fields that no instruction of the opcode may have (RFC 9669, sections 3.1, 3.2, 4.1, 4.2, 4.3.1, 5.3 and 5.4),
+/// the name of the fault, and what is said of the fields.
+const FIELDS: &[(&[u8], &[u8], &[u8])] = &[
+    // A register above R10, and both.
+    (
+        b"\x0f\xcb\x00\x00\x00\x00\x00\x00",
+        b"Register",
+        b"0fcb000000000000: dst is 11, and has to be 0 to 10 in add; src is 12, and has to be 0 to 10 in add; ",
+    ),
+    // An atomic operation is named by its imm field.
+    (
+        b"\xdb\xf1\x00\x00\xe1\x00\x00\x00",
+        b"Register",
+        b"dbf10000e1000000: src is 15, and has to be 0 to 10 in axchg; ",
+    ),
+    // Fields that aren't used.
+    (
+        b"\xb7\x20\x00\x00\x01\x00\x00\x00",
+        b"Field",
+        b"b720000001000000: src is 2, and has to be 0 in mov; ",
+    ),
+    (
+        b"\x04\x01\xff\xff\x01\x00\x00\x00",
+        b"Field",
+        b"0401ffff01000000: offset is -1, and has to be 0 in add32; ",
+    ),
+    (
+        b"\x7b\x1a\xf8\xff\xff\xff\xff\xff",
+        b"Field",
+        b"7b1af8ffffffffff: imm is -1, and has to be 0 in stxdw; ",
+    ),
+    (
+        b"\x05\x23\x01\x00\x07\x00\x00\x00",
+        b"Field",
+        b"0523010007000000: dst is 3, and has to be 0 in ja; src is 2, and has to be 0 in ja; imm is 7, and has to be 0 in ja; ",
+    ),
+    (
+        b"\x85\x13\x00\x00\x01\x00\x00\x00",
+        b"Field",
+        b"8513000001000000: dst is 3, and has to be 0 in call local; ",
+    ),
+    // Fields that have one of a few numbers.
+    (
+        b"\x85\x70\x00\x00\x01\x00\x00\x00",
+        b"Field",
+        b"8570000001000000: src is 7, and has to be 0 in call or 1 in call local; ",
+    ),
+    (
+        b"\x37\x01\x05\x00\x02\x00\x00\x00",
+        b"Field",
+        b"3701050002000000: offset is 5, and has to be 0 in div or 1 in sdiv; ",
+    ),
+    (
+        b"\xbf\x21\x07\x00\x09\x00\x00\x00",
+        b"Field",
+        b"bf21070009000000: offset is 7, and has to be 0 in mov or 8 in movs8 or 16 in movs16 or 32 in movs32; imm is 9, and has to be 0 in mov; ",
+    ),
+    (
+        b"\xd4\x01\x00\x00\x18\x00\x00\x00",
+        b"Field",
+        b"d401000018000000: imm is 24, and has to be 16 in le16 or 32 in le32 or 64 in le64; ",
+    ),
+    (
+        b"\xc3\x21\x00\x00\x02\x00\x00\x00",
+        b"Field",
+        b"c321000002000000: imm is 2, and has to be 0 in aadd32 or 1 in afadd32 or 64 in aor32 or 65 in afor32 or 80 in aand32 or 81 in afand32 or 160 in axor32 or 161 in afxor32 or 225 in axchg32 or 241 in acmpxchg32; ",
+    ),
+    // The wide encoding.
+    (
+        b"\x18\x70\x00\x00\x00\x00\x00\x00\x00\x00\x00\x00\x00\x00\x00\x00",
+        b"Field",
+        b"1870000000000000: src is 7, and has to be 0 in lddw; ",
+    ),
+    (
+        b"\x18\x01\x00\x00\x00\x00\x00\x00\x95\x00\x00\x00\x00\x00\x00\x00",
+        b"Field",
+        b"1801000000000000: the second slot begins with 95000000, and has to begin with 00000000 in lddw; ",
+    ),
+];
+
+/// What a platform would have to supply, by the source field (RFC 9669, sections 4.3.1 and 5.4).
+const PLATFORM: &[(u8, u8, &[u8])] = &[
+    (
+        0x18,
+        0x10,
+        b"1810000000000000: src is 1, so lddw loads a map by its file descriptor",
+    ),
+    (
+        0x18,
+        0x20,
+        b"1820000000000000: src is 2, so lddw loads an address in a map, by the map's file descriptor",
+    ),
+    (
+        0x18,
+        0x30,
+        b"1830000000000000: src is 3, so lddw loads the address of a variable",
+    ),
+    (
+        0x18,
+        0x40,
+        b"1840000000000000: src is 4, so lddw loads the address of an instruction",
+    ),
+    (
+        0x18,
+        0x50,
+        b"1850000000000000: src is 5, so lddw loads a map by its index",
+    ),
+    (
+        0x18,
+        0x60,
+        b"1860000000000000: src is 6, so lddw loads an address in a map, by the map's index",
+    ),
+    (
+        0x85,
+        0x20,
+        b"8520000000000000: src is 2, so call calls a function by its BTF ID",
+    ),
+];
+
+/// Code is refused at slot 0 for the fault of this name, and this is said beside the line of that.
+fn is_explained(
+    rt: &impl Abort,
+    alloc: Global,
+    code: &[u8],
+    fault: &[u8],
+    says: &[&[u8]],
+) -> Result<(), Fail> {
+    let mut line = Vec::new(alloc);
+    line.extend_from_slice(b"slot 0: ")?;
+    line.extend_from_slice(fault)?;
+    line.extend_from_slice(b"\n")?;
+    for part in says {
+        line.extend_from_slice(part)?;
+    }
+    leaves(rt, alloc, &["check", "--explain"], code, (1, b"", &line));
+    Ok(())
+}
+
+#[test]
+fn each_wrong_field_is_named_with_its_number(rt: HostRuntime) -> Result<(), Fail> {
+    for &(code, fault, says) in FIELDS {
+        is_explained(
+            &rt,
+            rt.alloc(),
+            code,
+            fault,
+            &[says, b"see RFC 9669, sections 3 to 5\n"],
+        )?;
+    }
+    Ok(())
+}
+
+#[test]
+fn what_a_platform_would_supply_is_named(rt: HostRuntime) -> Result<(), Fail> {
+    for &(opcode, registers, says) in PLATFORM {
+        let section: &[u8] = if opcode == 0x18 { b"5.4" } else { b"4.3.1" };
+        let code = [opcode, registers, 0, 0, 0, 0, 0, 0, 0, 0, 0, 0, 0, 0, 0, 0];
+        let rest: &[u8] = b"; there is no platform here to supply it (RFC 9669, section ";
+        is_explained(
+            &rt,
+            rt.alloc(),
+            &code,
+            b"Platform",
+            &[says, rest, section, b")\n"],
+        )?;
+    }
+    Ok(())
+}
+
+#[test]
+fn bytes_that_are_missing_are_counted(rt: HostRuntime) -> Result<(), Fail> {
+    let code = b"\x18\x00\x00\x00\x00\x00\x00\x00\x00\x00\x00";
+    let half: &[u8] =
+        b"1800000000000000: lddw takes two slots, and the second one has 3 of 8 bytes (RFC 9669, section 3.2)\n";
+    is_explained(&rt, rt.alloc(), code, b"HalfWide", &[half])?;
+    let short: &[u8] = b"95: the slot has 1 of 8 bytes (RFC 9669, section 3.1)\n";
+    is_explained(&rt, rt.alloc(), b"\x95", b"Short", &[short])
 }
 
 #[test]

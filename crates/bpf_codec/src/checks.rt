@@ -21,7 +21,7 @@ fn is_register_in(field: Field, n: u32) -> bool
 
 /// Whether a field of this kind may hold the number.
 #[inline(always)]
-fn may_hold_in(field: Field, n: u32) -> bool
+pub fn may_hold_in(field: Field, n: u32) -> bool
     ensures { result ≡ may_hold field n }
 {
     match field {

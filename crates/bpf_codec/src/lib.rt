@@ -11,7 +11,11 @@ mod reading;
 mod slot;
 mod writing;
 
+pub use checks::may_hold_in;
 pub use fault::Fault;
 pub use laws::{no_fault_where_encoded, none_begins_another, none_shared};
+pub use layout::{Field, Layout, layout_of};
+pub use places::rows_at;
 pub use reading::decode_at;
+pub use slot::{Slot, slot_at};
 pub use writing::encode;

@@ -1,0 +1,440 @@
+//! What `check --explain` says of bytes that begin with no instruction.
+ghost use Rattle.std.specs.Prelude.{◌≡◌, ◌≤◌, ◌-◌, ◌++◌, length, take, drop, decimal, OnOk};
+ghost use Rattle.std.specs.Fmt.{signed_decimal};
+ghost use Rattle.hex.specs.Hex.{encode_lower};
+ghost use Rattle.bpf_codec.specs.Faults.{IsLeastFault, has_reserved_bits};
+ghost use Rattle.agent.specs.FaultsExplained.{allowed_text, choice_text, choices_text, differs, encoding_text, fault_text, field_of, field_text, fields_text, fits_in, half_text, held_text, is_like, is_meant, loaded_text, meant, no_opcode_text, number_in, opcode_text, other_text, others_text, packet_text, place_name, platform_text, reserved_text, second_text, sets_reserved_bits, short_text, shown_in, slot_text, some_fits_in, wrong_text};
+
+use asm_table::mnemonic_of;
+use bpf_codec::{Fault, Field, Slot, layout_of, may_hold_in, rows_at, slot_at};
+use isa_table::Instr;
+use std::alloc::{AllocError, Global};
+
+/// A field of a slot beside the opcode (RFC 9669, section 3.1).
+#[derive(Clone, Copy, Drop)]
+enum Place {
+    Dst,
+    Src,
+    Offset,
+    Imm,
+}
+
+/// The field's name.
+fn place_name(place: Place) -> &'static [u8]
+    ensures { result.now ≡ place_name place }
+{
+    match place {
+        Place::Dst => b"dst",
+        Place::Src => b"src",
+        Place::Offset => b"offset",
+        Place::Imm => b"imm",
+    }
+}
+
+/// The number that a slot holds there.
+fn number_in(place: Place, f: Slot) -> u32
+    ensures { result ≡ number_in place f }
+{
+    match place {
+        Place::Dst => u32::from(f.dst),
+        Place::Src => u32::from(f.src),
+        Place::Offset => u32::from(f.offset),
+        Place::Imm => f.imm,
+    }
+}
+
+/// The same as it is shown: offset and imm are signed.
+fn shown_in(place: Place, f: Slot) -> i32
+    ensures { result ≡ shown_in place f }
+{
+    match place {
+        Place::Dst => i32::from(f.dst),
+        Place::Src => i32::from(f.src),
+        Place::Offset => i32::from(f.offset.cast_signed()),
+        Place::Imm => f.imm.cast_signed(),
+    }
+}
+
+/// What an instruction has there.
+fn field_of(place: Place, instr: Instr) -> Field
+    ensures { result ≡ field_of place instr }
+{
+    let layout = layout_of(instr);
+    match place {
+        Place::Dst => layout.dst,
+        Place::Src => layout.src,
+        Place::Offset => layout.offset,
+        Place::Imm => layout.imm,
+    }
+}
+
+/// Whether the instruction's row may hold what the slot holds there.
+fn fits_in(place: Place, f: Slot, instr: Instr) -> bool
+    ensures { result ≡ fits_in place f instr }
+{
+    may_hold_in(field_of(place, instr), number_in(place, f))
+}
+
+/// Whether some of these rows may.
+fn some_fits_in(place: Place, f: Slot, rows: &[Instr]) -> bool
+    ensures { result ≡ some_fits_in place f rows.now }
+{
+    for row in rows {
+        if fits_in(place, f, *row) {
+            return true;
+        }
+    }
+    false
+}
+
+/// Whether the row may hold it, or none may.
+fn is_like(place: Place, f: Slot, rows: &[Instr], row: Instr) -> bool
+    ensures { result ≡ is_like place f rows.now row }
+{
+    !some_fits_in(place, f, rows) || fits_in(place, f, row)
+}
+
+/// Whether the row may hold what the slot holds, except in the fields in which none may.
+#[tactic(auto, unfolding(crate::specs::FaultsExplained::is_meant))]
+fn is_meant(f: Slot, rows: &[Instr], row: Instr) -> bool
+    ensures { result ≡ is_meant f rows.now row }
+{
+    is_like(Place::Dst, f, rows, row)
+        && is_like(Place::Src, f, rows, row)
+        && is_like(Place::Offset, f, rows, row)
+        && is_like(Place::Imm, f, rows, row)
+}
+
+/// The first row that is meant.
+fn meant(f: Slot, rows: &[Instr]) -> Option<Instr>
+    ensures { result ≡ meant f rows.now rows.now }
+{
+    for row in rows {
+        if is_meant(f, rows, *row) {
+            return Some(*row);
+        }
+    }
+    None
+}
+
+/// Adds a number.
+fn put_number(out: &mut Vec<u8>, n: u32) -> Result<(), AllocError>
+    ensures { OnOk result (out.new.items ≡ out.old.items ++ decimal n) }
+{
+    out.extend_from_slice(itoa::Buffer::new().format(n).as_bytes())
+}
+
+/// Adds a count of bytes.
+fn put_count(out: &mut Vec<u8>, n: usize) -> Result<(), AllocError>
+    ensures { OnOk result (out.new.items ≡ out.old.items ++ decimal n) }
+{
+    out.extend_from_slice(itoa::Buffer::new().format(n).as_bytes())
+}
+
+/// Adds a number with its sign.
+fn put_signed(out: &mut Vec<u8>, n: i32) -> Result<(), AllocError>
+    ensures { OnOk result (out.new.items ≡ out.old.items ++ signed_decimal n) }
+{
+    out.extend_from_slice(itoa::Buffer::new().format(n).as_bytes())
+}
+
+/// Adds bytes in hex.
+pub(crate) fn put_hex(alloc: Global, out: &mut Vec<u8>, bytes: &[u8]) -> Result<(), AllocError>
+    ensures { OnOk result (out.new.items ≡ out.old.items ++ encode_lower bytes.now) }
+{
+    let digits = hex::encode(alloc, bytes)?;
+    out.extend_from_slice(digits.as_bytes())
+}
+
+/// Adds the numbers that a field may hold.
+fn put_allowed(out: &mut Vec<u8>, field: Field) -> Result<(), AllocError>
+    ensures { OnOk result (out.new.items ≡ out.old.items ++ allowed_text field) }
+{
+    match field {
+        Field::Register(_) => out.extend_from_slice(b"0 to 10"),
+        Field::Only(n) => put_number(out, n),
+        _ => out.extend_from_slice(b"any number"),
+    }
+}
+
+/// Adds the same, and in which instruction.
+fn put_choice(out: &mut Vec<u8>, place: Place, instr: Instr) -> Result<(), AllocError>
+    ensures { OnOk result (out.new.items ≡ out.old.items ++ choice_text place instr) }
+{
+    put_allowed(out, field_of(place, instr))?;
+    out.extend_from_slice(b" in ")?;
+    out.extend_from_slice(mnemonic_of(&instr).name())
+}
+
+/// Whether two fields hold different numbers in every instruction.
+fn differs(first: Field, other: Field) -> bool
+    ensures { result ≡ differs first other }
+{
+    match (first, other) {
+        (Field::Only(m), Field::Only(n)) => m != n,
+        _ => false,
+    }
+}
+
+/// Adds what a field may hold in another row, where that differs from the first one.
+fn put_other(out: &mut Vec<u8>, place: Place, first: Instr, row: Instr) -> Result<(), AllocError>
+    ensures { OnOk result (out.new.items ≡ out.old.items ++ other_text place first row) }
+{
+    if !differs(field_of(place, first), field_of(place, row)) {
+        return Ok(());
+    }
+    out.extend_from_slice(b" or ")?;
+    put_choice(out, place, row)
+}
+
+/// Adds the same of each row.
+fn put_others(
+    out: &mut Vec<u8>,
+    place: Place,
+    first: Instr,
+    rows: &[Instr],
+) -> Result<(), AllocError>
+    ensures { OnOk result (out.new.items ≡ out.old.items ++ others_text place first rows.now) }
+{
+    for row in rows {
+        put_other(out, place, first, *row)?;
+    }
+    Ok(())
+}
+
+/// Adds what a field may hold in each of these rows, the first of which is meant.
+fn put_choices(
+    out: &mut Vec<u8>,
+    place: Place,
+    first: Instr,
+    rows: &[Instr],
+) -> Result<(), AllocError>
+    ensures { OnOk result (out.new.items ≡ out.old.items ++ choices_text place first rows.now) }
+{
+    put_choice(out, place, first)?;
+    put_others(out, place, first, rows)
+}
+
+/// Adds what a slot holds in a field.
+fn put_held(out: &mut Vec<u8>, place: Place, f: Slot) -> Result<(), AllocError>
+    ensures { OnOk result (out.new.items ≡ out.old.items ++ held_text place f) }
+{
+    out.extend_from_slice(place_name(place))?;
+    out.extend_from_slice(b" is ")?;
+    put_signed(out, shown_in(place, f))
+}
+
+/// Adds what is said of a field that is wrong.
+fn put_wrong(
+    out: &mut Vec<u8>,
+    place: Place,
+    f: Slot,
+    first: Instr,
+    rows: &[Instr],
+) -> Result<(), AllocError>
+    ensures { OnOk result (out.new.items ≡ out.old.items ++ wrong_text place f first rows.now) }
+{
+    put_held(out, place, f)?;
+    out.extend_from_slice(b", and has to be ")?;
+    put_choices(out, place, first, rows)?;
+    out.extend_from_slice(b"; ")
+}
+
+/// Adds what is said of a field.
+fn put_field(
+    out: &mut Vec<u8>,
+    place: Place,
+    f: Slot,
+    first: Instr,
+    rows: &[Instr],
+) -> Result<(), AllocError>
+    ensures { OnOk result (out.new.items ≡ out.old.items ++ field_text place f first rows.now) }
+{
+    if some_fits_in(place, f, rows) {
+        return Ok(());
+    }
+    put_wrong(out, place, f, first, rows)
+}
+
+/// Adds what is said of each field of the slot.
+fn put_fields(out: &mut Vec<u8>, f: Slot, first: Instr, rows: &[Instr]) -> Result<(), AllocError>
+    ensures { OnOk result (out.new.items ≡ out.old.items ++ fields_text f first rows.now) }
+{
+    put_field(out, Place::Dst, f, first, rows)?;
+    put_field(out, Place::Src, f, first, rows)?;
+    put_field(out, Place::Offset, f, first, rows)?;
+    put_field(out, Place::Imm, f, first, rows)
+}
+
+/// Adds the same where an instruction is meant, otherwise a general rule.
+fn put_slot(
+    out: &mut Vec<u8>,
+    first: Option<Instr>,
+    f: Slot,
+    rows: &[Instr],
+) -> Result<(), AllocError>
+    ensures { OnOk result (out.new.items ≡ out.old.items ++ slot_text first f rows.now) }
+{
+    match first {
+        Some(first) => put_fields(out, f, first, rows),
+        None => out.extend_from_slice(
+            b"a field that isn't used isn't zero, or one has a value that it can't have; ",
+        ),
+    }
+}
+
+/// Whether one of the second slot's reserved bits is set (RFC 9669, section 3.2).
+#[tactic(auto, unfolding(bpf_codec::specs::Faults::has_reserved_bits))]
+fn has_reserved_bits(bytes: &[u8]) -> bool
+    requires { 16 ≤ length bytes.now }
+    ensures { result ≡ has_reserved_bits bytes.now }
+{
+    bytes[8] != 0 || bytes[9] != 0 || bytes[10] != 0 || bytes[11] != 0
+}
+
+/// Whether it is a wide instruction, and its second slot has such bits.
+#[tactic(auto, unfolding(crate::specs::FaultsExplained::sets_reserved_bits, bpf_codec::specs::Faults::has_second, bpf_codec::specs::Faults::is_wide))]
+fn sets_reserved_bits(bytes: &[u8]) -> bool
+    ensures { result ≡ sets_reserved_bits bytes.now }
+{
+    bytes.len() >= 16 && bytes[0] == 0x18 && has_reserved_bits(bytes)
+}
+
+/// The four bytes of the reserved bits, as many as there are.
+fn reserved_bits(bytes: &[u8]) -> &[u8]
+    ensures { result.now ≡ take 4 (drop 8 bytes.now) }
+{
+    let rest = &bytes[bytes.len().min(8)..];
+    &rest[..rest.len().min(4)]
+}
+
+/// Adds what is said of these bits.
+fn put_reserved(alloc: Global, out: &mut Vec<u8>, bytes: &[u8]) -> Result<(), AllocError>
+    ensures { OnOk result (out.new.items ≡ out.old.items ++ reserved_text bytes.now) }
+{
+    out.extend_from_slice(b"the second slot begins with ")?;
+    put_hex(alloc, out, reserved_bits(bytes))?;
+    out.extend_from_slice(b", and has to begin with 00000000 in lddw; ")
+}
+
+/// Adds what is said of a second slot.
+fn put_second(alloc: Global, out: &mut Vec<u8>, bytes: &[u8]) -> Result<(), AllocError>
+    ensures { OnOk result (out.new.items ≡ out.old.items ++ second_text bytes.now) }
+{
+    if !sets_reserved_bits(bytes) {
+        return Ok(());
+    }
+    put_reserved(alloc, out, bytes)
+}
+
+/// Adds what is said of an instruction's slots in which a field is wrong.
+fn put_encoding(alloc: Global, out: &mut Vec<u8>, bytes: &[u8]) -> Result<(), AllocError>
+    requires { 8 ≤ length bytes.now }
+    ensures { OnOk result (out.new.items ≡ out.old.items ++ encoding_text bytes.now) }
+{
+    let f = slot_at(bytes);
+    let rows = rows_at(f.opcode);
+    put_slot(out, meant(f, rows), f, rows)?;
+    put_second(alloc, out, bytes)?;
+    out.extend_from_slice(b"see RFC 9669, sections 3 to 5")
+}
+
+/// Adds the opcode, in hex.
+fn put_opcode(alloc: Global, out: &mut Vec<u8>, bytes: &[u8]) -> Result<(), AllocError>
+    requires { 8 ≤ length bytes.now }
+    ensures { OnOk result (out.new.items ≡ out.old.items ++ opcode_text bytes.now) }
+{
+    out.extend_from_slice(b"opcode 0x")?;
+    put_hex(alloc, out, &bytes[..1])
+}
+
+/// What `lddw` loads, by its source field (RFC 9669, section 5.4).
+fn loaded_text(source: u8) -> &'static [u8]
+    ensures { result.now ≡ loaded_text source }
+{
+    match source {
+        1 => b"a map by its file descriptor",
+        2 => b"an address in a map, by the map's file descriptor",
+        3 => b"the address of a variable",
+        4 => b"the address of an instruction",
+        5 => b"a map by its index",
+        _ => b"an address in a map, by the map's index",
+    }
+}
+
+/// Adds what is asked of a platform: by `lddw`, or else by a call with source 2 (RFC 9669, section 4.3.1).
+fn put_platform(out: &mut Vec<u8>, f: Slot) -> Result<(), AllocError>
+    ensures { OnOk result (out.new.items ≡ out.old.items ++ platform_text f) }
+{
+    if f.opcode != 0x18 {
+        return out.extend_from_slice(
+            b"src is 2, so call calls a function by its BTF ID; there is no platform here to supply it (RFC 9669, section 4.3.1)",
+        );
+    }
+    out.extend_from_slice(b"src is ")?;
+    put_number(out, u32::from(f.src))?;
+    out.extend_from_slice(b", so lddw loads ")?;
+    out.extend_from_slice(loaded_text(f.src))?;
+    out.extend_from_slice(b"; there is no platform here to supply it (RFC 9669, section 5.4)")
+}
+
+/// Adds what is said of an opcode that no instruction has.
+fn put_no_opcode(alloc: Global, out: &mut Vec<u8>, bytes: &[u8]) -> Result<(), AllocError>
+    requires { 8 ≤ length bytes.now }
+    ensures { OnOk result (out.new.items ≡ out.old.items ++ no_opcode_text bytes.now) }
+{
+    out.extend_from_slice(b"no instruction has ")?;
+    put_opcode(alloc, out, bytes)?;
+    out.extend_from_slice(b" (RFC 9669, section 3.1)")
+}
+
+/// Adds what is said of a wide instruction whose second slot isn't there whole.
+fn put_half(out: &mut Vec<u8>, bytes: &[u8]) -> Result<(), AllocError>
+    requires { 8 ≤ length bytes.now }
+    ensures { OnOk result (out.new.items ≡ out.old.items ++ half_text bytes.now) }
+{
+    out.extend_from_slice(b"lddw takes two slots, and the second one has ")?;
+    put_count(out, bytes.len() - 8)?;
+    out.extend_from_slice(b" of 8 bytes (RFC 9669, section 3.2)")
+}
+
+/// Adds what is said of legacy packet access.
+fn put_packet(alloc: Global, out: &mut Vec<u8>, bytes: &[u8]) -> Result<(), AllocError>
+    requires { 8 ≤ length bytes.now }
+    ensures { OnOk result (out.new.items ≡ out.old.items ++ packet_text bytes.now) }
+{
+    put_opcode(alloc, out, bytes)?;
+    out.extend_from_slice(
+        b" is legacy packet access, which is deprecated and isn't run here (RFC 9669, section 5.5)",
+    )
+}
+
+/// Adds what is said of a slot that isn't there whole.
+fn put_short(out: &mut Vec<u8>, bytes: &[u8]) -> Result<(), AllocError>
+    ensures { OnOk result (out.new.items ≡ out.old.items ++ short_text bytes.now) }
+{
+    out.extend_from_slice(b"the slot has ")?;
+    put_count(out, bytes.len())?;
+    out.extend_from_slice(b" of 8 bytes (RFC 9669, section 3.1)")
+}
+
+/// Adds what is said of bytes of which this is the least fault, without a line end.
+#[tactic(auto, using(crate::proofs::FirstSlot::whole))]
+pub(crate) fn put_fault(
+    alloc: Global,
+    out: &mut Vec<u8>,
+    bytes: &[u8],
+    fault: Fault,
+) -> Result<(), AllocError>
+    requires { IsLeastFault fault bytes.now }
+    ensures { OnOk result (out.new.items ≡ out.old.items ++ fault_text fault bytes.now) }
+{
+    match fault {
+        Fault::Opcode => put_no_opcode(alloc, out, bytes),
+        Fault::Register | Fault::Field => put_encoding(alloc, out, bytes),
+        Fault::HalfWide => put_half(out, bytes),
+        Fault::Packet => put_packet(alloc, out, bytes),
+        Fault::Platform => put_platform(out, slot_at(bytes)),
+        Fault::Short => put_short(out, bytes),
+    }
+}
