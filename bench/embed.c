@@ -5,12 +5,11 @@
    embed FOLDER                   measures the stored programs
    embed FOLDER SIDE NAME FUEL    runs one side once, for bench/embed.py: run, one, step or bare; tells the steps that ran and R0 */
 #include "bpfagent.h"
-#include "percentile.h"
+#include "times.h"
 #include <inttypes.h>
 #include <stdio.h>
 #include <stdlib.h>
 #include <string.h>
-#include <time.h>
 
 uint64_t bpf_run(const uint8_t *code, size_t length, uint64_t fuel, uint64_t argument, uint32_t objects, size_t machines, size_t granted, uint64_t *steps);
 
@@ -31,9 +30,7 @@ struct outcome {
 
 static double now(void)
 {
-    struct timespec t;
-    clock_gettime(CLOCK_MONOTONIC, &t);
-    return (double)t.tv_sec + 1e-9 * (double)t.tv_nsec;
+    return seconds_by(CLOCK_MONOTONIC);
 }
 
 static void check(int ok, const char *what)

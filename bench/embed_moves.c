@@ -4,12 +4,12 @@
 
    moves */
 #include "bpfagent.h"
-#include "percentile.h"
+#include "sha256.h"
+#include "times.h"
 #include <inttypes.h>
 #include <stdio.h>
 #include <stdlib.h>
 #include <string.h>
-#include <time.h>
 
 #define RUNS 201
 #define SIDES 4
@@ -18,11 +18,10 @@
 static const size_t LENGTHS[] = { 64, 4096, 65536 };
 static uint8_t bytes[LARGEST], kept[LARGEST], copied[LARGEST];
 
+/* Nanoseconds. */
 static double now(void)
 {
-    struct timespec t;
-    clock_gettime(CLOCK_MONOTONIC, &t);
-    return 1e9 * (double)t.tv_sec + (double)t.tv_nsec;
+    return 1e9 * seconds_by(CLOCK_MONOTONIC);
 }
 
 static void must(uint32_t reply)
@@ -33,30 +32,21 @@ static void must(uint32_t reply)
     exit(1);
 }
 
-/* ---- SHA-256 (FIPS 180-4) */
-
-static const uint32_t K[64] = {
-    0x428a2f98, 0x71374491, 0xb5c0fbcf, 0xe9b5dba5, 0x3956c25b, 0x59f111f1, 0x923f82a4, 0xab1c5ed5, 0xd807aa98, 0x12835b01, 0x243185be,
-    0x550c7dc3, 0x72be5d74, 0x80deb1fe, 0x9bdc06a7, 0xc19bf174, 0xe49b69c1, 0xefbe4786, 0x0fc19dc6, 0x240ca1cc, 0x2de92c6f, 0x4a7484aa,
-    0x5cb0a9dc, 0x76f988da, 0x983e5152, 0xa831c66d, 0xb00327c8, 0xbf597fc7, 0xc6e00bf3, 0xd5a79147, 0x06ca6351, 0x14292967, 0x27b70a85,
-    0x2e1b2138, 0x4d2c6dfc, 0x53380d13, 0x650a7354, 0x766a0abb, 0x81c2c92e, 0x92722c85, 0xa2bfe8a1, 0xa81a664b, 0xc24b8b70, 0xc76c51a3,
-    0xd192e819, 0xd6990624, 0xf40e3585, 0x106aa070, 0x19a4c116, 0x1e376c08, 0x2748774c, 0x34b0bcb5, 0x391c0cb3, 0x4ed8aa4a, 0x5b9cca4f,
-    0x682e6ff3, 0x748f82ee, 0x78a5636f, 0x84c87814, 0x8cc70208, 0x90befffa, 0xa4506ceb, 0xbef9a3f7, 0xc67178f2
-};
+/* ---- the rounds of SHA-256 */
 
 #define ROR(x, n) ((x) >> (n) | (x) << (32 - (n)))
 #define ROUND(a, b, c, d, e, f, g, h, i) \
     do { \
-        uint32_t t = h + (ROR(e, 6) ^ ROR(e, 11) ^ ROR(e, 25)) + (g ^ (e & (f ^ g))) + K[i] + w[i]; \
+        uint32_t t = h + (ROR(e, 6) ^ ROR(e, 11) ^ ROR(e, 25)) + (g ^ (e & (f ^ g))) + SHA256_K[i] + w[i]; \
         d += t; \
         h = t + (ROR(a, 2) ^ ROR(a, 13) ^ ROR(a, 22)) + ((a & b) | (c & (a | b))); \
     } while (0)
 
-static void block(uint32_t s[8], const uint8_t *p)
+static void sha256_block(uint32_t s[8], const uint8_t *p)
 {
     uint32_t w[64], a = s[0], b = s[1], c = s[2], d = s[3], e = s[4], f = s[5], g = s[6], h = s[7];
     for (unsigned i = 0; i < 16; i++)
-        w[i] = (uint32_t)p[4 * i] << 24 | (uint32_t)p[4 * i + 1] << 16 | (uint32_t)p[4 * i + 2] << 8 | p[4 * i + 3];
+        w[i] = word_at(p + 4 * i);
     for (unsigned i = 16; i < 64; i++)
         w[i] = w[i - 16] + (ROR(w[i - 15], 7) ^ ROR(w[i - 15], 18) ^ w[i - 15] >> 3) + w[i - 7] + (ROR(w[i - 2], 17) ^ ROR(w[i - 2], 19) ^ w[i - 2] >> 10);
     for (unsigned i = 0; i < 64; i += 8) {
@@ -72,23 +62,6 @@ static void block(uint32_t s[8], const uint8_t *p)
     uint32_t by[8] = { a, b, c, d, e, f, g, h };
     for (unsigned i = 0; i < 8; i++)
         s[i] += by[i];
-}
-
-static void sha256(const uint8_t *p, size_t length, uint8_t digest[32])
-{
-    uint32_t s[8] = { 0x6a09e667, 0xbb67ae85, 0x3c6ef372, 0xa54ff53a, 0x510e527f, 0x9b05688c, 0x1f83d9ab, 0x5be0cd19 };
-    uint8_t last[128] = { 0 };
-    size_t whole = length / 64 * 64, rest = length - whole, end = rest < 56 ? 64 : 128;
-    for (size_t k = 0; k < whole; k += 64)
-        block(s, p + k);
-    memcpy(last, p + whole, rest);
-    last[rest] = 0x80;
-    for (unsigned k = 0; k < 8; k++)
-        last[end - 1 - k] = (uint8_t)((uint64_t)length * 8 >> 8 * k);
-    for (size_t k = 0; k < end; k += 64)
-        block(s, last + k);
-    for (unsigned k = 0; k < 32; k++)
-        digest[k] = (uint8_t)(s[k / 4] >> (24 - 8 * (k % 4)));
 }
 
 /* ---- sides */

@@ -2,6 +2,7 @@
    speak the frames of docs/FAR-STREAM.md; the client keeps length and SHA-256 of what it put, and compares them with what comes
    home. What is kept is the frame that answers a get. KIND is put, so many puts, each of which is forgotten, get, so many gets of
    one put, or digest, so many digests without a stream. Prints how many went well, or the sum of the digests' first words. */
+#include "sha256.h"
 #include <netinet/in.h>
 #include <netinet/tcp.h>
 #include <pthread.h>
@@ -19,26 +20,12 @@
 enum kind { PUT = 1, GET, FORGET };
 enum status { DONE, REFUSED_ID, NO_ROOM };
 
-static const uint32_t ROUND[64] = {
-    0x428a2f98, 0x71374491, 0xb5c0fbcf, 0xe9b5dba5, 0x3956c25b, 0x59f111f1, 0x923f82a4, 0xab1c5ed5, 0xd807aa98, 0x12835b01, 0x243185be,
-    0x550c7dc3, 0x72be5d74, 0x80deb1fe, 0x9bdc06a7, 0xc19bf174, 0xe49b69c1, 0xefbe4786, 0x0fc19dc6, 0x240ca1cc, 0x2de92c6f, 0x4a7484aa,
-    0x5cb0a9dc, 0x76f988da, 0x983e5152, 0xa831c66d, 0xb00327c8, 0xbf597fc7, 0xc6e00bf3, 0xd5a79147, 0x06ca6351, 0x14292967, 0x27b70a85,
-    0x2e1b2138, 0x4d2c6dfc, 0x53380d13, 0x650a7354, 0x766a0abb, 0x81c2c92e, 0x92722c85, 0xa2bfe8a1, 0xa81a664b, 0xc24b8b70, 0xc76c51a3,
-    0xd192e819, 0xd6990624, 0xf40e3585, 0x106aa070, 0x19a4c116, 0x1e376c08, 0x2748774c, 0x34b0bcb5, 0x391c0cb3, 0x4ed8aa4a, 0x5b9cca4f,
-    0x682e6ff3, 0x748f82ee, 0x78a5636f, 0x84c87814, 0x8cc70208, 0x90befffa, 0xa4506ceb, 0xbef9a3f7, 0xc67178f2,
-};
-
 static uint32_t turned(uint32_t x, int by)
 {
     return x >> by | x << (32 - by);
 }
 
-static uint32_t word_at(const uint8_t *bytes)
-{
-    return (uint32_t)bytes[0] << 24 | (uint32_t)bytes[1] << 16 | (uint32_t)bytes[2] << 8 | bytes[3];
-}
-
-static void compress(uint32_t state[8], const uint8_t *block)
+static void sha256_block(uint32_t state[8], const uint8_t *block)
 {
     uint32_t w[64];
     for (int t = 0; t < 16; t++) w[t] = word_at(block + 4 * t);
@@ -48,7 +35,7 @@ static void compress(uint32_t state[8], const uint8_t *block)
     }
     uint32_t a = state[0], b = state[1], c = state[2], d = state[3], e = state[4], f = state[5], g = state[6], h = state[7];
     for (int t = 0; t < 64; t++) {
-        uint32_t one = h + (turned(e, 6) ^ turned(e, 11) ^ turned(e, 25)) + ((e & f) ^ (~e & g)) + ROUND[t] + w[t];
+        uint32_t one = h + (turned(e, 6) ^ turned(e, 11) ^ turned(e, 25)) + ((e & f) ^ (~e & g)) + SHA256_K[t] + w[t];
         uint32_t two = (turned(a, 2) ^ turned(a, 13) ^ turned(a, 22)) + ((a & b) ^ (a & c) ^ (b & c));
         h = g;
         g = f;
@@ -67,19 +54,6 @@ static void compress(uint32_t state[8], const uint8_t *block)
     state[5] += f;
     state[6] += g;
     state[7] += h;
-}
-
-static void sha256(const uint8_t *bytes, size_t length, uint8_t digest[32])
-{
-    uint32_t state[8] = { 0x6a09e667, 0xbb67ae85, 0x3c6ef372, 0xa54ff53a, 0x510e527f, 0x9b05688c, 0x1f83d9ab, 0x5be0cd19 };
-    uint8_t last[128] = { 0 };
-    size_t whole = length / 64 * 64, rest = length - whole, end = rest < 56 ? 64 : 128;
-    for (size_t k = 0; k < whole; k += 64) compress(state, bytes + k);
-    memcpy(last, bytes + whole, rest);
-    last[rest] = 0x80;
-    for (int k = 0; k < 8; k++) last[end - 1 - k] = (uint8_t)((uint64_t)length * 8 >> 8 * k);
-    for (size_t k = 0; k < end; k += 64) compress(state, last + k);
-    for (int k = 0; k < 32; k++) digest[k] = (uint8_t)(state[k / 4] >> (24 - k % 4 * 8));
 }
 
 static void *room(size_t bytes)

@@ -2,11 +2,10 @@
    and what the number of objects, of machines and of scopes costs. Runs are interleaved, and of each the tenth percentile counts.
    Machine instructions are counted by bench/counts.py, which has this program run one side once. */
 #include "flat.h"
-#include "percentile.h"
+#include "times.h"
 #include <stdio.h>
 #include <stdlib.h>
 #include <string.h>
-#include <time.h>
 
 /* The code in the last of so many machines, beside so many objects: the first of 65,536 bytes. It is granted so many of them, or
    all where that is 0. Gives R0 as it stops, and how many instructions ran. */
@@ -17,6 +16,7 @@ uint64_t bpf_run(const uint8_t *code, size_t length, uint64_t fuel, uint64_t arg
 #define CODE_LIMIT 32768
 #define OBJECT_BYTES 65536
 #define OBJECT(n) ((uint64_t)(n) << 32)
+#define EXIT 0x95
 
 struct code {
     uint8_t bytes[CODE_LIMIT];
@@ -38,9 +38,7 @@ struct outcome {
 /* Seconds that the processor worked for this program: other work on the machine takes none of them. */
 static double now(void)
 {
-    struct timespec t;
-    clock_gettime(CLOCK_PROCESS_CPUTIME_ID, &t);
-    return (double)t.tv_sec + 1e-9 * (double)t.tv_nsec;
+    return seconds_by(CLOCK_PROCESS_CPUTIME_ID);
 }
 
 /* ---- machine instructions */
@@ -203,77 +201,69 @@ static void back_to(struct code *c, size_t slot)
     put(c, 0x05, 0, 0, (int16_t)(slot - c->length / 8 - 1), 0);
 }
 
-/* r0 += 1; if r0 != -1 goto -2 */
-static struct code counting(void)
+/* A slot of a program that is made here. */
+struct slot {
+    uint8_t opcode;
+    int dst, src;
+    int16_t offset;
+    int32_t imm;
+};
+
+/* These slots; behind them the program begins anew if its last one isn't an exit. */
+static struct code made_of(const struct slot *slots, size_t count)
 {
-    static struct code c;
-    put(&c, 0x07, 0, 0, 0, 1);
-    put(&c, 0x55, 0, 0, -2, -1);
-    put(&c, 0x95, 0, 0, 0, 0);
+    struct code c = { .length = 0 };
+    for (size_t n = 0; n < count; n++) put(&c, slots[n].opcode, slots[n].dst, slots[n].src, slots[n].offset, slots[n].imm);
+    if (slots[count - 1].opcode != EXIT) back_to(&c, 0);
     return c;
 }
 
-/* r6 += 3, r6 *= r1, r6 ^= 5, r6 >>= 1, r6 |= r1, r6 -= 7, r6 += r1 of 32 bits */
+#define MADE_OF(...) made_of((const struct slot[]){ __VA_ARGS__ }, sizeof (struct slot[]){ __VA_ARGS__ } / sizeof(struct slot))
+
+static struct code counting(void)
+{
+    return MADE_OF({ 0x07, 0, 0, 0, 1 },   /* r0 += 1 */
+                   { 0x55, 0, 0, -2, -1 }, /* if r0 != -1 goto -2 */
+                   { EXIT, 0, 0, 0, 0 });
+}
+
 static struct code straight(void)
 {
-    static struct code c;
-    put(&c, 0x07, 6, 0, 0, 3);
-    put(&c, 0x2f, 6, 1, 0, 0);
-    put(&c, 0xa7, 6, 0, 0, 5);
-    put(&c, 0x77, 6, 0, 0, 1);
-    put(&c, 0x4f, 6, 1, 0, 0);
-    put(&c, 0x17, 6, 0, 0, 7);
-    put(&c, 0x0c, 6, 1, 0, 0);
-    back_to(&c, 0);
-    return c;
+    return MADE_OF({ 0x07, 6, 0, 0, 3 },  /* r6 += 3 */
+                   { 0x2f, 6, 1, 0, 0 },  /* r6 *= r1 */
+                   { 0xa7, 6, 0, 0, 5 },  /* r6 ^= 5 */
+                   { 0x77, 6, 0, 0, 1 },  /* r6 >>= 1 */
+                   { 0x4f, 6, 1, 0, 0 },  /* r6 |= r1 */
+                   { 0x17, 6, 0, 0, 7 },  /* r6 -= 7 */
+                   { 0x0c, 6, 1, 0, 0 }); /* r6 += r1, of 32 bits */
 }
 
 /* A call of a function that calls one that adds. */
 static struct code calls(void)
 {
-    static struct code c;
-    put(&c, 0x85, 0, 1, 0, 1);
-    back_to(&c, 0);
-    put(&c, 0x85, 0, 1, 0, 1);
-    put(&c, 0x95, 0, 0, 0, 0);
-    put(&c, 0x07, 0, 0, 0, 1);
-    put(&c, 0x95, 0, 0, 0, 0);
+    struct code c = MADE_OF({ 0x85, 0, 1, 0, 1 });
+    struct code functions = MADE_OF({ 0x85, 0, 1, 0, 1 }, { EXIT, 0, 0, 0, 0 }, { 0x07, 0, 0, 0, 1 }, { EXIT, 0, 0, 0, 0 });
+    memcpy(c.bytes + c.length, functions.bytes, functions.length);
+    c.length += functions.length;
     return c;
 }
 
+/* Of 8, 4, 2 and 1 bytes. */
 static struct code loads(void)
 {
-    static struct code c;
-    put(&c, 0x79, 0, 1, 8, 0);
-    put(&c, 0x61, 0, 1, 16, 0);
-    put(&c, 0x69, 0, 1, 24, 0);
-    put(&c, 0x91, 0, 1, 32, 0);
-    back_to(&c, 0);
-    return c;
+    return MADE_OF({ 0x79, 0, 1, 8, 0 }, { 0x61, 0, 1, 16, 0 }, { 0x69, 0, 1, 24, 0 }, { 0x91, 0, 1, 32, 0 });
 }
 
 /* Three stores to the object, and one to the stack. */
 static struct code stores(void)
 {
-    static struct code c;
-    put(&c, 0x7b, 1, 1, 8, 0);
-    put(&c, 0x62, 1, 0, 16, 7);
-    put(&c, 0x6b, 1, 1, 24, 0);
-    put(&c, 0x73, 10, 1, -8, 0);
-    back_to(&c, 0);
-    return c;
+    return MADE_OF({ 0x7b, 1, 1, 8, 0 }, { 0x62, 1, 0, 16, 7 }, { 0x6b, 1, 1, 24, 0 }, { 0x73, 10, 1, -8, 0 });
 }
 
 /* An addition, one of 4 bytes with a fetch, an exchange, a comparison and exchange. */
 static struct code atomics(void)
 {
-    static struct code c;
-    put(&c, 0xdb, 1, 2, 8, 0x00);
-    put(&c, 0xc3, 1, 2, 16, 0x01);
-    put(&c, 0xdb, 1, 2, 24, 0xe1);
-    put(&c, 0xdb, 1, 2, 8, 0xf1);
-    back_to(&c, 0);
-    return c;
+    return MADE_OF({ 0xdb, 1, 2, 8, 0x00 }, { 0xc3, 1, 2, 16, 0x01 }, { 0xdb, 1, 2, 24, 0xe1 }, { 0xdb, 1, 2, 8, 0xf1 });
 }
 
 /* Loads from five objects in turn, whose addresses count up by `stride` objects. */

@@ -8,15 +8,11 @@ check takes so many processors.
 from __future__ import annotations
 
 import pathlib
-import re
 import subprocess
 import sys
 import tempfile
-import time
 
-ROOT = pathlib.Path(__file__).resolve().parents[1]
-sys.path.insert(0, str(ROOT / "tests"))
-from lib.sources import crates_below
+from build import ROOT, proved, say
 
 CRATE = ROOT / "crates/bpfagent_c"
 MADE = ROOT / "out/lib/libbpfagent.a"
@@ -26,29 +22,9 @@ class Wrong(Exception):
     """The library can't be built."""
 
 
-def say(text: str) -> None:
-    print(text, file=sys.stderr, flush=True)
-
-
 def home_of(rt: str) -> pathlib.Path:
     """The folder of the toolchain, which is that of the page that `rt doc` names."""
     return pathlib.Path(subprocess.run([rt, "doc"], stdout=subprocess.PIPE, text=True, check=True).stdout.strip()).parent
-
-
-def prove(rt: str, flags: list[str]) -> None:
-    """Proves the crates and builds the crate's archive, and tells each crate that is done."""
-    crates = crates_below(CRATE.name)
-    say(f"Proving and building the library, of {len(crates)} crates. The first time takes about half an hour; later runs prove what changed.")
-    done, told, start = set(), [], time.monotonic()
-    with subprocess.Popen([rt, "lib", *flags], cwd=CRATE, stdin=subprocess.DEVNULL, stdout=subprocess.PIPE, stderr=subprocess.STDOUT, text=True, errors="replace") as process:
-        for line in process.stdout:
-            told.append(line)
-            proved = re.match(r"crate (\w+): ", line)
-            if proved and proved[1] in crates and proved[1] not in done:
-                done.add(proved[1])
-                say(f"{proved[1]}: crate {crates.index(proved[1]) + 1} of {len(crates)}, after {(time.monotonic() - start) / 60:.0f} minutes")
-    if process.returncode:
-        raise Wrong("".join(told[-40:]) + "the library isn't proved")
 
 
 def join(archiver: pathlib.Path, archives: list[pathlib.Path], made: pathlib.Path) -> None:
@@ -68,7 +44,8 @@ def join(archiver: pathlib.Path, archives: list[pathlib.Path], made: pathlib.Pat
 
 def build(rt: str, flags: list[str]) -> pathlib.Path:
     """The library, proved and built."""
-    prove(rt, flags)
+    if not proved([rt, "lib", *flags], CRATE, "the library"):
+        raise Wrong("the library isn't proved")
     home = home_of(rt)
     join(home / "toolchain/bin/llvm-ar", [CRATE / f"out/lib{CRATE.name}.a", home / "c/liblibc_c.a"], MADE)
     return MADE

@@ -16,7 +16,7 @@ import sys
 import time
 import unittest
 import unittest.mock
-from typing import Any, Callable, TypeVar
+from typing import Any, Callable, Iterator, TypeVar
 
 from support import PROGRAM, ROOT, SECONDS, needs_debugger
 
@@ -71,6 +71,21 @@ def random_pair(chance: random.Random) -> tuple[int, int]:
     return one, other
 
 
+@contextlib.contextmanager
+def setting_of_one() -> Iterator[Setting]:
+    """How jobs run over one Redis."""
+    with engines.single() as server:
+        yield Setting((server.url,), False, PROGRAM, 0, 60)
+
+
+def accounts_in(setting: Setting, first: int, second: int) -> Store:
+    """The store, with these amounts in the accounts a and b."""
+    store = Store(setting)
+    store.put("a", number(first))
+    store.put("b", number(second))
+    return store
+
+
 def transfer(one: str, other: str, amount: int, **more: Any) -> Job:
     return Job(code("transfer"), {one: "w", other: "w"}, (one, other, amount), **more)
 
@@ -113,11 +128,8 @@ class FleetTest(unittest.TestCase):
 
     def test_one_owner(self) -> None:
         """Results, objects and stops of one agent, by itself."""
-        with engines.single() as server:
-            setting = Setting((server.url,), False, PROGRAM, 0, 60)
-            store, owner = Store(setting), self.owner(setting)
-            store.put("a", number(AMOUNT))
-            store.put("b", number(0))
+        with setting_of_one() as setting:
+            store, owner = accounts_in(setting, AMOUNT, 0), self.owner(setting)
             self.assertEqual(owner.run(transfer("a", "b", 300)), Result(1, ()), "a transfer")
             self.assertEqual(owner.run(transfer("b", "a", 301)), Result(0, ()), "one of more than there is")
             self.assertEqual((value(store.get("a")), value(store.get("b"))), (AMOUNT - 300, 300), "the accounts")
@@ -146,17 +158,14 @@ class FleetTest(unittest.TestCase):
         source = ROOT / "examples/scaling/transfer.c"
         image = load(source)
         wanted = 1 + source.read_text().splitlines().index("    *from -= amount;")
-        with engines.single() as server:
-            setting = Setting((server.url,), False, PROGRAM, 0, 60)
-            for name in ("a", "b"):
-                Store(setting).put(name, number(AMOUNT))
+        with setting_of_one() as setting:
+            accounts_in(setting, AMOUNT, AMOUNT)
             job = Job(image.code, {"a": "r", "b": "w"}, ("a", "b", 1), lines=lines_of(image))
             self.fails(lambda: self.owner(setting).run(job), JobStopped, f"transfer.c:{wanted}; r0=")
 
     def test_texts(self) -> None:
         """The program that counts words, beside Python; each text is brought in anew, also with another length."""
-        with engines.single() as server:
-            setting = Setting((server.url,), False, PROGRAM, 0, 60)
+        with setting_of_one() as setting:
             store, owner, chance, wanted = Store(setting), self.owner(setting), random.Random(1), 0
             store.put("total", number(0))
             for length in LENGTHS:
@@ -169,11 +178,8 @@ class FleetTest(unittest.TestCase):
 
     def test_replacing(self) -> None:
         """More jobs than an agent takes machines, and more objects than it makes."""
-        with engines.single() as server:
-            setting = Setting((server.url,), False, PROGRAM, 0, 60)
-            store, owner = Store(setting), self.owner(setting)
-            store.put("a", number(AMOUNT))
-            store.put("b", number(0))
+        with setting_of_one() as setting:
+            store, owner = accounts_in(setting, AMOUNT, 0), self.owner(setting)
             for _ in range(100):
                 owner.run(transfer("a", "b", 1))
             self.assertEqual(value(store.get("b")), 100, "the account after 100 jobs")
@@ -184,11 +190,8 @@ class FleetTest(unittest.TestCase):
 
     def test_once(self) -> None:
         """A job that is run again, and one whose keys others change in between."""
-        with engines.single() as server:
-            setting = Setting((server.url,), False, PROGRAM, 0, 60)
-            store, other = Store(setting), Store(setting)
-            store.put("a", number(AMOUNT))
-            store.put("b", number(0))
+        with setting_of_one() as setting:
+            store, other = accounts_in(setting, AMOUNT, 0), Store(setting)
             job = transfer("a", "b", 1)
             self.assertEqual([self.owner(setting).run(job) for _ in range(2)], [Result(1, ())] * 2, "a job that is run twice")
             self.assertEqual(value(store.get("b")), 1, "the account")

@@ -1,7 +1,7 @@
 """What the debugger shows, as lines of text."""
 from __future__ import annotations
 
-from typing import TYPE_CHECKING, Iterator, Optional
+from typing import TYPE_CHECKING, Iterable, Iterator, Optional
 
 from ..accesses import OF_MEMORY, access_text, place_text
 from ..agent import STACK
@@ -149,22 +149,25 @@ def unit(content: bytes, kind: str) -> str:
 # ---- info
 
 
+def or_else(lines: Iterable[str], none: str) -> Iterator[str]:
+    """The lines, or this one if there are none."""
+    count = 0
+    for count, line in enumerate(lines, 1):
+        yield line
+    if not count:
+        yield none
+
+
 def info_breakpoints(terminal: Terminal) -> Iterator[str]:
     """The breakpoints."""
-    found = terminal.engine.breakpoints.values()
-    for point in found:
-        yield f"{point.number}: {point.text} at {point}{', once' if point.is_temporary else ''}, {point.hits} hits"
-    if not found:
-        yield "no breakpoints"
+    points = terminal.engine.breakpoints.values()
+    return or_else((f"{it.number}: {it.text} at {it}{', once' if it.is_temporary else ''}, {it.hits} hits" for it in points), "no breakpoints")
 
 
 def info_watchpoints(terminal: Terminal) -> Iterator[str]:
     """The watched values."""
-    found = terminal.engine.watches.values()
-    for watch in found:
-        yield f"{watch.number}: {watch.text}, machine {watch.machine}, {watch.length} bytes at {place_text(watch.address)}"
-    if not found:
-        yield "no watchpoints"
+    watches = terminal.engine.watches.values()
+    return or_else((f"{it.number}: {it.text}, machine {it.machine}, {it.length} bytes at {place_text(it.address)}" for it in watches), "no watchpoints")
 
 
 def info_machines(terminal: Terminal) -> Iterator[str]:
@@ -176,10 +179,7 @@ def info_machines(terminal: Terminal) -> Iterator[str]:
 def info_objects(terminal: Terminal) -> Iterator[str]:
     """The objects. The protocol has no list of them, so each number is asked for."""
     found = terminal.engine.all_objects()
-    for number, length, place in found:
-        yield f"object {number}: {length} bytes at 0x{number << 32:x}, {place}"
-    if not found:
-        yield "no objects"
+    yield from or_else((f"object {number}: {length} bytes at 0x{number << 32:x}, {place}" for number, length, place in found), "no objects")
     if terminal.engine.is_service and any(place == "away" for _, _, place in found):
         yield "asking for the objects that are away has the service bring them back"
 
@@ -204,11 +204,7 @@ def info_registers(terminal: Terminal) -> Iterator[str]:
 def info_locals(terminal: Terminal) -> Iterator[str]:
     """The variables of the frame that is looked at."""
     context = terminal.engine.context(terminal.frame)
-    found = context.variables()
-    for variable in found:
-        yield f"{variable.name} = {context.value_of(variable)}"
-    if not found:
-        yield "no variables"
+    return or_else((f"{it.name} = {context.value_of(it)}" for it in context.variables()), "no variables")
 
 
 def info_frame(terminal: Terminal) -> Iterator[str]:
