@@ -27,7 +27,7 @@ MODULES = {"distributed": "python3-distributed", "redis": "python3-redis"}
 COMMANDS = {"redis-server": "redis-server", "redis-cli": "redis-tools"}
 HOST = "127.0.0.1"
 # How long a server may take to be ready, and how long all jobs together.
-SECONDS, PATIENCE = 60, 1800
+SECONDS, PATIENCE = 60, 3600
 # Milliseconds after which nodes of the cluster take one that is silent for dead.
 SILENT = 2000
 
