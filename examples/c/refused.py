@@ -12,7 +12,6 @@ The comments at the head of each file of refused/ say what comes of it, and this
                      what would come of it
 The conversations of `ship` and `run` are refused.script, which is written with --write.
 """
-import pathlib
 import re
 import subprocess
 import sys
