@@ -1,15 +1,8 @@
 -- What is read from tokens.
-use Rattle.std.proofs.Common.{◌≡◌, ℕ, ◌<◌, ◌≤◌, List, [], ◌∷◌, drop, length, get_or, slice_index, Some, None, Result, Ok, Err, subst, sym, ◌∙◌, ap, arith, inl, inr}
+use Rattle.std.proofs.Common.{◌≡◌, ℕ, ◌<◌, ◌≤◌, List, [], ◌∷◌, drop, length, get_or, slice_index, Some, None, Result, Ok, Err, subst, sym, ◌∙◌, ap, arith}
 use Rattle.std.proofs.lemmas.List.{length-take}
-use Rattle.memory.specs.Objects.{bytes_of}
 use Rattle.machine.specs.Grants.{GrantState}
-use Rattle.far_store.specs.declared.places.Place.{Place}
-use Rattle.far_store.specs.declared.places.Place.TheVariants as place
-use Rattle.far_store.specs.declared.places.Moved.{Moved}
-use Rattle.far_store.specs.declared.places.Moved.TheVariants as moved
-use Rattle.object_store.specs.Stores.{StoreState, store_memory}
-use Rattle.debugger.specs.declared.commands.MachineCommand.{MachineCommand}
-use Rattle.debugger.specs.declared.commands.MachineCommand.TheVariants.{Step, Show, Debug}
+use Rattle.debugger.specs.declared.commands.MachineCommand.TheVariants.{Show}
 use Rattle.debugger.specs.declared.commands.ShowCommand.{ShowCommand}
 use Rattle.debugger.specs.declared.commands.ShowCommand.TheVariants.{Stack}
 use Rattle.debugger.specs.declared.replies.StepReply.{StepReply}
@@ -21,16 +14,9 @@ use Rattle.debugger.specs.declared.replies.Debugged.TheVariants as debugged
 use Rattle.debugger.specs.declared.debuggee.Debuggee.{Debuggee}
 use Rattle.debugger.specs.Showing.{Shows}
 use Rattle.world.specs.declared.events.Event.{Event}
-use Rattle.world.specs.declared.events.Event.TheVariants.{Make, Ship, Object, Machine}
-use Rattle.world.specs.declared.events.ObjectCommand.{ObjectCommand}
-use Rattle.world.specs.declared.events.ObjectCommand.TheVariants.{Free, Put, Get, Move}
-use Rattle.world.specs.declared.events.Move.{Move as WorldMove}
-use Rattle.world.specs.declared.events.Move.TheVariants as move
-use Rattle.world.specs.declared.replies.Reply.{Reply}
-use Rattle.world.specs.declared.replies.Reply.TheVariants as reply
-use Rattle.world.specs.WorldState.{WorldState}
-use Rattle.world.specs.Machines.{AnswersCommand, reply_to_step, reply_to_show, reply_to_debug}
-use Rattle.world.specs.Answers.{Answers, AnswersObject, reply_to_move, moved_reply, place_before}
+use Rattle.world.specs.declared.events.Event.TheVariants.{Object, Machine}
+use Rattle.world.specs.declared.events.ObjectCommand.TheVariants.{Get}
+use Rattle.world.specs.Machines.{reply_to_step, reply_to_show, reply_to_debug}
 use Rattle.console.specs.Tokens.{tokens_of, within, IsWithin, AreNumbers, AreBytes}
 use Rattle.console.specs.Granting.{AreGrants}
 use Rattle.console.specs.Replies.{IsShort}
@@ -111,18 +97,6 @@ asks_short line command s = said_short (tokens_of line) command s.1
 
 -- ---- replies
 
-move_short : (told : Reply) (back : Place) (n : ℕ) (m : Moved) → IsShort told → IsShort (reply_to_move told back n m)
-move_short told back n moved.Done short = short
-move_short told back n moved.NoObject short = tt
-move_short told back n (moved.Misplaced p) short = tt
-move_short told back n moved.Scoped short = tt
-move_short told back n moved.NoRoom short = tt
-move_short told back n (moved.Fault f) short = tt
-
-moved_short : (m : WorldMove) (n : ℕ) → IsShort (moved_reply m n)
-moved_short move.Returned n = tt
-moved_short _ n = tt
-
 pub step_short : (m : ℕ) (told : StepReply) → IsShort (reply_to_step m told)
 step_short m (step_reply.Stopped stop) = tt
 step_short m _ = tt
@@ -135,25 +109,3 @@ pub show_short : (m : ℕ) (command : ShowCommand) (d : Debuggee) (told : ShowRe
 show_short m (Stack offset size) d (show_reply.Bytes shown) s short = let e = ap length s.1 in let l = length-take size (drop offset d.machine.stack) in omega (arith, e, l, short)
 show_short m _ d (show_reply.Bytes shown) s short = absurd s
 show_short m command d _ s short = tt
-
-command_short : (old new : Debuggee) (before after : StoreState) (m : ℕ) (command : MachineCommand) (r : Reply)
-    → (f : AnswersCommand (store_memory m) old before m command r new after) → AsksShort (Machine m command) → IsShort r
-command_short old new before after m (Step way) r f short = subst IsShort (sym f.1) (step_short m f.0)
-command_short old new before after m (Show command) r f short = subst IsShort (sym f.1) (show_short m command old f.0 f.2 short)
-command_short old new before after m (Debug command) r f short = subst IsShort (sym f.1) (debug_short f.0)
-
-object_short : (old new : WorldState) (n : ℕ) (command : ObjectCommand) (r : Reply) → AnswersObject old n command r new → AsksShort (Object n command) → IsShort r
-object_short old new n (Get offset size) (reply.Bytes shown) a short = let e = ap length a.0.2 in let l = length-take size (drop offset (bytes_of old.store.objects n)) in omega (arith, e, l, short)
-object_short old new n (Put offset bytes) (reply.Bytes shown) a short = absurd a
-object_short old new n Free (reply.Bytes shown) a short = subst IsShort (sym a.told) (move_short (reply.Freed n) place.Here n a.moved tt)
-object_short old new n (Move m) (reply.Bytes shown) a short = subst IsShort (sym a.told) (move_short (moved_reply m n) (place_before m) n a.moved (moved_short m n))
-object_short old new n command r a short = tt
-
--- so few bytes are answered as were asked for
-pub answers_short : (old new : WorldState) (command : Event) (r : Reply) → Answers old command r new → AsksShort command → IsShort r
-answers_short old new (Make size) (reply.Bytes shown) a short = absurd a
-answers_short old new (Ship start code) (reply.Bytes shown) a short = absurd a.0
-answers_short old new (Object n command) r a short = object_short old new n command r a short
-answers_short old new (Machine m command) r (inl a) short = subst IsShort (sym a.told) tt
-answers_short old new (Machine m command) r (inr a) short = command_short a.debuggee a.left old.store new.store m command r a.answers short
-answers_short old new command r a short = tt

@@ -1,5 +1,5 @@
 -- Words that grant objects.
-use Rattle.std.proofs.Common.{◌≡◌, ◌≢◌, ℕ, ◌<◌, ◌≤◌, ◌+◌, Bool, true, false, List, [], ◌∷◌, ◌++◌, length, drop, refl, sym, ap, ◌∙◌, subst, arith, append-nil, append_assoc, length-append}
+use Rattle.std.proofs.Common.{◌≡◌, ◌≢◌, ℕ, ◌<◌, ◌≤◌, Bool, true, false, List, [], ◌∷◌, ◌++◌, length, drop, refl, sym, ap, ◌∙◌, subst, arith, append-nil, append_assoc, length-append}
 use Rattle.machine.specs.declared.grants.Grant.{Grant}
 use Rattle.machine.specs.Grants.{GrantState}
 use Rattle.console.specs.Tokens.{IsNumber, IsNumberWithin}
@@ -92,10 +92,6 @@ pub record ReadSoFar (all left : List (List ℕ)) (grants : GrantState) (last : 
   pub rise : RiseFrom 0 grants.listed
   pub last_is : last ≡ last_of 0 grants.listed
   pub some : grants.all ≡ false
-
--- none is read
-pub so_far_none : (all : List (List ℕ)) (g : GrantState) → g ≡ record { all = false; listed = [] } → ReadSoFar all all g 0
-so_far_none all g e = subst (λ (x : GrantState). ReadSoFar all all x 0) (sym e) record { words = []; split = refl; granted = tt; rise = tt; last_is = refl; some = refl }
 
 module _ (all left : List (List ℕ)) (g : GrantState) (last : ℕ) (s : ReadSoFar all left g last) where
   -- one more is

@@ -54,10 +54,6 @@ number_one w m n p q = elim p.1 [
   ]
 ]
 
--- no token is left, so no number
-pub no_number_empty : (limits : Limits) (tokens : List (List ℕ)) → tokens ≡ [] → (token : List ℕ) (left : List (List ℕ)) (n : ℕ) → tokens ≡ token ∷ left → IsNumberWithin limits token n → ⊥
-no_number_empty limits tokens e token left n f w = absurd (let x : [] ≡ token ∷ left = sym e ∙ f in cc)
-
 -- the next token is no such number
 pub no_number_token : (limits : Limits) (tokens left : List (List ℕ)) (token : List ℕ) → tokens ≡ token ∷ left → ((n : ℕ) → IsNumberWithin limits token n → ⊥)
     → (other : List ℕ) (more : List (List ℕ)) (n : ℕ) → tokens ≡ other ∷ more → IsNumberWithin limits other n → ⊥
@@ -65,12 +61,6 @@ no_number_token limits tokens left token e none other more n f w =
     let x : token ∷ left ≡ other ∷ more = sym e ∙ f in
     let y : other ≡ token = cc in
     none n (subst (λ t. IsNumberWithin limits t n) y w)
-
--- a number outside the limits is the only one that the token is
-pub outside_limits : (limits : Limits) (token : List ℕ) (m : ℕ) → IsNumber token m → (IsWithin limits m → ⊥) → (n : ℕ) → IsNumberWithin limits token n → ⊥
-outside_limits limits token m is_m none n w =
-    let e = number_one token n m w.0 is_m in
-    none (subst (IsWithin limits) e w.1)
 
 -- one more number
 pub numbers_more : (ls : List Limits) (tokens : List (List ℕ)) (ns : List ℕ) (left : List (List ℕ)) (l : Limits) (token : List ℕ) (n : ℕ) (more : List (List ℕ))
@@ -150,7 +140,3 @@ bytes_wrong most tokens left text e none bytes other a =
     let x : text ∷ left ≡ a.0 ∷ other = sym e ∙ a.1 in
     let y : a.0 ≡ text = cc in
     none bytes (subst (λ t. IsHex t bytes) y a.2) a.3
-
--- there is no next token
-pub bytes_absent : (most : ℕ) (tokens : List (List ℕ)) → tokens ≡ [] → (bytes : List ℕ) (other : List (List ℕ)) → AreBytes (Some most) tokens bytes other → ⊥
-bytes_absent most tokens e bytes other a = absurd (let x : [] ≡ a.0 ∷ other = sym e ∙ a.1 in cc)

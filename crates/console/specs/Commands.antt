@@ -1,12 +1,11 @@
 -- Which line spells which command. Names, parameters and limits are this project's choice.
-use Rattle.std.specs.Prelude.{◌≡◌, ℕ, ◌≤◌, ◌-◌, ◌/◌, ◌^◌, Bool, true, false, List, [], ◌∷◌, length, slice_index, codes, if◌then◌else◌, Option, Some, None, Result, Ok, Err}
+use Rattle.std.specs.Prelude.{◌≡◌, ℕ, ◌≤◌, ◌-◌, ◌/◌, ◌^◌, Bool, true, false, List, [], ◌∷◌, length, slice_index, codes, find, Option, Some, None, Result, Ok, Err}
 use Rattle.std.specs.Str.{bytes_eq}
 use Rattle.loader.specs.ValidCode.{code_limit}
 use Rattle.memory.specs.Objects.{object_bytes}
 use Rattle.object_store.specs.Stores.{machine_limit}
 use Rattle.machine.specs.MachineState.{stack_size}
 use Rattle.machine.specs.Grants.{GrantState}
-use Rattle.debugger.specs.declared.commands.MachineCommand.{MachineCommand}
 use Rattle.debugger.specs.declared.commands.MachineCommand.TheVariants.{Step, Show, Debug}
 use Rattle.debugger.specs.declared.commands.Way.TheVariants as way
 use Rattle.debugger.specs.declared.commands.ShowCommand.TheVariants.{Regs, Out, Stack, Line}
@@ -24,32 +23,7 @@ use Rattle.console.specs.declared.kind.Kind.{Kind}
 use Rattle.console.specs.declared.kind.Kind.TheVariants as kind
 use Rattle.console.specs.declared.kind.Limits.{Limits}
 
--- ---- the table of commands: name, numbers, bytes, words, command
-
--- the kind of command that has this name
-abbrev pub kind_named : List ℕ → Option Kind
-kind_named name =
-    if bytes_eq name (codes "make") then Some kind.Make else
-    (if bytes_eq name (codes "free") then Some kind.Free else
-    (if bytes_eq name (codes "put") then Some kind.Put else
-    (if bytes_eq name (codes "get") then Some kind.Get else
-    (if bytes_eq name (codes "ship") then Some kind.Ship else
-    (if bytes_eq name (codes "ship2") then Some kind.Ship2 else
-    (if bytes_eq name (codes "leave") then Some kind.Leave else
-    (if bytes_eq name (codes "left") then Some kind.Left else
-    (if bytes_eq name (codes "return") then Some kind.Return else
-    (if bytes_eq name (codes "returned") then Some kind.Returned else
-    (if bytes_eq name (codes "step") then Some kind.Step else
-    (if bytes_eq name (codes "one") then Some kind.One else
-    (if bytes_eq name (codes "regs") then Some kind.Regs else
-    (if bytes_eq name (codes "out") then Some kind.Out else
-    (if bytes_eq name (codes "stack") then Some kind.Stack else
-    (if bytes_eq name (codes "line") then Some kind.Line else
-    (if bytes_eq name (codes "break") then Some kind.Break else
-    (if bytes_eq name (codes "unbreak") then Some kind.Unbreak else
-    (if bytes_eq name (codes "watch") then Some kind.Watch else
-    (if bytes_eq name (codes "unwatch") then Some kind.Unwatch else
-    (if bytes_eq name (codes "resume") then Some kind.Resume else None))))))))))))))))))))
+-- ---- limits
 
 -- any number of 64 bits
 abbrev pub any_number : Limits
@@ -79,45 +53,75 @@ range_limit = 4096
 abbrev pub range_length : Limits
 range_length = within 1 range_limit
 
+-- fuel, and what R1 to R5 begin with
+abbrev pub start_numbers : List Limits
+start_numbers = any_number ∷ any_number ∷ any_number ∷ any_number ∷ any_number ∷ any_number ∷ []
+
+-- ---- the table of commands
+
+-- What a line of a command has: its name, the limits of the numbers after it, how many bytes may come then, in hex, where some have to, and whether words that grant objects may come last.
+pub record LineForm : Type 0 where
+  pub name : List ℕ
+  pub numbers : List Limits
+  pub bytes : Option ℕ
+  pub takes_grants : Bool
+
+-- a line that has numbers alone after its name
+abbrev pub numbered : List ℕ → List Limits → LineForm
+numbered name numbers = record { name = name; numbers = numbers; bytes = None; takes_grants = false }
+
+-- how a line of each kind is written
+abbrev pub form_of : Kind → LineForm
+-- how many bytes the object has
+form_of kind.Make = numbered (codes "make") (within 1 object_bytes ∷ [])
+form_of kind.Free = numbered (codes "free") (object_number ∷ [])
+form_of kind.Put = record (numbered (codes "put") (object_number ∷ object_offset ∷ [])) { bytes = Some range_limit }
+form_of kind.Get = numbered (codes "get") (object_number ∷ object_offset ∷ range_length ∷ [])
+-- code, as much as the line holds
+form_of kind.Ship = record (numbered (codes "ship") (start_numbers)) { bytes = Some line_limit }
+form_of kind.Ship2 = record (numbered (codes "ship2") (start_numbers)) { bytes = Some line_limit; takes_grants = true }
+form_of kind.Leave = numbered (codes "leave") (object_number ∷ [])
+form_of kind.Left = numbered (codes "left") (object_number ∷ [])
+form_of kind.Return = numbered (codes "return") (object_number ∷ [])
+form_of kind.Returned = numbered (codes "returned") (object_number ∷ [])
+form_of kind.Step = numbered (codes "step") (machine_number ∷ [])
+form_of kind.One = numbered (codes "one") (machine_number ∷ [])
+form_of kind.Regs = numbered (codes "regs") (machine_number ∷ [])
+form_of kind.Out = numbered (codes "out") (machine_number ∷ [])
+form_of kind.Stack = numbered (codes "stack") (machine_number ∷ stack_offset ∷ range_length ∷ [])
+form_of kind.Line = numbered (codes "line") (machine_number ∷ code_slot ∷ [])
+form_of kind.Break = numbered (codes "break") (machine_number ∷ code_slot ∷ [])
+form_of kind.Unbreak = numbered (codes "unbreak") (machine_number ∷ code_slot ∷ [])
+-- a range begins at any address
+form_of kind.Watch = numbered (codes "watch") (machine_number ∷ any_number ∷ range_length ∷ [])
+form_of kind.Unwatch = numbered (codes "unwatch") (machine_number ∷ any_number ∷ range_length ∷ [])
+form_of kind.Resume = numbered (codes "resume") (machine_number ∷ [])
+
+-- all kinds
+abbrev pub all_kinds : List Kind
+all_kinds = kind.Make ∷ kind.Free ∷ kind.Put ∷ kind.Get ∷ kind.Ship ∷ kind.Ship2 ∷ kind.Leave ∷ kind.Left ∷ kind.Return ∷ kind.Returned ∷ kind.Step ∷ kind.One ∷ kind.Regs ∷ kind.Out ∷ kind.Stack ∷ kind.Line ∷ kind.Break ∷ kind.Unbreak ∷ kind.Watch ∷ kind.Unwatch ∷ kind.Resume ∷ []
+
+-- the first of these kinds that has this name
+abbrev pub first_named : List ℕ → List Kind → Option Kind
+first_named name kinds = find (λ kind. bytes_eq name (form_of kind).name) kinds
+
+-- the kind of command that has this name
+abbrev pub kind_named : List ℕ → Option Kind
+kind_named name = first_named name all_kinds
+
 -- the limits of the numbers after the name
 abbrev pub number_limits : Kind → List Limits
--- how many bytes the object has
-number_limits kind.Make = within 1 object_bytes ∷ []
-number_limits kind.Free = object_number ∷ []
-number_limits kind.Put = object_number ∷ object_offset ∷ []
-number_limits kind.Get = object_number ∷ object_offset ∷ range_length ∷ []
--- fuel, and what R1 to R5 begin with
-number_limits kind.Ship = any_number ∷ any_number ∷ any_number ∷ any_number ∷ any_number ∷ any_number ∷ []
-number_limits kind.Ship2 = any_number ∷ any_number ∷ any_number ∷ any_number ∷ any_number ∷ any_number ∷ []
-number_limits kind.Leave = object_number ∷ []
-number_limits kind.Left = object_number ∷ []
-number_limits kind.Return = object_number ∷ []
-number_limits kind.Returned = object_number ∷ []
-number_limits kind.Step = machine_number ∷ []
-number_limits kind.One = machine_number ∷ []
-number_limits kind.Regs = machine_number ∷ []
-number_limits kind.Out = machine_number ∷ []
-number_limits kind.Stack = machine_number ∷ stack_offset ∷ range_length ∷ []
-number_limits kind.Line = machine_number ∷ code_slot ∷ []
-number_limits kind.Break = machine_number ∷ code_slot ∷ []
-number_limits kind.Unbreak = machine_number ∷ code_slot ∷ []
--- a range begins at any address
-number_limits kind.Watch = machine_number ∷ any_number ∷ range_length ∷ []
-number_limits kind.Unwatch = machine_number ∷ any_number ∷ range_length ∷ []
-number_limits kind.Resume = machine_number ∷ []
+number_limits kind = (form_of kind).numbers
 
 -- how many bytes may come after the numbers, in hex, where some have to
 abbrev pub most_bytes : Kind → Option ℕ
-most_bytes kind.Put = Some range_limit
--- code, as much as the line holds
-most_bytes kind.Ship = Some line_limit
-most_bytes kind.Ship2 = Some line_limit
-most_bytes _ = None
+most_bytes kind = (form_of kind).bytes
 
 -- whether words that grant objects may come last
 abbrev pub takes_grants : Kind → Bool
-takes_grants kind.Ship2 = true
-takes_grants _ = false
+takes_grants kind = (form_of kind).takes_grants
+
+-- ---- the commands
 
 -- a machine made of the code
 abbrev pub ship_with : List ℕ → List ℕ → GrantState → Event

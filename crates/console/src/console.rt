@@ -20,15 +20,15 @@ pub struct Console {
 }
 
 impl Model for Console {
-    ghost use Rattle.std.specs.Prelude.{◌≤◌, length, vec_capacity};
-    ghost use Rattle.console.specs.Lines.{IsLine};
+    ghost use Rattle.std.specs.Prelude.{◌≤◌, ◌+◌, length, vec_capacity};
+    ghost use Rattle.console.specs.Lines.{IsLine, line_limit};
     ghost use Rattle.console.specs.Held.{Held};
 
     ghost Value = { Held };
 
     ghost view = { λ c. record { line = c.line.items; waits = c.waits } };
 
-    ghost invariant = { λ c. IsLine c.line.items × (length c.line.items ≤ 70001) × (70001 ≤ vec_capacity c.line) };
+    ghost invariant = { λ c. IsLine c.line.items × (length c.line.items ≤ line_limit + 1) × (line_limit + 1 ≤ vec_capacity c.line) };
 }
 
 impl Console {

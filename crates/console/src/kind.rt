@@ -1,12 +1,13 @@
 //! The commands: their names, and what comes after the name. All of it is this project's choice.
 ghost use Rattle.std.specs.Prelude.{◌≡◌, ◌≤◌, ◌<◌, ◌^◌, ℕ, take, get_or, slice_index, length};
 ghost use Rattle.console.specs.Tokens.{within, IsWithin};
-ghost use Rattle.console.specs.Commands.{event_with, kind_named, number_limits, most_bytes, takes_grants};
+ghost use Rattle.console.specs.Commands.{event_with, first_named, form_of, kind_named, most_bytes, number_limits, numbered, takes_grants};
 
 use crate::commands::LINE_LIMIT;
 use loader::CODE_LIMIT;
 use machine::{Grants, STACK_SIZE};
 use memory::{OBJECT_BYTES, OBJECT_LIMIT};
+use std::marker::Model;
 use world::{
     Bytes, DebugCommand, Event, MACHINE_LIMIT, MachineCommand, Move, ObjectCommand, ObjectLength,
     ShowCommand, Start, Way,
@@ -37,6 +38,31 @@ pub enum Kind {
     Unwatch,
     Resume,
 }
+
+/// All of them.
+const KINDS: &[Kind] = &[
+    Kind::Make,
+    Kind::Free,
+    Kind::Put,
+    Kind::Get,
+    Kind::Ship,
+    Kind::Ship2,
+    Kind::Leave,
+    Kind::Left,
+    Kind::Return,
+    Kind::Returned,
+    Kind::Step,
+    Kind::One,
+    Kind::Regs,
+    Kind::Out,
+    Kind::Stack,
+    Kind::Line,
+    Kind::Break,
+    Kind::Unbreak,
+    Kind::Watch,
+    Kind::Unwatch,
+    Kind::Resume,
+];
 
 /// What a number may be.
 #[derive(Clone, Copy, Debug, PartialEq, Eq)]
@@ -99,56 +125,86 @@ const RANGE_LENGTH: Limits = Limits {
     most: RANGE_LIMIT as u64,
 };
 
+/// What a line of a command has.
+#[derive(Drop)]
+struct Form {
+    name: &'static [u8],
+    /// The limits of the numbers after the name.
+    numbers: &'static [Limits],
+    /// How many bytes may come after the numbers, in hex, where some have to.
+    bytes: Option<usize>,
+    /// Whether words that grant objects may come last.
+    takes_grants: bool,
+}
+
+impl Model for Form {
+    ghost use Rattle.console.specs.Commands.{LineForm};
+
+    ghost Value = { LineForm };
+
+    ghost view = { λ f. record { name = f.name.now; numbers = f.numbers.now; bytes = f.bytes; takes_grants = f.takes_grants } };
+}
+
+/// The form of a line that has numbers alone after its name.
+fn numbered(name: &'static [u8], numbers: &'static [Limits]) -> Form
+    ensures { result ≡ numbered name.now numbers.now }
+{
+    Form {
+        name,
+        numbers,
+        bytes: None,
+        takes_grants: false,
+    }
+}
+
+/// Fuel, and what R1 to R5 begin with.
+const START: [Limits; NUMBERS] = [ANY; NUMBERS];
+
 impl Kind {
+    /// How a line of this kind is written: the one table of commands.
+    fn form(self) -> Form
+        ensures { result ≡ form_of self }
+    {
+        match self {
+            Kind::Make => numbered(b"make", &[OBJECT_LENGTH]),
+            Kind::Free => numbered(b"free", &[OBJECT]),
+            Kind::Put => Form {
+                bytes: Some(RANGE_LIMIT),
+                ..numbered(b"put", &[OBJECT, OBJECT_OFFSET])
+            },
+            Kind::Get => numbered(b"get", &[OBJECT, OBJECT_OFFSET, RANGE_LENGTH]),
+            Kind::Ship => Form {
+                bytes: Some(LINE_LIMIT),
+                ..numbered(b"ship", &START)
+            },
+            Kind::Ship2 => Form {
+                bytes: Some(LINE_LIMIT),
+                takes_grants: true,
+                ..numbered(b"ship2", &START)
+            },
+            Kind::Leave => numbered(b"leave", &[OBJECT]),
+            Kind::Left => numbered(b"left", &[OBJECT]),
+            Kind::Return => numbered(b"return", &[OBJECT]),
+            Kind::Returned => numbered(b"returned", &[OBJECT]),
+            Kind::Step => numbered(b"step", &[MACHINE]),
+            Kind::One => numbered(b"one", &[MACHINE]),
+            Kind::Regs => numbered(b"regs", &[MACHINE]),
+            Kind::Out => numbered(b"out", &[MACHINE]),
+            Kind::Stack => numbered(b"stack", &[MACHINE, STACK_OFFSET, RANGE_LENGTH]),
+            Kind::Line => numbered(b"line", &[MACHINE, SLOT]),
+            Kind::Break => numbered(b"break", &[MACHINE, SLOT]),
+            Kind::Unbreak => numbered(b"unbreak", &[MACHINE, SLOT]),
+            Kind::Watch => numbered(b"watch", &[MACHINE, ANY, RANGE_LENGTH]),
+            Kind::Unwatch => numbered(b"unwatch", &[MACHINE, ANY, RANGE_LENGTH]),
+            Kind::Resume => numbered(b"resume", &[MACHINE]),
+        }
+    }
+
     /// The kind of this name, if it names one.
     pub fn named(name: &[u8]) -> Option<Kind>
         ensures { result ≡ kind_named name.now }
     {
-        if name == b"make".as_slice() {
-            Some(Kind::Make)
-        } else if name == b"free".as_slice() {
-            Some(Kind::Free)
-        } else if name == b"put".as_slice() {
-            Some(Kind::Put)
-        } else if name == b"get".as_slice() {
-            Some(Kind::Get)
-        } else if name == b"ship".as_slice() {
-            Some(Kind::Ship)
-        } else if name == b"ship2".as_slice() {
-            Some(Kind::Ship2)
-        } else if name == b"leave".as_slice() {
-            Some(Kind::Leave)
-        } else if name == b"left".as_slice() {
-            Some(Kind::Left)
-        } else if name == b"return".as_slice() {
-            Some(Kind::Return)
-        } else if name == b"returned".as_slice() {
-            Some(Kind::Returned)
-        } else if name == b"step".as_slice() {
-            Some(Kind::Step)
-        } else if name == b"one".as_slice() {
-            Some(Kind::One)
-        } else if name == b"regs".as_slice() {
-            Some(Kind::Regs)
-        } else if name == b"out".as_slice() {
-            Some(Kind::Out)
-        } else if name == b"stack".as_slice() {
-            Some(Kind::Stack)
-        } else if name == b"line".as_slice() {
-            Some(Kind::Line)
-        } else if name == b"break".as_slice() {
-            Some(Kind::Break)
-        } else if name == b"unbreak".as_slice() {
-            Some(Kind::Unbreak)
-        } else if name == b"watch".as_slice() {
-            Some(Kind::Watch)
-        } else if name == b"unwatch".as_slice() {
-            Some(Kind::Unwatch)
-        } else if name == b"resume".as_slice() {
-            Some(Kind::Resume)
-        } else {
-            None
-        }
+        find_named(name, KINDS)
     }
 
     /// The limits of the numbers after the name.
@@ -156,47 +212,21 @@ impl Kind {
         ensures limits { result.now ≡ number_limits self }
         ensures few { length result.now ≤ NUMBERS }
     {
-        match self {
-            Kind::Make => &[OBJECT_LENGTH],
-            Kind::Free => &[OBJECT],
-            Kind::Put => &[OBJECT, OBJECT_OFFSET],
-            Kind::Get => &[OBJECT, OBJECT_OFFSET, RANGE_LENGTH],
-            Kind::Ship => &[ANY, ANY, ANY, ANY, ANY, ANY],
-            Kind::Ship2 => &[ANY, ANY, ANY, ANY, ANY, ANY],
-            Kind::Leave => &[OBJECT],
-            Kind::Left => &[OBJECT],
-            Kind::Return => &[OBJECT],
-            Kind::Returned => &[OBJECT],
-            Kind::Step => &[MACHINE],
-            Kind::One => &[MACHINE],
-            Kind::Regs => &[MACHINE],
-            Kind::Out => &[MACHINE],
-            Kind::Stack => &[MACHINE, STACK_OFFSET, RANGE_LENGTH],
-            Kind::Line => &[MACHINE, SLOT],
-            Kind::Break => &[MACHINE, SLOT],
-            Kind::Unbreak => &[MACHINE, SLOT],
-            Kind::Watch => &[MACHINE, ANY, RANGE_LENGTH],
-            Kind::Unwatch => &[MACHINE, ANY, RANGE_LENGTH],
-            Kind::Resume => &[MACHINE],
-        }
+        self.form().numbers
     }
 
     /// How many bytes may come after the numbers, in hex, where some have to.
     pub fn bytes(self) -> Option<usize>
         ensures { result ≡ most_bytes self }
     {
-        match self {
-            Kind::Put => Some(RANGE_LIMIT),
-            Kind::Ship | Kind::Ship2 => Some(LINE_LIMIT),
-            _ => None,
-        }
+        self.form().bytes
     }
 
     /// Whether words that grant objects may come last.
     pub fn takes_grants(self) -> bool
         ensures { result ≡ takes_grants self }
     {
-        matches!(self, Kind::Ship2)
+        self.form().takes_grants
     }
 
     /// The command of this kind, with these numbers, bytes and grants.
@@ -242,6 +272,18 @@ impl Kind {
             Kind::Resume => debugging(machine, DebugCommand::Resume),
         }
     }
+}
+
+/// The first of these kinds that has this name.
+fn find_named(name: &[u8], kinds: &[Kind]) -> Option<Kind>
+    ensures { result ≡ first_named name.now kinds.now }
+{
+    for kind in kinds {
+        if name == kind.form().name {
+            return Some(*kind);
+        }
+    }
+    None
 }
 
 /// A command on the object of this number.

@@ -1,4 +1,4 @@
-use Rattle.std.proofs.Common.{length, ◌≡◌, [], ◌∙◌, rules, arith}
+use Rattle.std.proofs.Common.{length, ◌≡◌, ◌∙◌, rules, arith}
 use Rattle.console.proofs.LineTokens.{hex_empty}
 use Rattle.console.proofs.commands.decode.Goals as goal
 

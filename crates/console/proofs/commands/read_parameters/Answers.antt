@@ -3,7 +3,7 @@ use Rattle.std.proofs.lemmas.List.{get_or-take}
 use Rattle.std.proofs.lemmas.Result.{err_from_is_err_and}
 use Rattle.console.specs.Tokens.{tokens_left, within, IsWithin, AreNumbers, AreBytes}
 use Rattle.console.specs.Granting.{AreGrants}
-use Rattle.console.specs.Commands.{SaysOfKind, number_limits, most_bytes, takes_grants, event_with}
+use Rattle.console.specs.Commands.{SaysOfKind, number_limits, event_with}
 use Rattle.console.proofs.LineTokens.{numbers_within, hex_length}
 use Rattle.console.proofs.CommandReading.{reads_bad, reads_no_memory, none_without_bytes, none_without_grants, carries}
 use Rattle.console.proofs.commands.read_parameters.Goals as goal

@@ -1,4 +1,4 @@
-use Rattle.std.proofs.Common.{sym, arith, ◌*◌, ◌+◌}
+use Rattle.std.proofs.Common.{sym, arith}
 use Rattle.console.proofs.HexPairs.{no_digits, digits_more}
 use Rattle.console.proofs.digits.write_digits.Goals as goal
 

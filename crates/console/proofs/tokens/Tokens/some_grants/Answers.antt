@@ -1,7 +1,7 @@
-use Rattle.std.proofs.Common.{◌≡◌, ◌+◌, [], ◌∷◌, length, refl, ap, ◌∙◌, length-append, arith}
+use Rattle.std.proofs.Common.{◌≡◌, [], ◌∷◌, length, refl, ap, ◌∙◌, length-append, arith}
 use Rattle.std.proofs.lemmas.Result.{err_from_is_err_and}
 use Rattle.machine.specs.Grants.{GrantState}
-use Rattle.console.proofs.GrantWords.{so_far_none, so_far_more, so_far_ends, so_far_wrong, so_far_full}
+use Rattle.console.proofs.GrantWords.{so_far_more, so_far_wrong, so_far_full}
 use Rattle.console.proofs.tokens.Tokens.some_grants.Goals as goal
 
 pub returns-in_default-read_grant-clause-err : goal.returns-in_default-read_grant-clause-err
