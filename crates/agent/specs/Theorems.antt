@@ -161,12 +161,12 @@ pub record OneLegalHistory : Type 0 where
 
 -- ---- 5. The closing theorem
 
--- Of each connection to a service that was opened with these bytes and machines:
-pub record RepliesAreExplained (opening : List (List ℕ)) (starts : List MachineState) : Type 0 where
+-- Of each connection to a service that was opened with these bytes and machines, whichever cells were lent with a machine:
+pub record RepliesAreExplained (opening : List (List ℕ)) (starts : List MachineState) (lent : ℕ → Bool) : Type 0 where
   -- The `ok` of `put` and the `bytes` of `get` are, in order, the answers of the entries that the connection adds; so it is for
   -- a reply that is written in part.
-  pub entries : RepliesAreEntries opening starts
-  pub last : ReplyIsEntry opening starts
+  pub entries : RepliesAreEntries opening starts lent
+  pub last : ReplyIsEntry opening starts lent
   -- When a command on a machine is answered, the machine is the replay of its entries up to what the connection has seen. A step
   -- that the connection asks for stands above all that it had seen.
   pub seen : AnsweredMachinesAreSeen opening starts

@@ -41,7 +41,7 @@ pub fn closing_theorem()
 
 /// 5. Each reply of a connection tells of the entries that it adds.
 pub fn replies_are_explained<K: Mark>()
-    ensures { RepliesAreExplained K.opening K.starts }
+    ensures { RepliesAreExplained K.opening K.starts K.lent }
 {
     ship_service::replies_are_entries::<K>();
     ship_service::reply_is_entry::<K>();

@@ -4,6 +4,7 @@ ghost use Rattle.shared_objects.specs.Kinds.{dealer};
 ghost use Rattle.shared_objects.specs.Opened.{AreFresh};
 ghost use Rattle.shared_objects.specs.Tables.{IsActorOf};
 ghost use Rattle.workers.specs.Cells.{IsTableOf};
+ghost use Rattle.workers.specs.Marks.{each_lent};
 ghost use Rattle.workers.specs.Pools.{machines_of};
 
 use debugger::{Debuggee, Start};
@@ -69,6 +70,7 @@ fn run<F: FarStore, K: Mark, R: Wait>(
     requires table { IsTableOf K.table K.opening shared.table }
     requires seats { AreFresh (dealer F.RETURNS K.opening) seats.items × All (IsActorOf shared.table) seats.items }
     requires machines { K.starts ≡ machines_of machines.items }
+    requires lent { K.lent ≡ each_lent }
     requires room { length machines.items ≤ length seats.items }
 {
     let pool: Pool<F, K> = Pool::new(rt, alloc, shared, seats, machines)?;

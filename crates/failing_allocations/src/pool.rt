@@ -4,6 +4,7 @@ ghost use Rattle.shared_objects.specs.Kinds.{dealer};
 ghost use Rattle.shared_objects.specs.Opened.{AreFresh, seated};
 ghost use Rattle.shared_objects.specs.Tables.{IsActorOf};
 ghost use Rattle.workers.specs.Cells.{IsTableOf};
+ghost use Rattle.workers.specs.Marks.{each_lent};
 ghost use Rattle.workers.specs.Pools.{machines_of};
 
 use crate::bodies::bodies;
@@ -98,6 +99,7 @@ fn moved<F: FarStore + Drop, K: Mark, R: Wait>(
     requires seats { AreFresh (dealer F.RETURNS K.opening) seats.items × All (IsActorOf shared.table) seats.items }
     requires mover { (mover.seat.table_id ≡ K.table) × (mover.seat.me.0 ≡ seated K.seats (dealer F.RETURNS K.opening)) }
     requires machines { K.starts ≡ machines_of machines.items }
+    requires lent { K.lent ≡ each_lent }
     requires room { length machines.items ≤ length seats.items }
 {
     let made: Result<Pool<F, K>, AllocError> = Pool::new(rt, alloc, shared, seats, machines);

@@ -81,7 +81,7 @@ fn one_talk<F: FarStore, K: Mark, R: Wait>(
 
 /// How a service goes whose first connection talks, and which closes then.
 fn served<F: FarStore + Drop, K: Mark, R: Wait>(rt: &R, alloc: Global, opened: Opened<F>) -> Outcome
-    requires { IsNamed K.table K.opening K.starts K.seats opened.shared.table opened.machines.items }
+    requires { IsNamed K.table K.opening K.starts K.seats K.lent opened.shared.table opened.machines.items }
 {
     let (agent, mut connections, mover) = match Agent::<F, K>::open(rt, alloc, opened) {
         Ok(parts) => parts,

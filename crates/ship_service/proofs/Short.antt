@@ -1,5 +1,5 @@
 -- A reply has no more bytes to show than were asked for.
-use Rattle.std.proofs.Common.{◌≡◌, ℕ, ◌≤◌, List, length, drop, sym, ap, subst, arith, inl, inr}
+use Rattle.std.proofs.Common.{◌≡◌, ℕ, ◌≤◌, Bool, List, length, drop, sym, ap, subst, arith, inl, inr}
 use Rattle.std.proofs.lemmas.List.{length-take}
 use Rattle.memory.specs.declared.access.Reach.{Reach}
 use Rattle.memory.specs.declared.access.Reach.TheVariants as reach
@@ -11,7 +11,6 @@ use Rattle.shared_objects.specs.declared.touching.Fetched.TheVariants as fetched
 use Rattle.machine.specs.MachineState.{MachineState}
 use Rattle.debugger.specs.declared.commands.MachineCommand.{MachineCommand}
 use Rattle.debugger.specs.declared.commands.MachineCommand.TheVariants.{Step, Show, Debug}
-use Rattle.workers.specs.declared.cell.Taken.{Taken}
 use Rattle.workers.specs.Cells.{SeatState, CellState}
 use Rattle.world.specs.declared.events.Event.{Event}
 use Rattle.world.specs.declared.events.Event.TheVariants as event
@@ -28,7 +27,7 @@ use Rattle.ship_service.specs.declared.replies.ServiceReply.TheVariants.{Plain}
 use Rattle.ship_service.specs.Replies.{IsShortReply}
 use Rattle.ship_service.specs.Ranges.{reply_to_put, reply_to_get, GetsOnce, AsksMover}
 use Rattle.ship_service.specs.Lent.{AnswersCell, AnswersLent, ShipsCell, informed}
-use Rattle.ship_service.specs.Served.{reply_to_ship, Serves, ServesObject, ServesMachine, ServesShip}
+use Rattle.ship_service.specs.Served.{Serves, ServesObject, ServesMachine, ServesShip}
 use Rattle.debugger.specs.declared.start.Start.{Start}
 
 put_short : (n : ℕ) (r : Reach) → IsShortReply (reply_to_put n r)
@@ -84,18 +83,14 @@ shipped_short : (start : Start) (code : List ℕ) (before after : CellState) (sa
 shipped_short start code before after (reply.Bytes b) h = absurd h
 shipped_short start code before after _ h = tt
 
-to_ship_short : (said : Reply) (taken : Taken) → IsShort said → IsShortReply (reply_to_ship said taken)
-to_ship_short (reply.Shipped m) taken h = tt
-to_ship_short said taken h = h
-
-ship_short : (opening : List (List ℕ)) (starts : List MachineState) (start : Start) (code : List ℕ) (told : ServiceReply) → ServesShip opening starts start code told → IsShortReply told
-ship_short opening starts start code told (inl h) = subst IsShortReply (sym h.told_is) tt
-ship_short opening starts start code told (inr h) = subst IsShortReply (sym h.told_is) (to_ship_short h.said h.taken (shipped_short start code h.before h.after h.said h.ships))
+ship_short : (opening : List (List ℕ)) (starts : List MachineState) (lent : ℕ → Bool) (start : Start) (code : List ℕ) (told : ServiceReply) → ServesShip opening starts lent start code told → IsShortReply told
+ship_short opening starts lent start code told (inl h) = subst IsShortReply (sym h.told_is) tt
+ship_short opening starts lent start code told (inr h) = subst IsShortReply (sym h.told_is) (shipped_short start code h.before h.after h.said h.ships)
 
 -- a reply fits its line
-pub serves_short : (opening : List (List ℕ)) (starts : List MachineState) (old new : SeatState) (c : Event) (told : ServiceReply)
-    → Serves opening starts old c told new → AsksShort c → IsShortReply told
-serves_short opening starts old new (event.Make size) told h short = subst IsShortReply (sym h.0) tt
-serves_short opening starts old new (event.Ship start code) told h short = ship_short opening starts start code told h.0
-serves_short opening starts old new (event.Object n c) told h short = object_short old new n c told h short
-serves_short opening starts old new (event.Machine m c) told h short = machine_short opening starts old new m c told h short
+pub serves_short : (opening : List (List ℕ)) (starts : List MachineState) (lent : ℕ → Bool) (old new : SeatState) (c : Event) (told : ServiceReply)
+    → Serves opening starts lent old c told new → AsksShort c → IsShortReply told
+serves_short opening starts lent old new (event.Make size) told h short = subst IsShortReply (sym h.0) tt
+serves_short opening starts lent old new (event.Ship start code) told h short = ship_short opening starts lent start code told h.0
+serves_short opening starts lent old new (event.Object n c) told h short = object_short old new n c told h short
+serves_short opening starts lent old new (event.Machine m c) told h short = machine_short opening starts old new m c told h short

@@ -1,5 +1,5 @@
 -- The replies are the answers of the entries that are added.
-use Rattle.std.proofs.Common.{◌≡◌, ℕ, zero, suc, ◌≤◌, max, List, [], ◌∷◌, ◌++◌, map, refl, sym, ap, ◌∙◌, append_assoc, append-nil, subst, arith, inl, inr}
+use Rattle.std.proofs.Common.{◌≡◌, ℕ, zero, suc, ◌≤◌, max, Bool, List, [], ◌∷◌, ◌++◌, map, refl, sym, ap, ◌∙◌, append_assoc, append-nil, subst, arith, inl, inr}
 use Rattle.std.proofs.lemmas.List.{map-append}
 use Rattle.std.proofs.Math.Nat.{le-max_left}
 use Rattle.memory.specs.declared.access.Reach.{Reach}
@@ -147,28 +147,28 @@ machine_tells opening starts old new m c told (inr h) = go h.answers where
   go (inl t) = same old new t.same
   go (inr t) = learnt old new _ t.learns
 
-serves_tells : (opening : List (List ℕ)) (starts : List MachineState) (old new : SeatState) (c : Event) (told : ServiceReply)
-    → Serves opening starts old c told new → Tells old (added c told) new
-serves_tells opening starts old new (event.Make size) told h = same old new h.1
-serves_tells opening starts old new (event.Ship start code) told h = same old new h.1
-serves_tells opening starts old new (event.Object n c) told h = object_tells old new n c told h
-serves_tells opening starts old new (event.Machine m c) told h = machine_tells opening starts old new m c told h
+serves_tells : (opening : List (List ℕ)) (starts : List MachineState) (lent : ℕ → Bool) (old new : SeatState) (c : Event) (told : ServiceReply)
+    → Serves opening starts lent old c told new → Tells old (added c told) new
+serves_tells opening starts lent old new (event.Make size) told h = same old new h.1
+serves_tells opening starts lent old new (event.Ship start code) told h = same old new h.1
+serves_tells opening starts lent old new (event.Object n c) told h = object_tells old new n c told h
+serves_tells opening starts lent old new (event.Machine m c) told h = machine_tells opening starts old new m c told h
 
 -- ---- one after the other
 
-turn_tells : (opening : List (List ℕ)) (starts : List MachineState) (old new : SeatState) (c : Event) (told : ServiceReply) → ServesTurn opening starts old c told new → Tells old (added c told) new
-turn_tells opening starts old new c told h = subst (λ (s : SeatState). Tells old (added c told) s) (sym h.2) (
-    let t = serves_tells opening starts old h.0 c told h.1 in
+turn_tells : (opening : List (List ℕ)) (starts : List MachineState) (lent : ℕ → Bool) (old new : SeatState) (c : Event) (told : ServiceReply) → ServesTurn opening starts lent old c told new → Tells old (added c told) new
+turn_tells opening starts lent old new c told h = subst (λ (s : SeatState). Tells old (added c told) s) (sym h.2) (
+    let t = serves_tells opening starts lent old h.0 c told h.1 in
     record { more = t.more; entries = t.entries; tells = t.tells; stamps = t.stamps; actor = t.actor })
 
-runs_tell : (opening : List (List ℕ)) (starts : List MachineState) (old new : SeatState) (cs : List Event) (rs : List ServiceReply) → Runs (ServesTurn opening starts) old cs rs new → TellsEntries old cs rs new
-runs_tell opening starts old new [] [] h =
+runs_tell : (opening : List (List ℕ)) (starts : List MachineState) (lent : ℕ → Bool) (old new : SeatState) (cs : List Event) (rs : List ServiceReply) → Runs (ServesTurn opening starts lent) old cs rs new → TellsEntries old cs rs new
+runs_tell opening starts lent old new [] [] h =
     let t = same old new h in
     record { more = t.more; entries = t.entries; tells = t.tells; stamps = t.stamps; actor = t.actor }
-runs_tell opening starts old new (c ∷ cs) (r ∷ rs) h =
+runs_tell opening starts lent old new (c ∷ cs) (r ∷ rs) h =
     let mid = h.0 in
-    let t = turn_tells opening starts old mid c r h.1 in
-    let u = runs_tell opening starts mid new cs rs h.2 in
+    let t = turn_tells opening starts lent old mid c r h.1 in
+    let u = runs_tell opening starts lent mid new cs rs h.2 in
     record {
       more = t.more ++ u.more;
       entries = u.entries ∙ ap (λ l. l ++ u.more) t.entries ∙ append_assoc old.view.entries t.more u.more;
@@ -176,16 +176,16 @@ runs_tell opening starts old new (c ∷ cs) (r ∷ rs) h =
       stamps = rise_join old.view.actor old.stamp mid.stamp new.stamp t.more u.more t.stamps (subst (λ a. RiseTo a mid.stamp u.more new.stamp) t.actor u.stamps);
       actor = u.actor ∙ t.actor;
     }
-runs_tell opening starts old new [] (r ∷ rs) h = absurd h
-runs_tell opening starts old new (c ∷ cs) [] h = absurd h
+runs_tell opening starts lent old new [] (r ∷ rs) h = absurd h
+runs_tell opening starts lent old new (c ∷ cs) [] h = absurd h
 
-pub replies_are_entries : (opening : List (List ℕ)) (starts : List MachineState) → RepliesAreEntries opening starts
-replies_are_entries opening starts old new input output rest e = runs_tell opening starts old new _ _ e.run
+pub replies_are_entries : (opening : List (List ℕ)) (starts : List MachineState) (lent : ℕ → Bool) → RepliesAreEntries opening starts lent
+replies_are_entries opening starts lent old new input output rest e = runs_tell opening starts lent old new _ _ e.run
 
-pub reply_is_entry : (opening : List (List ℕ)) (starts : List MachineState) → ReplyIsEntry opening starts
-reply_is_entry opening starts old new line bytes a =
-    let cs = turn_commands (service opening starts) a.0 in
-    let rs = turn_replies (service opening starts) a.0 in
-    runs_tell opening starts old new cs rs
-    (subst (λ l. Runs (ServesTurn opening starts) old cs l new) (append-nil rs)
-    (subst (λ l. Runs (ServesTurn opening starts) old l (rs ++ []) new) (append-nil cs) a.3))
+pub reply_is_entry : (opening : List (List ℕ)) (starts : List MachineState) (lent : ℕ → Bool) → ReplyIsEntry opening starts lent
+reply_is_entry opening starts lent old new line bytes a =
+    let cs = turn_commands (service opening starts lent) a.0 in
+    let rs = turn_replies (service opening starts lent) a.0 in
+    runs_tell opening starts lent old new cs rs
+    (subst (λ l. Runs (ServesTurn opening starts lent) old cs l new) (append-nil rs)
+    (subst (λ l. Runs (ServesTurn opening starts lent) old l (rs ++ []) new) (append-nil cs) a.3))

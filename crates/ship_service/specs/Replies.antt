@@ -3,13 +3,11 @@ use Rattle.std.specs.Prelude.{ℕ, Bool, true, false, List, ◌++◌, codes, Opt
 use Rattle.world.specs.declared.replies.Reply.TheVariants as reply
 use Rattle.console.specs.Replies.{reply_text, number_text, IsShort}
 use Rattle.ship_service.specs.declared.replies.ServiceReply.{ServiceReply}
-use Rattle.ship_service.specs.declared.replies.ServiceReply.TheVariants.{Plain, Shipped, Full, Busy, Worn, Asked, Unserved}
+use Rattle.ship_service.specs.declared.replies.ServiceReply.TheVariants.{Plain, Busy, Worn, Asked, Unserved}
 
 -- the text of a reply
 abbrev pub service_text : ServiceReply → List ℕ
 service_text (Plain r) = reply_text r
-service_text (Shipped m taken) = reply_text (reply.Shipped m)
-service_text (Full taken) = reply_text reply.Full
 service_text (Busy n) = codes "busy" ++ number_text n
 service_text Worn = codes "worn"
 service_text (Asked n) = codes "asked" ++ number_text n

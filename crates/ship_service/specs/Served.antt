@@ -1,14 +1,14 @@
 -- The service: which reply a command may have at a connection's seat, and what it does to the seat. Of a cell, whose machine
 -- others may step at any time, it is told what its lock lends: what the type of the cell says of it before and after, and
 -- what the command did in between.
-use Rattle.std.specs.Prelude.{◌≡◌, ◌⊎◌, ℕ, ◌+◌, ◌<◌, ◌≤◌, List, Some, None}
+use Rattle.std.specs.Prelude.{◌≡◌, ◌⊎◌, ℕ, ◌+◌, ◌<◌, ◌≤◌, Bool, List, Some, None}
 use Rattle.object_store.specs.Stores.{machine_limit}
 use Rattle.shared_objects.specs.History.{top}
 use Rattle.shared_objects.specs.Kinds.{shut}
 use Rattle.machine.specs.MachineState.{MachineState}
 use Rattle.debugger.specs.declared.start.Start.{Start}
 use Rattle.debugger.specs.declared.commands.MachineCommand.{MachineCommand}
-use Rattle.workers.specs.declared.cell.Taken.{Taken}
+use Rattle.workers.specs.Marks.{AreLent}
 use Rattle.workers.specs.Cells.{SeatState, CellState, RunningState, IsReplayed, IsStamped, FitsCell, opened_as}
 use Rattle.world.specs.declared.replies.Reply.{Reply}
 use Rattle.world.specs.declared.replies.Reply.TheVariants as reply
@@ -19,7 +19,7 @@ use Rattle.world.specs.declared.events.ObjectCommand.TheVariants as object
 use Rattle.world.specs.declared.events.Move.TheVariants as move
 use Rattle.console.specs.Conversations.{Protocol}
 use Rattle.ship_service.specs.declared.replies.ServiceReply.{ServiceReply}
-use Rattle.ship_service.specs.declared.replies.ServiceReply.TheVariants.{Plain, Shipped, Full, Unserved}
+use Rattle.ship_service.specs.declared.replies.ServiceReply.TheVariants.{Plain, Unserved}
 use Rattle.ship_service.specs.Replies.{service_text}
 use Rattle.ship_service.specs.Ranges.{ServesPut, ServesGet, AsksMover}
 use Rattle.ship_service.specs.Lent.{AnswersLent, ShipsCell}
@@ -57,33 +57,28 @@ pub record NoCell (old : SeatState) (m : ℕ) (told : ServiceReply) (new : SeatS
 abbrev pub ServesMachine : List (List ℕ) → List MachineState → SeatState → ℕ → MachineCommand → ServiceReply → SeatState → Type 0
 ServesMachine opening starts old m command told new = NoCell old m told new ⊎ OnCell opening starts old m command told new
 
--- the reply to code that is shipped after so many cells were each lent with a machine
-abbrev pub reply_to_ship : Reply → Taken → ServiceReply
-reply_to_ship (reply.Shipped m) taken = Shipped m taken
-reply_to_ship said taken = Plain said
-
 -- All cells have machines: each was lent with one.
-pub record NoRoom (told : ServiceReply) : Type 0 where
-  pub taken : Taken
-  pub all : taken.count ≡ machine_limit
-  pub told_is : told ≡ Full taken
+pub record NoRoom (lent : ℕ → Bool) (told : ServiceReply) : Type 0 where
+  pub all : AreLent lent machine_limit
+  pub told_is : told ≡ Plain reply.Full
 
 -- The code comes into a cell without a machine: the cells of the lesser numbers were each lent with one.
-pub record IntoCell (opening : List (List ℕ)) (starts : List MachineState) (start : Start) (code : List ℕ) (told : ServiceReply) : Type 0 where
-  pub taken : Taken
+pub record IntoCell (opening : List (List ℕ)) (starts : List MachineState) (lent : ℕ → Bool) (start : Start) (code : List ℕ) (told : ServiceReply) : Type 0 where
+  pub lesser : ℕ
   pub before : CellState
   pub after : CellState
   pub said : Reply
-  pub exists : taken.count < machine_limit
-  pub before_is : IsCell opening starts (taken.count + 1) before
-  pub after_is : IsCell opening starts (taken.count + 1) after
+  pub exists : lesser < machine_limit
+  pub taken : AreLent lent lesser
+  pub before_is : IsCell opening starts (lesser + 1) before
+  pub after_is : IsCell opening starts (lesser + 1) after
   pub empty : before.running ≡ None
-  pub told_is : told ≡ reply_to_ship said taken
+  pub told_is : told ≡ Plain said
   pub ships : ShipsCell start code before said after
 
 -- `ship`
-abbrev pub ServesShip : List (List ℕ) → List MachineState → Start → List ℕ → ServiceReply → Type 0
-ServesShip opening starts start code told = NoRoom told ⊎ IntoCell opening starts start code told
+abbrev pub ServesShip : List (List ℕ) → List MachineState → (ℕ → Bool) → Start → List ℕ → ServiceReply → Type 0
+ServesShip opening starts lent start code told = NoRoom lent told ⊎ IntoCell opening starts lent start code told
 
 -- ---- commands
 
@@ -102,24 +97,24 @@ ServesObject old n (object.Move move.Left) told new = IsUnserved old told new
 ServesObject old n (object.Move move.Returned) told new = IsUnserved old told new
 
 -- what a command is answered, and what it does to the seat
-abbrev pub Serves : List (List ℕ) → List MachineState → SeatState → Event → ServiceReply → SeatState → Type 0
-Serves opening starts old (event.Make size) told new = IsUnserved old told new
-Serves opening starts old (event.Ship start code) told new = ServesShip opening starts start code told × (new ≡ old)
-Serves opening starts old (event.Object n command) told new = ServesObject old n command told new
-Serves opening starts old (event.Machine m command) told new = ServesMachine opening starts old m command told new
+abbrev pub Serves : List (List ℕ) → List MachineState → (ℕ → Bool) → SeatState → Event → ServiceReply → SeatState → Type 0
+Serves opening starts lent old (event.Make size) told new = IsUnserved old told new
+Serves opening starts lent old (event.Ship start code) told new = ServesShip opening starts lent start code told × (new ≡ old)
+Serves opening starts lent old (event.Object n command) told new = ServesObject old n command told new
+Serves opening starts lent old (event.Machine m command) told new = ServesMachine opening starts old m command told new
 
 -- no scope is open
 abbrev pub shut_seat : SeatState → SeatState
 shut_seat s = record s { view = shut s.view }
 
 -- After each command the seat's scopes are closed.
-abbrev pub ServesTurn : List (List ℕ) → List MachineState → SeatState → Event → ServiceReply → SeatState → Type 0
-ServesTurn opening starts old command told new = (mid : SeatState) × Serves opening starts old command told mid × (new ≡ shut_seat mid)
+abbrev pub ServesTurn : List (List ℕ) → List MachineState → (ℕ → Bool) → SeatState → Event → ServiceReply → SeatState → Type 0
+ServesTurn opening starts lent old command told new = (mid : SeatState) × Serves opening starts lent old command told mid × (new ≡ shut_seat mid)
 
--- the protocol of a service whose table was opened with these bytes and these machines: its states are what the connection's
--- seat knows
-abbrev pub service : List (List ℕ) → List MachineState → Protocol
-service opening starts = record { State = SeatState; Reply = ServiceReply; step = ServesTurn opening starts; text = service_text }
+-- the protocol of a service whose table was opened with these bytes and these machines, and whose name says which cells were lent
+-- with a machine: its states are what the connection's seat knows
+abbrev pub service : List (List ℕ) → List MachineState → (ℕ → Bool) → Protocol
+service opening starts lent = record { State = SeatState; Reply = ServiceReply; step = ServesTurn opening starts lent; text = service_text }
 
 -- Of a machine that was there when the table was opened no command is answered that there is none.
 abbrev pub OpenedMachinesStay : List (List ℕ) → List MachineState → Type 0

@@ -44,14 +44,14 @@ pub record TellsEntries (old : SeatState) (commands : List Event) (replies : Lis
   pub actor : new.view.actor ≡ old.view.actor
 
 -- In a conversation the replies are the entries' answers.
-abbrev pub RepliesAreEntries : List (List ℕ) → List MachineState → Type 0
-RepliesAreEntries opening starts = (old new : SeatState) (input output rest : List ℕ) (e : Exchange (service opening starts) old input output new rest)
-    → TellsEntries old (flat_map (turn_commands (service opening starts)) e.turns) (flat_map (turn_replies (service opening starts)) e.turns) new
+abbrev pub RepliesAreEntries : List (List ℕ) → List MachineState → (ℕ → Bool) → Type 0
+RepliesAreEntries opening starts lent = (old new : SeatState) (input output rest : List ℕ) (e : Exchange (service opening starts lent) old input output new rest)
+    → TellsEntries old (flat_map (turn_commands (service opening starts lent)) e.turns) (flat_map (turn_replies (service opening starts lent)) e.turns) new
 
 -- So it is for a line whose reply is written in part.
-abbrev pub ReplyIsEntry : List (List ℕ) → List MachineState → Type 0
-ReplyIsEntry opening starts = (old new : SeatState) (line bytes : List ℕ) (a : Answered (service opening starts) old line bytes new)
-    → TellsEntries old (turn_commands (service opening starts) a.0) (turn_replies (service opening starts) a.0) new
+abbrev pub ReplyIsEntry : List (List ℕ) → List MachineState → (ℕ → Bool) → Type 0
+ReplyIsEntry opening starts lent = (old new : SeatState) (line bytes : List ℕ) (a : Answered (service opening starts lent) old line bytes new)
+    → TellsEntries old (turn_commands (service opening starts lent) a.0) (turn_replies (service opening starts lent) a.0) new
 
 -- What a step adds at the machine's seat: entries of its actor, stamped above all that the connection had seen before it, and at
 -- most at what it has seen after.

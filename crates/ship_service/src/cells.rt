@@ -3,7 +3,7 @@ ghost use Rattle.std.specs.Prelude.{◌≡◌, ◌≤◌, ◌<◌, ◌+◌, ℕ,
 ghost use Rattle.std.specs.Sync.Mutex.{mutex_guard_value};
 ghost use Rattle.object_store.specs.Stores.{machine_limit};
 ghost use Rattle.workers.specs.Cells.{seat_state};
-ghost use Rattle.ship_service.specs.Served.{IsCell, reply_to_ship, ServesMachine, ServesShip};
+ghost use Rattle.ship_service.specs.Served.{IsCell, ServesMachine, ServesShip};
 
 use crate::lent::{answer_lent, ship_lent};
 use crate::replies::ServiceReply;
@@ -63,9 +63,9 @@ pub(crate) fn answer_machine<F: FarStore, K: Mark, R: Wait>(
 fn lend_empty<'a, F: FarStore, K: Mark, R: Wait>(
     rt: &R,
     agent: &'a Agent<F, K>,
-) -> Result<(MutexGuard<'a, Locked<K>>, Taken), Taken>
-    ensures found { IfOk result (λ r. (r.1.count < machine_limit) × IsCell K.opening K.starts (r.1.count + 1) (mutex_guard_value r.0) × ((mutex_guard_value r.0).running ≡ None)) }
-    ensures none { IfErr result (λ taken. taken.count ≡ machine_limit) }
+) -> Result<(MutexGuard<'a, Locked<K>>, Taken<K>), Taken<K>>
+    ensures found { IfOk result (λ r. (r.1 < machine_limit) × IsCell K.opening K.starts (r.1 + 1) (mutex_guard_value r.0) × ((mutex_guard_value r.0).running ≡ None)) }
+    ensures none { IfErr result (λ taken. taken ≡ machine_limit) }
 {
     let mut taken = agent.pool().taken(rt, MACHINE_LIMIT);
     for lesser in taken.count()..MACHINE_LIMIT {
@@ -80,16 +80,6 @@ fn lend_empty<'a, F: FarStore, K: Mark, R: Wait>(
     Err(taken)
 }
 
-/// The reply to code that is shipped after so many cells were each lent with a machine.
-fn told_of(said: Reply, taken: Taken) -> ServiceReply
-    ensures { result ≡ reply_to_ship said taken }
-{
-    match said {
-        Reply::Shipped { machine } => ServiceReply::Shipped { machine, taken },
-        said => ServiceReply::Plain(said),
-    }
-}
-
 /// Makes the code a machine, in the first cell that has none.
 pub(crate) fn ship<F: FarStore, K: Mark, R: Wait>(
     rt: &R,
@@ -98,14 +88,18 @@ pub(crate) fn ship<F: FarStore, K: Mark, R: Wait>(
     start: Start,
     code: &[u8],
 ) -> ServiceReply
-    ensures { ServesShip K.opening K.starts start code.now result }
+    ensures { ServesShip K.opening K.starts K.lent start code.now result }
 {
     let (mut locked, taken) = match lend_empty(rt, agent) {
         Ok(found) => found,
-        Err(taken) => return ServiceReply::Full(taken),
+        Err(taken) => {
+            taken.fact();
+            return ServiceReply::Plain(Reply::Full);
+        }
     };
+    taken.fact();
     let said = ship_lent(rt, alloc, agent.pool(), &mut locked, start, code);
     locked.fact();
     agent.pool().know_taken(rt, &taken, &locked);
-    told_of(said, taken)
+    ServiceReply::Plain(said)
 }

@@ -9,12 +9,12 @@ use workers::Mark;
 /// In a conversation the `ok` of `put` and the `bytes` of `get` are, in order, the answers of the entries that are added at
 /// the connection's seat.
 pub fn replies_are_entries<K: Mark>()
-    ensures { RepliesAreEntries K.opening K.starts }
+    ensures { RepliesAreEntries K.opening K.starts K.lent }
 {}
 
 /// So it is for a line whose reply is written in part.
 pub fn reply_is_entry<K: Mark>()
-    ensures { ReplyIsEntry K.opening K.starts }
+    ensures { ReplyIsEntry K.opening K.starts K.lent }
 {}
 
 /// A machine that was there when the table was opened is never answered to be none.

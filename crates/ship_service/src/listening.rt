@@ -95,7 +95,7 @@ fn listen_opened<
 ) -> Result<(), ListenFault>
 where
     F::Parcel: Send,
-    requires { IsNamed K.table K.opening K.starts K.seats opened.shared.table opened.machines.items }
+    requires { IsNamed K.table K.opening K.starts K.seats K.lent opened.shared.table opened.machines.items }
     ensures says { SaysAs (TellsClosing F F.RETURNS K.table K.opening K.starts) (W.contents writer.old) (W.contents writer.new) result }
     ensures here { OpensAll result }
 {

@@ -5,7 +5,6 @@ ghost use Rattle.console.specs.Replies.{number_text};
 ghost use Rattle.ship_service.specs.Replies.{service_text, IsShortReply, missed_object, is_busy};
 
 use console::{REPLY_LIMIT, ReplyLine, print_reply, put, put_named};
-use workers::Taken;
 use world::Reply;
 
 /// What a command was answered.
@@ -13,10 +12,6 @@ use world::Reply;
 pub enum ServiceReply {
     /// What an agent with one conversation may answer too.
     Plain(Reply),
-    /// The code is a machine now, in the next cell after those that were each lent with a machine.
-    Shipped { machine: usize, taken: Taken },
-    /// All cells were lent with a machine.
-    Full(Taken),
     /// Another has its turn on the object.
     Busy { object: u32 },
     /// The stamps of the object, or those of the connection, have run out.
@@ -74,10 +69,6 @@ pub(crate) fn print_service_reply(reply: &ServiceReply, line: &mut ReplyLine)
 {
     match reply {
         ServiceReply::Plain(reply) => print_reply(reply, line),
-        ServiceReply::Shipped { machine, .. } => {
-            print_reply(&Reply::Shipped { machine: *machine }, line)
-        }
-        ServiceReply::Full(_) => print_reply(&Reply::Full, line),
         ServiceReply::Busy { object } => print_named(b"busy", *object, line),
         ServiceReply::Worn => print_text(b"worn", line),
         ServiceReply::Asked { object } => print_named(b"asked", *object, line),

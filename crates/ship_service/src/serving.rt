@@ -68,7 +68,7 @@ fn answer<F: FarStore, K: Mark, R: Wait>(
 ) -> ServiceReply
     requires { IsSeatOf K.table K.opening seat.old }
     ensures of { IsSeatOf K.table K.opening seat.new }
-    ensures serves { Serves K.opening K.starts (seat_state seat.old) event result (seat_state seat.new) }
+    ensures serves { Serves K.opening K.starts K.lent (seat_state seat.old) event result (seat_state seat.new) }
 {
     match event {
         Event::Make { .. } => ServiceReply::Unserved,
@@ -84,7 +84,7 @@ impl<'a, R: Wait, F: FarStore, K: Mark> Answerer<Service<'a, R, F, K>> for Post<
     ghost use Rattle.workers.specs.Cells.{seat_state};
     ghost use Rattle.ship_service.specs.Served.{service};
 
-    ghost protocol = { service K.opening K.starts };
+    ghost protocol = { service K.opening K.starts K.lent };
 
     ghost state = { λ post. seat_state post.seat };
 
@@ -109,11 +109,11 @@ pub fn serve<F: FarStore, K: Mark, R: Wait, I: Read, O: Write>(
     connection: &mut Connection<K>,
 ) -> Result<(), DriveFault>
     ensures ok { OnOk result (IfSome (I.remaining reader.old) (λ input.
-        AnswersAll (service K.opening K.starts) (seat_state connection.old.post.seat) input (O.contents writer.old) (O.contents writer.new) (seat_state connection.new.post.seat))) }
+        AnswersAll (service K.opening K.starts K.lent) (seat_state connection.old.post.seat) input (O.contents writer.old) (O.contents writer.new) (seat_state connection.new.post.seat))) }
     ensures read { IsErrOf result DriveFault.Read → IfSome (I.remaining reader.old) (λ input.
-        StopsReading (service K.opening K.starts) (seat_state connection.old.post.seat) input (O.contents writer.old) (O.contents writer.new) (seat_state connection.new.post.seat) connection.new.console (I.remaining reader.new)) }
+        StopsReading (service K.opening K.starts K.lent) (seat_state connection.old.post.seat) input (O.contents writer.old) (O.contents writer.new) (seat_state connection.new.post.seat) connection.new.console (I.remaining reader.new)) }
     ensures write { IsErrOf result DriveFault.Write → IfSome (I.remaining reader.old) (λ input.
-        StopsWriting (service K.opening K.starts) (seat_state connection.old.post.seat) input (O.contents writer.old) (O.contents writer.new) (seat_state connection.new.post.seat) (I.remaining reader.new)) }
+        StopsWriting (service K.opening K.starts K.lent) (seat_state connection.old.post.seat) input (O.contents writer.old) (O.contents writer.new) (seat_state connection.new.post.seat) (I.remaining reader.new)) }
 {
     connection.console.clear();
     let service = Service { rt, agent };

@@ -124,7 +124,7 @@ fn begin<F: FarStore + Drop, K: Mark, R: Wait>(
     alloc: Global,
     opened: Opened<F>,
 ) -> Result<Begun<F, K>, OpenAgent>
-    requires { IsNamed K.table K.opening K.starts K.seats opened.shared.table opened.machines.items }
+    requires { IsNamed K.table K.opening K.starts K.seats K.lent opened.shared.table opened.machines.items }
 {
     let (agent, connections, served) = Agent::<F, K>::open(rt, alloc, opened)?;
     Ok(Begun {
@@ -166,7 +166,7 @@ fn serves<F: FarStore + Drop, K: Mark, R: Wait + Abort>(
     turns: u64,
     table: &[Lines],
 ) -> Result<Left, OpenAgent>
-    requires { IsNamed K.table K.opening K.starts K.seats opened.shared.table opened.machines.items }
+    requires { IsNamed K.table K.opening K.starts K.seats K.lent opened.shared.table opened.machines.items }
 {
     let Begun::<F, K> {
         agent,

@@ -4,6 +4,7 @@ ghost use Rattle.debugger.specs.Debuggees.{DebugsMachine, debuggee_start};
 ghost use Rattle.debugger.specs.Showing.{Shows};
 ghost use Rattle.machine.specs.MachineState.{granted_start};
 ghost use Rattle.shared_objects.specs.Tables.{table_returns};
+ghost use Rattle.workers.specs.Marks.{each_lent, AreLent};
 ghost use Rattle.workers.specs.Cells.{IsSeatOf, IsTableOf, seat_state, opened_as, IsStamped, FitsCell, StepsCell, RunsCell, DebugsCell, ShowsCell, SeesAway, may_queue, is_going};
 
 use crate::mark::Mark;
@@ -114,52 +115,78 @@ impl Ticket {
     }
 }
 
-/// How many cells, from that of number 1 on, were each lent with a machine in it. It counts on by a cell that is lent, and by
-/// nothing else. A machine that has come stays, so what was known of the first cells is known later too.
-#[derive(Drop, Debug, PartialEq, Eq)]
-pub struct Taken {
+/// How many cells of the table that K names, from that of number 1 on, were each lent with a machine in it. It counts on by a cell
+/// that is lent, and by nothing else. A machine that has come stays, so what was known of the first cells is known later too.
+#[derive(Drop)]
+pub struct Taken<K: Mark> {
     count: usize,
+    of: PhantomData<K>,
 }
 
-impl Taken {
+impl<K: Mark> Model for Taken<K> {
+    ghost use Rattle.std.specs.Prelude.{◌≡◌, ℕ};
+    ghost use Rattle.workers.specs.Marks.{each_lent};
+
+    ghost Value = { ℕ };
+
+    ghost view = { λ t. t.count };
+
+    ghost invariant = { λ t. K.lent ≡ each_lent };
+}
+
+impl<K: Mark> Taken<K> {
     /// None yet.
     pub fn none() -> Self
-        ensures { result.count ≡ 0 }
+        requires { K.lent ≡ each_lent }
+        ensures { result ≡ 0 }
     {
-        Taken { count: 0 }
+        Taken {
+            count: 0,
+            of: PhantomData,
+        }
     }
 
     /// How many they are.
     pub fn count(&self) -> usize
-        ensures { result ≡ self.now.count }
+        ensures { result ≡ self.now }
     {
         self.count
     }
 
+    /// Each of them was lent with a machine in it.
+    pub fn fact(&self)
+        ensures { AreLent K.lent self.now }
+    {
+        let _count = self.count;
+    }
+
     /// The first so many of them, or all, where they are fewer.
     pub fn up_to(&self, most: usize) -> Self
-        ensures { result.count ≡ min self.now.count most }
+        ensures { result ≡ min self.now most }
     {
         Taken {
             count: self.count.min(most),
+            of: PhantomData,
         }
     }
 
     /// Whether this is the next cell, with a machine.
-    pub fn is_next<K: Mark>(&self, locked: &Locked<K>) -> bool
-        ensures { result ≡ true → (locked.now.number ≡ self.now.count + 1) × (is_some locked.now.running ≡ true) }
+    pub fn is_next(&self, locked: &Locked<K>) -> bool
+        ensures { result ≡ true → (locked.now.number ≡ self.now + 1) × (is_some locked.now.running ≡ true) }
     {
         locked.has_machine() && locked.number() > self.count && locked.number() - self.count == 1
     }
 
     /// One more: the next cell, which has a machine.
-    pub fn and<K: Mark>(self, locked: &Locked<K>) -> Self
-        requires next { locked.now.number ≡ self.count + 1 }
+    pub fn and(self, locked: &Locked<K>) -> Self
+        requires next { locked.now.number ≡ self + 1 }
         requires machine { is_some locked.now.running ≡ true }
-        ensures { result.count ≡ self.count + 1 }
+        ensures { result ≡ self + 1 }
     {
+        let _count = self.count;
         Taken {
             count: locked.number(),
+            of: PhantomData,
         }
     }
 }

@@ -3,7 +3,7 @@ use std::marker::Brand;
 
 /// A name for one table, as a type: what carries it is of that table. A call picks it, once.
 pub trait Mark {
-    ghost use Rattle.std.specs.Prelude.{List, ℕ};
+    ghost use Rattle.std.specs.Prelude.{Bool, List, ℕ};
     ghost use Rattle.atomic_table.specs.Seated.{TableId};
     ghost use Rattle.machine.specs.MachineState.{MachineState};
 
@@ -17,11 +17,14 @@ pub trait Mark {
 
     /// How many actors' seats were made.
     ghost seats: { ℕ };
+
+    /// Which cells were lent with a machine in them. Whoever serves learns it of a cell only by `Taken::fact`.
+    ghost lent: { ℕ → Bool };
 }
 
 impl Mark for Brand {
     ghost use Rattle.std.specs.Prelude.{[]};
-    ghost use Rattle.workers.specs.Marks.{no_table};
+    ghost use Rattle.workers.specs.Marks.{no_table, each_lent};
 
     ghost table = { no_table };
 
@@ -30,4 +33,6 @@ impl Mark for Brand {
     ghost starts = { [] };
 
     ghost seats = { 0 };
+
+    ghost lent = { each_lent };
 }

@@ -6,6 +6,7 @@ ghost use Rattle.shared_objects.specs.Opened.{AreFresh};
 ghost use Rattle.shared_objects.specs.Tables.{IsActorOf, table_returns};
 ghost use Rattle.workers.specs.Cells.{IsTableOf, opened_as};
 ghost use Rattle.workers.specs.Closing.{WereCells};
+ghost use Rattle.workers.specs.Marks.{each_lent};
 ghost use Rattle.workers.specs.Pools.{IsNewSeat, AreSeats, machines_of, machine_of, QueuesCell};
 
 use crate::cell::{Locked, MachineCell, Taken, Ticket};
@@ -42,7 +43,7 @@ pub struct Pool<F: FarStore, K: Mark> {
     // that of machine 1 first
     cells: Vec<MachineCell<K>>,
     // cells that are known to have machines, so that nobody waits for their locks to look for an empty one
-    taken: Mutex<Taken>,
+    taken: Mutex<Taken<K>>,
     runs: ArrayQueue<Job>,
     // machines that wait for an object which is away
     waits: Mutex<ArrayQueue<Job>>,
@@ -161,7 +162,9 @@ fn cells_of<K: Mark, R: Wait>(
 }
 
 /// The first cells, as long as they have machines.
-fn taken_of<K: Mark, R: Wait>(rt: &R, cells: &[MachineCell<K>]) -> Taken {
+fn taken_of<K: Mark, R: Wait>(rt: &R, cells: &[MachineCell<K>]) -> Taken<K>
+    requires { K.lent ≡ each_lent }
+{
     let mut taken = Taken::none();
     for cell in cells {
         let locked = cell.lock(rt);
@@ -187,6 +190,7 @@ impl<F: FarStore, K: Mark> Pool<F, K> {
         requires seats { AreFresh (dealer F.RETURNS K.opening) seats.items × All (IsActorOf shared.table) seats.items }
         requires machines { K.starts ≡ machines_of machines.items }
         requires room { length machines.items ≤ length seats.items }
+        requires lent { K.lent ≡ each_lent }
         ensures { IfOk result (λ pool. (pool.shared ≡ shared) × (length pool.cells.items ≡ length seats.items)) }
     {
         let runs = ArrayQueue::new(alloc, QUEUE_LIMIT)?;
@@ -227,14 +231,14 @@ impl<F: FarStore, K: Mark> Pool<F, K> {
     }
 
     /// Of the first so many cells those that are known to have machines.
-    pub fn taken<R: Wait>(&self, rt: &R, most: usize) -> Taken
-        ensures { result.count ≤ most }
+    pub fn taken<R: Wait>(&self, rt: &R, most: usize) -> Taken<K>
+        ensures { result ≤ most }
     {
         self.taken.lock(rt).up_to(most)
     }
 
     /// From now on these cells are known to have machines, and so is the next one, if it has one.
-    pub fn know_taken<R: Wait>(&self, rt: &R, taken: &Taken, next: &Locked<K>) {
+    pub fn know_taken<R: Wait>(&self, rt: &R, taken: &Taken<K>, next: &Locked<K>) {
         let first = taken.up_to(taken.count());
         let found = if first.is_next(next) {
             first.and(next)

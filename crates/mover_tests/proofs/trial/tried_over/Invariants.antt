@@ -1,7 +1,8 @@
 use Rattle.std.proofs.Common.{length}
 use Rattle.shared_objects.specs.Tables.{table_opening}
+use Rattle.workers.specs.Marks.{each_lent}
 use Rattle.workers.specs.Pools.{machines_of}
 use Rattle.mover_tests.proofs.trial.tried_over.Given as goal
 
 abbrev pub ghosts-run : goal.ghosts-run
-ghosts-run g a = record { table = a.parts.shared.table.table.shared.table_id; opening = table_opening a.parts.shared.table; starts = machines_of a.machines.items; seats = length a.parts.seats.items }
+ghosts-run g a = record { table = a.parts.shared.table.table.shared.table_id; opening = table_opening a.parts.shared.table; starts = machines_of a.machines.items; seats = length a.parts.seats.items; lent = each_lent }

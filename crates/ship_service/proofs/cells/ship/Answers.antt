@@ -1,4 +1,4 @@
-use Rattle.std.proofs.Common.{◌≡◌, ◌+◌, sym, ◌∙◌, ap, subst, inr, None}
+use Rattle.std.proofs.Common.{◌≡◌, ◌+◌, refl, sym, ◌∙◌, ap, subst, inr, None}
 use Rattle.workers.specs.Cells.{CellState}
 use Rattle.ship_service.specs.Served.{IsCell}
 use Rattle.ship_service.proofs.Kept.{shipped_number, cell_now}
@@ -7,16 +7,17 @@ use Rattle.ship_service.proofs.cells.ship.Goals as goal
 pub returns : goal.returns
 returns g c =
     let found = c.in-Ok.ensures.found in let same = sym c.deref_mut.ensures.value in let t = c.ship_lent-said.ensures in
-    let was = subst (IsCell g.K.Mark.opening g.K.Mark.starts (c.in-Ok.found.1.count + 1)) same found.1 in
+    let was = subst (IsCell g.K.Mark.opening g.K.Mark.starts (c.in-Ok.found.1 + 1)) same found.1 in
     inr record {
-      taken = c.in-Ok.found.1;
+      lesser = c.in-Ok.found.1;
+      taken = c.fact-2.ensures;
       before = c.deref_mut.result.now;
       after = c.ship_lent-said.new.locked;
       said = c.ship_lent-said.result;
       exists = found.0;
       before_is = was;
-      after_is = subst (IsCell g.K.Mark.opening g.K.Mark.starts (c.in-Ok.found.1.count + 1)) c.deref.ensures (cell_now _ _ _ c.deref.result.now (ap (λ (x : CellState). x.number) c.deref.ensures ∙ (shipped_number _ _ _ _ _ t ∙ was.number_is)) c.fact.ensures.number c.fact.ensures.opening c.fact.ensures.stamped c.fact.ensures.fits);
+      after_is = subst (IsCell g.K.Mark.opening g.K.Mark.starts (c.in-Ok.found.1 + 1)) c.deref.ensures (cell_now _ _ _ c.deref.result.now (ap (λ (x : CellState). x.number) c.deref.ensures ∙ (shipped_number _ _ _ _ _ t ∙ was.number_is)) c.fact-3.ensures.number c.fact-3.ensures.opening c.fact-3.ensures.stamped c.fact-3.ensures.fits);
       empty = subst (λ (x : CellState). x.running ≡ None) same found.2;
-      told_is = c.told_of.ensures;
+      told_is = refl;
       ships = t;
     }

@@ -1,7 +1,8 @@
 use Rattle.shared_objects.specs.Tables.{table_opening}
 use Rattle.ship_service.specs.Opening.{seat_count}
+use Rattle.workers.specs.Marks.{each_lent}
 use Rattle.workers.specs.Pools.{machines_of}
 use Rattle.ship_service.proofs.listening.listen_over.Given as goal
 
 abbrev pub ghosts-listen_opened : goal.ghosts-listen_opened
-ghosts-listen_opened g a = record { table = a.opened.shared.table.table.shared.table_id; opening = table_opening a.opened.shared.table; starts = machines_of a.opened.machines.items; seats = seat_count }
+ghosts-listen_opened g a = record { table = a.opened.shared.table.table.shared.table_id; opening = table_opening a.opened.shared.table; starts = machines_of a.opened.machines.items; seats = seat_count; lent = each_lent }

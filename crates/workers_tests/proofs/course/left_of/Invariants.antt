@@ -1,7 +1,8 @@
 use Rattle.std.proofs.Common.{length}
 use Rattle.shared_objects.specs.Tables.{table_opening}
+use Rattle.workers.specs.Marks.{each_lent}
 use Rattle.workers.specs.Pools.{machines_of}
 use Rattle.workers_tests.proofs.course.left_of.Given as goal
 
 abbrev pub ghosts-left_over : goal.ghosts-left_over
-ghosts-left_over g a = record { table = a.shared.table.table.shared.table_id; opening = table_opening a.shared.table; starts = machines_of a.machines.items; seats = length a.seats.items }
+ghosts-left_over g a = record { table = a.shared.table.table.shared.table_id; opening = table_opening a.shared.table; starts = machines_of a.machines.items; seats = length a.seats.items; lent = each_lent }
