@@ -15,3 +15,4 @@ pub mod Globals
 pub mod StepRows
 pub mod RunOutputs
 pub mod ServiceOutputs
+pub mod TextParts
