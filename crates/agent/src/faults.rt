@@ -300,20 +300,20 @@ fn sets_reserved_bits(bytes: &[u8]) -> bool
     bytes.len() >= 16 && bytes[0] == 0x18 && has_reserved_bits(bytes)
 }
 
-/// The four bytes of the reserved bits, as many as there are.
-fn reserved_bits(bytes: &[u8]) -> &[u8]
+/// The first four bytes of the second slot, as many as there are.
+fn second_head(bytes: &[u8]) -> &[u8]
     ensures { result.now ≡ take 4 (drop 8 bytes.now) }
 {
     let rest = &bytes[bytes.len().min(8)..];
     &rest[..rest.len().min(4)]
 }
 
-/// Adds what is said of these bits.
+/// Adds what is said of reserved bits that are set.
 fn put_reserved(alloc: Global, out: &mut Vec<u8>, bytes: &[u8]) -> Result<(), AllocError>
     ensures { OnOk result (out.new.items ≡ out.old.items ++ reserved_text bytes.now) }
 {
     out.extend_from_slice(b"the second slot begins with ")?;
-    put_hex(alloc, out, reserved_bits(bytes))?;
+    put_hex(alloc, out, second_head(bytes))?;
     out.extend_from_slice(b", and has to begin with 00000000 in lddw; ")
 }
 
