@@ -24,20 +24,10 @@ use Rattle.ship_service.specs.Opening.{AreFreshSeats, first_view, first_mover, s
 
 -- ---- one after the other
 
-none_left : {X : Type 0} (xs : List X) → length xs ≡ 0 → xs ≡ []
-none_left [] e = refl
-none_left (x ∷ xs) e = absurd (omega (arith, e))
-
 -- what was made of each that came, and what is left, are all: so it is after one more
 pub one_more : {X Y : Type 0} (f : X → Y) (xs : List X) (x : X) (left rest all : List Y) → map f xs ++ left ≡ all → left ≡ f x ∷ rest → map f (xs ++ x ∷ []) ++ rest ≡ all
 one_more f xs x left rest all e h =
     ap (λ l. l ++ rest) (map-append f xs (x ∷ [])) ∙ append_assoc (map f xs) (f x ∷ []) rest ∙ ap (λ l. map f xs ++ l) (sym h) ∙ e
-
--- and where none is left
-pub no_more : {X Y : Type 0} (f : X → Y) (xs : List X) (s t : IntoIter Y Global) (all : List Y) → map f xs ++ into_iter_items s ≡ all → into_iter_steps s None t → map f xs ≡ all
-no_more f xs s t all e h =
-    let none : into_iter_items s ≡ [] = none_left (into_iter_items s) (sym s.rest.ok.0 ∙ h.0) in
-    sym (append-nil (map f xs)) ∙ ap (λ l. map f xs ++ l) (sym none) ∙ e
 
 -- ---- seats
 

@@ -9,11 +9,6 @@ use Rattle.ship_service.specs.ClosingLines.{object_line, object_lines, cell_line
 
 -- ---- what a writer takes
 
--- nothing was written
-pub nothing : (a : Option (List ℕ)) → Appends a a []
-nothing None = tt
-nothing (Some x) = sym (append-nil x)
-
 -- one text after the other
 pub joined : (a b c : Option (List ℕ)) (xs ys : List ℕ) → Appends a b xs → Appends b c ys → Appends a c (xs ++ ys)
 joined None b c xs ys h k = tt

@@ -1,4 +1,4 @@
-//! Connections.
+//! What belongs to one client of a service.
 ghost use Rattle.std.specs.Prelude.{◌≡◌, IfOk};
 ghost use Rattle.console.specs.Held.{nothing_held};
 ghost use Rattle.workers.specs.Cells.{IsSeatOf};
