@@ -1,6 +1,6 @@
 -- The `ok` of `put` and the `bytes` of `get` are the answers of entries that are added at the connection's seat: these, in
 -- order, and no others.
-use Rattle.std.specs.Prelude.{◌≡◌, ℕ, ◌<◌, ◌≤◌, List, [], ◌∷◌, ◌++◌, map, flat_map}
+use Rattle.std.specs.Prelude.{◌≡◌, Bool, ℕ, ◌<◌, ◌≤◌, List, [], ◌∷◌, ◌++◌, map, flat_map}
 use Rattle.memory.specs.declared.deeds.Entry.{Entry as OwnEntry}
 use Rattle.memory.specs.declared.deeds.Deed.TheVariants.{Reads, Writes}
 use Rattle.memory.specs.declared.deeds.Given.TheVariants.{Bytes, Nothing}
