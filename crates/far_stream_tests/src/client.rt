@@ -45,6 +45,14 @@ fn a_put_and_a_get_byte_for_byte(rt: HostRuntime) {
     same!(rt; found, ([Outcome::Done; 2], [true; 3], 0));
 }
 
+const REFUSED: Outcome = Outcome::Fault(StoreFault::Refused);
+
+const DAMAGED: Outcome = Outcome::Fault(StoreFault::Damaged);
+
+const PROTOCOL: Outcome = Outcome::Fault(StoreFault::Protocol);
+
+const LOST: Outcome = Outcome::Fault(StoreFault::Io);
+
 /// What a get of `abc` may be answered, what comes of it, and what comes of the next get, for which the
 /// right answer follows.
 const GETS: &[(&[u8], Outcome, Outcome)] = &[
@@ -55,63 +63,31 @@ const GETS: &[(&[u8], Outcome, Outcome)] = &[
     ),
     (
         b"\x00\0\0\0\0\0\0\0\x01\0\0\0\x03abd",
-        Outcome::Fault(StoreFault::Damaged),
+        DAMAGED,
         Outcome::Done,
     ),
-    (
-        b"\x00\0\0\0\0\0\0\0\x01\0\0\0\x00",
-        Outcome::Fault(StoreFault::Damaged),
-        Outcome::Done,
-    ),
+    (b"\x00\0\0\0\0\0\0\0\x01\0\0\0\x00", DAMAGED, Outcome::Done),
     (
         b"\x00\0\0\0\0\0\0\0\x01\0\0\0\x02ab",
-        Outcome::Fault(StoreFault::Damaged),
+        DAMAGED,
         Outcome::Done,
     ),
     (
         b"\x00\0\0\0\0\0\0\0\x01\0\0\0\x04abca",
-        Outcome::Fault(StoreFault::Damaged),
+        DAMAGED,
         Outcome::Done,
     ),
-    (
-        b"\x01\0\0\0\0\0\0\0\x01\0\0\0\x00",
-        Outcome::Fault(StoreFault::Refused),
-        Outcome::Done,
-    ),
-    (
-        b"\x02\0\0\0\0\0\0\0\x01\0\0\0\x00",
-        Outcome::Fault(StoreFault::Refused),
-        Outcome::Done,
-    ),
-    (
-        b"\x00\0\0\0\0\0\0\0\x02\0\0\0\x03abc",
-        Outcome::Fault(StoreFault::Protocol),
-        Outcome::Fault(StoreFault::Protocol),
-    ),
-    (
-        b"\x00\x01\0\0\0\0\0\0\x01\0\0\0\x03abc",
-        Outcome::Fault(StoreFault::Protocol),
-        Outcome::Fault(StoreFault::Protocol),
-    ),
-    (
-        b"\x03\0\0\0\0\0\0\0\x01\0\0\0\x00",
-        Outcome::Fault(StoreFault::Protocol),
-        Outcome::Fault(StoreFault::Protocol),
-    ),
-    (
-        b"\x01\0\0\0\0\0\0\0\x01\0\0\0\x03abc",
-        Outcome::Fault(StoreFault::Protocol),
-        Outcome::Fault(StoreFault::Protocol),
-    ),
-    (
-        b"\x00\0\0\0\0\0\0\0\x01\0\x01\0\x01",
-        Outcome::Fault(StoreFault::Protocol),
-        Outcome::Fault(StoreFault::Protocol),
-    ),
+    (b"\x01\0\0\0\0\0\0\0\x01\0\0\0\x00", REFUSED, Outcome::Done),
+    (b"\x02\0\0\0\0\0\0\0\x01\0\0\0\x00", REFUSED, Outcome::Done),
+    (b"\x00\0\0\0\0\0\0\0\x02\0\0\0\x03abc", PROTOCOL, PROTOCOL),
+    (b"\x00\x01\0\0\0\0\0\0\x01\0\0\0\x03abc", PROTOCOL, PROTOCOL),
+    (b"\x03\0\0\0\0\0\0\0\x01\0\0\0\x00", PROTOCOL, PROTOCOL),
+    (b"\x01\0\0\0\0\0\0\0\x01\0\0\0\x03abc", PROTOCOL, PROTOCOL),
+    (b"\x00\0\0\0\0\0\0\0\x01\0\x01\0\x01", PROTOCOL, PROTOCOL),
     (
         b"\x00\0\0\0\0\0\0\0\x01\xff\xff\xff\xff",
-        Outcome::Fault(StoreFault::Protocol),
-        Outcome::Fault(StoreFault::Protocol),
+        PROTOCOL,
+        PROTOCOL,
     ),
 ];
 
@@ -200,41 +176,13 @@ fn a_broken_stream_stays_broken(rt: HostRuntime) {
 /// What a put may be answered, what comes of it, and whether the stream goes on.
 const PUTS: &[(&[u8], Outcome, bool)] = &[
     (b"\x00\0\0\0\0\0\0\0\x01\0\0\0\0", Outcome::Done, true),
-    (
-        b"\x01\0\0\0\0\0\0\0\x01\0\0\0\0",
-        Outcome::Fault(StoreFault::Refused),
-        true,
-    ),
-    (
-        b"\x02\0\0\0\0\0\0\0\x01\0\0\0\0",
-        Outcome::Fault(StoreFault::Refused),
-        true,
-    ),
-    (
-        b"\x03\0\0\0\0\0\0\0\x01\0\0\0\0",
-        Outcome::Fault(StoreFault::Protocol),
-        false,
-    ),
-    (
-        b"\x00\0\0\0\0\0\0\0\x00\0\0\0\0",
-        Outcome::Fault(StoreFault::Protocol),
-        false,
-    ),
-    (
-        b"\x00\0\0\0\0\0\0\0\x02\0\0\0\0",
-        Outcome::Fault(StoreFault::Protocol),
-        false,
-    ),
-    (
-        b"\x00\0\0\0\0\0\0\0\x01\0\0\0\x03abc",
-        Outcome::Fault(StoreFault::Protocol),
-        false,
-    ),
-    (
-        b"\x00\0\0\0\0\0\0\0\x01\0\0\0",
-        Outcome::Fault(StoreFault::Io),
-        false,
-    ),
+    (b"\x01\0\0\0\0\0\0\0\x01\0\0\0\0", REFUSED, true),
+    (b"\x02\0\0\0\0\0\0\0\x01\0\0\0\0", REFUSED, true),
+    (b"\x03\0\0\0\0\0\0\0\x01\0\0\0\0", PROTOCOL, false),
+    (b"\x00\0\0\0\0\0\0\0\x00\0\0\0\0", PROTOCOL, false),
+    (b"\x00\0\0\0\0\0\0\0\x02\0\0\0\0", PROTOCOL, false),
+    (b"\x00\0\0\0\0\0\0\0\x01\0\0\0\x03abc", PROTOCOL, false),
+    (b"\x00\0\0\0\0\0\0\0\x01\0\0\0", LOST, false),
 ];
 
 /// A put of `abc` as id 1, and a put of `x` as id 2.
@@ -331,8 +279,7 @@ fn lengths_that_no_put_has(rt: HostRuntime) -> Result<(), Fail> {
     for &count in &[0usize, 65_537, 1_048_576] {
         let bytes = pattern(rt.alloc(), count)?;
         let found = put_before(rt.alloc(), &bytes);
-        let refused = Outcome::Fault(StoreFault::Refused);
-        same!(rt; found, ([refused, Outcome::Done], true), count);
+        same!(rt; found, ([REFUSED, Outcome::Done], true), count);
     }
     Ok(())
 }
@@ -386,17 +333,14 @@ fn longest_got_after(alloc: Global, other: &[u8]) -> Option<[Option<(Outcome, u6
 }
 
 /// What a get comes to that is answered with another length, and the next.
-const DAMAGED: [Option<(Outcome, u64)>; 2] = [
-    Some((Outcome::Fault(StoreFault::Damaged), 1)),
-    Some((Outcome::Done, 1)),
-];
+const ONCE_DAMAGED: [Option<(Outcome, u64)>; 2] = [Some((DAMAGED, 1)), Some((Outcome::Done, 1))];
 
 /// A get of the greatest length, after one that is answered with another: the stream goes on.
 #[test]
 fn lengths_of_a_get(rt: HostRuntime) {
     for &other in &[DONE_ONE, GIVES_ABC] {
         let found = longest_got_after(rt.alloc(), other);
-        same!(rt; found, Some(DAMAGED));
+        same!(rt; found, Some(ONCE_DAMAGED));
     }
 }
 
@@ -405,7 +349,7 @@ fn lengths_of_a_get(rt: HostRuntime) {
 fn a_get_that_answers_too_much(rt: HostRuntime) -> Result<(), Fail> {
     let longest = pattern(rt.alloc(), 65_536)?;
     let answer = frame(rt.alloc(), DONE, 1, &longest)?;
-    same!(rt; got_after(rt.alloc(), &answer), DAMAGED);
+    same!(rt; got_after(rt.alloc(), &answer), ONCE_DAMAGED);
     Ok(())
 }
 
@@ -438,7 +382,6 @@ fn last_numbers(alloc: Global) -> ([Outcome; 4], [bool; 3]) {
 /// The greatest number is used, and then each put is refused; a get goes on.
 #[test]
 fn the_last_number(rt: HostRuntime) {
-    let refused = Outcome::Fault(StoreFault::Refused);
-    let wanted = [Outcome::Done, refused, refused, Outcome::Done];
+    let wanted = [Outcome::Done, REFUSED, REFUSED, Outcome::Done];
     same!(rt; last_numbers(rt.alloc()), (wanted, [true; 3]));
 }

@@ -10,6 +10,19 @@ const ADDRESS: [u64; 5] = [FIRST, 0, 0, 0, 0];
 
 const RESUME: Say = Say::Debug(1, DebugCommand::Resume);
 
+// A constant's value may hold no call.
+macro_rules! of_range {
+    ($command:ident, $address:expr, $length:expr) => {
+        Say::Debug(
+            1,
+            DebugCommand::$command {
+                address: $address,
+                length: $length,
+            },
+        )
+    };
+}
+
 /// The machine after two instructions, with 8 in R0.
 const EIGHT: Shown = Shown {
     slot: 2,
@@ -142,16 +155,7 @@ const HIT: &[(Say, Told)] = &[
         Say::Ship(10, [FIRST, 5, 0, 0, 0], &[0x7321_0200_0000_0000, EXIT]),
         Told::Shipped(1),
     ),
-    (
-        Say::Debug(
-            1,
-            DebugCommand::Watch {
-                address: FIRST + 2,
-                length: 1,
-            },
-        ),
-        Told::Done,
-    ),
+    (of_range!(Watch, FIRST + 2, 1), Told::Done),
     (Say::Step(1), Told::Hit(1, 1)),
     (Say::Step(1), Told::Paused(1, 1)),
     (Say::Get(1, 0, 4), Told::Bytes(&[0, 0, 5, 0])),
@@ -174,26 +178,8 @@ const BESIDE: &[(Say, Told)] = &[
         ),
         Told::Shipped(1),
     ),
-    (
-        Say::Debug(
-            1,
-            DebugCommand::Watch {
-                address: FIRST + 1,
-                length: 1,
-            },
-        ),
-        Told::Done,
-    ),
-    (
-        Say::Debug(
-            1,
-            DebugCommand::Watch {
-                address: FIRST + 3,
-                length: 1,
-            },
-        ),
-        Told::Done,
-    ),
+    (of_range!(Watch, FIRST + 1, 1), Told::Done),
+    (of_range!(Watch, FIRST + 3, 1), Told::Done),
     (Say::Step(1), Told::Ran(1, 1)),
     (Say::Step(1), Told::Ran(1, 2)),
 ];
@@ -211,16 +197,7 @@ const STACK: &[(Say, Told)] = &[
         Say::Ship(10, ADDRESS, &[0x620a_fcff_ffff_ffff, EXIT]),
         Told::Shipped(1),
     ),
-    (
-        Say::Debug(
-            1,
-            DebugCommand::Watch {
-                address: STACK_TOP - 4,
-                length: 4,
-            },
-        ),
-        Told::Done,
-    ),
+    (of_range!(Watch, STACK_TOP - 4, 4), Told::Done),
     (Say::One(1), Told::Hit(1, 1)),
     (RESUME, Told::Done),
     (Say::Step(1), Told::Stopped(1, Stop::Exit(0))),
@@ -243,16 +220,7 @@ const EXCHANGE: &[(Say, Told)] = &[
         ),
         Told::Shipped(1),
     ),
-    (
-        Say::Debug(
-            1,
-            DebugCommand::Watch {
-                address: FIRST,
-                length: 8,
-            },
-        ),
-        Told::Done,
-    ),
+    (of_range!(Watch, FIRST, 8), Told::Done),
     (Say::Step(1), Told::Ran(1, 1)),
     (Say::Step(1), Told::Ran(1, 2)),
 ];
@@ -266,146 +234,20 @@ fn a_failed_exchange_is_no_hit(rt: HostRuntime) -> Result<(), Fail> {
 const EIGHT_RANGES: &[(Say, Told)] = &[
     (Say::Make(8), Told::Made(1)),
     (Say::Ship(10, ADDRESS, &[EXIT]), Told::Shipped(1)),
-    (
-        Say::Debug(
-            1,
-            DebugCommand::Watch {
-                address: FIRST,
-                length: 1,
-            },
-        ),
-        Told::Done,
-    ),
-    (
-        Say::Debug(
-            1,
-            DebugCommand::Watch {
-                address: FIRST,
-                length: 2,
-            },
-        ),
-        Told::Done,
-    ),
-    (
-        Say::Debug(
-            1,
-            DebugCommand::Watch {
-                address: FIRST,
-                length: 3,
-            },
-        ),
-        Told::Done,
-    ),
-    (
-        Say::Debug(
-            1,
-            DebugCommand::Watch {
-                address: FIRST,
-                length: 4,
-            },
-        ),
-        Told::Done,
-    ),
-    (
-        Say::Debug(
-            1,
-            DebugCommand::Watch {
-                address: FIRST,
-                length: 5,
-            },
-        ),
-        Told::Done,
-    ),
-    (
-        Say::Debug(
-            1,
-            DebugCommand::Watch {
-                address: FIRST,
-                length: 6,
-            },
-        ),
-        Told::Done,
-    ),
-    (
-        Say::Debug(
-            1,
-            DebugCommand::Watch {
-                address: FIRST,
-                length: 7,
-            },
-        ),
-        Told::Done,
-    ),
-    (
-        Say::Debug(
-            1,
-            DebugCommand::Watch {
-                address: FIRST,
-                length: 8,
-            },
-        ),
-        Told::Done,
-    ),
-    (
-        Say::Debug(
-            1,
-            DebugCommand::Watch {
-                address: FIRST,
-                length: 9,
-            },
-        ),
-        Told::Full,
-    ),
-    (
-        Say::Debug(
-            1,
-            DebugCommand::Watch {
-                address: FIRST,
-                length: 8,
-            },
-        ),
-        Told::Done,
-    ),
-    (
-        Say::Debug(
-            1,
-            DebugCommand::Watch {
-                address: 2 * FIRST - 1,
-                length: 2,
-            },
-        ),
-        Told::Outside,
-    ),
-    (
-        Say::Debug(
-            1,
-            DebugCommand::Unwatch {
-                address: FIRST,
-                length: 9,
-            },
-        ),
-        Told::NoWatch,
-    ),
-    (
-        Say::Debug(
-            1,
-            DebugCommand::Unwatch {
-                address: FIRST,
-                length: 8,
-            },
-        ),
-        Told::Done,
-    ),
-    (
-        Say::Debug(
-            1,
-            DebugCommand::Watch {
-                address: 2 * FIRST - 1,
-                length: 1,
-            },
-        ),
-        Told::Done,
-    ),
+    (of_range!(Watch, FIRST, 1), Told::Done),
+    (of_range!(Watch, FIRST, 2), Told::Done),
+    (of_range!(Watch, FIRST, 3), Told::Done),
+    (of_range!(Watch, FIRST, 4), Told::Done),
+    (of_range!(Watch, FIRST, 5), Told::Done),
+    (of_range!(Watch, FIRST, 6), Told::Done),
+    (of_range!(Watch, FIRST, 7), Told::Done),
+    (of_range!(Watch, FIRST, 8), Told::Done),
+    (of_range!(Watch, FIRST, 9), Told::Full),
+    (of_range!(Watch, FIRST, 8), Told::Done),
+    (of_range!(Watch, 2 * FIRST - 1, 2), Told::Outside),
+    (of_range!(Unwatch, FIRST, 9), Told::NoWatch),
+    (of_range!(Unwatch, FIRST, 8), Told::Done),
+    (of_range!(Watch, 2 * FIRST - 1, 1), Told::Done),
     (Say::Debug(2, DebugCommand::Resume), Told::Missing),
 ];
 
