@@ -5,7 +5,7 @@ use crate::frames::{ASKS, GET_ASKS, GET_SAYS, SAYS, first};
 use far_server::{CLIENT_LIMIT, ListenFault, Unwritten, listen};
 use std::alloc::Global;
 use std::io::{Error, ErrorKind, Read, Result as IoResult, Write};
-use std::net::{Ipv4Addr, Net, SocketAddr, TcpListener, TcpStream};
+use std::net::{Ipv4Addr, Net, Shutdown, SocketAddr, TcpListener, TcpStream};
 use std::sync::Wait;
 use std::test::Fail;
 use std::thread::{self, Threads};
@@ -53,10 +53,12 @@ fn is_cut_off<R: Net<Stream = TcpStream>>(rt: &R, address: SocketAddr) -> IoResu
     Ok(is_served && stream.read(&mut [0u8; 8])? == 0)
 }
 
-/// A client that goes within a request.
-fn goes<R: Net<Stream = TcpStream>>(rt: &R, address: SocketAddr) -> IoResult<()> {
+/// Whether a client that ends within a request finds its socket closed, which is so once its end was told.
+fn is_given_up<R: Net<Stream = TcpStream>>(rt: &R, address: SocketAddr) -> IoResult<bool> {
     let mut stream = TcpStream::connect(rt, address)?;
-    stream.write_all(&[1, 0, 0])
+    stream.write_all(&[1, 0, 0])?;
+    stream.shutdown(Shutdown::Write)?;
+    Ok(stream.read(&mut [0u8; 8])? == 0)
 }
 
 /// Whether a client that finds nothing kept is cut off by the end of the input, which comes as `held`
@@ -74,18 +76,18 @@ fn is_ended<R: Net<Stream = TcpStream>>(
 }
 
 /// What four clients of a server on this port find: one that is served, one that breaks the protocol,
-/// one that goes within a request, and one that is cut off by the end of the input.
+/// one that ends within a request, and one that is cut off by the end of the input.
 fn four_clients<R: Net<Stream = TcpStream>>(
     rt: &R,
     port: u16,
     held: TcpStream,
-) -> IoResult<[bool; 3]> {
+) -> IoResult<[bool; 4]> {
     let address = SocketAddr::from((Ipv4Addr::LOCALHOST, port));
     let served = is_served(rt, address)?;
     let cut_off = is_cut_off(rt, address)?;
-    goes(rt, address)?;
+    let given_up = is_given_up(rt, address)?;
     let ended = is_ended(rt, address, held)?;
-    Ok([served, cut_off, ended])
+    Ok([served, cut_off, given_up, ended])
 }
 
 /// Both ends of a stream.
@@ -182,7 +184,7 @@ fn clients_are_served_one_after_another(rt: HostRuntime) -> Result<(), Fail> {
     let port = port_of(&line_of(alloc, &mut held)?);
     assert!(rt; port.is_some());
     let found = four_clients(&rt, port.unwrap_or(0), held)?;
-    same!(rt; found, [true; 3]);
+    same!(rt; found, [true; 4]);
     same!(rt; server.join(&rt), (Ok(()), true));
     Ok(())
 }
