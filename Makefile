@@ -22,13 +22,13 @@ run: ## shows a first conversation, each command beside its reply; a minute or t
 try: ## builds out/bpfagent-unproved, without a proof and with an address sanitizer, which makes it many times slower; a minute or two
 	@python3 tools/build.py $(RT) try
 
-program: $(PROGRAM) ## proves and builds the program, crates/bpfagent/out/bpfagent; 15 minutes for the first time
+program: $(PROGRAM) ## proves and builds the program, crates/bpfagent/out/bpfagent; 40 minutes for the first time on four processors
 
 # Whether it is one of these sources is decided by what they say, and not by their times.
 $(PROGRAM): always
 	@python3 tools/build.py $(RT) prove
 
-lib: ## proves and builds the library for C, out/lib/libbpfagent.a; half an hour for the first time
+lib: ## proves and builds the library for C, out/lib/libbpfagent.a; half an hour for the first time on four processors
 	@python3 tools/library.py $(RT)
 
 install: $(PROGRAM) lib ## PREFIX=/usr/local: installs program, library, header, man pages and completions

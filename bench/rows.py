@@ -18,17 +18,25 @@ BOTH = re.compile(r"([\d.]+) (?:and|beside) +([\d.]+) machine instructions")
 LIBRARY = re.compile(r"(\w+) +run +([\d.]+)( ns)?,.*? bare +([\d.]+)( ns)?")
 # A worker: machine instructions alone, all kinds in one line.
 WORKER = re.compile(r"machine instructions of one worker an instruction of one machine: (.*)")
+# How long something takes, in microseconds.
+LATENCY = re.compile(r"median +([\d.]+) us, 99th percentile +([\d.]+) us")
+# How many of a hundred.
+SHARE = re.compile(r"([\d.]+) of 100")
 
 
 @dataclass
 class Row:
-    """One row: time as a ratio to the other side's, and machine instructions of both sides."""
+    """One row: time as a ratio to the other side's, and machine instructions of both sides; or a latency in microseconds, its median
+    and its 99th percentile; or a share of a hundred."""
 
     part: str
     name: str
     ratio: Optional[float] = None
     ours: Optional[float] = None
     theirs: Optional[float] = None
+    median: Optional[float] = None
+    percentile: Optional[float] = None
+    share: Optional[float] = None
 
     @property
     def counts(self) -> Optional[float]:
@@ -45,6 +53,10 @@ def rows_of_line(part: str, line: str) -> Iterator[Row]:
         for name, count in re.findall(r"(\w+) ([\d.]+)", worker[1]):
             yield Row(part, name, ours=float(count))
     elif name := NAME.match(line):
+        if latency := LATENCY.search(line):
+            yield Row(part, name[1], median=float(latency[1]), percentile=float(latency[2]))
+        elif share := SHARE.search(line):
+            yield Row(part, name[1], share=float(share[1]))
         ratio, both = RATIO.search(line), BOTH.search(line)
         if ratio or both:
             yield Row(part, name[1], float(ratio[1]) if ratio else None, *(float(both[k]) if both else None for k in (1, 2)))

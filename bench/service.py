@@ -9,6 +9,7 @@ each the fastest counts.
 Then, of the service alone: how long `regs` of a running machine takes, and a program from `ship` to its `exit`, for 1, 4 and 16
 workers; and how many of 100 `get` are answered `busy`, for one and for eight clients, on an object that 1, 4 and 16 machines add to.
 """
+import contextlib
 import os
 import pathlib
 import socket
@@ -18,6 +19,9 @@ import subprocess
 import sys
 import threading
 import time
+
+sys.path.append(str(pathlib.Path(__file__).resolve().parents[1] / "tests"))
+from lib.programs import Listener
 
 RUNS = 5
 SECONDS = 0.3
@@ -37,20 +41,21 @@ SHARED_WORKERS = 4
 CLIENTS = 8
 
 
+@contextlib.contextmanager
 def started(command, setup=""):
-    """A server, and a client of it."""
-    process = subprocess.Popen(command, stdin=subprocess.PIPE, stdout=subprocess.PIPE)
-    process.stdin.write(setup.encode())
-    process.stdin.close()
-    while not (line := process.stdout.readline()).startswith(b"listening "):
-        if not line:
+    """A server after this input, and a client of it; the client ends, and then the server."""
+    with Listener(*command, given=setup) as server:
+        if not server.port:
             sys.exit(f"{command} doesn't listen")
-    return process, connected(int(line.split()[1]))
+        with connected(server) as client:
+            yield server, client
+        server.end()
 
 
-def connected(port):
-    """A client of a server."""
-    client = socket.create_connection(("127.0.0.1", port))
+def connected(server):
+    """A client of a server. Without a time-out it waits in the call that receives, and in no other before it."""
+    client = server.connect()
+    client.settimeout(None)
     client.setsockopt(socket.IPPROTO_TCP, socket.TCP_NODELAY, 1)
     return client
 
@@ -63,13 +68,6 @@ def ask(client, line):
     return reply
 
 
-def end(process, client):
-    client.close()
-    process.stdout.read()
-    process.stdout.close()
-    process.wait()
-
-
 def processor_time(pid):
     """The seconds that all threads of a process have run."""
     return sum(int(pathlib.Path(f"/proc/{pid}/task/{thread}/schedstat").read_text().split()[0]) for thread in os.listdir(f"/proc/{pid}/task")) / 1e9
@@ -77,12 +75,11 @@ def processor_time(pid):
 
 def under_a_lock(program):
     """Nanoseconds of an instruction that a worker does."""
-    process, client = started([program, "serve", "--workers", "1"], f"ship {FUEL} 0 0 0 0 0 {ADDITIONS}\n")
     looks = []
-    for pause in (0.05, SECONDS):
-        time.sleep(pause)
-        looks.append((int(ask(client, b"regs 1\n").split()[3]), processor_time(process.pid)))
-    end(process, client)
+    with started([program, "serve", "--workers", "1"], f"ship {FUEL} 0 0 0 0 0 {ADDITIONS}\n") as (server, client):
+        for pause in (0.05, SECONDS):
+            time.sleep(pause)
+            looks.append((int(ask(client, b"regs 1\n").split()[3]), processor_time(server.process.pid)))
     return (looks[1][1] - looks[0][1]) / (looks[0][0] - looks[1][0]) * 1e9
 
 
@@ -100,15 +97,13 @@ def under_a_mutex(program):
 
 def round_trip(command, setup=""):
     """Microseconds until a line is answered."""
-    process, client = started(command, setup)
-    if ask(client, LINE) != b"bytes 0000000000000000\n":
-        sys.exit(f"{command} answers otherwise")
-    start = time.perf_counter()
-    for _ in range(TRIPS):
-        ask(client, LINE)
-    spent = time.perf_counter() - start
-    end(process, client)
-    return spent / TRIPS * 1e6
+    with started(command, setup) as (_, client):
+        if ask(client, LINE) != b"bytes 0000000000000000\n":
+            sys.exit(f"{command} answers otherwise")
+        start = time.perf_counter()
+        for _ in range(TRIPS):
+            ask(client, LINE)
+        return (time.perf_counter() - start) / TRIPS * 1e6
 
 
 def timed(client, line):
@@ -129,11 +124,9 @@ def shipped(client):
 
 def latencies(program, workers):
     """What `regs` takes of a machine that runs, as each worker runs one, and what a program takes from `ship` to `exit`."""
-    process, client = started([program, "serve", "--workers", str(workers)], f"ship {FUEL} 0 0 0 0 0 {ADDITIONS}\n" * workers)
-    looks = [timed(client, b"regs 1\n") for _ in range(LOOKS)]
-    ships = [shipped(client) for _ in range(SHIPS)]
-    end(process, client)
-    return looks, ships
+    with started([program, "serve", "--workers", workers], f"ship {FUEL} 0 0 0 0 0 {ADDITIONS}\n" * workers) as (_, client):
+        looks = [timed(client, b"regs 1\n") for _ in range(LOOKS)]
+        return looks, [shipped(client) for _ in range(SHIPS)]
 
 
 def told(spent):
@@ -151,18 +144,14 @@ def count_busy(client, found):
 def busy(program, machines, clients):
     """How many of 100 `get` are answered `busy`."""
     setup = "make 8\n" + f"ship {FUEL} {1 << 32} 1 0 0 0 {ADDS}\n" * machines
-    process, client = started([program, "serve", "--workers", str(SHARED_WORKERS), "--connections", str(clients)], setup)
-    port = client.getpeername()[1]
-    all_clients = [client] + [connected(port) for _ in range(clients - 1)]
     found = []
-    threads = [threading.Thread(target=count_busy, args=(one, found)) for one in all_clients]
-    for thread in threads:
-        thread.start()
-    for thread in threads:
-        thread.join()
-    for one in all_clients[1:]:
-        one.close()
-    end(process, client)
+    with started([program, "serve", "--workers", SHARED_WORKERS, "--connections", clients], setup) as (server, client), contextlib.ExitStack() as others:
+        all_clients = [client] + [others.enter_context(connected(server)) for _ in range(clients - 1)]
+        threads = [threading.Thread(target=count_busy, args=(one, found)) for one in all_clients]
+        for thread in threads:
+            thread.start()
+        for thread in threads:
+            thread.join()
     return 100 * sum(found) / len(found)
 
 
@@ -177,10 +166,11 @@ def main():
     print(f"round trip of a get of 8 bytes   {trip:7.2f} us, C {c_trip:7.2f} us, ratio {trip / c_trip:.2f}")
     for workers in (1, 4, 16):
         looks, ships = latencies(program, workers)
-        print(f"regs of a running machine, {workers:2} workers   {told(looks)}")
-        print(f"from ship to exit, {workers:2} workers           {told(ships)}")
+        print(f"{f'regs of a running machine, {workers} workers':40}  {told(looks)}")
+        print(f"{f'from ship to exit, {workers} workers':40}  {told(ships)}")
     for machines in (1, 4, 16):
-        print(f"busy of 100, {machines:2} machines on one object    " + ", ".join(f"{busy(program, machines, clients):5.1f} with {clients} client{'s' * (clients > 1)}" for clients in (1, CLIENTS)))
+        for clients in (1, CLIENTS):
+            print(f"{f'busy, {machines} machines, {clients} clients':40}  {busy(program, machines, clients):.2f} of 100")
 
 
 if __name__ == "__main__":

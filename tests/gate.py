@@ -2,9 +2,9 @@
 """The gate: gate.py RT, or gate.py --quick for what takes seconds.
 
 First the scripts that compare pages and lists with the sources, the test of .ci/run itself, and whether a crate has changed since
-its edits in edits/ were tried. Then `rt ci`, with a line on how far it is, and beside it the library for C in a copy of the
-repository. Then what runs the program as `rt ci` has built it, by LLVM and by Rattle's own compiler, and the library. The last line
-is that of `rt ci`; whatever else fails is counted in it.
+its edits in edits/ were tried. Then `rt ci`, with a line on how far it is. Then what runs the program as `rt ci` has built it, by
+LLVM and by Rattle's own compiler, and beside it the library for C. The last line is that of `rt ci`; whatever else fails is counted
+in it.
 """
 from __future__ import annotations
 
@@ -15,14 +15,13 @@ import re
 import resource
 import subprocess
 import sys
-import tempfile
 import time
 from typing import Iterable
 
 import edits
 from form import listed
-from lib.calls import FORM, LIBRARY, PROVE, Done, call_script, jobs
-from lib.sources import ROOT, copied, crates
+from lib.calls import FORM, LIBRARY, PROVE, PROVE_ALONE, Done, call_script, jobs
+from lib.sources import ROOT, crates
 
 BUILT = ["crates/bpfagent/out/bpfagent", "crates/bpfagent/out/bpfagent.by-rattle"]
 PROVED = re.compile(r"rt: \w+(: its tests are)? proved$")
@@ -37,9 +36,9 @@ def told(done: Done) -> int:
     return done.failed
 
 
-def failures_of(lines: Iterable[str], rt: str = "", folder: pathlib.Path = ROOT) -> int:
+def failures_of(lines: Iterable[str], rt: str = "") -> int:
     """How many of these scripts fail, over the proved programs."""
-    return sum(told(call_script(line, rt, str(ROOT / program), folder=folder)) for line in lines for program in (BUILT if "BOTH" in line else BUILT[:1]))
+    return sum(told(call_script(line, rt, str(ROOT / program))) for line in lines for program in (BUILT if "BOTH" in line else BUILT[:1]))
 
 
 def spent(start: float) -> str:
@@ -80,14 +79,12 @@ def judged(status: int, last: str) -> tuple[int, int]:
 
 def prove(rt: str, start: float) -> tuple[int, int]:
     """How much passed and failed by `rt ci`, and of the scripts over what is proved."""
-    with tempfile.TemporaryDirectory(prefix="gate-") as folder, concurrent.futures.ThreadPoolExecutor(1) as beside:
-        copy = copied(folder)
-        library = beside.submit(call_script, LIBRARY[0], rt, "", folder=copy)
-        passed, failed = judged(*run_ci(rt))
-        print(f"gate: rt ci: {spent(start)}", flush=True)
-        failed += told(library.result())
-        if not failed or all((ROOT / program).is_file() for program in BUILT):
-            failed += failures_of(PROVE, rt) + failures_of(LIBRARY[1:], rt, copy)
+    passed, failed = judged(*run_ci(rt))
+    print(f"gate: rt ci: {spent(start)}", flush=True)
+    if not failed or all((ROOT / program).is_file() for program in BUILT):
+        with concurrent.futures.ThreadPoolExecutor(2) as pool:
+            failed += sum(pool.map(lambda lines: failures_of(lines, rt), (PROVE, LIBRARY)))
+        failed += failures_of(PROVE_ALONE, rt)
     return passed, failed
 
 

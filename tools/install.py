@@ -16,7 +16,8 @@ import sys
 import tempfile
 from typing import Iterator
 
-ROOT = pathlib.Path(__file__).resolve().parents[1]
+from build import ROOT, Wrong, ending
+
 PROGRAM = ROOT / "crates/bpfagent/out/bpfagent"
 LIBRARY = ROOT / "out/lib/libbpfagent.a"
 HEADER = ROOT / "include/bpfagent.h"
@@ -59,10 +60,6 @@ else()
   set(PACKAGE_VERSION_COMPATIBLE FALSE)
 endif()
 """
-
-
-class Wrong(Exception):
-    """Something can't be installed."""
 
 
 def version() -> str:
@@ -150,13 +147,11 @@ def main() -> None:
     if not os.path.isabs(args.prefix):
         parser.error("the prefix has to be an absolute path")
     below = pathlib.Path(args.destdir + args.prefix)
-    try:
+    with ending("install"):
         if args.uninstall:
             print(f"{uninstall(below)} files are removed from {below}")
         else:
             print(f"{install(args, below)} files are installed below {below}")
-    except (Wrong, OSError, subprocess.CalledProcessError) as wrong:
-        sys.exit(f"install: {wrong}")
 
 
 if __name__ == "__main__":

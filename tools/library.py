@@ -1,9 +1,9 @@
 #!/usr/bin/env python3
-"""Proves and builds the library for C: library.py RT [JOBS]
+"""Proves and builds the library for C: library.py RT [--over-ci]
 
 It writes out/lib/libbpfagent.a: the crate bpfagent_c, and what that needs of the toolchain's C runtime. A program links it and the
-C library alone. It says how many crates are proved, and how long that took; what didn't change isn't proved again. With JOBS each
-check takes so many processors.
+C library alone. It says how many crates are proved, and how long that took; what didn't change isn't proved again, and if nothing
+did, nothing is done. With --over-ci the crates below are taken as `rt ci` has just proved them, which `rt lib` would prove again.
 """
 from __future__ import annotations
 
@@ -12,14 +12,11 @@ import subprocess
 import sys
 import tempfile
 
-from build import ROOT, proved, say
+from build import ROOT, Wrong, ending, is_current, proved, say, sources, stamp_of
 
 CRATE = ROOT / "crates/bpfagent_c"
+ARCHIVE = CRATE / f"out/lib{CRATE.name}.a"
 MADE = ROOT / "out/lib/libbpfagent.a"
-
-
-class Wrong(Exception):
-    """The library can't be built."""
 
 
 def home_of(rt: str) -> pathlib.Path:
@@ -42,24 +39,39 @@ def join(archiver: pathlib.Path, archives: list[pathlib.Path], made: pathlib.Pat
         made.write_bytes(joined.read_bytes())
 
 
-def build(rt: str, flags: list[str]) -> pathlib.Path:
-    """The library, proved and built."""
-    if not proved([rt, "lib", *flags], CRATE, "the library"):
-        raise Wrong("the library isn't proved")
+def prove_over_ci(home: pathlib.Path) -> bool:
+    """Proves the crate over the libraries that `rt ci` has left, and builds it. Whether it went well; otherwise what was said is shown."""
+    sys.path.insert(0, str(home / "bin"))
+    import rtlib  # the toolchain's own, which knows how a crate is checked
+
+    crate = rtlib.Crate(str(CRATE), str(ROOT), {})
+    words = [*crate.words(["--jobs", "1"], keeps=False), "--toolchain", str(home / "toolchain"), "--backend", "llvm", "-o", str(ARCHIVE)]
+    done = subprocess.run([rtlib.RATTLE, "build", *words], cwd=CRATE, stdout=subprocess.PIPE, stderr=subprocess.STDOUT, text=True, errors="replace")
+    if done.returncode:
+        say(done.stdout.rstrip("\n"))
+    return done.returncode == 0
+
+
+def build(rt: str, is_over_ci: bool) -> None:
+    """Proves and builds the library, unless that was done of these sources."""
+    known = sources(rt, CRATE.name)
+    if is_current(MADE, known):
+        return
     home = home_of(rt)
-    join(home / "toolchain/bin/llvm-ar", [CRATE / f"out/lib{CRATE.name}.a", home / "c/liblibc_c.a"], MADE)
-    return MADE
+    if not (prove_over_ci(home) if is_over_ci else proved([rt, "lib"], CRATE, "the library")):
+        raise Wrong("the library isn't proved")
+    join(home / "toolchain/bin/llvm-ar", [ARCHIVE, home / "c/liblibc_c.a"], MADE)
+    stamp_of(MADE).write_text(known)
 
 
 def main() -> None:
-    rt, *jobs = sys.argv[1:] or [""]
-    if not rt or len(jobs) > 1 or not all(word.isdigit() for word in jobs):
+    rt, *options = sys.argv[1:] or [""]
+    if not rt or options not in ([], ["--over-ci"]):
         say(__doc__.splitlines()[0])
         sys.exit(2)
-    try:
-        print(f"{build(rt, ['--jobs', *jobs] if jobs else []).relative_to(ROOT)} is built")
-    except (Wrong, OSError, subprocess.CalledProcessError) as wrong:
-        sys.exit(f"library: {wrong}")
+    with ending("library"):
+        build(rt, bool(options))
+        print(f"{MADE.relative_to(ROOT)} is built")
 
 
 if __name__ == "__main__":

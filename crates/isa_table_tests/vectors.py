@@ -1,9 +1,7 @@
 #!/usr/bin/env python3
-"""Writes the tables of expected values, computed on Python's integers from RFC 9669, sections 4.1 to 4.3 and 5.3:
+"""Writes the tables of operands and expected values, computed on Python's integers from RFC 9669, sections 4.1 to 4.3 and 5.3:
 
     python3 crates/isa_table_tests/vectors.py crates/isa_table_tests/src
-
-`rt fmt` lays the files out.
 """
 import pathlib
 import sys
@@ -35,46 +33,45 @@ def smod(bits, d, s):
 
 
 # Section 4.1: the operations with two operands.
-ARITHMETIC = {
-    "ADD": lambda bits, d, s: d + s,
-    "SUB": lambda bits, d, s: d - s,
-    "MUL": lambda bits, d, s: d * s,
-    "DIV": lambda bits, d, s: d // s if s else 0,
-    "SDIV": sdiv,
-    "OR": lambda bits, d, s: d | s,
-    "AND": lambda bits, d, s: d & s,
-    "LSH": lambda bits, d, s: d << (s & (bits - 1)),
-    "RSH": lambda bits, d, s: d >> (s & (bits - 1)),
-    "MOD": lambda bits, d, s: d % s if s else d,
-    "SMOD": smod,
-    "XOR": lambda bits, d, s: d ^ s,
-    "MOV": lambda bits, d, s: s,
-    "ARSH": lambda bits, d, s: signed(bits, d) >> (s & (bits - 1)),
+BINARY = {
+    "Add": lambda bits, d, s: d + s,
+    "Sub": lambda bits, d, s: d - s,
+    "Mul": lambda bits, d, s: d * s,
+    "Div": lambda bits, d, s: d // s if s else 0,
+    "SDiv": sdiv,
+    "Or": lambda bits, d, s: d | s,
+    "And": lambda bits, d, s: d & s,
+    "Lsh": lambda bits, d, s: d << (s & (bits - 1)),
+    "Rsh": lambda bits, d, s: d >> (s & (bits - 1)),
+    "Mod": lambda bits, d, s: d % s if s else d,
+    "SMod": smod,
+    "Xor": lambda bits, d, s: d ^ s,
+    "Mov": lambda bits, d, s: s,
+    "Arsh": lambda bits, d, s: signed(bits, d) >> (s & (bits - 1)),
 }
 
 # Section 4.3: the conditions.
 CONDITIONS = {
-    "EQ": lambda bits, d, s: d == s,
-    "GT": lambda bits, d, s: d > s,
-    "GE": lambda bits, d, s: d >= s,
-    "SET": lambda bits, d, s: d & s != 0,
-    "NE": lambda bits, d, s: d != s,
-    "SGT": lambda bits, d, s: signed(bits, d) > signed(bits, s),
-    "SGE": lambda bits, d, s: signed(bits, d) >= signed(bits, s),
-    "LT": lambda bits, d, s: d < s,
-    "LE": lambda bits, d, s: d <= s,
-    "SLT": lambda bits, d, s: signed(bits, d) < signed(bits, s),
-    "SLE": lambda bits, d, s: signed(bits, d) <= signed(bits, s),
+    "Eq": lambda bits, d, s: d == s,
+    "Gt": lambda bits, d, s: d > s,
+    "Ge": lambda bits, d, s: d >= s,
+    "Set": lambda bits, d, s: d & s != 0,
+    "Ne": lambda bits, d, s: d != s,
+    "SGt": lambda bits, d, s: signed(bits, d) > signed(bits, s),
+    "SGe": lambda bits, d, s: signed(bits, d) >= signed(bits, s),
+    "Lt": lambda bits, d, s: d < s,
+    "Le": lambda bits, d, s: d <= s,
+    "SLt": lambda bits, d, s: signed(bits, d) < signed(bits, s),
+    "SLe": lambda bits, d, s: signed(bits, d) <= signed(bits, s),
 }
 
 # Section 5.3: what an atomic operation writes to memory, from the old value, the source register and R0.
 ATOMICS = {
-    "ADD": lambda old, src, r0: old + src,
-    "OR": lambda old, src, r0: old | src,
-    "AND": lambda old, src, r0: old & src,
-    "XOR": lambda old, src, r0: old ^ src,
-    "EXCHANGE": lambda old, src, r0: src,
-    "COMPARE_EXCHANGE": lambda old, src, r0: src if old == r0 else None,
+    "Add": lambda old, src, r0: old + src,
+    "Or": lambda old, src, r0: old | src,
+    "And": lambda old, src, r0: old & src,
+    "Xor": lambda old, src, r0: old ^ src,
+    "Exchange": lambda old, src, r0: src,
 }
 
 PAIRS = [
@@ -150,80 +147,102 @@ def number(x):
     return "0x" + "_".join(parts)
 
 
-def table(name, kinds, rows):
-    lines = [f"pub const {name}: [{kinds}; {len(rows)}] = ["]
-    lines += [f"    ({', '.join(row)})," for row in rows]
-    return "\n".join(lines + ["];", ""])
+def laid(indent, parts):
+    """The parts in lines of at most 140 columns."""
+    lines = [indent]
+    for part in parts:
+        if len(lines[-1]) + len(part) > 138:
+            lines.append(indent)
+        lines[-1] += f"{'' if lines[-1] == indent else ' '}{part},"
+    return "\n".join(lines)
 
 
-def arithmetic(bits):
-    parts = [f"//! Operations on {bits} bits: destination, second operand, result. Written by `vectors.py`.\n"]
-    for name, operation in ARITHMETIC.items():
-        pairs = COUNTS if name in ("LSH", "RSH", "ARSH") else PAIRS
-        rows = []
-        for d, s in pairs:
-            result = operation(bits, d % 2**bits, s % 2**bits) % 2**bits
-            rows.append((number(d), number(s), number(result)))
-        parts.append(table(name, "(u64, u64, u64)", rows))
-    return "\n".join(parts)
+def row(key, values):
+    line = f"    ({key}, [{', '.join(values)}]),"
+    return line if len(line) <= 140 else f"    ({key}, [\n{laid(' ' * 8, values)}\n    ]),"
 
 
-def conditions(bits):
-    parts = [f"//! Conditions on {bits} bits: destination, second operand, whether it holds. Written by `vectors.py`.\n"]
-    for name, condition in CONDITIONS.items():
-        rows = []
-        for d, s in COMPARED:
-            holds = condition(bits, d % 2**bits, s % 2**bits)
-            rows.append((number(d), number(s), "true" if holds else "false"))
-        parts.append(table(name, "(u64, u64, bool)", rows))
-    return "\n".join(parts)
+def table(what, name, kinds, rows):
+    """A table that the formatter leaves as it is: of each row its key, and its values in the order of the operands."""
+    parts = "\n".join(row(key, values) for key, values in rows)
+    return f"/// {what}\n#[rattlefmt::skip]\npub const {name}: &[({kinds})] = &[\n{parts}\n];\n"
+
+
+def listed(what, name, kind, parts):
+    return f"/// {what}\n#[rattlefmt::skip]\npub const {name}: [{kind}; {len(parts)}] = [\n{laid(' ' * 4, parts)}\n];\n"
+
+
+def operands(what, name, kind, values):
+    return listed(what, name, kind, [f"({', '.join(map(number, value))})" if isinstance(value, tuple) else number(value) for value in values])
+
+
+def binary(bits):
+    for name, operation in BINARY.items():
+        pairs = COUNTS if name in ("Lsh", "Rsh", "Arsh") else PAIRS
+        yield f"Binary::{name}", [number(operation(bits, d % 2**bits, s % 2**bits) % 2**bits) for d, s in pairs]
+
+
+def conditions():
+    for bits in (64, 32):
+        for name, condition in CONDITIONS.items():
+            yield f"Width::W{bits}, Cond::{name}", [str(condition(bits, d % 2**bits, s % 2**bits)).lower() for d, s in COMPARED]
 
 
 def atomics(bits):
-    parts = [
-        f"//! Atomic operations on {bits} bits: old value, source register, R0, what is written. Written by `vectors.py`.\n"
-    ]
     for name, operation in ATOMICS.items():
-        rows = []
-        for old, src, r0 in TRIPLES:
-            new = operation(old % 2**bits, src % 2**bits, r0 % 2**bits)
-            written = "None" if new is None else f"Some({number(new % 2**bits)})"
-            rows.append((number(old % 2**bits), number(src), number(r0), written))
-        parts.append(table(name, "(u64, u64, u64, Option<u64>)", rows))
-    return "\n".join(parts)
+        yield f"AtomicOp::{name}", [number(operation(*(x % 2**bits for x in triple)) % 2**bits) for triple in TRIPLES]
+
+
+def exchanges(bits):
+    """What a compare-exchange writes, from the old value, the source register and R0, if it does."""
+    for triple in TRIPLES:
+        old, src, r0 = (x % 2**bits for x in triple)
+        yield f"Some({number(src)})" if old == r0 else "None"
 
 
 def reverse(bits, x):
     return int.from_bytes((x % 2**bits).to_bytes(bits // 8, "little"), "big")
 
 
-def single():
-    """NEG and the moves with sign extension (section 4.1), and byte swaps (section 4.2), on a little-endian host."""
-    parts = ["//! Operations on one operand: the operand, the result. Written by `vectors.py`.\n"]
-    operations = []
+def moves():
+    """NEG and the moves with sign extension (section 4.1)."""
     for bits in (64, 32):
-        operations.append((f"NEG{bits}", lambda x, bits=bits: -x % 2**bits))
-        for low in (8, 16) + ((32,) if bits == 64 else ()):
-            operations.append((f"MOVSX{low}_{bits}", lambda x, bits=bits, low=low: signed(low, x) % 2**bits))
-    for width in (16, 32, 64):
-        operations.append((f"LITTLE{width}", lambda x, width=width: x % 2**width))
-        operations.append((f"REVERSED{width}", lambda x, width=width: reverse(width, x)))
-    for name, operation in operations:
-        parts.append(table(name, "(u64, u64)", [(number(x), number(operation(x))) for x in SINGLE]))
-    return "\n".join(parts)
+        yield f"Width::W{bits}, AluOp::Neg", [number(-x % 2**bits) for x in SINGLE]
+        for low in (8, 16):
+            yield f"Width::W{bits}, AluOp::MovSx{low}", [number(signed(low, x) % 2**bits) for x in SINGLE]
+
+
+def swaps():
+    """Byte swaps (section 4.2), on a little-endian host."""
+    for bits in (16, 32, 64):
+        yield f"Order::Little, SwapWidth::W{bits}", [number(x % 2**bits) for x in SINGLE]
+        for order in ("Big", "Swapped"):
+            yield f"Order::{order}, SwapWidth::W{bits}", [number(reverse(bits, x)) for x in SINGLE]
 
 
 def main():
-    for name, text in [
-        ("arithmetic64", arithmetic(64)),
-        ("arithmetic32", arithmetic(32)),
-        ("conditions64", conditions(64)),
-        ("conditions32", conditions(32)),
-        ("atomics64", atomics(64)),
-        ("atomics32", atomics(32)),
-        ("single", single()),
-    ]:
-        (pathlib.Path(sys.argv[1]) / f"{name}.rt").write_text(text)
+    text = "\n".join(
+        [
+            "//! Operands of each operation, and what it gives for them. Written by `vectors.py`.\n"
+            "use isa_table::{AluOp, AtomicOp, Binary, Cond, Order, SwapWidth, Width};\n",
+            operands("Destination and second operand of an operation.", "PAIRS", "(u64, u64)", PAIRS),
+            operands("The same of a shift.", "COUNTS", "(u64, u64)", COUNTS),
+            table("What an operation on 64 bits computes.", "BINARY64", "Binary, [u64; 12]", binary(64)),
+            table("What an operation on 32 bits computes.", "BINARY32", "Binary, [u64; 12]", binary(32)),
+            operands("Destination and second operand of a condition.", "COMPARED", "(u64, u64)", COMPARED),
+            table("Whether a condition holds.", "CONDITIONS", "Width, Cond, [bool; 13]", conditions()),
+            operands("The old value, the source register and R0.", "TRIPLES", "(u64, u64, u64)", TRIPLES),
+            table("What an atomic operation on 64 bits writes.", "ATOMICS64", "AtomicOp, [u64; 12]", atomics(64)),
+            listed("What a compare-exchange of 64 bits writes, if it does.", "EXCHANGES64", "Option<u64>", list(exchanges(64))),
+            table("What an atomic operation on 32 bits writes.", "ATOMICS32", "AtomicOp, [u64; 12]", atomics(32)),
+            listed("What a compare-exchange of 32 bits writes, if it does.", "EXCHANGES32", "Option<u64>", list(exchanges(32))),
+            operands("The operand of an operation on one.", "SINGLE", "u64", SINGLE),
+            table("What it computes.", "UNARY", "Width, AluOp, [u64; 13]", moves()),
+            operands("What a move of 32 bits with sign extension computes.", "MOVED", "u64", [signed(32, x) for x in SINGLE]),
+            table("What a byte swap computes.", "SWAPS", "Order, SwapWidth, [u64; 13]", swaps()),
+        ]
+    )
+    (pathlib.Path(sys.argv[1]) / "tables.rt").write_text(text)
 
 
 main()

@@ -5,10 +5,9 @@ As in `make_vectors.py`, the replies come from the agent in Python. `make vector
 the repository holds.
 """
 import itertools
-import random
 
 from make_vectors import EXIT_SLOT, slot, wide  # this has to come first: it says where the interpreter is
-from make_moves_vectors import Chat, Talk
+from make_moves_vectors import Chat, Talk, add_chats
 from instructions import ATOMIC, CLASS_LDX, CLASS_ST, CLASS_STX, CMPXCHG, FETCH, MEM, MEMSX, XCHG, access
 from interpreter import STACK
 
@@ -138,12 +137,8 @@ class GrantedChat(Chat):
 
 def add_random(script):
     script.note("grants at random, while objects move and machines are debugged")
-    chooser = random.Random(14)
-    for _ in range(120):
-        GrantedChat(script, chooser).go(45)
+    add_chats(script, GrantedChat, 14, 120, 45)
 
 
 if __name__ == "__main__":
-    script = Talk()
-    script.note("Made by make_grants_vectors.py, as vectors.script is made by make_vectors.py; `make vectors` compares.")
-    script.write([add_kinds, add_exchanges, add_lengths, add_numbers, add_words, add_rows_of_others, add_random])
+    Talk().write_as(__file__, [add_kinds, add_exchanges, add_lengths, add_numbers, add_words, add_rows_of_others, add_random])

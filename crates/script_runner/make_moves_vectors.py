@@ -238,14 +238,17 @@ class Chat:
             self.script.tell(f"regs {machine}")
 
 
+def add_chats(script, kind, seed, count, commands):
+    """So many conversations of a kind at random, each of so many commands."""
+    chooser = random.Random(seed)
+    for _ in range(count):
+        kind(script, chooser).go(commands)
+
+
 def add_random(script):
     script.note("objects move while machines run, wait, and are paused")
-    chooser = random.Random(2026)
-    for _ in range(60):
-        Chat(script, chooser).go(70)
+    add_chats(script, Chat, 2026, 60, 70)
 
 
 if __name__ == "__main__":
-    script = Talk()
-    script.note("Made by make_moves_vectors.py, as vectors.script is made by make_vectors.py; `make vectors` compares.")
-    script.write([add_holders, add_budgets, add_windows, add_random])
+    Talk().write_as(__file__, [add_holders, add_budgets, add_windows, add_random])

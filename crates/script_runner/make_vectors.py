@@ -58,6 +58,11 @@ class Script:
             part(self)
         sys.stdout.write("\n".join(self.lines) + "\n")
 
+    def write_as(self, path, parts):
+        """The same, as what another script makes, which has this path."""
+        self.note(f"Made by {pathlib.Path(path).name}, as vectors.script is made by make_vectors.py; `make vectors` compares.")
+        self.write(parts)
+
     def begin_program(self):
         if self.in_block >= PROGRAMS_A_BLOCK:
             self.lines.append("---")

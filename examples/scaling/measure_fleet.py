@@ -4,7 +4,7 @@
 Jobs and bytes a second by agents, by size of object and by length of program, beside plain Python on the same workers; the
 processor time that a job takes of each part; what a lost worker costs; and the examples of words and transfers, also while workers
 and a node of Redis are killed. The figures go to figures.json, from which report.py makes the tables and plots of docs/SCALING.md
-and simulate_fleet.py its costs. All parts take about half an hour on four processors.
+and simulate_fleet.py its costs. All parts take a quarter of an hour on four processors.
 
 Each part is kept as soon as it is measured, with the program, the machine and the load. So an interrupted run keeps what it has,
 and --part measures what is still to come. --size 0.1 measures a tenth of the jobs, which goes to out/figures.json unless --output
@@ -36,6 +36,8 @@ TURNS, LENGTHS = (10, 1000, 10_000, 100_000), (64, 4096, 16_384, 65_536)
 KINDS = [(LENGTHS[0], turns) for turns in TURNS] + [(length, TURNS[0]) for length in LENGTHS[1:]]
 # The most jobs that are measured at once.
 MOST = 4000
+# For how many seconds other work is looked at before a part.
+LOOK = 5
 # Of what a lost worker costs: turns of each job, agents, and seconds between two deaths.
 LONG, FEW, APART = 20_000, 4, 1.0
 
@@ -158,10 +160,23 @@ def transfers(program: str, jobs: int, agents: int, *more: str) -> list[dict]:
     return [example.run(example.options().parse_args([program, "--jobs", str(jobs), "--agents", str(agents), *more]))]
 
 
+def idle() -> float:
+    """For how many seconds the processors have been idle or waited for a disk, in all."""
+    _, *ticks = pathlib.Path("/proc/stat").read_text().splitlines()[0].split()
+    return sum(int(it) for it in ticks[3:5]) / os.sysconf("SC_CLK_TCK")
+
+
+def busy() -> float:
+    """How many processors other work keeps busy, over a few seconds. A load average would count the part that was measured before."""
+    begin, before = time.monotonic(), idle()
+    time.sleep(LOOK)
+    return max(0.0, (os.cpu_count() or 1) - (idle() - before) / (time.monotonic() - begin))
+
+
 def machine() -> dict:
     """The machine at hand, and how busy it is with other work."""
     names = [line.partition(":")[2].strip() for line in pathlib.Path("/proc/cpuinfo").read_text().splitlines() if line.startswith("model name")]
-    return {"processors": os.cpu_count(), "model": names[0] if names else "", "load": round(os.getloadavg()[0], 1)}
+    return {"processors": os.cpu_count(), "model": names[0] if names else "", "load": round(busy(), 1)}
 
 
 # The options of the examples by part.
@@ -203,9 +218,8 @@ def main() -> None:
         options.error("--size takes a number above 0, and at most 1")
     output = given.output or (figures.FIGURES if given.size == 1 else TRIED)
     program = str(pathlib.Path(given.program).resolve())
-    # The load later is also that of these jobs.
-    on = machine()
     for part in given.part or figures.PARTS:
+        on = machine()
         begin = time.monotonic()
         found = measured(part, program, given.size)
         took = round(time.monotonic() - begin)

@@ -90,7 +90,7 @@ def facts(figures: dict) -> str:
     load = f"{loads[0]}" if loads[0] == loads[-1] else f"{loads[0]} to {loads[-1]}"
     rough = " So the figures are rough." if loads[-1] > figures["processors"] / 2 else ""
     return (
-        f"Measured on {' and '.join(programs)}, on {' and '.join(machines)}, at a load of {load} by other work at the start.{rough}\n"
+        f"Measured on {' and '.join(programs)}, on {' and '.join(machines)}, while other work kept {load} of them busy.{rough}\n"
         f"A lost worker costs {gone['worker_seconds']:.1f} worker-seconds, by the times of {gone['jobs']:,} jobs over {gone['killed']} deaths."
     )
 

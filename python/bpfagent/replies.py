@@ -54,27 +54,23 @@ class NotExited(Exception):
 
 
 @dataclass(frozen=True)
-class Ran:
+class AtSlot:
+    """A machine is at this slot then. A value of one kind equals none of another."""
+
+    machine: int
+    slot: int
+
+
+class Ran(AtSlot):
     """The instruction completed, and the machine goes on at this slot."""
 
-    machine: int
-    slot: int
 
-
-@dataclass(frozen=True)
-class Hit:
+class Hit(AtSlot):
     """The instruction completed and wrote to a watched range. The machine is paused, and goes on at this slot."""
 
-    machine: int
-    slot: int
 
-
-@dataclass(frozen=True)
-class Paused:
+class Paused(AtSlot):
     """The machine is paused at this slot, and nothing was done."""
-
-    machine: int
-    slot: int
 
 
 @dataclass(frozen=True)

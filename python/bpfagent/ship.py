@@ -266,24 +266,21 @@ def fuel_of(text: str) -> int:
         raise argparse.ArgumentTypeError("takes a number from 0 to 2^64 - 1") from None
 
 
-def add_program_options(options: argparse.ArgumentParser) -> None:
-    """The options of whatever loads a program and starts bpfagent."""
+def program_parser(name: str, usage: str, description: str, epilog: str) -> argparse.ArgumentParser:
+    """The command line of a command that loads a program and starts bpfagent, with the options that all of these have."""
+    options = argparse.ArgumentParser(prog=name, usage=usage, description=description, epilog=epilog)
+    add_version(options)
     options.add_argument("--bpfagent", metavar="PATH", help="the program bpfagent; else the environment's BPFAGENT, or the one on PATH")
     options.add_argument("--fuel", type=fuel_of, default=FUEL, metavar="N", help=f"how many instructions the program may do ({FUEL})")
     options.add_argument("--entry", metavar="NAME", help="the function at which the program begins (program)")
     options.add_argument("--flag", action="append", default=[], metavar="FLAG", help="a further flag of clang, such as --flag=-O0; may be repeated")
+    return options
 
 
 def parser() -> argparse.ArgumentParser:
     """The options of the command line."""
-    options = argparse.ArgumentParser(
-        prog="bpfagent-ship",
-        usage="%(prog)s [OPTION ..] FILE [ARGUMENT ..]",
-        description="Ships a program to a new `bpfagent run`, or to a service, runs it to its end and shows the result.",
-        epilog=EPILOG,
-    )
-    add_version(options)
-    add_program_options(options)
+    description = "Ships a program to a new `bpfagent run`, or to a service, runs it to its end and shows the result."
+    options = program_parser("bpfagent-ship", "%(prog)s [OPTION ..] FILE [ARGUMENT ..]", description, EPILOG)
     task = options.add_mutually_exclusive_group()
     task.add_argument("--check", action="store_true", help="only compile and link, and say why the file can't be shipped")
     task.add_argument("--line", action="store_true", help="only print the `ship` line; arguments are numbers")

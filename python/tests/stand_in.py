@@ -2,6 +2,7 @@
 letter, and is answered the reply that stands there."""
 from __future__ import annotations
 
+import contextlib
 import io
 import json
 import os
@@ -10,7 +11,7 @@ import socket
 import sys
 import tempfile
 import threading
-from typing import IO, TYPE_CHECKING, Sequence, Union
+from typing import IO, TYPE_CHECKING, Callable, Iterator, Sequence, Union
 
 if TYPE_CHECKING:
     from lib.scripts import Talk
@@ -48,6 +49,24 @@ def accept(talks: Sequence[Talk], listener: socket.socket, done: list[bool]) -> 
         threads[-1].start()
     for thread in threads:
         thread.join()
+
+
+@contextlib.contextmanager
+def answering(answer: Callable[[socket.socket], object]) -> Iterator[int]:
+    """The port of a stand-in that does this with its one connection, and ends it."""
+    with socket.create_server(("127.0.0.1", 0)) as listener:
+
+        def serve() -> None:
+            connection, _ = listener.accept()
+            with connection:
+                answer(connection)
+
+        server = threading.Thread(target=serve)
+        server.start()
+        try:
+            yield listener.getsockname()[1]
+        finally:
+            server.join()
 
 
 def main(program: str, path: str) -> None:

@@ -206,22 +206,13 @@ WRONG: list[tuple[Callable[[Agent], object], list[str]]] = [
 
 def breaks(reply: bytes, call: Callable[[Agent], object]) -> bool:
     """Whether a call that is answered these bytes, after which the stream ends, breaks the conversation, for other calls too."""
-    with socket.create_server(("127.0.0.1", 0)) as listener:
 
-        def answer() -> None:
-            connection, _ = listener.accept()
-            with connection:
-                connection.recv(1 << 16)
-                connection.sendall(reply)
+    def answer(connection: socket.socket) -> None:
+        connection.recv(1 << 16)
+        connection.sendall(reply)
 
-        server = threading.Thread(target=answer)
-        server.start()
-        agent = Agent.connect("127.0.0.1", listener.getsockname()[1], timeout=SECONDS)
-        try:
-            return is_broken(lambda: call(agent)) and is_broken(lambda: agent.step(1)) and is_broken(lambda: agent.tell("step 1"))
-        finally:
-            server.join()
-            agent.close()
+    with stand_in.answering(answer) as port, Agent.connect("127.0.0.1", port, timeout=SECONDS) as agent:
+        return is_broken(lambda: call(agent)) and is_broken(lambda: agent.step(1)) and is_broken(lambda: agent.tell("step 1"))
 
 
 def why_broken(call: Callable[[], object]) -> Optional[str]:

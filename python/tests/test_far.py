@@ -7,10 +7,10 @@ import re
 import socket
 import subprocess
 import sys
-import threading
 import unittest
 from typing import Sequence
 
+import stand_in
 from bpfagent import Broken
 from bpfagent.far import DONE, HEAD, LIMIT, REFUSED_ID, Store
 from support import PROGRAM, ROOT, SECONDS
@@ -43,24 +43,17 @@ def line_of(number: int, text: str) -> str:
 
 def lied_to(answer: bytes) -> object:
     """What the client takes a get of `abc` for that has this answer."""
-    with socket.create_server(("127.0.0.1", 0)) as listener:
 
-        def lie() -> None:
-            stream, _ = listener.accept()
-            with stream:
-                stream.recv(HEAD.size + 3)
-                stream.sendall(frame(DONE, 1) + answer)
+    def lie(stream: socket.socket) -> None:
+        stream.recv(HEAD.size + 3)
+        stream.sendall(frame(DONE, 1) + answer)
 
-        liar = threading.Thread(target=lie)
-        liar.start()
-        with Store(listener.getsockname()[1], timeout=SECONDS) as store:
-            number, digest = kept(store, b"abc")
-            try:
-                return store.get(number, digest)
-            except (Broken, ConnectionResetError):
-                return Broken
-            finally:
-                liar.join()
+    with stand_in.answering(lie) as port, Store(port, timeout=SECONDS) as store:
+        number, digest = kept(store, b"abc")
+        try:
+            return store.get(number, digest)
+        except (Broken, ConnectionResetError):
+            return Broken
 
 
 @unittest.skipUnless(PROGRAM, "needs BPFAGENT")

@@ -15,7 +15,6 @@ import socket
 import socketserver
 import subprocess
 import sys
-import tempfile
 import threading
 import time
 import unittest
@@ -25,7 +24,7 @@ from bpfagent import __version__
 from bpfagent.far import DONE, FORGET, GET, LIMIT, NO_ROOM, PUT, REFUSED_ID, Store
 from support import PROGRAM, ROOT, SECONDS
 
-from lib.programs import Client, Process, Server, Service, object_line
+from lib.programs import Client, Listener, Server, Service, ended, free_port, object_line, redis_server
 from product.service import away
 from product.store import KEPT, frame, talk, unanswered
 
@@ -107,10 +106,8 @@ class Gateway(Server):
     port: int
 
     def __init__(self, redis: str, *arguments: str) -> None:
-        Process.__init__(self, *GATEWAY, "--redis", redis, *arguments)
-        _, port = self.hear_port()
-        assert port, "the gateway doesn't listen"
-        self.port = port
+        Listener.__init__(self, *GATEWAY, "--redis", redis, *arguments)
+        assert self.port, "the gateway doesn't listen"
 
 
 def eventually(holds: Callable[[], bool], what: str) -> None:
@@ -144,15 +141,6 @@ def wakings_in(seconds: float, process: subprocess.Popen[bytes]) -> int:
     before = wakings(process)
     time.sleep(seconds)
     return wakings(process) - before
-
-
-def is_listening(port: int) -> bool:
-    """Whether somebody listens on a port of this host."""
-    try:
-        socket.create_connection(("127.0.0.1", port)).close()
-        return True
-    except OSError:
-        return False
 
 
 @unittest.skipUnless(PROGRAM, "needs BPFAGENT")
@@ -226,8 +214,7 @@ class Gateways(unittest.TestCase):
         """Gateway and client, as the package's page starts them, but for the ports."""
         page = (ROOT / "python/README.md").read_text()
         self.assertTrue("\nbpfagent-redis --port 7070 --redis 127.0.0.1:6379\n" in page, "the page starts the gateway otherwise")
-        with socket.create_server(("127.0.0.1", 0)) as listener:
-            port = listener.getsockname()[1]
+        port = free_port()
         gateway = Gateway(address, "--port", str(port))
         self.assertTrue(gateway.port == port, "the port that is asked for")
         texts = ["hello", "é" * 1000]
@@ -322,31 +309,24 @@ class Gateways(unittest.TestCase):
         self.assertTrue([words[0] for words in redis.heard] == [b"PING"], f"what Redis heard before the gateway listens: {redis.heard}")
         self.assertTrue(gateway.end() == (0, b"", b""), "a gateway without clients")
         redis.end()
-        process = subprocess.run(
-            [*GATEWAY, "--redis", redis.address], stdin=subprocess.DEVNULL, stdout=subprocess.PIPE, stderr=subprocess.STDOUT, text=True, timeout=SECONDS
-        )
-        lines = process.stdout.splitlines()
+        said = ended("sh", "-c", 'exec "$@" 2>&1', "sh", *GATEWAY, "--redis", redis.address, seconds=SECONDS)
         self.assertTrue(
-            process.returncode == 0 and len(lines) == 2 and lines[0].startswith("redis: can't be reached: ") and lines[1].startswith("listening "),
-            f"a gateway whose Redis is away says {lines}",
+            said[0] == 0 and re.fullmatch(rb"redis: can't be reached: .*\nlistening .*\n", said[1]), f"a gateway whose Redis is away says {said}"
         )
-        closed = subprocess.run(["sh", "-c", 'exec "$@" <&-', "sh", *GATEWAY, "--redis", "127.0.0.1:1"], capture_output=True, text=True, timeout=SECONDS)
+        status, output, errors = ended("sh", "-c", 'exec "$@" <&-', "sh", *GATEWAY, "--redis", "127.0.0.1:1", seconds=SECONDS)
         self.assertTrue(
-            closed.returncode == 0 and closed.stdout.startswith("listening ") and closed.stderr == "redis: can't be reached: 127.0.0.1:1: Connection refused\n",
-            f"a gateway without an input says {closed}",
+            status == 0 and output.startswith(b"listening ") and errors == b"redis: can't be reached: 127.0.0.1:1: Connection refused\n",
+            f"a gateway without an input says {output!r} and {errors!r}",
         )
-        version = subprocess.run([*GATEWAY, "--version"], stdin=subprocess.DEVNULL, capture_output=True, text=True, timeout=SECONDS)
-        self.assertTrue((version.returncode, version.stdout) == (0, f"bpfagent-redis {__version__}\n"), f"the version: {version}")
+        version = ended(*GATEWAY, "--version", seconds=SECONDS)
+        self.assertTrue(version == (0, f"bpfagent-redis {__version__}\n".encode(), b""), f"the version: {version}")
         for words in (["--redis", "x"], ["--redis", "127.0.0.1:0"], ["--port", "65536"], ["--port", "x"], ["x"]):
-            wrong = subprocess.run([*GATEWAY, *words], stdin=subprocess.DEVNULL, capture_output=True, text=True, timeout=SECONDS)
-            self.assertTrue(
-                (wrong.returncode, wrong.stdout) == (2, "") and wrong.stderr.startswith("usage: bpfagent-redis "), f"wrong arguments of the gateway: {wrong}"
-            )
+            wrong = ended(*GATEWAY, *words, seconds=SECONDS)
+            self.assertTrue(wrong[:2] == (2, b"") and wrong[2].startswith(b"usage: bpfagent-redis "), f"wrong arguments of the gateway: {wrong}")
         with socket.create_server(("127.0.0.1", 0)) as taken:
-            wrong = subprocess.run([*GATEWAY, "--port", str(taken.getsockname()[1])], stdin=subprocess.DEVNULL, capture_output=True, text=True, timeout=SECONDS)
+            wrong = ended(*GATEWAY, "--port", taken.getsockname()[1], seconds=SECONDS)
         self.assertTrue(
-            (wrong.returncode, wrong.stdout) == (1, "") and re.fullmatch(r"bpfagent-redis: port \d+: Address already in use\n", wrong.stderr),
-            f"a port that is taken: {wrong}",
+            wrong[:2] == (1, b"") and re.fullmatch(rb"bpfagent-redis: port \d+: Address already in use\n", wrong[2]), f"a port that is taken: {wrong}"
         )
 
     def test_signals(self) -> None:
@@ -422,22 +402,12 @@ class Gateways(unittest.TestCase):
     @unittest.skipUnless(shutil.which("redis-server"), "needs redis-server")
     def test_redis(self) -> None:
         """The frames and the example over Redis itself."""
-        with socket.create_server(("127.0.0.1", 0)) as listener:
-            port = listener.getsockname()[1]
-        with tempfile.TemporaryDirectory() as folder:
-            process = subprocess.Popen(
-                ["redis-server", "--port", str(port), "--bind", "127.0.0.1", "--save", "", "--appendonly", "no", "--dir", folder], stdout=subprocess.DEVNULL
-            )
-            try:
-                eventually(lambda: is_listening(port), "redis-server listens")
-                self.frames(f"127.0.0.1:{port}")
-                self.example(f"127.0.0.1:{port}")
-                with socket.create_connection(("127.0.0.1", port)) as stream:
-                    stream.sendall(b"*1\r\n$6\r\nDBSIZE\r\n")
-                    self.assertTrue(stream.recv(100) == b":0\r\n", "keys that are left in Redis")
-            finally:
-                process.terminate()
-                process.wait()
+        with redis_server() as port:
+            self.frames(f"127.0.0.1:{port}")
+            self.example(f"127.0.0.1:{port}")
+            with socket.create_connection(("127.0.0.1", port)) as stream:
+                stream.sendall(b"*1\r\n$6\r\nDBSIZE\r\n")
+                self.assertTrue(stream.recv(100) == b":0\r\n", "keys that are left in Redis")
 
 
 if __name__ == "__main__":

@@ -19,6 +19,8 @@ PARTS = {"src", "specs", "proofs", "must-fail", "edits", "data", "args", "stdin"
 ROOMS = ("must-fail", "edits")
 # How many edits the gate tries at most; the others lie in edits/.
 MOST = 150
+# What uses tests/lib, beside the scripts of tests/.
+USERS = ("bench", "python/tests", "tools")
 # What calls the scripts of tests/.
 CALLERS = ("Makefile", "tests/lib/calls.py")
 
@@ -65,7 +67,8 @@ def unread() -> Iterator[str]:
 def uncalled() -> Iterator[str]:
     """The functions of scripts that are named nowhere but where they stand, and the scripts that nothing calls."""
     texts = {path: path.read_text() for path in sorted((ROOT / "tests").rglob("*.py"))}
-    everything, calls = "\n".join(texts.values()), "\n".join((ROOT / name).read_text() for name in CALLERS)
+    others = [path.read_text() for folder in USERS for path in (ROOT / folder).rglob("*.py")]
+    everything, calls = "\n".join([*texts.values(), *others]), "\n".join((ROOT / name).read_text() for name in CALLERS)
     for path, text in texts.items():
         for name in re.findall(r"(?m)^def (\w+)", text):
             if len(re.findall(rf"\b{name}\b", text)) < 2 and not re.search(rf"(?m)^from (?:\w+\.)?{path.stem} import .*\b{name}\b|\b{path.stem}\.{name}\b", everything):

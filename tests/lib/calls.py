@@ -36,16 +36,12 @@ ALONE = [
     "tests/product/python_package.py PROGRAM test_fleet",
 ]
 
-# One by one.
+# One by one, beside those of LIBRARY.
 PROVE = [
     "tests/product/program.py BOTH",
     "tests/product/store.py BOTH",
-    "tests/product/service.py BOTH",
-    "tests/product/waiting.py PROGRAM",
-    "tests/product/silence.py PROGRAM",
     "tests/form/generated.py --vectors",
     "tests/product/python_package.py PROGRAM",
-    "tests/product/python_package.py PROGRAM test_fleet",
     "tests/product/deploy.py PROGRAM",
     "tests/product/manual.py PROGRAM",
     "tests/product/verbose.py PROGRAM",
@@ -56,11 +52,19 @@ PROVE = [
     "tests/product/targets.py RT",
 ]
 
-# One by one, in a copy of the repository. The first proves once more what the library is made of, so it runs beside `rt ci`.
+# One by one. The first proves the library's crate once more, over what `rt ci` has left, since that builds no library.
 LIBRARY = [
-    "tools/library.py RT 1",
+    "tools/library.py RT --over-ci",
     "tests/product/embed.py RT",
     "tests/product/consumer.py RT PROGRAM",
+]
+
+# After the others, one by one, since they look at how long something takes.
+PROVE_ALONE = [
+    "tests/product/service.py BOTH",
+    "tests/product/waiting.py PROGRAM",
+    "tests/product/silence.py PROGRAM",
+    "tests/product/python_package.py PROGRAM test_fleet",
 ]
 
 

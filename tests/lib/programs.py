@@ -11,6 +11,7 @@ import re
 import resource
 import socket
 import subprocess
+import tempfile
 import time
 from types import TracebackType
 from typing import Any, Callable, Iterable, Iterator, Mapping, Sequence, TypeVar
@@ -106,15 +107,39 @@ def is_heard(host: str, port: int) -> bool:
     return True
 
 
+def free_port() -> int:
+    """A port of this host on which nobody listens."""
+    with socket.create_server(("127.0.0.1", 0)) as listener:
+        port: int = listener.getsockname()[1]
+    return port
+
+
+@contextlib.contextmanager
+def redis_server() -> Iterator[int]:
+    """The port of a redis-server that keeps nothing on disk."""
+    port, end = free_port(), time.monotonic() + LONG
+    with tempfile.TemporaryDirectory() as folder:
+        alone = ["--bind", "127.0.0.1", "--save", "", "--appendonly", "no", "--dir", folder]
+        process = subprocess.Popen(["redis-server", "--port", str(port), *alone], stdout=subprocess.DEVNULL)
+        try:
+            while not is_heard("127.0.0.1", port):
+                want(time.monotonic() < end, "redis-server doesn't listen")
+                time.sleep(0.005)
+            yield port
+        finally:
+            process.terminate()
+            process.wait()
+
+
 P = TypeVar("P", bound="Process")
 
 
 class Process:
     """A program that was started with pipes. Leaving its block kills it where it hasn't ended."""
 
-    def __init__(self, *command: object, limits: Mapping[int, int] | None = None) -> None:
+    def __init__(self, *command: object, limits: Mapping[int, int] | None = None, **how: Any) -> None:
         pipe = subprocess.PIPE
-        self.process = subprocess.Popen([str(word) for word in command], stdin=pipe, stdout=pipe, stderr=pipe, preexec_fn=limited_to(limits))
+        self.process = subprocess.Popen([str(word) for word in command], stdin=pipe, stdout=pipe, stderr=pipe, preexec_fn=limited_to(limits), **how)
 
     def __enter__(self: P) -> P:
         return self
@@ -122,6 +147,13 @@ class Process:
     def __exit__(self, kind: type[BaseException] | None, error: BaseException | None, trace: TracebackType | None) -> None:
         self.process.kill()
         self.process.communicate()
+
+    def give(self, text: str) -> None:
+        """Its whole input."""
+        self.process.stdin.write(text.encode())
+        self.process.stdin.close()
+        # `communicate` flushes an input that isn't there any more.
+        self.process.stdin = None
 
     def hear_port(self) -> tuple[list[str], int | None]:
         """The lines before `listening P`, and P; no port where it ends before."""
@@ -144,27 +176,31 @@ class Process:
         return self.process.returncode, output, errors
 
 
-class Server(Process):
-    """A server of far memory, `bpfagent store` or another, listening."""
+class Listener(Process):
+    """A program that listens on a port of this host, after this input, if it gets one before."""
 
-    def __init__(self, program: object, *arguments: object, limits: Mapping[int, int] | None = None) -> None:
-        super().__init__(program, "store", *arguments, limits=limits)
-        _, self.port = self.hear_port()
+    def __init__(self, *command: object, given: str | None = None, limits: Mapping[int, int] | None = None, **how: Any) -> None:
+        super().__init__(*command, limits=limits, **how)
+        if given is not None:
+            self.give(given)
+        self.told, self.port = self.hear_port()
 
     def connect(self) -> socket.socket:
         return socket.create_connection(("127.0.0.1", self.port), timeout=SECONDS)
 
 
-class Service(Process):
+class Server(Listener):
+    """A server of far memory, `bpfagent store` or another, listening."""
+
+    def __init__(self, program: object, *arguments: object, limits: Mapping[int, int] | None = None) -> None:
+        super().__init__(program, "store", *arguments, limits=limits)
+
+
+class Service(Listener):
     """`bpfagent serve`, listening after these commands of its input."""
 
     def __init__(self, program: object, *arguments: object, setup: Iterable[str] = (), limits: Mapping[int, int] | None = None) -> None:
-        super().__init__(program, "serve", *arguments, limits=limits)
-        self.process.stdin.write("".join(f"{command}\n" for command in setup).encode())
-        self.process.stdin.close()
-        # `communicate` flushes an input that isn't there any more.
-        self.process.stdin = None
-        self.told, self.port = self.hear_port()
+        super().__init__(program, "serve", *arguments, given="".join(f"{command}\n" for command in setup), limits=limits)
 
     def texts(self) -> tuple[int, str, str]:
         """When it has ended: the status, the rest of its output, and standard error."""
@@ -190,7 +226,7 @@ class Client:
     """A connection to a service that is asked line by line. Leaving its block closes it."""
 
     def __init__(self, service: Service) -> None:
-        self.stream = socket.create_connection(("127.0.0.1", service.port), timeout=SECONDS)
+        self.stream = service.connect()
         self.replies = self.stream.makefile("r", newline="\n")
 
     def __enter__(self) -> Client:

@@ -1,7 +1,7 @@
 #!/usr/bin/env python3
 """The library for C at work: embed.py RT
 
-The library is built by the commands of docs/EMBEDDING.md, over what earlier checks have kept, and linked with the programs of
+The library is built by the commands of docs/EMBEDDING.md, if it isn't there of these sources, and linked with the programs of
 examples/embed/, which say by themselves whether all is as it should be: with each compiler that there is, with the sanitizers of
 each, and under valgrind. The page's pieces of C are compiled. What isn't installed is skipped, and named.
 """
@@ -22,7 +22,7 @@ from lib.checks import Failed, run_parts, want
 from lib.programs import run
 from lib.sources import ROOT
 
-LIBRARY = ROOT / "crates/bpfagent_c/out/libbpfagent_c.a"
+LIBRARY = ROOT / "out/lib/libbpfagent.a"
 INCLUDE = ROOT / "include"
 EXAMPLES = ROOT / "examples/embed"
 PAGE = ROOT / "docs/EMBEDDING.md"
@@ -55,12 +55,10 @@ PROGRAMS = (
 
 
 class Room:
-    """A folder for what is built, with what was done there. `linked` is the library, and the C runtime of the toolchain, which
-    lies beside the page that `rt doc` names."""
+    """A folder for what is built, with what was done there."""
 
-    def __init__(self, folder: str, rt: str) -> None:
+    def __init__(self, folder: str) -> None:
         self.folder = pathlib.Path(folder)
-        self.linked = [LIBRARY, pathlib.Path(run(rt, "doc")).parent / "c/liblibc_c.a"]
         self.done: list[str] = []
         self.skipped: list[str] = []
 
@@ -80,7 +78,7 @@ class Room:
             if program.has_allocator and (flags or under):
                 continue
             made = self.folder / program.name
-            run(compiler, *STRICT, *flags, f"-I{INCLUDE}", "-o", made, *program.more, EXAMPLES / f"{program.name}.c", *self.linked)
+            run(compiler, *STRICT, *flags, f"-I{INCLUDE}", "-o", made, *program.more, EXAMPLES / f"{program.name}.c", LIBRARY)
             told = run(*under, made, *program.words, seconds=LIMIT)
             if is_told:
                 print(told, flush=True)
@@ -94,10 +92,10 @@ class Room:
             self.skipped.append(f"{compiler} {flag}")
 
 
-def page_command(page: str, rt: str, compiler: str, runtime: pathlib.Path, made: pathlib.Path) -> str:
-    """The commands of the page that build the library and a program, with this compiler, rt and C runtime."""
-    commands = re.search(r"(?s)^```\n(\(cd crates/bpfagent_c .*?)^```", page, re.M)[1]
-    for named, used in (("rt lib", f"{shlex.quote(rt)} lib"), ("cc -O2", f"{shlex.quote(compiler)} -O2"), ("/opt/rattle/c/liblibc_c.a", shlex.quote(str(runtime))), ("out/table", shlex.quote(str(made)))):
+def page_command(page: str, rt: str, compiler: str, made: pathlib.Path) -> str:
+    """The commands of the page that build the library and a program, with this compiler and rt."""
+    commands = re.search(r"(?s)^```\n(make lib\n.*?)^```", page, re.M)[1]
+    for named, used in (("make lib", f"make RT={shlex.quote(rt)} lib"), ("cc -O2", f"{shlex.quote(compiler)} -O2"), ("out/table", shlex.quote(str(made)))):
         want(named in commands, f"{PAGE.name} doesn't say {named}")
         commands = commands.replace(named, used)
     return commands
@@ -106,7 +104,7 @@ def page_command(page: str, rt: str, compiler: str, runtime: pathlib.Path, made:
 def show_page(compiler: str, rt: str, room: Room) -> None:
     """The commands of the page, which build the library. And each piece of C as the body of a function."""
     page = PAGE.read_text()
-    run("sh", "-ec", page_command(page, rt, compiler, room.linked[1], room.folder / "shown"), cwd=ROOT, seconds=3000)
+    run("sh", "-ec", page_command(page, rt, compiler, room.folder / "shown"), cwd=ROOT, seconds=3000)
     pieces = re.findall(r"(?s)^```c\n(.*?)^```", page, re.M)
     want(pieces, f"{PAGE.name} has no piece of C")
     for number, piece in enumerate(pieces):
@@ -121,7 +119,7 @@ def show_library(rt: str) -> str:
         return "skipped, since there is no C compiler"
     found = [one for one in COMPILERS if shutil.which(one)] or [compiler]
     with tempfile.TemporaryDirectory(prefix="embed-") as folder:
-        room = Room(folder, rt)
+        room = Room(folder)
         show_page(compiler, rt, room)
         for number, one in enumerate(found):
             room.show(one, one, is_told=number == 0)

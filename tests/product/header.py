@@ -125,7 +125,7 @@ def declared_enums() -> dict[str, dict[str, int]]:
 def show_enums() -> str:
     codes = arms(uncommented((CRATE / "src/codes.rt").read_text()))
     why = uncommented((ROOT / "crates/asm_grammar/src/why.rt").read_text())
-    codes.update({f"number {arm}": int(number) for arm, number in re.findall(r"Why::(\w+) => (\d+),", why)})
+    codes.update({f"number {arm}": int(number) for arm, number in re.findall(r"(\w+) = (\d+),", why)})
     enums = declared_enums()
     want_equal(sorted(enums), sorted(ENUMS), "the enums of the header")
     for name, sources_of in ENUMS.items():

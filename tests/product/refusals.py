@@ -37,7 +37,7 @@ from lib.sources import ROOT
 PROGRAM = pathlib.Path(sys.argv[2]).resolve() if len(sys.argv) > 2 else ROOT / "crates/bpfagent/out/bpfagent"
 PARTS = ROOT / "crates/failing_allocations/out/failing_allocations"
 SCRIPTS = [f"crates/script_runner/data/{name}.script" for name in ("worked", "moves", "debugging", "grants", "protocol")]
-MAY_LACK_MEMORY = ("make ", "put ", "get ", "ship ", "ship2 ", "stack ", "line ")
+MAY_LACK_MEMORY = ("make ", "put ", "ship ", "ship2 ", "stack ", "line ")
 WIDE = bytes.fromhex("18000000ffffffff00000000ffffffff9500000000000000")
 TEXT = b"mov r0, 0 # n\nagain: add r0, 1\njlt r0, 3, again\nexit\n"
 # An object file is refused as code, and a jump that leads outside.
@@ -129,7 +129,7 @@ def spread(numbers: list[int], most: int) -> list[int]:
     return sorted({numbers[k * (len(numbers) - 1) // max(1, most - 1)] for k in range(most)}) if len(numbers) > most else numbers
 
 
-def refused_growth(failing: Failing, start: int, arguments: Sequence[str], talk: Talk, most: int = MOST) -> list[str]:
+def refused_conversation(failing: Failing, start: int, arguments: Sequence[str], talk: Talk, most: int = MOST) -> list[str]:
     """A conversation with its allocations failing in turn: what was refused."""
     lines, whole = [line for line, _ in talk], [reply for _, reply in talk]
     (status, output, _), counts = failing.counted(PROGRAM, ["run", *arguments], said(lines))
@@ -152,7 +152,7 @@ def before_a_line(failing: Failing) -> int:
 CODE = "7b0a000000000000" + "95" + "00" * 7
 ENTRY, LINE = 32, 64
 COUNTED = [
-    ("make 64", 1, 64), ("put 1 0 0102", 1, 2), ("get 1 0 2", 1, 2), ("get 1 63 2", 0, 0), (f"ship 9 0 0 0 0 0 {CODE}", 2, 16 + 2 * ENTRY), ("step 1", 0, 0), ("one 1", 0, 0),
+    ("make 64", 1, 64), ("put 1 0 0102", 1, 2), ("get 1 0 2", 0, 0), ("get 1 63 2", 0, 0), (f"ship 9 0 0 0 0 0 {CODE}", 2, 16 + 2 * ENTRY), ("step 1", 0, 0), ("one 1", 0, 0),
     ("regs 1", 0, 0), ("out 1", 0, 0), ("stack 1 0 8", 1, 8), ("line 1 0", 1, LINE), ("break 1 1", 0, 0), ("watch 1 0x100000000 8", 0, 0), ("unbreak 1 1", 0, 0), ("leave 1", 0, 0),
     ("left 1", 0, 0), ("return 1", 0, 0), ("returned 1", 1, 64), ("free 1", 0, 0), ("nothing", 0, 0), ("put 1 0 zz", 0, 0), ("x" * 69_000, 0, 0),
 ]
@@ -293,8 +293,8 @@ def show(failing: Failing) -> None:
     counted_streams(failing)
     talks = [talk for name in SCRIPTS for talk in conversations((ROOT / name).read_text())]
     with concurrent.futures.ThreadPoolExecutor(os.cpu_count()) as pool:
-        objects = pool.submit(refused_growth, failing, start, [], ALL_OBJECTS, len(ALL_OBJECTS) + MOST)
-        found = [what for part in pool.map(lambda talk: refused_growth(failing, start, *talk), talks) for what in part]
+        objects = pool.submit(refused_conversation, failing, start, [], ALL_OBJECTS, len(ALL_OBJECTS) + MOST)
+        found = [what for part in pool.map(lambda talk: refused_conversation(failing, start, *talk), talks) for what in part]
         gave_up = sum(pool.map(lambda given: refused_input(failing, *given), OTHERS))
         made = objects.result().count("make")
     counts = ", ".join(f"{found.count(what)} {what}" for what in sorted(set(found)))
@@ -303,7 +303,7 @@ def show(failing: Failing) -> None:
     refused_store(failing)
     told = ", ".join(f"{count} of a {part}" for part, count in parts.items())
     want(made == 1024 and {word.strip() for word in MAY_LACK_MEMORY} | {"returned"} <= set(found), f"not every command was refused: {counts}; {made} objects")
-    print(f"refused_growth: {len(found)} allocations of {len(talks)} conversations failed in turn: {counts}; {gave_up} of other inputs, {made} of 1,024 objects, {told}")
+    print(f"refusals: {len(found)} allocations of {len(talks)} conversations failed in turn: {counts}; {gave_up} of other inputs, {made} of 1,024 objects, {told}")
 
 
 def main() -> None:
@@ -313,7 +313,7 @@ def main() -> None:
         try:
             show(Failing(shim(sys.argv[1], folder)))
         except (Failed, OSError, subprocess.SubprocessError) as wrong:
-            sys.exit(f"refused_growth: {wrong}")
+            sys.exit(f"refusals: {wrong}")
 
 
 main()

@@ -22,7 +22,7 @@ from typing import Any, Callable, TypeVar
 
 sys.path.insert(0, str(pathlib.Path(__file__).resolve().parents[1]))
 from lib.checks import Failed, run_parts, want, want_equal
-from lib.programs import LONG, SECONDS, Client, Server, Service, ended, is_heard, object_line, opened, room_for, unreadable
+from lib.programs import LONG, SECONDS, Client, Server, Service, ended, free_port, is_heard, object_line, opened, room_for, unreadable
 from lib.scripts import Talk
 from lib.sources import ROOT
 
@@ -358,9 +358,7 @@ def show_unreached(program: str) -> None:
     """A far server that can't be reached, and what isn't its address: nothing is read, and no port is taken."""
     with socket.create_server(("127.0.0.1", 0)) as taken:
         port = taken.getsockname()[1]
-        with socket.create_server(("127.0.0.1", 0)) as free:
-            nobody = f"127.0.0.1:{free.getsockname()[1]}"
-        want(served(program, "--far", nobody, "--port", port, setup="make 8\n") == (3, "", "far server can't be reached\n"), "a server that isn't there")
+        want(served(program, "--far", f"127.0.0.1:{free_port()}", "--port", port, setup="make 8\n") == (3, "", "far server can't be reached\n"), "a server that isn't there")
         for far in ("", "7070", "localhost:7070", "127.0.0.1", "127.0.0.1:", "127.0.0.1:65536", "127.0.0.1:x", "256.0.0.1:1", "::1:7070", " 127.0.0.1:7070"):
             want(served(program, f"--far={far}", "--port", port, setup="make 8\n") == (2, "", "error: --far takes an IP address and a port\n"), f"the address {far}")
 

@@ -70,7 +70,7 @@ def session(program: str, far: Server, *flags: str) -> tuple[bytes, Service]:
     told.hear("object 3 couldn't leave: the store's device failed")
     want_equal((client.ask("get 1 0 1"), client.end()), ("bytes 2a", ""), "the end of the first client")
     told.hear("client 1 went")
-    with socket.create_connection(("127.0.0.1", service.port), timeout=SECONDS) as second:
+    with service.connect() as second:
         second.sendall(b"get 1 0 1\n")
         want_equal(second.recv(64), b"bytes 2a\n", "the second client")
         second.setsockopt(socket.SOL_SOCKET, socket.SO_LINGER, AT_ONCE)

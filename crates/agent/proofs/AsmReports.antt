@@ -1,7 +1,7 @@
 -- What `asm` explains of the bytes that it has read, it explains of the whole input.
 use Rattle.std.proofs.Common.{◌≡◌, ◌≢◌, ◌⊎◌, ℕ, Bool, true, false, List, [], ◌∷◌, ◌++◌, take, subst, refl, append-nil, Option, None, Some, IfSome, Result, Ok, Err, inl, inr}
 use Rattle.std.specs.Prelude.{⊤}
-use Rattle.std.specs.Io.KnownBytes.{Keeps}
+use Rattle.std.proofs.KnownBytes.{Keeps-refl}
 use Rattle.clap.specs.Words.{HasKind, Kinds, kind_of}
 use Rattle.clap.specs.declared.error.Error.{Error}
 use Rattle.agent.specs.AsmLeaves.{AsmLeaves}
@@ -12,7 +12,7 @@ use Rattle.agent.specs.Failures.{status_number}
 use Rattle.agent.specs.Reports.{Reports}
 use Rattle.agent.specs.declared.failure.Failure.{Failure}
 use Rattle.agent.specs.declared.failure.Failure.TheVariants.{Refused, WrongLine, InputTooLong, Read, Write, NoMemory}
-use Rattle.agent.specs.declared.failure.Status.{Status}
+use Rattle.agent.specs.declared.failure.ExitStatus.{ExitStatus}
 use Rattle.agent.proofs.CheckedPrefix.{short}
 use Rattle.agent.proofs.OutOfMemory.{only_memory}
 use Rattle.agent.proofs.WholeInput.{assembled_whole}
@@ -34,72 +34,51 @@ explained_whole limit input text before after InputTooLong is l e = e
 explained_whole limit input text before after Read is l e = e
 explained_whole limit input text before after NoMemory is l e = e
 
--- what is left and reported of an input
-abbrev pub IsReported : Option (List ℕ) → Option (List ℕ) → Option (List ℕ) → Option (List ℕ) → List ℕ → Status → Type 0
-IsReported before after told_before told_after input status = (outcome : Result ⊤ Failure) × AsmLeaves input before after outcome × ReportsExplained input told_before told_after outcome status
+-- what is left and reported of an input, with an explanation or without
+abbrev pub IsReported : Bool → Option (List ℕ) → Option (List ℕ) → Option (List ℕ) → Option (List ℕ) → List ℕ → ExitStatus → Type 0
+IsReported explains before after told_before told_after input status = (outcome : Result ⊤ Failure) × AsmLeaves input before after outcome × ReportsAsm explains input told_before told_after outcome status
 
--- the code was written
-pub done_over : (given before after told_before told_after : Option (List ℕ)) (status : Status) (limit : ℕ) (read : List ℕ) → limit ≡ 1048577 → IfSome given (λ input. read ≡ take limit input) → AsmLeaves read before after (Ok tt)
-    → Reports told_before told_after (Ok tt) status → IfSome given (λ input. IsReported before after told_before told_after input status)
-done_over None before after told_before told_after status limit read is read_is left says = tt
-done_over (Some input) before after told_before told_after status limit read is read_is left says =
-    (Ok tt, left_whole limit input before after (Ok tt) is (subst (λ bytes. AsmLeaves bytes before after (Ok tt)) read_is left), says)
+reported_whole : (explains : Bool) (limit : ℕ) (input : List ℕ) (before after told_before told_after : Option (List ℕ)) (outcome : Result ⊤ Failure) (status : ExitStatus) → limit ≡ 1048577 → AsmLeaves (take limit input) before after outcome
+    → ReportsAsm explains (take limit input) told_before told_after outcome status → ReportsAsm explains input told_before told_after outcome status
+reported_whole false limit input before after told_before told_after outcome status is l s = s
+reported_whole true limit input before after told_before told_after (Ok done) status is l s = s
+reported_whole true limit input before after told_before told_after (Err failure) status is l s = (s.0, explained_whole limit input s.0 before after failure is l s.1, s.2, s.3)
 
--- it wasn't, and that was explained
-pub failed_over : (given before after told_before told_after : Option (List ℕ)) (status : Status) (failure : Failure) (limit : ℕ) (read : List ℕ) → limit ≡ 1048577 → IfSome given (λ input. read ≡ take limit input) → AsmLeaves read before after (Err failure)
-    → ReportsExplained read told_before told_after (Err failure) status → IfSome given (λ input. IsReported before after told_before told_after input status)
-failed_over None before after told_before told_after status failure limit read is read_is left says = tt
-failed_over (Some input) before after told_before told_after status failure limit read is read_is left says =
-    let l = subst (λ bytes. AsmLeaves bytes before after (Err failure)) read_is left in
-    let s = subst (λ bytes. ReportsExplained bytes told_before told_after (Err failure) status) read_is says in
-    (Err failure, left_whole limit input before after (Err failure) is l, (s.0, explained_whole limit input s.0 before after failure is l s.1, s.2, s.3))
+-- the input was read
+pub reported_over : (given before after told_before told_after : Option (List ℕ)) (explains : Bool) (status : ExitStatus) (outcome : Result ⊤ Failure) (limit : ℕ) (read : List ℕ) → limit ≡ 1048577 → IfSome given (λ input. read ≡ take limit input)
+    → AsmLeaves read before after outcome → ReportsAsm explains read told_before told_after outcome status → IfSome given (λ input. IsReported explains before after told_before told_after input status)
+reported_over None before after told_before told_after explains status outcome limit read is read_is left says = tt
+reported_over (Some input) before after told_before told_after explains status outcome limit read is read_is left says =
+    let l = subst (λ bytes. AsmLeaves bytes before after outcome) read_is left in
+    let s = subst (λ bytes. ReportsAsm explains bytes told_before told_after outcome status) read_is says in
+    (outcome, left_whole limit input before after outcome is l, reported_whole explains limit input before after told_before told_after outcome status is l s)
 
-pub stays : (known : Option (List ℕ)) → Keeps known known
-stays None = tt
-stays (Some bytes) = refl
-
-unread : (input : List ℕ) (out told_before told_after : Option (List ℕ)) (status : Status) (failure : Failure) → (failure ≡ Read) ⊎ (failure ≡ NoMemory)
-    → ReportsExplained [] told_before told_after (Err failure) status → IsReported out out told_before told_after input status
-unread input out told_before told_after status Read why says = (Err Read, (tt, stays out), says)
-unread input out told_before told_after status NoMemory why says = (Err NoMemory, (tt, stays out), says)
-unread input out told_before told_after status Write (inl e) says = absurd (cc)
-unread input out told_before told_after status Write (inr e) says = absurd (cc)
-unread input out told_before told_after status InputTooLong (inl e) says = absurd (cc)
-unread input out told_before told_after status InputTooLong (inr e) says = absurd (cc)
-unread input out told_before told_after status (Refused error) (inl e) says = absurd (cc)
-unread input out told_before told_after status (Refused error) (inr e) says = absurd (cc)
-unread input out told_before told_after status (WrongLine error) (inl e) says = absurd (cc)
-unread input out told_before told_after status (WrongLine error) (inr e) says = absurd (cc)
+unread : (explains : Bool) (input : List ℕ) (out told_before told_after : Option (List ℕ)) (status : ExitStatus) (failure : Failure) → (failure ≡ Read) ⊎ (failure ≡ NoMemory)
+    → ReportsAsm explains [] told_before told_after (Err failure) status → IsReported explains out out told_before told_after input status
+unread false input out told_before told_after status failure (inl is) says = (Err Read, (tt, Keeps-refl out), subst (λ (f : Failure). Reports told_before told_after (Err f) status) is says)
+unread true input out told_before told_after status failure (inl is) says = (Err Read, (tt, Keeps-refl out), subst (λ (f : Failure). ReportsExplained [] told_before told_after (Err f) status) is says)
+unread false input out told_before told_after status failure (inr is) says = (Err NoMemory, (tt, Keeps-refl out), subst (λ (f : Failure). Reports told_before told_after (Err f) status) is says)
+unread true input out told_before told_after status failure (inr is) says = (Err NoMemory, (tt, Keeps-refl out), subst (λ (f : Failure). ReportsExplained [] told_before told_after (Err f) status) is says)
 
 -- the input couldn't be had
-pub unread_over : (given out told_before told_after : Option (List ℕ)) (status : Status) (failure : Failure) → (failure ≡ Read) ⊎ (failure ≡ NoMemory)
-    → ReportsExplained [] told_before told_after (Err failure) status → IfSome given (λ input. IsReported out out told_before told_after input status)
-unread_over None out told_before told_after status failure why says = tt
-unread_over (Some input) out told_before told_after status failure why says = unread input out told_before told_after status failure why says
-
--- with an explanation or without
-pub explained_over : (given before after told_before told_after : Option (List ℕ)) (status : Status) → IfSome given (λ input. IsReported before after told_before told_after input status)
-    → IfSome given (λ input. (outcome : Result ⊤ Failure) × AsmLeaves input before after outcome × ReportsAsm true input told_before told_after outcome status)
-explained_over given before after told_before told_after status says = says
-
-pub plain_over : (given before after told_before told_after : Option (List ℕ)) (outcome : Result ⊤ Failure) (status : Status) → IfSome given (λ input. AsmLeaves input before after outcome) → Reports told_before told_after outcome status
-    → IfSome given (λ input. (outcome : Result ⊤ Failure) × AsmLeaves input before after outcome × ReportsAsm false input told_before told_after outcome status)
-plain_over None before after told_before told_after outcome status left says = tt
-plain_over (Some input) before after told_before told_after outcome status left says = (outcome, left, says)
+pub unread_over : (given out told_before told_after : Option (List ℕ)) (explains : Bool) (status : ExitStatus) (failure : Failure) → (failure ≡ Read) ⊎ (failure ≡ NoMemory)
+    → ReportsAsm explains [] told_before told_after (Err failure) status → IfSome given (λ input. IsReported explains out out told_before told_after input status)
+unread_over None out told_before told_after explains status failure why says = tt
+unread_over (Some input) out told_before told_after explains status failure why says = unread explains input out told_before told_after status failure why says
 
 -- the status by its number
-pub numbered_over : (given before after told_before told_after : Option (List ℕ)) (explains : Bool) (status : Status) (number : ℕ)
-    → IfSome given (λ input. (outcome : Result ⊤ Failure) × AsmLeaves input before after outcome × ReportsAsm explains input told_before told_after outcome status) → number ≡ status_number status
+pub numbered_over : (given before after told_before told_after : Option (List ℕ)) (explains : Bool) (status : ExitStatus) (number : ℕ)
+    → IfSome given (λ input. IsReported explains before after told_before told_after input status) → number ≡ status_number status
     → IfSome given (λ input. ReportsAsmOutcome explains input (AsmLeaves input before after) told_before told_after number)
 numbered_over None before after told_before told_after explains status number says is = tt
 numbered_over (Some input) before after told_before told_after explains status number says is = (says.0, status, says.1, says.2, is)
 
-explained_memory : (explains : Bool) (input : List ℕ) (told_before told_after : Option (List ℕ)) (status : Status) → Reports told_before told_after (Err NoMemory) status → ReportsAsm explains input told_before told_after (Err NoMemory) status
+explained_memory : (explains : Bool) (input : List ℕ) (told_before told_after : Option (List ℕ)) (status : ExitStatus) → Reports told_before told_after (Err NoMemory) status → ReportsAsm explains input told_before told_after (Err NoMemory) status
 explained_memory false input told_before told_after status says = says
 explained_memory true input told_before told_after status says = ([], refl, rw append-nil says.0, says.1)
 
 -- right arguments that are answered by an error: there was no memory to read them
-pub memory_over : (given : Option (List ℕ)) (explains : Bool) (kinds : Kinds) (error : Error) (before after told_before told_after : Option (List ℕ)) (status : Status) (number : ℕ)
+pub memory_over : (given : Option (List ℕ)) (explains : Bool) (kinds : Kinds) (error : Error) (before after told_before told_after : Option (List ℕ)) (status : ExitStatus) (number : ℕ)
     → kinds ≡ [] → HasKind kinds error → Shows (kind_of error) before after told_before told_after status → number ≡ status_number status
     → IfSome given (λ input. ReportsAsmOutcome explains input (AsmLeaves input before after) told_before told_after number)
 memory_over None explains kinds error before after told_before told_after status number right has shown is = tt

@@ -1,9 +1,9 @@
 -- What `check` explains of the bytes that it has read, it explains of the whole input.
-use Rattle.std.proofs.Common.{◌≡◌, ◌⊎◌, ℕ, Bool, true, false, List, [], ◌∷◌, take, ap, subst, refl, arith, codes, Option, None, Some, IfSome, Result, Ok, Err, inl, inr}
+use Rattle.std.proofs.Common.{◌≡◌, ◌⊎◌, ℕ, Bool, true, false, List, [], ◌∷◌, take, ap, subst, sym, ◌∙◌, refl, arith, codes, Option, None, Some, IfSome, Result, Ok, Err, inl, inr}
 use Rattle.std.proofs.lemmas.List.{take-take}
 use Rattle.std.specs.Str.{bytes_eq}
 use Rattle.std.specs.Prelude.{⊤}
-use Rattle.std.specs.Io.KnownBytes.{Keeps}
+use Rattle.std.proofs.KnownBytes.{Keeps-refl}
 use Rattle.clap.specs.Words.{HasKind, Kinds, kind_of}
 use Rattle.clap.specs.declared.error.Error.{Error}
 use Rattle.loader.specs.Refusals.{Refuses}
@@ -17,8 +17,7 @@ use Rattle.agent.specs.Failures.{status_number}
 use Rattle.agent.specs.Reports.{Reports}
 use Rattle.agent.specs.declared.failure.Failure.{Failure}
 use Rattle.agent.specs.declared.failure.Failure.TheVariants.{Refused, WrongLine, InputTooLong, Read, Write, NoMemory}
-use Rattle.agent.specs.declared.failure.Status.{Status}
-use Rattle.agent.proofs.AsmReports.{stays}
+use Rattle.agent.specs.declared.failure.ExitStatus.{ExitStatus}
 use Rattle.agent.proofs.CheckedPrefix.{found_whole, short}
 use Rattle.agent.proofs.OutOfMemory.{only_memory}
 
@@ -53,85 +52,96 @@ said_of_whole limit input text n why.Helper is h s = subst (λ bytes. SaysOfCode
 said_of_whole limit input text n why.FallsOff is h s = subst (λ bytes. SaysOfCode bytes n why.FallsOff text) (short 32768 limit input is h.0.1) s
 said_of_whole limit input text n why.Memory is h s = subst (λ bytes. SaysOfCode bytes n why.Memory text) (short 32768 limit input is h.0.1) s
 
-reported_whole : (limit : ℕ) (input : List ℕ) (error : LoadError) (before after told_before told_after : Option (List ℕ)) (status : Status) → limit ≡ 32769
+reported_whole : (limit : ℕ) (input : List ℕ) (error : LoadError) (before after told_before told_after : Option (List ℕ)) (status : ExitStatus) → limit ≡ 32769
     → CheckLeaves (take limit input) before after (Err (Refused error)) → ReportsRefusal (take limit input) error told_before told_after status → ReportsRefusal input error told_before told_after status
 reported_whole limit input error before after told_before told_after status is l s = (s.0, said_of_whole limit input s.0 error.slot error.why is l.0.0 s.1, s.2, s.3)
 
--- what is left and reported of an input
-abbrev pub IsReported : Option (List ℕ) → Option (List ℕ) → Option (List ℕ) → Option (List ℕ) → List ℕ → Status → Type 0
-IsReported before after told_before told_after input status = (outcome : Result ⊤ Failure) × CheckLeaves input before after outcome × ReportsExplainedCode input told_before told_after outcome status
+-- what is left and reported of an input, with an explanation or without
+abbrev pub IsReported : Bool → Option (List ℕ) → Option (List ℕ) → Option (List ℕ) → Option (List ℕ) → List ℕ → ExitStatus → Type 0
+IsReported explains before after told_before told_after input status = (outcome : Result ⊤ Failure) × CheckLeaves input before after outcome × ReportsCheck explains input told_before told_after outcome status
 
--- the code was refused, and that was explained, or there was no memory for it
-pub refused_over : (given before after told_before told_after : Option (List ℕ)) (status : Status) (error : LoadError) (limit : ℕ) (read : List ℕ) → limit ≡ 32769 → IfSome given (λ input. read ≡ take limit input)
-    → CheckLeaves read before after (Err (Refused error)) → ReportsRefusal read error told_before told_after status ⊎ Reports told_before told_after (Err NoMemory) status
-    → IfSome given (λ input. IsReported before after told_before told_after input status)
-refused_over None before after told_before told_after status error limit read is read_is left says = tt
-refused_over (Some input) before after told_before told_after status error limit read is read_is left (inl says) =
-    let l = subst (λ bytes. CheckLeaves bytes before after (Err (Refused error))) read_is left in
-    let s = subst (λ bytes. ReportsRefusal bytes error told_before told_after status) read_is says in
-    (Err (Refused error), left_whole limit input before after (Err (Refused error)) is l, reported_whole limit input error before after told_before told_after status is l s)
-refused_over (Some input) before after told_before told_after status error limit read is read_is left (inr says) = (Err NoMemory, left.1, says)
+told_whole : (explains : Bool) (limit : ℕ) (input : List ℕ) (before after told_before told_after : Option (List ℕ)) (outcome : Result ⊤ Failure) (status : ExitStatus) → limit ≡ 32769 → CheckLeaves (take limit input) before after outcome
+    → ReportsCheck explains (take limit input) told_before told_after outcome status → ReportsCheck explains input told_before told_after outcome status
+told_whole false limit input before after told_before told_after outcome status is l s = s
+told_whole true limit input before after told_before told_after (Ok done) status is l s = s
+told_whole true limit input before after told_before told_after (Err (Refused error)) status is l s = reported_whole limit input error before after told_before told_after status is l s
+told_whole true limit input before after told_before told_after (Err (WrongLine error)) status is l s = s
+told_whole true limit input before after told_before told_after (Err InputTooLong) status is l s = s
+told_whole true limit input before after told_before told_after (Err Read) status is l s = s
+told_whole true limit input before after told_before told_after (Err Write) status is l s = s
+told_whole true limit input before after told_before told_after (Err NoMemory) status is l s = s
 
--- an outcome that is no refusal
-abbrev pub IsNoRefusal : Result ⊤ Failure → Type 0
-IsNoRefusal outcome = (error : LoadError) → outcome ≡ Err (Refused error) → ⊥
-
-plainly : (input : List ℕ) (told_before told_after : Option (List ℕ)) (outcome : Result ⊤ Failure) (status : Status) → IsNoRefusal outcome → Reports told_before told_after outcome status → ReportsExplainedCode input told_before told_after outcome status
-plainly input told_before told_after (Ok done) status none says = says
-plainly input told_before told_after (Err (Refused error)) status none says = absurd (none error refl)
-plainly input told_before told_after (Err (WrongLine error)) status none says = says
-plainly input told_before told_after (Err InputTooLong) status none says = says
-plainly input told_before told_after (Err Read) status none says = says
-plainly input told_before told_after (Err Write) status none says = says
-plainly input told_before told_after (Err NoMemory) status none says = says
-
--- it was not refused
-pub taken_over : (given before after told_before told_after : Option (List ℕ)) (status : Status) (outcome : Result ⊤ Failure) (limit : ℕ) (read : List ℕ) → limit ≡ 32769 → IfSome given (λ input. read ≡ take limit input)
-    → CheckLeaves read before after outcome → IsNoRefusal outcome → Reports told_before told_after outcome status
-    → IfSome given (λ input. IsReported before after told_before told_after input status)
-taken_over None before after told_before told_after status outcome limit read is read_is left none says = tt
-taken_over (Some input) before after told_before told_after status outcome limit read is read_is left none says =
+-- the code was read
+pub reported_over : (given before after told_before told_after : Option (List ℕ)) (explains : Bool) (status : ExitStatus) (outcome : Result ⊤ Failure) (limit : ℕ) (read : List ℕ) → limit ≡ 32769 → IfSome given (λ input. read ≡ take limit input)
+    → CheckLeaves read before after outcome → ReportsCheck explains read told_before told_after outcome status → IfSome given (λ input. IsReported explains before after told_before told_after input status)
+reported_over None before after told_before told_after explains status outcome limit read is read_is left says = tt
+reported_over (Some input) before after told_before told_after explains status outcome limit read is read_is left says =
     let l = subst (λ bytes. CheckLeaves bytes before after outcome) read_is left in
-    (outcome, left_whole limit input before after outcome is l, plainly input told_before told_after outcome status none says)
+    let s = subst (λ bytes. ReportsCheck explains bytes told_before told_after outcome status) read_is says in
+    (outcome, left_whole limit input before after outcome is l, told_whole explains limit input before after told_before told_after outcome status is l s)
 
-unread : (input : List ℕ) (out told_before told_after : Option (List ℕ)) (status : Status) (failure : Failure) → (failure ≡ Read) ⊎ (failure ≡ NoMemory)
-    → Reports told_before told_after (Err failure) status → IsReported out out told_before told_after input status
-unread input out told_before told_after status Read why says = (Err Read, stays out, says)
-unread input out told_before told_after status NoMemory why says = (Err NoMemory, stays out, says)
-unread input out told_before told_after status Write (inl e) says = absurd (cc)
-unread input out told_before told_after status Write (inr e) says = absurd (cc)
-unread input out told_before told_after status InputTooLong (inl e) says = absurd (cc)
-unread input out told_before told_after status InputTooLong (inr e) says = absurd (cc)
-unread input out told_before told_after status (Refused error) (inl e) says = absurd (cc)
-unread input out told_before told_after status (Refused error) (inr e) says = absurd (cc)
-unread input out told_before told_after status (WrongLine error) (inl e) says = absurd (cc)
-unread input out told_before told_after status (WrongLine error) (inr e) says = absurd (cc)
+-- there was no memory to explain a refusal
+unexplained_over : (given before after told_before told_after : Option (List ℕ)) (status : ExitStatus) (outcome : Result ⊤ Failure) (error : LoadError) (read : List ℕ) → CheckLeaves read before after outcome
+    → outcome ≡ Err (Refused error) → Reports told_before told_after (Err NoMemory) status → IfSome given (λ input. IsReported true before after told_before told_after input status)
+unexplained_over None before after told_before told_after status outcome error read left is says = tt
+unexplained_over (Some input) before after told_before told_after status outcome error read left is says =
+    let l = subst (λ (o : Result ⊤ Failure). CheckLeaves read before after o) is left in (Err NoMemory, l.1, says)
+
+-- it was explained, if there was memory for that
+pub explained_over : (given before after told_before told_after : Option (List ℕ)) (status : ExitStatus) (outcome : Result ⊤ Failure) (limit : ℕ) (read : List ℕ) → limit ≡ 32769 → IfSome given (λ input. read ≡ take limit input)
+    → CheckLeaves read before after outcome → ReportsExplainedCode read told_before told_after outcome status ⊎ ((error : LoadError) × (outcome ≡ Err (Refused error)) × Reports told_before told_after (Err NoMemory) status)
+    → IfSome given (λ input. IsReported true before after told_before told_after input status)
+explained_over given before after told_before told_after status outcome limit read is read_is left (inl says) = reported_over given before after told_before told_after true status outcome limit read is read_is left says
+explained_over given before after told_before told_after status outcome limit read is read_is left (inr says) = unexplained_over given before after told_before told_after status outcome says.0 read left says.1 says.2
+
+-- an outcome that is no refusal is reported plainly
+plainly : (code : List ℕ) (told_before told_after : Option (List ℕ)) (failure : Failure) (status : ExitStatus) → ((error : LoadError) → failure ≡ Refused error → ⊥) → Reports told_before told_after (Err failure) status
+    → ReportsExplainedCode code told_before told_after (Err failure) status
+plainly code told_before told_after (Refused error) status none says = absurd (none error refl)
+plainly code told_before told_after (WrongLine error) status none says = says
+plainly code told_before told_after InputTooLong status none says = says
+plainly code told_before told_after Read status none says = says
+plainly code told_before told_after Write status none says = says
+plainly code told_before told_after NoMemory status none says = says
+
+module _ (code : List ℕ) (told_before told_after : Option (List ℕ)) (outcome : Result ⊤ Failure) (failure : Failure) (status : ExitStatus) (is : outcome ≡ Err failure) where
+  pub told_plainly : ((error : LoadError) → failure ≡ Refused error → ⊥) → Reports told_before told_after (Err failure) status → ReportsExplainedCode code told_before told_after outcome status
+  told_plainly none says = subst (λ (o : Result ⊤ Failure). ReportsExplainedCode code told_before told_after o status) (sym is) (plainly code told_before told_after failure status none says)
+
+  -- a refusal is explained, or there was no memory for that
+  pub told_refusal : (error : LoadError) → failure ≡ Refused error → ReportsRefusal code error told_before told_after status ⊎ Reports told_before told_after (Err NoMemory) status
+      → ReportsExplainedCode code told_before told_after outcome status ⊎ ((e : LoadError) × (outcome ≡ Err (Refused e)) × Reports told_before told_after (Err NoMemory) status)
+  told_refusal error refused (inl says) =
+      let whole : outcome ≡ Err (Refused error) = is ∙ ap (λ (f : Failure). Err f) refused in
+      inl (subst (λ (o : Result ⊤ Failure). ReportsExplainedCode code told_before told_after o status) (sym whole) says)
+  told_refusal error refused (inr says) = inr (error, is ∙ ap (λ (f : Failure). Err f) refused, says)
+
+unread : (explains : Bool) (input : List ℕ) (out told_before told_after : Option (List ℕ)) (status : ExitStatus) (failure : Failure) → (failure ≡ Read) ⊎ (failure ≡ NoMemory)
+    → Reports told_before told_after (Err failure) status → IsReported explains out out told_before told_after input status
+unread false input out told_before told_after status failure (inl is) says = (Err Read, Keeps-refl out, subst (λ (f : Failure). Reports told_before told_after (Err f) status) is says)
+unread true input out told_before told_after status failure (inl is) says = (Err Read, Keeps-refl out, subst (λ (f : Failure). Reports told_before told_after (Err f) status) is says)
+unread false input out told_before told_after status failure (inr is) says = (Err NoMemory, Keeps-refl out, subst (λ (f : Failure). Reports told_before told_after (Err f) status) is says)
+unread true input out told_before told_after status failure (inr is) says = (Err NoMemory, Keeps-refl out, subst (λ (f : Failure). Reports told_before told_after (Err f) status) is says)
 
 -- the input couldn't be had
-pub unread_over : (given out told_before told_after : Option (List ℕ)) (status : Status) (failure : Failure) → (failure ≡ Read) ⊎ (failure ≡ NoMemory)
-    → Reports told_before told_after (Err failure) status → IfSome given (λ input. IsReported out out told_before told_after input status)
-unread_over None out told_before told_after status failure why says = tt
-unread_over (Some input) out told_before told_after status failure why says = unread input out told_before told_after status failure why says
-
--- without an explanation
-pub plain_over : (given before after told_before told_after : Option (List ℕ)) (outcome : Result ⊤ Failure) (status : Status) → IfSome given (λ input. CheckLeaves input before after outcome) → Reports told_before told_after outcome status
-    → IfSome given (λ input. (outcome : Result ⊤ Failure) × CheckLeaves input before after outcome × ReportsCheck false input told_before told_after outcome status)
-plain_over None before after told_before told_after outcome status left says = tt
-plain_over (Some input) before after told_before told_after outcome status left says = (outcome, left, says)
+pub unread_over : (given out told_before told_after : Option (List ℕ)) (explains : Bool) (status : ExitStatus) (failure : Failure) → (failure ≡ Read) ⊎ (failure ≡ NoMemory)
+    → Reports told_before told_after (Err failure) status → IfSome given (λ input. IsReported explains out out told_before told_after input status)
+unread_over None out told_before told_after explains status failure why says = tt
+unread_over (Some input) out told_before told_after explains status failure why says = unread explains input out told_before told_after status failure why says
 
 -- the status by its number
-pub numbered_over : (given before after told_before told_after : Option (List ℕ)) (explains : Bool) (status : Status) (number : ℕ)
-    → IfSome given (λ input. (outcome : Result ⊤ Failure) × CheckLeaves input before after outcome × ReportsCheck explains input told_before told_after outcome status) → number ≡ status_number status
+pub numbered_over : (given before after told_before told_after : Option (List ℕ)) (explains : Bool) (status : ExitStatus) (number : ℕ)
+    → IfSome given (λ input. IsReported explains before after told_before told_after input status) → number ≡ status_number status
     → IfSome given (λ input. ReportsCheckOutcome explains input (CheckLeaves input before after) told_before told_after number)
 numbered_over None before after told_before told_after explains status number says is = tt
 numbered_over (Some input) before after told_before told_after explains status number says is = (says.0, status, says.1, says.2, is)
 
-checked_memory : (explains : Bool) (input : List ℕ) (told_before told_after : Option (List ℕ)) (status : Status) → Reports told_before told_after (Err NoMemory) status → ReportsCheck explains input told_before told_after (Err NoMemory) status
+checked_memory : (explains : Bool) (input : List ℕ) (told_before told_after : Option (List ℕ)) (status : ExitStatus) → Reports told_before told_after (Err NoMemory) status → ReportsCheck explains input told_before told_after (Err NoMemory) status
 checked_memory false input told_before told_after status says = says
 checked_memory true input told_before told_after status says = says
 
 -- right arguments that are answered by an error: there was no memory to read them
-pub memory_over : (given : Option (List ℕ)) (explains : Bool) (kinds : Kinds) (error : Error) (before after told_before told_after : Option (List ℕ)) (status : Status) (number : ℕ)
+pub memory_over : (given : Option (List ℕ)) (explains : Bool) (kinds : Kinds) (error : Error) (before after told_before told_after : Option (List ℕ)) (status : ExitStatus) (number : ℕ)
     → kinds ≡ [] → HasKind kinds error → Shows (kind_of error) before after told_before told_after status → number ≡ status_number status
     → IfSome given (λ input. ReportsCheckOutcome explains input (CheckLeaves input before after) told_before told_after number)
 memory_over None explains kinds error before after told_before told_after status number right has shown is = tt

@@ -1,5 +1,5 @@
 -- Right arguments of a subcommand with options have, of each option that is a number and has a default, one that its parser takes.
-use Rattle.std.proofs.Common.{◌≡◌, ℕ, ◌==◌, Bool, true, false, not, ◌&&◌, ◌||◌, cond, List, [], ◌∷◌, ◌++◌, length, zero, suc, drop, Option, None, Some, is_some, subst, refl, sym, ap, ◌∙◌, codes, arith}
+use Rattle.std.proofs.Common.{◌≡◌, ℕ, ◌<◌, ◌^◌, ◌==◌, Bool, true, false, not, ◌&&◌, ◌||◌, cond, List, [], ◌∷◌, ◌++◌, length, zero, suc, take, drop, Option, None, Some, is_some, subst, refl, sym, ap, ◌∙◌, codes, arith}
 use Rattle.std.specs.Prelude.{find, fold, encode_utf8, nat_lt, option_and_then, slice_get}
 use Rattle.std.specs.Option.{option_map_or}
 use Rattle.std.specs.Str.{bytes_eq, chars}
@@ -11,7 +11,7 @@ use Rattle.clap.specs.Values.{Accepts}
 use Rattle.clap.specs.ValueTests.{accepts}
 use Rattle.clap.specs.Faults.{bundle_fault, bundle_step_fault, flag_word_fault, flags_fault, level_fault, long_fault, option_fault, react_fault, set_fault, short_fault, step_fault, use_fault, walk_fault, word_fault}
 use Rattle.clap.specs.Simple.{Shape, filled, help_rule, new_shape}
-use Rattle.clap.specs.Walk.{Held, Outcome, Row, bundle, default_rows, flag_met, reading_by, takes_values, values_or_missing, with_values, has_long, has_short, long_or_other, more_values, row_text, Rule, Step, Text, Waiting, Walk, after_flag, after_step, arg_by_id, arg_by_index, arg_by_long, arg_by_short, attached_value, bundle_met, bundle_step, has_row, at_row, long_met, nothing_held, option_met, option_word, plain_word, reacted, rows_after, settled, settled_rows, to_positional, short_met, short_or_plain, used, used_by_id, walk, walk_from, walked, walked_from, with_default, without, word_met}
+use Rattle.clap.specs.Walk.{Held, Outcome, Row, bundle, default_rows, flag_met, reading_by, takes_values, values_or_missing, with_values, has_long, has_short, long_or_other, more_values, row_text, Rule, Step, Text, Waiting, Walk, after_flag, after_step, arg_by_id, arg_by_index, arg_by_long, arg_by_short, attached_value, bundle_met, bundle_step, has_row, at_row, long_met, nothing_held, one_of, option_met, option_word, plain_word, reacted, rows_after, settled, settled_rows, to_positional, short_met, short_or_plain, used, used_by_id, walk, walk_from, walked, walked_from, with_default, without, word_met}
 use Rattle.clap.specs.Walk.Outcome.{done, waits, plain, refused}
 use Rattle.clap.specs.Walk.Step.{next, trailing, subcommand, value}
 use Rattle.clap.specs.Walk.Waiting.{idle, option, positional}
@@ -22,7 +22,7 @@ use Rattle.clap.specs.declared.parser.matches.ValueSource.TheVariants.{CommandLi
 use Rattle.clap.specs.declared.error.kind.ErrorKind.{ErrorKind}
 use Rattle.clap.specs.declared.error.kind.ErrorKind.TheVariants as kind
 use Rattle.clap.proofs.ValueTestLemmas.{accepts-Accepts}
-use Rattle.agent.specs.CommandLine.{HasNumber, number_parser, number_rule}
+use Rattle.agent.specs.OptionNumbers.{HasNumber, NumberOption, number_parser, number_rule}
 
 -- ---- first faults
 
@@ -44,22 +44,22 @@ help = filled help_rule
 abbrev pub options_built : Text → List Rule → Shape
 options_built title rules = record (new_shape title) { rules = rules; no_binary_name = true; disable_help_subcommand = true; is_built = true }
 
--- ---- one option, a number from the one to the other, which has a default
-module _ (called default : Text) (least limit : ℕ) (own : bytes_eq called called ≡ true) (fine : accepts false (number_parser least limit) default ≡ true) where
+-- ---- one option that is a number
+module _ (opt : NumberOption) (own : bytes_eq opt.name opt.name ≡ true) (fine : accepts false (number_parser opt.least opt.limit) opt.default ≡ true) where
   abbrev pub number : Rule
-  number = filled (number_rule called least limit default)
+  number = filled (number_rule opt)
 
   -- ---- what is read of the number
 
   abbrev pub is_number : Row → Bool
-  is_number r = bytes_eq r.id called
+  is_number r = bytes_eq r.id opt.name
 
   pub record IsRead (r : Row) : Type 0 where
     pub text : Text
     pub others : List Text
     pub values : r.values ≡ text ∷ others
     pub reading : r.reading ≡ WithoutMinus
-    pub accepted : accepts false (number_parser least limit) text ≡ true
+    pub accepted : accepts false (number_parser opt.least opt.limit) text ≡ true
 
   abbrev pub IsGood : Option Row → Type 0
   IsGood None = Unit {0}
@@ -78,16 +78,16 @@ module _ (called default : Text) (least limit : ℕ) (own : bytes_eq called call
 
   -- the number of a new row
   module _ (change : Row → List Row) (new : Row) (is_own : is_number new ≡ true) where
-    appended : (rows : List Row) → has_row called rows ≡ false → find is_number (at_row called change (new ∷ []) rows) ≡ Some new
+    appended : (rows : List Row) → has_row opt.name rows ≡ false → find is_number (at_row opt.name change (new ∷ []) rows) ≡ Some new
     appended [] none = rw is_own refl
-    appended (r ∷ rows) none = let n = both_false (is_number r) (has_row called rows) none in rw (n.0, n.0) (appended rows n.1)
+    appended (r ∷ rows) none = let n = both_false (is_number r) (has_row opt.name rows) none in rw (n.0, n.0) (appended rows n.1)
 
-  kept_without : (rows : List Row) → has_row called rows ≡ false → without called rows ≡ rows
+  kept_without : (rows : List Row) → has_row opt.name rows ≡ false → without opt.name rows ≡ rows
   kept_without [] none = refl
-  kept_without (r ∷ rows) none = let n = both_false (is_number r) (has_row called rows) none in rw n.0 (ap (λ l. r ∷ l) (kept_without rows n.1))
+  kept_without (r ∷ rows) none = let n = both_false (is_number r) (has_row opt.name rows) none in rw n.0 (ap (λ l. r ∷ l) (kept_without rows n.1))
 
   abbrev new_row : ValueSource → Text → Row
-  new_row source v = record { id = called; values = v ∷ []; count = None; source = Some source; reading = WithoutMinus }
+  new_row source v = record { id = opt.name; values = v ∷ []; count = None; source = Some source; reading = WithoutMinus }
 
   not_repeated : (h : Bool) → cond (h && true) (kind.ArgumentConflict ∷ []) [] ≡ [] → h ≡ false
   not_repeated true e = absurd (cc)
@@ -116,8 +116,8 @@ module _ (called default : Text) (least limit : ℕ) (own : bytes_eq called call
   sound_number : Sound number
   sound_number [] rows g f = absurd (cc)
   sound_number (v ∷ []) rows g f =
-      let none = not_repeated (has_row called rows) (first_empty _ _ f) in
-      let a = is_accepted (accepts false (number_parser least limit) v) _ (rest_empty _ _ f) in
+      let none = not_repeated (has_row opt.name rows) (first_empty _ _ f) in
+      let a = is_accepted (accepts false (number_parser opt.least opt.limit) v) _ (rest_empty _ _ f) in
       rw (kept_without rows none, appended _ (new_row CommandLine v) own rows none) (record { text = v; others = []; values = refl; reading = refl; accepted = a })
   sound_number (v ∷ w ∷ rest) rows g f =
       let one = one_value (length (v ∷ w ∷ rest)) (set_fault false number (v ∷ w ∷ rest) rows) f in
@@ -133,9 +133,9 @@ module _ (called default : Text) (least limit : ℕ) (own : bytes_eq called call
 
   -- ---- another option, of this name
 
-  module _ (id : Text) (other : bytes_eq id called ≡ false) where
+  module _ (id : Text) (other : bytes_eq id opt.name ≡ false) where
     not_own : (r : Row) → bytes_eq r.id id ≡ true → is_number r ≡ false
-    not_own r same = subst (λ t. bytes_eq t called ≡ false) (sym ((bytes_eq-Decides r.id id).0 same)) other
+    not_own r same = subst (λ t. bytes_eq t opt.name ≡ false) (sym ((bytes_eq-Decides r.id id).0 same)) other
 
     kept_at : (b : Bool) (r : Row) (rows changed rest : List Row) → (b ≡ true → find is_number changed ≡ find is_number (r ∷ rows)) → find is_number rest ≡ find is_number rows
         → find is_number (cond b changed (r ∷ rest)) ≡ find is_number (r ∷ rows)
@@ -150,7 +150,7 @@ module _ (called default : Text) (least limit : ℕ) (own : bytes_eq called call
         kept_at (bytes_eq r.id id) r rows (change r ++ rows) (at_row id change missing rows) (λ e. changes r rows (not_own r e)) (kept_over change missing changes none rows)
 
     kept_valued : (how : Reading) (s : ValueSource) (values : List Text) (rows : List Row) → find is_number (with_values id how s values rows) ≡ find is_number rows
-    kept_valued how s values rows = kept_over (more_values s values) (record { id = id; values = values; count = None; source = Some s; reading = how } ∷ []) (λ r rows no. missed (is_number r) _ (find is_number rows) no ∙ sym (missed (is_number r) (Some r) (find is_number rows) no)) (missed (bytes_eq id called) _ None other) rows
+    kept_valued how s values rows = kept_over (more_values s values) (record { id = id; values = values; count = None; source = Some s; reading = how } ∷ []) (λ r rows no. missed (is_number r) _ (find is_number rows) no ∙ sym (missed (is_number r) (Some r) (find is_number rows) no)) (missed (bytes_eq id opt.name) _ None other) rows
 
     kept_less : (rows : List Row) → find is_number (without id rows) ≡ find is_number rows
     kept_less rows = kept_over (λ _. []) [] (λ r rows no. sym (missed (is_number r) (Some r) (find is_number rows) no)) refl rows
@@ -172,7 +172,7 @@ module _ (called default : Text) (least limit : ℕ) (own : bytes_eq called call
     pub kept : (rows : List Row) → find is_number (with_default rows a) ≡ find is_number rows
 
   -- another argument, which has the values of its last use
-  pub fits_other : (a : Rule) → bytes_eq a.id called ≡ false → a.index ≡ None
+  pub fits_other : (a : Rule) → bytes_eq a.id opt.name ≡ false → a.index ≡ None
       → ((values : List Text) (rows : List Row) → used a values rows ≡ with_values a.id (reading_by a) CommandLine (values_or_missing a values) (without a.id rows)) → Fits a
   fits_other a other index last = record {
     sound = λ values rows g f. found_good _ _ (ap (λ rs. find is_number rs) (last values rows)
@@ -233,34 +233,34 @@ module _ (called default : Text) (least limit : ℕ) (own : bytes_eq called call
   found_first true r o others more e = refl
   found_first false r o others more e = more e
 
-  has_found : (rows : List Row) → has_row called rows ≡ true → is_some (find is_number rows) ≡ true
+  has_found : (rows : List Row) → has_row opt.name rows ≡ true → is_some (find is_number rows) ≡ true
   has_found [] has = absurd (cc)
-  has_found (r ∷ rows) has = found_first (is_number r) r (find is_number rows) (has_row called rows) (has_found rows) has
+  has_found (r ∷ rows) has = found_first (is_number r) r (find is_number rows) (has_row opt.name rows) (has_found rows) has
 
-  found_text : (o : Option Row) → IsGood o → is_some o ≡ true → (text : Text) × Accepts false (number_parser least limit) text × (option_and_then row_text o ≡ Some (without_minus text))
+  found_text : (o : Option Row) → IsGood o → is_some o ≡ true → (text : Text) × Accepts false (number_parser opt.least opt.limit) text × (option_and_then row_text o ≡ Some (without_minus text))
   found_text None g some = absurd (cc)
-  found_text (Some r) g some = (g.text, accepts-Accepts false (number_parser least limit) g.text g.accepted, rw (g.reading, g.values) refl)
+  found_text (Some r) g some = (g.text, accepts-Accepts false (number_parser opt.least opt.limit) g.text g.accepted, rw (g.reading, g.values) refl)
 
   abbrev HasOwn : List Row → Type 0
-  HasOwn rows = HasNumber called least limit rows
+  HasOwn rows = (text : Text) × Accepts false (number_parser opt.least opt.limit) text × (one_of opt.name rows ≡ Some (without_minus text))
 
-  own_good : (o p : Option Row) → o ≡ p → ((text : Text) × Accepts false (number_parser least limit) text × (option_and_then row_text p ≡ Some (without_minus text)))
-      → ((text : Text) × Accepts false (number_parser least limit) text × (option_and_then row_text o ≡ Some (without_minus text)))
-  own_good o p same has = subst (λ q. (text : Text) × Accepts false (number_parser least limit) text × (option_and_then row_text q ≡ Some (without_minus text))) (sym same) has
+  own_good : (o p : Option Row) → o ≡ p → ((text : Text) × Accepts false (number_parser opt.least opt.limit) text × (option_and_then row_text p ≡ Some (without_minus text)))
+      → ((text : Text) × Accepts false (number_parser opt.least opt.limit) text × (option_and_then row_text o ≡ Some (without_minus text)))
+  own_good o p same has = subst (λ q. (text : Text) × Accepts false (number_parser opt.least opt.limit) text × (option_and_then row_text q ≡ Some (without_minus text))) (sym same) has
 
   -- the defaults of other arguments leave it
   has_still : (rules : List Rule) → AllFit rules → (rows : List Row) → HasOwn rows → HasOwn (fold with_default rows rules)
   has_still [] fit rows has = has
   has_still (a ∷ rules) fit rows has = has_still rules fit.1 (with_default rows a) (own_good _ _ (fit.0.kept rows) has)
 
-  number_there : (b : Bool) (rows : List Row) → has_row called rows ≡ b → Good rows → HasOwn (cond b rows (default_rows called WithoutMinus (default ∷ []) rows))
+  number_there : (b : Bool) (rows : List Row) → has_row opt.name rows ≡ b → Good rows → HasOwn (cond b rows (default_rows opt.name WithoutMinus (opt.default ∷ []) rows))
   number_there true rows has g = found_text _ g (has_found rows has)
   number_there false rows none g =
-      let e = appended (more_values DefaultValue (default ∷ [])) (new_row DefaultValue default) own rows none in
-      (default, accepts-Accepts false (number_parser least limit) default fine, rw e refl)
+      let e = appended (more_values DefaultValue (opt.default ∷ [])) (new_row DefaultValue opt.default) own rows none in
+      (opt.default, accepts-Accepts false (number_parser opt.least opt.limit) opt.default fine, rw e refl)
 
   has_after : (before after : List Rule) → AllFit before → AllFit after → (rows : List Row) → Good rows → HasOwn (fold with_default rows (before ++ number ∷ after))
-  has_after [] after first others rows g = has_still after others (with_default rows number) (number_there (has_row called rows) rows refl g)
+  has_after [] after first others rows g = has_still after others (with_default rows number) (number_there (has_row opt.name rows) rows refl g)
   has_after (a ∷ before) after first others rows g = has_after before after first.1 others (with_default rows a) (found_good _ _ (first.0.kept rows) g)
 
   -- ---- the arguments of a subcommand, which fit, with the number among them
@@ -402,8 +402,60 @@ module _ (called default : Text) (least limit : ℕ) (own : bytes_eq called call
     walk_good w [] g f = g
     walk_good w (word ∷ words) g f = walk_good (walked rules [] w word) words (turn_good w.stopped w word g (first_empty _ _ f)) (rest_empty _ _ f)
 
-    pub has_number : (words : List Text) → level_fault (options_built title rules) [] nothing_held words false [] ≡ [] → HasNumber called least limit (rows_after rules [] words)
-    has_number words f =
+    pub has_number : (bits : ℕ) → opt.limit < 2 ^ bits → (words : List Text) → level_fault (options_built title rules) [] nothing_held words false [] ≡ [] → HasNumber bits opt.name (rows_after rules [] words)
+    has_number bits fits words f =
         let end = (walk rules [] nothing_held words).held in
         let g = walk_good (walk_from nothing_held) words tt (first_empty _ _ f) in
-        has_after before after first others (settled rules end).rows (settle_good end.pending end.rows g (first_empty _ _ (rest_empty _ _ f)))
+        let has = has_after before after first others (settled rules end).rows (settle_good end.pending end.rows g (first_empty _ _ (rest_empty _ _ f))) in
+        record { least = opt.least; limit = opt.limit; fits = fits; text = has.0; accepted = has.1; found = has.2 }
+
+-- ---- the arguments of a subcommand
+
+-- It has the values of its last use, and isn't known by its place.
+pub record IsPlain (a : Rule) : Type 0 where
+  pub index : a.index ≡ None
+  pub last : (values : List Text) (rows : List Row) → used a values rows ≡ with_values a.id (reading_by a) CommandLine (values_or_missing a values) (without a.id rows)
+
+abbrev pub ArePlain : List Rule → Type 0
+ArePlain [] = Unit {0}
+ArePlain (a ∷ rules) = IsPlain a × ArePlain rules
+
+-- none of these has this name
+abbrev pub none_named : Text → List Rule → Bool
+none_named name [] = true
+none_named name (a ∷ rules) = not (bytes_eq a.id name) && none_named name rules
+
+first_plain : (k : ℕ) (rules : List Rule) → ArePlain rules → ArePlain (take k rules)
+first_plain zero [] are = tt
+first_plain zero (a ∷ rules) are = tt
+first_plain (suc k) [] are = tt
+first_plain (suc k) (a ∷ rules) are = (are.0, first_plain k rules are.1)
+
+last_plain : (k : ℕ) (rules : List Rule) → ArePlain rules → ArePlain (drop k rules)
+last_plain zero [] are = tt
+last_plain zero (a ∷ rules) are = are
+last_plain (suc k) [] are = tt
+last_plain (suc k) (a ∷ rules) are = last_plain k rules are.1
+
+not_first : (a b : Bool) → (not a && b) ≡ true → (a ≡ false) × (b ≡ true)
+not_first true b e = absurd (cc)
+not_first false b e = (refl, e)
+
+module _ (opt : NumberOption) (own : bytes_eq opt.name opt.name ≡ true) (fine : accepts false (number_parser opt.least opt.limit) opt.default ≡ true) where
+  fit : (rules : List Rule) → ArePlain rules → none_named opt.name rules ≡ true → AllFit opt own fine rules
+  fit [] are none = tt
+  fit (a ∷ rules) are none =
+      let n = not_first (bytes_eq a.id opt.name) (none_named opt.name rules) none in
+      (fits_other opt own fine a n.0 are.0.index are.0.last, fit rules are.1 n.1)
+
+  with_help : (rules : List Rule) → AllFit opt own fine rules → AllFit opt own fine (rules ++ help ∷ [])
+  with_help [] all = (fits_help opt own fine, tt)
+  with_help (a ∷ rules) all = (all.0, with_help rules all.1)
+
+  -- right arguments of a subcommand with these options have the one at place k
+  pub number_at : (bits : ℕ) → opt.limit < 2 ^ bits → (title : Text) (rules : List Rule) → ArePlain rules
+      → (k : ℕ) → none_named opt.name (take k rules) ≡ true → none_named opt.name (drop (suc k) rules) ≡ true → take k rules ++ filled (number_rule opt) ∷ (drop (suc k) rules ++ help ∷ []) ≡ rules ++ help ∷ []
+      → (words : List Text) → level_fault (options_built title (rules ++ help ∷ [])) [] nothing_held words false [] ≡ [] → HasNumber bits opt.name (rows_after (rules ++ help ∷ []) [] words)
+  number_at bits fits title rules are k before after same words f =
+      subst (λ (all : List Rule). level_fault (options_built title all) [] nothing_held words false [] ≡ [] → HasNumber bits opt.name (rows_after all [] words)) same
+      (has_number opt own fine title (take k rules) (drop (suc k) rules ++ help ∷ []) (fit _ (first_plain k rules are) before) (with_help _ (fit _ (last_plain (suc k) rules are) after)) bits fits words) f

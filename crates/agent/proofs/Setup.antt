@@ -10,8 +10,8 @@ use Rattle.console.specs.Conversations.{AnswersAll}
 use Rattle.ship_service.specs.Listening.{FindsHere, SaysAs, TellsClosingOf}
 use Rattle.ship_service.specs.declared.listening.ListenFault.{ListenFault}
 use Rattle.agent.specs.ServeLeaves.{IsAddress, ServeLeaves, ServesOver, Unconnected}
-use Rattle.agent.specs.declared.serving.ServeFault.{ServeFault}
-use Rattle.agent.specs.declared.serving.ServeFault.TheVariants.{Bind, Listen}
+use Rattle.agent.specs.declared.servers.serving.ServeFault.{ServeFault}
+use Rattle.agent.specs.declared.servers.serving.ServeFault.TheVariants.{Bind, Listen}
 
 module _ (X : Type 0) (returns : Bool) (budget : ℕ) (before mid : Option (List ℕ)) (world : WorldState) where
   -- the port can't be had

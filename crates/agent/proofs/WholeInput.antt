@@ -1,8 +1,7 @@
 -- What is found about the longest text or code and one byte more is found about the whole input.
 use Rattle.std.proofs.Common.{◌≡◌, ◌≤◌, ℕ, Bool, true, false, List, length, take, subst, Option, None, Some, IfSome, Result, Ok, Err, IfOk, IfErr}
 use Rattle.disassembler.specs.TextOf.{IsShownAs}
-use Rattle.streams.specs.Streams.{AppendsPart}
-use Rattle.agent.specs.AsmLeaves.{Assembles, AsmLeaves}
+use Rattle.agent.specs.AsmLeaves.{Assembles}
 use Rattle.agent.specs.DisLeaves.{Disassembles}
 use Rattle.agent.specs.declared.failure.Failure.{Failure}
 use Rattle.agent.specs.declared.failure.Failure.TheVariants.{Refused, WrongLine, InputTooLong, Read, Write, NoMemory}
@@ -48,16 +47,6 @@ found_err P limit None read result whole is found = tt
 found_err P limit (Some input) read (Ok x) whole is found = tt
 found_err P limit (Some input) read (Err e) whole is found = whole input (Err e) (subst (λ bytes. P bytes (Err e)) is found)
 
-pub code_ok : {A : Type 0} (view : A → List ℕ) (limit : ℕ) (given : Option (List ℕ)) (read : List ℕ) (result : Result A Failure)
-    → limit ≡ 1048577 → IfSome given (λ input. read ≡ take limit input) → IfOk result (λ x. Assembles read (Ok (view x)))
-    → IfSome given (λ input. IfOk result (λ x. Assembles input (Ok (view x))))
-code_ok view limit given read result is = found_ok view Assembles limit given read result (λ input found. assembled_whole limit input found is)
-
-pub code_err : {A : Type 0} (limit : ℕ) (given : Option (List ℕ)) (read : List ℕ) (result : Result A Failure)
-    → limit ≡ 1048577 → IfSome given (λ input. read ≡ take limit input) → IfErr result (λ e. Assembles read (Err e))
-    → IfSome given (λ input. IfErr result (λ e. Assembles input (Err e)))
-code_err limit given read result is = found_err Assembles limit given read result (λ input found. assembled_whole limit input found is)
-
 pub text_ok : {A : Type 0} (has_slots : Bool) (view : A → List ℕ) (limit : ℕ) (given : Option (List ℕ)) (read : List ℕ) (result : Result A Failure)
     → limit ≡ 32769 → IfSome given (λ input. read ≡ take limit input) → IfOk result (λ x. Disassembles has_slots read (Ok (view x)))
     → IfSome given (λ input. IfOk result (λ x. Disassembles has_slots input (Ok (view x))))
@@ -67,9 +56,3 @@ pub text_err : {A : Type 0} (has_slots : Bool) (limit : ℕ) (given : Option (Li
     → limit ≡ 32769 → IfSome given (λ input. read ≡ take limit input) → IfErr result (λ e. Disassembles has_slots read (Err e))
     → IfSome given (λ input. IfErr result (λ e. Disassembles has_slots input (Err e)))
 text_err has_slots limit given read result is = found_err (Disassembles has_slots) limit given read result (λ input found. shown_whole has_slots limit input found is)
-
--- the code was found, and not all of it written
-pub write_failed : (given before after : Option (List ℕ)) (code : List ℕ) → IfSome given (λ input. Assembles input (Ok code)) → AppendsPart before after code
-    → IfSome given (λ input. AsmLeaves input before after (Err Write))
-write_failed None before after code found part = tt
-write_failed (Some input) before after code found part = (code, found, part)

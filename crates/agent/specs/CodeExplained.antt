@@ -18,8 +18,8 @@ use Rattle.agent.specs.Failures.{failure_line, status_number}
 use Rattle.agent.specs.Reports.{Reports}
 use Rattle.agent.specs.declared.failure.Failure.{Failure}
 use Rattle.agent.specs.declared.failure.Failure.TheVariants.{Refused}
-use Rattle.agent.specs.declared.failure.Status.{Status}
-use Rattle.agent.specs.declared.failure.Status.TheVariants as status
+use Rattle.agent.specs.declared.failure.ExitStatus.{ExitStatus}
+use Rattle.agent.specs.declared.failure.ExitStatus.TheVariants as status
 
 -- the code begins as an ELF object file does
 abbrev pub is_elf : List ℕ → Bool
@@ -86,19 +86,19 @@ abbrev pub SaysOfCode : List ℕ → ℕ → Why → List ℕ → Type 0
 SaysOfCode code n w text = Says (is_elf code) (is_about_slot w) code n w text
 
 -- Standard error, which was as before, and the status of code that is refused: the line of the refusal and the one that explains it, as much of them as that stream takes.
-abbrev pub ReportsRefusal : List ℕ → LoadError → Option (List ℕ) → Option (List ℕ) → Status → Type 0
+abbrev pub ReportsRefusal : List ℕ → LoadError → Option (List ℕ) → Option (List ℕ) → ExitStatus → Type 0
 ReportsRefusal code error before after s = (text : List ℕ) × SaysOfCode code error.slot error.why text × AppendsSome before after (failure_line (Refused error) ++ text) × (s ≡ status.Refused)
 
 -- the same of any outcome: what is no refusal is reported without an explanation
-abbrev pub ReportsExplainedCode : List ℕ → Option (List ℕ) → Option (List ℕ) → Result ⊤ Failure → Status → Type 0
+abbrev pub ReportsExplainedCode : List ℕ → Option (List ℕ) → Option (List ℕ) → Result ⊤ Failure → ExitStatus → Type 0
 ReportsExplainedCode code before after (Err (Refused error)) s = ReportsRefusal code error before after s
 ReportsExplainedCode code before after outcome s = Reports before after outcome s
 
 -- the same with an explanation, or without
-abbrev pub ReportsCheck : Bool → List ℕ → Option (List ℕ) → Option (List ℕ) → Result ⊤ Failure → Status → Type 0
+abbrev pub ReportsCheck : Bool → List ℕ → Option (List ℕ) → Option (List ℕ) → Result ⊤ Failure → ExitStatus → Type 0
 ReportsCheck false code before after outcome s = Reports before after outcome s
 ReportsCheck true code before after outcome s = ReportsExplainedCode code before after outcome s
 
 -- The work has such an outcome over this code, and standard error and the exit status report it, with an explanation or without.
 abbrev pub ReportsCheckOutcome : Bool → List ℕ → (Result ⊤ Failure → Type 0) → Option (List ℕ) → Option (List ℕ) → ℕ → Type 0
-ReportsCheckOutcome explains code work before after number = (outcome : Result ⊤ Failure) × (s : Status) × work outcome × ReportsCheck explains code before after outcome s × (number ≡ status_number s)
+ReportsCheckOutcome explains code work before after number = (outcome : Result ⊤ Failure) × (s : ExitStatus) × work outcome × ReportsCheck explains code before after outcome s × (number ≡ status_number s)

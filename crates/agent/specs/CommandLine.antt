@@ -1,15 +1,14 @@
 -- What the arguments of the command line ask for, as `clap` reads them.
-use Rattle.std.specs.Prelude.{◌≡◌, ℕ, Bool, false, true, pos, if◌then◌else◌, List, [], ◌∷◌, Option, Some, None, codes, option_map, option_and_then}
+use Rattle.std.specs.Prelude.{◌≡◌, ℕ, Bool, false, true, if◌then◌else◌, List, [], ◌∷◌, Option, Some, None, codes, option_map, option_and_then}
 use Rattle.std.specs.Option.{option_map_or}
 use Rattle.std.specs.Str.{bytes_eq}
 use Rattle.std.specs.Str.Parse.{digits_value, without_leading_plus}
-use Rattle.clap.specs.Words.{Accepts, App, Kinds, Row, Rule, Shape, Text, fault_of, first_of, new_rule, one_of, subcommand_of, with_subcommand, without_minus}
+use Rattle.clap.specs.Words.{App, Kinds, Row, Rule, Shape, Text, fault_of, first_of, new_rule, one_of, subcommand_of, with_subcommand}
 use Rattle.clap.specs.Simple.{new_shape}
 use Rattle.clap.specs.declared.builder.action.ArgAction.TheVariants.{SetTrue}
 use Rattle.clap.specs.declared.builder.command.Command.{Command}
 use Rattle.clap.specs.declared.builder.command.Command.TheViews.{out-Command}
-use Rattle.clap.specs.declared.builder.value_parser.ValueParser.{ValueParser}
-use Rattle.clap.specs.declared.builder.value_parser.ValueParser.TheVariants.{Signed}
+use Rattle.agent.specs.OptionNumbers.{HasNumber, NumberOption, number_rule}
 use Rattle.agent.specs.declared.arguments.Task.{Task}
 use Rattle.agent.specs.declared.arguments.Task.TheVariants.{Run, Check, Assemble, Disassemble, Store, Serve}
 use Rattle.agent.specs.declared.arguments.Serving.{Serving}
@@ -22,21 +21,13 @@ budget_limit = 67108864
 abbrev pub budget_limit_text : Text
 budget_limit_text = codes "67108864"
 
--- a number from the one to the other
-abbrev pub number_parser : ℕ → ℕ → ValueParser
-number_parser least limit = Signed (pos least) (pos limit)
-
--- an option that is a number: `--NAME N`, which is `default` where it is left out
-abbrev pub number_rule : Text → ℕ → ℕ → Text → Rule
-number_rule name least limit default = record (new_rule name) { long = Some name; value_names = 1; defaults = default ∷ []; parser = Some (number_parser least limit) }
-
 -- `--budget N`, which is the greatest where it is left out
-abbrev pub budget_rule : Rule
-budget_rule = number_rule (codes "budget") 0 budget_limit budget_limit_text
+abbrev pub budget_option : NumberOption
+budget_option = record { name = codes "budget"; least = 0; limit = budget_limit; default = budget_limit_text }
 
 -- `run`, with its option
 abbrev pub run_shape : Shape
-run_shape = record (new_shape (codes "run")) { rules = budget_rule ∷ [] }
+run_shape = record (new_shape (codes "run")) { rules = number_rule budget_option ∷ [] }
 
 -- a flag: `--NAME`, which is given or not
 abbrev pub flag_rule : Text → Rule
@@ -59,8 +50,8 @@ abbrev pub port_limit : ℕ
 port_limit = 65535
 
 -- `--port P`, which is 0, any free one, where it is left out
-abbrev pub port_rule : Rule
-port_rule = number_rule (codes "port") 0 port_limit (codes "0")
+abbrev pub port_option : NumberOption
+port_option = record { name = codes "port"; least = 0; limit = port_limit; default = codes "0" }
 
 -- `-v`, `--verbose`: a flag with a short name, 118
 abbrev pub verbose_rule : Rule
@@ -68,39 +59,27 @@ verbose_rule = record (flag_rule (codes "verbose")) { short = Some 118 }
 
 -- `store`, with its options
 abbrev pub store_shape : Shape
-store_shape = record (new_shape (codes "store")) { rules = port_rule ∷ verbose_rule ∷ [] }
-
--- the most connections
-abbrev pub connections_limit : ℕ
-connections_limit = 8
-
--- the most workers
-abbrev pub workers_limit : ℕ
-workers_limit = 16
+store_shape = record (new_shape (codes "store")) { rules = number_rule port_option ∷ verbose_rule ∷ [] }
 
 -- `--connections N`, which is 1 where it is left out
-abbrev pub connections_rule : Rule
-connections_rule = number_rule (codes "connections") 1 connections_limit (codes "1")
+abbrev pub connections_option : NumberOption
+connections_option = record { name = codes "connections"; least = 1; limit = 8; default = codes "1" }
 
 -- `--workers W`, which is 2 where it is left out
-abbrev pub workers_rule : Rule
-workers_rule = number_rule (codes "workers") 0 workers_limit (codes "2")
+abbrev pub workers_option : NumberOption
+workers_option = record { name = codes "workers"; least = 0; limit = 16; default = codes "2" }
 
 -- `--far HOST:PORT`, any text, which may be left out
 abbrev pub far_rule : Rule
 far_rule = record (new_rule (codes "far")) { long = Some (codes "far"); value_names = 1 }
 
--- the longest that a far server may be waited for, in milliseconds: ten minutes
-abbrev pub far_timeout_limit : ℕ
-far_timeout_limit = 600000
-
--- `--far-timeout MS`, which is 5000 where it is left out
-abbrev pub far_timeout_rule : Rule
-far_timeout_rule = number_rule (codes "far-timeout") 1 far_timeout_limit (codes "5000")
+-- `--far-timeout MS`, at most ten minutes, which is 5000 where it is left out
+abbrev pub far_timeout_option : NumberOption
+far_timeout_option = record { name = codes "far-timeout"; least = 1; limit = 600000; default = codes "5000" }
 
 -- `serve`, with its options
 abbrev pub serve_shape : Shape
-serve_shape = record (new_shape (codes "serve")) { rules = port_rule ∷ connections_rule ∷ workers_rule ∷ budget_rule ∷ flag_rule (codes "sweep") ∷ far_rule ∷ far_timeout_rule ∷ verbose_rule ∷ [] }
+serve_shape = record (new_shape (codes "serve")) { rules = number_rule port_option ∷ number_rule connections_option ∷ number_rule workers_option ∷ number_rule budget_option ∷ flag_rule (codes "sweep") ∷ far_rule ∷ number_rule far_timeout_option ∷ verbose_rule ∷ [] }
 
 -- a command that passes no argument on to its subcommands
 abbrev pub IsLocal : Command → Type 0
@@ -118,17 +97,13 @@ command_line = with_subcommand (with_subcommand (with_subcommand (with_subcomman
 abbrev pub faults_of : List Text → Kinds
 faults_of arguments = fault_of command_line arguments
 
--- these matches have a number of this name, which is from the one to the other
-abbrev pub HasNumber : Text → ℕ → ℕ → List Row → Type 0
-HasNumber name least limit rows = (text : Text) × Accepts false (number_parser least limit) text × (one_of name rows ≡ Some (without_minus text))
-
 -- These matches have all numbers of `serve`.
 pub record HasServing (rows : List Row) : Type 0 where
-  pub port : HasNumber (codes "port") 0 port_limit rows
-  pub connections : HasNumber (codes "connections") 1 connections_limit rows
-  pub workers : HasNumber (codes "workers") 0 workers_limit rows
-  pub budget : HasNumber (codes "budget") 0 budget_limit rows
-  pub far_timeout : HasNumber (codes "far-timeout") 1 far_timeout_limit rows
+  pub port : HasNumber 16 (codes "port") rows
+  pub connections : HasNumber 8 (codes "connections") rows
+  pub workers : HasNumber 8 (codes "workers") rows
+  pub budget : HasNumber 32 (codes "budget") rows
+  pub far_timeout : HasNumber 32 (codes "far-timeout") rows
 
 -- the number of this name that they give
 abbrev pub number_in : Text → List Row → Option ℕ

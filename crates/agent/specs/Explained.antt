@@ -16,7 +16,7 @@ use Rattle.agent.specs.Failures.{failure_line, status_number, status_of}
 use Rattle.agent.specs.Reports.{Reports}
 use Rattle.agent.specs.declared.failure.Failure.{Failure}
 use Rattle.agent.specs.declared.failure.Failure.TheVariants.{WrongLine}
-use Rattle.agent.specs.declared.failure.Status.{Status}
+use Rattle.agent.specs.declared.failure.ExitStatus.{ExitStatus}
 
 -- so many bytes are quoted at most
 abbrev pub quote_limit : ℕ
@@ -97,15 +97,15 @@ Explains input (WrongLine error) text = SaysOfLine (numbered (error.line - 1) (l
 Explains input _ text = text ≡ []
 
 -- Standard error, which was as before, and the status: nothing more and Done, or the failure's line and its explanation, as much of it as that stream takes, and its status.
-abbrev pub ReportsExplained : List ℕ → Option (List ℕ) → Option (List ℕ) → Result ⊤ Failure → Status → Type 0
+abbrev pub ReportsExplained : List ℕ → Option (List ℕ) → Option (List ℕ) → Result ⊤ Failure → ExitStatus → Type 0
 ReportsExplained input before after (Ok done) status = Reports before after (Ok done) status
 ReportsExplained input before after (Err failure) status = (text : List ℕ) × Explains input failure text × AppendsSome before after (failure_line failure ++ text) × (status ≡ status_of failure)
 
 -- the same with an explanation, or without
-abbrev pub ReportsAsm : Bool → List ℕ → Option (List ℕ) → Option (List ℕ) → Result ⊤ Failure → Status → Type 0
+abbrev pub ReportsAsm : Bool → List ℕ → Option (List ℕ) → Option (List ℕ) → Result ⊤ Failure → ExitStatus → Type 0
 ReportsAsm false input before after outcome status = Reports before after outcome status
 ReportsAsm true input before after outcome status = ReportsExplained input before after outcome status
 
 -- The work has such an outcome over this input, and standard error and the exit status report it, with an explanation or without.
 abbrev pub ReportsAsmOutcome : Bool → List ℕ → (Result ⊤ Failure → Type 0) → Option (List ℕ) → Option (List ℕ) → ℕ → Type 0
-ReportsAsmOutcome explains input work before after number = (outcome : Result ⊤ Failure) × (status : Status) × work outcome × ReportsAsm explains input before after outcome status × (number ≡ status_number status)
+ReportsAsmOutcome explains input work before after number = (outcome : Result ⊤ Failure) × (status : ExitStatus) × work outcome × ReportsAsm explains input before after outcome status × (number ≡ status_number status)

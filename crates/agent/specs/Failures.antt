@@ -4,20 +4,20 @@ use Rattle.loader.specs.Refusals.{why_name}
 use Rattle.loader.specs.declared.loading.LoadError.{LoadError}
 use Rattle.loader.specs.declared.loading.Why.TheVariants as why
 use Rattle.asm_grammar.specs.Reasons as reasons
-use Rattle.agent.specs.declared.failure.Status.{Status}
-use Rattle.agent.specs.declared.failure.Status.TheVariants.{Done, Refused, InvalidArguments, Failed}
+use Rattle.agent.specs.declared.failure.ExitStatus.{ExitStatus}
+use Rattle.agent.specs.declared.failure.ExitStatus.TheVariants.{Done, Refused, InvalidArguments, Failed}
 use Rattle.agent.specs.declared.failure.Failure.{Failure}
 use Rattle.agent.specs.declared.failure.Failure.TheVariants as failure
 
 -- the exit status
-abbrev pub status_number : Status → ℕ
+abbrev pub status_number : ExitStatus → ℕ
 status_number Done = 0
 status_number Refused = 1
 status_number InvalidArguments = 2
 status_number Failed = 3
 
 -- the status of a failure: code and text that are refused, else streams and memory that fail
-abbrev pub status_of : Failure → Status
+abbrev pub status_of : Failure → ExitStatus
 status_of (failure.Refused error) = Refused
 status_of (failure.WrongLine error) = Refused
 status_of failure.InputTooLong = Refused

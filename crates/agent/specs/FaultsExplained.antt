@@ -15,8 +15,8 @@ use Rattle.bpf_codec.specs.declared.layout.Field.TheVariants.{Register, Only}
 use Rattle.bpf_codec.specs.declared.slot.Slot.{Slot}
 use Rattle.asm_table.specs.Mnemonics.{name}
 use Rattle.asm_table.specs.Parts.{mnemonic_of}
-use Rattle.agent.specs.declared.faults.Place.{Place}
-use Rattle.agent.specs.declared.faults.Place.TheVariants as place
+use Rattle.agent.specs.declared.assembly.faults.Place.{Place}
+use Rattle.agent.specs.declared.assembly.faults.Place.TheVariants as place
 
 -- ---- the fields of a slot beside its opcode (RFC 9669, section 3.1)
 

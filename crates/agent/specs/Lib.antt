@@ -7,6 +7,7 @@ pub mod AsmLeaves
 pub mod DisLeaves
 pub mod RunLeaves
 pub mod CommandLine
+pub mod OptionNumbers
 pub mod Reports
 pub mod ErrorShown
 pub mod Explained

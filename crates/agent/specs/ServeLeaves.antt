@@ -14,10 +14,10 @@ use Rattle.ship_service.specs.declared.listening.ListenFault.{ListenFault}
 use Rattle.ship_service.specs.declared.listening.ListenFault.TheVariants as listen
 use Rattle.agent.specs.Failures.{failure_text, status_number, status_of}
 use Rattle.agent.specs.RunLeaves.{RunLeaves}
-use Rattle.agent.specs.declared.failure.Status.{Status}
-use Rattle.agent.specs.declared.failure.Status.TheVariants as status
-use Rattle.agent.specs.declared.serving.ServeFault.{ServeFault}
-use Rattle.agent.specs.declared.serving.ServeFault.TheVariants.{Address, Far, Setup, Bind, Listen}
+use Rattle.agent.specs.declared.failure.ExitStatus.{ExitStatus}
+use Rattle.agent.specs.declared.failure.ExitStatus.TheVariants as status
+use Rattle.agent.specs.declared.servers.serving.ServeFault.{ServeFault}
+use Rattle.agent.specs.declared.servers.serving.ServeFault.TheVariants.{Address, Far, Setup, Bind, Listen}
 
 -- ---- what is said at the end
 
@@ -37,7 +37,7 @@ serve_text Bind = listen_text listen.Net
 serve_text (Listen fault) = listen_text fault
 
 -- the status: an object that isn't here is an input that is refused
-abbrev pub serve_status : ServeFault → Status
+abbrev pub serve_status : ServeFault → ExitStatus
 serve_status Address = status.InvalidArguments
 serve_status Far = status.Failed
 serve_status (Setup failure) = status_of failure

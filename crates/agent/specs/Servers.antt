@@ -4,8 +4,8 @@ use Rattle.clap.specs.Words.{Text}
 use Rattle.agent.specs.CommandLine.{far_of}
 use Rattle.agent.specs.declared.arguments.Task.{Task}
 use Rattle.agent.specs.declared.arguments.Task.TheVariants as task
-use Rattle.agent.specs.declared.network.Server.{Server}
-use Rattle.agent.specs.declared.network.Server.TheVariants.{Store, Serve}
+use Rattle.agent.specs.declared.arguments.network.Server.{Server}
+use Rattle.agent.specs.declared.arguments.network.Server.TheVariants.{Store, Serve}
 
 -- the task of a server
 abbrev pub server_task : Server → Task

@@ -39,9 +39,10 @@ use Rattle.world.specs.declared.replies.Reply.{Reply}
 use Rattle.console.specs.Agent.{agent}
 use Rattle.console.specs.Conversations.{Turn, IsTurn, heard_of, written_of, turn_commands, turn_replies}
 use Rattle.console.specs.Lines.{IsLine, cut_of}
+use Rattle.listener.specs.Announcing.{listening_line}
 use Rattle.ship_service.specs.Closing.{ClosedState, Settles, ReplaysShare}
 use Rattle.ship_service.specs.ClosingLines.{closing_lines}
-use Rattle.ship_service.specs.Listening.{listening_line, closed_line}
+use Rattle.ship_service.specs.Listening.{closed_line}
 use Rattle.ship_service.specs.Opening.{opened_bytes}
 use Rattle.ship_service.specs.Served.{OpenedMachinesStay, AnsweredMachinesAreSeen}
 use Rattle.ship_service.specs.Telling.{RepliesAreEntries, ReplyIsEntry, StepsStandAbove}

@@ -1,14 +1,25 @@
 //! The arguments of the command line.
-ghost use Rattle.std.specs.Prelude.{◌≡◌, [], Some, map, codes, option_map, IfOk, IfErr};
+ghost use Rattle.std.specs.Prelude.{◌≡◌, ℕ, List, Result, [], Some, map, codes, option_map, IfOk, IfErr};
 ghost use Rattle.clap.specs.Words.{app_of, found_of, new_app, rows_of, rule_of, HasKind};
-ghost use Rattle.agent.specs.CommandLine.{HasNumber, HasServing, IsLocal, asm_shape, bare, budget_limit, budget_rule, check_shape, command_line, connections_limit, connections_rule, dis_shape, far_of, far_rule, far_timeout_limit, far_timeout_rule, faults_of, flag_rule, is_set, number_in, port_limit, port_rule, run_shape, serve_shape, serving_in, store_shape, task_named, task_of, verbose_rule, workers_limit, workers_rule};
+ghost use Rattle.agent.specs.CommandLine.{HasServing, IsLocal, asm_shape, bare, budget_option, check_shape, command_line, connections_option, dis_shape, far_of, far_rule, far_timeout_option, faults_of, flag_rule, is_set, number_in, port_option, run_shape, serve_shape, serving_in, store_shape, task_named, task_of, verbose_rule, workers_option};
+ghost use Rattle.agent.specs.OptionNumbers.{HasNumber, ParsesAs, number_rule, parses_as};
 
-use crate::help_texts::{
+mod help_texts;
+mod laws;
+mod network;
+
+use clap::{Arg, ArgAction, ArgMatches, Command, Error, value_parser};
+use help_texts::{
     ABOUT, ASM_HELP, CHECK_HELP, DIS_HELP, RUN_HELP, SERVE_HELP, STORE_HELP, TOP_HELP,
 };
-use clap::{Arg, ArgAction, ArgMatches, Command, Error, value_parser};
+pub use laws::{
+    invalid_arguments, invalid_budgets, right_arguments, right_arguments_name_a_task,
+    right_budgets, right_flags, right_ports, right_services,
+};
+pub use network::{Server, asked_server};
 use std::alloc::{AllocError, Global};
 use std::convert::AsStr;
+use std::str::FromStr;
 
 /// The version of the program.
 pub const VERSION: &str = "0.9.0";
@@ -53,7 +64,7 @@ pub struct Serving {
 
 /// `--budget N`: the most bytes that the objects that aren't far may have.
 fn make_budget<'a>(alloc: Global) -> Arg<'a>
-    ensures { rule_of result ≡ budget_rule }
+    ensures { rule_of result ≡ number_rule budget_option }
 {
     Arg::new(alloc, "budget")
         .long("budget")
@@ -65,7 +76,7 @@ fn make_budget<'a>(alloc: Global) -> Arg<'a>
 
 /// `--port P`: the port to listen on.
 fn make_port<'a>(alloc: Global) -> Arg<'a>
-    ensures { rule_of result ≡ port_rule }
+    ensures { rule_of result ≡ number_rule port_option }
 {
     Arg::new(alloc, "port")
         .long("port")
@@ -77,7 +88,7 @@ fn make_port<'a>(alloc: Global) -> Arg<'a>
 
 /// `--connections N`: how many connections are taken.
 fn make_connections<'a>(alloc: Global) -> Arg<'a>
-    ensures { rule_of result ≡ connections_rule }
+    ensures { rule_of result ≡ number_rule connections_option }
 {
     Arg::new(alloc, "connections")
         .long("connections")
@@ -89,7 +100,7 @@ fn make_connections<'a>(alloc: Global) -> Arg<'a>
 
 /// `--workers W`: how many workers there are.
 fn make_workers<'a>(alloc: Global) -> Arg<'a>
-    ensures { rule_of result ≡ workers_rule }
+    ensures { rule_of result ≡ number_rule workers_option }
 {
     Arg::new(alloc, "workers")
         .long("workers")
@@ -113,7 +124,7 @@ fn make_far<'a>(alloc: Global) -> Arg<'a>
 
 /// `--far-timeout MS`: how long the far server may take.
 fn make_far_timeout<'a>(alloc: Global) -> Arg<'a>
-    ensures { rule_of result ≡ far_timeout_rule }
+    ensures { rule_of result ≡ number_rule far_timeout_option }
 {
     Arg::new(alloc, "far-timeout")
         .long("far-timeout")
@@ -284,59 +295,50 @@ fn make_command<'a>(alloc: Global) -> Result<Command<'a>, AllocError>
         .subcommand(make_serve(alloc)?)
 }
 
-/// The budget that the matches of `run` give.
-fn read_budget<'a>(matches: &ArgMatches<'a>) -> u32
-    requires { HasNumber (codes "budget") 0 budget_limit (rows_of (found_of matches.now)) }
-    ensures { number_in (codes "budget") (rows_of (found_of matches.now)) ≡ Some result }
-{
-    let Some(budget) = matches.get_one::<u32>("budget") else {
-        unreachable!()
-    };
-    budget
+/// A type of numbers that an option may have.
+trait Number: FromStr {
+    ghost bits: { ℕ };
+
+    ghost value: { Self → ℕ };
+
+    ghost parses: { (text : List ℕ) (r : Result Self Self.Err) → Self.from_str_gives text r → ParsesAs bits value text r };
 }
 
-/// The port that the matches of `store` give.
-fn read_port<'a>(matches: &ArgMatches<'a>) -> u16
-    requires { HasNumber (codes "port") 0 port_limit (rows_of (found_of matches.now)) }
-    ensures { number_in (codes "port") (rows_of (found_of matches.now)) ≡ Some result }
-{
-    let Some(port) = matches.get_one::<u16>("port") else {
-        unreachable!()
-    };
-    port
+impl Number for u8 {
+    ghost bits = { 8 };
+
+    ghost value = { λ n. n };
+
+    ghost parses = { λ text r gives. parses_as 8 text r gives.0 };
 }
 
-/// The number of connections that the matches of `serve` give.
-fn read_connections<'a>(matches: &ArgMatches<'a>) -> u8
-    requires { HasNumber (codes "connections") 1 connections_limit (rows_of (found_of matches.now)) }
-    ensures { number_in (codes "connections") (rows_of (found_of matches.now)) ≡ Some result }
-{
-    let Some(connections) = matches.get_one::<u8>("connections") else {
-        unreachable!()
-    };
-    connections
+impl Number for u16 {
+    ghost bits = { 16 };
+
+    ghost value = { λ n. n };
+
+    ghost parses = { λ text r gives. parses_as 16 text r gives.0 };
 }
 
-/// The number of workers that the matches of `serve` give.
-fn read_workers<'a>(matches: &ArgMatches<'a>) -> u8
-    requires { HasNumber (codes "workers") 0 workers_limit (rows_of (found_of matches.now)) }
-    ensures { number_in (codes "workers") (rows_of (found_of matches.now)) ≡ Some result }
-{
-    let Some(workers) = matches.get_one::<u8>("workers") else {
-        unreachable!()
-    };
-    workers
+impl Number for u32 {
+    ghost bits = { 32 };
+
+    ghost value = { λ n. n };
+
+    ghost parses = { λ text r gives. parses_as 32 text r gives.0 };
 }
 
-/// How many milliseconds the matches of `serve` give the far server.
-fn read_far_timeout<'a>(matches: &ArgMatches<'a>) -> u32
-    requires { HasNumber (codes "far-timeout") 1 far_timeout_limit (rows_of (found_of matches.now)) }
-    ensures { number_in (codes "far-timeout") (rows_of (found_of matches.now)) ≡ Some result }
+/// The number that the option of this name has.
+fn read_number<'a, N: Number>(matches: &ArgMatches<'a>, name: &str) -> N
+where
+    N::Err: Drop,
+    requires { HasNumber N.bits name.now (rows_of (found_of matches.now)) }
+    ensures { number_in name.now (rows_of (found_of matches.now)) ≡ Some (N.value result) }
 {
-    let Some(millis) = matches.get_one::<u32>("far-timeout") else {
+    let Some(number) = matches.get_one::<N>(name) else {
         unreachable!()
     };
-    millis
+    number
 }
 
 /// Whether the flag of this name is given.
@@ -355,26 +357,26 @@ fn read_serving<'a>(matches: &ArgMatches<'a>) -> Serving
     ensures { serving_in (rows_of (found_of matches.now)) ≡ Some result }
 {
     Serving {
-        port: read_port(matches),
-        connections: read_connections(matches),
-        workers: read_workers(matches),
-        budget: read_budget(matches),
+        port: read_number(matches, "port"),
+        connections: read_number(matches, "connections"),
+        workers: read_number(matches, "workers"),
+        budget: read_number(matches, "budget"),
         sweep: is_set(matches, "sweep"),
-        far_timeout: read_far_timeout(matches),
+        far_timeout: read_number(matches, "far-timeout"),
         verbose: is_set(matches, "verbose"),
     }
 }
 
 /// The task of this name, with these matches.
 fn task_called<'a>(name: &str, matches: &ArgMatches<'a>) -> Option<Task>
-    requires run { name.now ≡ codes "run" → HasNumber (codes "budget") 0 budget_limit (rows_of (found_of matches.now)) }
-    requires store { name.now ≡ codes "store" → HasNumber (codes "port") 0 port_limit (rows_of (found_of matches.now)) }
+    requires run { name.now ≡ codes "run" → HasNumber 32 (codes "budget") (rows_of (found_of matches.now)) }
+    requires store { name.now ≡ codes "store" → HasNumber 16 (codes "port") (rows_of (found_of matches.now)) }
     requires serve { name.now ≡ codes "serve" → HasServing (rows_of (found_of matches.now)) }
     ensures { result ≡ task_named name.now (rows_of (found_of matches.now)) }
 {
     match name {
         "run" => Some(Task::Run {
-            budget: read_budget(matches),
+            budget: read_number(matches, "budget"),
         }),
         "check" => Some(Task::Check {
             explains: is_set(matches, "explain"),
@@ -386,7 +388,7 @@ fn task_called<'a>(name: &str, matches: &ArgMatches<'a>) -> Option<Task>
             has_slots: is_set(matches, "slots"),
         }),
         "store" => Some(Task::Store {
-            port: read_port(matches),
+            port: read_number(matches, "port"),
             verbose: is_set(matches, "verbose"),
         }),
         "serve" => Some(Task::Serve(read_serving(matches))),

@@ -1,5 +1,5 @@
 //! What the program ends with.
-ghost use Rattle.std.specs.Prelude.{◌≡◌, ◌⊎◌, ◌≤◌, length};
+ghost use Rattle.std.specs.Prelude.{◌≡◌, ◌⊎◌, ◌≤◌, ◌++◌, ◌∷◌, [], length};
 ghost use Rattle.asm_grammar.specs.Reasons.{why_name};
 ghost use Rattle.agent.specs.Failures.{FailsToLoad, status_number, failure_line, status_of};
 ghost use Rattle.agent.specs.declared.failure.Failure.TheVariants.{Read as ReadFailed, Write as WriteFailed, NoMemory as OutOfMemory};
@@ -13,7 +13,7 @@ use thiserror::Error;
 
 /// How the program ended.
 #[derive(Clone, Copy, Debug, PartialEq, Eq)]
-pub enum Status {
+pub enum ExitStatus {
     /// All was done.
     Done = 0,
     /// The input was refused.
@@ -24,7 +24,7 @@ pub enum Status {
     Failed = 3,
 }
 
-impl Status {
+impl ExitStatus {
     /// The exit status.
     pub fn number(self) -> u8
         ensures { result ≡ status_number self }
@@ -32,6 +32,18 @@ impl Status {
         self as u8
     }
 }
+
+/// What is said of input that is too long.
+const INPUT_TOO_LONG: &str = "input too long";
+
+/// What is said of a reader that failed.
+const READ_FAULT: &str = "read fault";
+
+/// What is said of a writer that failed.
+pub(crate) const WRITE_FAULT: &str = "write fault";
+
+/// What is said where memory ran out.
+pub(crate) const NO_MEMORY: &str = "no memory";
 
 /// Why the program gave up.
 #[derive(Clone, Copy, Drop, Debug, PartialEq, Eq, Error)]
@@ -43,16 +55,16 @@ pub enum Failure {
     #[error("{0}")]
     WrongLine(AsmError),
     /// The input is longer than any assembly may be.
-    #[error("input too long")]
+    #[error("{INPUT_TOO_LONG}")]
     InputTooLong,
     /// The input can't be read.
-    #[error("read fault")]
+    #[error("{READ_FAULT}")]
     Read,
     /// The output can't be written.
-    #[error("write fault")]
+    #[error("{WRITE_FAULT}")]
     Write,
     /// Out of memory.
-    #[error("no memory")]
+    #[error("{NO_MEMORY}")]
     NoMemory,
 }
 
@@ -97,6 +109,17 @@ impl From<AllocError> for Failure {
 /// A line about a failure: at most a slot's or a line's number and the longest of the names.
 pub(crate) type FailureLine = ArrayVec<u8, 48>;
 
+/// The line of this text.
+pub(crate) fn line_of(text: &[u8]) -> FailureLine
+    requires { length text.now ≤ 47 }
+    ensures { result.items ≡ text.now ++ 10 ∷ [] }
+{
+    let mut line = FailureLine::new();
+    let _ = line.try_extend_from_slice(text);
+    let _ = line.try_push(b'\n');
+    line
+}
+
 /// The name of what is wrong with a line.
 fn name_of(why: Why) -> &'static [u8]
     ensures name { result.now ≡ why_name why }
@@ -107,12 +130,13 @@ fn name_of(why: Why) -> &'static [u8]
 
 impl Failure {
     /// The status that the program ends with.
-    pub fn status(self) -> Status
+    pub fn status(self) -> ExitStatus
         ensures { result ≡ status_of self }
     {
         match self {
-            Failure::Refused(_) | Failure::WrongLine(_) | Failure::InputTooLong => Status::Refused,
-            Failure::Read | Failure::Write | Failure::NoMemory => Status::Failed,
+            Failure::Refused(_) | Failure::WrongLine(_) | Failure::InputTooLong =>
+                ExitStatus::Refused,
+            Failure::Read | Failure::Write | Failure::NoMemory => ExitStatus::Failed,
         }
     }
 
@@ -137,16 +161,16 @@ impl Failure {
                 let _ = line.try_extend_from_slice(name_of(error.why));
             }
             Failure::InputTooLong => {
-                let _ = line.try_extend_from_slice(b"input too long");
+                let _ = line.try_extend_from_slice(INPUT_TOO_LONG.as_bytes());
             }
             Failure::Read => {
-                let _ = line.try_extend_from_slice(b"read fault");
+                let _ = line.try_extend_from_slice(READ_FAULT.as_bytes());
             }
             Failure::Write => {
-                let _ = line.try_extend_from_slice(b"write fault");
+                let _ = line.try_extend_from_slice(WRITE_FAULT.as_bytes());
             }
             Failure::NoMemory => {
-                let _ = line.try_extend_from_slice(b"no memory");
+                let _ = line.try_extend_from_slice(NO_MEMORY.as_bytes());
             }
         }
         let _ = line.try_push(b'\n');

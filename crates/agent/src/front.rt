@@ -11,15 +11,11 @@ ghost use Rattle.agent.specs.Explained.{ReportsAsmOutcome};
 ghost use Rattle.agent.specs.ErrorShown.{Shows, ShowsError, ShowsHelp, ShowsOneOf, ShowsVersion, version_line};
 ghost use Rattle.agent.specs.Reports.{ReportsOutcome};
 ghost use Rattle.agent.specs.RunLeaves.{RunLeaves};
-ghost use Rattle.agent.specs.StoreLeaves.{LeavesUndone};
-ghost use Rattle.agent.specs.declared.arguments.Serving.{Serving};
 ghost use Rattle.streams.specs.Streams.{ConsumesAtMost};
 
 use crate::arguments::{Task, VERSION, read_arguments};
-use crate::assembling::asm_reported;
-use crate::checking::check_reported;
-use crate::disassembling::dis;
-use crate::failure::{Failure, Status};
+use crate::assembly::{asm, check, dis};
+use crate::failure::{ExitStatus, Failure};
 use crate::reporting::{report, say};
 use crate::running::run;
 use arrayvec::ArrayVec;
@@ -42,11 +38,11 @@ fn some_text(text: &str) -> &[u8]
 }
 
 /// Shows help.
-fn show_help<W: Write, E: Write>(text: &str, writer: &mut W, errors: &mut E) -> Status
+fn show_help<W: Write, E: Write>(text: &str, writer: &mut W, errors: &mut E) -> ExitStatus
     ensures { ShowsHelp (W.contents writer.old) (W.contents writer.new) (E.contents errors.old) (E.contents errors.new) result }
 {
     match put_all(writer, some_text(text)) {
-        Ok(()) => Status::Done,
+        Ok(()) => ExitStatus::Done,
         Err(_) => report(Err(Failure::Write), errors),
     }
 }
@@ -66,25 +62,30 @@ fn version_line() -> VersionLine
 }
 
 /// Shows the version.
-fn show_version<W: Write, E: Write>(writer: &mut W, errors: &mut E) -> Status
+fn show_version<W: Write, E: Write>(writer: &mut W, errors: &mut E) -> ExitStatus
     ensures { ShowsVersion (W.contents writer.old) (W.contents writer.new) (E.contents errors.old) (E.contents errors.new) result }
 {
     match put_all(writer, &version_line()) {
-        Ok(()) => Status::Done,
+        Ok(()) => ExitStatus::Done,
         Err(_) => report(Err(Failure::Write), errors),
     }
 }
 
 /// Says what is wrong with the arguments. What the stream doesn't take of it is lost.
-fn show_error<E: Write>(text: &str, errors: &mut E) -> Status
+fn show_error<E: Write>(text: &str, errors: &mut E) -> ExitStatus
     ensures { ShowsError (E.contents errors.old) (E.contents errors.new) result }
 {
     let _told = say(some_text(text), errors);
-    Status::InvalidArguments
+    ExitStatus::InvalidArguments
 }
 
 /// Shows what the arguments are answered with: help, the version, or what is wrong with them.
-fn show<W: Write, E: Write>(alloc: Global, error: Error, writer: &mut W, errors: &mut E) -> Status
+fn show<W: Write, E: Write>(
+    alloc: Global,
+    error: Error,
+    writer: &mut W,
+    errors: &mut E,
+) -> ExitStatus
     ensures { Shows (kind_of error) (W.contents writer.old) (W.contents writer.new) (E.contents errors.old) (E.contents errors.new) result }
 {
     match error.kind() {
@@ -106,7 +107,7 @@ fn show<W: Write, E: Write>(alloc: Global, error: Error, writer: &mut W, errors:
 ///
 /// Each subcommand tells in the status how it ended, and on `errors` why it gave up. Invalid
 /// arguments, and those that ask for help, read no input. For `store` and `serve` it does nothing: who
-/// has the network calls [`store`](crate::store) and [`serve`](crate::serve).
+/// has the network calls [`run_store`](crate::run_store) and [`run_service`](crate::run_service).
 pub fn tool<'a, S: AsStr, R: Read, W: Write, E: Write>(
     alloc: Global,
     arguments: &'a [S],
@@ -126,12 +127,6 @@ pub fn tool<'a, S: AsStr, R: Read, W: Write, E: Write>(
     ensures dis { (has_slots : Bool) → faults_of (map S.text arguments.entry.now) ≡ [] → task_of (map S.text arguments.entry.now) ≡ Some (Task.Disassemble has_slots)
         → IfSome (R.remaining reader.old) (λ input. ReportsOutcome (DisLeaves has_slots input (W.contents writer.old) (W.contents writer.new))
         (E.contents errors.old) (E.contents errors.new) result) }
-    ensures store { (port : ℕ) (verbose : Bool) → faults_of (map S.text arguments.entry.now) ≡ [] → task_of (map S.text arguments.entry.now) ≡ Some (Task.Store port verbose)
-        → IfSome (R.remaining reader.old) (λ input. ReportsOutcome (LeavesUndone input (W.contents writer.old) (W.contents writer.new) (R.remaining reader.new))
-        (E.contents errors.old) (E.contents errors.new) result) }
-    ensures serve { (serving : Serving) → faults_of (map S.text arguments.entry.now) ≡ [] → task_of (map S.text arguments.entry.now) ≡ Some (Task.Serve serving)
-        → IfSome (R.remaining reader.old) (λ input. ReportsOutcome (LeavesUndone input (W.contents writer.old) (W.contents writer.new) (R.remaining reader.new))
-        (E.contents errors.old) (E.contents errors.new) result) }
     ensures consumed { (explains : Bool) → task_of (map S.text arguments.entry.now) ≡ Some (Task.Check explains) → ConsumesAtMost check_limit (R.remaining reader.old) (R.remaining reader.new) }
     ensures consumed_by_asm { (explains : Bool) → task_of (map S.text arguments.entry.now) ≡ Some (Task.Assemble explains) → ConsumesAtMost asm_limit (R.remaining reader.old) (R.remaining reader.new) }
     ensures consumed_by_dis { (has_slots : Bool) → task_of (map S.text arguments.entry.now) ≡ Some (Task.Disassemble has_slots) → ConsumesAtMost check_limit (R.remaining reader.old) (R.remaining reader.new) }
@@ -142,17 +137,12 @@ pub fn tool<'a, S: AsStr, R: Read, W: Write, E: Write>(
 {
     match read_arguments(alloc, arguments) {
         Ok(Task::Run { budget }) => report(run(alloc, budget, reader, writer), errors).number(),
-        Ok(Task::Check { explains }) => {
-            check_reported(alloc, explains, reader, writer, errors).number()
-        }
-        Ok(Task::Assemble { explains }) => {
-            asm_reported(alloc, explains, reader, writer, errors).number()
-        }
+        Ok(Task::Check { explains }) => { check(alloc, explains, reader, writer, errors).number() }
+        Ok(Task::Assemble { explains }) => { asm(alloc, explains, reader, writer, errors).number() }
         Ok(Task::Disassemble { has_slots }) => {
             report(dis(alloc, has_slots, reader, writer), errors).number()
         }
-        Ok(Task::Store { .. }) => report(Ok(()), errors).number(),
-        Ok(Task::Serve(_)) => report(Ok(()), errors).number(),
+        Ok(Task::Store { .. } | Task::Serve(_)) => ExitStatus::Done.number(),
         Err(error) => show(alloc, error, writer, errors).number(),
     }
 }

@@ -7,7 +7,7 @@ ghost use Rattle.agent.specs.Failures.{status_number};
 ghost use Rattle.agent.specs.Reports.{Reports, ReportsOutcome};
 ghost use Rattle.streams.specs.Streams.{AppendsPart, AppendsSome};
 
-use crate::failure::{Failure, Status};
+use crate::failure::{ExitStatus, Failure};
 use std::io::{self, ErrorKind, Write};
 use streams::put_all;
 
@@ -21,11 +21,11 @@ pub(crate) fn say<E: Write>(text: &[u8], errors: &mut E) -> bool
 }
 
 /// Reports a failure, and gives the status. What the stream doesn't take of the line is lost.
-pub(crate) fn report<E: Write>(outcome: Result<(), Failure>, errors: &mut E) -> Status
+pub(crate) fn report<E: Write>(outcome: Result<(), Failure>, errors: &mut E) -> ExitStatus
     ensures { Reports (E.contents errors.old) (E.contents errors.new) outcome result }
 {
     match outcome {
-        Ok(()) => Status::Done,
+        Ok(()) => ExitStatus::Done,
         Err(failure) => {
             let _told = say(&failure.line(), errors);
             failure.status()
@@ -39,11 +39,11 @@ pub fn refuse_arguments<E: Write>(error: &io::Error, errors: &mut E) -> u8
     ensures memory { error_kind error.now ≡ ErrorKind.OutOfMemory → ReportsOutcome (λ outcome. outcome ≡ Err Failure.NoMemory)
         (E.contents errors.old) (E.contents errors.new) result }
     ensures other { error_kind error.now ≢ ErrorKind.OutOfMemory
-        → AppendsSome (E.contents errors.old) (E.contents errors.new) not_text × (result ≡ status_number Status.InvalidArguments) }
+        → AppendsSome (E.contents errors.old) (E.contents errors.new) not_text × (result ≡ status_number ExitStatus.InvalidArguments) }
 {
     if error.kind() == ErrorKind::OutOfMemory {
         return report(Err(Failure::NoMemory), errors).number();
     }
     let _told = say(b"error: the arguments are not valid UTF-8\n", errors);
-    Status::InvalidArguments.number()
+    ExitStatus::InvalidArguments.number()
 }

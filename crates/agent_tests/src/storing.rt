@@ -2,7 +2,7 @@
 
 use crate::compared::same;
 use crate::outcome::leaves;
-use agent::store;
+use agent::run_store;
 use std::io::{Error, ErrorKind, Read, Result as IoResult};
 use std::net::{Ipv4Addr, TcpListener};
 use std::test::Fail;
@@ -30,22 +30,22 @@ fn how_a_server_ends(rt: HostRuntime) -> Result<(), Fail> {
     let alloc = rt.alloc();
     let empty: &'static [u8] = b"";
     let (mut output, mut errors) = (Vec::new(alloc), Vec::new(alloc));
-    let status = store(&rt, alloc, 0, false, empty, &mut output, &mut errors);
+    let status = run_store(&rt, alloc, 0, false, empty, &mut output, &mut errors);
     same!(rt; (status, errors.len()), (0, 0));
     same!(rt; output.starts_with(b"listening "), true);
 
-    let status = store(&rt, alloc, 0, false, Broken, &mut output, &mut errors);
+    let status = run_store(&rt, alloc, 0, false, Broken, &mut output, &mut errors);
     same!(rt; (status, errors.as_slice()), (3, b"read fault\n".as_slice()));
 
     errors.clear();
     let mut closed = Narrow::new(alloc, 1, 0);
-    let status = store(&rt, alloc, 0, false, empty, &mut closed, &mut errors);
+    let status = run_store(&rt, alloc, 0, false, empty, &mut closed, &mut errors);
     same!(rt; (status, errors.as_slice()), (3, b"write fault\n".as_slice()));
 
     errors.clear();
     let taken = TcpListener::bind(&rt, (Ipv4Addr::LOCALHOST, 0))?;
     let port = taken.local_addr()?.port();
-    let status = store(&rt, alloc, port, false, empty, &mut output, &mut errors);
+    let status = run_store(&rt, alloc, port, false, empty, &mut output, &mut errors);
     same!(rt; (status, errors.as_slice()), (3, b"net fault\n".as_slice()));
     Ok(())
 }

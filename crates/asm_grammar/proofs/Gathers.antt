@@ -1,6 +1,6 @@
 -- Operands are gathered in turn.
-use Rattle.std.proofs.Common.{◌≡◌, ℕ, ◌+◌, ◌<◌, ◌≤◌, Bool, false, List, [], ◌∷◌, length, drop, get_or, refl, ap, ◌∙◌, Some, None, option_and_then}
-use Rattle.std.proofs.lemmas.List.{at_drop_more, at_drop_all}
+use Rattle.std.proofs.Common.{◌≡◌, ℕ, ◌+◌, ◌<◌, Bool, false, List, length, drop, get_or, refl, ap, ◌∙◌, Some, None, option_and_then}
+use Rattle.std.proofs.lemmas.List.{at_drop_more}
 use Rattle.asm_text.specs.Tokens.{Lexeme}
 use Rattle.asm_table.specs.declared.mnemonic.Sort.{Sort}
 use Rattle.asm_grammar.specs.Sorts.{operand_taken}
@@ -31,9 +31,3 @@ module _ (look : Look) (n : ℕ) where
   pub gathered_no : (i : ℕ) (d : Sort) (first : Bool) (g : Gathered) (ss : List Sort) (w : Written) (ts rest : List Lexeme) → i < length ss → next_operand first ts ≡ Some (w, rest) → added look n g (operand_taken (get_or ss i d) w) ≡ None
       → gather_operands look n first g (drop i ss) ts ≡ None
   gathered_no i d first g ss w ts rest l e f = at_drop_more (λ l. gather_operands look n first g l ts) ss i d l ∙ ap (option_and_then (λ (x : Gathered × List Lexeme). gather_operands look n false x.0 (drop (i + 1) ss) x.1)) (step_no first g (get_or ss i d) w ts rest e f)
-
-  pub gathered_end : (i : ℕ) (first : Bool) (g : Gathered) (ss : List Sort) (ts : List Lexeme) → length ss ≤ i → ts ≡ [] → gather_operands look n first g (drop i ss) ts ≡ Some g
-  gathered_end i first g ss ts l e = at_drop_all (λ l. gather_operands look n first g l ts) ss i l ∙ ap (gather_operands look n first g []) e
-
-  pub gathered_more : (i : ℕ) (first : Bool) (g : Gathered) (ss : List Sort) (t : Lexeme) (ts rest : List Lexeme) → length ss ≤ i → ts ≡ t ∷ rest → gather_operands look n first g (drop i ss) ts ≡ None
-  gathered_more i first g ss t ts rest l e = at_drop_all (λ l. gather_operands look n first g l ts) ss i l ∙ ap (gather_operands look n first g []) e

@@ -6,4 +6,3 @@ pub mod Rewritten
 pub mod Formed
 pub mod Unknown
 pub mod Ranges
-pub mod Blamed

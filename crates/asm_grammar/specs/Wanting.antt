@@ -1,5 +1,5 @@
 -- What would fit in place of the token of a line that a reason is about.
-use Rattle.std.specs.Prelude.{Bool, true, false, List, [], ◌∷◌, Option, if◌then◌else◌}
+use Rattle.std.specs.Prelude.{Bool, true, false, List, [], ◌∷◌, if◌then◌else◌}
 use Rattle.std.specs.Option.{option_map_or}
 use Rattle.asm_text.specs.Tokens.{Lexeme}
 use Rattle.asm_text.specs.Tokens.Lexeme.{Comma as Comma_lexeme}

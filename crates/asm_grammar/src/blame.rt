@@ -141,8 +141,6 @@ pub fn blamed_token(line: &[u8], why: Why) -> Option<(usize, usize)>
     ensures bounds { IfSome result (λ span. (span.0 < span.1) × (span.1 ≤ length line.now)) }
 {
     let mut rest = find(line, why);
-    match rest.next() {
-        Some(found) => Some((found.start, found.end)),
-        None => None,
-    }
+    let found = rest.next()?;
+    Some((found.start, found.end))
 }

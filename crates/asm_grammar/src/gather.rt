@@ -50,7 +50,8 @@ impl Gathered {
         requires room { array_vec_len self.old.operands < 3 }
         requires slots { AllBelow labels.now }
         requires n { n ≤ 4096 }
-        ensures added { added (look_in labels.now) n (gathered_seen self.old) (operand_taken sort (written_seen w.entry)) ≡ (if result then Some (gathered_seen self.new) else None) }
+        ensures added { added (look_in labels.now) n (gathered_seen self.old) (operand_taken sort (written_seen w.entry))
+            ≡ (if result then Some (gathered_seen self.new) else None) }
         ensures len { array_vec_len self.new.operands ≤ array_vec_len self.old.operands + 1 }
     {
         match take(sort, w) {
@@ -104,10 +105,7 @@ pub fn gather<'a>(
 {
     let mut g = Gathered::new();
     for i in 0..sorts.len() {
-        let w = match next_operand(tokens, i == 0) {
-            Some(w) => w,
-            None => return None,
-        };
+        let w = next_operand(tokens, i == 0)?;
         if !g.add(labels, n, sorts[i], w) {
             return None;
         }

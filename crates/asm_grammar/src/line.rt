@@ -54,7 +54,8 @@ fn read_called<'a>(tokens: &mut Tokens<'a>) -> Mnemonic
 
 /// The mnemonic of which this token is the first.
 pub(crate) fn read_mnemonic<'a>(first: Token<'a>, tokens: &mut Tokens<'a>) -> Option<Mnemonic>
-    ensures mnemonic { MatchOption result (mnemonic_at (lexeme_seen first.entry ∷ lexemes_left tokens.old) ≡ None) (λ m. mnemonic_at (lexeme_seen first.entry ∷ lexemes_left tokens.old) ≡ Some (m, lexemes_left tokens.new)) }
+    ensures mnemonic { MatchOption result (mnemonic_at (lexeme_seen first.entry ∷ lexemes_left tokens.old) ≡ None)
+        (λ m. mnemonic_at (lexeme_seen first.entry ∷ lexemes_left tokens.old) ≡ Some (m, lexemes_left tokens.new)) }
     ensures line { tokens.new.line.now ≡ tokens.old.line.now }
 {
     match first {

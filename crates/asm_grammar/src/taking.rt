@@ -30,48 +30,38 @@ fn fit(limit: u64, sign: Sign, n: Option<u64>) -> Option<i64>
     ensures low { IfSome result (λ z. neg_ℤ (pos limit) ≤ℤ z) }
     ensures high { IfSome result (λ z. z <ℤ pos limit) }
 {
-    match n {
-        None => None,
-        Some(k) => match sign {
-            Sign::Plus => { if k < limit { Some(k as i64) } else { None } }
-            Sign::Minus => { if k <= limit { Some(-(k as i64)) } else { None } }
-        },
+    let k = n?;
+    match sign {
+        Sign::Plus => { if k < limit { Some(k as i64) } else { None } }
+        Sign::Minus => { if k <= limit { Some(-(k as i64)) } else { None } }
     }
 }
 
 fn fit32(sign: Sign, n: Option<u64>) -> Option<i32>
     ensures { result ≡ fitting (2 ^ 31) sign n }
 {
-    match fit(1 << 31, sign, n) {
-        Some(z) => Some(z as i32),
-        None => None,
-    }
+    Some(fit(1 << 31, sign, n)? as i32)
 }
 
 fn fit16(sign: Sign, n: Option<u64>) -> Option<i16>
     ensures { result ≡ fitting (2 ^ 15) sign n }
 {
-    match fit(1 << 15, sign, n) {
-        Some(z) => Some(z as i16),
-        None => None,
-    }
+    Some(fit(1 << 15, sign, n)? as i16)
 }
 
 fn fit64(sign: Sign, n: Option<u64>) -> Option<u64>
     ensures { result ≡ imm64_of sign n }
 {
-    match n {
-        None => None,
-        Some(k) => match sign {
-            Sign::Plus => Some(k),
-            Sign::Minus => {
-                if k <= 1 << 63 {
-                    Some(k.wrapping_neg())
-                } else {
-                    None
-                }
+    let k = n?;
+    match sign {
+        Sign::Plus => Some(k),
+        Sign::Minus => {
+            if k <= 1 << 63 {
+                Some(k.wrapping_neg())
+            } else {
+                None
             }
-        },
+        }
     }
 }
 

@@ -1,7 +1,8 @@
 //! Reads the tokens of a line.
 ghost use Rattle.std.specs.Prelude.{◌≡◌, ◌∷◌, ◌≤◌, ◌<◌, ◌+◌, ◌-◌, ◌⊎◌, List, [], length, drop, take, slice_range, IfSome, MatchOption, cond, IsTrue};
 ghost use Rattle.std.specs.Str.Parse.{IsNumeral, digits_value};
-ghost use Rattle.asm_text.specs.Tokens.{bounded, in_class, is_ascii, run, word_length, begins_hex, begins_comment, is_clean, lexeme_of, numeral_value, tokens, lexeme_seen, lexemes_left, next_start, next_end, IsFirstOf, IsNumberToken, IsToken};
+ghost use Rattle.asm_text.specs.Tokens.{bounded, in_class, is_ascii, run, word_length, begins_hex, begins_comment, is_clean, lexeme_of, numeral_value, tokens};
+ghost use Rattle.asm_text.specs.Tokens.{lexeme_seen, lexemes_left, next_start, next_end, IsFirstOf, IsNumberToken, IsToken};
 ghost use Rattle.asm_text.specs.Tokens.Lexeme.{Stray};
 
 use crate::cursor::Tokens;
@@ -133,7 +134,8 @@ impl<'a> Tokens<'a> {
         // no token is cut in two
         ensures whole { IfSome result (λ f. IsFirstOf (lexemes_left self.old) self.old.line.now f.start f.end) }
         // a comment reaches to the line's end
-        ensures bytes { IfSome result (λ f. lexeme_seen f.token ≡ lexeme_of (slice_range self.old.line.now f.start f.end) ⊎ ((lexeme_seen f.token ≡ Stray) × (f.end ≡ length self.old.line.now))) }
+        ensures bytes { IfSome result (λ f. lexeme_seen f.token ≡ lexeme_of (slice_range self.old.line.now f.start f.end)
+            ⊎ ((lexeme_seen f.token ≡ Stray) × (f.end ≡ length self.old.line.now))) }
         ensures line { self.new.line.now ≡ self.old.line.now }
     {
         let after = &self.line[self.at..];

@@ -17,7 +17,7 @@ use Rattle.asm_grammar.specs.Grammar.{Look, label_of}
 use Rattle.asm_grammar.specs.Reading.{fault_of, line_says}
 use Rattle.asm_grammar.specs.Views.{look_in}
 use Rattle.assembler.specs.declared.error.AsmError.{AsmError}
-use Rattle.assembler.specs.Passes.{with_label, slots_in, is_twice, or_else, wrong, refused, unless_wrong, outlined, onto, with_said, assembled, with_instr}
+use Rattle.assembler.specs.Passes.{with_label, slots_in, is_twice, or_else, wrong, unless_wrong, outlined, onto, with_said, assembled, with_instr}
 
 -- ---- labels
 
@@ -65,13 +65,6 @@ pub outlined_next : (k : ℕ) (look new : Look) (n s : ℕ) (all rest : List (Li
 outlined_next k look new n s all rest line label e w l f g =
     rw (g, l, f) (ap (λ o. unless_wrong o k (outlined (k + 1) (with_label look (label_of (tokens line)) n) (n + slots_in (tokens line)) rest)) w ∙ ap (outlined k look n) (sym e))
 
-pub outlined_wrong : (k : ℕ) (look : Look) (n : ℕ) (all rest : List (List ℕ)) (line : List ℕ) (w : Why) → all ≡ line ∷ rest → Some w ≡ wrong look n (tokens line) → outlined k look n all ≡ Err (refused k w)
-outlined_wrong k look n all rest line w e f =
-    ap (outlined k look n) e ∙ ap (λ o. unless_wrong o k (outlined (k + 1) (with_label look (label_of (tokens line)) n) (n + slots_in (tokens line)) rest)) (sym f)
-
-pub outlined_end : (k : ℕ) (look : Look) (n : ℕ) (all : List (List ℕ)) → all ≡ [] → outlined k look n all ≡ Ok look
-outlined_end k look n all e = ap (outlined k look n) e
-
 -- ---- the second pass
 
 -- each line of a text with nothing wrong in it is right under the labels before it
@@ -105,9 +98,3 @@ module _ (k : ℕ) (look : Look) (n s : ℕ) (all rest : List (List ℕ)) (line 
   pub assembled_said : (said : Option Instr) → Ok said ≡ line_says look n (tokens line) → s ≡ slots_in (tokens line) → onto (λ is. with_instr said front ++ is) (assembled (k + 1) look (n + s) rest) ≡ onto (λ is. front ++ is) (assembled k look n all)
   assembled_said None h f = assembled_none h f
   assembled_said (Some i) h f = assembled_some i h f
-
-  pub assembled_err : (w : Why) → Err w ≡ line_says look n (tokens line) → onto (λ is. front ++ is) (assembled k look n all) ≡ Err (refused k w)
-  assembled_err w h = ap (λ l. onto (λ is. front ++ is) (assembled k look n l)) e ∙ ap (λ x. onto (λ is. front ++ is) (with_said x k (assembled (k + 1) look (n + slots_in (tokens line)) rest))) (sym h)
-
-pub assembled_end : (k : ℕ) (look : Look) (n : ℕ) (all : List (List ℕ)) (front : List Instr) → all ≡ [] → onto (λ is. front ++ is) (assembled k look n all) ≡ Ok (front ++ [])
-assembled_end k look n all front e = ap (λ l. onto (λ is. front ++ is) (assembled k look n l)) e

@@ -71,10 +71,7 @@ fn outline_all<'a>(alloc: Global, text: &'a [u8]) -> Result<Labels<'a>, AsmError
             return Err(AsmError { line: number, why });
         }
         let (label, slots) = outline(line);
-        match enter(&mut labels, label, slot) {
-            Ok(()) => {}
-            Err(e) => return Err(e),
-        }
+        enter(&mut labels, label, slot)?;
         slot += slots;
     }
     Ok(labels)
@@ -117,10 +114,7 @@ fn assemble_all<'a>(
             Ok(said) => said,
             Err(why) => return Err(AsmError { line: number, why }),
         };
-        match keep(&mut code, said) {
-            Ok(()) => {}
-            Err(e) => return Err(e),
-        }
+        keep(&mut code, said)?;
         let (_, slots) = outline(line);
         slot += slots;
     }
@@ -138,8 +132,6 @@ pub fn assemble(alloc: Global, text: &str) -> Result<Vec<Instr>, AsmError>
 pub fn assemble_bytes(alloc: Global, bytes: &[u8]) -> Result<Vec<Instr>, AsmError>
     ensures { Gives (λ v. v.items) result (meaning bytes.now) }
 {
-    match outline_all(alloc, bytes) {
-        Ok(labels) => assemble_all(alloc, bytes, &labels),
-        Err(e) => Err(e),
-    }
+    let labels = outline_all(alloc, bytes)?;
+    assemble_all(alloc, bytes, &labels)
 }

@@ -9,10 +9,6 @@ both true true g h = refl
 both true false g h = absurd (cc)
 both false b g h = absurd (cc)
 
-pub true_or_false : (b : Bool) → (b ≡ true) ⊎ (b ≡ false)
-true_or_false true = inl refl
-true_or_false false = inr refl
-
 -- the element is in the list
 abbrev pub Has : {A : Type 0} → List A → A → Type 0
 Has [] x = ⊥

@@ -9,13 +9,12 @@ use Rattle.bpf_codec.specs.declared.fault.Fault.TheVariants as fault
 use Rattle.bpf_codec.specs.declared.slot.Slot.{Slot}
 use Rattle.bpf_codec.specs.Slots.{layout, first, fields, slot_bytes, second, Fits, Begins}
 use Rattle.bpf_codec.specs.Faults.{fault_number, has_registers_of, is_of, some_row, is_row, is_of_platform, is_packet, opcode, has_first, is_wide, has_second, has_reserved_bits, has_fault, IsLeastFault}
-use Rattle.bpf_codec.specs.Decoding.{◌>>=◌, rows_of, row_for, have_registers, is_platform, checked_as, checked, reserved_are_zero, next_imm, operands, built, built_as, decoded_as, decoded}
+use Rattle.bpf_codec.specs.Decoding.{◌>>=◌, rows_of, row_for, have_registers, checked_as, checked, reserved_are_zero, next_imm, operands, built, built_as, decoded_as, decoded}
 use Rattle.bpf_codec.proofs.Lists.{Has}
 use Rattle.bpf_codec.proofs.Fields.{is_wide_imm}
 use Rattle.bpf_codec.proofs.Rows.{row_placed, no_rows, some_rows, registers_of_table, none_of_table, no_packet, platform_registers, IsRowOf, row_is}
 use Rattle.bpf_codec.proofs.Built.{first_built, fits_built, second_built, none_built}
 use Rattle.bpf_codec.proofs.Bytes.{IsBytes, bytes_from, bytes_are, in_range, whole_is, second_there, reserved_is, second_bytes}
-use Rattle.bpf_codec.proofs.Platform.{platform_is}
 
 -- ---- the least fault
 
@@ -249,14 +248,12 @@ platform_field : (a b : Bool) → b ≡ true → (not a && not b) ≡ false
 platform_field a true h = and_false (not a)
 platform_field a false h = absurd (cc)
 
-by_row : (xs : List ℕ) (r : Option Instr) (p q : Bool) → IsBytes xs → 8 ≤ length xs → IsTableSlot xs → row_for (fields xs) (rows_of (opcode xs)) ≡ r → is_platform (fields xs) ≡ p → have_registers (fields xs) (rows_of (opcode xs)) ≡ q → Outcome xs (go_on xs (checked_as r p q))
+by_row : (xs : List ℕ) (r : Option Instr) (p q : Bool) → IsBytes xs → 8 ≤ length xs → IsTableSlot xs → row_for (fields xs) (rows_of (opcode xs)) ≡ r → is_of_platform (fields xs) ≡ p → have_registers (fields xs) (rows_of (opcode xs)) ≡ q → Outcome xs (go_on xs (checked_as r p q))
 by_row xs (Some i) p q b l t e f h =
     let a = row_is (fields xs) i e in
     after_first xs (Some i) b l (record { table = t; registers = a.registers; field = some_field _ _ a.some }) a
-by_row xs None true q b l t e f h =
-    let a : is_of_platform (fields xs) ≡ true = sym (platform_is (fields xs)) ∙ f in
-    after_first xs None b l (record { table = t; registers = platform_registers (fields xs) a; field = platform_field _ _ a }) a
-by_row xs None false true b l t e f h = field_outcome xs t (sym (registers_of_table (fields xs)) ∙ h) (none_of_table (fields xs) e) (sym (platform_is (fields xs)) ∙ f)
+by_row xs None true q b l t e f h = after_first xs None b l (record { table = t; registers = platform_registers (fields xs) f; field = platform_field _ _ f }) f
+by_row xs None false true b l t e f h = field_outcome xs t (sym (registers_of_table (fields xs)) ∙ h) (none_of_table (fields xs) e) f
 by_row xs None false false b l t e f h = register_outcome xs t (sym (registers_of_table (fields xs)) ∙ h)
 
 by_rows : (xs : List ℕ) (rows : List Instr) → IsBytes xs → has_first xs ≡ true → 8 ≤ length xs → rows_of (opcode xs) ≡ rows → Outcome xs (decoded_as rows xs)

@@ -1,10 +1,11 @@
 //! Which row of the instruction table a slot is of.
 ghost use Rattle.std.specs.Prelude.{◌≡◌};
-ghost use Rattle.bpf_codec.specs.Faults.{is_register, may_hold, has_registers_of, is_of};
-ghost use Rattle.bpf_codec.specs.Decoding.{row_for, have_registers, is_platform, checked};
+ghost use Rattle.std.specs.List.{list_any};
+ghost use Rattle.bpf_codec.specs.Faults.{is_register, may_hold, has_registers_of, is_of, is_of_platform};
+ghost use Rattle.bpf_codec.specs.Decoding.{row_for, have_registers, checked};
 
 use crate::fault::Fault;
-use crate::layout::{Field, Layout, layout_of};
+use crate::layout::{Field, Layout, layout_of, platform_layouts};
 use crate::slot::Slot;
 use isa_table::Instr;
 
@@ -78,16 +79,23 @@ fn any_holds_registers(f: Slot, rows: &[Instr]) -> bool
     false
 }
 
-/// Whether only a platform defines what the slot means (RFC 9669, sections 4.3.1 and 5.4).
-#[tactic(auto, unfolding(crate::specs::Decoding::is_platform))]
-fn is_of_platform(f: Slot) -> bool
-    ensures { result ≡ is_platform f }
+/// Whether the slot is of one of these layouts.
+fn fits_any(f: Slot, layouts: &[Layout]) -> bool
+    ensures { result ≡ list_any (is_of f) layouts.now }
 {
-    match f.opcode {
-        0x18 => f.dst < 11 && 1 <= f.src && f.src <= 6 && f.offset == 0,
-        0x85 => f.dst == 0 && f.src == 2 && f.offset == 0,
-        _ => false,
+    for layout in layouts {
+        if fits_layout(f, *layout) {
+            return true;
+        }
     }
+    false
+}
+
+/// Whether only a platform defines what the slot means.
+fn is_of_platform(f: Slot) -> bool
+    ensures { result ≡ is_of_platform f }
+{
+    fits_any(f, platform_layouts())
 }
 
 /// The row that the slot is of, by the rows of its opcode; none where the slot is the platform's.

@@ -7,27 +7,21 @@ use thiserror::Error;
 /// Why the bytes at a slot encode no instruction. The least number whose condition holds is answered. The numbers and
 /// names are this project's choice; the text of an error is its name.
 #[derive(Clone, Copy, Drop, Debug, PartialEq, Eq, Error)]
+#[error("{}", self.text())]
 pub enum Fault {
     /// The opcode is neither in the instruction table nor one of legacy packet access.
-    #[error("Opcode")]
     Opcode = 1,
     /// A field that the opcode reads as a register holds 11 to 15 (RFC 9669, section 3.1).
-    #[error("Register")]
     Register = 2,
     /// An unused field or a reserved bit is not zero, or a field holds none of the opcode's values.
-    #[error("Field")]
     Field = 3,
     /// The second slot of a wide instruction is not there whole (section 3.2).
-    #[error("HalfWide")]
     HalfWide = 4,
     /// The opcode is one of legacy packet access, which is deprecated (section 5.5).
-    #[error("Packet")]
     Packet = 5,
     /// A form that needs a platform's maps, variables or functions (sections 4.3.1 and 5.4).
-    #[error("Platform")]
     Platform = 6,
     /// Fewer than eight bytes are left.
-    #[error("Short")]
     Short = 7,
 }
 
@@ -44,14 +38,22 @@ impl Fault {
         ensures name { result.now ≡ fault_name self }
         ensures short { length result.now ≤ 10 }
     {
+        self.text().as_bytes()
+    }
+
+    /// The same as a text.
+    fn text(self) -> &'static str
+        ensures name { result.now ≡ fault_name self }
+        ensures short { length result.now ≤ 10 }
+    {
         match self {
-            Fault::Opcode => b"Opcode",
-            Fault::Register => b"Register",
-            Fault::Field => b"Field",
-            Fault::HalfWide => b"HalfWide",
-            Fault::Packet => b"Packet",
-            Fault::Platform => b"Platform",
-            Fault::Short => b"Short",
+            Fault::Opcode => "Opcode",
+            Fault::Register => "Register",
+            Fault::Field => "Field",
+            Fault::HalfWide => "HalfWide",
+            Fault::Packet => "Packet",
+            Fault::Platform => "Platform",
+            Fault::Short => "Short",
         }
     }
 }

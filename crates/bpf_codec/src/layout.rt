@@ -2,7 +2,9 @@
 ghost use Rattle.std.specs.Prelude.{◌≡◌, ◌<◌, ◌≤◌};
 ghost use Rattle.isa_table.specs.declared.instr.Instr.TheVariants.{Alu, Jump, Store, Atomic};
 ghost use Rattle.bpf_codec.specs.declared.layout.Field.TheVariants.{Register};
-ghost use Rattle.bpf_codec.specs.Slots.{alu_code, alu_offset, cond_code, alu_class, jump_class, size_code, end_code, swap_bits, atomic_code, unused, row, layout};
+ghost use Rattle.bpf_codec.specs.Faults.{platform_layouts};
+ghost use Rattle.bpf_codec.specs.Slots.{alu_code, alu_offset, cond_code, alu_class, jump_class, size_code, end_code, swap_bits, atomic_code, unused, row};
+ghost use Rattle.bpf_codec.specs.Slots.{layout};
 
 use isa_table::{AtomicOp, Binary, Cond, Instr, Operand, Order, Reg, Size, SwapWidth, Width};
 
@@ -32,6 +34,45 @@ pub struct Layout {
 }
 
 const UNUSED: Field = Field::Only(0);
+
+/// The layout of a wide encoding with this number in its source field. A constant holds no call.
+macro_rules! wide_of_source {
+    ($source:literal) => {
+        Layout {
+            opcode: 0x18,
+            dst: Field::Register(Reg::R0),
+            src: Field::Only($source),
+            offset: UNUSED,
+            imm: Field::Wide(0),
+        }
+    };
+}
+
+/// The layouts of what only a platform defines: wide encodings with source 1 to 6 (RFC 9669, section 5.4), and calls with
+/// source 2 (section 4.3.1).
+const PLATFORM_LAYOUTS: [Layout; 7] = [
+    wide_of_source!(1),
+    wide_of_source!(2),
+    wide_of_source!(3),
+    wide_of_source!(4),
+    wide_of_source!(5),
+    wide_of_source!(6),
+    Layout {
+        opcode: 0x85,
+        dst: UNUSED,
+        src: Field::Only(2),
+        offset: UNUSED,
+        imm: Field::Imm(0),
+    },
+];
+
+// By reference, as the tables of `places`.
+#[tactic(auto, unfolding(crate::specs::Faults::platform_layouts))]
+pub fn platform_layouts() -> &'static [Layout]
+    ensures { result.now ≡ platform_layouts }
+{
+    &PLATFORM_LAYOUTS
+}
 
 #[inline(always)]
 fn alu_code_of(op: Binary) -> u8

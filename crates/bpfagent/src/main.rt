@@ -1,7 +1,7 @@
 //! The program. All that it does is in the crate `agent`.
 #![tactic(auto)]
 
-use agent::{Server, asked_server, refuse_arguments, serve, store, tool};
+use agent::{Server, asked_server, refuse_arguments, run_service, run_store, tool};
 use std::process::ExitCode;
 use std::rt::Env;
 use std::{env, io};
@@ -18,7 +18,7 @@ fn main(rt: HostRuntime) -> ExitCode {
         Err(error) => return ExitCode::from(refuse_arguments(&error, &mut errors)),
     };
     let status = match asked_server(rt.alloc(), arguments.as_slice()) {
-        Ok(Some(Server::Store { port, verbose })) => store(
+        Ok(Some(Server::Store { port, verbose })) => run_store(
             &rt,
             rt.alloc(),
             port,
@@ -27,7 +27,7 @@ fn main(rt: HostRuntime) -> ExitCode {
             &mut rt.stdout(),
             &mut errors,
         ),
-        Ok(Some(Server::Serve { serving, far })) => serve(
+        Ok(Some(Server::Serve { serving, far })) => run_service(
             &rt,
             rt.alloc(),
             serving,

@@ -108,12 +108,6 @@ module _ (all left : List (List ℕ)) (g : GrantState) (last : ℕ) (s : ReadSoF
       } in
       subst (λ (y : GrantState). ReadSoFar all rest y x.number) (sym n) more
 
-  -- all are
-  pub so_far_ends : left ≡ [] → length g.listed ≤ 16 → AreGrants true all g
-  so_far_ends e h =
-      let words : all ≡ s.words = s.split ∙ ap (λ l. s.words ++ l) e ∙ append-nil s.words in
-      (g.listed, subst (λ w. WordsAre w g.listed) (sym words) s.granted, s.rise, h, ap (λ (b : Bool). record { all = b; listed = g.listed }) s.some)
-
   -- what is granted goes on with what the words grant that are left
   goes_on : (other : GrantState) (a : AreGrants true all other) → (more : List Grant) × (a.0 ≡ g.listed ++ more) × WordsAre left more × RiseFrom last more
   goes_on other a =

@@ -1,13 +1,17 @@
 //! Who answers the commands of a conversation.
-ghost use Rattle.std.specs.Prelude.{◌≡◌, ℕ, List};
+ghost use Rattle.std.specs.Prelude.{◌≡◌, ◌≤◌, ℕ, List};
+ghost use Rattle.world.specs.Answers.{AnswersGet};
+ghost use Rattle.world.specs.declared.replies.Reply.{Reply};
 ghost use Rattle.console.specs.Lines.{ended};
 ghost use Rattle.console.specs.Commands.{SpellsCommand};
 ghost use Rattle.console.specs.Conversations.{Protocol};
 ghost use Rattle.console.specs.Agent.{agent};
+ghost use Rattle.console.specs.Replies.{reply_text};
 
-use crate::replies::{ReplyLine, print_reply, print_step};
+use crate::kind::RANGE_LIMIT;
+use crate::replies::{ReplyLine, print_bytes, print_reply, print_step};
 use far_store::FarStore;
-use world::{Event, MachineCommand, World};
+use world::{Event, MachineCommand, ObjectCommand, Reply, World};
 
 /// Who answers the commands of a conversation, by means of something that it may share with others.
 pub trait Answerer<C> {
@@ -24,6 +28,49 @@ pub trait Answerer<C> {
             × (reply.new.items ≡ ended (protocol.text told)) };
 }
 
+/// The longest range that is read through a small room.
+const SMALL_RANGE: u32 = 64;
+
+/// Makes this the line of the reply to `get`, read through a room of so many bytes. Not inlined, so that the frame of a step has no
+/// room for bytes.
+#[inline(never)]
+fn print_get_through<F: FarStore, const ROOM: usize>(
+    world: &World<F>,
+    object: u32,
+    offset: u32,
+    length: u32,
+    reply: &mut ReplyLine,
+)
+    requires range { length ≤ ROOM }
+    requires room { ROOM ≤ RANGE_LIMIT }
+    ensures { (told : Reply) × AnswersGet world.now.store.state object offset length told × (reply.new.items ≡ ended (reply_text told)) }
+{
+    let mut room = [0u8; ROOM];
+    let bytes = &mut room[..length as usize];
+    match world.read(object, offset, bytes) {
+        Ok(()) => print_bytes(bytes, reply),
+        Err(error) => print_reply(&Reply::refused_get(object, error), reply),
+    }
+}
+
+/// Makes this the line of the reply to `get`. A short range doesn't pay for the zeros of a long one.
+fn print_get<F: FarStore>(
+    world: &World<F>,
+    object: u32,
+    offset: u32,
+    length: u32,
+    reply: &mut ReplyLine,
+)
+    requires { length ≤ RANGE_LIMIT }
+    ensures { (told : Reply) × AnswersGet world.now.store.state object offset length told × (reply.new.items ≡ ended (reply_text told)) }
+{
+    if length <= SMALL_RANGE {
+        print_get_through::<F, 64>(world, object, offset, length, reply);
+    } else {
+        print_get_through::<F, RANGE_LIMIT>(world, object, offset, length, reply);
+    }
+}
+
 impl<F: FarStore> Answerer<()> for World<F> {
     ghost use Rattle.world.specs.WorldState.{state_of};
 
@@ -38,6 +85,11 @@ impl<F: FarStore> Answerer<()> for World<F> {
                 machine,
                 command: MachineCommand::Step(way),
             } => print_step(machine, self.step(machine, way), reply),
+            // the bytes go from the object to the line, without memory for them
+            Event::Object {
+                object,
+                command: ObjectCommand::Get { offset, length },
+            } => print_get(self, object, offset, length, reply),
             event => print_reply(&self.apply(event), reply),
         }
     }

@@ -31,7 +31,8 @@ fn perform<C, A: Answerer<C>>(
     reply: &mut ReplyLine,
 )
     requires { (line : List ℕ) × Reads (SpellsCommand line) command }
-    ensures { (line : List ℕ) → IsLine line → Reads (SpellsCommand line) command → Answered A.protocol (A.state answerer.old) line reply.new.items (A.state answerer.new) }
+    ensures { (line : List ℕ) → IsLine line → Reads (SpellsCommand line) command
+        → Answered A.protocol (A.state answerer.old) line reply.new.items (A.state answerer.new) }
 {
     match command {
         Ok(event) => answerer.perform(shared, event, reply),
@@ -50,14 +51,18 @@ fn answer_waiting<C, A: Answerer<C>, R, W, L: Link<R, W>>(
     reply: &mut ReplyLine,
 ) -> Result<(), WriteFault>
     ensures ok { OnOk result ((line : List ℕ) → IsLine line → console.old.line ≡ clip line →
-        AnswersSoFar A.protocol (A.state answerer.old) (bytes_so_far line console.old.waits) (L.contents writer.old) (L.contents writer.new) (A.state answerer.new) console.new) }
+        AnswersSoFar A.protocol (A.state answerer.old) (bytes_so_far line console.old.waits) (L.contents writer.old) (L.contents writer.new)
+        (A.state answerer.new) console.new) }
     ensures err { OnErr result ((line : List ℕ) → IsLine line → console.old.line ≡ clip line →
-        FailsInReply A.protocol [] (A.state answerer.old) (bytes_so_far line console.old.waits) (L.contents writer.old) (L.contents writer.new) (A.state answerer.new)) }
+        FailsInReply A.protocol [] (A.state answerer.old) (bytes_so_far line console.old.waits) (L.contents writer.old) (L.contents writer.new)
+        (A.state answerer.new)) }
     ensures open { OnOk result (IsFalse console.new.waits) }
     ensures dropped { OnErr result (console.new ≡ nothing_held) }
     ensures line { IsLine console.old.line × (clip console.old.line ≡ console.old.line) }
-    ensures calls { OnOk result ((replies : List (List ℕ)) × (length replies ≡ lines_waiting console.old.waits) × StreamCalls L.called reader.now writer.old (map LineWritten replies) reader.now writer.new) }
-    ensures broken { OnErr result (IsTrue console.old.waits × (line : List ℕ) × StreamCalls L.called reader.now writer.old (LineBroken line ∷ []) reader.now writer.new) }
+    ensures calls { OnOk result ((replies : List (List ℕ)) × (length replies ≡ lines_waiting console.old.waits)
+        × StreamCalls L.called reader.now writer.old (map LineWritten replies) reader.now writer.new) }
+    ensures broken { OnErr result (IsTrue console.old.waits × (line : List ℕ)
+        × StreamCalls L.called reader.now writer.old (LineBroken line ∷ []) reader.now writer.new) }
 {
     if let Some(command) = console.next_command() {
         perform(shared, answerer, command, reply);
@@ -83,8 +88,10 @@ fn answer_piece<C, A: Answerer<C>, R, W, L: Link<R, W>>(
     ensures err { OnErr result ((line : List ℕ) → IsLine line → console.old.line ≡ clip line → (ahead : List ℕ) × (length ahead < length piece.now)
         × FailsInReply A.protocol ahead (A.state answerer.old) (line ++ piece.now) (L.contents writer.old) (L.contents writer.new) (A.state answerer.new)) }
     ensures dropped { OnErr result (console.new ≡ nothing_held) }
-    ensures calls { OnOk result ((replies : List (List ℕ)) × (length replies ≡ line_ends piece.now) × StreamCalls L.called reader.now writer.old (map LineWritten replies) reader.now writer.new) }
-    ensures broken { OnErr result ((replies : List (List ℕ)) × (length replies < line_ends piece.now) × (line : List ℕ) × StreamCalls L.called reader.now writer.old (map LineWritten replies ++ LineBroken line ∷ []) reader.now writer.new) }
+    ensures calls { OnOk result ((replies : List (List ℕ)) × (length replies ≡ line_ends piece.now)
+        × StreamCalls L.called reader.now writer.old (map LineWritten replies) reader.now writer.new) }
+    ensures broken { OnErr result ((replies : List (List ℕ)) × (length replies < line_ends piece.now) × (line : List ℕ)
+        × StreamCalls L.called reader.now writer.old (map LineWritten replies ++ LineBroken line ∷ []) reader.now writer.new) }
 {
     let mut rest = piece;
     while !rest.is_empty() {
@@ -118,14 +125,18 @@ pub fn converse_over<C, A: Answerer<C>, R, W, L: Link<R, W>>(
     answerer: &mut A,
 ) -> Result<(), DriveFault>
     ensures ok { OnOk result (IfSome (L.remaining reader.old) (λ input.
-        AnswersAll A.protocol (A.state answerer.old) (held_bytes console.old ++ input) (L.contents writer.old) (L.contents writer.new) (A.state answerer.new))) }
+        AnswersAll A.protocol (A.state answerer.old) (held_bytes console.old ++ input) (L.contents writer.old) (L.contents writer.new)
+        (A.state answerer.new))) }
     ensures read { IsErrOf result DriveFault.Read → IfSome (L.remaining reader.old) (λ input.
-        StopsReading A.protocol (A.state answerer.old) (held_bytes console.old ++ input) (L.contents writer.old) (L.contents writer.new) (A.state answerer.new) console.new (L.remaining reader.new)) }
+        StopsReading A.protocol (A.state answerer.old) (held_bytes console.old ++ input) (L.contents writer.old) (L.contents writer.new)
+        (A.state answerer.new) console.new (L.remaining reader.new)) }
     ensures write { IsErrOf result DriveFault.Write → IfSome (L.remaining reader.old) (λ input.
-        StopsWriting A.protocol (A.state answerer.old) (held_bytes console.old ++ input) (L.contents writer.old) (L.contents writer.new) (A.state answerer.new) (L.remaining reader.new)) }
+        StopsWriting A.protocol (A.state answerer.old) (held_bytes console.old ++ input) (L.contents writer.old) (L.contents writer.new) (A.state answerer.new)
+        (L.remaining reader.new)) }
     ensures emptied { OnOk result (console.new ≡ nothing_held) }
     ensures dropped { IsErrOf result DriveFault.Write → console.new ≡ nothing_held }
-    ensures calls { (calls : List StreamCall) × StreamCalls L.called reader.old writer.old calls reader.new writer.new × EndsCalls console.old.waits result calls }
+    ensures calls { (calls : List StreamCall) × StreamCalls L.called reader.old writer.old calls reader.new writer.new
+        × EndsCalls console.old.waits result calls }
 {
     let mut reply = ReplyLine::new();
     answer_waiting(link, reader, writer, console, shared, answerer, &mut reply)?;
@@ -166,11 +177,14 @@ pub fn converse<C, A: Answerer<C>, R: Read, W: Write>(
     answerer: &mut A,
 ) -> Result<(), DriveFault>
     ensures ok { OnOk result (IfSome (R.remaining reader.old) (λ input.
-        AnswersAll A.protocol (A.state answerer.old) (held_bytes console.old ++ input) (W.contents writer.old) (W.contents writer.new) (A.state answerer.new))) }
+        AnswersAll A.protocol (A.state answerer.old) (held_bytes console.old ++ input) (W.contents writer.old) (W.contents writer.new)
+        (A.state answerer.new))) }
     ensures read { IsErrOf result DriveFault.Read → IfSome (R.remaining reader.old) (λ input.
-        StopsReading A.protocol (A.state answerer.old) (held_bytes console.old ++ input) (W.contents writer.old) (W.contents writer.new) (A.state answerer.new) console.new (R.remaining reader.new)) }
+        StopsReading A.protocol (A.state answerer.old) (held_bytes console.old ++ input) (W.contents writer.old) (W.contents writer.new)
+        (A.state answerer.new) console.new (R.remaining reader.new)) }
     ensures write { IsErrOf result DriveFault.Write → IfSome (R.remaining reader.old) (λ input.
-        StopsWriting A.protocol (A.state answerer.old) (held_bytes console.old ++ input) (W.contents writer.old) (W.contents writer.new) (A.state answerer.new) (R.remaining reader.new)) }
+        StopsWriting A.protocol (A.state answerer.old) (held_bytes console.old ++ input) (W.contents writer.old) (W.contents writer.new) (A.state answerer.new)
+        (R.remaining reader.new)) }
     ensures emptied { OnOk result (console.new ≡ nothing_held) }
     ensures dropped { IsErrOf result DriveFault.Write → console.new ≡ nothing_held }
 {
@@ -187,9 +201,11 @@ pub fn drive<F: FarStore, R: Read, W: Write>(
     ensures ok { OnOk result (IfSome (R.remaining reader.old) (λ input.
         AnswersAll agent (state_of world.old) (held_bytes console.old ++ input) (W.contents writer.old) (W.contents writer.new) (state_of world.new))) }
     ensures read { IsErrOf result DriveFault.Read → IfSome (R.remaining reader.old) (λ input.
-        StopsReading agent (state_of world.old) (held_bytes console.old ++ input) (W.contents writer.old) (W.contents writer.new) (state_of world.new) console.new (R.remaining reader.new)) }
+        StopsReading agent (state_of world.old) (held_bytes console.old ++ input) (W.contents writer.old) (W.contents writer.new)
+        (state_of world.new) console.new (R.remaining reader.new)) }
     ensures write { IsErrOf result DriveFault.Write → IfSome (R.remaining reader.old) (λ input.
-        StopsWriting agent (state_of world.old) (held_bytes console.old ++ input) (W.contents writer.old) (W.contents writer.new) (state_of world.new) (R.remaining reader.new)) }
+        StopsWriting agent (state_of world.old) (held_bytes console.old ++ input) (W.contents writer.old) (W.contents writer.new) (state_of world.new)
+        (R.remaining reader.new)) }
     ensures emptied { OnOk result (console.new ≡ nothing_held) }
     ensures dropped { IsErrOf result DriveFault.Write → console.new ≡ nothing_held }
 {

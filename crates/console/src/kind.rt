@@ -1,9 +1,10 @@
 //! The commands: their names, and what comes after the name. All of it is this project's choice.
-ghost use Rattle.std.specs.Prelude.{◌≡◌, ◌≤◌, ◌<◌, ◌^◌, ℕ, take, get_or, slice_index, length};
+ghost use Rattle.std.specs.Prelude.{◌≡◌, ◌≤◌, ◌<◌, ℕ, take, get_or, slice_index, length};
 ghost use Rattle.console.specs.Tokens.{within, IsWithin};
 ghost use Rattle.console.specs.Commands.{event_with, first_named, form_of, kind_named, most_bytes, number_limits, numbered, takes_grants};
 
 use crate::commands::LINE_LIMIT;
+use crate::numbers::{NUMBERS, Numbers};
 use loader::CODE_LIMIT;
 use machine::{Grants, STACK_SIZE};
 use memory::{OBJECT_BYTES, OBJECT_LIMIT};
@@ -70,9 +71,6 @@ pub struct Limits {
     pub least: u64,
     pub most: u64,
 }
-
-/// The most numbers that a command has.
-pub const NUMBERS: usize = 6;
 
 /// The most bytes that a line or a reply carries, but for code.
 pub const RANGE_LIMIT: usize = 4096;
@@ -146,6 +144,7 @@ impl Model for Form {
 }
 
 /// The form of a line that has numbers alone after its name.
+#[inline(always)]
 fn numbered(name: &'static [u8], numbers: &'static [Limits]) -> Form
     ensures { result ≡ numbered name.now numbers.now }
 {
@@ -161,7 +160,8 @@ fn numbered(name: &'static [u8], numbers: &'static [Limits]) -> Form
 const START: [Limits; NUMBERS] = [ANY; NUMBERS];
 
 impl Kind {
-    /// How a line of this kind is written: the one table of commands.
+    /// How a line of this kind is written: the one table of commands. Inlined, so that each reader of it looks up its own part.
+    #[inline(always)]
     fn form(self) -> Form
         ensures { result ≡ form_of self }
     {
@@ -230,35 +230,35 @@ impl Kind {
     }
 
     /// The command of this kind, with these numbers, bytes and grants.
-    pub fn event(self, numbers: [u64; NUMBERS], bytes: Bytes, grants: Grants) -> Event
+    pub fn event(self, numbers: Numbers, bytes: Bytes, grants: Grants) -> Event
         requires { (i : ℕ) → i < length (number_limits self) → IsWithin (get_or (number_limits self) i (within 0 0)) (slice_index numbers i) }
         ensures { result ≡ event_with self (take (length (number_limits self)) numbers) bytes grants }
     {
-        let number = low_half(numbers[0]);
-        let machine = numbers[0] as usize;
-        let offset = low_half(numbers[1]);
-        let slot = low_half(numbers[1]);
-        let address = numbers[1];
-        let length = low_half(numbers[2]);
+        let object = numbers.object();
+        let machine = numbers.machine();
+        let offset = numbers.offset();
+        let slot = numbers.slot();
+        let address = numbers.address();
+        let length = numbers.length();
         match self {
             Kind::Make => Event::Make {
-                length: ObjectLength::new(numbers[0]).unwrap(),
+                length: ObjectLength::new(numbers.new_length()).unwrap(),
             },
             Kind::Ship | Kind::Ship2 => Event::Ship {
                 start: Start {
-                    fuel: numbers[0],
-                    arguments: [numbers[1], numbers[2], numbers[3], numbers[4], numbers[5]],
+                    fuel: numbers.fuel(),
+                    arguments: numbers.arguments(),
                     grants,
                 },
                 code: bytes,
             },
-            Kind::Free => of_object(number, ObjectCommand::Free),
-            Kind::Put => of_object(number, ObjectCommand::Put { offset, bytes }),
-            Kind::Get => of_object(number, ObjectCommand::Get { offset, length }),
-            Kind::Leave => of_object(number, ObjectCommand::Move(Move::Leave)),
-            Kind::Left => of_object(number, ObjectCommand::Move(Move::Left)),
-            Kind::Return => of_object(number, ObjectCommand::Move(Move::Return)),
-            Kind::Returned => of_object(number, ObjectCommand::Move(Move::Returned)),
+            Kind::Free => of_object(object, ObjectCommand::Free),
+            Kind::Put => of_object(object, ObjectCommand::Put { offset, bytes }),
+            Kind::Get => of_object(object, ObjectCommand::Get { offset, length }),
+            Kind::Leave => of_object(object, ObjectCommand::Move(Move::Leave)),
+            Kind::Left => of_object(object, ObjectCommand::Move(Move::Left)),
+            Kind::Return => of_object(object, ObjectCommand::Move(Move::Return)),
+            Kind::Returned => of_object(object, ObjectCommand::Move(Move::Returned)),
             Kind::Step => of_machine(machine, MachineCommand::Step(Way::Step)),
             Kind::One => of_machine(machine, MachineCommand::Step(Way::One)),
             Kind::Regs => showing(machine, ShowCommand::Regs),
@@ -275,6 +275,7 @@ impl Kind {
 }
 
 /// The first of these kinds that has this name.
+#[inline]
 fn find_named(name: &[u8], kinds: &[Kind]) -> Option<Kind>
     ensures { result ≡ first_named name.now kinds.now }
 {
@@ -312,11 +313,4 @@ fn debugging(machine: usize, command: DebugCommand) -> Event
     ensures { result ≡ Event.Machine machine (MachineCommand.Debug command) }
 {
     of_machine(machine, MachineCommand::Debug(command))
-}
-
-/// The number's low 32 bits: all of it, where it is so small.
-fn low_half(number: u64) -> u32
-    ensures { number < 2 ^ 32 → result ≡ number }
-{
-    (number & u32::MAX as u64) as u32
 }

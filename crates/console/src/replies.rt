@@ -5,28 +5,22 @@ ghost use Rattle.console.specs.Lines.{ended, bad_text, nomem_text};
 ghost use Rattle.hex.specs.Hex.{encode_lower};
 ghost use Rattle.loader.specs.Refusals.{why_name};
 ghost use Rattle.world.specs.Machines.{reply_of, reply_to_step};
+ghost use Rattle.world.specs.declared.replies.Reply.{Reply};
 ghost use Rattle.console.specs.Replies.{reply_text, number_text, value_text, stop_name, stop_value_text, state_name, shown_text, place_name, IsShort};
 
 use crate::digits::write_digits;
 use crate::fault::LineFault;
-use arrayvec::ArrayVec;
+use crate::kind::RANGE_LIMIT;
 use loader::LoadError;
 use machine::Stop;
+use streams::Line;
 use world::{Place, Reply, Shown, State, StepReply};
 
 /// The most bytes of a reply, with its line end.
 pub const REPLY_LIMIT: usize = 8_200;
 
 /// The line of a reply.
-pub type ReplyLine = ArrayVec<u8, REPLY_LIMIT>;
-
-/// Adds a text.
-pub fn put(line: &mut ReplyLine, text: &[u8])
-    requires { array_vec_len line.old + length text.now ≤ REPLY_LIMIT }
-    ensures { line.new.items ≡ line.old.items ++ text.now }
-{
-    let _ = line.try_extend_from_slice(text);
-}
+pub type ReplyLine = Line<REPLY_LIMIT>;
 
 /// Adds a space and a number in decimal.
 fn put_number(line: &mut ReplyLine, number: u64)
@@ -34,8 +28,8 @@ fn put_number(line: &mut ReplyLine, number: u64)
     ensures text { line.new.items ≡ line.old.items ++ number_text number }
     ensures short { array_vec_len line.new ≤ array_vec_len line.old + 21 }
 {
-    put(line, b" ");
-    put(line, itoa::Buffer::new().format(number).as_bytes());
+    line.put(b" ");
+    line.put_decimal(number);
 }
 
 /// Adds a name, a space and a number in decimal.
@@ -44,7 +38,7 @@ pub fn put_named(line: &mut ReplyLine, name: &[u8], number: u64)
     ensures text { line.new.items ≡ line.old.items ++ name.now ++ number_text number }
     ensures short { array_vec_len line.new ≤ array_vec_len line.old + length name.now + 21 }
 {
-    put(line, name);
+    line.put(name);
     put_number(line, number);
 }
 
@@ -66,8 +60,8 @@ fn put_value(line: &mut ReplyLine, value: u64)
 {
     let mut digits = [0u8; 16];
     write_digits(&value.to_be_bytes(), &mut digits);
-    put(line, b" ");
-    put(line, &digits);
+    line.put(b" ");
+    line.put(&digits);
 }
 
 /// Adds values in hex.
@@ -96,9 +90,19 @@ fn put_bytes(line: &mut ReplyLine, bytes: &[u8])
         let count = rest.len().min(BLOCK);
         let text = &mut digits[..2 * count];
         write_digits(&rest[..count], text);
-        put(line, text);
+        line.put(text);
         rest = &rest[count..];
     }
+}
+
+/// Adds that these bytes are shown.
+fn put_shown_bytes(line: &mut ReplyLine, bytes: &[u8])
+    requires { array_vec_len line.old + 2 * length bytes.now + 6 ≤ REPLY_LIMIT }
+    ensures text { line.new.items ≡ line.old.items ++ codes "bytes " ++ encode_lower bytes.now }
+    ensures short { array_vec_len line.new ≡ array_vec_len line.old + 2 * length bytes.now + 6 }
+{
+    line.put(b"bytes ");
+    put_bytes(line, bytes);
 }
 
 /// The name of a stop.
@@ -123,8 +127,8 @@ fn put_stop(line: &mut ReplyLine, stop: Stop)
     ensures text { line.new.items ≡ line.old.items ++ codes " " ++ stop_name stop ++ stop_value_text stop }
     ensures short { array_vec_len line.new ≤ array_vec_len line.old + 28 }
 {
-    put(line, b" ");
-    put(line, name_of_stop(stop));
+    line.put(b" ");
+    line.put(name_of_stop(stop));
     if let Stop::Exit(value) = stop {
         put_value(line, value);
     }
@@ -136,11 +140,11 @@ fn put_state(line: &mut ReplyLine, state: State)
     ensures text { line.new.items ≡ line.old.items ++ codes " " ++ state_name state }
     ensures short { array_vec_len line.new ≤ array_vec_len line.old + 11 }
 {
-    put(line, b" ");
+    line.put(b" ");
     match state {
-        State::Running => put(line, b"run"),
-        State::Paused => put(line, b"paused"),
-        State::Stopped(stop) => put(line, name_of_stop(stop)),
+        State::Running => line.put(b"run"),
+        State::Paused => line.put(b"paused"),
+        State::Stopped(stop) => line.put(name_of_stop(stop)),
     }
 }
 
@@ -176,7 +180,7 @@ fn put_kept(line: &mut ReplyLine, object: u32, why: &[u8])
     ensures short { array_vec_len line.new ≤ array_vec_len line.old + length why.now + 25 }
 {
     put_named(line, b"kept", object as u64);
-    put(line, why);
+    line.put(why);
 }
 
 /// Adds where and why code is refused.
@@ -186,8 +190,8 @@ fn put_refusal(line: &mut ReplyLine, error: &LoadError)
     ensures short { array_vec_len line.new ≤ array_vec_len line.old + 39 }
 {
     put_named(line, b"refused", error.slot as u64);
-    put(line, b" ");
-    put(line, error.why.name());
+    line.put(b" ");
+    line.put(error.why.name());
 }
 
 /// Adds the reply to a step of a machine.
@@ -221,11 +225,8 @@ pub fn print_reply(reply: &Reply, line: &mut ReplyLine)
         Reply::Left { object } => put_named(line, b"left", *object as u64),
         Reply::Returning { object } => put_named(line, b"returning", *object as u64),
         Reply::Home { object } => put_named(line, b"home", *object as u64),
-        Reply::Done => put(line, b"ok"),
-        Reply::Bytes(bytes) => {
-            put(line, b"bytes ");
-            put_bytes(line, bytes.as_slice());
-        }
+        Reply::Done => line.put(b"ok"),
+        Reply::Bytes(bytes) => put_shown_bytes(line, bytes.as_slice()),
         Reply::Shipped { machine } => put_named(line, b"shipped", *machine as u64),
         Reply::Ran { machine, slot } => put_step(line, *machine, StepReply::Ran(*slot)),
         Reply::Hit { machine, slot } => put_step(line, *machine, StepReply::Hit(*slot)),
@@ -248,31 +249,41 @@ pub fn print_reply(reply: &Reply, line: &mut ReplyLine)
             text,
         } => {
             put_pair(line, b"line", *machine as u64, *slot as u64);
-            put(line, b" ");
-            put(line, text.as_slice());
+            line.put(b" ");
+            line.put(text.as_slice());
         }
-        Reply::NoMemory => put(line, b"nomem"),
-        Reply::Full => put(line, b"full"),
-        Reply::NoRoom => put(line, b"noroom"),
-        Reply::Outside => put(line, b"outside"),
+        Reply::NoMemory => line.put(b"nomem"),
+        Reply::Full => line.put(b"full"),
+        Reply::NoRoom => line.put(b"noroom"),
+        Reply::Outside => line.put(b"outside"),
         Reply::Away { object } => put_named(line, b"away", *object as u64),
         Reply::Misplaced { object, place } => {
             put_named(line, b"place", *object as u64);
-            put(line, b" ");
-            put(line, name_of_place(*place));
+            line.put(b" ");
+            line.put(name_of_place(*place));
         }
         Reply::Scoped { object } => put_kept(line, *object, b" scoped"),
         Reply::Faulted { object, place } => {
             put_kept(line, *object, b" fault ");
-            put(line, name_of_place(*place));
+            line.put(name_of_place(*place));
         }
-        Reply::NoSlot => put(line, b"noslot"),
-        Reply::NoWatch => put(line, b"nowatch"),
-        Reply::NotPaused => put(line, b"notpaused"),
+        Reply::NoSlot => line.put(b"noslot"),
+        Reply::NoWatch => line.put(b"nowatch"),
+        Reply::NotPaused => line.put(b"notpaused"),
         Reply::Refused(error) => put_refusal(line, error),
-        Reply::Missing => put(line, b"none"),
+        Reply::Missing => line.put(b"none"),
     }
-    put(line, b"\n");
+    line.end();
+}
+
+/// Makes this the line of the reply that shows these bytes.
+pub fn print_bytes(bytes: &[u8], line: &mut ReplyLine)
+    requires { length bytes.now ≤ RANGE_LIMIT }
+    ensures { line.new.items ≡ ended (reply_text (Reply.Bytes bytes.now)) }
+{
+    line.clear();
+    put_shown_bytes(line, bytes);
+    line.end();
 }
 
 /// Makes this the line of the reply to a step of the machine of this number, if there is one.
@@ -282,9 +293,9 @@ pub fn print_step(machine: usize, reply: Option<StepReply>, line: &mut ReplyLine
     line.clear();
     match reply {
         Some(reply) => put_step(line, machine, reply),
-        None => put(line, b"none"),
+        None => line.put(b"none"),
     }
-    put(line, b"\n");
+    line.end();
 }
 
 /// Makes this the line that answers a line of which no command came.
@@ -294,7 +305,7 @@ pub fn print_fault(fault: LineFault, line: &mut ReplyLine)
 {
     line.clear();
     match fault {
-        LineFault::Bad => put(line, b"bad\n"),
-        LineFault::NoMemory => put(line, b"nomem\n"),
+        LineFault::Bad => line.put(b"bad\n"),
+        LineFault::NoMemory => line.put(b"nomem\n"),
     }
 }

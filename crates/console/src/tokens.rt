@@ -1,5 +1,6 @@
 //! The tokens of a line, one after the other.
-ghost use Rattle.std.specs.Prelude.{◌≡◌, ◌∷◌, ◌≤◌, ◌<◌, ◌^◌, ◌≢◌, ◌+◌, ◌++◌, ℕ, List, [], length, take, drop, get_or, All, codes, true, OnOk, IfOk, IfErr, IfSome, IfNone, Some, IsTrue, ◌↔◌, MatchOption, ◌==◌};
+ghost use Rattle.std.specs.Prelude.{◌≡◌, ◌∷◌, ◌≤◌, ◌<◌, ◌^◌, ◌≢◌, ◌+◌, ◌++◌, ℕ, List, [], length, take, drop, get_or, All, codes, true, OnOk, IfOk, IfErr};
+ghost use Rattle.std.specs.Prelude.{IfSome, IfNone, Some, IsTrue, ◌↔◌, MatchOption, ◌==◌};
 ghost use Rattle.std.specs.Str.Parse.{IsNumeral, digits_value};
 ghost use Rattle.hex.specs.Hex.{decode_of};
 ghost use Rattle.machine.specs.Grants.{GrantState};
@@ -8,7 +9,8 @@ ghost use Rattle.console.specs.Granting.{AreGrants, IsGrant};
 
 use crate::digits::are_hex_digits;
 use crate::fault::LineFault;
-use crate::kind::{Limits, NUMBERS, OBJECT};
+use crate::kind::{Limits, OBJECT};
+use crate::numbers::{NUMBERS, Numbers};
 use machine::{GRANT_LIMIT, Grant, Grants};
 use memchr::memchr;
 
@@ -68,7 +70,7 @@ impl<'a> Tokens<'a> {
     }
 
     /// The next tokens, which have to be numbers, one for each of the limits and within them. They come first, then zeros.
-    pub fn numbers(&mut self, limits: &[Limits]) -> Result<[u64; NUMBERS], LineFault>
+    pub fn numbers(&mut self, limits: &[Limits]) -> Result<Numbers, LineFault>
         requires { length limits.now ≤ NUMBERS }
         ensures ok { IfOk result (λ numbers. AreNumbers limits.now (tokens_left self.old) (take (length limits.now) numbers) (tokens_left self.new)) }
         ensures room { IfOk result (λ numbers. length numbers ≡ NUMBERS) }
@@ -79,12 +81,13 @@ impl<'a> Tokens<'a> {
         for i in 0..limits.len() {
             numbers[i] = self.number(limits[i])?;
         }
-        Ok(numbers)
+        Ok(Numbers::new(numbers))
     }
 
     /// The hex text of the bytes that come next: at most so many. Where there may be none, nothing is read.
     pub fn bytes(&mut self, most: Option<usize>) -> Result<&'a [u8], LineFault>
-        ensures ok { IfOk result (λ text. (bytes : List ℕ) × AreBytes most (tokens_left self.old) bytes (tokens_left self.new) × (decode_of text.now ≡ Ok bytes)) }
+        ensures ok { IfOk result (λ text. (bytes : List ℕ) × AreBytes most (tokens_left self.old) bytes (tokens_left self.new)
+            × (decode_of text.now ≡ Ok bytes)) }
         ensures err { IfErr result (λ e. (e ≡ LineFault.Bad)
             × ((bytes : List ℕ) (left : List (List ℕ)) → AreBytes most (tokens_left self.old) bytes left → ⊥)) }
     {
@@ -96,7 +99,8 @@ impl<'a> Tokens<'a> {
 
     /// The next token, which has to be hex text of at most so many bytes.
     fn hex(&mut self, most: usize) -> Result<&'a [u8], LineFault>
-        ensures ok { IfOk result (λ text. (bytes : List ℕ) × AreBytes (Some most) (tokens_left self.old) bytes (tokens_left self.new) × (decode_of text.now ≡ Ok bytes)) }
+        ensures ok { IfOk result (λ text. (bytes : List ℕ) × AreBytes (Some most) (tokens_left self.old) bytes (tokens_left self.new)
+            × (decode_of text.now ≡ Ok bytes)) }
         ensures err { IfErr result (λ e. (e ≡ LineFault.Bad)
             × ((bytes : List ℕ) (left : List (List ℕ)) → AreBytes (Some most) (tokens_left self.old) bytes left → ⊥)) }
     {
@@ -194,9 +198,7 @@ fn read_within(token: &[u8], limits: Limits) -> Option<u64>
     ensures some { IfSome result (λ n. IsNumberWithin limits token.now n) }
     ensures none { IfNone result ((n : ℕ) → IsNumberWithin limits token.now n → ⊥) }
 {
-    let Some(n) = read_number(token) else {
-        return None;
-    };
+    let n = read_number(token)?;
     if n < limits.least {
         return None;
     }
@@ -218,10 +220,7 @@ fn read_grant(word: &[u8], last: u32) -> Option<Grant>
     if !writes && word[0] != b'r' {
         return None;
     }
-    let Some(number) = read_within(&word[1..], OBJECT) else {
-        return None;
-    };
-    let number = number as u32;
+    let number = read_within(&word[1..], OBJECT)? as u32;
     if number <= last {
         return None;
     }

@@ -1,5 +1,5 @@
 //! Lines, replies and devices of a console, over public calls alone. Whole conversations are
-//! scripts, which the crate `conversations` runs.
+//! scripts, which the program `script_runner` runs.
 #![tactic(auto)]
 
 #[cfg(test)]

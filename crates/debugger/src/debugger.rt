@@ -1,5 +1,5 @@
 //! The debug state of one machine.
-ghost use Rattle.std.specs.Prelude.{◌≡◌, ◌≤◌, nat_eq, true, false, not, length, if◌then◌else◌};
+ghost use Rattle.std.specs.Prelude.{◌≡◌, ◌≤◌, ℕ, nat_eq, true, false, not, List, length, if◌then◌else◌};
 ghost use Rattle.std.specs.List.{list_any, filter};
 ghost use Rattle.loader.specs.ValidCode.{IsAt};
 ghost use Rattle.debugger.specs.declared.commands.DebugCommand.{DebugCommand};
@@ -97,10 +97,10 @@ impl Debugger {
     {
         match command {
             DebugCommand::Break { slot } => self.set_break(program, slot),
-            DebugCommand::Unbreak { slot } => self.clear_break(program, slot),
-            DebugCommand::Watch { address, length } => self.set_watch(program, address, length),
-            DebugCommand::Unwatch { address, length } => self.clear_watch(program, address, length),
-            DebugCommand::Resume => self.resume(program),
+            DebugCommand::Unbreak { slot } => self.clear_break(slot),
+            DebugCommand::Watch { address, length } => self.set_watch(address, length),
+            DebugCommand::Unwatch { address, length } => self.clear_watch(address, length),
+            DebugCommand::Resume => self.resume(),
         }
     }
 
@@ -123,8 +123,8 @@ impl Debugger {
     }
 
     /// Clears the breakpoint at a slot.
-    fn clear_break(&mut self, _program: &Program, slot: u32) -> Debugged
-        ensures { Debugs (DebugCommand.Unbreak slot) _program.now self.old result self.new }
+    fn clear_break(&mut self, slot: u32) -> Debugged
+        ensures { (code : List ℕ) → Debugs (DebugCommand.Unbreak slot) code self.old result self.new }
     {
         let slot = slot as usize;
         if !has_slot(self.breakpoints.as_slice(), slot) {
@@ -135,8 +135,8 @@ impl Debugger {
     }
 
     /// Watches so many bytes from an address on. A range that is watched already stays.
-    fn set_watch(&mut self, _program: &Program, address: u64, length: u32) -> Debugged
-        ensures { Debugs (DebugCommand.Watch address length) _program.now self.old result self.new }
+    fn set_watch(&mut self, address: u64, length: u32) -> Debugged
+        ensures { (code : List ℕ) → Debugs (DebugCommand.Watch address length) code self.old result self.new }
     {
         let watch = Watch::at(address, length);
         if !watch.ends_within() {
@@ -153,8 +153,8 @@ impl Debugger {
     }
 
     /// Watches a range no more. It has to have this address and this length.
-    fn clear_watch(&mut self, _program: &Program, address: u64, length: u32) -> Debugged
-        ensures { Debugs (DebugCommand.Unwatch address length) _program.now self.old result self.new }
+    fn clear_watch(&mut self, address: u64, length: u32) -> Debugged
+        ensures { (code : List ℕ) → Debugs (DebugCommand.Unwatch address length) code self.old result self.new }
     {
         let watch = Watch::at(address, length);
         if !has_range(self.watches.as_slice(), &watch) {
@@ -165,8 +165,8 @@ impl Debugger {
     }
 
     /// Lets a paused machine go on. The breakpoint where it is, if any, is passed.
-    fn resume(&mut self, _program: &Program) -> Debugged
-        ensures { Debugs DebugCommand.Resume _program.now self.old result self.new }
+    fn resume(&mut self) -> Debugged
+        ensures { (code : List ℕ) → Debugs DebugCommand.Resume code self.old result self.new }
     {
         if !mem::take(&mut self.paused) {
             return Debugged::NotPaused;
@@ -227,7 +227,6 @@ impl Debugger {
     }
 }
 
-/// Whether an instruction begins at the slot.
 fn begins(program: &Program, slot: usize) -> bool
     ensures begins { result ≡ true → IsAt program.now slot }
     ensures none { result ≡ false → IsAt program.now slot → ⊥ }

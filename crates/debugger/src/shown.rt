@@ -49,7 +49,6 @@ impl Model for Bytes {
 }
 
 impl Bytes {
-    /// These bytes.
     pub fn new(bytes: Vec<u8>) -> Self
         ensures { result ≡ bytes.items }
     {
@@ -63,7 +62,6 @@ impl Bytes {
         self.bytes
     }
 
-    /// The bytes.
     pub fn as_slice(&self) -> &[u8]
         ensures { result.now ≡ self.now }
     {
@@ -102,7 +100,6 @@ impl Model for LineText {
 }
 
 impl LineText {
-    /// This text.
     pub fn new(text: Vec<u8>) -> Self
         requires { length text.items ≤ 256 }
         ensures { result ≡ text.items }
@@ -148,7 +145,6 @@ impl Model for Values {
 }
 
 impl Values {
-    /// These values.
     pub fn new(values: &[u64]) -> Self
         requires { length values.now ≤ emitted_limit }
         ensures { result ≡ values.now }
@@ -158,7 +154,6 @@ impl Values {
         Values { values: kept }
     }
 
-    /// The values.
     pub fn as_slice(&self) -> &[u64]
         ensures values { result.now ≡ self.now }
         ensures count { length result.now ≤ emitted_limit }

@@ -3,17 +3,17 @@ ghost use Rattle.std.specs.Prelude.{◌≡◌, ◌≤◌, ◌++◌, length, OnOk
 ghost use Rattle.arrayvec.specs.ArrayVec.{array_vec_len};
 ghost use Rattle.asm_table.specs.Canonical.{line_text};
 
-use crate::operands::{Line, put, put_operands};
+use crate::operands::{InstrLine, put_operands};
 use asm_table::{mnemonic_of, operands_of};
 use isa_table::Instr;
 use std::alloc::AllocError;
 
-fn line_of(i: &Instr) -> Line
+fn line_of(i: &Instr) -> InstrLine
     ensures text { result.items ≡ line_text i.now }
     ensures short { array_vec_len result ≤ 256 }
 {
-    let mut line = Line::new();
-    put(&mut line, mnemonic_of(i).name());
+    let mut line = InstrLine::new();
+    line.put(mnemonic_of(i).name());
     put_operands(&mut line, operands_of(i).as_slice());
     line
 }

@@ -1,47 +1,30 @@
 //! The text of an operand.
 ghost use Rattle.std.specs.Prelude.{◌≡◌, ◌≤◌, ◌<◌, ◌+◌, ◌*◌, ◌++◌, length, decimal, pos, false, ◌∷◌, []};
-ghost use Rattle.std.specs.Fmt.{signed_decimal, digits};
+ghost use Rattle.std.specs.Fmt.{digits};
 ghost use Rattle.arrayvec.specs.ArrayVec.{array_vec_len};
 ghost use Rattle.asm_table.specs.Canonical.{plus_text, offset_text, operand_text, more_text, operands_text};
 
 use crate::hex::hex_digits;
-use arrayvec::ArrayVec;
 use asm_table::{AsmOperand, register_name};
+use streams::Line;
 
-/// A line while it is written.
-pub type Line = ArrayVec<u8, 256>;
-
-/// Adds a text.
-pub fn put(line: &mut Line, text: &[u8])
-    requires { array_vec_len line.old + length text.now ≤ 256 }
-    ensures text { line.new.items ≡ line.old.items ++ text.now }
-    ensures len { array_vec_len line.new ≡ array_vec_len line.old + length text.now }
-{
-    let _ = line.try_extend_from_slice(text);
-}
-
-fn put_signed(line: &mut Line, z: i32)
-    requires { array_vec_len line.old + 40 ≤ 256 }
-    ensures text { line.new.items ≡ line.old.items ++ signed_decimal z }
-    ensures len { array_vec_len line.new ≤ array_vec_len line.old + 40 }
-{
-    put(line, itoa::Buffer::new().format(z).as_bytes());
-}
+/// The line of an instruction.
+pub type InstrLine = Line<256>;
 
 /// With a sign before it in any case.
-fn put_plus(line: &mut Line, z: i32)
+fn put_plus(line: &mut InstrLine, z: i32)
     requires { array_vec_len line.old + 41 ≤ 256 }
     ensures text { line.new.items ≡ line.old.items ++ plus_text z }
     ensures len { array_vec_len line.new ≤ array_vec_len line.old + 41 }
 {
     if z >= 0 {
-        put(line, b"+");
+        line.put(b"+");
     }
-    put(line, itoa::Buffer::new().format(z).as_bytes());
+    line.put_decimal(z);
 }
 
 /// Nothing for 0.
-fn put_offset(line: &mut Line, z: i16)
+fn put_offset(line: &mut InstrLine, z: i16)
     requires { array_vec_len line.old + 41 ≤ 256 }
     ensures text { line.new.items ≡ line.old.items ++ offset_text z }
     ensures len { array_vec_len line.new ≤ array_vec_len line.old + 41 }
@@ -52,30 +35,30 @@ fn put_offset(line: &mut Line, z: i16)
     put_plus(line, i32::from(z))
 }
 
-fn put_imm64(line: &mut Line, k: u64)
+fn put_imm64(line: &mut InstrLine, k: u64)
     requires { array_vec_len line.old + 18 ≤ 256 }
     ensures text { line.new.items ≡ line.old.items ++ 48 ∷ 120 ∷ digits 16 false k }
     ensures len { array_vec_len line.new ≤ array_vec_len line.old + 18 }
 {
     let mut buffer = [0u8; 16];
     let at = hex_digits(k, &mut buffer);
-    put(line, b"0x");
-    put(line, &buffer[at..]);
+    line.put(b"0x");
+    line.put(&buffer[at..]);
 }
 
-fn put_operand(line: &mut Line, o: AsmOperand)
+fn put_operand(line: &mut InstrLine, o: AsmOperand)
     requires { array_vec_len line.old + 50 ≤ 256 }
     ensures text { line.new.items ≡ line.old.items ++ operand_text o }
     ensures len { array_vec_len line.new ≤ array_vec_len line.old + 50 }
 {
     match o {
-        AsmOperand::Register(r) => put(line, register_name(r)),
-        AsmOperand::Imm(z) => put_signed(line, z),
+        AsmOperand::Register(r) => line.put(register_name(r)),
+        AsmOperand::Imm(z) => line.put_decimal(z),
         AsmOperand::Memory(r, z) => {
-            put(line, b"[");
-            put(line, register_name(r));
+            line.put(b"[");
+            line.put(register_name(r));
             put_offset(line, z);
-            put(line, b"]");
+            line.put(b"]");
         }
         AsmOperand::Imm64(k) => put_imm64(line, k),
         AsmOperand::Offset(z) => put_plus(line, i32::from(z)),
@@ -84,19 +67,19 @@ fn put_operand(line: &mut Line, o: AsmOperand)
 }
 
 /// Adds the operands after the first.
-fn put_more(line: &mut Line, operands: &[AsmOperand])
+fn put_more(line: &mut InstrLine, operands: &[AsmOperand])
     requires { array_vec_len line.old + 52 * length operands.now ≤ 256 }
     ensures text { line.new.items ≡ line.old.items ++ more_text operands.now }
     ensures len { array_vec_len line.new ≤ array_vec_len line.old + 52 * length operands.now }
 {
     for o in operands {
-        put(line, b", ");
+        line.put(b", ");
         put_operand(line, *o);
     }
 }
 
 /// Adds a blank and all operands, or nothing where there is none.
-pub fn put_operands(line: &mut Line, operands: &[AsmOperand])
+pub fn put_operands(line: &mut InstrLine, operands: &[AsmOperand])
     requires { array_vec_len line.old + 52 * length operands.now ≤ 256 }
     ensures text { line.new.items ≡ line.old.items ++ operands_text operands.now }
     ensures len { array_vec_len line.new ≤ array_vec_len line.old + 52 * length operands.now }
@@ -104,7 +87,7 @@ pub fn put_operands(line: &mut Line, operands: &[AsmOperand])
     match operands {
         [] => {}
         [first, rest @ ..] => {
-            put(line, b" ");
+            line.put(b" ");
             put_operand(line, *first);
             put_more(line, rest);
         }

@@ -2,7 +2,7 @@
 
 use crate::told::are_told;
 use console::{DriveFault, LineFault};
-use far_server::ListenFault;
+use far_server::ServerFault;
 use std::test::Fail;
 use streams::{InputFault, ReadFault, WriteFault};
 
@@ -34,10 +34,10 @@ fn conversations(rt: HostRuntime) -> Result<(), Fail> {
 #[test]
 fn servers(rt: HostRuntime) -> Result<(), Fail> {
     let cases = &[
-        (ListenFault::Net, "net fault"),
-        (ListenFault::Read, "read fault"),
-        (ListenFault::Write, "write fault"),
-        (ListenFault::NoMemory, "no memory"),
+        (ServerFault::Net, "net fault"),
+        (ServerFault::Read, "read fault"),
+        (ServerFault::Write, "write fault"),
+        (ServerFault::NoMemory, "no memory"),
     ];
     are_told(&rt, rt.alloc(), cases)
 }

@@ -2,10 +2,8 @@
 use Rattle.std.specs.Prelude.{ℕ, List, [], ◌∷◌, ◌++◌, codes, decimal}
 use Rattle.far_stream.specs.declared.fault.StreamFault.{StreamFault}
 use Rattle.far_stream.specs.declared.fault.StreamFault.TheVariants.{Io, Damaged, Protocol}
-
--- the line that says which port is listened on
-abbrev pub listening_line : ℕ → List ℕ
-listening_line port = codes "listening " ++ decimal port ++ 10 ∷ []
+use Rattle.far_server.specs.declared.fault.ServerFault.{ServerFault}
+use Rattle.far_server.specs.declared.fault.ServerFault.TheVariants.{Net, Read, Write, NoMemory}
 
 -- what came of a client
 abbrev pub fault_name : StreamFault → List ℕ
@@ -16,3 +14,10 @@ fault_name Protocol = codes "protocol fault"
 -- the line that says why the client of this number was given up
 abbrev pub client_line : ℕ → StreamFault → List ℕ
 client_line number fault = codes "client " ++ decimal number ++ codes ": " ++ fault_name fault ++ 10 ∷ []
+
+-- what is said of a server that ended otherwise than with its input
+abbrev pub server_fault_name : ServerFault → List ℕ
+server_fault_name Net = codes "net fault"
+server_fault_name Read = codes "read fault"
+server_fault_name Write = codes "write fault"
+server_fault_name NoMemory = codes "no memory"

@@ -1,20 +1,34 @@
 //! What can go wrong.
+ghost use Rattle.std.specs.Prelude.{◌≡◌, ◌≤◌, length};
+ghost use Rattle.far_server.specs.Texts.{server_fault_name};
 
 use thiserror::Error;
 
 /// Why a server ended otherwise than with its input.
 #[derive(Clone, Copy, Drop, Debug, PartialEq, Eq, Error)]
-pub enum ListenFault {
+#[error("{}", self.name())]
+pub enum ServerFault {
     /// The port can't be listened on, or clients can't be accepted any more.
-    #[error("net fault")]
     Net,
     /// The input failed.
-    #[error("read fault")]
     Read,
     /// The output failed.
-    #[error("write fault")]
     Write,
     /// Out of memory, for a thread too, before it listens.
-    #[error("no memory")]
     NoMemory,
+}
+
+impl ServerFault {
+    /// As it is shown to a user.
+    pub fn name(self) -> &'static str
+        ensures name { result.now ≡ server_fault_name self }
+        ensures short { length result.now ≤ 11 }
+    {
+        match self {
+            ServerFault::Net => "net fault",
+            ServerFault::Read => "read fault",
+            ServerFault::Write => "write fault",
+            ServerFault::NoMemory => "no memory",
+        }
+    }
 }

@@ -10,7 +10,7 @@ mod listening;
 mod texts;
 mod threads;
 
-pub use fault::ListenFault;
+pub use fault::ServerFault;
 pub use hall::CLIENT_LIMIT;
 pub use journal::{Journal, Refusal, Unwritten};
-pub use listening::listen;
+pub use listening::run_server;

@@ -6,35 +6,25 @@ ghost use Rattle.far_server.specs.Announced.{Announces, AnnouncesAs};
 ghost use Rattle.far_server.specs.Told.{Tells};
 
 use crate::ended::Ended;
-use crate::fault::ListenFault;
+use crate::fault::ServerFault;
 use crate::journal::Journal;
-use crate::texts::listening;
 use crate::threads::Server;
 use crossbeam_channel::Receiver;
+use listener::{announce, bind};
 use std::alloc::Global;
-use std::io::{self, Read, Write};
-use std::net::{Ipv4Addr, Net, SocketAddr, TcpListener, TcpStream};
+use std::io::{Read, Write};
+use std::net::{Net, TcpListener, TcpStream};
 use std::sync::Wait;
 use std::thread::Threads;
-use streams::{ReadFault, WriteFault, put_all};
-
-/// A listener on this port of 127.0.0.1, or on any free one where it is 0, and its address.
-fn bind<R: Net<Listener = TcpListener, Stream = TcpStream>>(
-    rt: &R,
-    port: u16,
-) -> io::Result<(TcpListener, SocketAddr)> {
-    let listener = TcpListener::bind(rt, SocketAddr::from((Ipv4Addr::LOCALHOST, port)))?;
-    let address = listener.local_addr()?;
-    Ok((listener, address))
-}
+use streams::{ReadFault, WriteFault};
 
 /// Says which port is listened on: the one that was asked for, or the bound one where that was 0.
-fn announce<W: Write>(asked: u16, bound: u16, writer: &mut W) -> Result<(), WriteFault>
+fn announce_asked<W: Write>(asked: u16, bound: u16, writer: &mut W) -> Result<(), WriteFault>
     ensures ok { OnOk result (Announces asked (Appends (W.contents writer.old) (W.contents writer.new))) }
     ensures err { OnErr result (Announces asked (AppendsPart (W.contents writer.old) (W.contents writer.new))) }
 {
     let port = if asked == 0 { bound } else { asked };
-    put_all(writer, &listening(port))
+    announce(port, writer)
 }
 
 /// Says why clients were given up, as they end, until the last has gone.
@@ -57,7 +47,7 @@ fn tell_all<R: Wait, E: Write>(rt: &R, ends: &Receiver<Ended, Global>, errors: &
 /// Why a client was given up is told on `errors`, in the order in which they end, by its number: clients are numbered from 1
 /// as they are let in. What a client sends and is sent is `serve_store`'s; of a socket's bytes no clause can speak.
 #[tactic(auto, using(crate::proofs::Telling::nothing_told))]
-pub fn listen<R, I, W: Write, E: Write, J>(
+pub fn run_server<R, I, W: Write, E: Write, J>(
     rt: &R,
     alloc: Global,
     port: u16,
@@ -65,7 +55,7 @@ pub fn listen<R, I, W: Write, E: Write, J>(
     writer: &mut W,
     errors: &mut E,
     journal: J,
-) -> Result<(), ListenFault>
+) -> Result<(), ServerFault>
 where
     R: Net<Listener = TcpListener, Stream = TcpStream>
         + Threads
@@ -83,27 +73,27 @@ where
         Ok(bound) => bound,
         Err(error) => {
             journal.refused_port(port, &error);
-            return Err(ListenFault::Net);
+            return Err(ServerFault::Net);
         }
     };
     let Ok(server) = Server::start(*rt, alloc, listener, address, journal) else {
-        return Err(ListenFault::NoMemory);
+        return Err(ServerFault::NoMemory);
     };
     let Ok(watcher) = server.end_with(*rt, input) else {
         server.stop(rt);
-        return Err(ListenFault::NoMemory);
+        return Err(ServerFault::NoMemory);
     };
     journal.listening(address.port());
-    if announce(port, address.port(), writer).is_err() {
+    if announce_asked(port, address.port(), writer).is_err() {
         server.stop(rt);
-        return Err(ListenFault::Write);
+        return Err(ServerFault::Write);
     }
     tell_all(rt, &server.ends, errors);
     if server.join(rt).is_err() {
-        return Err(ListenFault::Net);
+        return Err(ServerFault::Net);
     }
     match watcher.join(rt) {
         Ok(()) => Ok(()),
-        Err(ReadFault) => Err(ListenFault::Read),
+        Err(ReadFault) => Err(ServerFault::Read),
     }
 }

@@ -6,8 +6,9 @@ use crate::ended::Ended;
 use crate::hall::{Entry, Hall};
 use crate::journal::{Journal, Refusal};
 use crossbeam_channel::{Receiver, Sender, bounded};
+use listener::accept;
 use std::alloc::{AllocError, Global};
-use std::io::{Error, ErrorKind, Read};
+use std::io::Read;
 use std::net::{Net, SocketAddr, TcpListener, TcpStream};
 use std::sync::{Arc, Wait};
 use std::thread::{self, JoinHandle, Threads};
@@ -57,14 +58,6 @@ fn watch<R: Net + Wait, I: Read + Drop>(
     outcome
 }
 
-/// Whether a client went before it was accepted, or a signal came: the next may be accepted.
-fn is_passing(error: &Error) -> bool {
-    matches!(
-        error.kind(),
-        ErrorKind::ConnectionAborted | ErrorKind::Interrupted
-    )
-}
-
 /// What the threads of clients share.
 #[derive(Drop)]
 struct Tools<'a, R: Wait, J: Journal> {
@@ -93,15 +86,9 @@ fn next_client<R: Wait, J: Journal>(
     listener: &TcpListener,
 ) -> Result<Option<(u64, TcpStream)>, NetFault> {
     for _ in tools.rt.forever() {
-        let stream = match listener.accept() {
-            Ok((stream, _)) => stream,
-            Err(error) if is_passing(&error) => continue,
-            Err(_) => return Err(NetFault),
-        };
-        let Ok(shown) = stream.try_clone() else {
+        let Ok((stream, shown)) = accept(tools.rt, listener) else {
             return Err(NetFault);
         };
-        let _ = stream.set_nodelay(true);
         match tools.hall.admit(tools.rt, shown) {
             Entry::Admitted(client) => {
                 tools.journal.came(client);
@@ -116,7 +103,7 @@ fn next_client<R: Wait, J: Journal>(
 
 /// Serves each client that comes on a thread of its own, until the input has ended and all have gone. One for which no thread
 /// can be made finds its socket closed. Where no more can be accepted, those that are there are cut off.
-fn serve_all<R: Threads + Wait + Sync, J: Journal + Sync>(
+fn serve_clients<R: Threads + Wait + Sync, J: Journal + Sync>(
     tools: &Tools<R, J>,
     listener: &TcpListener,
 ) -> Result<(), NetFault> {
@@ -161,7 +148,7 @@ fn host<R: Threads + Wait + Sync + Copy, J: Journal + Sync + Copy>(
         ends: &ends,
         journal: &journal,
     };
-    serve_all(&tools, &listener)
+    serve_clients(&tools, &listener)
 }
 
 /// A server whose threads were made.

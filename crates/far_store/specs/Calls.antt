@@ -1,5 +1,5 @@
 -- What a far store is asked, and what it answers.
-use Rattle.std.specs.Prelude.{◌≡◌, ℕ, nat_eq, Bool, true, false, ◌&&◌, List, [], ◌∷◌, length, Option, Some, None, Result, Ok, Err}
+use Rattle.std.specs.Prelude.{◌≡◌, ℕ, Bool, true, false, List, [], ◌∷◌, length, Option, Some, None, Result, Ok, Err}
 use Rattle.far_store.specs.declared.fault.StoreFault.{StoreFault}
 use Rattle.far_store.specs.declared.fault.StoreFault.TheVariants.{Damaged, Memory, Refused}
 use Rattle.far_store.specs.Stores.{Rises}

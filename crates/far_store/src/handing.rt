@@ -1,5 +1,5 @@
-//! What a far store is whose bytes the caller keeps.
-ghost use Rattle.std.specs.Prelude.{◌≡◌, ◌≢◌, ℕ, List, Some, None, Ok, Err, IfOk, IfErr, OnOk, OnErr};
+//! A far store whose caller keeps the bytes, as that of the library for C can.
+ghost use Rattle.std.specs.Prelude.{◌≡◌, ◌≢◌, ℕ, List, None, Ok, Err, IfOk, IfErr, OnOk, OnErr};
 ghost use Rattle.far_store.specs.Stores.{Rises};
 ghost use Rattle.far_store.specs.Calls.Call.{Put, Get};
 ghost use Rattle.far_store.specs.declared.fault.StoreFault.TheVariants.{Damaged};

@@ -1,4 +1,5 @@
-//! Where an object is, and what a move did.
+//! Where an object is, and what a move did. Both stores of objects answer these, and no crate below both but this one knows
+//! the faults of a far store.
 
 use crate::fault::StoreFault;
 

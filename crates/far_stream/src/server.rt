@@ -104,7 +104,7 @@ fn serve_forget<S: Read + Write>(
 }
 
 /// Serves the request whose head came.
-fn serve<S: Read + Write>(
+fn serve_request<S: Read + Write>(
     alloc: Global,
     stream: &mut S,
     kept: &mut Vec<Kept>,
@@ -133,7 +133,7 @@ fn serve_next<S: Read + Write>(
 {
     match Head::read(stream)? {
         Some(request) => {
-            serve(alloc, stream, kept, request)?;
+            serve_request(alloc, stream, kept, request)?;
             Ok(true)
         }
         None => Ok(false),
@@ -150,7 +150,7 @@ pub fn serve_store<S: Read + Write>(alloc: Global, stream: &mut S) -> Result<(),
     ensures { Converses S.remaining S.contents stream.old result stream.new }
 {
     let mut kept = Vec::new(alloc);
-    for turn in 0..u64::MAX {
+    for _turns in 0..u64::MAX {
         if !serve_next(alloc, stream, &mut kept)? {
             return Ok(());
         }

@@ -5,7 +5,7 @@ use crate::compared::same;
 use crate::frames::{
     ALL_ASKS, ALL_SAYS, ASKS, GET_ASKS, GET_SAYS, PUT_ASKS, PUT_SAYS, SAYS, first,
 };
-use crate::wire::{Heard, Wire};
+use crate::wire::{BYTES, Heard, Limits, UNLIMITED, Wire};
 use far_store::StoreFault;
 use far_stream::StreamStore;
 use std::alloc::Global;
@@ -56,9 +56,11 @@ fn answers_cut_after_each_byte(rt: HostRuntime) {
 fn each_read_fails(rt: HostRuntime) {
     for good in 0..=ALL_SAYS {
         let heard = Heard::new();
-        let mut wire = Wire::new(SAYS, ASKS, &heard);
-        wire.size = 1;
-        wire.good_reads = good;
+        let limits = Limits {
+            good_reads: good,
+            ..BYTES
+        };
+        let wire = Wire::within(SAYS, ASKS, &heard, limits);
         let wanted = failed_after(good, PUT_SAYS, GET_SAYS, ALL_SAYS);
         same!(rt; asked(rt.alloc(), wire), wanted, good);
         let reads = ALL_SAYS.min(good.saturating_add(1));
@@ -72,10 +74,12 @@ fn each_write_fails(rt: HostRuntime) {
     for &takes_nothing in &[false, true] {
         for good in 0..=ALL_ASKS {
             let heard = Heard::new();
-            let mut wire = Wire::new(SAYS, ASKS, &heard);
-            wire.size = 1;
-            wire.good_writes = good;
-            wire.takes_nothing = takes_nothing;
+            let limits = Limits {
+                good_writes: good,
+                takes_nothing,
+                ..BYTES
+            };
+            let wire = Wire::within(SAYS, ASKS, &heard, limits);
             let wanted = failed_after(good, PUT_ASKS, GET_ASKS, ALL_ASKS);
             same!(rt; asked(rt.alloc(), wire), wanted, good);
             assert!(rt; heard.is(good), "{good} writes");
@@ -87,8 +91,7 @@ fn each_write_fails(rt: HostRuntime) {
 fn pieces_of_each_size(rt: HostRuntime) {
     for size in 1..=20usize {
         let heard = Heard::new();
-        let mut wire = Wire::new(SAYS, ASKS, &heard);
-        wire.size = size;
+        let wire = Wire::within(SAYS, ASKS, &heard, Limits { size, ..UNLIMITED });
         let wanted = (Outcome::Done, Some(Outcome::Done), 0);
         same!(rt; asked(rt.alloc(), wire), wanted, size);
         assert!(rt; heard.is(ALL_ASKS), "pieces of {size}");

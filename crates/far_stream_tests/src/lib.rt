@@ -1,5 +1,5 @@
 //! Tests of a far store over a stream, through public calls. Frames are laid out here by hand, and
-//! expected answers are those that docs/FAR-STREAM.md gives.
+//! expected answers are those that docs/FAR-MEMORY.md gives.
 #![tactic(auto)]
 
 #[cfg(test)]

@@ -2,13 +2,14 @@
 
 use crate::compared::same;
 use crate::frames::{ASKS, GET_ASKS, GET_SAYS, SAYS, first};
-use far_server::{CLIENT_LIMIT, ListenFault, Unwritten, listen};
+use far_server::{CLIENT_LIMIT, ServerFault, Unwritten, run_server};
 use std::alloc::Global;
 use std::io::{Error, ErrorKind, Read, Result as IoResult, Write};
 use std::net::{Ipv4Addr, Net, Shutdown, SocketAddr, TcpListener, TcpStream};
 use std::sync::Wait;
 use std::test::Fail;
 use std::thread::{self, Threads};
+use test_devices::ends;
 
 /// The port in a line `listening P`.
 fn port_of(line: &[u8]) -> Option<u16> {
@@ -90,25 +91,17 @@ fn four_clients<R: Net<Stream = TcpStream>>(
     Ok([served, cut_off, given_up, ended])
 }
 
-/// Both ends of a stream.
-fn ends<R: Net<Listener = TcpListener, Stream = TcpStream>>(
-    rt: &R,
-) -> IoResult<(TcpStream, TcpStream)> {
-    let listener = TcpListener::bind(rt, (Ipv4Addr::LOCALHOST, 0))?;
-    let near = TcpStream::connect(rt, listener.local_addr()?)?;
-    let (far, _) = listener.accept()?;
-    Ok((near, far))
-}
-
-/// Listens on any port, with this stream as input and output, and says how that ended and whether what
-/// was told of clients is one of these.
-fn listens<R>(
+/// How a server ends that listens on this port, or on any if it is 0, its output then, and what it told of clients.
+fn listens<I, O, R>(
     rt: &R,
     alloc: Global,
-    stream: TcpStream,
-    told: [&[u8]; 2],
-) -> (Result<(), ListenFault>, bool)
+    port: u16,
+    input: I,
+    mut output: O,
+) -> (Result<(), ServerFault>, O, Vec<u8>)
 where
+    I: Read + Send + Drop + 'static,
+    O: Write,
     R: Net<Listener = TcpListener, Stream = TcpStream>
         + Threads
         + Wait
@@ -118,12 +111,8 @@ where
         + 'static,
 {
     let mut errors = Vec::new(alloc);
-    let Ok(mut output) = stream.try_clone() else {
-        return (Err(ListenFault::Net), false);
-    };
-    let ended = listen(rt, alloc, 0, stream, &mut output, &mut errors, Unwritten);
-    let is_told = errors.as_slice() == told[0] || errors.as_slice() == told[1];
-    (ended, is_told)
+    let ended = run_server(rt, alloc, port, input, &mut output, &mut errors, Unwritten);
+    (ended, output, errors)
 }
 
 /// What is told of the second and the third client, whichever ends first.
@@ -131,6 +120,11 @@ const TOLD: [&[u8]; 2] = [
     b"client 2: protocol fault\nclient 3: protocol fault\n",
     b"client 3: protocol fault\nclient 2: protocol fault\n",
 ];
+
+/// Whether a server told of the second and the third client.
+fn is_told(errors: &[u8]) -> bool {
+    errors == TOLD[0] || errors == TOLD[1]
+}
 
 /// A request for the bytes under id 1, and the answer that there are none.
 const GET_FIRST: &[u8] = b"\x02\0\0\0\0\0\0\0\x01\0\0\0\0";
@@ -166,12 +160,14 @@ fn are_served<R: Net<Stream = TcpStream>>(
 fn clients_are_served_at_the_same_time(rt: HostRuntime) -> Result<(), Fail> {
     let alloc = rt.alloc();
     let (mut held, stream) = ends(&rt)?;
-    let server = thread::spawn(&rt, move || listens(&rt, alloc, stream, [b"", b""]))?;
+    let output = stream.try_clone()?;
+    let server = thread::spawn(&rt, move || listens(&rt, alloc, 0, stream, output))?;
     let port = port_of(&line_of(alloc, &mut held)?);
     let address = SocketAddr::from((Ipv4Addr::LOCALHOST, port.unwrap_or(0)));
     same!(rt; are_served(&rt, alloc, address)?, CLIENT_LIMIT);
     drop(held);
-    same!(rt; server.join(&rt), (Ok(()), true));
+    let (ended, _, errors) = server.join(&rt);
+    same!(rt; (ended, errors.is_empty()), (Ok(()), true));
     Ok(())
 }
 
@@ -180,39 +176,19 @@ fn clients_are_served_at_the_same_time(rt: HostRuntime) -> Result<(), Fail> {
 fn clients_are_served_one_after_another(rt: HostRuntime) -> Result<(), Fail> {
     let alloc = rt.alloc();
     let (mut held, stream) = ends(&rt)?;
-    let server = thread::spawn(&rt, move || listens(&rt, alloc, stream, TOLD))?;
+    let output = stream.try_clone()?;
+    let server = thread::spawn(&rt, move || listens(&rt, alloc, 0, stream, output))?;
     let port = port_of(&line_of(alloc, &mut held)?);
     assert!(rt; port.is_some());
     let found = four_clients(&rt, port.unwrap_or(0), held)?;
     same!(rt; found, [true; 4]);
-    same!(rt; server.join(&rt), (Ok(()), true));
+    let (ended, _, errors) = server.join(&rt);
+    same!(rt; (ended, is_told(&errors)), (Ok(()), true));
     Ok(())
 }
 
-/// How a server ends that is to listen on this port, where its input has ended, and on which port it
-/// says that it does.
-fn listens_on<R>(rt: &R, alloc: Global, port: u16) -> (Result<(), ListenFault>, Option<u16>)
-where
-    R: Net<Listener = TcpListener, Stream = TcpStream>
-        + Threads
-        + Wait
-        + Sync
-        + Copy
-        + Send
-        + 'static,
-{
-    let (mut output, mut errors) = (Vec::new(alloc), Vec::new(alloc));
-    let empty: &'static [u8] = b"";
-    let ended = listen(rt, alloc, port, empty, &mut output, &mut errors, Unwritten);
-    (
-        ended,
-        if errors.is_empty() {
-            port_of(&output)
-        } else {
-            None
-        },
-    )
-}
+/// An input that has ended.
+const ENDED: &[u8] = b"";
 
 /// A listener on any port, and which it is.
 fn taken<R: Net<Listener = TcpListener, Stream = TcpStream>>(
@@ -228,9 +204,12 @@ fn taken<R: Net<Listener = TcpListener, Stream = TcpStream>>(
 fn a_port_is_had_once(rt: HostRuntime) -> Result<(), Fail> {
     let alloc = rt.alloc();
     let (holder, port) = taken(&rt)?;
-    same!(rt; listens_on(&rt, alloc, port), (Err(ListenFault::Net), None));
+    let (ended, output, _) = listens(&rt, alloc, port, ENDED, Vec::new(alloc));
+    same!(rt; (ended, port_of(&output)), (Err(ServerFault::Net), None));
     drop(holder);
-    same!(rt; listens_on(&rt, alloc, port), (Ok(()), Some(port)));
+    let (ended, output, errors) = listens(&rt, alloc, port, ENDED, Vec::new(alloc));
+    same!(rt; (ended, port_of(&output)), (Ok(()), Some(port)));
+    assert!(rt; errors.is_empty());
     Ok(())
 }
 
@@ -258,54 +237,28 @@ impl Write for Full {
     }
 }
 
-/// How a server ends whose input fails, and whether it said before on which port it listens.
-fn listens_to_a_broken_one<R>(rt: &R, alloc: Global) -> (Result<(), ListenFault>, bool)
-where
-    R: Net<Listener = TcpListener, Stream = TcpStream>
-        + Threads
-        + Wait
-        + Sync
-        + Copy
-        + Send
-        + 'static,
-{
-    let (mut output, mut errors) = (Vec::new(alloc), Vec::new(alloc));
-    let ended = listen(rt, alloc, 0, Broken, &mut output, &mut errors, Unwritten);
-    (ended, port_of(&output).is_some() && errors.is_empty())
-}
-
-/// How a server ends whose output takes nothing, and whether it told nothing of clients.
-fn listens_with_a_full_one<R>(rt: &R, alloc: Global) -> (Result<(), ListenFault>, bool)
-where
-    R: Net<Listener = TcpListener, Stream = TcpStream>
-        + Threads
-        + Wait
-        + Sync
-        + Copy
-        + Send
-        + 'static,
-{
-    let mut errors = Vec::new(alloc);
-    let empty: &'static [u8] = b"";
-    let ended = listen(rt, alloc, 0, empty, &mut Full, &mut errors, Unwritten);
-    (ended, errors.is_empty())
+#[test]
+fn an_input_of_a_server_that_fails(rt: HostRuntime) {
+    let output = Vec::new(rt.alloc());
+    let (ended, output, errors) = listens(&rt, rt.alloc(), 0, Broken, output);
+    same!(rt; ended, Err(ServerFault::Read));
+    // it said before on which port it listens
+    same!(rt; (port_of(&output).is_some(), errors.is_empty()), (true, true));
 }
 
 #[test]
-fn streams_of_a_server_that_fail(rt: HostRuntime) {
-    let broken = listens_to_a_broken_one(&rt, rt.alloc());
-    same!(rt; broken, (Err(ListenFault::Read), true));
-    let full = listens_with_a_full_one(&rt, rt.alloc());
-    same!(rt; full, (Err(ListenFault::Write), true));
+fn an_output_of_a_server_that_fails(rt: HostRuntime) {
+    let (ended, _, errors) = listens(&rt, rt.alloc(), 0, ENDED, Full);
+    same!(rt; (ended, errors.is_empty()), (Err(ServerFault::Write), true));
 }
 
 #[test]
 fn texts_of_a_server(rt: HostRuntime) -> Result<(), Fail> {
     for &(fault, text) in &[
-        (ListenFault::Net, "net fault"),
-        (ListenFault::Read, "read fault"),
-        (ListenFault::Write, "write fault"),
-        (ListenFault::NoMemory, "no memory"),
+        (ServerFault::Net, "net fault"),
+        (ServerFault::Read, "read fault"),
+        (ServerFault::Write, "write fault"),
+        (ServerFault::NoMemory, "no memory"),
     ] {
         same!(rt; format!(in rt.alloc(); "{fault}")?.as_str(), text);
     }

@@ -4,7 +4,7 @@ use crate::compared::same;
 use crate::frames::{
     DONE, FORGET, GET, NO_ROOM, PUT, REFUSED_ID, add_frame, add_head, first, pattern,
 };
-use crate::wire::{Heard, Wire};
+use crate::wire::{BYTES, Heard, Limits, UNLIMITED, Wire};
 use far_stream::{KEPT_LIMIT, PAYLOAD_LIMIT, StreamFault, serve_store};
 use std::alloc::{AllocError, Global};
 use std::test::Fail;
@@ -85,16 +85,29 @@ fn answered(count: usize) -> (usize, bool) {
     (said, true)
 }
 
-/// How a server ends that is asked this, where it answers so many bytes of what it should.
-fn served<'a>(
+/// How a server ends that is asked this over a stream with these limits, and whether it answers so many bytes of what it should.
+fn served_within(
     alloc: Global,
-    asks: &'a [u8],
-    says: &'a [u8],
+    asks: &[u8],
+    says: &[u8],
+    limits: Limits,
+    count: usize,
+) -> (Result<(), StreamFault>, bool) {
+    let heard = Heard::new();
+    let mut wire = Wire::within(asks, says, &heard, limits);
+    let ended = serve_store(alloc, &mut wire);
+    (ended, heard.is(count))
+}
+
+/// How a server ends that is asked this, if it answers so many bytes of what it should.
+fn served(
+    alloc: Global,
+    asks: &[u8],
+    says: &[u8],
     count: usize,
 ) -> Option<Result<(), StreamFault>> {
-    let heard = Heard::new();
-    let ended = serve_store(alloc, &mut Wire::new(asks, says, &heard));
-    heard.is(count).then_some(ended)
+    let (ended, is_right) = served_within(alloc, asks, says, UNLIMITED, count);
+    is_right.then_some(ended)
 }
 
 /// Each answer is one write.
@@ -132,81 +145,47 @@ fn requests_cut_after_each_byte(rt: HostRuntime) -> Result<(), Fail> {
     Ok(())
 }
 
-/// How a server ends whose reads fail after so many good ones, and whether it answers so many bytes of what it should.
-fn served_with_reads(
-    alloc: Global,
-    asks: &[u8],
-    says: &[u8],
-    good: usize,
-    count: usize,
-) -> (Result<(), StreamFault>, bool) {
-    let heard = Heard::new();
-    let mut wire = Wire::new(asks, says, &heard);
-    wire.size = 1;
-    wire.good_reads = good;
-    let ended = serve_store(alloc, &mut wire);
-    (ended, heard.is(count))
-}
+/// How a server ends whose stream fails.
+const FAILS: Result<(), StreamFault> = Err(StreamFault::Io);
 
 #[test]
 fn each_read_of_the_server_fails(rt: HostRuntime) -> Result<(), Fail> {
     let (asks, says) = talk(rt.alloc())?;
-    for good in 0..=asks.len() {
-        let (said, _) = answered(good);
-        let found = served_with_reads(rt.alloc(), &asks, &says, good, said);
-        same!(rt; found, (Err(StreamFault::Io), true), good);
+    for good_reads in 0..=asks.len() {
+        let (said, _) = answered(good_reads);
+        let limits = Limits {
+            good_reads,
+            ..BYTES
+        };
+        let found = served_within(rt.alloc(), &asks, &says, limits, said);
+        same!(rt; found, (FAILS, true), good_reads);
     }
     Ok(())
-}
-
-/// How a server ends whose writes fail, or take nothing, after so many good ones, and whether it answers so many bytes.
-fn served_with_writes(
-    alloc: Global,
-    asks: &[u8],
-    says: &[u8],
-    good: usize,
-    takes_nothing: bool,
-) -> (Result<(), StreamFault>, bool) {
-    let heard = Heard::new();
-    let mut wire = Wire::new(asks, says, &heard);
-    wire.size = 1;
-    wire.good_writes = good;
-    wire.takes_nothing = takes_nothing;
-    let ended = serve_store(alloc, &mut wire);
-    (ended, heard.is(good))
 }
 
 #[test]
 fn each_write_of_the_server_fails(rt: HostRuntime) -> Result<(), Fail> {
     let (asks, says) = talk(rt.alloc())?;
-    for good in 0..says.len() {
-        let fails = served_with_writes(rt.alloc(), &asks, &says, good, false);
-        same!(rt; fails, (Err(StreamFault::Io), true), good);
-        let takes_nothing = served_with_writes(rt.alloc(), &asks, &says, good, true);
-        same!(rt; takes_nothing, (Err(StreamFault::Io), true), good);
+    for good_writes in 0..says.len() {
+        for &takes_nothing in &[false, true] {
+            let limits = Limits {
+                good_writes,
+                takes_nothing,
+                ..BYTES
+            };
+            let found = served_within(rt.alloc(), &asks, &says, limits, good_writes);
+            same!(rt; found, (FAILS, true), (good_writes, takes_nothing));
+        }
     }
     Ok(())
-}
-
-/// How a server ends whose stream gives and takes so many bytes a call, and whether it answers all that it should.
-fn served_in_pieces(
-    alloc: Global,
-    asks: &[u8],
-    says: &[u8],
-    size: usize,
-) -> (Result<(), StreamFault>, bool) {
-    let heard = Heard::new();
-    let mut wire = Wire::new(asks, says, &heard);
-    wire.size = size;
-    let ended = serve_store(alloc, &mut wire);
-    (ended, heard.is(says.len()))
 }
 
 #[test]
 fn requests_in_pieces(rt: HostRuntime) -> Result<(), Fail> {
     let (asks, says) = talk(rt.alloc())?;
     for size in 1..=20usize {
-        let found = served_in_pieces(rt.alloc(), &asks, &says, size);
+        let limits = Limits { size, ..UNLIMITED };
+        let found = served_within(rt.alloc(), &asks, &says, limits, says.len());
         same!(rt; found, (Ok(()), true), size);
     }
     Ok(())

@@ -29,15 +29,9 @@ impl Heard {
     }
 }
 
-/// A stream that gives the bytes that it has, at most so many a call, and then is at its end. It takes
-/// at most so many a call, too.
-#[derive(Drop)]
-pub struct Wire<'a> {
-    /// What is still to be said.
-    says: &'a [u8],
-    /// What should be heard from now on.
-    hears: &'a [u8],
-    heard: &'a Heard,
+/// What a wire gives and takes.
+#[derive(Clone, Copy, Drop)]
+pub struct Limits {
     /// The most bytes of a call.
     pub size: usize,
     /// How many reads come before the one that fails.
@@ -48,17 +42,44 @@ pub struct Wire<'a> {
     pub takes_nothing: bool,
 }
 
+/// Whatever it is asked for, without a failure.
+pub const UNLIMITED: Limits = Limits {
+    size: usize::MAX,
+    good_reads: usize::MAX,
+    good_writes: usize::MAX,
+    takes_nothing: false,
+};
+
+/// A byte a call.
+pub const BYTES: Limits = Limits {
+    size: 1,
+    ..UNLIMITED
+};
+
+/// A stream that gives the bytes that it has, within its limits, and then is at its end.
+#[derive(Drop)]
+pub struct Wire<'a> {
+    /// What is still to be said.
+    says: &'a [u8],
+    /// What should be heard from now on.
+    hears: &'a [u8],
+    heard: &'a Heard,
+    limits: Limits,
+}
+
 impl<'a> Wire<'a> {
-    /// A wire that never fails, and takes and gives what it is asked for.
+    /// A wire without limits.
     pub fn new(says: &'a [u8], hears: &'a [u8], heard: &'a Heard) -> Self {
+        Wire::within(says, hears, heard, UNLIMITED)
+    }
+
+    /// A wire with these limits.
+    pub fn within(says: &'a [u8], hears: &'a [u8], heard: &'a Heard, limits: Limits) -> Self {
         Wire {
             says,
             hears,
             heard,
-            size: usize::MAX,
-            good_reads: usize::MAX,
-            good_writes: usize::MAX,
-            takes_nothing: false,
+            limits,
         }
     }
 }
@@ -72,10 +93,10 @@ fn count(calls: &Cell<usize>) -> usize {
 
 impl<'a> Read for Wire<'a> {
     fn read(&mut self, buf: &mut [u8]) -> Result<usize> {
-        if count(&self.heard.reads) == self.good_reads {
+        if count(&self.heard.reads) == self.limits.good_reads {
             return Err(Error::from(ErrorKind::Interrupted));
         }
-        let n = self.says.len().min(buf.len()).min(self.size);
+        let n = self.says.len().min(buf.len()).min(self.limits.size);
         buf[..n].copy_from_slice(&self.says[..n]);
         self.says = &self.says[n..];
         Ok(n)
@@ -84,13 +105,13 @@ impl<'a> Read for Wire<'a> {
 
 impl<'a> Write for Wire<'a> {
     fn write(&mut self, buf: &[u8]) -> Result<usize> {
-        if count(&self.heard.writes) == self.good_writes {
-            return match self.takes_nothing {
+        if count(&self.heard.writes) == self.limits.good_writes {
+            return match self.limits.takes_nothing {
                 true => Ok(0),
                 false => Err(Error::from(ErrorKind::Interrupted)),
             };
         }
-        let n = buf.len().min(self.size);
+        let n = buf.len().min(self.limits.size);
         match self.hears.strip_prefix(&buf[..n]) {
             Some(rest) => {
                 self.hears = rest;

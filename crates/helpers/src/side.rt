@@ -37,18 +37,6 @@ impl Side {
         }
     }
 
-    /// The same once more. Takes no memory.
-    pub fn copied(&self) -> Self
-        ensures { result ≡ self.now }
-    {
-        let mut emitted = ArrayVec::new();
-        emitted.try_extend_from_slice(self.emitted()).unwrap();
-        Side {
-            number: self.number,
-            emitted,
-        }
-    }
-
     /// The machine's number.
     pub fn number(&self) -> usize
         ensures { result ≡ self.now.number }

@@ -2,18 +2,6 @@
 #![tactic(auto)]
 
 #[cfg(test)]
-mod arithmetic32;
-#[cfg(test)]
-mod arithmetic64;
-#[cfg(test)]
-mod atomics32;
-#[cfg(test)]
-mod atomics64;
-#[cfg(test)]
-mod conditions32;
-#[cfg(test)]
-mod conditions64;
-#[cfg(test)]
-mod single;
+mod tables;
 #[cfg(test)]
 mod tests;

@@ -1,5 +1,5 @@
--- What the calls of the store leave of it.
-use Rattle.std.specs.Prelude.{◌≡◌, ℕ, ◌+◌, Bool, true, false, Some, None, Ok, Err}
+-- What each call leaves of the store in the library for C.
+use Rattle.std.specs.Prelude.{◌≡◌, ℕ, ◌+◌, Bool, false, Some, None, Ok, Err}
 use Rattle.far_store.specs.Stores.{capped}
 use Rattle.far_store.specs.Calls.{Call}
 use Rattle.far_store.specs.Calls.Call.{Put, Get, Forget}

@@ -1,4 +1,4 @@
--- What stands for bytes that are away.
+-- Parcels, by the bytes for which they stand, and when two strings of bytes can't be told apart by what is kept of them.
 use Rattle.std.specs.Prelude.{◌≡◌, ℕ, List, length}
 use Rattle.sha2.specs.Sha256.{sha256}
 use Rattle.library_store.specs.declared.parcel.LibraryParcel.{LibraryParcel}

@@ -1,4 +1,5 @@
-//! What stands for bytes that are away.
+//! Parcels of bytes that the library keeps, and of bytes that its caller keeps. Of these the library has a digest, so that it
+//! knows them again.
 ghost use Rattle.std.specs.Prelude.{◌≡◌, ◌≢◌, true, false};
 ghost use Rattle.sha2.specs.Sha256.{sha256};
 ghost use Rattle.library_store.specs.Parcels.{Alike, bytes_in};

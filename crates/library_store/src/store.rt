@@ -1,7 +1,7 @@
-//! The far store of an agent in the library for C.
+//! The far store of an agent in the library for C: it keeps the bytes, or its caller does.
 ghost use Rattle.std.specs.Prelude.{◌≡◌, ◌≢◌, ◌+◌, true, false, Some, None, Ok, Err, IfOk, IfErr, OnOk, OnErr};
 ghost use Rattle.far_store.specs.Stores.{Rises, capped};
-ghost use Rattle.far_store.specs.Calls.Call.{Put, Get, Forget};
+ghost use Rattle.far_store.specs.Calls.Call.{Put, Get};
 ghost use Rattle.far_store.specs.declared.fault.StoreFault.TheVariants.{Damaged, Memory, Refused};
 ghost use Rattle.library_store.specs.Parcels.{Alike, IsHanded, bytes_in};
 ghost use Rattle.library_store.specs.Calls.{library_called};

@@ -162,21 +162,6 @@ fn answers_instructions_by_slot(rt: HostRuntime) -> Result<(), Fail> {
 }
 
 #[test]
-fn a_copy_is_the_same_program(rt: HostRuntime) -> Result<(), Fail> {
-    let bytes = bytes_of(
-        rt.alloc(),
-        &[WIDE_R0, 0x0000_0000_0000_0080, MOV_R0_7, EXIT],
-    )?;
-    let program = load(rt.alloc(), bytes.as_slice())?;
-    let copy = program.copied(rt.alloc())?;
-    same!(rt; copy.slots(), 4);
-    for slot in 0..5 {
-        same!(rt; copy.at(slot), program.at(slot));
-    }
-    Ok(())
-}
-
-#[test]
 fn takes_no_more_than_4096_slots(rt: HostRuntime) -> Result<(), Fail> {
     let mut bytes = Vec::new(rt.alloc());
     for _ in 0..4096 {

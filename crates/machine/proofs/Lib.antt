@@ -17,6 +17,6 @@ pub mod Carried
 pub mod Replaying
 pub mod SameReplays
 pub mod Confined
-pub mod Turning
+pub mod Executing
 pub mod Running
 pub mod GrantedWork

@@ -10,5 +10,5 @@ pub mod Replay
 pub mod Carrying
 pub mod Confinement
 pub mod Variants
-pub mod Turns
+pub mod Points
 pub mod Runs

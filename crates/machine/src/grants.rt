@@ -75,17 +75,6 @@ impl Grants {
         self.count = count + 1;
     }
 
-    /// The same grants once more.
-    pub fn copied(&self) -> Self
-        ensures { result ≡ self.now }
-    {
-        Grants {
-            all: self.all,
-            count: self.count,
-            words: self.words,
-        }
-    }
-
     /// Whether all objects are granted.
     pub fn is_all(&self) -> bool
         ensures { result ≡ self.now.all }
@@ -102,7 +91,6 @@ impl Grants {
     }
 }
 
-/// The word that keeps a grant.
 fn word_of(grant: Grant) -> u16
     requires { grant.number ≤ object_limit }
     ensures { result ≡ word_of grant }
@@ -115,7 +103,6 @@ fn word_of(grant: Grant) -> u16
     }
 }
 
-/// The grant that a word keeps.
 pub(crate) fn grant_in(word: u16) -> Grant
     ensures { result ≡ grant_in word }
 {
@@ -127,7 +114,6 @@ pub(crate) fn grant_in(word: u16) -> Grant
     }
 }
 
-/// Whether an action may write.
 pub fn is_writing(action: &Action) -> bool
     ensures { result ≡ is_writing action.now }
 {

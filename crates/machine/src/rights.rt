@@ -78,17 +78,6 @@ impl Rights {
         Rights { grants, table }
     }
 
-    /// The same rights once more.
-    pub(crate) fn copied(&self) -> Self
-        ensures { result ≡ self.now }
-    {
-        Rights {
-            grants: self.grants.copied(),
-            table: self.table,
-        }
-    }
-
-    /// The grants.
     pub(crate) fn grants(&self) -> &Grants
         ensures { result.now ≡ self.now }
     {
@@ -115,7 +104,6 @@ fn full_of(right: Right) -> Table
     [right; NUMBERS]
 }
 
-/// The table of grants.
 fn table_of(grants: &Grants) -> Table
     ensures { IsTableOf grants.now result }
 {
@@ -131,7 +119,6 @@ fn table_of(grants: &Grants) -> Table
     table
 }
 
-/// Adds a grant to a table.
 fn add(table: &mut Table, grant: Grant)
     ensures { HasMore table.old grant table.new }
 {

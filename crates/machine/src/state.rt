@@ -1,4 +1,5 @@
 //! Parts of a machine that others see.
+ghost use Rattle.std.specs.Prelude.{◌≡◌};
 
 use isa_table::Size;
 use memory::Op;
@@ -31,6 +32,21 @@ pub enum Stop {
     NotGranted,
 }
 
+impl Stop {
+    ghost use Rattle.machine.specs.Runs.{fuel_of_stop};
+
+    /// How much fuel it takes: that of EXIT.
+    #[inline(always)]
+    pub fn cost(self) -> u64
+        ensures { result ≡ fuel_of_stop self }
+    {
+        match self {
+            Stop::Exit(_) => 1,
+            _ => 0,
+        }
+    }
+}
+
 /// The bytes that an instruction wrote: of the object of that number, from the offset on.
 #[derive(Clone, Copy, Drop, Debug, PartialEq, Eq)]
 pub struct Written {
@@ -53,8 +69,8 @@ pub enum Stepped {
 /// Why a run of steps ended.
 #[derive(Clone, Copy, Drop, Debug, PartialEq, Eq)]
 pub enum Ended {
-    /// As many instructions were done as were asked for.
-    Paused,
+    /// As many instructions ran as were asked for.
+    AllRan,
     /// The object of that number can't be reached now.
     Waiting(u32),
     /// The machine is stopped.

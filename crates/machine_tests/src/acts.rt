@@ -2,7 +2,6 @@
 
 use crate::common::{EXIT, machine_of, objects, runs, step, store_of};
 use crate::compared::compare_row;
-use crate::copies::first_difference;
 use crate::grants::{May, granted};
 use far_store::OwnStore;
 use isa_table::Instr;
@@ -37,12 +36,8 @@ pub enum Act {
     Granted(May, [u64; 2], u64),
     /// The same, and it does its first instruction.
     First(May, [u64; 2], u64),
-    /// A copy of the machine is put beside it.
-    Copy,
     /// The machine and the one beside it change places.
     Swap,
-    /// The machine is compared with the one beside it.
-    Compare,
     /// The machine does its next instruction.
     Step,
     /// The machine does so many instructions, none of which writes.
@@ -67,8 +62,6 @@ pub enum Show {
     Stack(usize),
     /// How long the stack is, and whether all of its bytes are zero.
     IsStackClear,
-    /// How many values it emitted, and the first of them.
-    Emitted,
     /// Its number, how many slots its program has, and the instruction at slot 1.
     Program,
 }
@@ -83,8 +76,6 @@ pub enum Answer {
     Stepped(Stepped),
     /// So many instructions were done and wrote nothing.
     Ran(u64),
-    /// In what two machines differ first.
-    Differ(Option<&'static str>),
     Point(usize, u64, Option<Stop>),
     Register(u64),
     Registers([u64; 11]),
@@ -92,7 +83,6 @@ pub enum Answer {
     Frame(Option<Frame>),
     Stack(usize, [u8; 8]),
     StackClear(usize, bool),
-    Emitted(usize, Option<u64>),
     Program(usize, usize, Option<Instr>),
     /// No object may have so many bytes, so that none was made.
     Unasked,
@@ -144,10 +134,6 @@ fn shown(machine: &Machine, show: Show) -> Answer {
             let stack = machine.stack();
             Answer::StackClear(stack.len(), stack.iter().all(|&byte| byte == 0))
         }
-        Show::Emitted => {
-            let values = machine.emitted();
-            Answer::Emitted(values.len(), values.first().copied())
-        }
         Show::Program => {
             let program = machine.program();
             Answer::Program(machine.number(), program.slots(), program.at(1))
@@ -183,12 +169,6 @@ impl Bench {
     fn with_machine(&mut self, machine: Machine) -> Answer {
         self.machine = machine;
         Answer::Done
-    }
-
-    /// A copy is put beside the machine.
-    fn copy(&mut self, alloc: Global) -> Result<Answer, Fail> {
-        self.beside = self.machine.copied(alloc)?;
-        Ok(Answer::Done)
     }
 
     /// The machine and the one beside it change places.
@@ -234,9 +214,7 @@ impl Bench {
                 let _ = self.with_machine(granted(alloc, may, first, slot)?);
                 self.step()
             }
-            Act::Copy => self.copy(alloc)?,
             Act::Swap => self.swap(),
-            Act::Compare => Answer::Differ(first_difference(&self.machine, &self.beside)),
             Act::Step => self.step(),
             Act::Runs(count) => Answer::Ran(runs(&mut self.machine, &mut self.store, count)),
             Act::Show(show) => shown(&self.machine, show),
@@ -246,13 +224,10 @@ impl Bench {
 
 /// Each act is answered so. There are no objects at first, and the machines have no fuel.
 pub fn tells(rt: &impl Abort, alloc: Global, table: &[(Act, Answer)]) -> Result<(), Fail> {
-    let machine = machine_of(alloc, 0, [0; 5], &[EXIT])?;
-    let beside = machine.copied(alloc)?;
-    let store = objects(alloc)?;
     let mut bench = Bench {
-        machine,
-        beside,
-        store,
+        machine: machine_of(alloc, 0, [0; 5], &[EXIT])?,
+        beside: machine_of(alloc, 0, [0; 5], &[EXIT])?,
+        store: objects(alloc)?,
     };
     for row in 0..table.len() {
         let (act, wanted) = table[row];

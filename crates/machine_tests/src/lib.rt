@@ -12,8 +12,6 @@ mod common;
 #[cfg(test)]
 mod compared;
 #[cfg(test)]
-mod copies;
-#[cfg(test)]
 mod grants;
 #[cfg(test)]
 mod helper_calls;

@@ -13,7 +13,7 @@ length-replaced o new bytes h =
     let back = length-drop (o + length new) bytes in
     omega arith
 
-pub length-with_number : (o n : ℕ) (v : Option ℕ) (bytes : List ℕ) → o + n ≤ length bytes → length (with_number o n v bytes) ≡ length bytes
+length-with_number : (o n : ℕ) (v : Option ℕ) (bytes : List ℕ) → o + n ≤ length bytes → length (with_number o n v bytes) ≡ length bytes
 length-with_number o n None bytes h = refl
 length-with_number o n (Some x) bytes h = let e = length-bytes_low_first 0 n x in length-replaced o (low_bytes n x) bytes (omega arith)
 

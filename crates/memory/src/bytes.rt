@@ -1,7 +1,7 @@
 //! Numbers in bytes, the lowest byte first.
 ghost use Rattle.std.specs.Prelude.{◌≡◌, ◌+◌, ◌*◌, ◌^◌, ◌<◌, ◌≤◌, length, take, drop};
 ghost use Rattle.isa_table.specs.Words.{number_of, low_bytes};
-ghost use Rattle.isa_table.specs.Table.{size_bytes, width_bits, size_of_width};
+ghost use Rattle.isa_table.specs.Table.{size_bytes};
 ghost use Rattle.memory.specs.Access.{IsInside, replaced, with_number, answer, after};
 
 use crate::access::{Action, Op};

@@ -10,7 +10,7 @@ use Rattle.memory.specs.Objects.{number_count, object_limit}
 use Rattle.object_store.specs.Bodies.{Kept, bytes_in, place_in, sent_in}
 use Rattle.object_store.specs.Stores.{place_of}
 use Rattle.object_store.specs.Asking.{forgets}
-use Rattle.object_store.proofs.Entries.{place_at}
+use Rattle.object_store.proofs.Listed.{place_at}
 use Rattle.object_store.specs.Parts.{AllHere, AreHere, bodies_of, forgets_all}
 
 -- ---- places

@@ -1,4 +1,4 @@
--- Counts of scopes.
+-- The count of an object stays the number of windows that hold it, whatever a window notes or gives up.
 use Rattle.std.proofs.Common.{◌≡◌, ℕ, zero, suc, ◌||◌, IfSome, ◌+◌, ◌-◌, ◌<◌, ◌≤◌, nat_eq, Bool, true, false, cond, List, [], ◌∷◌, ◌++◌, length, replicate, map, set, get_or, refl, sym, ◌∙◌, subst, arith, nat_le, ◌≢◌, Option, Some, None}
 use Rattle.std.proofs.lemmas.List.{map-set, get_or-set_same, get_or-set_other, length-set}
 use Rattle.std.proofs.lemmas.List.Sums.{sum_by-set, sum_by-cons}
@@ -8,7 +8,7 @@ use Rattle.std.proofs.lemmas.Bool.Decides.{nat_tests}
 use Rattle.scopes.specs.Windows.{holds, noted, pushed_out, AreDistinct}
 use Rattle.object_store.specs.Stores.{holders, weight}
 use Rattle.object_store.specs.Bodies.{Kept, CountsHold, lessened, grown, scopes_in}
-use Rattle.object_store.proofs.Entries.{scopes_at, bytes_same, places_same, sent_same}
+use Rattle.object_store.proofs.Listed.{scopes_at, bytes_same, places_same, sent_same}
 
 neither : (a b : Bool) → (a || b) ≡ false → (a ≡ false) × (b ≡ false)
 neither true b h = absurd (cc)

@@ -1,11 +1,11 @@
 -- A store stays as it is always kept where an object that is far is freed.
-use Rattle.std.proofs.Common.{◌≡◌, ℕ, ◌+◌, ◌<◌, List, [], length, map, set, get_or, ap, sym, ◌∙◌, arith}
-use Rattle.std.proofs.lemmas.List.{length-map, get_or-set_same}
+use Rattle.std.proofs.Common.{◌≡◌, ℕ, ◌<◌, List, [], length, map, set, ap, arith}
+use Rattle.std.proofs.lemmas.List.{length-set, get_or-set_same}
 use Rattle.far_store.specs.declared.places.Place.TheVariants.{Here, Far}
 use Rattle.memory.specs.Objects.{bytes_of, with_bytes}
 use Rattle.object_store.specs.Stores.{place_of}
 use Rattle.object_store.specs.Bodies.{Kept, IsKeptStore, bytes_in, place_in, scopes_in}
-use Rattle.object_store.proofs.Objects_kept.{length_set, objects_freed}
+use Rattle.object_store.proofs.Objects_kept.{objects_freed}
 use Rattle.object_store.proofs.Keeping.{near_placed, near_filled, same_length, in_bytes}
 
 pub forgotten : (old new : List Kept) (windows : List (List ℕ)) (budget spare n : ℕ) → IsKeptStore old windows budget spare → n < length old
@@ -16,7 +16,7 @@ forgotten old new windows budget spare n k h b q s f =
     let places = map place_in old in
     let inside = in_bytes old n h in
     let same = rw f at (near_filled objects places n [] inside (same_length old)) in
-    let count = length_set objects n [] in
+    let count = length-set objects n [] in
     let none : length (bytes_of (with_bytes objects n []) n) ≡ 0 = ap (λ (l : List ℕ). length l) (get_or-set_same objects n [] [] inside) in
     let there = rw f at (near_placed (with_bytes objects n []) places n Here (omega (arith, inside, count)) (omega (arith, same_length old, count))) in
     record {

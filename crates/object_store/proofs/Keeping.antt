@@ -1,13 +1,13 @@
 -- A store stays as it is always kept.
 use Rattle.std.proofs.Common.{◌≡◌, ℕ, ◌+◌, ◌<◌, ◌≤◌, zero, suc, Bool, true, false, List, [], ◌∷◌, ◌++◌, length, slice_index_or, map, set, take, drop, replicate, None, refl, sym, ap, ◌∙◌, arith}
-use Rattle.std.proofs.lemmas.List.{length-map, map-append}
+use Rattle.std.proofs.lemmas.List.{length-map, length-set, map-append}
 use Rattle.std.proofs.Math.Seq.{take-append_seam}
 use Rattle.far_store.specs.declared.places.Place.{Place}
 use Rattle.far_store.specs.declared.places.Place.TheVariants.{Here, Far, Returning}
 use Rattle.memory.specs.Objects.{AreObjects, bytes_of, with_bytes, object_limit, object_bytes}
 use Rattle.object_store.specs.Stores.{window_count, place_of, near_length, near_bytes}
 use Rattle.object_store.specs.Bodies.{Kept, CountsHold, IsKeptStore, BytesBack, bytes_in, place_in, scopes_in}
-use Rattle.object_store.proofs.Objects_kept.{length_set, objects_stay, objects_made, objects_freed}
+use Rattle.object_store.proofs.Objects_kept.{objects_stay, objects_made, objects_freed}
 use Rattle.object_store.proofs.Counting.{uncounted_more, counts_at_first, none_held}
 
 -- ---- the budget
@@ -103,7 +103,7 @@ came_back false old new windows budget spare n k h f b q s =
     let back = bytes_of (map bytes_in new) n in
     let inside = in_bytes old n h in
     let same = rw f at (near_filled objects places n back inside (same_length old)) in
-    let count = length_set objects n back in
+    let count = length-set objects n back in
     let there = rw f at (near_placed (with_bytes objects n back) places n Here (omega (arith, inside, count)) (omega (arith, same_length old, count))) in
     record {
       objects = rw b.1 (objects_stay objects n back k.objects b.0);

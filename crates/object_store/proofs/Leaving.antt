@@ -7,7 +7,7 @@ use Rattle.memory.specs.Objects.{bytes_of}
 use Rattle.object_store.specs.Asking.{leave_calls}
 use Rattle.object_store.specs.Stores.{Sent, unsent, sent_of}
 use Rattle.object_store.specs.Bodies.{Kept, bytes_in, place_in, scopes_in, sent_in}
-use Rattle.object_store.proofs.Entries.{bytes_at, sent_at, bytes_same, place_by, scopes_same, sent_by}
+use Rattle.object_store.proofs.Listed.{bytes_at, sent_at, bytes_same, place_by, scopes_same, sent_by}
 
 pub record LeftAt {T E : Type 0} (r : Result T E) (bodies : List Kept) (n : ℕ) (new : List Kept) : Type 0 where
   pub bytes : map bytes_in new ≡ map bytes_in bodies

@@ -1,6 +1,6 @@
 pub mod Apart
 pub mod Asked
-pub mod Entries
+pub mod Listed
 pub mod Objects_kept
 pub mod Wording
 pub mod Counting

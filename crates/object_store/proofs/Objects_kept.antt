@@ -1,6 +1,6 @@
 -- Objects stay objects where one is made or freed.
 use Rattle.std.proofs.Common.{◌≡◌, ℕ, ◌≤◌, zero, suc, List, [], ◌∷◌, ◌++◌, length, get_or, set, refl, length-append, arith, ◌∙◌}
-use Rattle.std.proofs.lemmas.List.{get_or_append_left}
+use Rattle.std.proofs.lemmas.List.{get_or_append_left, length-set}
 use Rattle.memory.specs.Objects.{AreObjects, bytes_of, with_bytes, object_limit, object_bytes}
 use Rattle.memory.proofs.Lengths.{length-set_at}
 
@@ -8,15 +8,10 @@ empty : (xs : List ℕ) → length xs ≡ 0 → xs ≡ []
 empty [] h = refl
 empty (x ∷ xs) h = absurd (omega arith)
 
-pub length_set : (objects : List (List ℕ)) (n : ℕ) (b : List ℕ) → length (set objects n b) ≡ length objects
-length_set [] n b = refl
-length_set (x ∷ xs) zero b = refl
-length_set (x ∷ xs) (suc n) b = let h = length_set xs n b in omega arith
-
 -- objects stay objects where one gets as many other bytes
 pub objects_stay : (objects : List (List ℕ)) (n : ℕ) (b : List ℕ) → AreObjects objects → length b ≡ length (bytes_of objects n) → AreObjects (with_bytes objects n b)
 objects_stay objects n b o h =
-    let count = length_set objects n b in
+    let count = length-set objects n b in
     let zeroth = length-set_at objects n 0 b h in
     let none = o.none_at_zero in
     record {
@@ -53,7 +48,7 @@ emptied_at_most (x ∷ xs) (suc n) (suc k) = emptied_at_most xs n k
 
 pub objects_freed : (objects : List (List ℕ)) (n : ℕ) → AreObjects objects → AreObjects (with_bytes objects n [])
 objects_freed objects n o =
-    let count = length_set objects n [] in
+    let count = length-set objects n [] in
     let none = o.none_at_zero in
     let zeroth = rw none at (emptied_at_most objects n 0) in
     record {

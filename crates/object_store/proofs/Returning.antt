@@ -13,7 +13,7 @@ use Rattle.object_store.specs.Stores.{StoreState, sent_of, with_place}
 use Rattle.object_store.specs.Bodies.{Kept, ReturnsTo, BytesBack, bytes_in, place_in, scopes_in, sent_in}
 use Rattle.far_store.specs.Calls.Call.{Get}
 use Rattle.far_store.specs.Calls.{Call, Calls, parcel_of, AsksInVain}
-use Rattle.object_store.proofs.Entries.{bytes_at, parcel_at}
+use Rattle.object_store.proofs.Listed.{bytes_at, parcel_at}
 
 pub capped_rises : (a b : ℕ) → a ≤ b → capped (a + 1) ≤ capped (b + 1)
 capped_rises a b h = grind (arith, nat_tests)

@@ -1,4 +1,4 @@
--- Objects, as they are kept.
+-- Objects as a store keeps them: more than its callers see of them, and what is always true of it.
 use Rattle.std.specs.Prelude.{◌≡◌, ℕ, ◌+◌, ◌-◌, Bool, true, false, cond, List, [], length, map, get_or, set, Option, Some, None, is_some}
 use Rattle.pointer_word.specs.declared.word.WordPlace.{WordPlace}
 use Rattle.pointer_word.specs.declared.word.WordPlace.TheVariants.{Local, Moving, Far as WordFar}
@@ -31,32 +31,41 @@ sent stands_for (Some p) = stands_for p
 abbrev pub contents : {P : Type 0} → (P → List ℕ) → Bool → List ℕ → Option P → List ℕ
 contents stands_for out bytes parcel = cond out (sent stands_for parcel) bytes
 
--- its place, by its word
-abbrev pub place_by : Bool → WordPlace → Place
-place_by out Local = Here
-place_by false Moving = Leaving
-place_by true Moving = Returning
-place_by out WordFar = Far
+-- its place, by its word and whether its bytes are out
+abbrev pub place_of_word : Bool → WordPlace → Place
+place_of_word out Local = Here
+place_of_word false Moving = Leaving
+place_of_word true Moving = Returning
+place_of_word out WordFar = Far
 
--- whether the bytes are out where the word says so
+-- The mark that the bytes are out fits the word. A word doesn't tell the two ways of a move apart; this mark does.
 abbrev pub FitsWord : Bool → WordPlace → Type 0
 FitsWord out Local = out ≡ false
 FitsWord out Moving = Unit {0}
 FitsWord out WordFar = out ≡ true
 
--- An object as it is always kept, and for how many bytes memory is taken here. The mark that it is clean says that its
--- parcel stands for its bytes as they are. What is out takes no memory, and what was freed takes none and keeps no parcel.
+-- An object as it is always kept, by its fields: its word, how many bytes it has, the bytes that are here, for how many of them
+-- memory is taken, its parcel, and its two marks: the far store alone has its bytes (out), its parcel stands for them (clean).
 pub record IsKept {P : Type 0} (stands_for : P → List ℕ) (word : WordRecord) (count : ℕ) (bytes : List ℕ) (memory : ℕ) (parcel : Option P) (out clean : Bool) : Type 0 where
+  -- An object that is here isn't out, and one that is far is. One on its way may be either, which tells the way.
   pub fits : FitsWord out word.place
+  -- Turns, heat and stamps are for objects that threads share, so the word of this one never has any.
   pub no_turn : word.turn ≡ false
   pub no_hot : word.hot ≡ false
   pub no_stamp : word.stamp ≡ 0
+  -- the length that is kept is that of its bytes, wherever they are
   pub length_is : length (contents stands_for out bytes parcel) ≡ count
+  -- a number without bytes keeps no parcel
   pub freed : count ≡ 0 → is_some parcel ≡ false
+  -- nor does it take memory
   pub gone : count ≡ 0 → memory ≡ 0
+  -- an object that is out takes no memory here
   pub away : out ≡ true → memory ≡ 0
+  -- it has a parcel, which alone leads to its bytes
   pub sent_out : out ≡ true → is_some parcel ≡ true
+  -- only an object with a parcel is clean
   pub kept_clean : clean ≡ true → is_some parcel ≡ true
+  -- and its parcel stands for its bytes as they are
   pub same_clean : clean ≡ true → sent stands_for parcel ≡ contents stands_for out bytes parcel
 
 -- What it is once its bytes came back: the same, and clean, or, where the store doesn't promise that, as many.
@@ -80,8 +89,7 @@ scopes_in k = k.scopes
 abbrev pub sent_in : Kept → Sent
 sent_in k = record { parcel = k.parcel; clean = k.clean }
 
--- The bytes of all objects once those of object n came back: the same, or, where the store doesn't promise that, as
--- many.
+-- The bytes of all objects once those of object n came back: the same, or, where the store doesn't promise that, as many.
 abbrev pub BytesBack : Bool → List (List ℕ) → ℕ → List (List ℕ) → Type 0
 BytesBack true old n new = new ≡ old
 BytesBack false old n new = (length (bytes_of new n) ≡ length (bytes_of old n)) × (new ≡ with_bytes old n (bytes_of new n))
@@ -105,7 +113,11 @@ grown n counts = set counts n (get_or counts n 0 + 1)
 
 -- A store as it is always kept, with so many bytes left of its budget.
 pub record IsKeptStore (bodies : List Kept) (windows : List (List ℕ)) (budget spare : ℕ) : Type 0 where
+  -- number 0 is no object, and neither the count nor a length is above its limit
   pub objects : AreObjects (map bytes_in bodies)
+  -- the count in each word is that of the windows that hold the object
   pub counts : CountsHold (map scopes_in bodies) windows
+  -- a window for each machine, and one at number 0
   pub windows_are : length windows ≡ window_count
+  -- what is left, with the bytes of all objects that aren't far, is the budget
   pub left : spare + near_bytes (map bytes_in bodies) (map place_in bodies) ≡ budget

@@ -29,11 +29,16 @@ within_memory {X} who = record {
   is_worn = λ s n. ⊥;
 }
 
+-- the same loan, to the same machine
+pub record IsLent {M : Type 0} (loan who : M → ℕ) (first m : M) : Type 0 where
+  pub loan_is : loan m ≡ loan first
+  pub who_is : who m ≡ who first
+
 -- What has a store lent to it, as a memory: what its machine does is done to the store, and the loan stays the same.
 abbrev pub lent_memory : {M X : Type 0} → (M → StoreWithin X) → (M → ℕ) → (M → ℕ) → Memories M
 lent_memory {M} {X} store loan who = record {
-  reaches = λ m n op r w. TouchesWithin (who m) (store m) n op r (store w) × (loan w ≡ loan m) × (who w ≡ who m);
-  closes = λ m w. ClosesWithin (who m) (store m) (store w) × (loan w ≡ loan m) × (who w ≡ who m);
+  reaches = λ m n op r w. TouchesWithin (who m) (store m) n op r (store w) × IsLent loan who m w;
+  closes = λ m w. ClosesWithin (who m) (store m) (store w) × IsLent loan who m w;
   length_of = λ m n. length (bytes_of (store m).state.objects n);
   knows = λ m. AllBytes (store m).state.objects;
   is_worn = λ m n. ⊥;

@@ -1,5 +1,5 @@
 //! One object of a list, handed out to the caller and taken back, or freed where it is far.
-ghost use Rattle.std.specs.Prelude.{◌≡◌, ◌≢◌, ◌<◌, ◌≤◌, [], ◌∷◌, length, map, set, get_or, Some, None, Ok, true, IfErr, IfSome, OnOk, OnErr};
+ghost use Rattle.std.specs.Prelude.{◌≡◌, ◌≢◌, ◌<◌, ◌≤◌, [], ◌∷◌, length, map, set, Some, None, Ok, true, IfErr, IfSome, OnOk, OnErr};
 ghost use Rattle.memory.specs.Objects.{bytes_of, with_bytes};
 ghost use Rattle.object_store.specs.Stores.{place_of, unsent, sent_of, HasRisen};
 ghost use Rattle.object_store.specs.Asking.{forgets, leave_calls};
@@ -14,7 +14,7 @@ use far_store::{FarStore, HandsOut, StoreFault};
 use std::alloc::Global;
 
 /// The parcel that stands for the bytes of an object, where the far store alone has them.
-#[tactic(auto, using(crate::proofs::Entries::at_steps))]
+#[tactic(auto, using(crate::proofs::Listed::at_steps))]
 pub fn parcel_at<F: FarStore>(bodies: &[Body<F>], number: usize) -> Option<&F::Parcel>
     ensures some { IfSome result (λ p. F.bytes_in p.now ≡ bytes_of (map bytes_in bodies.now) number) }
     ensures far { result ≡ None → number < length bodies.now → place_of (map place_in bodies.now) number ≢ place.Far }
@@ -27,7 +27,7 @@ pub fn parcel_at<F: FarStore>(bodies: &[Body<F>], number: usize) -> Option<&F::P
 }
 
 /// Leaves a number without bytes that was far.
-#[tactic(auto, using(crate::proofs::Entries::free_steps))]
+#[tactic(auto, using(crate::proofs::Listed::free_steps))]
 pub fn free_far_at<F: FarStore>(store: &mut F, bodies: &mut [Body<F>], number: usize)
     requires found { number < length bodies.old }
     requires far { place_of (map place_in bodies.old) number ≡ place.Far }
@@ -42,7 +42,7 @@ pub fn free_far_at<F: FarStore>(store: &mut F, bodies: &mut [Body<F>], number: u
 }
 
 /// From its way to the caller, over these bytes, which are as many.
-#[tactic(auto, using(crate::proofs::Entries::move_steps))]
+#[tactic(auto, using(crate::proofs::Listed::move_steps))]
 pub fn end_leave_into_at<F: HandsOut>(
     alloc: Global,
     store: &mut F,
@@ -66,7 +66,7 @@ pub fn end_leave_into_at<F: HandsOut>(
 }
 
 /// From its way to here, with the bytes that the caller kept.
-#[tactic(auto, using(crate::proofs::Entries::move_steps))]
+#[tactic(auto, using(crate::proofs::Listed::move_steps))]
 pub fn end_return_from_at<F: HandsOut>(
     store: &mut F,
     bodies: &mut [Body<F>],

@@ -1,5 +1,5 @@
 //! One object of a list, moved.
-ghost use Rattle.std.specs.Prelude.{◌≡◌, ◌<◌, ◌≤◌, ◌+◌, [], ◌∷◌, length, map, set, get_or, Some, None, Ok, true, false, IfErr, IsOk, OnOk, OnErr};
+ghost use Rattle.std.specs.Prelude.{◌≡◌, ◌<◌, ◌≤◌, [], ◌∷◌, length, map, set, get_or, Some, None, Ok, true, IfErr, IsOk, OnOk, OnErr};
 ghost use Rattle.memory.specs.Objects.{bytes_of, with_bytes};
 ghost use Rattle.object_store.specs.Stores.{place_of, unsent, sent_of, HasRisen};
 ghost use Rattle.object_store.specs.Asking.{forgets, leave_calls};
@@ -14,7 +14,7 @@ use far_store::{FarStore, StoreFault};
 use std::alloc::Global;
 
 /// Leaves a number without bytes.
-#[tactic(auto, using(crate::proofs::Entries::free_steps))]
+#[tactic(auto, using(crate::proofs::Listed::free_steps))]
 pub fn free_at<F: FarStore>(alloc: Global, store: &mut F, bodies: &mut [Body<F>], number: usize)
     requires found { number < length bodies.old }
     requires here { place_of (map place_in bodies.old) number ≡ place.Here }
@@ -29,7 +29,7 @@ pub fn free_at<F: FarStore>(alloc: Global, store: &mut F, bodies: &mut [Body<F>]
 }
 
 /// From here on its way.
-#[tactic(auto, using(crate::proofs::Entries::move_steps))]
+#[tactic(auto, using(crate::proofs::Listed::move_steps))]
 pub fn begin_leave_at<F: FarStore>(bodies: &mut [Body<F>], number: usize)
     requires found { number < length bodies.old }
     requires here { place_of (map place_in bodies.old) number ≡ place.Here }
@@ -43,7 +43,7 @@ pub fn begin_leave_at<F: FarStore>(bodies: &mut [Body<F>], number: usize)
 }
 
 /// From its way to the far store.
-#[tactic(auto, using(crate::proofs::Entries::move_steps))]
+#[tactic(auto, using(crate::proofs::Listed::move_steps))]
 pub fn end_leave_at<F: FarStore>(
     alloc: Global,
     store: &mut F,
@@ -69,7 +69,7 @@ pub fn end_leave_at<F: FarStore>(
 }
 
 /// From the far store on its way.
-#[tactic(auto, using(crate::proofs::Entries::move_steps))]
+#[tactic(auto, using(crate::proofs::Listed::move_steps))]
 pub fn begin_return_at<F: FarStore>(bodies: &mut [Body<F>], number: usize)
     requires found { number < length bodies.old }
     requires far { place_of (map place_in bodies.old) number ≡ place.Far }
@@ -82,7 +82,7 @@ pub fn begin_return_at<F: FarStore>(bodies: &mut [Body<F>], number: usize)
 }
 
 /// From its way to here.
-#[tactic(auto, using(crate::proofs::Entries::move_steps))]
+#[tactic(auto, using(crate::proofs::Listed::move_steps))]
 pub fn end_return_at<F: FarStore>(
     store: &mut F,
     bodies: &mut [Body<F>],

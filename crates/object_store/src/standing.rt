@@ -1,8 +1,8 @@
 //! One object of a list: whether an access can be done, and what is done to it.
-ghost use Rattle.std.specs.Prelude.{◌≡◌, ◌<◌, ◌≤◌, ◌+◌, [], length, map, set, get_or, None, false, IfSome, IsSome, IfOk};
+ghost use Rattle.std.specs.Prelude.{◌≡◌, ◌<◌, length, map, set, get_or, None, false, IfSome, IsSome, IfOk};
 ghost use Rattle.memory.specs.Access.{answer, after};
-ghost use Rattle.memory.specs.Objects.{AreObjects, Reaches, HasRange, bytes_of, with_bytes, range_of, with_range};
-ghost use Rattle.object_store.specs.Stores.{place_of, sent_of, near_bytes};
+ghost use Rattle.memory.specs.Objects.{Reaches, HasRange, bytes_of, with_bytes, range_of, with_range};
+ghost use Rattle.object_store.specs.Stores.{place_of, sent_of};
 ghost use Rattle.object_store.specs.Asking.{clean_after};
 ghost use Rattle.object_store.specs.Bodies.{bytes_in, place_in, scopes_in, sent_in};
 ghost use Rattle.object_store.specs.Standings.{Stands, StandsRange};
@@ -25,7 +25,7 @@ pub enum Standing {
 }
 
 /// How many bytes a number has, wherever they are.
-#[tactic(auto, using(crate::proofs::Entries::at_steps))]
+#[tactic(auto, using(crate::proofs::Listed::at_steps))]
 #[inline(always)]
 pub fn length_at<F: FarStore>(bodies: &[Body<F>], number: usize) -> usize
     ensures value { result ≡ length (bytes_of (map bytes_in bodies.now) number) }
@@ -38,7 +38,7 @@ pub fn length_at<F: FarStore>(bodies: &[Body<F>], number: usize) -> usize
 }
 
 /// The place of an object, if there is one.
-#[tactic(auto, using(crate::proofs::Entries::at_steps))]
+#[tactic(auto, using(crate::proofs::Listed::at_steps))]
 pub fn place_at<F: FarStore>(bodies: &[Body<F>], number: usize) -> Option<Place>
     ensures none { result ≡ None → length (bytes_of (map bytes_in bodies.now) number) ≡ 0 }
     ensures some { IfSome result (λ p. (0 < length (bytes_of (map bytes_in bodies.now) number)) × (place_of (map place_in bodies.now) number ≡ p)) }
@@ -51,7 +51,7 @@ pub fn place_at<F: FarStore>(bodies: &[Body<F>], number: usize) -> Option<Place>
 }
 
 /// Whether an access can be done.
-#[tactic(auto, using(crate::proofs::Entries::at_steps))]
+#[tactic(auto, using(crate::proofs::Listed::at_steps))]
 #[inline(always)]
 pub fn stand<F: FarStore>(bodies: &[Body<F>], number: usize, op: &Op) -> Standing
     ensures stands { Stands (map bytes_in bodies.now) (map place_in bodies.now) number op.now result }
@@ -72,7 +72,7 @@ pub fn stand<F: FarStore>(bodies: &[Body<F>], number: usize, op: &Op) -> Standin
 }
 
 /// Whether a range can be read or written.
-#[tactic(auto, using(crate::proofs::Entries::at_steps))]
+#[tactic(auto, using(crate::proofs::Listed::at_steps))]
 pub fn stand_range<F: FarStore>(
     bodies: &[Body<F>],
     number: usize,
@@ -93,7 +93,7 @@ pub fn stand_range<F: FarStore>(
 }
 
 /// Does an access on an object.
-#[tactic(auto, using(crate::proofs::Entries::at_steps))]
+#[tactic(auto, using(crate::proofs::Listed::at_steps))]
 #[inline(always)]
 pub fn act_at<F: FarStore>(bodies: &mut [Body<F>], number: usize, op: &Op) -> u64
     requires found { number < length bodies.old }
@@ -109,7 +109,7 @@ pub fn act_at<F: FarStore>(bodies: &mut [Body<F>], number: usize, op: &Op) -> u6
 }
 
 /// A copy of a range.
-#[tactic(auto, using(crate::proofs::Entries::at_steps))]
+#[tactic(auto, using(crate::proofs::Listed::at_steps))]
 pub fn copy_range<F: FarStore>(
     alloc: Global,
     bodies: &[Body<F>],
@@ -126,7 +126,7 @@ pub fn copy_range<F: FarStore>(
 }
 
 /// Copies a range over these bytes, which are as many.
-#[tactic(auto, using(crate::proofs::Entries::at_steps))]
+#[tactic(auto, using(crate::proofs::Listed::at_steps))]
 pub fn read_range<F: FarStore>(bodies: &[Body<F>], number: usize, offset: usize, into: &mut [u8])
     requires found { number < length bodies.now }
     requires here { place_of (map place_in bodies.now) number ≡ place.Here }
@@ -137,7 +137,7 @@ pub fn read_range<F: FarStore>(bodies: &[Body<F>], number: usize, offset: usize,
 }
 
 /// Writes over a range.
-#[tactic(auto, using(crate::proofs::Entries::at_steps))]
+#[tactic(auto, using(crate::proofs::Listed::at_steps))]
 pub fn write_range<F: FarStore>(bodies: &mut [Body<F>], number: usize, offset: usize, bytes: &[u8])
     requires found { number < length bodies.old }
     requires here { place_of (map place_in bodies.old) number ≡ place.Here }
@@ -151,7 +151,7 @@ pub fn write_range<F: FarStore>(bodies: &mut [Body<F>], number: usize, offset: u
 }
 
 /// How many windows hold a number.
-#[tactic(auto, using(crate::proofs::Entries::at_steps))]
+#[tactic(auto, using(crate::proofs::Listed::at_steps))]
 pub fn scopes_at<F: FarStore>(bodies: &[Body<F>], number: usize) -> u8
     requires { number < length bodies.now }
     ensures { result ≡ get_or (map scopes_in bodies.now) number 0 }

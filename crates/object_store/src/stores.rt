@@ -1,6 +1,6 @@
-//! The objects of an agent.
+//! The objects of an agent, and their moves to a far store and back.
 ghost use Rattle.std.specs.Prelude.{◌≡◌, ◌≢◌, ◌≤◌, [], ◌∷◌, ◌++◌, false, map, set, None, Ok, Err, IfOk, IfErr, IfSome, OnOk, OnErr, length};
-ghost use Rattle.memory.specs.Objects.{AreObjects, IsLive, bytes_of, object_bytes, object_limit};
+ghost use Rattle.memory.specs.Objects.{IsLive, bytes_of, object_bytes, object_limit};
 ghost use Rattle.object_store.specs.Stores.{HasWindow, IsStore, StandsAt, Touches, store_start, with_window, unsent, sent_of};
 ghost use Rattle.object_store.specs.Asking.{AsksNothing, AsksToFree, AsksToLeave, AsksToReturn, sent_after};
 ghost use Rattle.far_store.specs.Calls.{Calls};
@@ -20,7 +20,7 @@ use crate::standing::{
     write_range,
 };
 use far_store::{FarStore, Moved, Place};
-use memory::{Memory, OBJECT_BYTES, OBJECT_LIMIT, Op, Reach};
+use memory::{Memory, OBJECT_LIMIT, Op, Reach};
 use scopes::Window;
 use std::alloc::{AllocError, Global};
 use std::marker::Model;

@@ -1,4 +1,4 @@
--- What the words promise.
+-- What follows of the definitions of words. None of it speaks of the code.
 use Rattle.std.specs.Prelude.{◌≡◌, ◌<◌, true, None}
 use Rattle.pointer_word.specs.Words.{WordRecord, HasFields, word_number, leaving}
 

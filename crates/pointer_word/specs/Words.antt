@@ -16,7 +16,7 @@ pub record WordRecord : Type 0 where
   -- of the last entry of its history
   pub stamp : ℕ
 
--- places by number
+-- the two bits of each place; 3 is none
 abbrev pub place_number : WordPlace → ℕ
 place_number Local = 0
 place_number Moving = 1

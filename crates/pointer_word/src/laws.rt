@@ -1,4 +1,4 @@
-//! What the words promise.
+//! What follows of the definitions of words, apart from any call.
 ghost use Rattle.pointer_word.specs.Laws.{OneNumber, ScopesKeepObjectsHere};
 
 /// Two words of one number are equal.

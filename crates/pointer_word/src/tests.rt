@@ -1,4 +1,4 @@
-//! Worked words.
+//! Words by their numbers, computed by hand from the layout.
 
 use crate::word::Word;
 

@@ -1,4 +1,4 @@
-//! Words.
+//! The word of an object in 64 bits, and its calls. Each is a few shifts and masks, so that a step can afford them.
 ghost use Rattle.std.specs.Prelude.{◌≡◌, ◌+◌, ◌-◌, ◌<◌, None, IfSome};
 ghost use Rattle.pointer_word.specs.Words.{WordRecord, HasFields, word_number, new_word, is_local, opened, closed, turn_taken, turn_given, cooled, leaving, gone_far, returning, home};
 ghost use Rattle.pointer_word.specs.Bits.{cold_bits};
@@ -112,13 +112,6 @@ impl Word {
         ensures { result ≡ self.now.turn }
     {
         self.bits >> 2 & 1 == 1
-    }
-
-    /// Whether an actor used the object since it was cooled.
-    pub fn is_hot(&self) -> bool
-        ensures { result ≡ self.now.hot }
-    {
-        self.bits >> 3 & 1 == 1
     }
 
     /// One more scope, where there are fewer than 255.

@@ -10,7 +10,8 @@ use Rattle.machine.specs.MachineState.{MachineState}
 use Rattle.workers.specs.Pools.{machines_of}
 use Rattle.world.specs.WorldState.{WorldState}
 use Rattle.ship_service.specs.Opening.{opened_bytes}
-use Rattle.ship_service.specs.Listening.{listening_line, TellsClosing, TellsClosingOf, SaysAs, SaysClosing}
+use Rattle.listener.specs.Announcing.{listening_line}
+use Rattle.ship_service.specs.Listening.{TellsClosing, TellsClosingOf, SaysAs, SaysClosing}
 use Rattle.ship_service.specs.declared.listening.ListenFault.{ListenFault}
 use Rattle.ship_service.specs.declared.listening.ListenFault.TheVariants.{NotHere, Memory, Net, Write}
 

@@ -2,6 +2,7 @@
 use Rattle.std.specs.Prelude.{◌≡◌, ◌⊎◌, ⊤, ℕ, Bool, List, [], ◌∷◌, ◌++◌, Option, Result, Ok, Err, codes, decimal}
 use Rattle.std.specs.Io.KnownBytes.{Appends, Keeps}
 use Rattle.streams.specs.Streams.{AppendsPart}
+use Rattle.listener.specs.Announcing.{listening_line}
 use Rattle.atomic_table.specs.Seated.{TableId}
 use Rattle.object_store.specs.Parts.{AllHere, IsFirstAway}
 use Rattle.shared_objects.specs.declared.seats.ActorSeat.{ActorSeat}
@@ -15,10 +16,6 @@ use Rattle.ship_service.specs.Opening.{opened_bytes}
 use Rattle.far_store.specs.declared.places.Place.{Place}
 use Rattle.ship_service.specs.declared.listening.ListenFault.{ListenFault}
 use Rattle.ship_service.specs.declared.listening.ListenFault.TheVariants.{NotHere, Memory, Net, Write}
-
--- the line that says which port is listened on
-abbrev pub listening_line : ℕ → List ℕ
-listening_line port = codes "listening " ++ decimal port ++ 10 ∷ []
 
 -- the line that says that all has ended
 abbrev pub closed_line : List ℕ

@@ -1,6 +1,5 @@
 -- The text of each reply of the service, without its line end.
-use Rattle.std.specs.Prelude.{ℕ, Bool, true, false, List, ◌++◌, codes, Option, Some, None}
-use Rattle.world.specs.declared.replies.Reply.TheVariants as reply
+use Rattle.std.specs.Prelude.{ℕ, Bool, true, false, List, ◌++◌, codes}
 use Rattle.console.specs.Replies.{reply_text, number_text, IsShort}
 use Rattle.ship_service.specs.declared.replies.ServiceReply.{ServiceReply}
 use Rattle.ship_service.specs.declared.replies.ServiceReply.TheVariants.{Plain, Busy, Worn, Asked, Unserved}
@@ -17,12 +16,6 @@ service_text Unserved = codes "unserved"
 abbrev pub IsShortReply : ServiceReply → Type 0
 IsShortReply (Plain r) = IsShort r
 IsShortReply _ = Unit {0}
-
--- the object that the command found away, if there is one: the mover is asked to return it
-abbrev pub missed_object : ServiceReply → Option ℕ
-missed_object (Plain (reply.Away n)) = Some n
-missed_object (Plain (reply.Waiting m n)) = Some n
-missed_object _ = None
 
 -- another had its turn on the object
 abbrev pub is_busy : ServiceReply → Bool

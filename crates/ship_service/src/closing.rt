@@ -101,9 +101,7 @@ impl<F: FarStore> Closed<F> {
         if number >= self.parcels.len() {
             return None;
         }
-        let Some(parcel) = &self.parcels[number] else {
-            return None;
-        };
+        let parcel = self.parcels[number].as_ref()?;
         Some(self.store.get(parcel))
     }
 

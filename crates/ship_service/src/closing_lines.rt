@@ -11,7 +11,7 @@ ghost use Rattle.ship_service.specs.Closing.{live_object};
 ghost use Rattle.ship_service.specs.ClosingLines.{object_text, object_line, object_lines, machine_line, cell_line, closing_lines};
 
 use crate::closing::Closed;
-use console::{REPLY_LIMIT, ReplyLine, print_reply, put, put_named};
+use console::{REPLY_LIMIT, ReplyLine, print_reply, put_named};
 use far_store::FarStore;
 use hex::encode_to_slice;
 use sha2::{Digest, Sha256};
@@ -37,8 +37,8 @@ fn put_here(line: &mut ReplyLine, bytes: &[u8])
     ensures short { array_vec_len line.new ≤ array_vec_len line.old + 86 }
 {
     put_named(line, b"", bytes.len() as u64);
-    put(line, b" ");
-    put(line, &digest_text(bytes));
+    line.put(b" ");
+    line.put(&digest_text(bytes));
 }
 
 /// Makes this the line of an object.
@@ -49,9 +49,9 @@ pub fn print_object(number: usize, object: &Ended, line: &mut ReplyLine)
     put_named(line, b"object", number as u64);
     match object {
         Ended::Here(bytes) => put_here(line, bytes),
-        Ended::Out => put(line, b" out"),
+        Ended::Out => line.put(b" out"),
     }
-    put(line, b"\n");
+    line.end();
 }
 
 /// Makes this the line of a machine: that with which `regs` is answered.

@@ -1,27 +1,34 @@
 //! Commands on machines, on what the lock of a cell lends.
 ghost use Rattle.std.specs.Prelude.{◌≡◌, None};
 ghost use Rattle.debugger.specs.declared.commands.MachineCommand.{MachineCommand};
-ghost use Rattle.workers.specs.Cells.{IsTableOf, seat_state};
+ghost use Rattle.workers.specs.Cells.{seat_state};
 ghost use Rattle.ship_service.specs.Lent.{AnswersLent, Requeues, ShipsCell};
 
-use debugger::{DebugCommand, Debugged, MachineCommand, ShowCommand, Start, Way};
+use debugger::{DebugCommand, Debugged, MachineCommand, ShowCommand, Start, StepReply, Way};
 use far_store::FarStore;
 use loader::{Why, load};
-use shared_objects::{ActorSeat, SharedTable};
+use shared_objects::ActorSeat;
 use std::alloc::Global;
 use std::sync::Wait;
 use workers::{Locked, Mark, Pool};
 use world::Reply;
 
+/// Asks the mover for the object for which a machine waits, if it does.
+fn call_awaited<F: FarStore, K: Mark, R: Wait>(rt: &R, pool: &Pool<F, K>, reply: StepReply) {
+    if let StepReply::Waiting(object) = reply {
+        pool.call(rt, object);
+    }
+}
+
 /// One step of the cell's machine, whose seat learns this seat's stamp before it, and this one that one's after it.
-fn step<K: Mark>(
-    table: &SharedTable,
+fn step<F: FarStore, K: Mark, R: Wait>(
+    rt: &R,
+    pool: &Pool<F, K>,
     locked: &mut Locked<K>,
     seat: &mut ActorSeat,
     machine: usize,
     way: Way,
 ) -> Reply
-    requires { IsTableOf K.table K.opening table.now }
     ensures seat { seat.new.seat ≡ seat.old.seat }
     ensures answers { AnswersLent (MachineCommand.Step way) (seat_state seat.old) locked.old machine result (seat_state seat.new) locked.new }
 {
@@ -29,9 +36,10 @@ fn step<K: Mark>(
         return Reply::Missing;
     }
     locked.learn(seat.stamp());
-    match locked.step(table, way) {
+    match locked.step(pool.table(), way) {
         Some(reply) => {
             seat.learn(locked.stamp());
+            call_awaited(rt, pool, reply);
             Reply::to_step(machine, reply)
         }
         None => unreachable!(),
@@ -105,7 +113,7 @@ pub(crate) fn answer_lent<F: FarStore, K: Mark, R: Wait>(
     ensures answers { AnswersLent command (seat_state seat.old) locked.old machine result (seat_state seat.new) locked.new }
 {
     match command {
-        MachineCommand::Step(way) => step(pool.table(), locked, seat, machine, way),
+        MachineCommand::Step(way) => step(rt, pool, locked, seat, machine, way),
         MachineCommand::Show(command) => show(alloc, locked, seat, machine, command),
         MachineCommand::Debug(command) => debug(rt, pool, locked, seat, machine, command),
     }

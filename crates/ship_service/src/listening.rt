@@ -1,10 +1,8 @@
 //! A service that listens.
-ghost use Rattle.std.specs.Prelude.{◌≡◌, ◌+◌, length, OnErr, OnOk, IfOk};
-ghost use Rattle.std.specs.Io.KnownBytes.{Appends};
-ghost use Rattle.streams.specs.Streams.{AppendsPart};
+ghost use Rattle.std.specs.Prelude.{◌≡◌, ◌+◌, length};
 ghost use Rattle.object_store.specs.Stores.{machine_limit};
 ghost use Rattle.world.specs.WorldState.{state_of};
-ghost use Rattle.ship_service.specs.Listening.{FindsHere, OpensAll, SaysAs, SaysClosing, TellsClosing, TellsClosingOf, listening_line};
+ghost use Rattle.ship_service.specs.Listening.{FindsHere, OpensAll, SaysAs, SaysClosing, TellsClosing, TellsClosingOf};
 ghost use Rattle.ship_service.specs.Opening.{IsNamed};
 
 use crate::closing_lines::write_closing_lines;
@@ -12,16 +10,17 @@ use crate::connection::Connection;
 use crate::journal::{Journal, Unwritten};
 use crate::opened::{OpenAgent, Opened};
 use crate::shared_agent::Agent;
-use crate::texts::{closed_line, listening};
+use crate::texts::closed_line;
 use crate::threads::{Plan, ThreadFault, serve_all};
 use far_store::FarStore;
+use listener::announce;
 use std::alloc::Global;
 use std::io::Write;
 use std::marker::Brand;
 use std::net::{TcpListener, TcpStream};
 use std::sync::Wait;
 use std::thread::Threads;
-use streams::{WriteFault, put_all};
+use streams::put_all;
 use thiserror::Error;
 use workers::{Mark, Mover};
 use world::World;
@@ -41,14 +40,6 @@ pub enum ListenFault {
     /// The output failed.
     #[error("write fault")]
     Write,
-}
-
-/// Says which port is listened on.
-fn announce<W: Write>(port: u16, writer: &mut W) -> Result<(), WriteFault>
-    ensures ok { OnOk result (Appends (W.contents writer.old) (W.contents writer.new) (listening_line port)) }
-    ensures err { OnErr result (AppendsPart (W.contents writer.old) (W.contents writer.new) (listening_line port)) }
-{
-    put_all(writer, &listening(port))
 }
 
 /// Closes with all its connections, and says what is left.

@@ -2,9 +2,9 @@
 ghost use Rattle.std.specs.Prelude.{◌≡◌, ◌<◌, ◌≤◌, ◌+◌, ◌++◌, length};
 ghost use Rattle.console.specs.Lines.{ended};
 ghost use Rattle.console.specs.Replies.{number_text};
-ghost use Rattle.ship_service.specs.Replies.{service_text, IsShortReply, missed_object, is_busy};
+ghost use Rattle.ship_service.specs.Replies.{service_text, IsShortReply, is_busy};
 
-use console::{REPLY_LIMIT, ReplyLine, print_reply, put, put_named};
+use console::{REPLY_LIMIT, ReplyLine, print_reply, put_named};
 use world::Reply;
 
 /// What a command was answered.
@@ -23,17 +23,6 @@ pub enum ServiceReply {
 }
 
 impl ServiceReply {
-    /// The object that the command found away, if there is one: it is to be returned.
-    pub(crate) fn missed(&self) -> Option<u32>
-        ensures { result ≡ missed_object self.now }
-    {
-        match self {
-            ServiceReply::Plain(Reply::Away { object }) => Some(*object),
-            ServiceReply::Plain(Reply::Waiting { object, .. }) => Some(*object),
-            _ => None,
-        }
-    }
-
     /// Whether another had its turn on the object.
     pub(crate) fn is_busy(&self) -> bool
         ensures { result ≡ is_busy self.now }
@@ -42,14 +31,13 @@ impl ServiceReply {
     }
 }
 
-/// Makes this the line of a text.
 fn print_text(text: &[u8], line: &mut ReplyLine)
     requires { length text.now < REPLY_LIMIT }
     ensures { line.new.items ≡ ended text.now }
 {
     line.clear();
-    put(line, text);
-    put(line, b"\n");
+    line.put(text);
+    line.end();
 }
 
 /// Makes this the line of a name and the number of an object.
@@ -59,10 +47,9 @@ fn print_named(name: &[u8], object: u32, line: &mut ReplyLine)
 {
     line.clear();
     put_named(line, name, object as u64);
-    put(line, b"\n");
+    line.end();
 }
 
-/// Makes this the line of a reply.
 pub(crate) fn print_service_reply(reply: &ServiceReply, line: &mut ReplyLine)
     requires { IsShortReply reply.now }
     ensures { line.new.items ≡ ended (service_text reply.now) }

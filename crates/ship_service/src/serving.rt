@@ -27,7 +27,6 @@ pub struct Service<'a, R, F: FarStore, K: Mark> {
     agent: &'a Agent<F, K>,
 }
 
-/// Does a command on an object.
 fn answer_object<F: FarStore, K: Mark, R: Wait>(
     rt: &R,
     agent: &Agent<F, K>,
@@ -42,23 +41,15 @@ fn answer_object<F: FarStore, K: Mark, R: Wait>(
     let pool = agent.pool();
     match command {
         ObjectCommand::Put { offset, bytes } => {
-            put(rt, pool.table(), seat, object, offset, bytes.as_slice())
+            put(rt, pool, seat, object, offset, bytes.as_slice())
         }
-        ObjectCommand::Get { offset, length } => get(
-            rt,
-            pool.table(),
-            seat,
-            object,
-            offset,
-            length,
-        ),
+        ObjectCommand::Get { offset, length } => get(rt, pool, seat, object, offset, length),
         ObjectCommand::Move(Move::Leave) => ask(rt, pool, object, Direction::Leave),
         ObjectCommand::Move(Move::Return) => ask(rt, pool, object, Direction::Return),
         _ => ServiceReply::Unserved,
     }
 }
 
-/// Does a command.
 fn answer<F: FarStore, K: Mark, R: Wait>(
     rt: &R,
     alloc: Global,
@@ -92,9 +83,6 @@ impl<'a, R: Wait, F: FarStore, K: Mark> Answerer<Service<'a, R, F, K>> for Post<
         let pool = shared.agent.pool();
         let told = answer(shared.rt, self.alloc, shared.agent, &mut self.seat, event);
         pool.table().close_scopes(&mut self.seat);
-        if let Some(object) = told.missed() {
-            pool.call(shared.rt, object);
-        }
         print_service_reply(&told, reply);
     }
 }

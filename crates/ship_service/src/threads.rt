@@ -7,8 +7,8 @@ use crate::journal::Journal;
 use crate::serving::serve;
 use crate::shared_agent::Agent;
 use far_store::{FarStore, Moved};
+use listener::accept;
 use std::alloc::{AllocError, Global};
-use std::io::{self, Error, ErrorKind};
 use std::net::{Shutdown, TcpListener, TcpStream};
 use std::sync::atomic::{AtomicBool, Ordering};
 use std::sync::{Mutex, Wait};
@@ -103,30 +103,6 @@ struct Front<'a, K: Mark> {
     locks: &'a [Mutex<Connection<K>>],
     // the stream of the far store, if it has one
     far: Option<TcpStream>,
-}
-
-/// Whether a client went before it was accepted, or a signal came: the next may be accepted.
-fn is_passing(error: &Error) -> bool {
-    matches!(
-        error.kind(),
-        ErrorKind::ConnectionAborted | ErrorKind::Interrupted
-    )
-}
-
-/// The next client's stream, twice: one to be served, and one by which it can be cut off.
-fn accept<R: Wait>(rt: &R, listener: &TcpListener) -> io::Result<(TcpStream, TcpStream)> {
-    for _ in rt.forever() {
-        match listener.accept() {
-            Ok((stream, _)) => {
-                let _ = stream.set_nodelay(true);
-                let shown = stream.try_clone()?;
-                return Ok((stream, shown));
-            }
-            Err(error) if is_passing(&error) => {}
-            Err(error) => return Err(error),
-        }
-    }
-    unreachable!()
 }
 
 /// Answers all that the client of a number says. What goes wrong on its stream ends its connection alone.

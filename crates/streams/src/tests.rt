@@ -1,6 +1,7 @@
-//! What comes, however it is cut, and what came before a device failed.
+//! What comes, however it is cut, and what came before a device failed; what a line has.
 
 use crate::fault::{InputFault, ReadFault, WriteFault};
+use crate::line::Line;
 use crate::reading::{fill, read_at_most, skip};
 use crate::writing::put_all;
 use std::io::{Error, ErrorKind, Read, Result, Write};
@@ -103,4 +104,17 @@ fn a_writer_that_takes_nothing_fails(rt: HostRuntime) {
     let mut writer = room.as_mut_slice();
     assert_eq!(rt; put_all(&mut writer, b"abcd"), Err(WriteFault));
     assert_eq!(rt; room, *b"abc");
+}
+
+#[test]
+fn a_line_has_what_was_put(rt: HostRuntime) {
+    let mut line: Line<32> = Line::new();
+    line.put(b"slot ");
+    line.put_decimal(7usize);
+    line.end();
+    assert_eq!(rt; line.as_slice(), b"slot 7\n".as_slice());
+    line.clear();
+    line.push(b'+');
+    line.put_decimal(i32::MIN);
+    assert_eq!(rt; line.as_slice(), b"+-2147483648".as_slice());
 }

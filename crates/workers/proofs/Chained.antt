@@ -19,7 +19,7 @@ use Rattle.debugger.specs.declared.debuggee.Debuggee.{Debuggee}
 use Rattle.debugger.specs.Debuggees.{Walks, AnswersStep}
 use Rattle.debugger.specs.Running.{StepsRan, RunsUpTo}
 use Rattle.debugger.proofs.Ran.{run_keeps}
-use Rattle.workers.specs.declared.running.Begun.{Begun}
+use Rattle.workers.specs.declared.running.Shipment.{Shipment}
 use Rattle.workers.specs.Cells.{SeatState, seat_acts, RunningState, CellState, StepsCell, RanCell, RunsCell, shipped_as, StartedAs, lengths_of, is_marked_worn, IsReplayed}
 use Rattle.workers.proofs.Replayed.{answer_replays, answer_actor, answer_keeps}
 
@@ -83,7 +83,7 @@ run_actor n ran end old new before after h =
     n ran end old new before after refl h
 
 -- and so does what the machine started as
-pub run_ships : (n ran : ℕ) (end : Option StepReply) (old new : Debuggee) (before after : SeatState) (b : Option Begun) → IsWholeMachine old.machine → RunsUpTo seat_acts n old before ran end new after
+pub run_ships : (n ran : ℕ) (end : Option StepReply) (old new : Debuggee) (before after : SeatState) (b : Option Shipment) → IsWholeMachine old.machine → RunsUpTo seat_acts n old before ran end new after
     → shipped_as new.machine b ≡ shipped_as old.machine b
 run_ships n ran end old new before after b whole h =
     (run_keeps seat_acts (λ (d : Debuggee) (s : SeatState). IsWholeMachine d.machine × (shipped_as d.machine b ≡ shipped_as old.machine b))

@@ -35,7 +35,7 @@ use Rattle.debugger.specs.declared.replies.StepReply.TheVariants as step_reply
 use Rattle.debugger.specs.declared.debuggee.Debuggee.{Debuggee}
 use Rattle.debugger.specs.Debuggees.{Walks, AnswersStep, debuggee_start}
 use Rattle.debugger.specs.declared.start.Start.{Start}
-use Rattle.workers.specs.declared.running.Begun.{Begun}
+use Rattle.workers.specs.declared.running.Shipment.{Shipment}
 use Rattle.workers.specs.Cells.{SeatState, seat_acts, RunningState, shipped_as, opened_as, StartedAs, lengths_of, is_worn_mark, is_marked_worn, IsReplayed, FitsCell}
 
 -- ---- marks
@@ -158,19 +158,19 @@ stays_replayed opening starts number way old new before after told same h kept r
 
 -- ---- what it started as stays
 
-pub shipped_stays : (m n : MachineState) (b : Option Begun) → n.number ≡ m.number → n.code ≡ m.code → n.grants ≡ m.grants → shipped_as n b ≡ shipped_as m b
+pub shipped_stays : (m n : MachineState) (b : Option Shipment) → n.number ≡ m.number → n.code ≡ m.code → n.grants ≡ m.grants → shipped_as n b ≡ shipped_as m b
 shipped_stays m n None e f g = refl
 shipped_stays m n (Some b) e f g =
     ap (λ x. Some (granted_start x n.code b.fuel b.arguments n.grants)) e
     ∙ (ap (λ (x : List ℕ). Some (granted_start m.number x b.fuel b.arguments n.grants)) f ∙ ap (λ (x : GrantState). Some (granted_start m.number m.code b.fuel b.arguments x)) g)
 
-walk_keeps : (way : Way) (old new : Debuggee) (before after : SeatState) (told : StepReply) (b : Option Begun) → IsWholeMachine old.machine → Walks seat_acts way old before told new after
+walk_keeps : (way : Way) (old new : Debuggee) (before after : SeatState) (told : StepReply) (b : Option Shipment) → IsWholeMachine old.machine → Walks seat_acts way old before told new after
     → shipped_as new.machine b ≡ shipped_as old.machine b
 walk_keeps way old new before after told b whole h =
     let w = stays_whole seat_acts old.machine h.machine before after h.answer whole h.step in
     ap (λ (d : Debuggee). shipped_as d.machine b) h.changed ∙ shipped_stays old.machine h.machine b w.1 w.0 (keeps seat_acts old.machine h.machine before after h.answer h.step)
 
-pub answer_keeps : (way : Way) (old new : Debuggee) (before after : SeatState) (told : StepReply) (b : Option Begun) → IsWholeMachine old.machine → AnswersStep seat_acts way old before told new after
+pub answer_keeps : (way : Way) (old new : Debuggee) (before after : SeatState) (told : StepReply) (b : Option Shipment) → IsWholeMachine old.machine → AnswersStep seat_acts way old before told new after
     → shipped_as new.machine b ≡ shipped_as old.machine b
 answer_keeps way old new before after (step_reply.Paused slot) b whole h = ap (λ (d : Debuggee). shipped_as d.machine b) h.changed
 answer_keeps way old new before after told b whole h = walk_keeps way old new before after told b whole h

@@ -30,7 +30,7 @@ use Rattle.debugger.specs.declared.debuggee.Debuggee.{Debuggee}
 use Rattle.debugger.specs.Debuggees.{AnswersStep, DebugsMachine}
 use Rattle.debugger.specs.Running.{is_ran}
 use Rattle.debugger.specs.Showing.{Shows}
-use Rattle.workers.specs.declared.running.Begun.{Begun}
+use Rattle.workers.specs.declared.running.Shipment.{Shipment}
 
 -- ---- seats
 
@@ -63,7 +63,7 @@ pub record RunningState : Type 0 where
   pub shipped : Option MachineState
 
 -- a machine that was shipped, at the start of its code: number, code and grants never change
-abbrev pub shipped_as : MachineState → Option Begun → Option MachineState
+abbrev pub shipped_as : MachineState → Option Shipment → Option MachineState
 shipped_as m None = None
 shipped_as m (Some b) = Some (granted_start m.number m.code b.fuel b.arguments m.grants)
 

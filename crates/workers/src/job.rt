@@ -1,6 +1,8 @@
 //! What lies in the queues of a pool.
 
 use crate::cell::Ticket;
+use crossbeam_queue::ArrayQueue;
+use std::sync::Wait;
 
 /// Which way an object is to go.
 #[derive(Clone, Copy, Drop, Debug, PartialEq, Eq)]
@@ -18,6 +20,29 @@ pub enum Job {
     Run(Ticket),
     Wait(Ticket, u32),
     Move(Request),
+}
+
+impl Job {
+    /// The ticket that lies in it, if there is one: each is a machine's, which would end with it.
+    pub(crate) fn into_ticket(self) -> Option<Ticket> {
+        match self {
+            Job::Run(ticket) => Some(ticket),
+            Job::Wait(ticket, _) => Some(ticket),
+            Job::Move(_) => None,
+        }
+    }
+}
+
+/// Puts a job into a queue that has a place for whatever may come. If there were none it would be tried again, since a machine ends with
+/// its ticket.
+pub(crate) fn put_into<R: Wait>(rt: &R, queue: &ArrayQueue<Job>, job: Job) {
+    let mut left = job;
+    for _ in rt.forever() {
+        match queue.push(rt, left) {
+            Ok(()) => return,
+            Err(back) => left = back,
+        }
+    }
 }
 
 /// An object that is to be moved.

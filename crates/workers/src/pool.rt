@@ -12,8 +12,9 @@ ghost use Rattle.workers.specs.Pools.{IsNewSeat, AreSeats, machines_of, machine_
 use crate::cell::{Locked, MachineCell, Taken, Ticket};
 use crate::closing::{PoolParts, parts_of};
 use crate::gate::Gate;
-use crate::job::{Direction, Job, Request};
+use crate::job::{Direction, Job, Request, put_into};
 use crate::mark::Mark;
+use crate::patience::give_time;
 use crate::requests::Requests;
 use crossbeam_queue::ArrayQueue;
 use debugger::{Debuggee, StepReply, Way};
@@ -92,6 +93,15 @@ fn queue_waiting<K: Mark, R: Wait>(
     };
     if let Err(Job::Wait(ticket, _)) = waits.lock(rt).push(rt, Job::Wait(ticket, object)) {
         locked.dequeue(ticket);
+    }
+}
+
+/// How often in a row a machine has found another's turn, after a run of so many instructions that ended with that.
+fn found_busy(before: u32, ran: u64) -> u32 {
+    if ran == 0 {
+        before.saturating_add(1)
+    } else {
+        0
     }
 }
 
@@ -260,7 +270,6 @@ impl<F: FarStore, K: Mark> Pool<F, K> {
         self.wake_worker();
     }
 
-    /// Wakes a worker that sleeps.
     fn wake_worker(&self) {
         self.queued.fetch_add(1, Ordering::SeqCst);
         self.queued.wake_one();
@@ -273,12 +282,10 @@ impl<F: FarStore, K: Mark> Pool<F, K> {
             match waits.pop(rt) {
                 Some(Job::Wait(ticket, awaited)) if awaited == object => {
                     // there are fewer machines than places
-                    let _ = self.runs.push(rt, Job::Run(ticket));
+                    put_into(rt, &self.runs, Job::Run(ticket));
                     self.wake_worker();
                 }
-                Some(job) => {
-                    let _ = waits.push(rt, job);
-                }
+                Some(job) => put_into(rt, &waits, job),
                 None => return,
             }
         }
@@ -286,10 +293,7 @@ impl<F: FarStore, K: Mark> Pool<F, K> {
 
     /// The ticket of the next machine in the queue, if there is one.
     fn next_run<R: Wait>(&self, rt: &R) -> Option<Ticket> {
-        match self.runs.pop(rt) {
-            Some(Job::Run(ticket)) => Some(ticket),
-            _ => None,
-        }
+        self.runs.pop(rt)?.into_ticket()
     }
 
     /// Asks the mover to move an object, and says whether there was room for that. A move that is asked for already isn't asked for
@@ -387,7 +391,7 @@ impl<F: FarStore, K: Mark> Pool<F, K> {
     }
 
     /// The same with no gate to be told, with the lock of the cell, which comes back. From where nothing is set for the machine a
-    /// turn is done in one go. Where another wants the lock, it has it before a step that found another's turn is tried again.
+    /// turn is done in one go. Before a step that found another's turn is tried again, whoever wants the lock has it, or some time passes.
     fn run_untold<'a, R: Wait>(
         &self,
         rt: &R,
@@ -396,6 +400,7 @@ impl<F: FarStore, K: Mark> Pool<F, K> {
     ) -> (MutexGuard<'a, Locked<K>>, Ending) {
         let mut locked = held;
         let mut left = TURN_LIMIT as u64;
+        let mut busy: u32 = 0;
         for _ in 0..TURN_LIMIT {
             let Some(run) = locked.run(self.table(), left) else {
                 return (locked, Ending::Over);
@@ -407,8 +412,11 @@ impl<F: FarStore, K: Mark> Pool<F, K> {
                 return (locked, ending);
             }
             left = left.saturating_sub(run.ran);
+            busy = found_busy(busy, run.ran);
             if cell.is_wanted() {
                 locked = cell.give_way(rt, locked);
+            } else {
+                give_time(rt, busy);
             }
         }
         (locked, Ending::Full)

@@ -1,6 +1,6 @@
 //! What the mover is asked for.
 
-use crate::job::{Direction, Job, Request};
+use crate::job::{Direction, Job, Request, put_into};
 use crate::pool::QUEUE_LIMIT;
 use crate::retries::Retries;
 use crossbeam_queue::ArrayQueue;
@@ -76,7 +76,7 @@ impl Requests {
             return;
         }
         // there is a place for each move of each object
-        let _ = self.queue.push(rt, Job::Move(request));
+        put_into(rt, &self.queue, Job::Move(request));
         self.wake();
     }
 
@@ -85,7 +85,6 @@ impl Requests {
         self.queue.len(rt) >= QUEUE_LIMIT
     }
 
-    /// Whether no move is asked for.
     pub(crate) fn is_empty(&self) -> bool {
         self.queue.is_empty()
     }
@@ -151,7 +150,6 @@ impl Requests {
         );
     }
 
-    /// Wakes the mover.
     pub(crate) fn wake(&self) {
         self.asked.fetch_add(1, Ordering::SeqCst);
         self.asked.wake_all();

@@ -12,9 +12,9 @@ use loader::Program;
 use shared_objects::{ActorSeat, SeatMemory, SharedTable};
 use std::marker::Model;
 
-/// What a machine started with, beside its code and its grants, which never change.
+/// What a machine was shipped with, beside its code and its grants, which never change.
 #[derive(Clone, Copy, Drop, Debug)]
-pub struct Begun {
+pub struct Shipment {
     pub fuel: u64,
     pub arguments: [u64; 5],
 }
@@ -23,7 +23,7 @@ pub struct Begun {
 #[derive(Drop)]
 pub struct Running {
     debuggee: Debuggee,
-    begun: Option<Begun>,
+    shipment: Option<Shipment>,
 }
 
 impl Model for Running {
@@ -31,10 +31,10 @@ impl Model for Running {
 
     ghost Value = { RunningState };
 
-    ghost view = { λ r. record { debuggee = r.debuggee; shipped = shipped_as r.debuggee.machine r.begun } };
+    ghost view = { λ r. record { debuggee = r.debuggee; shipped = shipped_as r.debuggee.machine r.shipment } };
 }
 
-/// There are five arguments.
+/// Says in a clause what the type says, for callers.
 fn are_five(arguments: [u64; 5])
     ensures { length arguments ≡ 5 }
 {
@@ -48,7 +48,7 @@ impl Running {
     {
         Running {
             debuggee,
-            begun: None,
+            shipment: None,
         }
     }
 
@@ -61,13 +61,13 @@ impl Running {
         prove!(program.slots() > 0);
         let arguments = start.arguments;
         are_five(arguments);
-        let begun = Begun {
+        let shipment = Shipment {
             fuel: start.fuel,
             arguments,
         };
         Running {
             debuggee: Debuggee::new(program, number, start),
-            begun: Some(begun),
+            shipment: Some(shipment),
         }
     }
 
@@ -78,12 +78,12 @@ impl Running {
         &self.debuggee
     }
 
-    /// What it started with, where it was shipped after the table was opened. Its start is then that of its code and grants
-    /// with these; that of a machine which was there before is the one that it was opened with.
-    pub fn begun(&self) -> Option<Begun>
+    /// What it was shipped with, if it came after the table was opened. Its start is then that of its code and grants with these. The
+    /// start of a machine that was there before is the one that it was opened with.
+    pub fn shipment(&self) -> Option<Shipment>
         ensures { shipped_as self.now.debuggee.machine result ≡ self.now.shipped }
     {
-        self.begun
+        self.shipment
     }
 
     /// Whether the machine is neither paused nor stopped.

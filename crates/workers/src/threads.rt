@@ -24,10 +24,10 @@ pub fn mover<F: FarStore, K: Mark, R: Wait, G: Gate>(
     rt: &R,
     gate: &G,
     pool: &Pool<F, K>,
-    mover: &mut Mover<F, K>,
+    served: &mut Mover<F, K>,
     sweep: bool,
 )
-    ensures chain { MovesOn F.RETURNS F.called F.faults_of (length K.opening) mover.old mover.new }
+    ensures chain { MovesOn F.RETURNS F.called F.faults_of (length K.opening) served.old served.new }
 {
     let mut turn = false;
     for _ in rt.forever() {
@@ -38,8 +38,8 @@ pub fn mover<F: FarStore, K: Mark, R: Wait, G: Gate>(
         }
         turn = !turn;
         match next_request(rt, pool, turn) {
-            Some(request) => serve(rt, gate, pool, mover, request),
-            None => rest(rt, gate, pool, mover, seen, sweep),
+            Some(request) => serve(rt, gate, pool, served, request),
+            None => rest(rt, gate, pool, served, seen, sweep),
         }
     }
 }
@@ -60,7 +60,6 @@ fn next_request<F: FarStore, K: Mark, R: Wait>(
     }
 }
 
-/// Serves a request.
 fn serve<F: FarStore, K: Mark, R: Wait, G: Gate>(
     rt: &R,
     gate: &G,

@@ -1,15 +1,15 @@
-//! Tables, machines and gates. A slot of code is written as its bytes, first to last.
-ghost use Rattle.std.specs.Prelude.{◌≡◌, length, IfOk};
+//! Machines, and gates with what other threads do meanwhile. A slot of code is written as its bytes, first to last.
 
 use debugger::{ShowCommand, ShowReply};
 use far_store::FarStore;
 use loader::{Program, load};
-use std::alloc::{AllocError, Global};
+use std::alloc::Global;
 use std::sync::Wait;
 use std::sync::atomic::{AtomicBool, AtomicU64, Ordering};
 use std::test::Fail;
-use std::thread::yield_now;
-use workers::{Gate, Mark, Pool};
+use std::thread::{self, Threads, yield_now};
+use test_devices::code;
+use workers::{Gate, Mark, Pool, work};
 
 pub const EXIT: u64 = 0x9500_0000_0000_0000;
 
@@ -31,24 +31,9 @@ pub const OBJECT: u64 = 0x0000_0001_0000_0000;
 /// How often is looked at a flag at most.
 pub const LOOKS: u64 = 10_000;
 
-/// So many objects of eight bytes, all zero.
-pub fn objects(alloc: Global, count: usize) -> Result<Vec<Vec<u8>>, AllocError>
-    ensures { IfOk result (λ v. length v.items ≡ count) }
-{
-    let mut bodies = Vec::new(alloc);
-    while bodies.len() < count {
-        bodies.push(vec![in alloc; 0u8; 8]?)?;
-    }
-    Ok(bodies)
-}
-
 /// A program of these slots.
-pub fn code(alloc: Global, slots: &[u64]) -> Result<Program, Fail> {
-    let mut bytes = Vec::new(alloc);
-    for slot in slots {
-        bytes.extend_from_slice(&slot.to_be_bytes())?;
-    }
-    Ok(load(alloc, bytes.as_slice())?)
+pub fn program(alloc: Global, slots: &[u64]) -> Result<Program, Fail> {
+    Ok(load(alloc, code(alloc, slots)?.as_slice())?)
 }
 
 /// Whether the machine of this number goes on.
@@ -88,6 +73,49 @@ pub fn waits_for(flag: &AtomicBool) -> bool {
         rest();
     }
     false
+}
+
+/// Whether neither machine 1 nor machine 2 goes on, after so many looks at most.
+fn waits_for_ends<F: FarStore, K: Mark, R: Wait>(rt: &R, pool: &Pool<F, K>, looks: u64) -> bool {
+    for _ in 0..looks {
+        if !goes(rt, pool, 1) && !goes(rt, pool, 2) {
+            return true;
+        }
+        rest();
+    }
+    false
+}
+
+/// A gate, and what is done while workers run under it.
+pub trait Driven: Gate {
+    /// Waits until it has seen what it is for, and says whether it has.
+    fn is_seen<F: FarStore, K: Mark, R: Wait>(&self, rt: &R, pool: &Pool<F, K>) -> bool;
+
+    /// Has the workers end.
+    fn end(&self);
+}
+
+/// So many workers on threads of their own, until the gate has seen what it is for: how many were made, and whether it has.
+pub fn run_driven<F, K, R, G>(rt: &R, gate: &G, pool: &Pool<F, K>, workers: usize) -> (usize, bool)
+where
+    F: FarStore + Send + Sync,
+    K: Mark + Send + Sync,
+    R: Threads + Wait + Sync,
+    G: Driven + Sync,
+    F::Parcel: Send,
+{
+    thread::scope(thread::scope_env(), rt, |scope| {
+        let mut made: usize = 0;
+        for worker in 0..workers {
+            if scope.spawn(move || work(rt, gate, pool, worker)).is_ok() {
+                made = made.wrapping_add(1);
+            }
+        }
+        let seen = gate.is_seen(rt, pool);
+        gate.end();
+        pool.wake_all();
+        (made, seen)
+    })
 }
 
 /// Holds the first instruction of machine 1 until another thread has looked at that machine and machine 2 has answered one, and
@@ -144,6 +172,20 @@ impl Gate for Holds {
     }
 }
 
+impl Driven for Holds {
+    /// Looks at machine 1 when a worker is held at its first instruction, and waits for both machines' ends.
+    fn is_seen<F: FarStore, K: Mark, R: Wait>(&self, rt: &R, pool: &Pool<F, K>) -> bool {
+        waits_for(&self.first);
+        goes(rt, pool, 1);
+        self.looked.store(true, Ordering::SeqCst);
+        waits_for_ends(rt, pool, LOOKS)
+    }
+
+    fn end(&self) {
+        self.ends.store(true, Ordering::SeqCst);
+    }
+}
+
 /// Notes whether two workers are at an instruction of one machine at a time, how many instructions were done, and how many
 /// workers were told to end.
 #[derive(Drop)]
@@ -196,5 +238,16 @@ impl Gate for Crowd {
             self.ended.fetch_add(1, Ordering::SeqCst);
         }
         !ends
+    }
+}
+
+impl Driven for Crowd {
+    /// Waits for both machines' ends.
+    fn is_seen<F: FarStore, K: Mark, R: Wait>(&self, rt: &R, pool: &Pool<F, K>) -> bool {
+        waits_for_ends(rt, pool, 100 * LOOKS)
+    }
+
+    fn end(&self) {
+        self.ends.store(true, Ordering::SeqCst);
     }
 }

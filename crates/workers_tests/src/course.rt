@@ -7,7 +7,7 @@ ghost use Rattle.workers.specs.Cells.{IsTableOf};
 ghost use Rattle.workers.specs.Marks.{each_lent};
 ghost use Rattle.workers.specs.Pools.{machines_of};
 
-use crate::common::{code, objects};
+use crate::common::program;
 use crate::gates::{Heard, LeftByFour, LeftByTwo, four, looks_at_fuel, numbers, two};
 use crate::leaving::steps;
 use crate::moving::{MovesLeft, moves};
@@ -21,6 +21,7 @@ use std::marker::Brand;
 use std::sync::Wait;
 use std::test::Fail;
 use std::thread::Threads;
+use test_devices::objects;
 use workers::{Mark, Pool};
 
 /// A machine at the start of its code.
@@ -110,7 +111,7 @@ fn left_over<K: Mark + Send + Sync, R: Threads + Wait + Sync>(
 /// The machine of this number.
 fn machine(alloc: Global, number: usize, it: &Code) -> Result<Debuggee, Fail> {
     let start = Start::new(it.fuel, it.arguments);
-    let mut made = Debuggee::new(code(alloc, it.slots)?, number, start);
+    let mut made = Debuggee::new(program(alloc, it.slots)?, number, start);
     if let Some(command) = it.debug {
         let _ = made.debug(command);
     }
@@ -134,7 +135,7 @@ pub fn left_of<R: Threads + Wait + Sync>(
     course: Course,
 ) -> Result<Left, Fail> {
     let machines = machines(alloc, codes)?;
-    let bodies = objects(alloc, 2)?;
+    let bodies = objects(alloc, 2, 8)?;
     let (shared, seats, mover) = Shared::<OwnStore>::open(alloc, bodies, 3)?;
     if machines.len() > seats.len() {
         return Err(Fail::from(AllocError));

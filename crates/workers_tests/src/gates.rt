@@ -1,7 +1,7 @@
 //! Workers, and who is told of each instruction.
 
 use crate::common::{
-    ADD, Crowd, EXIT, Holds, JUMP, LOAD, LOOKS, OBJECT, code, fuel, goes, rest, waits_for,
+    ADD, Crowd, EXIT, Holds, JUMP, LOAD, OBJECT, fuel, program, run_driven, waits_for,
 };
 use crate::compared::same;
 use crate::course::{Code, Course, Left, left_of};
@@ -13,75 +13,8 @@ use std::alloc::Global;
 use std::sync::Wait;
 use std::sync::atomic::{AtomicBool, AtomicU64, Ordering};
 use std::test::Fail;
-use std::thread;
 use std::thread::Threads;
 use workers::{Gate, Mark, Pool, run_workers, work};
-
-/// Whether neither machine 1 nor machine 2 goes on, after so many looks at most.
-fn waits_for_ends<F: FarStore, K: Mark, R: Wait>(rt: &R, pool: &Pool<F, K>, looks: u64) -> bool {
-    for _ in 0..looks {
-        if !goes(rt, pool, 1) && !goes(rt, pool, 2) {
-            return true;
-        }
-        rest();
-    }
-    false
-}
-
-/// Looks at machine 1 when a worker is held at its first instruction.
-fn look<F: FarStore, K: Mark, R: Wait>(rt: &R, gate: &Holds, pool: &Pool<F, K>) {
-    waits_for(&gate.first);
-    goes(rt, pool, 1);
-    gate.looked.store(true, Ordering::SeqCst);
-}
-
-/// Two workers on threads of their own, until both machines came to their ends.
-fn run_two<F: FarStore + Send + Sync, K: Mark + Send + Sync, R: Threads + Wait + Sync>(
-    rt: &R,
-    gate: &Holds,
-    pool: &Pool<F, K>,
-) -> (usize, bool)
-where
-    F::Parcel: Send,
-{
-    thread::scope(thread::scope_env(), rt, |scope| {
-        let mut made: usize = 0;
-        for worker in 0..2 {
-            if scope.spawn(move || work(rt, gate, pool, worker)).is_ok() {
-                made = made.wrapping_add(1);
-            }
-        }
-        look(rt, gate, pool);
-        let ended = waits_for_ends(rt, pool, LOOKS);
-        gate.ends.store(true, Ordering::SeqCst);
-        pool.wake_all();
-        (made, ended)
-    })
-}
-
-/// So many workers on threads of their own, until both machines came to their ends.
-fn run_crowd<F: FarStore + Send + Sync, K: Mark + Send + Sync, R: Threads + Wait + Sync>(
-    rt: &R,
-    gate: &Crowd,
-    pool: &Pool<F, K>,
-    workers: usize,
-) -> (usize, bool)
-where
-    F::Parcel: Send,
-{
-    thread::scope(thread::scope_env(), rt, |scope| {
-        let mut made: usize = 0;
-        for worker in 0..workers {
-            if scope.spawn(move || work(rt, gate, pool, worker)).is_ok() {
-                made = made.wrapping_add(1);
-            }
-        }
-        let ended = waits_for_ends(rt, pool, 100 * LOOKS);
-        gate.ends.store(true, Ordering::SeqCst);
-        pool.wake_all();
-        (made, ended)
-    })
-}
 
 /// Ships a machine into cell 3, and steps it.
 fn ship_third<F: FarStore, K: Mark, R: Wait>(
@@ -121,9 +54,9 @@ pub fn two<K: Mark + Send + Sync, R: Threads + Wait + Sync>(
     alloc: Global,
     pool: &Pool<OwnStore, K>,
 ) -> Result<LeftByTwo, Fail> {
-    let program = code(alloc, &[LOAD, EXIT])?;
+    let program = program(alloc, &[LOAD, EXIT])?;
     let gate = Holds::new();
-    let (made, ended) = run_two(rt, &gate, pool);
+    let (made, ended) = run_driven(rt, &gate, pool, 2);
     Ok(LeftByTwo {
         made,
         ended,
@@ -177,7 +110,7 @@ pub fn four<K: Mark + Send + Sync, R: Threads + Wait + Sync>(
     pool: &Pool<OwnStore, K>,
 ) -> LeftByFour {
     let gate = Crowd::new();
-    let (made, ended) = run_crowd(rt, &gate, pool, 4);
+    let (made, ended) = run_driven(rt, &gate, pool, 4);
     LeftByFour {
         made,
         ended,

@@ -3,7 +3,7 @@ ghost use Rattle.std.specs.Prelude.{◌≡◌, true};
 ghost use Rattle.shared_objects.specs.Kinds.{dealer};
 ghost use Rattle.shared_objects.specs.Opened.{seated};
 
-use crate::common::{CLOSE, Crowd, EXIT, LOAD, LOOKS, OBJECT, code, goes, rest};
+use crate::common::{CLOSE, Crowd, EXIT, LOAD, LOOKS, OBJECT, goes, program, rest};
 use crate::compared::same;
 use crate::course::{Code, Course, Left, left_of};
 use debugger::{Start, StepReply, Way};
@@ -135,7 +135,7 @@ fn drive<F: FarStore, K: Mark, R: Wait>(
 }
 
 /// Workers and mover on threads of their own, beside the one that has objects leave.
-fn run_driven<K: Mark + Send + Sync, R: Threads + Wait + Sync>(
+fn run_moves<K: Mark + Send + Sync, R: Threads + Wait + Sync>(
     rt: &R,
     gate: &Crowd,
     pool: &Pool<OwnStore, K>,
@@ -187,12 +187,12 @@ pub fn moves<K: Mark + Send + Sync, R: Threads + Wait + Sync>(
 ) -> Result<MovesLeft, Fail>
     requires { (mover.seat.table_id ≡ K.table) × (mover.seat.me.0 ≡ seated K.seats (dealer true K.opening)) }
 {
-    let program = code(alloc, LOOKING)?;
+    let program = program(alloc, LOOKING)?;
     let mut served: Mover<OwnStore, K> = Mover::new(alloc, mover, OwnStore::new(alloc))?;
     goes_away(pool, &mut served, 1);
     goes_away(pool, &mut served, 2);
     let gate = Crowd::new();
-    let (made, (ended, left)) = run_driven(rt, &gate, pool, &mut served, program);
+    let (made, (ended, left)) = run_moves(rt, &gate, pool, &mut served, program);
     let far = [
         goes_away(pool, &mut served, 1),
         goes_away(pool, &mut served, 2),

@@ -1,7 +1,7 @@
 //! A worker whose gate isn't told of instructions, on a thread of its own.
 ghost use Rattle.shared_objects.specs.Tables.{IsMoverOf};
 
-use crate::common::{EXIT, JUMP, LOAD, LOOKS, OBJECT, fuel, rest};
+use crate::common::{Driven, EXIT, JUMP, LOAD, LOOKS, OBJECT, fuel, rest, run_driven};
 use crate::compared::same;
 use crate::course::{Code, Course, Left, left_of};
 use far_store::{FarStore, OwnStore};
@@ -10,16 +10,18 @@ use std::alloc::Global;
 use std::sync::Wait;
 use std::sync::atomic::{AtomicBool, Ordering};
 use std::test::Fail;
-use std::thread;
 use std::thread::Threads;
-use workers::{Gate, Mark, Pool, work};
+use workers::{Gate, Mark, Pool};
 
 /// More than a worker uses up, and so many whole turns.
 const FUEL: u64 = 64 << 50;
 
-/// Lets a worker go on until it is told that it ends.
+/// Lets a worker go on until machine 1 was found as it should be.
 #[derive(Drop)]
 struct Untold {
+    alloc: Global,
+    /// Whether machine 1 waits.
+    waits: bool,
     ends: AtomicBool,
 }
 
@@ -35,7 +37,21 @@ impl Gate for Untold {
     }
 }
 
-/// Whether the machine is found between two turns, after so many looks at most.
+impl Driven for Untold {
+    fn is_seen<F: FarStore, K: Mark, R: Wait>(&self, rt: &R, pool: &Pool<F, K>) -> bool {
+        if self.waits {
+            is_found_waiting(rt, self.alloc, pool)
+        } else {
+            is_found_between(rt, self.alloc, pool)
+        }
+    }
+
+    fn end(&self) {
+        self.ends.store(true, Ordering::SeqCst);
+    }
+}
+
+/// Whether machine 1 is found between two turns, after so many looks at most.
 fn is_found_between<F: FarStore, K: Mark, R: Wait>(
     rt: &R,
     alloc: Global,
@@ -48,40 +64,6 @@ fn is_found_between<F: FarStore, K: Mark, R: Wait>(
         }
     }
     false
-}
-
-/// Whether the machine is found between two turns of a worker on a thread of its own, which then ends.
-fn is_found_beside<'x, F, K, R>(
-    rt: &'x R,
-    alloc: Global,
-    gate: &'x Untold,
-    pool: &'x Pool<F, K>,
-) -> bool
-where
-    F: FarStore + Send + Sync,
-    K: Mark + Send + Sync,
-    R: Threads + Wait + Sync,
-    F::Parcel: Send,
-{
-    thread::scope(thread::scope_env(), rt, |scope| {
-        let made = scope.spawn(move || work(rt, gate, pool, 0)).is_ok();
-        let found = is_found_between(rt, alloc, pool);
-        gate.ends.store(true, Ordering::SeqCst);
-        pool.wake_all();
-        made && found
-    })
-}
-
-/// Whether a worker that isn't told of instructions lets machine 1 be found between two turns.
-pub fn beside<K: Mark + Send + Sync, R: Threads + Wait + Sync>(
-    rt: &R,
-    alloc: Global,
-    pool: &Pool<OwnStore, K>,
-) -> bool {
-    let gate = Untold {
-        ends: AtomicBool::new(false),
-    };
-    is_found_beside(rt, alloc, &gate, pool)
 }
 
 /// Whether machine 1 is found with all its fuel, again and again.
@@ -99,29 +81,31 @@ fn is_found_waiting<F: FarStore, K: Mark, R: Wait>(
     true
 }
 
-/// The same beside a worker on a thread of its own, which then ends.
-fn is_found_waiting_beside<'x, F, K, R>(
-    rt: &'x R,
+/// Whether machine 1 is found as it should be beside a worker that isn't told of instructions.
+fn is_found<K: Mark + Send + Sync, R: Threads + Wait + Sync>(
+    rt: &R,
     alloc: Global,
-    gate: &'x Untold,
-    pool: &'x Pool<F, K>,
-) -> bool
-where
-    F: FarStore + Send + Sync,
-    K: Mark + Send + Sync,
-    R: Threads + Wait + Sync,
-    F::Parcel: Send,
-{
-    thread::scope(thread::scope_env(), rt, |scope| {
-        let made = scope.spawn(move || work(rt, gate, pool, 0)).is_ok();
-        let found = is_found_waiting(rt, alloc, pool);
-        gate.ends.store(true, Ordering::SeqCst);
-        pool.wake_all();
-        made && found
-    })
+    pool: &Pool<OwnStore, K>,
+    waits: bool,
+) -> bool {
+    let gate = Untold {
+        alloc,
+        waits,
+        ends: AtomicBool::new(false),
+    };
+    run_driven(rt, &gate, pool, 1) == (1, true)
 }
 
-/// Whether a worker that isn't told of instructions lets machine 1 be found that waits for object 1, which is on its way, and ends.
+/// Whether machine 1 is found between two turns.
+pub fn beside<K: Mark + Send + Sync, R: Threads + Wait + Sync>(
+    rt: &R,
+    alloc: Global,
+    pool: &Pool<OwnStore, K>,
+) -> bool {
+    is_found(rt, alloc, pool, false)
+}
+
+/// Whether machine 1 is found that waits for object 1, which is on its way.
 pub fn beside_waiting<K: Mark + Send + Sync, R: Threads + Wait + Sync>(
     rt: &R,
     alloc: Global,
@@ -132,10 +116,7 @@ pub fn beside_waiting<K: Mark + Send + Sync, R: Threads + Wait + Sync>(
 {
     let mut mover = mover;
     let _ = pool.table().begin_leave(&mut mover, 1);
-    let gate = Untold {
-        ends: AtomicBool::new(false),
-    };
-    is_found_waiting_beside(rt, alloc, &gate, pool)
+    is_found(rt, alloc, pool, true)
 }
 
 const LOADING: Code = Code {

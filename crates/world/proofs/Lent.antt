@@ -1,6 +1,6 @@
 -- A store that is lent to a machine, seen as the store, and as its state alone.
 use Rattle.std.proofs.Common.{◌≡◌, ℕ, true, refl, ap, ◌∙◌, subst}
-use Rattle.object_store.specs.Lending.{ClosesWithin, TouchesWithin, lent_memory, within_memory}
+use Rattle.object_store.specs.Lending.{ClosesWithin, IsLent, TouchesWithin, lent_memory, within_memory}
 use Rattle.object_store.specs.Stores.{StoreWithin, store_memory}
 use Rattle.machine.specs.declared.state.Stepped.{Stepped}
 use Rattle.machine.specs.MachineState.{MachineState}
@@ -13,20 +13,15 @@ use Rattle.debugger.specs.declared.replies.StepReply.TheVariants as step_reply
 use Rattle.debugger.specs.declared.debuggee.Debuggee.{Debuggee}
 use Rattle.debugger.specs.Debuggees.{Walks, AnswersStep}
 
--- the same loan, to the same machine
-pub record IsLent {M : Type 0} (loan who : M → ℕ) (first m : M) : Type 0 where
-  pub loan_is : loan m ≡ loan first
-  pub who_is : who m ≡ who first
-
 lent_carries : {M X : Type 0} (store : M → StoreWithin X) (loan who : M → ℕ) (first : M) → Carries true (lent_memory store loan who) (within_memory (who first)) store (IsLent loan who first)
 lent_carries store loan who first = record {
   reached = λ before after n op r i _ h. (
     subst (λ w. TouchesWithin w (store before) n op r (store after)) i.who_is h.0,
-    record { loan_is = h.1 ∙ i.loan_is; who_is = h.2 ∙ i.who_is },
+    record { loan_is = h.1.loan_is ∙ i.loan_is; who_is = h.1.who_is ∙ i.who_is },
   );
   closed = λ before after i h. (
     subst (λ w. ClosesWithin w (store before) (store after)) i.who_is h.0,
-    record { loan_is = h.1 ∙ i.loan_is; who_is = h.2 ∙ i.who_is },
+    record { loan_is = h.1.loan_is ∙ i.loan_is; who_is = h.1.who_is ∙ i.who_is },
   );
   measured = λ before n. refl;
 }

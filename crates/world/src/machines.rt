@@ -52,8 +52,10 @@ pub(crate) fn step_machine<F: FarStore>(
     way: Way,
 ) -> Option<StepReply>
     requires { length machines.old ≤ machine_limit }
-    ensures answers { AnswersMachine (store_memory machine) machines.old store.old.state machine (MachineCommand.Step way) (reply_of machine result) machines.new store.new.state }
-    ensures asks { AnswersMachine (within_memory machine) machines.old store.old machine (MachineCommand.Step way) (reply_of machine result) machines.new store.new }
+    ensures answers { AnswersMachine (store_memory machine) machines.old store.old.state machine (MachineCommand.Step way)
+        (reply_of machine result) machines.new store.new.state }
+    ensures asks { AnswersMachine (within_memory machine) machines.old store.old machine (MachineCommand.Step way)
+        (reply_of machine result) machines.new store.new }
 {
     let index = index_of(machines, machine)?;
     Some(step_over(&mut machines[index], store, machine, way))
@@ -67,7 +69,8 @@ pub(crate) fn run_machine<F: FarStore>(
     most: u64,
 ) -> Option<MachineRun>
     requires { length machines.old ≤ machine_limit }
-    ensures runs { RunsMachine machine most (record { machines = machines.old; store = store.old.state }) result (record { machines = machines.new; store = store.new.state }) }
+    ensures runs { RunsMachine machine most (record { machines = machines.old; store = store.old.state }) result
+        (record { machines = machines.new; store = store.new.state }) }
     ensures asks { RunAsks machine most (record { machines = machines.old; store = store.old }) result (record { machines = machines.new; store = store.new }) }
 {
     let index = index_of(machines, machine)?;

@@ -1,14 +1,14 @@
 //! Replies.
 
 ghost use Rattle.std.specs.Prelude.{◌≡◌};
-ghost use Rattle.world.specs.Answers.{moved_reply, place_before, reply_to_move};
+ghost use Rattle.world.specs.Answers.{moved_reply, place_before, refused_get, reply_to_move};
 ghost use Rattle.world.specs.Machines.{reply_to_debug, reply_to_show, reply_to_step};
 
 use crate::events::Move;
 use debugger::{Bytes, Debugged, LineText, ShowReply, Shown, StepReply, Values};
 use loader::LoadError;
 use machine::Stop;
-use object_store::{Moved, Place};
+use object_store::{GetError, Moved, Place};
 
 /// What a command was answered.
 #[derive(Drop, Debug, PartialEq, Eq)]
@@ -168,6 +168,17 @@ impl Reply {
             Debugged::Full => Reply::Full,
             Debugged::NoWatch => Reply::NoWatch,
             Debugged::NotPaused => Reply::NotPaused,
+        }
+    }
+
+    /// The reply to a reading of an object that is refused.
+    pub fn refused_get(object: u32, error: GetError) -> Reply
+        ensures { result ≡ refused_get object error }
+    {
+        match error {
+            GetError::Outside => Reply::Outside,
+            GetError::Away => Reply::Away { object },
+            GetError::Memory => Reply::NoMemory,
         }
     }
 

@@ -44,8 +44,12 @@ pub(crate) fn read_stack(
     offset: u32,
     into: &mut [u8],
 ) -> Result<(), StackError>
-    ensures shown { OnOk result ((store : StoreState) → AnswersMachine (store_memory machine) machines.now store machine (MachineCommand.Show (ShowCommand.Stack offset (length into.old))) (Reply.Bytes into.new) machines.now store) }
-    ensures refused { IfErr result (λ error. (store : StoreState) → AnswersMachine (store_memory machine) machines.now store machine (MachineCommand.Show (ShowCommand.Stack offset (length into.old))) (refused_stack error) machines.now store) }
+    ensures shown { OnOk result ((store : StoreState)
+        → AnswersMachine (store_memory machine) machines.now store machine (MachineCommand.Show (ShowCommand.Stack offset (length into.old)))
+        (Reply.Bytes into.new) machines.now store) }
+    ensures refused { IfErr result (λ error. (store : StoreState)
+        → AnswersMachine (store_memory machine) machines.now store machine (MachineCommand.Show (ShowCommand.Stack offset (length into.old)))
+        (refused_stack error) machines.now store) }
     ensures kept { OnErr result (into.new ≡ into.old) }
 {
     let Some(index) = index_of(machines, machine) else {

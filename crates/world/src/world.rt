@@ -18,7 +18,8 @@ ghost use Rattle.world.specs.Machines.{AnswersMachine, reply_of, refused_stack};
 ghost use Rattle.world.specs.Running.{RunsMachine, RunAsks};
 ghost use Rattle.world.specs.Unseen.{IsPlainRun};
 ghost use Rattle.object_store.specs.declared.errors.GetError.{GetError};
-ghost use Rattle.world.specs.Answers.{Answers, AnswersMake, AnswersPut, AnswersGet, refused_get, AnswersMove, AnswersObject, AnswersShip, Moves, moved_reply, place_before};
+ghost use Rattle.world.specs.Answers.{Answers, AnswersMake, AnswersPut, AnswersGet, refused_get, AnswersMove, AnswersObject, AnswersShip, Moves, moved_reply};
+ghost use Rattle.world.specs.Answers.{place_before};
 
 mod handing;
 
@@ -99,14 +100,12 @@ impl<F: FarStore + Drop> World<F> {
             store,
             ..
         } = self;
-        match store.into_parts() {
-            Ok(parts) => Ok(WorldParts {
-                machines,
-                bodies: parts.bodies,
-                store: parts.store,
-            }),
-            Err(error) => Err(error),
-        }
+        let parts = store.into_parts()?;
+        Ok(WorldParts {
+            machines,
+            bodies: parts.bodies,
+            store: parts.store,
+        })
     }
 }
 
@@ -193,7 +192,8 @@ impl<F: FarStore> World<F> {
     /// bytes stay. It takes no memory.
     pub fn read(&self, object: u32, offset: u32, into: &mut [u8]) -> Result<(), GetError>
         ensures shown { OnOk result (AnswersGet self.now.store.state object offset (length into.old) (Reply.Bytes into.new)) }
-        ensures refused { IfErr result (λ error. AnswersGet self.now.store.state object offset (length into.old) (refused_get object error) × (error ≢ GetError.Memory)) }
+        ensures refused { IfErr result (λ error. AnswersGet self.now.store.state object offset (length into.old) (refused_get object error)
+            × (error ≢ GetError.Memory)) }
         ensures kept { OnErr result (into.new ≡ into.old) }
     {
         self.store.read(object, offset, into)
@@ -205,9 +205,7 @@ impl<F: FarStore> World<F> {
     {
         match self.store.get(object, offset, length) {
             Ok(bytes) => Reply::Bytes(Bytes::new(bytes)),
-            Err(GetError::Outside) => Reply::Outside,
-            Err(GetError::Away) => Reply::Away { object },
-            Err(GetError::Memory) => Reply::NoMemory,
+            Err(error) => Reply::refused_get(object, error),
         }
     }
 
@@ -260,7 +258,8 @@ impl<F: FarStore> World<F> {
 
     /// Does a command on a machine.
     fn answer_machine(&mut self, machine: usize, command: MachineCommand) -> Reply
-        ensures answers { AnswersMachine (store_memory machine) self.old.machines self.old.store.state machine command result self.new.machines self.new.store.state }
+        ensures answers { AnswersMachine (store_memory machine) self.old.machines self.old.store.state machine command
+            result self.new.machines self.new.store.state }
         ensures asks { AnswersMachine (within_memory machine) self.old.machines self.old.store machine command result self.new.machines self.new.store }
     {
         answer_machine(
@@ -284,8 +283,11 @@ impl<F: FarStore> World<F> {
     /// Copies bytes of a machine's stack over these, as many as they are, which the command `stack` would show. Where it is
     /// refused, the bytes stay. It takes no memory.
     pub fn read_stack(&self, machine: usize, offset: u32, into: &mut [u8]) -> Result<(), StackError>
-        ensures shown { OnOk result (Answers (state_of self.now) (Event.Machine machine (MachineCommand.Show (ShowCommand.Stack offset (length into.old)))) (Reply.Bytes into.new) (state_of self.now)) }
-        ensures refused { IfErr result (λ error. Answers (state_of self.now) (Event.Machine machine (MachineCommand.Show (ShowCommand.Stack offset (length into.old)))) (refused_stack error) (state_of self.now)) }
+        ensures shown { OnOk result (Answers (state_of self.now) (Event.Machine machine (MachineCommand.Show (ShowCommand.Stack offset (length into.old))))
+            (Reply.Bytes into.new) (state_of self.now)) }
+        ensures refused { IfErr result
+            (λ error. Answers (state_of self.now) (Event.Machine machine (MachineCommand.Show (ShowCommand.Stack offset (length into.old))))
+            (refused_stack error) (state_of self.now)) }
         ensures kept { OnErr result (into.new ≡ into.old) }
     {
         read_stack(self.machines.as_slice(), machine, offset, into)

@@ -108,17 +108,15 @@ class Parser:
         return found
 
     def _either(self) -> Value:
-        found = self._both()
-        while self._takes("||"):
-            other = self._both()
-            found = integer(int(bool(found.number or other.number)))
-        return found
+        return self._joined("||", self._both, lambda one, other: bool(one.number or other.number))
 
     def _both(self) -> Value:
-        found = self._comparison()
-        while self._takes("&&"):
-            other = self._comparison()
-            found = integer(int(bool(found.number and other.number)))
+        return self._joined("&&", self._comparison, lambda one, other: bool(one.number and other.number))
+
+    def _joined(self, sign: str, operand: Callable[[], Value], holds: Callable[[Value, Value], bool]) -> Value:
+        found = operand()
+        while self._takes(sign):
+            found = integer(int(holds(found, operand())))
         return found
 
     def _comparison(self) -> Value:

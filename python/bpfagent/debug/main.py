@@ -4,10 +4,10 @@ from __future__ import annotations
 import argparse
 from typing import Callable, Optional, Sequence
 
-from ..commands import add_version, guarded, place_of
+from ..commands import guarded, place_of
 from ..image import Unloadable
 from ..replies import Broken, Refused
-from ..ship import Unshippable, WrongArgument, add_program_options, checked
+from ..ship import Unshippable, WrongArgument, checked, program_parser
 from .engine import Impossible
 from .lines import NoDwarf
 from .session import WORKERS, Plan, Session
@@ -32,14 +32,8 @@ def count_of(least: int, most: int) -> Callable[[str], int]:
 
 def parser() -> argparse.ArgumentParser:
     """The options of the command line."""
-    options = argparse.ArgumentParser(
-        prog="bpfagent-debug",
-        usage=USAGE,
-        description="Debugs programs by source: in a new `bpfagent run`, in a new service, or in one that runs.",
-        epilog=EPILOG,
-    )
-    add_version(options)
-    add_program_options(options)
+    description = "Debugs programs by source: in a new `bpfagent run`, in a new service, or in one that runs."
+    options = program_parser("bpfagent-debug", USAGE, description, EPILOG)
     where = options.add_mutually_exclusive_group()
     where.add_argument("--serve", action="store_true", help="start `bpfagent serve`, whose workers run the machines")
     where.add_argument("--connect", type=place_of, metavar="HOST:PORT", help="attach to a service")

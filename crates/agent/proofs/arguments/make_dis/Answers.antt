@@ -1,11 +1,7 @@
-use Rattle.std.proofs.Common.{◌∙◌, ◌||◌, ap, ap₂, refl, codes}
-use Rattle.std.proofs.lemmas.Result.{IfOk-weaker}
-use Rattle.clap.specs.Words.{App, with_rule}
+use Rattle.std.proofs.Common.{refl, codes}
 use Rattle.agent.specs.CommandLine.{flag_rule}
-use Rattle.agent.proofs.Globals.{not_global}
+use Rattle.agent.proofs.Globals.{with_last}
 use Rattle.agent.proofs.arguments.make_dis.Goals as goal
 
 pub returns : goal.returns
-returns c =
-    let is_local = not_global c.make_flag.result (flag_rule (codes "slots")) refl c.make_flag.ensures in let base = c.make_subcommand.ensures in
-    IfOk-weaker c.arg.result _ _ (λ r adds. (ap (λ (a : App). a.top) (adds.shape is_local ∙ ap₂ with_rule base.0 c.make_flag.ensures), adds.globals ∙ ap₂ (λ a b. a || b) base.1 is_local)) c.arg.ensures
+returns c = with_last _ _ _ (flag_rule (codes "slots")) refl c.make_subcommand.ensures c.make_flag.ensures c.arg.result c.arg.ensures

@@ -1,11 +1,8 @@
-use Rattle.std.proofs.Common.{◌∙◌, ◌||◌, ap, ap₂, refl}
-use Rattle.std.proofs.lemmas.Result.{IfOk-weaker}
-use Rattle.clap.specs.Words.{App, with_rule}
-use Rattle.agent.specs.CommandLine.{budget_rule}
-use Rattle.agent.proofs.Globals.{not_global}
+use Rattle.std.proofs.Common.{refl}
+use Rattle.agent.specs.CommandLine.{budget_option}
+use Rattle.agent.specs.OptionNumbers.{number_rule}
+use Rattle.agent.proofs.Globals.{with_last}
 use Rattle.agent.proofs.arguments.make_run.Goals as goal
 
 pub returns : goal.returns
-returns c =
-    let is_local = not_global c.make_budget.result budget_rule refl c.make_budget.ensures in let base = c.make_subcommand.ensures in
-    IfOk-weaker c.arg.result _ _ (λ r adds. (ap (λ (a : App). a.top) (adds.shape is_local ∙ ap₂ with_rule base.0 c.make_budget.ensures), adds.globals ∙ ap₂ (λ a b. a || b) base.1 is_local)) c.arg.ensures
+returns c = with_last _ _ _ (number_rule budget_option) refl c.make_subcommand.ensures c.make_budget.ensures c.arg.result c.arg.ensures

@@ -3,11 +3,11 @@ use Rattle.std.specs.Prelude.{option_and_then}
 use Rattle.std.proofs.lemmas.Result.{err_from_is_err_and}
 use Rattle.clap.specs.Words.{App, app_of, fault_of, is_simple, is_simple_and_free, subcommand_of}
 use Rattle.clap.specs.Walk.{Row, Text, first_of}
-use Rattle.clap.specs.Words.{found_of}
+use Rattle.clap.specs.Words.{found_of, rows_of}
 use Rattle.clap.proofs.OnLiterals.{clap_on_literals}
 use Rattle.clap.proofs.WalkLemmas.{first_value-rows}
 use Rattle.agent.specs.CommandLine.{command_line, faults_of, task_named}
-use Rattle.agent.proofs.Subcommands.{IsEntered, right_enters}
+use Rattle.agent.proofs.Subcommands.{IsEntered, needed, right_enters}
 use Rattle.agent.proofs.arguments.read_asked.Goals as goal
 
 module _ {X A B : Type 0} (f : X → A) (g : X → B) where
@@ -51,7 +51,8 @@ task_called-requires g c =
     let seen = joined _ _ _ _ (c.subcommand.ensures.name ∙ firsts _ _ _) c.subcommand.ensures.rows ∙ met in
     let pair = rw c.in-Some.is at seen in
     let entered = subst IsEntered (sym pair) (right_enters words right).1 in
-    record { run = entered.1; store = entered.2; serve = entered.3 }
+    let needs = needed c.in-Some.name.now (rows_of (found_of c.in-Some.inner.now)) entered.1 in
+    record { run = needs.0; store = needs.1; serve = needs.2 }
 
 pub unreachable-requires-in_default-task_called : goal.unreachable-requires-in_default-task_called
 unreachable-requires-in_default-task_called g c =

@@ -7,4 +7,4 @@ same : (flag sweep loud verbose : Bool) (p c w b t : Option ℕ) (port connectio
 same flag sweep loud verbose p c w b t port connections workers budget millis p_is c_is w_is b_is t_is is told = rw (p_is, c_is, w_is, b_is, t_is, is, told) refl
 
 pub returns : goal.returns
-returns c = same _ _ _ _ _ _ _ _ _ _ _ _ _ _ c.read_port.ensures c.read_connections.ensures c.read_workers.ensures c.read_budget.ensures c.read_far_timeout.ensures c.is_set.ensures c.is_set-2.ensures
+returns c = same _ _ _ _ _ _ _ _ _ _ _ _ _ _ c.read_number.ensures c.read_number-2.ensures c.read_number-3.ensures c.read_number-4.ensures c.read_number-5.ensures c.is_set.ensures c.is_set-2.ensures

@@ -1,10 +1,9 @@
-use Rattle.std.proofs.Common.{◌≡◌, ℕ, List, Option, None, Some, Result, Ok, IfSome, refl, sym, ◌∙◌}
-use Rattle.std.proofs.KnownBytes.{Keeps-refl}
+use Rattle.std.proofs.Common.{◌≡◌, ℕ, List, Option, None, Some, Result, IfSome, sym, ◌∙◌}
 use Rattle.std.specs.Prelude.{⊤}
 use Rattle.agent.specs.Failures.{status_number}
 use Rattle.agent.specs.Reports.{Reports, ReportsOutcome}
 use Rattle.agent.specs.declared.failure.Failure.{Failure}
-use Rattle.agent.specs.declared.failure.Status.{Status}
+use Rattle.agent.specs.declared.failure.ExitStatus.{ExitStatus}
 use Rattle.agent.specs.declared.arguments.Task.TheVariants.{Assemble, Check, Run, Disassemble}
 use Rattle.agent.specs.AsmLeaves.{asm_limit}
 use Rattle.agent.specs.CheckLeaves.{check_limit}
@@ -12,7 +11,6 @@ use Rattle.agent.specs.DisLeaves.{DisLeaves}
 use Rattle.agent.specs.RunLeaves.{RunLeaves}
 use Rattle.agent.proofs.AsmReports.{memory_over, numbered_over}
 use Rattle.agent.proofs.CheckReports.{memory_over as check_memory, numbered_over as check_numbered}
-use Rattle.agent.specs.StoreLeaves.{LeavesUndone}
 use Rattle.agent.proofs.OutOfMemory.{reads_nothing, reported_over}
 use Rattle.agent.proofs.front.tool.Goals as goal
 
@@ -43,17 +41,7 @@ returns-in-Err-clause-consumed_by_asm g c explains asked = reads_nothing asm_lim
 pub returns-in-Err-clause-consumed_by_dis : goal.returns-in-Err-clause-consumed_by_dis
 returns-in-Err-clause-consumed_by_dis g c has_slots asked = reads_nothing check_limit (g.R.Read.remaining c.args.reader.now)
 
-pub returns-in-Err-clause-store : goal.returns-in-Err-clause-store
-returns-in-Err-clause-store g c port verbose right asked =
-    reported_over (g.R.Read.remaining c.args.reader.now) _ c.in-Err.error _ _ _ _ c.show.result _ right c.in-Err.ensures.err c.show.ensures c.number-in-Err.ensures
-    (λ input. LeavesUndone input (g.W.Write.contents c.args.writer.now) (g.W.Write.contents c.show.new.writer) (g.R.Read.remaining c.args.reader.now)) (λ input unread kept. (kept, unread))
-
-pub returns-in-Err-clause-serve : goal.returns-in-Err-clause-serve
-returns-in-Err-clause-serve g c serving right asked =
-    reported_over (g.R.Read.remaining c.args.reader.now) _ c.in-Err.error _ _ _ _ c.show.result _ right c.in-Err.ensures.err c.show.ensures c.number-in-Err.ensures
-    (λ input. LeavesUndone input (g.W.Write.contents c.args.writer.now) (g.W.Write.contents c.show.new.writer) (g.R.Read.remaining c.args.reader.now)) (λ input unread kept. (kept, unread))
-
-reported_run : (given : Option (List ℕ)) (work : List ℕ → Result ⊤ Failure → Type 0) (before after : Option (List ℕ)) (outcome : Result ⊤ Failure) (status : Status) (number : ℕ)
+reported_run : (given : Option (List ℕ)) (work : List ℕ → Result ⊤ Failure → Type 0) (before after : Option (List ℕ)) (outcome : Result ⊤ Failure) (status : ExitStatus) (number : ℕ)
     → IfSome given (λ input. work input outcome) → Reports before after outcome status → number ≡ status_number status
     → IfSome given (λ input. ReportsOutcome (work input) before after number)
 reported_run None work before after outcome status number done says is = tt
@@ -75,30 +63,16 @@ returns-in-Ok-Disassemble-clause-dis g c has_slots right asked =
     reported_run _ (λ input. DisLeaves has_slots input (g.W.Write.contents c.args.writer.now) (g.W.Write.contents c.dis.new.writer)) _ _ _ _ _
     (rw same c.dis.ensures.left) c.report-in-Ok-Disassemble.ensures c.number-in-Ok-Disassemble.ensures
 
-undone : (given written : Option (List ℕ)) → IfSome given (λ input. LeavesUndone input written written given (Ok tt))
-undone None written = tt
-undone (Some input) written = (Keeps-refl written, refl)
-
-pub returns-in-Ok-Store-clause-store : goal.returns-in-Ok-Store-clause-store
-returns-in-Ok-Store-clause-store g c port verbose right asked =
-    reported_run _ (λ input. LeavesUndone input (g.W.Write.contents c.args.writer.now) (g.W.Write.contents c.args.writer.now) (g.R.Read.remaining c.args.reader.now)) _ _ (Ok tt) _ _
-    (undone (g.R.Read.remaining c.args.reader.now) (g.W.Write.contents c.args.writer.now)) c.report-in-Ok-Store.ensures c.number-in-Ok-Store.ensures
-
-pub returns-in-Ok-Serve-clause-serve : goal.returns-in-Ok-Serve-clause-serve
-returns-in-Ok-Serve-clause-serve g c serving right asked =
-    reported_run _ (λ input. LeavesUndone input (g.W.Write.contents c.args.writer.now) (g.W.Write.contents c.args.writer.now) (g.R.Read.remaining c.args.reader.now)) _ _ (Ok tt) _ _
-    (undone (g.R.Read.remaining c.args.reader.now) (g.W.Write.contents c.args.writer.now)) c.report-in-Ok-Serve.ensures c.number-in-Ok-Serve.ensures
-
 pub returns-in-Ok-Assemble-clause-asm : goal.returns-in-Ok-Assemble-clause-asm
 returns-in-Ok-Assemble-clause-asm g c explains right asked =
     let told : Some c.in-Ok-Assemble.field-0 ≡ Some (Assemble explains) = sym c.in-Ok-Assemble.ensures.ok.1 ∙ asked in
     let is : c.in-Ok-Assemble.field-0 ≡ Assemble c.in-Ok-Assemble.explains = c.in-Ok-Assemble.field-0-is in
     let same : explains ≡ c.in-Ok-Assemble.explains = cc in
-    rw same (numbered_over _ _ _ _ _ _ _ _ c.asm_reported.ensures.reported c.number-in-Ok-Assemble.ensures)
+    rw same (numbered_over _ _ _ _ _ _ _ _ c.asm.ensures.reported c.number-in-Ok-Assemble.ensures)
 
 pub returns-in-Ok-Check-clause-check : goal.returns-in-Ok-Check-clause-check
 returns-in-Ok-Check-clause-check g c explains right asked =
     let told : Some c.in-Ok-Check.field-0 ≡ Some (Check explains) = sym c.in-Ok-Check.ensures.ok.1 ∙ asked in
     let is : c.in-Ok-Check.field-0 ≡ Check c.in-Ok-Check.explains = c.in-Ok-Check.field-0-is in
     let same : explains ≡ c.in-Ok-Check.explains = cc in
-    rw same (check_numbered _ _ _ _ _ _ _ _ c.check_reported.ensures.reported c.number-in-Ok-Check.ensures)
+    rw same (check_numbered _ _ _ _ _ _ _ _ c.check.ensures.reported c.number-in-Ok-Check.ensures)

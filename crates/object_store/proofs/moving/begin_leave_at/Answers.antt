@@ -1,7 +1,7 @@
 use Rattle.std.proofs.Common.{ap, ◌∙◌}
 use Rattle.far_store.specs.declared.places.Place.TheVariants.{Leaving}
 use Rattle.object_store.specs.Bodies.{bytes_in, place_in, scopes_in, sent_in}
-use Rattle.object_store.proofs.Entries.{place_at, scopes_at, bytes_same, place_by, scopes_same, sent_same}
+use Rattle.object_store.proofs.Listed.{place_at, scopes_at, bytes_same, place_by, scopes_same, sent_same}
 use Rattle.object_store.proofs.moving.begin_leave_at.Goals as goal
 
 pub begin_leave-requires-clause-here : goal.begin_leave-requires-clause-here

@@ -1,7 +1,7 @@
 use Rattle.std.proofs.Common.{ap, ◌∙◌}
 use Rattle.far_store.specs.declared.places.Place.TheVariants.{Returning}
 use Rattle.object_store.specs.Bodies.{bytes_in, place_in, scopes_in, sent_in}
-use Rattle.object_store.proofs.Entries.{place_at, bytes_same, place_by, scopes_same, sent_same}
+use Rattle.object_store.proofs.Listed.{place_at, bytes_same, place_by, scopes_same, sent_same}
 use Rattle.object_store.proofs.moving.begin_return_at.Goals as goal
 
 pub begin_return-requires : goal.begin_return-requires

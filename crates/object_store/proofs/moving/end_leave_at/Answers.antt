@@ -1,5 +1,5 @@
 use Rattle.std.proofs.Common.{ℕ, ◌<◌, List, subst, sym, length, ◌∙◌}
-use Rattle.object_store.proofs.Entries.{bytes_at, place_at, clean_at}
+use Rattle.object_store.proofs.Listed.{bytes_at, place_at, clean_at}
 use Rattle.object_store.proofs.Leaving.{left_at, put_of, tried_of}
 use Rattle.object_store.proofs.moving.end_leave_at.Goals as goal
 

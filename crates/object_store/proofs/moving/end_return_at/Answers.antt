@@ -2,7 +2,7 @@ use Rattle.std.proofs.Common.{ℕ, ◌<◌, List, get_or, ap, subst, sym, length
 use Rattle.far_store.specs.declared.places.Place.TheVariants.{Here, Far}
 use Rattle.object_store.specs.Bodies.{bytes_in, place_in, scopes_in, sent_in}
 use Rattle.object_store.specs.Stores.{Sent}
-use Rattle.object_store.proofs.Entries.{bytes_at, place_at, bytes_same, place_by, scopes_same, sent_by, sent_same}
+use Rattle.object_store.proofs.Listed.{bytes_at, place_at, bytes_same, place_by, scopes_same, sent_by, sent_same}
 use Rattle.object_store.proofs.Returning.{back_in, got_in, place_back, scopes_back, sent_back, vain_in}
 use Rattle.object_store.proofs.moving.end_return_at.Goals as goal
 

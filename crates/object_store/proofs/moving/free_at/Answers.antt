@@ -3,7 +3,7 @@ use Rattle.far_store.specs.Calls.{Calls}
 use Rattle.object_store.specs.Asking.{forgets}
 use Rattle.object_store.specs.Bodies.{bytes_in, place_in, scopes_in, sent_in}
 use Rattle.object_store.specs.Stores.{Sent, unsent}
-use Rattle.object_store.proofs.Entries.{place_at, parcel_at, bytes_by, places_same, scopes_same, sent_by}
+use Rattle.object_store.proofs.Listed.{place_at, parcel_at, bytes_by, places_same, scopes_same, sent_by}
 use Rattle.object_store.proofs.moving.free_at.Goals as goal
 
 pub free-requires : goal.free-requires

@@ -1,6 +1,6 @@
 use Rattle.std.proofs.Common.{ℕ, ◌<◌, ◌+◌, ap, subst, sym}
 use Rattle.object_store.specs.Bodies.{bytes_in, place_in, scopes_in, sent_in}
-use Rattle.object_store.proofs.Entries.{scopes_at, bytes_same, places_same, scopes_by, sent_same}
+use Rattle.object_store.proofs.Listed.{scopes_at, bytes_same, places_same, scopes_by, sent_same}
 use Rattle.object_store.proofs.scoping.open_scope.Goals as goal
 
 pub open_scope-requires : goal.open_scope-requires

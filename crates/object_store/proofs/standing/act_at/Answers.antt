@@ -3,7 +3,7 @@ use Rattle.memory.specs.Access.{IsInside, answer, after}
 use Rattle.object_store.specs.Asking.{clean_after}
 use Rattle.object_store.specs.Bodies.{bytes_in, place_in, scopes_in, sent_in}
 use Rattle.object_store.specs.Stores.{Sent}
-use Rattle.object_store.proofs.Entries.{bytes_at, place_at, bytes_by, places_same, scopes_same, sent_by}
+use Rattle.object_store.proofs.Listed.{bytes_at, place_at, bytes_by, places_same, scopes_same, sent_by}
 use Rattle.object_store.proofs.standing.act_at.Goals as goal
 
 pub act-requires-clause-here : goal.act-requires-clause-here

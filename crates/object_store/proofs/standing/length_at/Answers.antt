@@ -1,6 +1,6 @@
 use Rattle.std.proofs.Common.{length, ap, sym, ◌∙◌, arith}
 use Rattle.object_store.specs.Bodies.{bytes_in}
-use Rattle.object_store.proofs.Entries.{bytes_at, no_bytes_at}
+use Rattle.object_store.proofs.Listed.{bytes_at, no_bytes_at}
 use Rattle.object_store.proofs.standing.length_at.Goals as goal
 
 pub returns-then-number-bodies-clause-value : goal.returns-then-number-bodies-clause-value

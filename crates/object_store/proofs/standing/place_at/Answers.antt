@@ -1,6 +1,6 @@
 use Rattle.std.proofs.Common.{sym, ap, ◌∙◌, arith}
 use Rattle.object_store.specs.Bodies.{place_in}
-use Rattle.object_store.proofs.Entries.{place_at}
+use Rattle.object_store.proofs.Listed.{place_at}
 use Rattle.object_store.proofs.standing.place_at.Goals as goal
 
 pub returns-clause-some : goal.returns-clause-some

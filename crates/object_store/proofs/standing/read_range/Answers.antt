@@ -1,6 +1,6 @@
 use Rattle.std.proofs.Common.{ℕ, List, ◌+◌, ◌≤◌, ap, subst, sym, length, take, drop, ◌∙◌}
 use Rattle.object_store.specs.Bodies.{bytes_in, place_in}
-use Rattle.object_store.proofs.Entries.{bytes_at, place_at}
+use Rattle.object_store.proofs.Listed.{bytes_at, place_at}
 use Rattle.object_store.proofs.standing.read_range.Goals as goal
 
 pub read-requires-clause-here : goal.read-requires-clause-here

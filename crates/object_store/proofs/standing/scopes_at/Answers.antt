@@ -1,6 +1,6 @@
 use Rattle.std.proofs.Common.{ap, ◌∙◌}
 use Rattle.object_store.specs.Bodies.{scopes_in}
-use Rattle.object_store.proofs.Entries.{scopes_at}
+use Rattle.object_store.proofs.Listed.{scopes_at}
 use Rattle.object_store.proofs.standing.scopes_at.Goals as goal
 
 pub returns : goal.returns

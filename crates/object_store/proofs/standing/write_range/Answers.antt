@@ -2,7 +2,7 @@ use Rattle.std.proofs.Common.{ℕ, List, ◌+◌, ◌≤◌, false, ap, subst, s
 use Rattle.memory.specs.Access.{replaced}
 use Rattle.object_store.specs.Bodies.{bytes_in, place_in, scopes_in, sent_in}
 use Rattle.object_store.specs.Stores.{Sent}
-use Rattle.object_store.proofs.Entries.{bytes_at, place_at, bytes_by, places_same, scopes_same, sent_by}
+use Rattle.object_store.proofs.Listed.{bytes_at, place_at, bytes_by, places_same, scopes_same, sent_by}
 use Rattle.object_store.proofs.standing.write_range.Goals as goal
 
 pub write-requires-clause-here : goal.write-requires-clause-here

@@ -1,8 +1,7 @@
 use Rattle.std.proofs.Common.{◌≡◌, ◌≤◌}
-use Rattle.shared_objects.specs.Tables.{IsActorOf}
-use Rattle.workers.specs.Cells.{seat_state}
-use Rattle.ship_service.specs.Ranges.{PutsOnce, FoundBusy}
+use Rattle.workers.specs.Cells.{IsSeatOf, seat_state}
+use Rattle.ship_service.specs.Ranges.{PutsOnce, FoundBusy, retry_limit}
 use Rattle.ship_service.proofs.ranges.put.Given as goal
 
 abbrev pub invariant-loop-retry : goal.invariant-loop-retry
-invariant-loop-retry g l = IsActorOf l.fn.table l.seat × (l.retry ≤ 64) × FoundBusy (λ s r t. PutsOnce s l.fn.object l.fn.offset l.fn.bytes r t) l.fn.object l.retry (seat_state l.fn.seat) (seat_state l.seat)
+invariant-loop-retry g l = IsSeatOf g.K.Mark.table g.K.Mark.opening l.seat × (l.retry ≤ retry_limit) × FoundBusy (λ s r t. PutsOnce s l.fn.object l.fn.offset l.fn.bytes r t) l.fn.object l.retry (seat_state l.fn.seat) (seat_state l.seat)

@@ -1,6 +1,5 @@
-use Rattle.std.proofs.Common.{◌≡◌, ◌<◌, List, length, map, refl, ap, ◌∙◌, arith}
+use Rattle.std.proofs.Common.{◌≡◌, ◌<◌, length, map, refl, arith}
 use Rattle.std.proofs.lemmas.List.{with_items_is, length-map, get_or-set_same}
-use Rattle.far_store.specs.declared.places.Place.{Place}
 use Rattle.far_store.specs.declared.places.Place.TheVariants.{Here, Leaving, Far}
 use Rattle.memory.specs.Objects.{bytes_of}
 use Rattle.object_store.specs.Stores.{place_of}

@@ -17,4 +17,4 @@ returns-clause-runs c =
 pub returns-clause-same : goal.returns-clause-same
 returns-clause-same c =
     let k = seat_run (λ m. m.seat.now.seat.me.0) (λ m. m.seat.now.stamp) (λ m. m.seat.ghost_name) (λ m. m.shared) _ _ _ _ _ _ _ c.run.ensures.runs in
-    run_ships _ _ _ _ _ _ _ c.self.inside.begun c.frames.ensures.whole k.0 ∙ ap (λ (r : RunningState). r.shipped) c.self.view_is
+    run_ships _ _ _ _ _ _ _ c.self.inside.shipment c.frames.ensures.whole k.0 ∙ ap (λ (r : RunningState). r.shipped) c.self.view_is

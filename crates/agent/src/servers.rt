@@ -1,0 +1,10 @@
+//! The servers: `store` and `serve`.
+
+mod moment;
+mod noted_stream;
+mod notes;
+mod serving;
+mod storing;
+
+pub use serving::{ServeFault, run_service};
+pub use storing::run_store;

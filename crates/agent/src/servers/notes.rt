@@ -1,0 +1,202 @@
+//! What `-v` writes to standard error: a line each, after the time.
+
+use crate::servers::moment::Moment;
+use console::DriveFault;
+use far_server::{CLIENT_LIMIT, Journal, Refusal};
+use far_store::{Moved, StoreFault};
+use far_stream::StreamFault;
+use ship_service::Tally;
+use std::fmt::{self, Display, Formatter};
+use std::io::{Eprint, Error, ErrorKind};
+use std::net::SocketAddr;
+use std::time::Clock;
+use workers::{Direction, Request};
+
+/// Something that whoever runs a server has to know.
+#[derive(Clone, Copy, Drop, Debug, PartialEq, Eq)]
+pub(crate) enum Note {
+    Listening(u16),
+    PortTaken(u16),
+    PortRefused(u16),
+    Came(u64),
+    Went(u64),
+    GivenUp(u64, StreamFault),
+    Unheard(u64, DriveFault),
+    TooMany,
+    NoThread,
+    Connected(SocketAddr),
+    Unanswered(SocketAddr),
+    Unreached(SocketAddr),
+    Broken(ErrorKind),
+    Left(u32),
+    Held(u32),
+    Stayed(u32, StoreFault),
+    Returned(u32),
+    StayedFar(u32, StoreFault),
+    Kept(Tally, Tally),
+}
+
+/// Why the stream of a far server broke.
+fn reason_of(kind: ErrorKind) -> &'static str {
+    match kind {
+        ErrorKind::TimedOut | ErrorKind::WouldBlock => "no answer in time",
+        ErrorKind::ConnectionReset => "connection reset",
+        ErrorKind::ConnectionAborted => "connection aborted",
+        ErrorKind::BrokenPipe | ErrorKind::NotConnected => "broken pipe",
+        ErrorKind::UnexpectedEof => "connection closed",
+        _ => "device error",
+    }
+}
+
+/// The ending of the word for so many.
+fn ending_of(count: u64) -> &'static str {
+    if count == 1 { "" } else { "s" }
+}
+
+/// So many objects and their bytes, as they are written.
+#[derive(Clone, Copy, Drop, Debug, PartialEq, Eq)]
+struct Counted(Tally);
+
+impl Display for Counted {
+    fn fmt<W: fmt::Write>(&self, f: &mut Formatter<W>) -> fmt::Result {
+        let Counted(Tally { objects, bytes }) = *self;
+        let (object, byte) = (ending_of(objects), ending_of(bytes));
+        write!(f, "{objects} object{object} of {bytes} byte{byte}")
+    }
+}
+
+impl Display for Note {
+    fn fmt<W: fmt::Write>(&self, f: &mut Formatter<W>) -> fmt::Result {
+        match self {
+            Note::Listening(port) => write!(f, "listening on 127.0.0.1:{port}"),
+            Note::PortTaken(port) => write!(f, "port {port} is taken"),
+            Note::PortRefused(port) => write!(f, "port {port} can't be listened on"),
+            Note::Came(client) => write!(f, "client {client} came"),
+            Note::Went(client) => write!(f, "client {client} went"),
+            Note::GivenUp(client, fault) => write!(f, "client {client} is given up: {fault}"),
+            Note::Unheard(client, fault) => write!(f, "client {client} is given up: {fault}"),
+            Note::TooMany => write!(f, "a client is refused: {CLIENT_LIMIT} are served"),
+            Note::NoThread => write!(f, "a client is refused: no thread can be made"),
+            Note::Connected(far) => write!(f, "connected to the far server {far}"),
+            Note::Unanswered(far) => write!(f, "the far server {far} doesn't answer in time"),
+            Note::Unreached(far) => write!(f, "the far server {far} can't be reached"),
+            Note::Broken(kind) => {
+                let reason = reason_of(*kind);
+                write!(f, "the stream of the far server broke: {reason}")
+            }
+            Note::Left(object) => write!(f, "object {object} left"),
+            Note::Held(object) => write!(f, "object {object} couldn't leave: it is in use"),
+            Note::Stayed(object, fault) => write!(f, "object {object} couldn't leave: {fault}"),
+            Note::Returned(object) => write!(f, "object {object} returned"),
+            Note::StayedFar(object, fault) => {
+                write!(f, "object {object} couldn't return: {fault}")
+            }
+            Note::Kept(here, far) => {
+                let (here, far) = (Counted(*here), Counted(*far));
+                write!(f, "the service ends: {here} here, {far} far")
+            }
+        }
+    }
+}
+
+/// Writes what happens to the runtime's standard error, if that is asked for.
+#[derive(Clone, Copy)]
+pub(crate) struct Notes<R> {
+    rt: R,
+    is_written: bool,
+}
+
+impl<R: Clock + Eprint> Notes<R> {
+    pub fn new(rt: R, is_written: bool) -> Self {
+        Notes { rt, is_written }
+    }
+
+    /// Writes a line. What standard error doesn't take of it is lost.
+    pub fn write(&self, note: Note) {
+        if self.is_written {
+            let now = Moment::now(&self.rt);
+            let _ = eprintln!(self.rt; "{now} {note}");
+        }
+    }
+}
+
+impl<R: Clock + Eprint> Notes<R> {
+    /// The far server at this address can't be connected to.
+    pub fn unreached(&self, far: SocketAddr, error: &Error) {
+        self.write(match error.kind() {
+            ErrorKind::TimedOut => Note::Unanswered(far),
+            _ => Note::Unreached(far),
+        });
+    }
+}
+
+impl<R: Clock + Eprint> Notes<R> {
+    /// The stream of the far server failed.
+    pub fn broken(&self, error: &Error) {
+        match error.kind() {
+            // the call is made again
+            ErrorKind::Interrupted => {}
+            kind => self.write(Note::Broken(kind)),
+        }
+    }
+}
+
+impl<R: Clock + Eprint> Journal for Notes<R> {
+    fn refused_port(&self, port: u16, error: &Error) {
+        self.write(match error.kind() {
+            ErrorKind::AddrInUse => Note::PortTaken(port),
+            _ => Note::PortRefused(port),
+        });
+    }
+
+    fn listening(&self, port: u16) {
+        self.write(Note::Listening(port));
+    }
+
+    fn came(&self, client: u64) {
+        self.write(Note::Came(client));
+    }
+
+    fn went(&self, client: u64, outcome: Result<(), StreamFault>) {
+        self.write(match outcome {
+            Ok(()) => Note::Went(client),
+            Err(fault) => Note::GivenUp(client, fault),
+        });
+    }
+
+    fn refused(&self, why: Refusal) {
+        self.write(match why {
+            Refusal::TooMany => Note::TooMany,
+            Refusal::NoThread => Note::NoThread,
+        });
+    }
+}
+
+impl<R: Clock + Eprint> ship_service::Journal for Notes<R> {
+    fn came(&self, client: u64) {
+        self.write(Note::Came(client));
+    }
+
+    fn went(&self, client: u64, outcome: Result<(), DriveFault>) {
+        self.write(match outcome {
+            Ok(()) => Note::Went(client),
+            Err(fault) => Note::Unheard(client, fault),
+        });
+    }
+
+    fn moved(&self, request: Request, moved: Moved) {
+        let object = request.number;
+        self.write(match (request.direction, moved) {
+            (Direction::Leave, Moved::Done) => Note::Left(object),
+            (Direction::Leave, Moved::Scoped) => Note::Held(object),
+            (Direction::Leave, Moved::Fault(fault)) => Note::Stayed(object, fault),
+            (Direction::Return, Moved::Done) => Note::Returned(object),
+            (Direction::Return, Moved::Fault(fault)) => Note::StayedFar(object, fault),
+            _ => return,
+        });
+    }
+
+    fn closed(&self, here: Tally, far: Tally) {
+        self.write(Note::Kept(here, far));
+    }
+}

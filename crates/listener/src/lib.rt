@@ -1,0 +1,10 @@
+//! A listener on 127.0.0.1: how it is bound and announced, and how its clients are accepted.
+#![tactic(auto)]
+
+mod accepting;
+mod announcing;
+mod binding;
+
+pub use accepting::accept;
+pub use announcing::announce;
+pub use binding::bind;
