@@ -256,6 +256,16 @@ class Client:
                 return reply
         raise Failed(f"{command} is answered {reply}, and not {wanted}")
 
+    def until_away(self, number: int, seconds: float = LONG) -> None:
+        """An object is asked to leave until a reading finds it away, which asks for it to return. It stays where a reading meets the mover."""
+        end = time.monotonic() + seconds
+        while time.monotonic() < end:
+            want((reply := self.ask(f"leave {number}")) in (f"asked {number}", "full"), f"leave {number} is answered {reply}")
+            time.sleep(0.001)
+            if self.ask(f"get {number} 0 1") == f"away {number}":
+                return
+        raise Failed(f"object {number} doesn't leave")
+
     def end(self) -> str:
         """Says that nothing more comes, and gives what it still hears."""
         self.stream.shutdown(socket.SHUT_WR)

@@ -39,7 +39,10 @@ def fall_silent(stream: socket.socket, answered: int) -> None:
     """Answers so many requests of a client, each a put, and then reads all that comes and says nothing."""
     with contextlib.suppress(OSError), stream, stream.makefile("rb") as requests:
         for _ in range(answered):
-            kind, number, length = HEAD.unpack(requests.read(HEAD.size))
+            head = requests.read(HEAD.size)
+            if len(head) < HEAD.size:
+                return
+            kind, number, length = HEAD.unpack(head)
             requests.read(length)
             want_equal(kind, PUT, "a request before the silence")
             stream.sendall(HEAD.pack(DONE, number, 0))
@@ -104,8 +107,7 @@ def show_silent_put(program: str) -> None:
     with silent() as far:
         service, client = opened(program, "--far", far, "--far-timeout", MILLIS, "--workers", 1, setup=["make 8", "put 1 0 2a", "make 8"])
         start = time.monotonic()
-        want_equal(client.ask("leave 1"), "asked 1", "an object that is to leave")
-        wait_until(client, "get 1 0 8", "away 1")
+        client.until_away(1)
         wait_until(client, "get 1 0 8", "bytes 2a")
         took = time.monotonic() - start
         want(GIVEN / 2 < took < GIVEN + LATE, f"a silent server is given {took:.2f} s")
@@ -121,7 +123,7 @@ def show_silent_get(program: str) -> None:
     with silent(2) as far:
         service, client = opened(program, "--far", far, "--far-timeout", MILLIS, "--workers", 1, setup=["make 8", "make 8", "make 8", "put 3 0 2a"])
         want_equal(client.ask_at_once(["leave 1", "leave 2"]), ["asked 1", "asked 2"], "objects that are to leave")
-        wait_until(client, "get 2 0 8", "away 2")
+        client.until_away(2)
         start = time.monotonic()
         while time.monotonic() - start < 2 * GIVEN:
             want(wait_until(client, "get 3 0 8", "bytes 2a") < REPLY, "an object that is here")
@@ -149,8 +151,7 @@ def show_unaccepting(program: str) -> None:
 
 def there_and_back(client: Client, held: str) -> None:
     """Object 1 leaves when it is asked to, and returns when it is missed."""
-    want_equal(client.ask("leave 1"), "asked 1", "an object that is to leave")
-    wait_until(client, "get 1 0 8", "away 1")
+    client.until_away(1)
     wait_until(client, "get 1 0 8", held)
 
 
