@@ -54,12 +54,6 @@ in_of (AtHome calm body at stands) z = (body, at, stands)
 in_of (Lent out at) z = absurd (omega arith)
 in_of (Idle far body at) z = absurd (omega arith)
 
-out_of : {returns : Bool} {opening : List ℕ} {t : Tally} {home : maybe.Option (maybe.Option Body)} {log : List Entry} (hot : ℕ)
-    → t.moving + t.far ≤ 1 → (0 < t.moving + t.far → t.opens + t.turns + hot ≡ 0) → SlotFits returns opening t home log → 0 < t.moving + t.turns → home ≡ some none
-out_of hot one here (AtHome calm body at stands) z = absurd (omega arith)
-out_of hot one here (Lent out at) z = at
-out_of hot one here (Idle far body at) z = absurd (let h = here (omega arith) in omega arith)
-
 far_of : {returns : Bool} {opening : List ℕ} {t : Tally} {home : maybe.Option (maybe.Option Body)} {log : List Entry} (hot : ℕ)
     → t.moving + t.far ≤ 1 → (0 < t.moving + t.far → t.opens + t.turns + hot ≡ 0) → SlotFits returns opening t home log → 0 < t.far → (body : Body) × (home ≡ some (some body))
 far_of hot one here (AtHome calm body at stands) z = absurd (omega arith)
@@ -71,27 +65,10 @@ pub body_in : {returns : Bool} {opening : List ℕ} {t : Tally} {word : ℕ} {ho
     → Fits returns opening t word home log → t.moving + t.far + t.turns ≡ 0 → (body : Body) × (home ≡ some (some body)) × Stands returns opening log body.bytes.items
 body_in f z = in_of f.slot z
 
--- where its turn is held, or it is on its way, a seat has the slot
-pub body_out : {returns : Bool} {opening : List ℕ} {t : Tally} {word : ℕ} {home : maybe.Option (maybe.Option Body)} {log : List Entry}
-    → Fits returns opening t word home log → 0 < t.moving + t.turns → home ≡ some none
-body_out f z = out_of f.hot f.one_out f.here f.slot z
-
 -- where it is far some body is at home
 pub body_far : {returns : Bool} {opening : List ℕ} {t : Tally} {word : ℕ} {home : maybe.Option (maybe.Option Body)} {log : List Entry}
     → Fits returns opening t word home log → 0 < t.far → (body : Body) × (home ≡ some (some body))
 body_far f z = far_of f.hot f.one_out f.here f.slot z
-
--- one of the three
-pub slot_of : (returns : Bool) (opening : List ℕ) (t : Tally) (home : maybe.Option (maybe.Option Body)) (log : List Entry)
-    → (t.moving + t.far + t.turns ≡ 0 → (body : Body) × (home ≡ some (some body)) × Stands returns opening log body.bytes.items)
-    → (0 < t.moving + t.turns → home ≡ some none)
-    → (0 < t.far → (body : Body) × (home ≡ some (some body)))
-    → SlotFits returns opening t home log
-slot_of returns opening t home log here out far = dite (ℕ_discrete (t.moving + t.turns) 0)
-    (λ calm. dite (ℕ_discrete t.far 0)
-    (λ near. let b = here (omega arith) in AtHome (omega arith) b.0 b.1 b.2)
-    (λ away. let b = far (omega arith) in Idle (omega arith) b.0 b.1))
-    (λ busy. Lent (omega arith) (out (omega arith)))
 
 -- two views that count the same at an object
 pub record Alike (m : ℕ) (v w : View) : Type 0 where

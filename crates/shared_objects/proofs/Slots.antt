@@ -16,7 +16,7 @@ use Rattle.shared_objects.specs.declared.seats.Phase.TheVariants as phases
 use Rattle.shared_objects.specs.declared.view.View.{View}
 use Rattle.shared_objects.proofs.Sums.{is_here, is_else, total_few}
 use Rattle.shared_objects.proofs.Keeps.{none_is_not}
-use Rattle.shared_objects.proofs.MoverKeeps.{placed_here, placed_else}
+use Rattle.shared_objects.proofs.Steps.{placed_here, placed_else}
 
 pub times-append : (n : ℕ) (xs ys : List ℕ) → times n (xs ++ ys) ≡ times n xs + times n ys
 times-append n [] ys = omega arith
