@@ -27,7 +27,7 @@ use Rattle.shared_objects.specs.declared.view.Mark.TheVariants.{Away, Busy, Worn
 use Rattle.shared_objects.proofs.Sums.{at_end, total-set, total-append, term_le, total_few, set_there, is_here, is_else, times-snoc, times-without, times-without_other}
 use Rattle.shared_objects.proofs.Logs.{object_home, length-left_by, has_longer, has_last, has_snoc, Rises-snoc, Chained-snoc, AllInside-snoc, top-snoc, fold-snoc, Answers-snoc}
 use Rattle.shared_objects.proofs.Steps.{keeps_slot, moves_slot, gives_back, is_in}
-use Rattle.shared_objects.proofs.Moves.{St, state, same_fits, grown, grown_here, grown_else, moves, mark_stays, turn_here, no_live, out_weighs, body_in}
+use Rattle.shared_objects.proofs.Moves.{St, state, same_fits, grown, grown_here, grown_else, moves, entry_stays, mark_stays, turn_here, no_live, out_weighs, body_in}
 
 -- the marks of a turn and of heat are set
 or_turn : (x : ℕ) → bit_or x 12 + (x / 4 % 2 * 4 + x / 8 % 2 * 8) ≡ x + 12
@@ -244,21 +244,16 @@ records_ok returns key slots id m t body more e k lt carried has by on found_is 
           absurd (omega (arith, term_le (has_moving n) s.views id v me, term_le (has_far n) s.views id v me)))
           (λ else. subst (λ l. Stands returns (bytes_of key j) l bytes) (sym (grown_else o.logs n log j else)) (kn.out j bytes q));
       entries = λ y h. ⊎_elim
-          (λ old. let q = kn.entries y old in (
-            q.0,
-            dite (ℕ_discrete y.object n)
-                (λ here. subst (λ l. Has l y) (sym (grown_here o.logs n log y.object here)) (has_longer (o.logs n) (e ∷ []) y (subst (λ j. Has (o.logs j) y) here q.1)))
-                (λ else. subst (λ l. Has l y) (sym (grown_else o.logs n log y.object else)) q.1),
-          ))
+          (λ old. let q = kn.entries y old in (q.0, entry_stays returns key s o id v w n ((x + k) % 2 ^ 64) hs log me near alive_ (has_longer (o.logs n) (e ∷ [])) y q.1))
           (λ (new : e ≡ y). subst (λ (z : Entry). (z.actor ≡ id) × Has (grown o.logs n log z.object) z) new
           (by ∙ kn.actor alive_, subst (λ l. Has l e) (sym (grown_here o.logs n log e.object on)) (has_last (o.logs n) e)))
           (has_snoc v.entries e y h);
       marks = λ y h. mark_stays returns key s o id v w n ((x + k) % 2 ^ 64) hs log me near alive_ (omega arith) y (kn.marks y h);
       rises = Rises-snoc 0 v.entries e kn.rises later;
     })
-    (λ y h. has_longer (o.logs n) (e ∷ []) y h)
+    (has_longer (o.logs n) (e ∷ []))
     (λ y h. ⊎_elim (λ old. inl old) (λ (new : e ≡ y). inr (subst (λ (z : Entry). (z.object ≡ n) × Has w.entries z) new (on, has_last v.entries e))) (has_snoc (o.logs n) e y h))
-    (λ y h. has_longer v.entries (e ∷ []) y h) (omega arith) (inr mine) in
+    (has_longer v.entries (e ∷ [])) (omega arith) (inr mine) in
     gives_back (Kept returns key) s id (word_of n) ((x + k) % 2 ^ 64) x m (gives_turn e (step slots (word_of n) k 0 none)) n body more w carried kept refl
 
 -- give turn: it ends with no entry
