@@ -9,7 +9,7 @@ use lib.ListN.{get_elem?}
 use Rattle.atomic_table.specs.Table.{Act, gives, Valid, stepped, carried_after}
 use Rattle.atomic_table.proofs.Lists.{set_here, set_else}
 use Rattle.memory.specs.Objects.{bytes_of}
-use Rattle.shared_objects.specs.History.{Has, top}
+use Rattle.shared_objects.specs.History.{Has, Rises, top}
 use Rattle.shared_objects.specs.Kinds.{Sat, placed}
 use Rattle.shared_objects.specs.Rule.{total, times, has_turn, has_open, has_pass, has_moving, has_far, place_of, is_moving, is_far, bytes_taken, turns_on, Stands, word_of, Tally, tally, SlotFits, TurnFits, MarkFits, Fits, Knows, Kept}
 use Rattle.shared_objects.specs.Rule.SlotFits.{AtHome, Lent, Idle}
@@ -44,6 +44,7 @@ gives_back holds s id at next found m told n body more w carried kept tells =
     let P : List (ℕ × Body) → Type 0 = λ c. (w : View) × (a : Act Body) × Valid s.homes c a × holds (stepped s at next id c w a) × told (m.0, c) found (w, carried_after c a) in
     subst P (sym carried) (w, gives, tt, kept, tells)
 
+-- the object that was placed is there, and the others are where they were
 pub placed_here : (v : View) (n : ℕ) (p : Place) → n < length v.out → place_of (placed n p v) n ≡ p
 placed_here v n p wide = get_or-set_same v.out n p Here wide
 
@@ -63,6 +64,7 @@ module _ (returns : Bool) (key : List (List ℕ)) (s : St) (o : Kept returns key
   abbrev RestsOut : Tally → Type 0
   RestsOut t = 0 < t.moving + t.far → t.opens + t.turns + hot ≡ 0
 
+  -- the step adds no entry
   unlogged : (w : View) (hs : List (maybe.Option Body)) → SameSeat v w → w.entries ≡ v.entries → length hs ≡ length s.homes → ((m : ℕ) → m ≢ n → get_elem? hs m ≡ get_elem? s.homes m) → ((m : ℕ) → m ≢ n → Alike m v w)
       → WordIs (tally n (set s.views id w)) → (tally n (set s.views id w)).turns ≤ 1 → (tally n (set s.views id w)).moving + (tally n (set s.views id w)).far ≤ 1 → RestsOut (tally n (set s.views id w))
       → SlotFits returns (bytes_of key n) (tally n (set s.views id w)) (get_elem? hs n) (o.logs n)
@@ -85,7 +87,7 @@ module _ (returns : Bool) (key : List (List ℕ)) (s : St) (o : Kept returns key
         out = out;
         entries = λ e has. k.entries e (subst (λ l. Has l e) wrote has);
         marks = marks;
-        rises = subst (Rattle.shared_objects.specs.History.Rises 0) (sym wrote) k.rises;
+        rises = subst (Rises 0) (sym wrote) k.rises;
       }))
       (λ e h. h) (λ e h. inl h) (λ e h. subst (λ l. Has l e) (sym wrote) h) (omega arith) (inl refl)
 
