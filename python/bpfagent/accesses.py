@@ -5,12 +5,11 @@ import re
 from typing import Mapping, Optional
 
 from .agent import STACK
+from .limits import STACK_SIZE, WORD
 from .replies import Registers
 
 # The memory operand of an instruction in assembly.
 OPERAND = re.compile(r"\[r(\d+)([+-]\d+)?\]")
-WORD = (1 << 64) - 1
-STACK_SIZE = 4096
 # The stops that an access to memory may be.
 OF_MEMORY = ("outside", "misaligned", "notgranted")
 

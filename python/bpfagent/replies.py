@@ -28,8 +28,8 @@ SHOWN = re.compile(f"line {NUMBER} {NUMBER} (.+)")
 REGISTERS = re.compile(f"regs {NUMBER} {NUMBER} {NUMBER} ([a-z]+)((?: {WORD}){{11}})")
 
 
-# The state of a machine that goes on.
-RUNNING = "run"
+# The states of a machine that goes on, and of one that is paused.
+RUNNING, PAUSED = "run", "paused"
 
 
 class Refused(Exception):

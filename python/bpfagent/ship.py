@@ -19,14 +19,13 @@ from .accesses import OF_MEMORY, access_text
 from .agent import ARGUMENTS, Agent, address
 from .commands import add_version, address_text, guarded, place_of
 from .image import Image, Unloadable, load, program_path
+from .limits import LONGEST, OBJECTS, SLOTS
 from .replies import Broken, Refused, Run, Stopped
 
 NUMBER = re.compile(r"-?(?:0[xX][0-9a-fA-F]+|0|[1-9][0-9]*)")
 # No number from 0 to 2^64 - 1 has more digits.
 DIGITS = 20
 FUEL = 1_000_000
-# The most bytes of an object, slots of a program, and objects.
-LONGEST, SLOTS, OBJECTS = 65_536, 4096, 1024
 # How long the agent may take for a reply, in seconds.
 SECONDS = 60.0
 # How long a program of a service that waits for an object is left alone, in seconds.

@@ -28,14 +28,14 @@ WARNINGS = ["-Wall", "-Wextra", "-Wpedantic", "-Werror"]
 STRUCTS = {"Agent": "bpfagent", "End": "bpfagent_end", "Registers": "bpfagent_registers", "Refusal": "bpfagent_refusal", "Granted": "bpfagent_grant", "Parcel": "bpfagent_parcel", "WrongLine": "bpfagent_wrong_line"}
 WORDS = {"u8": "uint8_t", "u32": "uint32_t", "u64": "uint64_t", "usize": "size_t", "bool": "bool", **STRUCTS}
 
-# Where the numbers of each enum stand: in a constant of src/codes.rt, or in an arm of one of its functions.
+# Where the numbers of each enum stand: in a variant of Code in src/codes.rt, or in an arm of one of its functions.
 REPLIES = {
-    "OK": "OK", "RAN": "code_of_reply Ran", "HIT": "code_of_reply Hit", "WAITING": "code_of_reply Waiting", "PAUSED": "code_of_reply Paused",
+    "OK": "Code Done", "RAN": "code_of_reply Ran", "HIT": "code_of_reply Hit", "WAITING": "code_of_reply Waiting", "PAUSED": "code_of_reply Paused",
     "STOPPED": "code_of_reply Stopped", "NOMEM": "code_of_reply NoMemory", "FULL": "code_of_reply Full", "NOROOM": "code_of_reply NoRoom",
     "OUTSIDE": "code_of_reply Outside", "AWAY": "code_of_reply Away", "IS_HERE": "code_of_place Here", "IS_LEAVING": "code_of_place Leaving",
     "IS_FAR": "code_of_place Far", "IS_RETURNING": "code_of_place Returning", "SCOPED": "code_of_reply Scoped", "FAULT_HERE": "code_of_fault Here",
     "FAULT_FAR": "code_of_fault _", "NOSLOT": "code_of_reply NoSlot", "NOWATCH": "code_of_reply NoWatch", "NOTPAUSED": "code_of_reply NotPaused",
-    "REFUSED": "code_of_reply Refused", "NONE": "code_of_reply Missing", "DAMAGED": "DAMAGED", "SHORT": "SHORT", "NOAGENT": "NO_AGENT", "BAD": "BAD",
+    "REFUSED": "code_of_reply Refused", "NONE": "code_of_reply Missing", "DAMAGED": "Code Damaged", "SHORT": "Code Short", "NOAGENT": "Code NoAgent", "BAD": "Code Bad",
 }
 STOPS = {
     "GOES_ON": "stop_of_state _", "EXIT": "code_of_stop Exit", "STOP_OUTSIDE": "code_of_stop Outside", "MISALIGNED": "code_of_stop Misaligned",
@@ -109,12 +109,12 @@ def show_functions() -> str:
 
 
 def arms(text: str) -> dict[str, int]:
-    """The number of each arm of each function, and of each constant."""
-    numbers = {name: int(number) for name, number in re.findall(r"const (\w+): u32 = (\d+);", text)}
+    """The number of each arm of each function, and of each variant of Code."""
+    variants = re.search(r"(?s)enum Code \{(.*?)\n\}", text)[1]
+    numbers = {f"Code {name}": int(number) for name, number in re.findall(r"(\w+) = (\d+),", variants)}
     for name, body in re.findall(r"(?s)fn (\w+)\([^)]*\)[^{]*(?:ensures[^\n]*\n)*\{(.*?)\n\s*\}\n\}", text):
-        for arm, value in re.findall(r"(?:\w+::)?(\w+)(?: \{ \.\. \}|\(\w+\))? => (\w+),", body):
-            if value in numbers or value.isdigit():
-                numbers[f"{name} {arm}"] = int(value) if value.isdigit() else numbers[value]
+        for arm, variant, number in re.findall(r"(?:\w+::)?(\w+)(?: \{ \.\. \}|\(\w+\))? => (?:Code::(\w+) as u32|(\d+)),", body):
+            numbers[f"{name} {arm}"] = int(number) if number else numbers[f"Code {variant}"]
     return numbers
 
 
@@ -130,6 +130,7 @@ def show_enums() -> str:
     want_equal(sorted(enums), sorted(ENUMS), "the enums of the header")
     for name, sources_of in ENUMS.items():
         want_equal(enums[name], {one: codes.get(source) for one, source in sources_of.items()}, name)
+    want_equal(sorted(enums["bpfagent_reply"].values()), sorted(number for source, number in codes.items() if source.startswith("Code ")), "the numbers of Code")
     named = {source for enum in ENUMS.values() for source in enum.values()} | SHARED
     for function in ("code_of_reply", "code_of_place", "code_of_fault", "code_of_stop", "code_of_state", "number_of_place", "number"):
         unnamed = [arm for arm in codes if arm.split()[0] == function and arm not in named]

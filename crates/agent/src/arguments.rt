@@ -1,6 +1,6 @@
 //! The arguments of the command line.
 ghost use Rattle.std.specs.Prelude.{◌≡◌, ℕ, List, Result, [], Some, map, codes, option_map, IfOk, IfErr};
-ghost use Rattle.clap.specs.Words.{app_of, found_of, new_app, rows_of, rule_of, HasKind};
+ghost use Rattle.clap.specs.Words.{app_of, found_of, new_app, new_rule, rows_of, rule_of, subcommand_of, subcommand_rows_of, HasKind};
 ghost use Rattle.agent.specs.CommandLine.{HasServing, IsLocal, asm_shape, bare, budget_option, check_shape, command_line, connections_option, dis_shape, far_of, far_rule, far_timeout_option, faults_of, flag_rule, is_set, number_in, port_option, run_shape, serve_shape, serving_in, store_shape, task_named, task_of, verbose_rule, workers_option};
 ghost use Rattle.agent.specs.OptionNumbers.{HasNumber, ParsesAs, number_rule, parses_as};
 
@@ -62,13 +62,18 @@ pub struct Serving {
     pub verbose: bool,
 }
 
+/// `--NAME VALUE`, where VALUE is any text.
+fn make_option<'a>(alloc: Global, name: &'a str, value: &'a str) -> Arg<'a>
+    ensures { rule_of result ≡ record (new_rule name.entry.now) { long = Some name.entry.now; value_names = 1 } }
+{
+    Arg::new(alloc, name).long(name).value_name(value)
+}
+
 /// `--budget N`: the most bytes that the objects that aren't far may have.
 fn make_budget<'a>(alloc: Global) -> Arg<'a>
     ensures { rule_of result ≡ number_rule budget_option }
 {
-    Arg::new(alloc, "budget")
-        .long("budget")
-        .value_name("N")
+    make_option(alloc, "budget", "N")
         .value_parser(value_parser!(u32).range(0..=67_108_864))
         .default_value("67108864")
         .help("The most bytes of objects that are not far, 0 to 67108864")
@@ -78,9 +83,7 @@ fn make_budget<'a>(alloc: Global) -> Arg<'a>
 fn make_port<'a>(alloc: Global) -> Arg<'a>
     ensures { rule_of result ≡ number_rule port_option }
 {
-    Arg::new(alloc, "port")
-        .long("port")
-        .value_name("P")
+    make_option(alloc, "port", "P")
         .value_parser(value_parser!(u16))
         .default_value("0")
         .help("The port to listen on, 0 to 65535, where 0 is any free one")
@@ -90,9 +93,7 @@ fn make_port<'a>(alloc: Global) -> Arg<'a>
 fn make_connections<'a>(alloc: Global) -> Arg<'a>
     ensures { rule_of result ≡ number_rule connections_option }
 {
-    Arg::new(alloc, "connections")
-        .long("connections")
-        .value_name("N")
+    make_option(alloc, "connections", "N")
         .value_parser(value_parser!(u8).range(1..=8))
         .default_value("1")
         .help("How many connections are taken in all, 1 to 8")
@@ -102,9 +103,7 @@ fn make_connections<'a>(alloc: Global) -> Arg<'a>
 fn make_workers<'a>(alloc: Global) -> Arg<'a>
     ensures { rule_of result ≡ number_rule workers_option }
 {
-    Arg::new(alloc, "workers")
-        .long("workers")
-        .value_name("W")
+    make_option(alloc, "workers", "W")
         .value_parser(value_parser!(u8).range(0..=16))
         .default_value("2")
         .help("How many workers step machines, 0 to 16")
@@ -114,21 +113,16 @@ fn make_workers<'a>(alloc: Global) -> Arg<'a>
 fn make_far<'a>(alloc: Global) -> Arg<'a>
     ensures { rule_of result ≡ far_rule }
 {
-    Arg::new(alloc, "far")
-        .long("far")
-        .value_name("HOST:PORT")
-        .help(
-            "The server that keeps far objects, HOST an IP address; without it they stay in this process",
-        )
+    make_option(alloc, "far", "HOST:PORT").help(
+        "The server that keeps far objects, HOST an IP address; without it they stay in this process",
+    )
 }
 
 /// `--far-timeout MS`: how long the far server may take.
 fn make_far_timeout<'a>(alloc: Global) -> Arg<'a>
     ensures { rule_of result ≡ number_rule far_timeout_option }
 {
-    Arg::new(alloc, "far-timeout")
-        .long("far-timeout")
-        .value_name("MS")
+    make_option(alloc, "far-timeout", "MS")
         .value_parser(value_parser!(u32).range(1..=600_000))
         .default_value("5000")
         .help(
@@ -150,11 +144,12 @@ fn make_flag<'a>(alloc: Global, name: &'a str, help: &'a str) -> Arg<'a>
 fn make_verbose<'a>(alloc: Global) -> Arg<'a>
     ensures { rule_of result ≡ verbose_rule }
 {
-    Arg::new(alloc, "verbose")
-        .long("verbose")
-        .short('v')
-        .action(ArgAction::SetTrue)
-        .help("Write what happens to standard error, a line each with the time")
+    make_flag(
+        alloc,
+        "verbose",
+        "Write what happens to standard error, a line each with the time",
+    )
+    .short('v')
 }
 
 /// A subcommand of this name, without options; in one line what it is about, and what else help says.
@@ -403,6 +398,15 @@ pub(crate) struct Asked<'a> {
     pub far: Option<&'a str>,
 }
 
+/// The matches of the arguments.
+fn read_matches<'a, S: AsStr>(alloc: Global, arguments: &'a [S]) -> Result<ArgMatches<'a>, Error>
+    ensures ok { IfOk result (λ matches. (faults_of (map S.text arguments.entry.now) ≡ [])
+        × (subcommand_rows_of matches ≡ subcommand_of command_line (map S.text arguments.entry.now))) }
+    ensures err { IfErr result (HasKind (faults_of (map S.text arguments.entry.now))) }
+{
+    make_command(alloc)?.try_get_matches_from(arguments)
+}
+
 /// What the arguments ask for, with the text of `--far` where they have one.
 pub(crate) fn read_asked<'a, S: AsStr>(
     alloc: Global,
@@ -412,7 +416,7 @@ pub(crate) fn read_asked<'a, S: AsStr>(
     ensures far { IfOk result (λ asked. option_map (λ text. text.now) asked.far ≡ far_of (map S.text arguments.entry.now)) }
     ensures err { IfErr result (HasKind (faults_of (map S.text arguments.entry.now))) }
 {
-    let matches = make_command(alloc)?.try_get_matches_from(arguments)?;
+    let matches = read_matches(alloc, arguments)?;
     let Some((name, inner)) = matches.subcommand() else {
         unreachable!()
     };
@@ -430,8 +434,6 @@ pub(crate) fn read_arguments<'a, S: AsStr>(alloc: Global, arguments: &'a [S]) ->
     ensures ok { IfOk result (λ task. (faults_of (map S.text arguments.entry.now) ≡ []) × (task_of (map S.text arguments.entry.now) ≡ Some task)) }
     ensures err { IfErr result (HasKind (faults_of (map S.text arguments.entry.now))) }
 {
-    match read_asked(alloc, arguments) {
-        Ok(asked) => Ok(asked.task),
-        Err(error) => Err(error),
-    }
+    let asked = read_asked(alloc, arguments)?;
+    Ok(asked.task)
 }

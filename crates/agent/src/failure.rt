@@ -4,11 +4,10 @@ ghost use Rattle.asm_grammar.specs.Reasons.{why_name};
 ghost use Rattle.agent.specs.Failures.{FailsToLoad, status_number, failure_line, status_of};
 ghost use Rattle.agent.specs.declared.failure.Failure.TheVariants.{Read as ReadFailed, Write as WriteFailed, NoMemory as OutOfMemory};
 
-use arrayvec::ArrayVec;
 use assembler::{AsmError, Why};
 use loader::LoadError;
 use std::alloc::AllocError;
-use streams::{InputFault, WriteFault};
+use streams::{InputFault, Line, WriteFault};
 use thiserror::Error;
 
 /// How the program ended.
@@ -107,7 +106,7 @@ impl From<AllocError> for Failure {
 }
 
 /// A line about a failure: at most a slot's or a line's number and the longest of the names.
-pub(crate) type FailureLine = ArrayVec<u8, 48>;
+pub(crate) type FailureLine = Line<48>;
 
 /// The line of this text.
 pub(crate) fn line_of(text: &[u8]) -> FailureLine
@@ -115,8 +114,8 @@ pub(crate) fn line_of(text: &[u8]) -> FailureLine
     ensures { result.items ≡ text.now ++ 10 ∷ [] }
 {
     let mut line = FailureLine::new();
-    let _ = line.try_extend_from_slice(text);
-    let _ = line.try_push(b'\n');
+    line.put(text);
+    line.end();
     line
 }
 
@@ -147,33 +146,23 @@ impl Failure {
         let mut line = FailureLine::new();
         match self {
             Failure::Refused(error) => {
-                let mut number = itoa::Buffer::new();
-                let _ = line.try_extend_from_slice(b"slot ");
-                let _ = line.try_extend_from_slice(number.format(error.slot).as_bytes());
-                let _ = line.try_extend_from_slice(b": ");
-                let _ = line.try_extend_from_slice(error.why.name());
+                line.put(b"slot ");
+                line.put_decimal(error.slot);
+                line.put(b": ");
+                line.put(error.why.name());
             }
             Failure::WrongLine(error) => {
-                let mut number = itoa::Buffer::new();
-                let _ = line.try_extend_from_slice(b"line ");
-                let _ = line.try_extend_from_slice(number.format(error.line).as_bytes());
-                let _ = line.try_extend_from_slice(b": ");
-                let _ = line.try_extend_from_slice(name_of(error.why));
+                line.put(b"line ");
+                line.put_decimal(error.line);
+                line.put(b": ");
+                line.put(name_of(error.why));
             }
-            Failure::InputTooLong => {
-                let _ = line.try_extend_from_slice(INPUT_TOO_LONG.as_bytes());
-            }
-            Failure::Read => {
-                let _ = line.try_extend_from_slice(READ_FAULT.as_bytes());
-            }
-            Failure::Write => {
-                let _ = line.try_extend_from_slice(WRITE_FAULT.as_bytes());
-            }
-            Failure::NoMemory => {
-                let _ = line.try_extend_from_slice(NO_MEMORY.as_bytes());
-            }
+            Failure::InputTooLong => line.put(INPUT_TOO_LONG.as_bytes()),
+            Failure::Read => line.put(READ_FAULT.as_bytes()),
+            Failure::Write => line.put(WRITE_FAULT.as_bytes()),
+            Failure::NoMemory => line.put(NO_MEMORY.as_bytes()),
         }
-        let _ = line.try_push(b'\n');
+        line.end();
         line
     }
 }

@@ -18,13 +18,12 @@ use crate::assembly::{asm, check, dis};
 use crate::failure::{ExitStatus, Failure};
 use crate::reporting::{report, say};
 use crate::running::run;
-use arrayvec::ArrayVec;
 use clap::Error;
 use clap::error::ErrorKind;
 use std::alloc::Global;
 use std::convert::AsStr;
 use std::io::{Read, Write};
-use streams::put_all;
+use streams::{Line, put_all};
 
 /// This text, or another where it is empty: `clap`'s contracts leave the texts of its errors open.
 fn some_text(text: &str) -> &[u8]
@@ -47,17 +46,14 @@ fn show_help<W: Write, E: Write>(text: &str, writer: &mut W, errors: &mut E) -> 
     }
 }
 
-/// A line with the name of the program and its version.
-type VersionLine = ArrayVec<u8, 32>;
-
-/// The line with the version.
-fn version_line() -> VersionLine
+/// The line with the name of the program and its version.
+fn version_line() -> Line<32>
     ensures { result.items ≡ version_line }
 {
-    let mut line = VersionLine::new();
-    let _ = line.try_extend_from_slice(b"bpfagent ");
-    let _ = line.try_extend_from_slice(VERSION.as_bytes());
-    let _ = line.try_push(b'\n');
+    let mut line = Line::new();
+    line.put(b"bpfagent ");
+    line.put(VERSION.as_bytes());
+    line.end();
     line
 }
 

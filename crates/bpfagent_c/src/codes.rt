@@ -14,51 +14,44 @@ use machine::Stop;
 use object_store::GetError;
 use world::{Reply, StackError};
 
-/// The command was done.
-pub(crate) const OK: u32 = 0;
-
-/// Out of memory.
-pub(crate) const NO_MEMORY: u32 = 10;
-
-/// The budget has no room for the object.
-pub(crate) const NO_ROOM: u32 = 12;
-
-/// A machine has the object in an open scope.
-pub(crate) const SCOPED: u32 = 19;
-
-/// The bytes aren't inside an object.
-pub(crate) const OUTSIDE: u32 = 13;
-
-/// The object isn't here.
-pub(crate) const AWAY: u32 = 14;
-
-/// There is no agent in the handle.
-pub(crate) const NO_AGENT: u32 = 30;
-
-/// A number is outside its range.
-pub(crate) const BAD: u32 = 31;
-
-/// Code or a text is refused.
-pub(crate) const REFUSED: u32 = 25;
-
-/// There is no such machine, or no such object.
-pub(crate) const MISSING: u32 = 26;
-
-/// Bytes that came back aren't those that were handed out.
-pub(crate) const DAMAGED: u32 = 27;
-
-/// The object has more bytes than there is room for.
-pub(crate) const SHORT: u32 = 28;
-
-/// No instruction begins at the slot.
-pub(crate) const NO_SLOT: u32 = 22;
+/// What a call answers, with the numbers of `enum bpfagent_reply`: include/bpfagent.h says what each means.
+#[derive(Clone, Copy, Drop)]
+pub(crate) enum Code {
+    Done = 0,
+    Ran = 1,
+    Hit = 2,
+    Waiting = 3,
+    Paused = 4,
+    Stopped = 5,
+    NoMemory = 10,
+    Full = 11,
+    NoRoom = 12,
+    Outside = 13,
+    Away = 14,
+    IsHere = 15,
+    IsLeaving = 16,
+    IsFar = 17,
+    IsReturning = 18,
+    Scoped = 19,
+    FaultHere = 20,
+    FaultFar = 21,
+    NoSlot = 22,
+    NoWatch = 23,
+    NotPaused = 24,
+    Refused = 25,
+    Missing = 26,
+    Damaged = 27,
+    Short = 28,
+    NoAgent = 30,
+    Bad = 31,
+}
 
 /// The number of what a call answers.
 pub(crate) fn code_of(given: &Option<Reply>) -> u32
     ensures { result ≡ code_of given.now }
 {
     match given {
-        None => NO_AGENT,
+        None => Code::NoAgent as u32,
         Some(reply) => code_of_reply(reply),
     }
 }
@@ -68,25 +61,25 @@ fn code_of_reply(reply: &Reply) -> u32
     ensures { result ≡ code_of_reply reply.now }
 {
     match reply {
-        Reply::Ran { .. } => 1,
-        Reply::Hit { .. } => 2,
-        Reply::Waiting { .. } => 3,
-        Reply::Paused { .. } => 4,
-        Reply::Stopped { .. } => 5,
-        Reply::NoMemory => NO_MEMORY,
-        Reply::Full => 11,
-        Reply::NoRoom => NO_ROOM,
-        Reply::Outside => OUTSIDE,
-        Reply::Away { .. } => AWAY,
+        Reply::Ran { .. } => Code::Ran as u32,
+        Reply::Hit { .. } => Code::Hit as u32,
+        Reply::Waiting { .. } => Code::Waiting as u32,
+        Reply::Paused { .. } => Code::Paused as u32,
+        Reply::Stopped { .. } => Code::Stopped as u32,
+        Reply::NoMemory => Code::NoMemory as u32,
+        Reply::Full => Code::Full as u32,
+        Reply::NoRoom => Code::NoRoom as u32,
+        Reply::Outside => Code::Outside as u32,
+        Reply::Away { .. } => Code::Away as u32,
         Reply::Misplaced { place, .. } => code_of_place(*place),
-        Reply::Scoped { .. } => SCOPED,
+        Reply::Scoped { .. } => Code::Scoped as u32,
         Reply::Faulted { place, .. } => code_of_fault(*place),
-        Reply::NoSlot => NO_SLOT,
-        Reply::NoWatch => 23,
-        Reply::NotPaused => 24,
-        Reply::Refused(_) => REFUSED,
-        Reply::Missing => MISSING,
-        _ => OK,
+        Reply::NoSlot => Code::NoSlot as u32,
+        Reply::NoWatch => Code::NoWatch as u32,
+        Reply::NotPaused => Code::NotPaused as u32,
+        Reply::Refused(_) => Code::Refused as u32,
+        Reply::Missing => Code::Missing as u32,
+        _ => Code::Done as u32,
     }
 }
 
@@ -96,9 +89,9 @@ pub(crate) fn code_of_get(error: GetError) -> u32
     ensures memory { result ≡ 10 → error ≡ GetError.Memory }
 {
     match error {
-        GetError::Outside => OUTSIDE,
-        GetError::Away => AWAY,
-        GetError::Memory => NO_MEMORY,
+        GetError::Outside => Code::Outside as u32,
+        GetError::Away => Code::Away as u32,
+        GetError::Memory => Code::NoMemory as u32,
     }
 }
 
@@ -108,8 +101,8 @@ pub(crate) fn code_of_stack(error: StackError) -> u32
     ensures memory { result ≢ 10 }
 {
     match error {
-        StackError::Missing => MISSING,
-        StackError::Outside => OUTSIDE,
+        StackError::Missing => Code::Missing as u32,
+        StackError::Outside => Code::Outside as u32,
     }
 }
 
@@ -118,10 +111,10 @@ fn code_of_place(place: Place) -> u32
     ensures { result ≡ code_of_place place }
 {
     match place {
-        Place::Here => 15,
-        Place::Leaving => 16,
-        Place::Far => 17,
-        Place::Returning => 18,
+        Place::Here => Code::IsHere as u32,
+        Place::Leaving => Code::IsLeaving as u32,
+        Place::Far => Code::IsFar as u32,
+        Place::Returning => Code::IsReturning as u32,
     }
 }
 
@@ -130,8 +123,8 @@ fn code_of_fault(place: Place) -> u32
     ensures { result ≡ code_of_fault place }
 {
     match place {
-        Place::Here => 20,
-        _ => 21,
+        Place::Here => Code::FaultHere as u32,
+        _ => Code::FaultFar as u32,
     }
 }
 
@@ -140,11 +133,11 @@ pub(crate) fn code_of_step(told: StepReply) -> u32
     ensures { result ≡ code_of_step (Some told) }
 {
     match told {
-        StepReply::Ran(_) => 1,
-        StepReply::Hit(_) => 2,
-        StepReply::Waiting(_) => 3,
-        StepReply::Paused(_) => 4,
-        StepReply::Stopped(_) => 5,
+        StepReply::Ran(_) => Code::Ran as u32,
+        StepReply::Hit(_) => Code::Hit as u32,
+        StepReply::Waiting(_) => Code::Waiting as u32,
+        StepReply::Paused(_) => Code::Paused as u32,
+        StepReply::Stopped(_) => Code::Stopped as u32,
     }
 }
 
@@ -153,7 +146,7 @@ pub(crate) fn code_of_end(end: Option<StepReply>) -> u32
     ensures { result ≡ code_of_end end }
 {
     match end {
-        None => 1,
+        None => Code::Ran as u32,
         Some(told) => code_of_step(told),
     }
 }
@@ -209,11 +202,11 @@ pub(crate) fn code_of_moved(moved: Moved, back: Place) -> u32
     ensures { (told : Reply) → (n : ℕ) → code_of_reply told ≡ 0 → result ≡ code_of_reply (reply_to_move told back n moved) }
 {
     match moved {
-        Moved::Done => OK,
-        Moved::NoObject => MISSING,
+        Moved::Done => Code::Done as u32,
+        Moved::NoObject => Code::Missing as u32,
         Moved::Misplaced(place) => code_of_place(place),
-        Moved::Scoped => SCOPED,
-        Moved::NoRoom => NO_ROOM,
+        Moved::Scoped => Code::Scoped as u32,
+        Moved::NoRoom => Code::NoRoom as u32,
         Moved::Fault(_) => code_of_fault(back),
     }
 }
@@ -223,7 +216,7 @@ fn code_of_lost(fault: StoreFault) -> u32
     ensures { result ≡ code_of_lost fault }
 {
     match fault {
-        StoreFault::Damaged => DAMAGED,
+        StoreFault::Damaged => Code::Damaged as u32,
         _ => code_of_fault(Place::Far),
     }
 }
@@ -233,11 +226,11 @@ pub(crate) fn code_of_back(moved: Moved) -> u32
     ensures { (n : ℕ) → result ≡ code_of_back n moved }
 {
     match moved {
-        Moved::Done => OK,
-        Moved::NoObject => MISSING,
+        Moved::Done => Code::Done as u32,
+        Moved::NoObject => Code::Missing as u32,
         Moved::Misplaced(place) => code_of_place(place),
-        Moved::Scoped => SCOPED,
-        Moved::NoRoom => NO_ROOM,
+        Moved::Scoped => Code::Scoped as u32,
+        Moved::NoRoom => Code::NoRoom as u32,
         Moved::Fault(fault) => code_of_lost(fault),
     }
 }
@@ -272,8 +265,8 @@ pub(crate) fn code_of_why(why: Why) -> u32
     ensures { result ≡ code_of_why why }
 {
     match why {
-        Why::Memory => NO_MEMORY,
-        _ => REFUSED,
+        Why::Memory => Code::NoMemory as u32,
+        _ => Code::Refused as u32,
     }
 }
 
@@ -282,7 +275,7 @@ pub(crate) fn code_of_text(why: WrongText) -> u32
     ensures { result ≡ code_of_text why }
 {
     match why {
-        WrongText::Memory => NO_MEMORY,
-        _ => REFUSED,
+        WrongText::Memory => Code::NoMemory as u32,
+        _ => Code::Refused as u32,
     }
 }

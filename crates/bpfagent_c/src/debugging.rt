@@ -9,7 +9,7 @@ ghost use Rattle.bpfagent_c.specs.Codes.{code_of};
 ghost use Rattle.bpfagent_c.specs.Told.{Commanded, Told};
 ghost use Rattle.bpfagent_c.specs.Shown.{registers_of, values_of, value_count_of, bytes_of, text_of, text_count_of};
 
-use crate::codes::{NO_AGENT, OK, code_of, code_of_stack};
+use crate::codes::{Code, code_of, code_of_stack};
 use crate::handle::{Agent, give, take};
 use crate::shown::{Registers, write_bytes, write_values};
 use crate::telling::{show, tell_debug};
@@ -65,10 +65,10 @@ pub extern "C" fn bpfagent_stack(
     ensures memory { result ≢ 10 }
 {
     let Some(world) = take(agent, alloc) else {
-        return NO_AGENT;
+        return Code::NoAgent as u32;
     };
     let number = match world.read_stack(machine, offset, bytes) {
-        Ok(()) => OK,
+        Ok(()) => Code::Done as u32,
         Err(error) => code_of_stack(error),
     };
     give(agent, alloc, world);

@@ -18,7 +18,7 @@ ghost use Rattle.bpfagent_c.specs.Codes.{code_of, code_of_reply};
 ghost use Rattle.bpfagent_c.specs.Told.{Commanded, HasNone};
 ghost use Rattle.bpfagent_c.specs.Handing.{Forgets, IsCalm, bytes_at, left_count, left_digest, left_over};
 
-use crate::codes::{NO_AGENT, SHORT, code_of_back, code_of_moved};
+use crate::codes::{Code, code_of_back, code_of_moved};
 use crate::handle::{Agent, give, take};
 use crate::shown::Parcel;
 use far_store::{Moved, Place};
@@ -78,13 +78,13 @@ pub extern "C" fn bpfagent_left_into(
     ensures works { result ≢ 20 }
 {
     let Some(mut world) = take(agent, alloc) else {
-        return NO_AGENT;
+        return Code::NoAgent as u32;
     };
     let count = world.length(object);
     if count > buffer.len() {
         give(agent, alloc, world);
         *size = count;
-        return SHORT;
+        return Code::Short as u32;
     }
     let number = leave_into(&mut world, object, buffer, size, parcel);
     give(agent, alloc, world);
@@ -122,7 +122,7 @@ pub extern "C" fn bpfagent_returned_from(
 {
     match take_back(agent, alloc, object, bytes) {
         Some(moved) => code_of_back(moved),
-        None => NO_AGENT,
+        None => Code::NoAgent as u32,
     }
 }
 
@@ -133,7 +133,7 @@ pub extern "C" fn bpfagent_forget(alloc: Global, agent: &mut Agent, object: u32)
     ensures none { agent.old.live ≡ false → (result ≡ 30) × HasNone agent.old agent.new }
 {
     let Some(mut world) = take(agent, alloc) else {
-        return NO_AGENT;
+        return Code::NoAgent as u32;
     };
     let moved = world.forget(object);
     give(agent, alloc, world);

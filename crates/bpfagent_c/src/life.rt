@@ -2,7 +2,7 @@
 ghost use Rattle.std.specs.Prelude.{◌≡◌, ◌≢◌, true, false, IfSome};
 ghost use Rattle.world.specs.WorldState.{opened_world};
 
-use crate::codes::NO_MEMORY;
+use crate::codes::Code;
 use crate::handle::{Agent, give, take};
 use library_store::LibraryStore;
 use std::alloc::Global;
@@ -29,9 +29,9 @@ fn open(agent: &mut Agent, alloc: Global, budget: u32, store: LibraryStore) -> u
     match world_of(alloc, budget, store) {
         Some(world) => {
             give(agent, alloc, world);
-            0
+            Code::Done as u32
         }
-        None => NO_MEMORY,
+        None => Code::NoMemory as u32,
     }
 }
 

@@ -8,7 +8,7 @@ ghost use Rattle.bpfagent_c.specs.Codes.{code_of};
 ghost use Rattle.bpfagent_c.specs.Told.{Commanded};
 ghost use Rattle.bpfagent_c.specs.Shown.{shipped_of, refusal_of, grants_of, AreGrants, Steps, Runs, IsWithout};
 
-use crate::codes::{BAD, MISSING, NO_AGENT, code_of, code_of_end, code_of_step};
+use crate::codes::{Code, code_of, code_of_end, code_of_step};
 use crate::handle::{Agent, give, take};
 use crate::shown::{End, Granted, Refusal, grants_of};
 use std::alloc::Global;
@@ -80,7 +80,7 @@ pub extern "C" fn bpfagent_ship_granted(
     ensures bad { (AreGrants granted.now → ⊥) → (result ≡ 31) × (agent.new ≡ agent.old) × (machine.new ≡ machine.old) × (refusal.new ≡ refusal.old) }
 {
     let Some(grants) = grants_of(granted) else {
-        return BAD;
+        return Code::Bad as u32;
     };
     let start = Start {
         fuel,
@@ -97,12 +97,12 @@ fn make_step(agent: &mut Agent, alloc: Global, machine: usize, way: Way, end: &m
     ensures none { agent.old.live ≡ false → IsWithout agent.old end.old result agent.new end.new }
 {
     let Some(mut world) = take(agent, alloc) else {
-        return NO_AGENT;
+        return Code::NoAgent as u32;
     };
     let told = world.step(machine, way);
     give(agent, alloc, world);
     let Some(told) = told else {
-        return MISSING;
+        return Code::Missing as u32;
     };
     *end = End::of_step(told);
     code_of_step(told)
@@ -149,12 +149,12 @@ pub extern "C" fn bpfagent_run(
     ensures none { agent.old.live ≡ false → IsWithout agent.old end.old result agent.new end.new }
 {
     let Some(mut world) = take(agent, alloc) else {
-        return NO_AGENT;
+        return Code::NoAgent as u32;
     };
     let run = world.run_machine(machine, n);
     give(agent, alloc, world);
     let Some(run) = run else {
-        return MISSING;
+        return Code::Missing as u32;
     };
     *end = End::of_run(run.ran, run.end);
     code_of_end(run.end)

@@ -9,7 +9,7 @@ ghost use Rattle.bpfagent_c.specs.Codes.{code_of};
 ghost use Rattle.bpfagent_c.specs.Told.{Commanded, Told};
 ghost use Rattle.bpfagent_c.specs.Shown.{made_of, bytes_of};
 
-use crate::codes::{BAD, NO_AGENT, OK, code_of, code_of_get};
+use crate::codes::{Code, code_of, code_of_get};
 use crate::handle::{Agent, give, take};
 use crate::telling::{command, tell_move, tell_object};
 use std::alloc::Global;
@@ -30,7 +30,7 @@ pub extern "C" fn bpfagent_make(
     ensures bad { ((1 ≤ length) × (length ≤ object_bytes) → ⊥) → (result ≡ 31) × (agent.new ≡ agent.old) × (object.new ≡ object.old) }
 {
     let Some(length) = ObjectLength::new(length) else {
-        return BAD;
+        return Code::Bad as u32;
     };
     let given = command(agent, alloc, Event::Make { length });
     if let Some(Reply::Made { object: number }) = &given {
@@ -110,10 +110,10 @@ fn get(agent: &mut Agent, alloc: Global, object: u32, offset: u32, bytes: &mut [
     ensures memory { result ≢ 10 }
 {
     let Some(world) = take(agent, alloc) else {
-        return NO_AGENT;
+        return Code::NoAgent as u32;
     };
     let number = match world.read(object, offset, bytes) {
-        Ok(()) => OK,
+        Ok(()) => Code::Done as u32,
         Err(error) => code_of_get(error),
     };
     give(agent, alloc, world);

@@ -6,7 +6,7 @@ ghost use Rattle.bpfagent_c.specs.Told.{HasNone};
 ghost use Rattle.bpfagent_c.specs.Shown.{over};
 ghost use Rattle.bpfagent_c.specs.Handing.{IsCalm, IsIn, bytes_at, is_at, standing};
 
-use crate::codes::{BAD, MISSING, NO_AGENT, OK, number_of_place, place_numbered};
+use crate::codes::{Code, number_of_place, place_numbered};
 use crate::handle::{Agent, give, take};
 use crate::shown::write_numbers;
 use arrayvec::ArrayVec;
@@ -31,17 +31,17 @@ pub extern "C" fn bpfagent_place_of(
     ensures each { (result ≡ 0) ⊎ ((result ≡ 26) ⊎ (result ≡ 30)) }
 {
     let Some(world) = take(agent, alloc) else {
-        return NO_AGENT;
+        return Code::NoAgent as u32;
     };
     let found = world.place(object);
     let count = world.length(object);
     give(agent, alloc, world);
     let Some(found) = found else {
-        return MISSING;
+        return Code::Missing as u32;
     };
     *place = number_of_place(found);
     *size = count;
-    OK
+    Code::Done as u32
 }
 
 /// Whether there is an object of this number in a place.
@@ -83,14 +83,14 @@ pub extern "C" fn bpfagent_objects(
     ensures none { (p : Place) → place_numbered place ≡ Some p → agent.old.live ≡ false → (result ≡ 30) × HasNone agent.old agent.new × (objects.new ≡ objects.old) × (count.new ≡ count.old) }
 {
     let Some(place) = place_numbered(place) else {
-        return BAD;
+        return Code::Bad as u32;
     };
     let Some(world) = take(agent, alloc) else {
-        return NO_AGENT;
+        return Code::NoAgent as u32;
     };
     let found = objects_in(&world, place);
     give(agent, alloc, world);
     write_numbers(objects, found.as_slice());
     *count = found.len();
-    OK
+    Code::Done as u32
 }

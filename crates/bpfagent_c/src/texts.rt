@@ -9,7 +9,7 @@ ghost use Rattle.bpfagent_c.specs.declared.texts.LineError.{LineError};
 ghost use Rattle.bpfagent_c.specs.Codes.{code_of_text};
 ghost use Rattle.bpfagent_c.specs.Texts.{Assembles, Checks, Lines, code_of_assembly, code_of_check, code_of_line, found_count, found_over, refusal_of_check, wrong_by, wrong_of};
 
-use crate::codes::{NO_MEMORY, NO_SLOT, OK, REFUSED, code_of_text, code_of_why};
+use crate::codes::{Code, code_of_text, code_of_why};
 use crate::shown::{Refusal, write_bytes};
 use asm_grammar::Why as WrongText;
 use assembler::{AsmError, assemble_bytes};
@@ -59,7 +59,7 @@ impl Refusal {
         ensures written { self.new ≡ refusal_of_check found self.old }
     {
         let Some(error) = found else {
-            return OK;
+            return Code::Done as u32;
         };
         if error.why != Why::Memory {
             *self = Refusal::of(&error);
@@ -147,7 +147,7 @@ pub extern "C" fn bpfagent_assemble(
         Ok(found) => {
             write_bytes(code, found.as_slice());
             *count = found.len();
-            OK
+            Code::Done as u32
         }
         Err(error) => wrong.tell(&error),
     }
@@ -180,9 +180,9 @@ fn code_of_error(error: LineError) -> u32
     ensures { result ≡ code_of_line (Err error) }
 {
     match error {
-        LineError::Refused => REFUSED,
-        LineError::NoSlot => NO_SLOT,
-        LineError::Memory => NO_MEMORY,
+        LineError::Refused => Code::Refused as u32,
+        LineError::NoSlot => Code::NoSlot as u32,
+        LineError::Memory => Code::NoMemory as u32,
     }
 }
 
@@ -201,7 +201,7 @@ pub extern "C" fn bpfagent_text(
         Ok(found) => {
             write_bytes(text, found.as_slice());
             *count = found.len();
-            OK
+            Code::Done as u32
         }
         Err(error) => code_of_error(error),
     }

@@ -4,85 +4,16 @@ use crate::compared::same;
 use crate::trial::{Act, Answer, DONE, LEFT, Left, Row, tried};
 use debugger::StepReply::{Ran, Stopped, Waiting};
 use far_store::{Moved, Place, StoreFault};
-use far_stream::{StreamFault, StreamStore, serve_store};
+use far_stream::{StreamFault, StreamStore};
 use machine::Stop;
 use shared_objects::Phase;
 use std::alloc::Global;
-use std::io::{Error, ErrorKind, Read, Result as IoResult, Write};
 use std::net::{Net, TcpListener, TcpStream};
 use std::sync::Wait;
 use std::test::Fail;
 use std::thread;
 use std::thread::Threads;
-
-/// What becomes of one write.
-#[derive(Clone, Copy, Drop, PartialEq, Eq)]
-enum Flaw {
-    /// Its last byte is another one.
-    Damages,
-    /// It fails.
-    Fails,
-}
-
-/// A stream of which one write goes wrong.
-#[derive(Drop)]
-struct Flawed {
-    flaw: Flaw,
-    stream: TcpStream,
-    alloc: Global,
-    /// How many writes come before that one.
-    good: usize,
-    writes: usize,
-}
-
-impl Read for Flawed {
-    fn read(&mut self, buf: &mut [u8]) -> IoResult<usize> {
-        self.stream.read(buf)
-    }
-}
-
-impl Write for Flawed {
-    fn write(&mut self, buf: &[u8]) -> IoResult<usize> {
-        let before = self.writes;
-        self.writes = before.saturating_add(1);
-        if before != self.good {
-            return self.stream.write(buf);
-        }
-        if self.flaw == Flaw::Fails {
-            return Err(Error::from(ErrorKind::BrokenPipe));
-        }
-        let mut damaged = buf.to_vec(self.alloc)?;
-        if let Some(last) = damaged.pop() {
-            damaged.push(last ^ 1)?;
-        }
-        let taken = self.stream.write(&damaged)?;
-        Ok(taken.min(buf.len()))
-    }
-
-    fn flush(&mut self) -> IoResult<()> {
-        self.stream.flush()
-    }
-}
-
-/// Serves the one client that comes. The answer after so many goes wrong.
-fn serve_one(
-    alloc: Global,
-    listener: TcpListener,
-    flaw: Flaw,
-    good: usize,
-) -> Result<(), StreamFault> {
-    let Ok((stream, _)) = listener.accept() else {
-        return Err(StreamFault::Io);
-    };
-    let mut stream = Flawed {
-        flaw,
-        stream,
-        alloc,
-        good,
-        writes: 0,
-    };
-    serve_store(alloc, &mut stream)
-}
+use test_devices::{Flaw, serve_flawed};
 
 /// Both machines add, both objects leave, and the first comes back damaged. It is far then, and comes back when it is asked for
 /// again.
@@ -127,7 +58,7 @@ fn over_tcp<R: Net<Listener = TcpListener, Stream = TcpStream> + Threads + Wait>
 ) -> Result<(Left, Result<(), StreamFault>), Fail> {
     let listener = TcpListener::bind(rt, "127.0.0.1:0")?;
     let stream = TcpStream::connect(rt, listener.local_addr()?)?;
-    let server = thread::spawn(rt, move || serve_one(alloc, listener, flaw, good))?;
+    let server = thread::spawn(rt, move || serve_flawed(alloc, listener, flaw, good))?;
     let left = tried(rt, alloc, StreamStore::new(alloc, stream), rows)?;
     Ok((left, server.join(rt)))
 }

@@ -1,7 +1,6 @@
 //! Far stores that fail, or give other bytes.
 
 use crate::compared::same;
-use crate::stores::Short;
 use crate::trial::{Act, Answer, DONE, LEFT, Left, Row, tried};
 use debugger::StepReply::{Ran, Stopped, Waiting};
 use far_store::{Failing, Moved, OwnStore, StoreFault};
@@ -10,6 +9,7 @@ use shared_objects::Phase;
 use std::alloc::Global;
 use std::sync::Wait;
 use std::test::Fail;
+use test_devices::Short;
 
 /// A move that the far store refused.
 const REFUSED: Answer = Answer::Moved(Moved::Fault(StoreFault::Refused));

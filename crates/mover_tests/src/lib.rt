@@ -16,6 +16,4 @@ mod moves;
 #[cfg(test)]
 mod requests;
 #[cfg(test)]
-mod stores;
-#[cfg(test)]
 mod trial;

@@ -7,7 +7,7 @@ ghost use Rattle.workers.specs.Cells.{IsTableOf};
 ghost use Rattle.workers.specs.Marks.{each_lent};
 ghost use Rattle.workers.specs.Pools.{machines_of};
 
-use crate::common::{adding, objects};
+use crate::common::adding;
 use debugger::{Debuggee, StepReply, Way};
 use far_store::{FarStore, Moved, OwnStore};
 use shared_objects::{ActorSeat, MoverSeat, Phase, Shared};
@@ -16,6 +16,7 @@ use std::marker::Brand;
 use std::sync::Wait;
 use std::sync::atomic::{AtomicU64, Ordering};
 use std::test::Fail;
+use test_devices::{number_kept, objects};
 use workers::{Direction, Gate, Looked, Mark, Mover, Pool, mover};
 
 /// What is done.
@@ -93,22 +94,6 @@ impl Gate for Rounds {
     }
 }
 
-/// The number that eight bytes are.
-fn number_of(bytes: &[u8]) -> Option<u64> {
-    Some(u64::from_le_bytes(bytes.try_into().ok()?))
-}
-
-/// The number for which the parcel of an object stands, if one is kept.
-fn kept_of<F: FarStore>(
-    store: &mut F,
-    parcels: &[Option<F::Parcel>],
-    number: usize,
-) -> Option<u64> {
-    let parcel = parcels.get(number)?.as_ref()?;
-    let bytes = store.get(parcel).ok()?;
-    number_of(&bytes)
-}
-
 /// A step of the machine of a number.
 fn step<F: FarStore, K: Mark, R: Wait>(
     rt: &R,
@@ -182,9 +167,9 @@ fn left_of<F: FarStore + Drop, K: Mark>(
     let (seat, mut store, parcels) = served.into_parts();
     let faults = store.faults();
     let kept = [
-        kept_of(&mut store, parcels.as_slice(), 1),
-        kept_of(&mut store, parcels.as_slice(), 2),
-        kept_of(&mut store, parcels.as_slice(), 3),
+        number_kept(&mut store, parcels.as_slice(), 1),
+        number_kept(&mut store, parcels.as_slice(), 2),
+        number_kept(&mut store, parcels.as_slice(), 3),
     ];
     Left {
         other,
@@ -267,13 +252,13 @@ pub fn tried<F: FarStore + Drop, R: Wait>(
     store: F,
     rows: &[Row],
 ) -> Result<Left, Fail> {
-    let bodies = objects(alloc, 2)?;
+    let bodies = objects(alloc, 2, 8)?;
     tried_over(rt, alloc, store, bodies, rows)
 }
 
 /// The same over objects 1 and 3, which stay within the agent. There is no object 2.
 pub fn tried_with_a_gap<R: Wait>(rt: &R, alloc: Global, rows: &[Row]) -> Result<Left, Fail> {
-    let mut bodies = objects(alloc, 2)?;
+    let mut bodies = objects(alloc, 2, 8)?;
     bodies.insert(1, Vec::new(alloc))?;
     tried_over(rt, alloc, OwnStore::new(alloc), bodies, rows)
 }

@@ -46,11 +46,6 @@ in_bytes bodies n h = let e = length-map bodies bytes_in in omega arith
 pub near_one : (bodies : List Kept) (n : ℕ) → n < length bodies → near_length (place_of (map place_in bodies) n) (bytes_of (map bytes_in bodies) n) ≤ near_bytes (map bytes_in bodies) (map place_in bodies)
 near_one bodies n h = let g = near_placed (map bytes_in bodies) (map place_in bodies) n Far (in_bytes bodies n h) (same_length bodies) in omega (arith, g)
 
--- what leaves the budget fits it
-pub fits_budget : (bodies : List Kept) (windows : List (List ℕ)) (budget spare n : ℕ) (from : Place) → IsKeptStore bodies windows budget spare → n < length bodies → place_of (map place_in bodies) n ≡ from
-    → spare + near_length from (bytes_of (map bytes_in bodies) n) ≤ budget
-fits_budget bodies windows budget spare n from k h p = let g = rw p at (near_one bodies n h) in omega (arith, g, k.left)
-
 -- ---- changes
 
 -- to another place

@@ -5,7 +5,7 @@ use Rattle.std.proofs.Math.ListN.{get_or-eq_default}
 use Rattle.std.proofs.Math.Seq.{map-set_same}
 use Rattle.far_store.specs.declared.places.Place.TheVariants as place
 use Rattle.far_store.specs.declared.places.Place.{Place}
-use Rattle.object_store.specs.Bodies.{Kept, bytes_in, place_in, scopes_in, sent_in}
+use Rattle.object_store.specs.Bodies.{Kept, IsPlaced, IsCounted, bytes_in, place_in, scopes_in, sent_in}
 use Rattle.object_store.specs.Stores.{Sent, unsent}
 
 pub bytes_at : (bodies : List Kept) (i : ℕ) (d : Kept) → i < length bodies → (get_or bodies i d).bytes ≡ get_or (map bytes_in bodies) i []
@@ -63,6 +63,27 @@ scopes_by bodies i d b f h e = map-set scopes_in bodies i b ∙ ap (set (map sco
 
 pub sent_by : (bodies : List Kept) (i : ℕ) (d b : Kept) (f : Sent → Sent) → i < length bodies → sent_in b ≡ f (sent_in (get_or bodies i d)) → map sent_in (set bodies i b) ≡ set (map sent_in bodies) i (f (get_or (map sent_in bodies) i unsent))
 sent_by bodies i d b f h e = map-set sent_in bodies i b ∙ ap (set (map sent_in bodies) i) (e ∙ ap f (sent_at bodies i d h))
+
+-- ---- of all parts of it
+
+-- in another place
+pub placed_at : (bodies : List Kept) (i : ℕ) (d b : Kept) (p : Place) → b ≡ record (get_or bodies i d) { place = p } → IsPlaced bodies i p (set bodies i b)
+placed_at bodies i d b p e = record {
+  bytes = bytes_same bodies i b d (ap bytes_in e);
+  places = place_by bodies i b p (ap place_in e);
+  counts = scopes_same bodies i b d (ap scopes_in e);
+  sent = sent_same bodies i b d (ap sent_in e);
+}
+
+-- held by another number of windows
+pub counted_at : (bodies : List Kept) (i : ℕ) (d b : Kept) (f : ℕ → ℕ) → i < length bodies → b ≡ record (get_or bodies i d) { scopes = f (get_or bodies i d).scopes }
+    → IsCounted bodies (set (map scopes_in bodies) i (f (get_or (map scopes_in bodies) i 0))) (set bodies i b)
+counted_at bodies i d b f h e = record {
+  counts = scopes_by bodies i d b f h (ap scopes_in e);
+  bytes = bytes_same bodies i b d (ap bytes_in e);
+  places = places_same bodies i b d (ap place_in e);
+  sent = sent_same bodies i b d (ap sent_in e);
+}
 
 -- an access
 pub ruleset at_steps = (bytes_at, no_bytes_at, place_at, scopes_at, bytes_set, places_same, scopes_same, parcel_at, clean_at, sent_set)

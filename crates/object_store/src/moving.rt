@@ -6,7 +6,7 @@ ghost use Rattle.object_store.specs.Asking.{forgets, leave_calls};
 ghost use Rattle.far_store.specs.Calls.Call.{Get};
 ghost use Rattle.far_store.specs.Calls.{Calls, parcel_of, AsksInVain};
 ghost use Rattle.object_store.specs.Calls.{FailsToReturn};
-ghost use Rattle.object_store.specs.Bodies.{bytes_in, place_in, scopes_in, sent_in, BytesBack};
+ghost use Rattle.object_store.specs.Bodies.{bytes_in, place_in, scopes_in, sent_in, BytesBack, IsPlaced};
 ghost use Rattle.far_store.specs.declared.places.Place.TheVariants as place;
 
 use crate::bodies::Body;
@@ -34,10 +34,7 @@ pub fn begin_leave_at<F: FarStore>(bodies: &mut [Body<F>], number: usize)
     requires found { number < length bodies.old }
     requires here { place_of (map place_in bodies.old) number ≡ place.Here }
     requires alone { get_or (map scopes_in bodies.old) number 0 ≡ 0 }
-    ensures bytes { map bytes_in bodies.new ≡ map bytes_in bodies.old }
-    ensures places { map place_in bodies.new ≡ set (map place_in bodies.old) number place.Leaving }
-    ensures counts { map scopes_in bodies.new ≡ map scopes_in bodies.old }
-    ensures sent { map sent_in bodies.new ≡ map sent_in bodies.old }
+    ensures { IsPlaced bodies.old number place.Leaving bodies.new }
 {
     bodies[number].begin_leave();
 }
@@ -73,10 +70,7 @@ pub fn end_leave_at<F: FarStore>(
 pub fn begin_return_at<F: FarStore>(bodies: &mut [Body<F>], number: usize)
     requires found { number < length bodies.old }
     requires far { place_of (map place_in bodies.old) number ≡ place.Far }
-    ensures bytes { map bytes_in bodies.new ≡ map bytes_in bodies.old }
-    ensures places { map place_in bodies.new ≡ set (map place_in bodies.old) number place.Returning }
-    ensures counts { map scopes_in bodies.new ≡ map scopes_in bodies.old }
-    ensures sent { map sent_in bodies.new ≡ map sent_in bodies.old }
+    ensures { IsPlaced bodies.old number place.Returning bodies.new }
 {
     bodies[number].begin_return();
 }

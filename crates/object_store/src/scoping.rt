@@ -1,8 +1,8 @@
 //! Which objects the windows hold.
-ghost use Rattle.std.specs.Prelude.{◌≡◌, ◌<◌, ◌≤◌, ◌+◌, ◌-◌, [], false, length, map, set, get_or, IfSome};
+ghost use Rattle.std.specs.Prelude.{◌≡◌, ◌<◌, ◌≤◌, [], false, length, map, set, get_or, Some, IfSome};
 ghost use Rattle.scopes.specs.Windows.{holds, noted, pushed_out};
 ghost use Rattle.object_store.specs.Stores.{window_count, window_of};
-ghost use Rattle.object_store.specs.Bodies.{CountsHold, lessened, bytes_in, place_in, scopes_in, sent_in};
+ghost use Rattle.object_store.specs.Bodies.{CountsHold, IsCounted, grown, lessened, bytes_in, place_in, scopes_in, sent_in};
 
 use crate::bodies::Body;
 use far_store::FarStore;
@@ -13,10 +13,7 @@ use scopes::Window;
 fn open_scope<F: FarStore>(bodies: &mut [Body<F>], number: usize)
     requires object { number < length bodies.old }
     requires fits { get_or (map scopes_in bodies.old) number 0 < 255 }
-    ensures counts { map scopes_in bodies.new ≡ set (map scopes_in bodies.old) number (get_or (map scopes_in bodies.old) number 0 + 1) }
-    ensures bytes { map bytes_in bodies.new ≡ map bytes_in bodies.old }
-    ensures places { map place_in bodies.new ≡ map place_in bodies.old }
-    ensures sent { map sent_in bodies.new ≡ map sent_in bodies.old }
+    ensures { IsCounted bodies.old (grown number (map scopes_in bodies.old)) bodies.new }
 {
     bodies[number].open_scope();
 }
@@ -26,10 +23,7 @@ fn open_scope<F: FarStore>(bodies: &mut [Body<F>], number: usize)
 fn end_scope<F: FarStore>(bodies: &mut [Body<F>], number: usize)
     requires object { number < length bodies.old }
     requires held { 0 < get_or (map scopes_in bodies.old) number 0 }
-    ensures counts { map scopes_in bodies.new ≡ set (map scopes_in bodies.old) number (get_or (map scopes_in bodies.old) number 0 - 1) }
-    ensures bytes { map bytes_in bodies.new ≡ map bytes_in bodies.old }
-    ensures places { map place_in bodies.new ≡ map place_in bodies.old }
-    ensures sent { map sent_in bodies.new ≡ map sent_in bodies.old }
+    ensures { IsCounted bodies.old (lessened (Some number) (map scopes_in bodies.old)) bodies.new }
 {
     bodies[number].close_scope();
 }
@@ -38,10 +32,7 @@ fn end_scope<F: FarStore>(bodies: &mut [Body<F>], number: usize)
 #[inline(always)]
 fn end_pushed<F: FarStore>(bodies: &mut [Body<F>], out: Option<u32>)
     requires held { IfSome out (λ n. 0 < get_or (map scopes_in bodies.old) n 0) }
-    ensures counts { map scopes_in bodies.new ≡ lessened out (map scopes_in bodies.old) }
-    ensures bytes { map bytes_in bodies.new ≡ map bytes_in bodies.old }
-    ensures places { map place_in bodies.new ≡ map place_in bodies.old }
-    ensures sent { map sent_in bodies.new ≡ map sent_in bodies.old }
+    ensures { IsCounted bodies.old (lessened out (map scopes_in bodies.old)) bodies.new }
 {
     if let Some(number) = out {
         end_scope(bodies, number as usize);
@@ -76,10 +67,7 @@ fn note_new<F: FarStore>(bodies: &mut [Body<F>], window: &mut Window, number: u3
     requires held { IfSome (pushed_out number window.old) (λ n. 0 < get_or (map scopes_in bodies.old) n 0) }
     requires fits { get_or (lessened (pushed_out number window.old) (map scopes_in bodies.old)) number 0 < 255 }
     ensures window { window.new ≡ noted number window.old }
-    ensures counts { map scopes_in bodies.new ≡ set (lessened (pushed_out number window.old) (map scopes_in bodies.old)) number (get_or (lessened (pushed_out number window.old) (map scopes_in bodies.old)) number 0 + 1) }
-    ensures bytes { map bytes_in bodies.new ≡ map bytes_in bodies.old }
-    ensures places { map place_in bodies.new ≡ map place_in bodies.old }
-    ensures sent { map sent_in bodies.new ≡ map sent_in bodies.old }
+    ensures counted { IsCounted bodies.old (grown number (lessened (pushed_out number window.old) (map scopes_in bodies.old))) bodies.new }
 {
     let out = window.note_new(number);
     end_pushed(bodies, out);

@@ -135,14 +135,14 @@ impl<F: FarStore> ObjectStore<F> {
         ensures asks { AsksToFree F.called self.old number result self.new }
     {
         let index = number as usize;
-        match place_at(self.bodies.as_slice(), index) {
+        match self.place(number) {
             None => Moved::NoObject,
             Some(Place::Here) => {
                 let bodies = self.bodies.as_slice();
                 if scopes_at(bodies, index) > 0 {
                     return Moved::Scoped;
                 }
-                let freed = length_at(bodies, index) as u32;
+                let freed = self.length(number as u64) as u32;
                 let bodies = self.bodies.as_mut_slice();
                 free_at(self.alloc, &mut self.store, bodies, index);
                 self.spare += freed;
@@ -257,7 +257,7 @@ impl<F: FarStore> ObjectStore<F> {
         ensures asks { AsksNothing self.old self.new }
     {
         let index = number as usize;
-        match place_at(self.bodies.as_slice(), index) {
+        match self.place(number) {
             None => Moved::NoObject,
             Some(Place::Here) => {
                 if scopes_at(self.bodies.as_slice(), index) > 0 {
@@ -276,10 +276,10 @@ impl<F: FarStore> ObjectStore<F> {
         ensures asks { AsksToLeave F.called self.old number result self.new }
     {
         let index = number as usize;
-        match place_at(self.bodies.as_slice(), index) {
+        match self.place(number) {
             None => Moved::NoObject,
             Some(Place::Leaving) => {
-                let gained = length_at(self.bodies.as_slice(), index) as u32;
+                let gained = self.length(number as u64) as u32;
                 let bodies = self.bodies.as_mut_slice();
                 match end_leave_at(self.alloc, &mut self.store, bodies, index) {
                     Ok(()) => {
@@ -299,10 +299,10 @@ impl<F: FarStore> ObjectStore<F> {
         ensures asks { AsksNothing self.old self.new }
     {
         let index = number as usize;
-        match place_at(self.bodies.as_slice(), index) {
+        match self.place(number) {
             None => Moved::NoObject,
             Some(Place::Far) => {
-                let needed = length_at(self.bodies.as_slice(), index) as u32;
+                let needed = self.length(number as u64) as u32;
                 if needed > self.spare {
                     return Moved::NoRoom;
                 }
@@ -320,10 +320,10 @@ impl<F: FarStore> ObjectStore<F> {
         ensures asks { AsksToReturn F.RETURNS F.called self.old number result self.new }
     {
         let index = number as usize;
-        match place_at(self.bodies.as_slice(), index) {
+        match self.place(number) {
             None => Moved::NoObject,
             Some(Place::Returning) => {
-                let length = length_at(self.bodies.as_slice(), index) as u32;
+                let length = self.length(number as u64) as u32;
                 let bodies = self.bodies.as_mut_slice();
                 match end_return_at(&mut self.store, bodies, index) {
                     Ok(()) => Moved::Done,

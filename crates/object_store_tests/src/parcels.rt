@@ -2,12 +2,13 @@
 
 use crate::acts::{Act, Answer, DONE, EXCHANGE, LOAD_DOUBLE, tells};
 use crate::compared::same;
-use crate::stores::{Asked, counting_objects};
+use crate::stores::counting_objects;
 use memory::Reach;
 use std::alloc::{AllocError, Global};
 use std::process::Abort;
 use std::rc::Rc;
 use std::test::Fail;
+use test_devices::Asked;
 
 /// Puts, gets and forgets of the far store after acts that are answered so, and after more of them.
 fn counts_after(

@@ -2,13 +2,14 @@
 
 use crate::acts::{Act, Answer, DONE, shown, tells};
 use crate::compared::same;
-use crate::stores::{Asked, counting_objects, own_objects};
+use crate::stores::{counting_objects, own_objects};
 use far_store::FarStore;
 use object_store::{ObjectStore, PartsError, Place};
 use std::alloc::Global;
 use std::process::Abort;
 use std::rc::Rc;
 use std::test::Fail;
+use test_devices::Asked;
 
 /// A body, if there is one at this index.
 fn body_at(bodies: &[Vec<u8>], index: usize) -> Option<Answer> {

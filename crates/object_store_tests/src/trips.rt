@@ -3,9 +3,7 @@ ghost use Rattle.std.specs.Prelude.{◌≤◌};
 
 use crate::acts::{Act, Answer, tells};
 use crate::compared::same;
-use crate::stores::{
-    AMPLE, Asked, Call, Grudging, LOGGED, Single, counting_objects, failing_objects,
-};
+use crate::stores::{AMPLE, Unwilling, counting_objects, failing_objects};
 use far_store::{FarStore, StoreFault};
 use memory::OBJECT_BYTES;
 use object_store::{Moved, ObjectStore, PartsError, Place, PutError};
@@ -13,6 +11,7 @@ use std::alloc::{AllocError, Global};
 use std::process::Abort;
 use std::rc::Rc;
 use std::test::Fail;
+use test_devices::{Asked, Call, LOGGED};
 
 /// An object leaves and has left, returns and has returned.
 fn go<F: FarStore>(objects: &mut ObjectStore<F>, number: u32) -> [Moved; 4] {
@@ -315,7 +314,7 @@ fn faults_after<F: FarStore + Drop>(
 
 /// The same of two objects over a store with room for a single parcel.
 fn single(rt: &impl Abort, alloc: Global, rest: &[(Act, Answer)]) -> Result<u64, Fail> {
-    let objects = ObjectStore::new(alloc, AMPLE, Single::new(alloc))?;
+    let objects = ObjectStore::new(alloc, AMPLE, Unwilling::single(alloc))?;
     Ok(faults_after(rt, objects, TWO, rest)?)
 }
 
@@ -403,7 +402,7 @@ const FORGOTTEN: &[(Act, Answer)] = &[
 
 #[test]
 fn a_fault_of_forget_is_counted_and_not_told(rt: HostRuntime) -> Result<(), Fail> {
-    let objects = ObjectStore::new(rt.alloc(), AMPLE, Grudging::new(rt.alloc()))?;
+    let objects = ObjectStore::new(rt.alloc(), AMPLE, Unwilling::grudging(rt.alloc()))?;
     same!(rt; faults_after(&rt, objects, MADE_TWO, FORGOTTEN)?, 3);
     Ok(())
 }

@@ -16,16 +16,26 @@ pub enum WordPlace {
     Far,
 }
 
+/// The bits of a word's number that say where the object is. If it is here, they are zero.
+pub const PLACE: u64 = 0x3;
+
+/// One place farther, added to a word's number: from here to moving, and from moving to far.
+pub const FARTHER: u64 = 0x1;
+
+/// The bit of a word's number that says that an actor has the turn.
+pub const TURN: u64 = 0x4;
+
+/// The bit of a word's number that says that the object was used lately.
+pub const HOT: u64 = 0x8;
+
+/// One scope more, added to a word's number.
+pub const SCOPE: u64 = 0x100;
+
+/// One stamp more, added to a word's number. The number divided by it is the stamp, and the rest holds all other fields.
+pub const STAMP: u64 = 0x1_0000;
+
 /// The greatest stamp.
 pub const STAMP_LIMIT: u64 = 0xffff_ffff_ffff;
-
-const PLACE: u64 = 0x3;
-
-const TURN: u64 = 0x4;
-
-const HOT: u64 = 0x8;
-
-const SCOPE: u64 = 0x100;
 
 /// An object's word, kept in 64 bits: bits 0 and 1 are its place, bit 2 says that an actor has its turn, bit 3 that it
 /// was used lately, bits 4 to 7 are zero, bits 8 to 15 count the scopes that are open on it, bits 16 to 63 are its stamp.
@@ -97,21 +107,21 @@ impl Word {
     pub fn scopes(&self) -> u8
         ensures { result ≡ self.now.count }
     {
-        (self.bits >> 8 & 0xff) as u8
+        (self.bits / SCOPE & 0xff) as u8
     }
 
     /// The stamp of the last entry of the object's history; 0 where it has none.
     pub fn stamp(&self) -> u64
         ensures { result ≡ self.now.stamp }
     {
-        self.bits >> 16
+        self.bits / STAMP
     }
 
     /// Whether an actor has the object's turn.
     pub fn has_turn(&self) -> bool
         ensures { result ≡ self.now.turn }
     {
-        self.bits >> 2 & 1 == 1
+        self.bits / TURN % 2 == 1
     }
 
     /// One more scope, where there are fewer than 255.
@@ -177,7 +187,7 @@ impl Word {
     {
         if self.has_turn() && stamp >= self.stamp() && stamp <= STAMP_LIMIT {
             Some(Word {
-                bits: self.bits - TURN + (stamp - self.stamp() << 16),
+                bits: self.bits - TURN + (stamp - self.stamp()) * STAMP,
             })
         } else {
             None
@@ -199,7 +209,7 @@ impl Word {
     {
         if self.bits & PLACE == 0 && self.scopes() == 0 && !self.has_turn() {
             Some(Word {
-                bits: cold(self.bits) + 1,
+                bits: cold(self.bits) + FARTHER,
             })
         } else {
             None
@@ -212,7 +222,7 @@ impl Word {
     {
         if self.bits & PLACE == 1 {
             Some(Word {
-                bits: self.bits + 1,
+                bits: self.bits + FARTHER,
             })
         } else {
             None
@@ -225,7 +235,7 @@ impl Word {
     {
         if self.bits & PLACE == 2 {
             Some(Word {
-                bits: self.bits - 1,
+                bits: self.bits - FARTHER,
             })
         } else {
             None
@@ -238,7 +248,7 @@ impl Word {
     {
         if self.bits & PLACE == 1 {
             Some(Word {
-                bits: self.bits - 1,
+                bits: self.bits - FARTHER,
             })
         } else {
             None

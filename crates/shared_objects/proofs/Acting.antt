@@ -1,5 +1,7 @@
 -- A seat after a call of its actor.
-use Rattle.std.proofs.Common.{◌≡◌, ℕ, ◌+◌, ◌<◌, ◌≤◌, List, [], ◌∷◌, length, sym, refl, ap, ◌∙◌, subst, arith, None, zero, suc, ◌++◌, take, drop, length-take, length-drop}
+use Rattle.std.proofs.Common.{◌≡◌, ℕ, ◌+◌, ◌<◌, ◌≤◌, List, [], ◌∷◌, length, sym, refl, ap, ◌∙◌, subst, arith, None, zero, map, suc, ◌++◌, take, drop, length-take, length-drop}
+use Rattle.std.proofs.lemmas.List.{length-map}
+use Rattle.atomic_table.specs.Table.{rest}
 use Rattle.isa_table.specs.declared.instr.Size.{Size}
 use Rattle.isa_table.specs.declared.instr.Size.TheVariants as size
 use Rattle.isa_table.specs.Table.{size_bytes}
@@ -7,10 +9,14 @@ use Rattle.memory.specs.declared.access.Op.{Op}
 use Rattle.memory.specs.Access.{size_of, count_of, part}
 use Rattle.shared_objects.specs.declared.body.Body.{Body}
 use Rattle.memory.specs.Objects.{bytes_of}
-use Rattle.shared_objects.specs.Kinds.{Sat, shut}
+use Rattle.shared_objects.specs.Kinds.{Sat, shut, looking, marked, recorded, worn_out}
 use Rattle.scopes.specs.Windows.{noted}
 use Rattle.shared_objects.specs.History.{top}
-use Rattle.shared_objects.specs.Resting.{Rests, AllBelow}
+use Rattle.memory.specs.Deeds.{EndsInside, given_by, left_by}
+use Rattle.shared_objects.specs.declared.view.Entry.{Entry}
+use Rattle.shared_objects.specs.declared.view.Mark.TheVariants.{Busy}
+use Rattle.shared_objects.proofs.Logs.{top-snoc}
+use Rattle.shared_objects.specs.Resting.{Rests, AllBelow, HoldsBody}
 use Rattle.shared_objects.proofs.Noted.{below_noted}
 use Rattle.shared_objects.specs.declared.view.View.{View}
 
@@ -33,7 +39,7 @@ none_above (x ∷ xs) zero h = absurd (omega arith)
 none_above (x ∷ xs) (suc n) h = none_above xs n (omega arith)
 
 -- a seat after a call that noted an object
-pub noted_seat : (old new : Sat) (w : View) (window after : List ℕ) (n stamp : ℕ) → Rests old → old.0.scopes ≡ window → AllBelow (length old.0.opening) window → new ≡ (w, []) → after ≡ noted n window
+noted_seat : (old new : Sat) (w : View) (window after : List ℕ) (n stamp : ℕ) → Rests old → old.0.scopes ≡ window → AllBelow (length old.0.opening) window → new ≡ (w, []) → after ≡ noted n window
     → w.scopes ≡ noted n old.0.scopes → w.turn ≡ None → w.live ≡ old.0.live → w.made ≡ old.0.made → w.gathered ≡ old.0.gathered → w.passing ≡ old.0.passing → w.out ≡ old.0.out → w.opening ≡ old.0.opening
     → n < length old.0.opening → top 0 w.entries ≤ stamp
     → Rests new × (new.0.scopes ≡ after) × AllBelow (length new.0.opening) after × (top 0 new.0.entries ≤ stamp)
@@ -43,6 +49,42 @@ noted_seat old new w window after n stamp r opens near is then scopes t a b c d 
   subst (λ (m : Sat). AllBelow (length m.0.opening) after) (sym is) (subst (λ (o : List (List ℕ)). AllBelow (length o) after) (sym opening) (subst (AllBelow (length old.0.opening)) (sym then) (below_noted (length old.0.opening) n window near lt))),
   subst (λ (m : Sat). top 0 m.0.entries ≤ stamp) (sym is) low,
 )
+
+-- an actor's seat, with its window and its stamp, between two calls
+abbrev ActorFits : Sat → List ℕ → ℕ → Type 0
+ActorFits m window stamp = Rests m × (m.0.scopes ≡ window) × AllBelow (length m.0.opening) window × (top 0 m.0.entries ≤ stamp)
+
+module _ (old new : Sat) (window after : List ℕ) (n stamp : ℕ) (fits : ActorFits old window stamp) (lt : n < length old.0.opening) (then : after ≡ noted n window) where
+  -- another had the turn
+  pub busy_seat : new ≡ (marked (Busy n) (looking n old.0), []) → ActorFits new after stamp
+  busy_seat is = noted_seat old new _ window after n stamp fits.0 fits.1 fits.2 is then refl fits.0.1 refl refl refl refl refl refl lt fits.3
+
+  -- the stamps have run out
+  pub worn_seat : (found : ℕ) → new ≡ (worn_out n found (looking n old.0), []) → ActorFits new after stamp
+  worn_seat found is = noted_seat old new _ window after n stamp fits.0 fits.1 fits.2 is then refl refl refl refl refl refl refl refl lt fits.3
+
+  -- there is one entry more
+  pub done_seat : (e : Entry) → new ≡ (recorded e (looking n old.0), []) → ActorFits new after e.stamp
+  done_seat e is = noted_seat old new _ window after n e.stamp fits.0 fits.1 fits.2 is then refl refl refl refl refl refl refl refl lt (omega (arith, top-snoc 0 old.0.entries e))
+
+-- an object of the table is one of its opening
+pub opened_at : (lengths : List ℕ) (key opening : List (List ℕ)) (n : ℕ) → lengths ≡ map length key → opening ≡ key → n < length lengths → n < length opening
+opened_at lengths key opening n sizes same lt = omega (arith, ap length sizes, length-map key length, ap length same)
+
+-- the body that a seat has is its first
+pub first_held : (m : Sat) (n : ℕ) (P : Body → Type 0) → HoldsBody m n P → (body : Body) × (m.1 ≡ (n, body) ∷ rest m.1)
+first_held m n P h = (h.0, h.1 ∙ ap (λ l. (n, h.0) ∷ rest l) (sym h.1))
+
+-- a body that a seat has alone is alone also where it is another
+pub still_alone : (m : Sat) (n : ℕ) (P : Body → Type 0) → HoldsBody m n P → (body : Body) → (n, body) ∷ rest m.1 ≡ (n, body) ∷ []
+still_alone m n P h body = ap (λ l. (n, body) ∷ rest l) h.1
+
+-- what is known of an entry's deed and answer is known of an equal entry
+pub told_by : (m : Sat) (n : ℕ) (bytes : List ℕ) (e f : Entry) → e ≡ f → EndsInside f.deed (length bytes) → f.given ≡ given_by f.deed bytes → HoldsBody m n (λ body. body.bytes.items ≡ left_by f.deed bytes)
+    → EndsInside e.deed (length bytes) × (e.given ≡ given_by e.deed bytes) × HoldsBody m n (λ body. body.bytes.items ≡ left_by e.deed bytes)
+told_by m n bytes e f is inside given held =
+    let Fit : Entry → Type 0 = λ x. EndsInside x.deed (length bytes) × (x.given ≡ given_by x.deed bytes) × HoldsBody m n (λ body. body.bytes.items ≡ left_by x.deed bytes) in
+    subst Fit (sym is) (inside, given, held)
 
 -- all of a vector is written over
 pub take_whole : (new old : List ℕ) → length new ≡ length old → take (length new) (new ++ drop (length new) old) ≡ new

@@ -8,13 +8,14 @@ use native.Mathlib.Decide.{ℕ_discrete}
 use mathlib.Core.Option.{some, none, some-injective, some-ne-none}
 use mathlib.Core.Option as maybe
 use lib.ListN.{get_elem?}
-use Rattle.atomic_table.specs.Table.{State, step, Act, keeps, takes, gives, Allows, Splits, opening}
-use Rattle.atomic_table.proofs.Lists.{at_set, set_else, at_longer}
+use Rattle.atomic_table.specs.Table.{step, keeps, takes, Allows, Splits, opening}
+use Rattle.atomic_table.proofs.Lists.{set_here, at_set, set_else, at_longer}
 use Rattle.memory.specs.Deeds.{EndsInside, given_by, left_by}
-use Rattle.shared_objects.specs.History.{Has, Rises, top}
+use Rattle.shared_objects.specs.History.{Has, top}
 use Rattle.memory.specs.Objects.{bytes_of}
-use Rattle.shared_objects.specs.Rule.{total, same, has_turn, has_open, has_pass, has_moving, has_far, place_of, bytes_taken, is_moving, is_far, is_live, spent, Written, PartFits, TurnFits, MarkFits, Stands, turns_on, word_of, tally, Knows, Kept}
-use Rattle.shared_objects.specs.Kinds.{Sat, object_at, turn, with_scope, without_scope, with_pass, without_pass, marked, holding, recorded, worn_out, opens_scope, closes_scope, leaves_pass, takes_turn, gives_turn, gives_up_turn, Took, dealer, dealt, newcomer}
+use Rattle.shared_objects.specs.Rule.{total, times, same, has_turn, has_open, has_pass, has_moving, has_far, bytes_taken, is_moving, is_far, is_live, spent, Written, PartFits, TurnFits, MarkFits, Stands, turns_on, word_of, tally, Knows, Kept}
+use Rattle.shared_objects.specs.Kinds.{Sat, object_at, turn, with_scope, without, without_scope, with_pass, without_pass, marked, holding, recorded, worn_out, opens_scope, closes_scope, leaves_pass, takes_turn, gives_turn, gives_up_turn, Took, dealer, dealt, newcomer}
+use Rattle.shared_objects.specs.Rule.SlotFits.{AtHome, Lent}
 use Rattle.shared_objects.specs.declared.body.Body.{Body}
 use Rattle.shared_objects.specs.declared.view.Entry.{Entry}
 use Rattle.shared_objects.specs.declared.view.Turn.{Turn}
@@ -25,7 +26,8 @@ use Rattle.shared_objects.specs.declared.view.View.{View}
 use Rattle.shared_objects.specs.declared.view.Mark.TheVariants.{Away, Busy, Worn}
 use Rattle.shared_objects.proofs.Sums.{at_end, total-set, total-append, term_le, total_few, set_there, is_here, is_else, times-snoc, times-without, times-without_other}
 use Rattle.shared_objects.proofs.Logs.{object_home, length-left_by, has_longer, has_last, has_snoc, Rises-snoc, Chained-snoc, AllInside-snoc, top-snoc, fold-snoc, Answers-snoc}
-use Rattle.shared_objects.proofs.Moves.{St, state, same_fits, grown, grown_same, grown_here, grown_else, moves, mark_stays, turn_here, no_live, SameSeat, tally_set, out_weighs, slot_of, body_in, body_out, body_far}
+use Rattle.shared_objects.proofs.Steps.{keeps_slot, moves_slot, gives_back, is_in}
+use Rattle.shared_objects.proofs.Moves.{St, state, same_fits, grown, grown_here, grown_else, moves, entry_stays, mark_stays, turn_here, no_live, out_weighs, body_in}
 
 -- the marks of a turn and of heat are set
 or_turn : (x : ℕ) → bit_or x 12 + (x / 4 % 2 * 4 + x / 8 % 2 * 8) ≡ x + 12
@@ -53,43 +55,23 @@ module _ (returns : Bool) (key : List (List ℕ)) (s : St) (o : Kept returns key
   pub few_open : (n : ℕ) → total (has_open n) s.views + total (has_pass n) s.views ≤ 57
   few_open n = let a = total_few (λ v. has_open n v + has_pass n v) s.views (λ j v e. (o.seats.knows j v e).opens_once n) in let b = o.seats.few in let c = total-sum (has_open n) (has_pass n) s.views in omega arith
 
-  -- what a seat knows that changes neither its turn nor its entries
-  pub same_knows : (id : ℕ) (v w : View) (n : ℕ) → get_elem? s.views id ≡ some v → v.live ≡ true → SameSeat v w → w.turn ≡ v.turn → w.entries ≡ v.entries
-      → ((m : Mark) → Has w.marks m → MarkFits o.logs m)
-      → (id ≡ 0 → (w.scopes ≡ []) × (w.passing ≡ []))
-      → ((t : Turn) → v.turn ≡ Some t → length w.scopes ≤ 4)
-      → ((m : ℕ) (bytes : List ℕ) → bytes_taken (place_of w m) ≡ Some bytes → Stands returns (bytes_of key m) (o.logs m) bytes)
-      → ((m : ℕ) → has_open m w + has_pass m w ≤ 1) → Knows returns key (grown o.logs n (o.logs n)) id w
-  same_knows id v w n me alive_ sm t e marks shut few away once = let k = o.seats.knows id v me in subst (λ l. Knows returns key l id w) (grown_same o.logs n) (record {
-    actor = λ _. sm.4 ∙ k.actor alive_;
-    opening_is = λ _. sm.5 ∙ k.opening_is alive_;
-    returns_is = λ _. sm.6 ∙ k.returns_is alive_;
-    idle = λ no. absurd (no_live (sym no ∙ sm.2 ∙ alive_));
-    first = λ z. (subst (λ q. 0 < q) (sym sm.0) (k.first z).0, (shut z).0, (shut z).1);
-    alone = λ ne. sm.3 ∙ k.alone ne;
-    opens_once = once;
-    turn = λ u is. let q = k.turn u (sym t ∙ is) in (q.0, q.1, few u (sym t ∙ is));
-    out = away;
-    entries = λ x has. k.entries x (subst (λ l. Has l x) e has);
-    marks = marks;
-    rises = subst (Rises 0) (sym e) k.rises;
-  })
-
   -- an actor's seat is not the first
   pub not_first : (id : ℕ) (v : View) → get_elem? s.views id ≡ some v → v.made ≡ 0 → id ≡ 0 → ⊥
   not_first id v me young z = let h = ((o.seats.knows id v me).first z).0 in omega (arith, young)
 
   -- the same number is written, and the seat does nothing
   pub unmoved : (id : ℕ) (v : View) (n : ℕ) → get_elem? s.views id ≡ some v → v.live ≡ true → n < length key → Kept returns key (state (set s.words (word_of n) (slice_index s.words (word_of n))) s.homes (set s.views id v))
-  unmoved id v n me alive_ near = let k = o.seats.knows id v me in moves returns key s o id v v n (slice_index s.words (word_of n)) s.homes (o.logs n) me near alive_ refl (λ _ _. refl)
-      (λ _ _. record { turns = refl; opens = refl; passes = refl; moving = refl; far = refl }) (refl, refl, refl, refl, refl, refl, refl)
-      (same_fits _ _ _ _ _ _ _ _ _ _ (tally_set s.views id v v n me (record { turns = refl; opens = refl; passes = refl; moving = refl; far = refl })) refl refl refl (o.objects.fits n near))
-      (same_knows id v v n me alive_ (refl, refl, refl, refl, refl, refl, refl) refl refl k.marks (λ z. let h = k.first z in (h.1, h.2)) (λ t is. (k.turn t is).2) k.out k.opens_once)
-      (λ e h. h) (λ e h. inl h) (λ e h. h) (omega arith) (inl refl)
+  unmoved id v n me alive_ near = let f = o.objects.fits n near in let k = o.seats.knows id v me in
+      keeps_slot returns key s o id v n (slice_index s.words (word_of n)) f.hot me near alive_ f.one_hot v.scopes v.passing v.marks v.coolings
+      (λ _ _. (refl, refl)) (k.opens_once n) (λ opens passes a b. (omega (arith, f.word_is), λ out. let h = f.here out in omega arith)) k.first k.turn k.marks
 
 -- one mark more
 mark_more : (returns : Bool) (key : List (List ℕ)) (s : St) (o : Kept returns key s) (id : ℕ) (v : View) (new : Mark) → get_elem? s.views id ≡ some v → MarkFits o.logs new → (m : Mark) → Has (v.marks ++ new ∷ []) m → MarkFits o.logs m
 mark_more returns key s o id v new me h m has = ⊎_elim (λ old. (o.seats.knows id v me).marks m old) (λ e. subst (MarkFits o.logs) e h) (has_snoc v.marks new m has)
+
+-- a seat that has no turn has none that would have to fit
+turnless : (P : Turn → Type 0) (v : View) → v.turn ≡ None → (t : Turn) → v.turn ≡ Some t → P t
+turnless P v free t is = absurd (none_is_not t (sym free ∙ is))
 
 -- open scope
 pub opens_ok : (returns : Bool) (key : List (List ℕ)) (slots id : ℕ) (m : Sat) (n : ℕ) → n < slots → has_open n m.0 + has_pass n m.0 ≡ 0 → m.0.live ≡ true → m.0.made ≡ 0 → m.0.turn ≡ None
@@ -101,65 +83,26 @@ opens_ok returns key slots id m n lt shut alive_ young free s o wide me small =
     let k = o.seats.knows id v me in
     let x : ℕ = slice_index s.words (word_of n) in
     let away : ℕ = (tally n s.views).moving + (tally n s.views).far in
+    let more : (xs : List ℕ) (j : ℕ) → j ≢ n → times j (xs ++ n ∷ []) ≡ times j xs = λ xs j ne. omega (arith, times-snoc j n xs, is_else n j (λ e. ne (sym e))) in
+    let one : (xs : List ℕ) → times n (xs ++ n ∷ []) ≡ times n xs + 1 = λ xs. omega (arith, times-snoc n n xs, is_here n n refl) in
+    let opened = one v.scopes in let passed = one v.passing in
     dite (ℕ_discrete away 0)
-    (λ is_here_.
-    let w : View = with_scope n v in
-    let more : (j : ℕ) → has_open j w ≡ has_open j v + same n j = λ j. times-snoc j n v.scopes in
-    let one : has_open n w ≡ has_open n v + 1 = omega (arith, more n, is_here n n refl) in
-    let a = total-set (has_open n) s.views id v w me in let b = total-set (has_turn n) s.views id v w me in let c = total-set (has_pass n) s.views id v w me in
-    let d = total-set (has_moving n) s.views id v w me in let e = total-set (has_far n) s.views id v w me in (
-      w,
+    (λ is_here_. (
+      with_scope n v,
       keeps,
       tt,
-      moves returns key s o id v w n ((x + 256) % 2 ^ 64) s.homes (o.logs n) me near alive_ refl (λ _ _. refl)
-          (λ j ne. record { turns = refl; opens = omega (arith, more j, is_else n j (λ e. ne (sym e))); passes = refl; moving = refl; far = refl }) (refl, refl, refl, refl, refl, refl, refl)
-          (record {
-            hot = f.hot;
-            one_hot = f.one_hot;
-            word_is = omega (arith, f.word_is, f.one_hot, f.small, f.one_turn);
-            one_turn = omega (arith, f.one_turn);
-            one_out = omega (arith, f.one_out);
-            here = λ out. absurd (omega arith);
-            small = f.small;
-            chained = f.chained;
-            inside = f.inside;
-            answers = f.answers;
-            slot = slot_of _ _ _ _ _ (λ z. body_in f (omega arith))
-                (λ z. body_out f (omega arith))
-                (λ q. body_far f (omega arith));
-          })
-          (same_knows returns key s o id v w n me alive_ (refl, refl, refl, refl, refl, refl, refl) refl refl k.marks (λ z. absurd (not_first returns key s o id v me young z)) (λ t is. absurd (none_is_not t (sym free ∙ is))) k.out (λ j. dite (ℕ_discrete n j) (λ e. subst (λ i. has_open i w + has_pass i w ≤ 1) e (omega arith)) (λ ne. omega (arith, more j, is_else n j ne, k.opens_once j))))
-          (λ e h. h) (λ e h. inl h) (λ e h. h) (omega arith) (inl refl),
+      keeps_slot returns key s o id v n ((x + 256) % 2 ^ 64) f.hot me near alive_ f.one_hot (v.scopes ++ n ∷ []) v.passing v.marks v.coolings
+          (λ j ne. (more v.scopes j ne, refl)) (omega arith) (λ opens passes a b. (omega (arith, f.word_is, f.one_hot, f.small, f.one_turn), λ out. absurd (omega arith)))
+          (λ z. absurd (not_first returns key s o id v me young z)) (turnless _ v free) k.marks,
       ((λ _. ap (λ j. (with_scope j v, m.1)) (sym (object_home n))), λ ne. absurd (ne (omega (arith, f.word_is)))),
     ))
-    (λ is_away.
-    let w : View = with_pass n v in
-    let more : (j : ℕ) → has_pass j w ≡ has_pass j v + same n j = λ j. times-snoc j n v.passing in
-    let one : has_pass n w ≡ has_pass n v + 1 = omega (arith, more n, is_here n n refl) in
-    let a = total-set (has_open n) s.views id v w me in let b = total-set (has_turn n) s.views id v w me in let c = total-set (has_pass n) s.views id v w me in
-    let d = total-set (has_moving n) s.views id v w me in let e = total-set (has_far n) s.views id v w me in (
-      w,
+    (λ is_away. (
+      with_pass n v,
       keeps,
       tt,
-      moves returns key s o id v w n ((x + 256) % 2 ^ 64) s.homes (o.logs n) me near alive_ refl (λ _ _. refl)
-          (λ j ne. record { turns = refl; opens = refl; passes = omega (arith, more j, is_else n j (λ e. ne (sym e))); moving = refl; far = refl }) (refl, refl, refl, refl, refl, refl, refl)
-          (record {
-            hot = f.hot;
-            one_hot = f.one_hot;
-            word_is = omega (arith, f.word_is, f.one_hot, f.small, f.one_turn, f.one_out);
-            one_turn = omega (arith, f.one_turn);
-            one_out = omega (arith, f.one_out);
-            here = λ out. let h = f.here (omega arith) in omega arith;
-            small = f.small;
-            chained = f.chained;
-            inside = f.inside;
-            answers = f.answers;
-            slot = slot_of _ _ _ _ _ (λ z. body_in f (omega arith))
-                (λ z. body_out f (omega arith))
-                (λ q. body_far f (omega arith));
-          })
-          (same_knows returns key s o id v w n me alive_ (refl, refl, refl, refl, refl, refl, refl) refl refl (mark_more returns key s o id v (Away n) me tt) (λ z. absurd (not_first returns key s o id v me young z)) (λ t is. absurd (none_is_not t (sym free ∙ is))) k.out (λ j. dite (ℕ_discrete n j) (λ e. subst (λ i. has_open i w + has_pass i w ≤ 1) e (omega arith)) (λ ne. omega (arith, more j, is_else n j ne, k.opens_once j))))
-          (λ e h. h) (λ e h. inl h) (λ e h. h) (omega arith) (inl refl),
+      keeps_slot returns key s o id v n ((x + 256) % 2 ^ 64) f.hot me near alive_ f.one_hot v.scopes (v.passing ++ n ∷ []) (v.marks ++ Away n ∷ []) v.coolings
+          (λ j ne. (refl, more v.passing j ne)) (omega arith) (λ opens passes a b. (omega (arith, f.word_is, f.one_hot, f.small, f.one_turn, f.one_out), λ out. let h = f.here out in omega arith))
+          (λ z. absurd (not_first returns key s o id v me young z)) k.turn (mark_more returns key s o id v (Away n) me tt),
       ((λ q. let q' : x % 4 ≡ 0 = q in absurd (is_away (omega (arith, f.word_is, f.one_out, q')))), λ _. ap (λ j. (with_pass j v, m.1)) (sym (object_home n))),
     ))
 
@@ -167,37 +110,18 @@ opens_ok returns key slots id m n lt shut alive_ young free s o wide me small =
 pub closes_ok : (returns : Bool) (key : List (List ℕ)) (slots id : ℕ) (m : Sat) (n : ℕ) → n < slots → has_open n m.0 ≡ 1 → m.0.live ≡ true → m.0.made ≡ 0 → m.0.turn ≡ None
     → Allows (Kept returns key) slots id m (word_of n) (λ x. (x + (2 ^ 64 - 256)) % 2 ^ 64) (closes_scope (step slots (word_of n) 256 0 none) m)
 closes_ok returns key slots id m n lt held alive_ young free s o wide me small =
-    let v : View = m.0 in let w : View = without_scope n v in
+    let v : View = m.0 in
     let near : n < length key = omega (arith, o.objects.slots) in
     let f = o.objects.fits n near in let few = few_open returns key s o n in
-    let k = o.seats.knows id v me in
-    let less : has_open n w + 1 ≡ has_open n v = times-without n v.scopes (omega arith) in
-    let other : (j : ℕ) → j ≢ n → has_open j w ≡ has_open j v = λ j ne. times-without_other j n v.scopes ne in
-    let part = term_le (has_open n) s.views id v me in
-    let a = total-set (has_open n) s.views id v w me in let b = total-set (has_turn n) s.views id v w me in let c = total-set (has_pass n) s.views id v w me in
-    let d = total-set (has_moving n) s.views id v w me in let e = total-set (has_far n) s.views id v w me in (
-      w,
+    let k = o.seats.knows id v me in let once = k.opens_once n in
+    let less : times n (without n v.scopes) + 1 ≡ has_open n v = times-without n v.scopes (omega arith) in
+    let part = term_le (has_open n) s.views id v me in (
+      without_scope n v,
       keeps,
       tt,
-      moves returns key s o id v w n ((slice_index s.words (word_of n) + (2 ^ 64 - 256)) % 2 ^ 64) s.homes (o.logs n) me near alive_ refl (λ _ _. refl)
-          (λ j ne. record { turns = refl; opens = other j ne; passes = refl; moving = refl; far = refl }) (refl, refl, refl, refl, refl, refl, refl)
-          (record {
-            hot = f.hot;
-            one_hot = f.one_hot;
-            word_is = omega (arith, f.word_is, f.one_hot, f.small, f.one_turn, f.one_out);
-            one_turn = omega (arith, f.one_turn);
-            one_out = omega (arith, f.one_out);
-            here = λ out. let h = f.here (omega arith) in omega arith;
-            small = f.small;
-            chained = f.chained;
-            inside = f.inside;
-            answers = f.answers;
-            slot = slot_of _ _ _ _ _ (λ z. body_in f (omega arith))
-                (λ z. body_out f (omega arith))
-                (λ q. body_far f (omega arith));
-          })
-          (same_knows returns key s o id v w n me alive_ (refl, refl, refl, refl, refl, refl, refl) refl refl k.marks (λ z. absurd (not_first returns key s o id v me young z)) (λ t is. absurd (none_is_not t (sym free ∙ is))) k.out (λ j. dite (ℕ_discrete n j) (λ q. subst (λ i. has_open i w + has_pass i w ≤ 1) q (let h = k.opens_once n in omega arith)) (λ ne. let p = other j (λ q. ne (sym q)) in let q = k.opens_once j in omega arith)))
-          (λ y h. h) (λ y h. inl h) (λ y h. h) (omega arith) (inl refl),
+      keeps_slot returns key s o id v n ((slice_index s.words (word_of n) + (2 ^ 64 - 256)) % 2 ^ 64) f.hot me near alive_ f.one_hot (without n v.scopes) v.passing v.marks v.coolings
+          (λ j ne. (times-without_other j n v.scopes ne, refl)) (omega arith) (λ opens passes a b. (omega (arith, f.word_is, f.one_hot, f.small, f.one_turn, f.one_out), λ out. let h = f.here out in omega arith))
+          (λ z. absurd (not_first returns key s o id v me young z)) (turnless _ v free) k.marks,
       ap (λ j. (without_scope j v, m.1)) (sym (object_home n)),
     )
 
@@ -205,37 +129,18 @@ closes_ok returns key slots id m n lt held alive_ young free s o wide me small =
 pub leaves_ok : (returns : Bool) (key : List (List ℕ)) (slots id : ℕ) (m : Sat) (n : ℕ) → n < slots → has_pass n m.0 ≡ 1 → m.0.live ≡ true → m.0.made ≡ 0
     → Allows (Kept returns key) slots id m (word_of n) (λ x. (x + (2 ^ 64 - 256)) % 2 ^ 64) (leaves_pass (step slots (word_of n) 256 0 none) m)
 leaves_ok returns key slots id m n lt held alive_ young s o wide me small =
-    let v : View = m.0 in let w : View = without_pass n v in
+    let v : View = m.0 in
     let near : n < length key = omega (arith, o.objects.slots) in
     let f = o.objects.fits n near in let few = few_open returns key s o n in
-    let k = o.seats.knows id v me in
-    let less : has_pass n w + 1 ≡ has_pass n v = times-without n v.passing (omega arith) in
-    let other : (j : ℕ) → j ≢ n → has_pass j w ≡ has_pass j v = λ j ne. times-without_other j n v.passing ne in
-    let part = term_le (has_pass n) s.views id v me in
-    let a = total-set (has_open n) s.views id v w me in let b = total-set (has_turn n) s.views id v w me in let c = total-set (has_pass n) s.views id v w me in
-    let d = total-set (has_moving n) s.views id v w me in let e = total-set (has_far n) s.views id v w me in (
-      w,
+    let k = o.seats.knows id v me in let once = k.opens_once n in
+    let less : times n (without n v.passing) + 1 ≡ has_pass n v = times-without n v.passing (omega arith) in
+    let part = term_le (has_pass n) s.views id v me in (
+      without_pass n v,
       keeps,
       tt,
-      moves returns key s o id v w n ((slice_index s.words (word_of n) + (2 ^ 64 - 256)) % 2 ^ 64) s.homes (o.logs n) me near alive_ refl (λ _ _. refl)
-          (λ j ne. record { turns = refl; opens = refl; passes = other j ne; moving = refl; far = refl }) (refl, refl, refl, refl, refl, refl, refl)
-          (record {
-            hot = f.hot;
-            one_hot = f.one_hot;
-            word_is = omega (arith, f.word_is, f.one_hot, f.small, f.one_turn, f.one_out);
-            one_turn = omega (arith, f.one_turn);
-            one_out = omega (arith, f.one_out);
-            here = λ out. let h = f.here (omega arith) in omega arith;
-            small = f.small;
-            chained = f.chained;
-            inside = f.inside;
-            answers = f.answers;
-            slot = slot_of _ _ _ _ _ (λ z. body_in f (omega arith))
-                (λ z. body_out f (omega arith))
-                (λ q. body_far f (omega arith));
-          })
-          (same_knows returns key s o id v w n me alive_ (refl, refl, refl, refl, refl, refl, refl) refl refl k.marks (λ z. absurd (not_first returns key s o id v me young z)) (λ t is. (k.turn t is).2) k.out (λ j. dite (ℕ_discrete n j) (λ q. subst (λ i. has_open i w + has_pass i w ≤ 1) q (let h = k.opens_once n in omega arith)) (λ ne. let p = other j (λ q. ne (sym q)) in let q = k.opens_once j in omega arith)))
-          (λ y h. h) (λ y h. inl h) (λ y h. h) (omega arith) (inl refl),
+      keeps_slot returns key s o id v n ((slice_index s.words (word_of n) + (2 ^ 64 - 256)) % 2 ^ 64) f.hot me near alive_ f.one_hot v.scopes (without n v.passing) v.marks v.coolings
+          (λ j ne. (refl, times-without_other j n v.passing ne)) (omega arith) (λ opens passes a b. (omega (arith, f.word_is, f.one_hot, f.small, f.one_turn, f.one_out), λ out. let h = f.here out in omega arith))
+          (λ z. absurd (not_first returns key s o id v me young z)) k.turn k.marks,
       ap (λ j. (without_pass j v, m.1)) (sym (object_home n)),
     )
 
@@ -249,91 +154,38 @@ turns_ok returns key slots id m n lt free opened_ few_scopes alive_ young s o wi
     let k = o.seats.knows id v me in
     let x : ℕ = slice_index s.words (word_of n) in
     let held : ℕ = total (has_turn n) s.views in
-    let away : ℕ = (tally n s.views).moving + (tally n s.views).far in
     let part = term_le (has_open n) s.views id v me in
-    let is_here_ : away ≡ 0 = dite (ℕ_discrete away 0) (λ z. z) (λ nz. let h = f.here (omega arith) in absurd (omega arith)) in
+    let here = is_in f (omega arith) in
     let nothing : has_turn n v ≡ 0 = no_turn n v free in
     let bit = or_turn x in
     let bit_is : x / 4 % 2 ≡ held = omega (arith, f.word_is, f.one_turn, f.one_hot, f.one_out) in
     let hot_is : x / 8 % 2 ≡ f.hot = omega (arith, f.word_is, f.one_turn, f.one_hot, f.one_out) in
     dite (ℕ_discrete held 0)
     (λ zero-held.
-    let z : (tally n s.views).moving + (tally n s.views).far + (tally n s.views).turns ≡ 0 = omega arith in
-    let y = body_in f z in let body : Body = y.0 in
+    let y = body_in f (omega arith) in let body : Body = y.0 in
+    let t : Turn = turn n (x / 65536) body.bytes.items in
     let stamp_is : x / 65536 ≡ top 0 (o.logs n) = omega (arith, f.word_is, f.one_hot) in
-    let w : View = holding n (x / 65536) body.bytes.items v in
-    let hs : List (maybe.Option Body) = set s.homes n none in
-    let mine : has_turn n w ≡ 1 = is_here n n refl in
-    let a = total-set (has_open n) s.views id v w me in let b = total-set (has_turn n) s.views id v w me in let c = total-set (has_pass n) s.views id v w me in
-    let d = total-set (has_moving n) s.views id v w me in let e = total-set (has_far n) s.views id v w me in
-    let gone : get_elem? hs n ≡ some none = set_there s.homes n (some body) none y.1 in (
-      w,
+    let mine : same n n ≡ 1 = is_here n n refl in (
+      holding n (x / 65536) body.bytes.items v,
       takes n body,
       y.1,
-      moves returns key s o id v w n (bit_or x 12) hs (o.logs n) me near alive_ (length-set s.homes n none) (λ j ne. set_else s.homes n j none ne)
-          (λ j ne. record { turns = is_else n j (λ q. ne (sym q)) ∙ sym (no_turn j v free); opens = refl; passes = refl; moving = refl; far = refl }) (refl, refl, refl, refl, refl, refl, refl)
-          (record {
-            hot = 1;
-            one_hot = omega arith;
-            word_is = omega (arith, f.word_is, f.one_hot, bit, hot_is, bit_is);
-            one_turn = omega arith;
-            one_out = omega (arith, f.one_out);
-            here = λ out. absurd (omega arith);
-            small = f.small;
-            chained = f.chained;
-            inside = f.inside;
-            answers = f.answers;
-            slot = slot_of _ _ _ _ _ (λ q. absurd (omega arith))
-                (λ _. gone)
-                (λ q. absurd (omega arith));
-          })
-          (subst (λ l. Knows returns key l id w) (grown_same o.logs n) (record {
-            actor = k.actor;
-            opening_is = k.opening_is;
-            returns_is = k.returns_is;
-            idle = λ no. absurd (no_live (sym no ∙ alive_));
-            first = λ z. absurd (not_first returns key s o id v me young z);
-            alone = k.alone;
-            opens_once = k.opens_once;
-            turn = λ t q. subst (TurnFits returns key o.logs v.scopes) (some_is (turn n (x / 65536) body.bytes.items) t q) (stamp_is, y.2, few_scopes);
-            out = k.out;
-            entries = k.entries;
-            marks = k.marks;
-            rises = k.rises;
-          }))
-          (λ y h. h) (λ y h. inl h) (λ y h. h) (omega arith) (inl refl),
+      moves_slot returns key s o id v n (bit_or x 12) 1 me near alive_ (omega arith) none (Some t) v.marks v.out
+          (λ j ne. (is_else n j (λ q. ne (sym q)) ∙ sym (no_turn j v free), refl))
+          (λ turns moving far a b c. (omega (arith, f.word_is, f.one_hot, bit, hot_is, bit_is), omega arith, omega (arith, f.one_out), (λ out. absurd (omega arith)), Lent (omega arith) refl))
+          (λ u q. subst (TurnFits returns key o.logs v.scopes) (some_is t u q) (stamp_is, y.2, few_scopes)) (k.out n) k.marks,
       (
         refl,
-        (λ _. subst (λ j. Took j x m (w, (n, body) ∷ m.1)) (sym (object_home n)) (body, refl, y.2.0 ∙ ap (λ (p : List (List ℕ)). length (bytes_of p n)) (sym (k.opening_is alive_)))),
+        (λ _. subst (λ j. Took j x m (holding n (x / 65536) body.bytes.items v, (n, body) ∷ m.1)) (sym (object_home n)) (body, refl, y.2.0 ∙ ap (λ (p : List (List ℕ)). length (bytes_of p n)) (sym (k.opening_is alive_)))),
         λ one. let q : x / 4 % 2 ≡ 1 = one in absurd (omega (arith, q)),
       ),
     ))
-    (λ some-held.
-    let w : View = marked (Busy n) v in
-    let a = total-set (has_open n) s.views id v w me in let b = total-set (has_turn n) s.views id v w me in let c = total-set (has_pass n) s.views id v w me in
-    let d = total-set (has_moving n) s.views id v w me in let e = total-set (has_far n) s.views id v w me in (
-      w,
+    (λ some-held. (
+      marked (Busy n) v,
       keeps,
       tt,
-      moves returns key s o id v w n (bit_or x 12) s.homes (o.logs n) me near alive_ refl (λ _ _. refl)
-          (λ j ne. record { turns = refl; opens = refl; passes = refl; moving = refl; far = refl }) (refl, refl, refl, refl, refl, refl, refl)
-          (record {
-            hot = 1;
-            one_hot = omega arith;
-            word_is = omega (arith, f.word_is, f.one_hot, f.one_turn, bit, hot_is, bit_is);
-            one_turn = omega (arith, f.one_turn);
-            one_out = omega (arith, f.one_out);
-            here = λ out. absurd (omega arith);
-            small = f.small;
-            chained = f.chained;
-            inside = f.inside;
-            answers = f.answers;
-            slot = slot_of _ _ _ _ _ (λ z. body_in f (omega arith))
-                (λ z. body_out f (omega arith))
-                (λ q. body_far f (omega arith));
-          })
-          (same_knows returns key s o id v w n me alive_ (refl, refl, refl, refl, refl, refl, refl) refl refl (mark_more returns key s o id v (Busy n) me tt) (λ z. absurd (not_first returns key s o id v me young z)) (λ t is. (k.turn t is).2) k.out k.opens_once)
-          (λ y h. h) (λ y h. inl h) (λ y h. h) (omega arith) (inl refl),
+      keeps_slot returns key s o id v n (bit_or x 12) 1 me near alive_ (omega arith) v.scopes v.passing (v.marks ++ Busy n ∷ []) v.coolings
+          (λ _ _. (refl, refl)) (k.opens_once n) (λ opens passes a b. (omega (arith, f.word_is, f.one_hot, f.one_turn, bit, hot_is, bit_is), λ out. absurd (omega arith)))
+          (λ z. absurd (not_first returns key s o id v me young z)) k.turn (mark_more returns key s o id v (Busy n) me tt),
       (refl, (λ zero. let q : x / 4 % 2 ≡ 0 = zero in absurd (omega (arith, f.one_turn, q))), λ _. ap (λ j. (marked (Busy j) v, m.1)) (sym (object_home n))),
     ))
 
@@ -355,13 +207,12 @@ records_ok returns key slots id m t body more e k lt carried has by on found_is 
     let part = term_le (has_turn n) s.views id v me in
     let a₁ = total-set (has_open n) s.views id v w me in let b₁ = total-set (has_turn n) s.views id v w me in let c₁ = total-set (has_pass n) s.views id v w me in
     let d₁ = total-set (has_moving n) s.views id v w me in let e₁ = total-set (has_far n) s.views id v w me in
-    let away : ℕ = (tally n s.views).moving + (tally n s.views).far in
-    let is_here_ : away ≡ 0 = dite (ℕ_discrete away 0) (λ z. z) (λ nz. let h = f.here (omega arith) in absurd (omega arith)) in
+    let here = is_in f (omega arith) in
     let stamp_is : t.stamp ≡ top 0 (o.logs n) = at.0 in
     let last : top 0 log ≡ e.stamp = top-snoc 0 (o.logs n) e in
     let rising : top 0 (o.logs n) < e.stamp = omega arith in
     let hs : List (maybe.Option Body) = set s.homes n (some body) in
-    let back : get_elem? hs n ≡ some (some body) = set_there s.homes n none (some body) (body_out f (omega (arith, f.one_turn))) in
+    let back : get_elem? hs n ≡ some (some body) = set_here s.homes n (some body) (omega (arith, o.objects.slots)) in
     let done' : Stands returns (bytes_of key n) log body.bytes.items = (ap length done ∙ length-left_by e.deed t.bytes within ∙ at.1.0, λ r. done ∙ ap (left_by e.deed) (at.1.1 r) ∙ sym (fold-snoc (bytes_of key n) (o.logs n) e)) in
     let not_mine : (j : ℕ) → j ≢ n → has_turn j v ≡ 0 = λ j ne. ap (turns_on j) has ∙ is_else n j (λ q. ne (sym q)) in
     let kept = moves returns key s o id v w n ((x + k) % 2 ^ 64) hs log me near alive_ (length-set s.homes n (some body)) (λ j ne. set_else s.homes n j (some body) ne)
@@ -377,9 +228,7 @@ records_ok returns key slots id m t body more e k lt carried has by on found_is 
       chained = Chained-snoc 0 (o.logs n) e f.chained (found_is ∙ stamp_is) rising;
       inside = AllInside-snoc (length (bytes_of key n)) (o.logs n) e f.inside (subst (EndsInside e.deed) at.1.0 within);
       answers = λ r. Answers-snoc (bytes_of key n) (o.logs n) e (f.answers r) (answered ∙ ap (given_by e.deed) (at.1.1 r));
-      slot = slot_of _ _ _ _ _ (λ _. (body, back, done'))
-          (λ one. absurd (omega (arith, f.one_turn)))
-          (λ q. absurd (omega arith));
+      slot = AtHome (omega (arith, f.one_turn)) body back done';
     })
     (record {
       actor = kn.actor;
@@ -395,80 +244,45 @@ records_ok returns key slots id m t body more e k lt carried has by on found_is 
           absurd (omega (arith, term_le (has_moving n) s.views id v me, term_le (has_far n) s.views id v me)))
           (λ else. subst (λ l. Stands returns (bytes_of key j) l bytes) (sym (grown_else o.logs n log j else)) (kn.out j bytes q));
       entries = λ y h. ⊎_elim
-          (λ old. let q = kn.entries y old in (
-            q.0,
-            dite (ℕ_discrete y.object n)
-                (λ here. subst (λ l. Has l y) (sym (grown_here o.logs n log y.object here)) (has_longer (o.logs n) (e ∷ []) y (subst (λ j. Has (o.logs j) y) here q.1)))
-                (λ else. subst (λ l. Has l y) (sym (grown_else o.logs n log y.object else)) q.1),
-          ))
+          (λ old. let q = kn.entries y old in (q.0, entry_stays returns key s o id v w n ((x + k) % 2 ^ 64) hs log me near alive_ (has_longer (o.logs n) (e ∷ [])) y q.1))
           (λ (new : e ≡ y). subst (λ (z : Entry). (z.actor ≡ id) × Has (grown o.logs n log z.object) z) new
           (by ∙ kn.actor alive_, subst (λ l. Has l e) (sym (grown_here o.logs n log e.object on)) (has_last (o.logs n) e)))
           (has_snoc v.entries e y h);
       marks = λ y h. mark_stays returns key s o id v w n ((x + k) % 2 ^ 64) hs log me near alive_ (omega arith) y (kn.marks y h);
       rises = Rises-snoc 0 v.entries e kn.rises later;
     })
-    (λ y h. has_longer (o.logs n) (e ∷ []) y h)
+    (has_longer (o.logs n) (e ∷ []))
     (λ y h. ⊎_elim (λ old. inl old) (λ (new : e ≡ y). inr (subst (λ (z : Entry). (z.object ≡ n) × Has w.entries z) new (on, has_last v.entries e))) (has_snoc (o.logs n) e y h))
-    (λ y h. has_longer v.entries (e ∷ []) y h) (omega arith) (inr mine) in
-    let P : List (ℕ × Body) → Type 0 = λ c. (w : View) × (a : Act Body) × Rattle.atomic_table.specs.Table.Valid s.homes c a × Kept returns key (Rattle.atomic_table.specs.Table.stepped s (word_of n) ((x + k) % 2 ^ 64) id c w a) × gives_turn e (step slots (word_of n) k 0 none) (v, c) x (w, Rattle.atomic_table.specs.Table.carried_after c a) in
-    subst P (sym carried) (w, gives, tt, kept, refl)
+    (has_longer v.entries (e ∷ [])) (omega arith) (inr mine) in
+    gives_back (Kept returns key) s id (word_of n) ((x + k) % 2 ^ 64) x m (gives_turn e (step slots (word_of n) k 0 none)) n body more w carried kept refl
 
 -- give turn: it ends with no entry
 pub wears_ok : (returns : Bool) (key : List (List ℕ)) (slots id : ℕ) (m : Sat) (t : Turn) (body : Body) (more : List (ℕ × Body))
     → t.object < slots → m.1 ≡ (t.object, body) ∷ more → m.0.turn ≡ Some t → body.bytes.items ≡ t.bytes → m.0.live ≡ true → m.0.made ≡ 0
     → Allows (Kept returns key) slots id m (word_of t.object) (λ x. (x + (2 ^ 64 - 4)) % 2 ^ 64) (gives_up_turn (step slots (word_of t.object) 4 0 none) m)
 wears_ok returns key slots id m t body more lt carried has done alive_ young s o wide me small =
-    let n : ℕ = t.object in let v : View = m.0 in let w : View = worn_out n t.stamp v in
+    let n : ℕ = t.object in let v : View = m.0 in
     let near : n < length key = omega (arith, o.objects.slots) in
     let f = o.objects.fits n near in let few = few_open returns key s o n in
-    let kn = o.seats.knows id v me in
+    let k = o.seats.knows id v me in
     let x : ℕ = slice_index s.words (word_of n) in
-    let at = kn.turn t has in
+    let at = k.turn t has in
     let mine : has_turn n v ≡ 1 = turn_here v t has in
     let part = term_le (has_turn n) s.views id v me in
-    let a₁ = total-set (has_open n) s.views id v w me in let b₁ = total-set (has_turn n) s.views id v w me in let c₁ = total-set (has_pass n) s.views id v w me in
-    let d₁ = total-set (has_moving n) s.views id v w me in let e₁ = total-set (has_far n) s.views id v w me in
-    let away : ℕ = (tally n s.views).moving + (tally n s.views).far in
-    let is_here_ : away ≡ 0 = dite (ℕ_discrete away 0) (λ z. z) (λ nz. let h = f.here (omega arith) in absurd (omega arith)) in
-    let hs : List (maybe.Option Body) = set s.homes n (some body) in
-    let back : get_elem? hs n ≡ some (some body) = set_there s.homes n none (some body) (body_out f (omega (arith, f.one_turn))) in
+    let here = is_in f (omega arith) in
     let stamp_low : t.stamp ≤ top 0 (o.logs n) = let q : t.stamp ≡ top 0 (o.logs n) = at.0 in omega arith in
-    let done' : Stands returns (bytes_of key n) (o.logs n) body.bytes.items = (ap length done ∙ at.1.0, λ r. done ∙ at.1.1 r) in
-    let not_mine : (j : ℕ) → j ≢ n → has_turn j v ≡ 0 = λ j ne. ap (turns_on j) has ∙ is_else n j (λ q. ne (sym q)) in
-    let kept = moves returns key s o id v w n ((x + (2 ^ 64 - 4)) % 2 ^ 64) hs (o.logs n) me near alive_ (length-set s.homes n (some body)) (λ j ne. set_else s.homes n j (some body) ne)
-    (λ j ne. record { turns = sym (not_mine j ne); opens = refl; passes = refl; moving = refl; far = refl }) (refl, refl, refl, refl, refl, refl, refl)
-    (record {
-      hot = f.hot;
-      one_hot = f.one_hot;
-      word_is = omega (arith, f.word_is, f.one_hot, f.one_turn, f.small);
-      one_turn = omega (arith, f.one_turn);
-      one_out = omega (arith, f.one_out);
-      here = λ out. absurd (omega arith);
-      small = f.small;
-      chained = f.chained;
-      inside = f.inside;
-      answers = f.answers;
-      slot = slot_of _ _ _ _ _ (λ _. (body, back, done'))
-          (λ one. absurd (omega (arith, f.one_turn)))
-          (λ q. absurd (omega arith));
-    })
-    (subst (λ l. Knows returns key l id w) (grown_same o.logs n) (record {
-      actor = kn.actor;
-      opening_is = kn.opening_is;
-      returns_is = kn.returns_is;
-      idle = λ no. absurd (no_live (sym no ∙ alive_));
-      first = λ z. absurd (not_first returns key s o id v me young z);
-      alone = kn.alone;
-      opens_once = kn.opens_once;
-      turn = λ u is. absurd (none_is_not u is);
-      out = kn.out;
-      entries = kn.entries;
-      marks = mark_more returns key s o id v (Worn n t.stamp) me stamp_low;
-      rises = kn.rises;
-    }))
-    (λ y h. h) (λ y h. inl h) (λ y h. h) (omega arith) (inl refl) in
-    let P : List (ℕ × Body) → Type 0 = λ c. (w : View) × (a : Act Body) × Rattle.atomic_table.specs.Table.Valid s.homes c a × Kept returns key (Rattle.atomic_table.specs.Table.stepped s (word_of n) ((x + (2 ^ 64 - 4)) % 2 ^ 64) id c w a) × gives_up_turn (step slots (word_of n) 4 0 none) (v, c) x (w, Rattle.atomic_table.specs.Table.carried_after c a) in
-    subst P (sym carried) (w, gives, tt, kept, (t, has, refl))
+    gives_back (Kept returns key) s id (word_of n) ((x + (2 ^ 64 - 4)) % 2 ^ 64) x m (gives_up_turn (step slots (word_of n) 4 0 none)) n body more (worn_out n t.stamp v) carried
+    (moves_slot returns key s o id v n ((x + (2 ^ 64 - 4)) % 2 ^ 64) f.hot me near alive_ f.one_hot (some body) None (v.marks ++ Worn n t.stamp ∷ []) v.out
+    (λ j ne. (sym (ap (turns_on j) has ∙ is_else n j (λ q. ne (sym q))), refl))
+    (λ turns moving far a b c. (
+      omega (arith, f.word_is, f.one_hot, f.one_turn, f.small),
+      omega (arith, f.one_turn),
+      omega (arith, f.one_out),
+      (λ out. absurd (omega arith)),
+      AtHome (omega (arith, f.one_turn)) body refl (ap length done ∙ at.1.0, λ r. done ∙ at.1.1 r),
+    ))
+    (λ u is. absurd (none_is_not u is)) (k.out n) (mark_more returns key s o id v (Worn n t.stamp) me stamp_low))
+    (t, has, refl)
 
 -- a look changes nothing, and shows a table that keeps the rule
 pub sees_ok : (returns : Bool) (key : List (List ℕ)) (slots id : ℕ) (m : Sat) (n : ℕ) → n < slots → m.0.live ≡ true
@@ -596,9 +410,7 @@ starts_ok returns key ws bs long quiet same_bytes =
           chained = tt;
           inside = tt;
           answers = λ _. tt;
-          slot = slot_of _ _ _ _ _ (λ _. let t = body_at bs n (omega arith) in let q = t.2 ∙ ap (λ (l : List (List ℕ)). bytes_of l n) same_bytes in (t.0, t.1, (ap length q, λ _. q)))
-              (λ e. absurd (omega arith))
-              (λ q. absurd (omega arith));
+          slot = let t = body_at bs n (omega arith) in let q = t.2 ∙ ap (λ (l : List (List ℕ)). bytes_of l n) same_bytes in AtHome (omega arith) t.0 t.1 (ap length q, λ _. q);
         };
         nowhere = λ n far. refl;
       };

@@ -23,7 +23,7 @@ use Rattle.shared_objects.specs.declared.view.View.{View}
 use Rattle.shared_objects.proofs.Moves.{body_in}
 use Rattle.shared_objects.proofs.Few.{counts_few}
 use Rattle.shared_objects.proofs.Logs.{chained_rises}
-use Rattle.shared_objects.proofs.One.{empty, has_cons, first, later, through, apart_by_actor, rises_above, rises_unique, pick_rises, by_is, own_log, all_after, all_runs, all_fold, all_long}
+use Rattle.shared_objects.proofs.One.{empty, has_cons, first, later, places, apart_by_actor, rises_above, rises_unique, pick_rises, by_is, own_log, all_after, all_runs, all_fold, all_long}
 use Rattle.shared_objects.proofs.Sorting.{has_either, has_left, has_right}
 
 -- ---- runs
@@ -90,23 +90,6 @@ word_shows returns opening s k n lt =
     )
 
 -- ---- one history
-
--- one entry more, which may be there already
-places : (e : Entry) (l : List Entry) → InOrder l → ((f : Entry) → Has l f → (e ≡ f) ⊎ (Before e f ⊎ Before f e))
-    → (m : List Entry) × InOrder m × Has m e × ((x : Entry) → Has l x → Has m x) × ((x : Entry) → Has m x → (e ≡ x) ⊎ Has l x)
-places e [] o near = (e ∷ [], (λ f h. absurd (empty f h), tt), first e [], λ x h. absurd (empty x h), λ x h. has_cons e x [] h)
-places e (f ∷ fs) o near = ⊎_elim
-    (λ (same : e ≡ f). (f ∷ fs, o, subst (Has (f ∷ fs)) (sym same) (first f fs), (λ x h. h), λ x h. inr h))
-    (λ q. ⊎_elim
-    (λ (soon : Before e f). (e ∷ f ∷ fs, (λ g h. ⊎_elim (λ p. subst (Before e) p soon) (λ p. through e f g soon (o.0 g p)) (has_cons f g fs h), o), first e (f ∷ fs), λ x h. later e x (f ∷ fs) h, λ x h. has_cons e x (f ∷ fs) h))
-    (λ (late : Before f e). let t = places e fs o.1 (λ g h. near g (later f g fs h)) in (
-      f ∷ t.0,
-      (λ g h. ⊎_elim (λ p. subst (Before f) p late) (λ p. o.0 g p) (t.4 g h), t.1),
-      later f e t.0 t.2,
-      λ x h. ⊎_elim (λ p. subst (Has (f ∷ t.0)) p (first f t.0)) (λ p. later f x t.0 (t.3 x p)) (has_cons f x fs h),
-      λ x h. ⊎_elim (λ p. inr (subst (Has (f ∷ fs)) p (first f fs))) (λ p. ⊎_elim (λ r. inl r) (λ r. inr (later f x fs r)) (t.4 x p)) (has_cons f x t.0 h),
-    )) q)
-    (near f (first f fs))
 
 -- all entries of a list, in order
 orders : (es : List Entry) → ((e f : Entry) → Has es e → Has es f → (e ≡ f) ⊎ (Before e f ⊎ Before f e))

@@ -1,6 +1,7 @@
 mod Sums
 mod Logs
 mod Moves
+mod Steps
 mod Keeps
 mod Noted
 mod Acting

@@ -1,47 +1,25 @@
 -- Each step of the mover keeps the rule.
-use Rattle.std.proofs.Common.{◌≡◌, true, Bool, ℕ, ◌+◌, ◌-◌, ◌*◌, ◌/◌, ◌%◌, ◌^◌, ◌<◌, ◌≤◌, ◌≢◌, List, ◌∷◌, length, set, sym, refl, ap, ◌∙◌, subst, arith, eqb, ◌⊎◌, inl, ⊎_elim, length-set, get_or-set_other, get_or-set_same, slice_index, Some, bit_and, min}
+use Rattle.std.proofs.Common.{◌≡◌, true, Bool, ℕ, ◌+◌, ◌-◌, ◌*◌, ◌/◌, ◌%◌, ◌^◌, ◌<◌, ◌≤◌, List, [], ◌∷◌, ◌++◌, length, sym, refl, ap, ◌∙◌, subst, arith, eqb, ◌⊎◌, ⊎_elim, slice_index, bit_and, min}
 use prog.Atomic.{either}
 use lib.Bits.{and_step, and_mask}
 use Rattle.std.specs.Prelude.{nat_eq}
-use mathlib.Core.Logic.{dite}
-use native.Mathlib.Decide.{ℕ_discrete}
-use mathlib.Core.Option.{some, none, some-injective, some-ne-none}
-use mathlib.Core.Option as maybe
-use lib.ListN.{get_elem?}
+use mathlib.Core.Option.{some, none}
 use Rattle.atomic_table.specs.Table.{State, step, Act, keeps, takes, gives, Allows}
-use Rattle.atomic_table.proofs.Lists.{set_here, set_else, exchanged}
+use Rattle.atomic_table.proofs.Lists.{exchanged}
 use Rattle.shared_objects.specs.History.{top}
 use Rattle.memory.specs.Objects.{bytes_of}
-use Rattle.shared_objects.specs.Rule.{has_turn, has_open, has_pass, has_moving, has_far, place_of, bytes_taken, is_moving, is_far, Stands, word_of, tally, Knows, Kept}
-use Rattle.shared_objects.specs.Kinds.{Sat, placed, sent, called, with_cooling, begins_leave, ends_leave, begins_return, ends_return, cools}
+use Rattle.shared_objects.specs.Rule.{has_moving, has_far, place_of, bytes_taken, is_moving, is_far, Stands, word_of, tally, Kept}
+use Rattle.shared_objects.specs.Kinds.{Sat, placed, sent, called, with_cooling, cooling, begins_leave, ends_leave, begins_return, ends_return, cools}
+use Rattle.shared_objects.specs.Rule.SlotFits.{AtHome, Lent, Idle}
 use Rattle.shared_objects.specs.declared.body.Body.{Body}
 use Rattle.shared_objects.specs.declared.view.Place.{Place}
 use Rattle.shared_objects.specs.declared.view.Place.TheVariants.{Here, Moving, Far}
 use Rattle.shared_objects.specs.declared.view.View.{View}
-use Rattle.shared_objects.proofs.Sums.{total-set, term_le}
-use Rattle.shared_objects.proofs.Moves.{St, grown, moves, Alike, slot_of, body_in, body_out, body_far}
+use Rattle.shared_objects.proofs.Sums.{term_le}
+use Rattle.shared_objects.proofs.Moves.{body_in, body_far}
+use Rattle.shared_objects.proofs.Steps.{keeps_slot, puts, gives_back}
 use Rattle.shared_objects.proofs.Logs.{object_home}
-use Rattle.shared_objects.proofs.Keeps.{few_open, same_knows, unmoved, none_is_not, some_is}
-
-pub placed_here : (v : View) (n : ℕ) (p : Place) → n < length v.out → place_of (placed n p v) n ≡ p
-placed_here v n p wide = get_or-set_same v.out n p Here wide
-
-pub placed_else : (v : View) (n : ℕ) (p : Place) (m : ℕ) → m ≢ n → place_of (placed n p v) m ≡ place_of v m
-placed_else v n p m ne = get_or-set_other v.out n m p Here ne
-
--- nothing changes at another object
-alike_else : (v : View) (n : ℕ) (p : Place) (m : ℕ) → m ≢ n → Alike m v (placed n p v)
-alike_else v n p m ne = record { turns = refl; opens = refl; passes = refl; moving = ap is_moving (placed_else v n p m ne); far = ap is_far (placed_else v n p m ne) }
-
--- what the mover knows after one object has got another place, with bytes that stand
-altered : (returns : Bool) (key : List (List ℕ)) (s : St) (o : Kept returns key s) (id : ℕ) (v : View) (n : ℕ) (p : Place) → get_elem? s.views id ≡ some v → v.live ≡ true → n < length v.out
-    → ((bytes : List ℕ) → bytes_taken p ≡ Some bytes → Stands returns (bytes_of key n) (o.logs n) bytes) → Knows returns key (grown o.logs n (o.logs n)) id (placed n p v)
-altered returns key s o id v n p me alive_ wide stands = let k = o.seats.knows id v me in
-    same_knows returns key s o id v (placed n p v) n me alive_ (refl, refl, refl, refl, refl, refl, refl) refl refl k.marks (λ z. let h = k.first z in (h.1, h.2)) (λ t is. (k.turn t is).2)
-    (λ m bytes e. dite (ℕ_discrete m n)
-    (λ here. subst (λ i. Stands returns (bytes_of key i) (o.logs i) bytes) (sym here) (stands bytes (sym (ap bytes_taken (ap (place_of (placed n p v)) here ∙ placed_here v n p wide)) ∙ e)))
-    (λ ne. k.out m bytes (sym (ap bytes_taken (placed_else v n p m ne)) ∙ e)))
-    k.opens_once
+use Rattle.shared_objects.proofs.Keeps.{few_open, unmoved, none_is_not, some_is}
 
 -- begin leave: the word was that of an object that is here, with no scope open and no turn held
 pub lifts_ok : (returns : Bool) (key : List (List ℕ)) (slots id : ℕ) (m : Sat) (n old next : ℕ) → n < slots → (old % 65536 ≡ 0) ⊎ (old % 65536 ≡ 8) → next ≡ old - old % 65536 + 1 → n < length m.0.out → m.0.live ≡ true
@@ -63,34 +41,13 @@ lifts_ok returns key slots id m n old next lt quiet next_is wide alive_ s o long
     let y = body_in f z in let body : Body = y.0 in
     let p : Place = Moving body.bytes.items in
     let w : View = placed n p v in
-    let hs : List (maybe.Option Body) = set s.homes n none in
-    let was = term_le (has_moving n) s.views id v me in let was' = term_le (has_far n) s.views id v me in
-    let is : has_moving n w ≡ 1 = ap is_moving (placed_here v n p wide) in let is' : has_far n w ≡ 0 = ap is_far (placed_here v n p wide) in
-    let a₁ = total-set (has_open n) s.views id v w me in let b₁ = total-set (has_turn n) s.views id v w me in let c₁ = total-set (has_pass n) s.views id v w me in
-    let d₁ = total-set (has_moving n) s.views id v w me in let e₁ = total-set (has_far n) s.views id v w me in
-    let gone : get_elem? hs n ≡ some none = set_here s.homes n none (omega arith) in (
+    let was = term_le (has_moving n) s.views id v me in let was' = term_le (has_far n) s.views id v me in (
       w,
       takes n body,
       y.1,
-      moves returns key s o id v w n next hs (o.logs n) me near alive_ (length-set s.homes n none) (λ j ne. set_else s.homes n j none ne)
-          (alike_else v n p) (refl, refl, refl, refl, refl, refl, refl)
-          (record {
-            hot = 0;
-            one_hot = omega arith;
-            word_is = omega (arith, rest_is, next_is);
-            one_turn = omega arith;
-            one_out = omega arith;
-            here = λ _. omega arith;
-            small = f.small;
-            chained = f.chained;
-            inside = f.inside;
-            answers = f.answers;
-            slot = slot_of _ _ _ _ _ (λ q. absurd (omega arith))
-                (λ _. gone)
-                (λ q. absurd (omega arith));
-          })
-          (altered returns key s o id v n p me alive_ wide (λ bytes e. subst (Stands returns (bytes_of key n) (o.logs n)) (some_is body.bytes.items bytes e) y.2))
-          (λ e h. h) (λ e h. inl h) (λ e h. h) (omega arith) (inl refl),
+      puts returns key s o id v n next 0 me near alive_ (omega arith) none p wide
+          (λ moving far a b. (omega (arith, rest_is, next_is), omega arith, (λ _. omega arith), Lent (omega arith) refl))
+          (λ bytes e. subst (Stands returns (bytes_of key n) (o.logs n)) (some_is body.bytes.items bytes e) y.2),
       (
         (λ _. subst (λ j. (b : Body) × (◌≡◌ {A = Sat} (w, (n, body) ∷ m.1) (placed j (Moving b.bytes.items) v, (j, b) ∷ m.1)) × (length b.bytes.items ≡ length (bytes_of v.opening j))) (sym (object_home n)) (body, refl, y.2.0 ∙ ap (λ (q : List (List ℕ)). length (bytes_of q n)) (sym (k.opening_is alive_)))),
         λ ne. absurd (ne hit),
@@ -116,39 +73,17 @@ sends_ok returns key slots id m n bytes body more lt carried at wide alive_ s o 
     let v : View = m.0 in
     let near : n < length key = omega (arith, o.objects.slots) in
     let f = o.objects.fits n near in let few = few_open returns key s o n in
-    let k = o.seats.knows id v me in
     let x : ℕ = slice_index s.words (word_of n) in
     let p : Place = sent (place_of v n) in
-    let p_is : p ≡ Far bytes = ap sent at in
-    let w : View = placed n p v in
-    let hs : List (maybe.Option Body) = set s.homes n (some body) in
-    let home : get_elem? hs n ≡ some (some body) = set_here s.homes n (some body) (omega arith) in
     let part = term_le (has_moving n) s.views id v me in
     let was : has_moving n v ≡ 1 = ap is_moving at in let was' : has_far n v ≡ 0 = ap is_far at in
-    let is : has_moving n w ≡ 0 = ap is_moving (placed_here v n p wide ∙ p_is) in let is' : has_far n w ≡ 1 = ap is_far (placed_here v n p wide ∙ p_is) in
-    let a₁ = total-set (has_open n) s.views id v w me in let b₁ = total-set (has_turn n) s.views id v w me in let c₁ = total-set (has_pass n) s.views id v w me in
-    let d₁ = total-set (has_moving n) s.views id v w me in let e₁ = total-set (has_far n) s.views id v w me in
+    let is : is_moving p ≡ 0 = ap (λ q. is_moving (sent q)) at in let is' : is_far p ≡ 1 = ap (λ q. is_far (sent q)) at in
     let quiet = f.here (omega arith) in
-    let kept = moves returns key s o id v w n ((x + 1) % 2 ^ 64) hs (o.logs n) me near alive_ (length-set s.homes n (some body)) (λ j ne. set_else s.homes n j (some body) ne) (alike_else v n p) (refl, refl, refl, refl, refl, refl, refl)
-    (record {
-      hot = f.hot;
-      one_hot = f.one_hot;
-      word_is = omega (arith, f.word_is, f.one_hot, f.small, f.one_turn, f.one_out);
-      one_turn = omega (arith, f.one_turn);
-      one_out = omega (arith, f.one_out);
-      here = λ _. omega (arith, quiet);
-      small = f.small;
-      chained = f.chained;
-      inside = f.inside;
-      answers = f.answers;
-      slot = slot_of _ _ _ _ _ (λ q. absurd (omega (arith, f.one_out)))
-          (λ q. absurd (omega (arith, quiet, f.one_out)))
-          (λ _. (body, home));
-    })
-    (altered returns key s o id v n p me alive_ wide (λ b e. k.out n b (sym (sent_taken (place_of v n)) ∙ e)))
-    (λ e h. h) (λ e h. inl h) (λ e h. h) (omega arith) (inl refl) in
-    let P : List (ℕ × Body) → Type 0 = λ c. (w : View) × (a : Act Body) × Rattle.atomic_table.specs.Table.Valid s.homes c a × Kept returns key (Rattle.atomic_table.specs.Table.stepped s (word_of n) ((x + 1) % 2 ^ 64) id c w a) × ends_leave (step slots (word_of n) 1 0 none) (v, c) x (w, Rattle.atomic_table.specs.Table.carried_after c a) in
-    subst P (sym carried) (w, gives, tt, kept, ap (λ j. (placed j (sent (place_of v j)) v, more)) (sym (object_home n)))
+    gives_back (Kept returns key) s id (word_of n) ((x + 1) % 2 ^ 64) x m (ends_leave (step slots (word_of n) 1 0 none)) n body more (placed n p v) carried
+    (puts returns key s o id v n ((x + 1) % 2 ^ 64) f.hot me near alive_ f.one_hot (some body) p wide
+    (λ moving far a b. (omega (arith, f.word_is, f.one_hot, f.small, f.one_turn, f.one_out), omega (arith, f.one_out), (λ _. quiet), Idle (omega arith) body refl))
+    (λ b e. (o.seats.knows id v me).out n b (sym (sent_taken (place_of v n)) ∙ e)))
+    (ap (λ j. (placed j (sent (place_of v j)) v, more)) (sym (object_home n)))
 
 -- what is far is on its way, and its slot is with the mover
 pub calls_ok : (returns : Bool) (key : List (List ℕ)) (slots id : ℕ) (m : Sat) (n : ℕ) (bytes : List ℕ) → n < slots → place_of m.0 n ≡ Far bytes → n < length m.0.out → m.0.live ≡ true
@@ -157,41 +92,19 @@ calls_ok returns key slots id m n bytes lt at wide alive_ s o long me small =
     let v : View = m.0 in
     let near : n < length key = omega (arith, o.objects.slots) in
     let f = o.objects.fits n near in let few = few_open returns key s o n in
-    let k = o.seats.knows id v me in
     let x : ℕ = slice_index s.words (word_of n) in
     let p : Place = called (place_of v n) in
-    let p_is : p ≡ Moving bytes = ap called at in
-    let w : View = placed n p v in
     let part = term_le (has_far n) s.views id v me in
     let was : has_moving n v ≡ 0 = ap is_moving at in let was' : has_far n v ≡ 1 = ap is_far at in
-    let is : has_moving n w ≡ 1 = ap is_moving (placed_here v n p wide ∙ p_is) in let is' : has_far n w ≡ 0 = ap is_far (placed_here v n p wide ∙ p_is) in
+    let is : is_moving p ≡ 1 = ap (λ q. is_moving (called q)) at in let is' : is_far p ≡ 0 = ap (λ q. is_far (called q)) at in
     let y = body_far f (omega arith) in let body : Body = y.0 in
-    let hs : List (maybe.Option Body) = set s.homes n none in
-    let gone : get_elem? hs n ≡ some none = set_here s.homes n none (omega arith) in
-    let quiet = f.here (omega arith) in
-    let a₁ = total-set (has_open n) s.views id v w me in let b₁ = total-set (has_turn n) s.views id v w me in let c₁ = total-set (has_pass n) s.views id v w me in
-    let d₁ = total-set (has_moving n) s.views id v w me in let e₁ = total-set (has_far n) s.views id v w me in (
-      w,
+    let quiet = f.here (omega arith) in (
+      placed n p v,
       takes n body,
       y.1,
-      moves returns key s o id v w n ((x + (2 ^ 64 - 1)) % 2 ^ 64) hs (o.logs n) me near alive_ (length-set s.homes n none) (λ j ne. set_else s.homes n j none ne) (alike_else v n p) (refl, refl, refl, refl, refl, refl, refl)
-          (record {
-            hot = f.hot;
-            one_hot = f.one_hot;
-            word_is = omega (arith, f.word_is, f.one_hot, f.small, f.one_turn, f.one_out);
-            one_turn = omega (arith, f.one_turn);
-            one_out = omega (arith, f.one_out);
-            here = λ _. omega (arith, quiet);
-            small = f.small;
-            chained = f.chained;
-            inside = f.inside;
-            answers = f.answers;
-            slot = slot_of _ _ _ _ _ (λ q. absurd (omega (arith, f.one_out)))
-                (λ _. gone)
-                (λ q. absurd (omega (arith, f.one_out)));
-          })
-          (altered returns key s o id v n p me alive_ wide (λ b e. k.out n b (sym (called_taken (place_of v n)) ∙ e)))
-          (λ e h. h) (λ e h. inl h) (λ e h. h) (omega arith) (inl refl),
+      puts returns key s o id v n ((x + (2 ^ 64 - 1)) % 2 ^ 64) f.hot me near alive_ f.one_hot none p wide
+          (λ moving far a b. (omega (arith, f.word_is, f.one_hot, f.small, f.one_turn, f.one_out), omega (arith, f.one_out), (λ _. quiet), Lent (omega arith) refl))
+          (λ b e. (o.seats.knows id v me).out n b (sym (called_taken (place_of v n)) ∙ e)),
       (body, ap (λ j. (placed j (called (place_of v j)) v, (j, body) ∷ m.1)) (sym (object_home n))),
     )
 
@@ -214,33 +127,13 @@ cools_ok returns key slots id m n lt alive_ s o long me small =
     let f = o.objects.fits n near in let few = few_open returns key s o n in
     let k = o.seats.knows id v me in
     let x : ℕ = slice_index s.words (word_of n) in
-    let w : View = with_cooling n (nat_eq (x / 8 % 2) 1) v in
     let bits = cold_mask x small in
-    let hot_is : x / 8 % 2 ≡ f.hot = omega (arith, f.word_is, f.one_turn, f.one_hot, f.one_out) in
-    let a₁ = total-set (has_open n) s.views id v w me in let b₁ = total-set (has_turn n) s.views id v w me in let c₁ = total-set (has_pass n) s.views id v w me in
-    let d₁ = total-set (has_moving n) s.views id v w me in let e₁ = total-set (has_far n) s.views id v w me in (
-      w,
+    let hot_is : x / 8 % 2 ≡ f.hot = omega (arith, f.word_is, f.one_turn, f.one_hot, f.one_out) in (
+      with_cooling n (nat_eq (x / 8 % 2) 1) v,
       keeps,
       tt,
-      moves returns key s o id v w n (bit_and x (2 ^ 64 - 9)) s.homes (o.logs n) me near alive_ refl (λ _ _. refl)
-          (λ j ne. record { turns = refl; opens = refl; passes = refl; moving = refl; far = refl }) (refl, refl, refl, refl, refl, refl, refl)
-          (record {
-            hot = 0;
-            one_hot = omega arith;
-            word_is = omega (arith, f.word_is, f.one_hot, bits, hot_is);
-            one_turn = omega (arith, f.one_turn);
-            one_out = omega (arith, f.one_out);
-            here = λ out. let h = f.here (omega arith) in omega arith;
-            small = f.small;
-            chained = f.chained;
-            inside = f.inside;
-            answers = f.answers;
-            slot = slot_of _ _ _ _ _ (λ z. body_in f (omega arith))
-                (λ z. body_out f (omega arith))
-                (λ z. body_far f (omega arith));
-          })
-          (same_knows returns key s o id v w n me alive_ (refl, refl, refl, refl, refl, refl, refl) refl refl k.marks (λ z. let h = k.first z in (h.1, h.2)) (λ t is. (k.turn t is).2) k.out k.opens_once)
-          (λ e h. h) (λ e h. inl h) (λ e h. h) (omega arith) (inl refl),
+      keeps_slot returns key s o id v n (bit_and x (2 ^ 64 - 9)) 0 me near alive_ (omega arith) v.scopes v.passing v.marks (v.coolings ++ cooling n (nat_eq (x / 8 % 2) 1) ∷ [])
+          (λ _ _. (refl, refl)) (k.opens_once n) (λ opens passes a b. (omega (arith, f.word_is, f.one_hot, bits, hot_is), λ out. let h = f.here out in omega arith)) k.first k.turn k.marks,
       (refl, ap (λ j. (with_cooling j (nat_eq (x / 8 % 2) 1) v, m.1)) (sym (object_home n))),
     )
 
@@ -254,33 +147,13 @@ lands_ok returns key slots id m n bytes body more lt carried at as_long back_ wi
     let f = o.objects.fits n near in let few = few_open returns key s o n in
     let k = o.seats.knows id v me in
     let x : ℕ = slice_index s.words (word_of n) in
-    let w : View = placed n Here v in
-    let hs : List (maybe.Option Body) = set s.homes n (some body) in
     let part = term_le (has_moving n) s.views id v me in
     let was : has_moving n v ≡ 1 = ap is_moving at in let was' : has_far n v ≡ 0 = ap is_far at in
-    let is : has_moving n w ≡ 0 = ap is_moving (placed_here v n Here wide) in let is' : has_far n w ≡ 0 = ap is_far (placed_here v n Here wide) in
-    let a₁ = total-set (has_open n) s.views id v w me in let b₁ = total-set (has_turn n) s.views id v w me in let c₁ = total-set (has_pass n) s.views id v w me in
-    let d₁ = total-set (has_moving n) s.views id v w me in let e₁ = total-set (has_far n) s.views id v w me in
-    let home : get_elem? hs n ≡ some (some body) = set_here s.homes n (some body) (omega arith) in
     let stood = k.out n bytes (ap bytes_taken at) in
     let stands : Stands returns (bytes_of key n) (o.logs n) body.bytes.items = (as_long stood.0, λ r. back_ r ∙ stood.1 r) in
-    let kept = moves returns key s o id v w n ((x + (2 ^ 64 - 1)) % 2 ^ 64) hs (o.logs n) me near alive_ (length-set s.homes n (some body)) (λ j ne. set_else s.homes n j (some body) ne) (alike_else v n Here) (refl, refl, refl, refl, refl, refl, refl)
-    (record {
-      hot = f.hot;
-      one_hot = f.one_hot;
-      word_is = omega (arith, f.word_is, f.one_hot, f.small, f.one_turn, f.one_out);
-      one_turn = omega (arith, f.one_turn);
-      one_out = omega (arith, f.one_out);
-      here = λ q. absurd (omega (arith, f.one_out));
-      small = f.small;
-      chained = f.chained;
-      inside = f.inside;
-      answers = f.answers;
-      slot = slot_of _ _ _ _ _ (λ _. (body, home, stands))
-          (λ q. absurd (let h = f.here (omega arith) in omega (arith, f.one_out)))
-          (λ q. absurd (omega (arith, f.one_out)));
-    })
-    (altered returns key s o id v n Here me alive_ wide (λ b e. absurd (none_is_not b e)))
-    (λ e h. h) (λ e h. inl h) (λ e h. h) (omega arith) (inl refl) in
-    let P : List (ℕ × Body) → Type 0 = λ c. (w : View) × (a : Act Body) × Rattle.atomic_table.specs.Table.Valid s.homes c a × Kept returns key (Rattle.atomic_table.specs.Table.stepped s (word_of n) ((x + (2 ^ 64 - 1)) % 2 ^ 64) id c w a) × ends_return (step slots (word_of n) 1 0 none) (v, c) x (w, Rattle.atomic_table.specs.Table.carried_after c a) in
-    subst P (sym carried) (w, gives, tt, kept, ap (λ j. (placed j Here v, more)) (sym (object_home n)))
+    let quiet = f.here (omega arith) in
+    gives_back (Kept returns key) s id (word_of n) ((x + (2 ^ 64 - 1)) % 2 ^ 64) x m (ends_return (step slots (word_of n) 1 0 none)) n body more (placed n Here v) carried
+    (puts returns key s o id v n ((x + (2 ^ 64 - 1)) % 2 ^ 64) f.hot me near alive_ f.one_hot (some body) Here wide
+    (λ moving far a b. (omega (arith, f.word_is, f.one_hot, f.small, f.one_turn, f.one_out), omega (arith, f.one_out), (λ out. absurd (omega (arith, f.one_out))), AtHome (omega (arith, f.one_out)) body refl stands))
+    (λ b e. absurd (none_is_not b e)))
+    (ap (λ j. (placed j Here v, more)) (sym (object_home n)))

@@ -54,12 +54,6 @@ in_of (AtHome calm body at stands) z = (body, at, stands)
 in_of (Lent out at) z = absurd (omega arith)
 in_of (Idle far body at) z = absurd (omega arith)
 
-out_of : {returns : Bool} {opening : List ℕ} {t : Tally} {home : maybe.Option (maybe.Option Body)} {log : List Entry} (hot : ℕ)
-    → t.moving + t.far ≤ 1 → (0 < t.moving + t.far → t.opens + t.turns + hot ≡ 0) → SlotFits returns opening t home log → 0 < t.moving + t.turns → home ≡ some none
-out_of hot one here (AtHome calm body at stands) z = absurd (omega arith)
-out_of hot one here (Lent out at) z = at
-out_of hot one here (Idle far body at) z = absurd (let h = here (omega arith) in omega arith)
-
 far_of : {returns : Bool} {opening : List ℕ} {t : Tally} {home : maybe.Option (maybe.Option Body)} {log : List Entry} (hot : ℕ)
     → t.moving + t.far ≤ 1 → (0 < t.moving + t.far → t.opens + t.turns + hot ≡ 0) → SlotFits returns opening t home log → 0 < t.far → (body : Body) × (home ≡ some (some body))
 far_of hot one here (AtHome calm body at stands) z = absurd (omega arith)
@@ -71,27 +65,10 @@ pub body_in : {returns : Bool} {opening : List ℕ} {t : Tally} {word : ℕ} {ho
     → Fits returns opening t word home log → t.moving + t.far + t.turns ≡ 0 → (body : Body) × (home ≡ some (some body)) × Stands returns opening log body.bytes.items
 body_in f z = in_of f.slot z
 
--- where its turn is held, or it is on its way, a seat has the slot
-pub body_out : {returns : Bool} {opening : List ℕ} {t : Tally} {word : ℕ} {home : maybe.Option (maybe.Option Body)} {log : List Entry}
-    → Fits returns opening t word home log → 0 < t.moving + t.turns → home ≡ some none
-body_out f z = out_of f.hot f.one_out f.here f.slot z
-
 -- where it is far some body is at home
 pub body_far : {returns : Bool} {opening : List ℕ} {t : Tally} {word : ℕ} {home : maybe.Option (maybe.Option Body)} {log : List Entry}
     → Fits returns opening t word home log → 0 < t.far → (body : Body) × (home ≡ some (some body))
 body_far f z = far_of f.hot f.one_out f.here f.slot z
-
--- one of the three
-pub slot_of : (returns : Bool) (opening : List ℕ) (t : Tally) (home : maybe.Option (maybe.Option Body)) (log : List Entry)
-    → (t.moving + t.far + t.turns ≡ 0 → (body : Body) × (home ≡ some (some body)) × Stands returns opening log body.bytes.items)
-    → (0 < t.moving + t.turns → home ≡ some none)
-    → (0 < t.far → (body : Body) × (home ≡ some (some body)))
-    → SlotFits returns opening t home log
-slot_of returns opening t home log here out far = dite (ℕ_discrete (t.moving + t.turns) 0)
-    (λ calm. dite (ℕ_discrete t.far 0)
-    (λ near. let b = here (omega arith) in AtHome (omega arith) b.0 b.1 b.2)
-    (λ away. let b = far (omega arith) in Idle (omega arith) b.0 b.1))
-    (λ busy. Lent (omega arith) (out (omega arith)))
 
 -- two views that count the same at an object
 pub record Alike (m : ℕ) (v w : View) : Type 0 where
@@ -134,7 +111,12 @@ module _ (returns : Bool) (opening : List (List ℕ)) (s : St) (o : Kept returns
   abbrev vs' : List View
   vs' = set s.views id w
 
-  -- what another seat knows
+  -- an entry stands as before
+  pub entry_stays : ((e : Entry) → Has (o.logs n) e → Has log e) → (e : Entry) → Has (o.logs e.object) e → Has (logs' e.object) e
+  entry_stays keeps e old = dite (ℕ_discrete e.object n)
+      (λ here. subst (λ l. Has l e) (sym (grown_here o.logs n log e.object here)) (keeps e (subst (λ m. Has (o.logs m) e) here old)))
+      (λ else. subst (λ l. Has l e) (sym (grown_else o.logs n log e.object else)) old)
+
   -- a mark stands as before
   pub mark_stays : top 0 (o.logs n) ≤ top 0 log → (m : Mark) → MarkFits o.logs m → MarkFits logs' m
   mark_stays higher (Away k) h = tt
@@ -143,6 +125,7 @@ module _ (returns : Bool) (opening : List (List ℕ)) (s : St) (o : Kept returns
       (λ here. let a : top 0 (o.logs k) ≡ top 0 (o.logs n) = ap (λ j. top 0 (o.logs j)) here in let b : top 0 (logs' k) ≡ top 0 log = ap (top 0) (grown_here o.logs n log k here) in omega arith)
       (λ else. let b : top 0 (logs' k) ≡ top 0 (o.logs k) = ap (top 0) (grown_else o.logs n log k else) in omega arith)
 
+  -- what another seat knows
   others : ((e : Entry) → Has (o.logs n) e → Has log e) → top 0 (o.logs n) ≤ top 0 log → (log ≡ o.logs n) ⊎ (has_turn n v ≡ 1)
       → (j : ℕ) (u : View) → j ≢ id → get_elem? s.views j ≡ some u → Knows returns opening logs' j u
   others keeps higher mine j u ne at = let k = o.seats.knows j u at in record {
@@ -172,12 +155,7 @@ module _ (returns : Bool) (opening : List (List ℕ)) (s : St) (o : Kept returns
         absurd (omega (arith, gone, term_le (has_turn n) s.views id v me, term_le (has_moving n) s.views j u at, term_le (has_far n) s.views j u at)))
         mine)
         (λ else. subst (λ l. Stands returns (bytes_of opening m) l bytes) (sym (grown_else o.logs n log m else)) (k.out m bytes e));
-    entries = λ e has. let old = k.entries e has in (
-      old.0,
-      dite (ℕ_discrete e.object n)
-          (λ here. subst (λ l. Has l e) (sym (grown_here o.logs n log e.object here)) (keeps e (subst (λ m. Has (o.logs m) e) here old.1)))
-          (λ else. subst (λ l. Has l e) (sym (grown_else o.logs n log e.object else)) old.1),
-    );
+    entries = λ e has. let old = k.entries e has in (old.0, entry_stays keeps e old.1);
     marks = λ m has. mark_stays higher m (k.marks m has);
     rises = k.rises;
   }
@@ -196,12 +174,7 @@ module _ (returns : Bool) (opening : List (List ℕ)) (s : St) (o : Kept returns
   fits_on : ((e : Entry) → Has (o.logs n) e → Has log e) → top 0 (o.logs n) ≤ top 0 log → (p : Part) → PartFits o.logs s.views p → PartFits logs' vs' p
   fits_on keeps higher p f = record {
     rises = f.rises;
-    entries = λ e has. let q = f.entries e has in (
-      q.0,
-      dite (ℕ_discrete e.object n)
-          (λ here. subst (λ l. Has l e) (sym (grown_here o.logs n log e.object here)) (keeps e (subst (λ m. Has (o.logs m) e) here q.1)))
-          (λ else. subst (λ l. Has l e) (sym (grown_else o.logs n log e.object else)) q.1),
-    );
+    entries = λ e has. let old = f.entries e has in (old.0, entry_stays keeps e old.1);
     marks = λ m has. mark_stays higher m (f.marks m has);
     gone = set_else s.views id p.actor w (λ same. let is : spent ≡ v = some-injective spent v (sym f.gone ∙ ap (get_elem? s.views) same ∙ me) in no_live (ap (λ (y : View). y.live) is ∙ alive_)) ∙ f.gone;
   }

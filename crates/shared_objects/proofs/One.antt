@@ -37,20 +37,22 @@ through a b c p q = ⊎_elim
     (λ (x : (a.stamp ≡ b.stamp) × (a.actor < b.actor)). let x0 = x.0 in let x1 = x.1 in
     ⊎_elim (λ (y : b.stamp < c.stamp). inl (omega arith)) (λ (y : (b.stamp ≡ c.stamp) × (b.actor < c.actor)). let y0 = y.0 in let y1 = y.1 in inr (omega arith, omega arith)) q) p
 
--- an entry has its place in the order
-pub inserts : (e : Entry) (l : List Entry) → InOrder l → ((f : Entry) → Has l f → Before e f ⊎ Before f e)
+-- an entry has its place in the order, and may be there already
+pub places : (e : Entry) (l : List Entry) → InOrder l → ((f : Entry) → Has l f → (e ≡ f) ⊎ (Before e f ⊎ Before f e))
     → (m : List Entry) × InOrder m × Has m e × ((x : Entry) → Has l x → Has m x) × ((x : Entry) → Has m x → (e ≡ x) ⊎ Has l x)
-inserts e [] o apart = (e ∷ [], (λ f h. absurd (empty f h), tt), first e [], λ x h. absurd (empty x h), λ x h. ⊎_elim (λ q. inl q) (λ q. inr q) (has_cons e x [] h))
-inserts e (f ∷ fs) o apart = ⊎_elim
-    (λ (soon : Before e f). (e ∷ f ∷ fs, (λ g h. ⊎_elim (λ q. subst (Before e) q soon) (λ q. through e f g soon (o.0 g q)) (has_cons f g fs h), o), first e (f ∷ fs), λ x h. later e x (f ∷ fs) h, λ x h. has_cons e x (f ∷ fs) h))
-    (λ (late : Before f e). let t = inserts e fs o.1 (λ g h. apart g (later f g fs h)) in (
+places e [] o near = (e ∷ [], (λ f h. absurd (empty f h), tt), first e [], λ x h. absurd (empty x h), λ x h. has_cons e x [] h)
+places e (f ∷ fs) o near = ⊎_elim
+    (λ (same : e ≡ f). (f ∷ fs, o, subst (Has (f ∷ fs)) (sym same) (first f fs), (λ x h. h), λ x h. inr h))
+    (λ q. ⊎_elim
+    (λ (soon : Before e f). (e ∷ f ∷ fs, (λ g h. ⊎_elim (λ p. subst (Before e) p soon) (λ p. through e f g soon (o.0 g p)) (has_cons f g fs h), o), first e (f ∷ fs), λ x h. later e x (f ∷ fs) h, λ x h. has_cons e x (f ∷ fs) h))
+    (λ (late : Before f e). let t = places e fs o.1 (λ g h. near g (later f g fs h)) in (
       f ∷ t.0,
-      (λ g h. ⊎_elim (λ q. subst (Before f) q late) (λ q. o.0 g q) (t.4 g h), t.1),
+      (λ g h. ⊎_elim (λ p. subst (Before f) p late) (λ p. o.0 g p) (t.4 g h), t.1),
       later f e t.0 t.2,
-      λ x h. ⊎_elim (λ q. subst (Has (f ∷ t.0)) q (first f t.0)) (λ q. later f x t.0 (t.3 x q)) (has_cons f x fs h),
-      λ x h. ⊎_elim (λ q. inr (subst (Has (f ∷ fs)) q (first f fs))) (λ q. ⊎_elim (λ p. inl p) (λ p. inr (later f x fs p)) (t.4 x q)) (has_cons f x t.0 h),
-    ))
-    (apart f (first f fs))
+      λ x h. ⊎_elim (λ p. subst (Has (f ∷ t.0)) p (first f t.0)) (λ p. later f x t.0 (t.3 x p)) (has_cons f x fs h),
+      λ x h. ⊎_elim (λ p. inr (subst (Has (f ∷ fs)) p (first f fs))) (λ p. ⊎_elim (λ r. inl r) (λ r. inr (later f x fs r)) (t.4 x p)) (has_cons f x t.0 h),
+    )) q)
+    (near f (first f fs))
 
 -- two entries of one stamp or of different actors
 pub apart_by_stamp : (e f : Entry) → e.stamp < f.stamp → Before e f ⊎ Before f e
@@ -102,8 +104,8 @@ merge_part : (floor a : ℕ) (es l : List Entry) → Rises floor es → ((e : En
 merge_part floor a [] l r mine o others = (l, o, (λ x h. absurd (empty x h)), (λ x h. h), λ x h. inr h)
 merge_part floor a (e ∷ es) l r mine o others =
     let t = merge_part e.stamp a es l r.1 (λ x h. mine x (later e x es h)) o others in
-    let i = inserts e t.0 t.1 (λ f h. ⊎_elim (λ (q : Has es f). apart_by_stamp e f (rises_above e.stamp es f r.1 q))
-    (λ (q : Has l f). apart_by_actor e f (λ same. others f q (sym same ∙ mine e (first e es)))) (t.4 f h)) in (
+    let i = places e t.0 t.1 (λ f h. inr (⊎_elim (λ (q : Has es f). apart_by_stamp e f (rises_above e.stamp es f r.1 q))
+    (λ (q : Has l f). apart_by_actor e f (λ same. others f q (sym same ∙ mine e (first e es)))) (t.4 f h))) in (
       i.0,
       i.1,
       (λ x h. ⊎_elim (λ (q : e ≡ x). subst (Has i.0) q i.2) (λ q. i.3 x (t.2 x q)) (has_cons e x es h)),

@@ -1,5 +1,5 @@
 -- The slots that are with the mover, in turns, and its phases.
-use Rattle.std.proofs.Common.{◌≡◌, ℕ, zero, suc, ◌+◌, ◌<◌, ◌≤◌, ◌≢◌, List, [], ◌∷◌, ◌++◌, length, set, map, take, drop, get_or, replicate, sym, refl, ap, ◌∙◌, arith, cond, eq-eqb, ne_eqb, length-append, Some}
+use Rattle.std.proofs.Common.{◌≡◌, ℕ, zero, suc, ◌+◌, ◌<◌, ◌≤◌, ◌≢◌, List, [], ◌∷◌, ◌++◌, length, set, map, take, drop, get_or, replicate, sym, refl, ap, ◌∙◌, arith, cond, eq-eqb, ne_eqb, length-append, length-set, subst, Some}
 use Rattle.std.specs.Prelude.{slice_index_or, slice_set}
 use Rattle.std.proofs.lemmas.List.{map-set}
 use mathlib.Core.Logic.{dite}
@@ -7,7 +7,7 @@ use native.Mathlib.Decide.{ℕ_discrete}
 use Rattle.atomic_table.specs.Table.{turned, rest}
 use Rattle.shared_objects.specs.Rule.{times, total, place_of, bytes_taken, is_moving}
 use Rattle.shared_objects.specs.Kinds.{placed}
-use Rattle.shared_objects.specs.Phases.{phase_of, place_in}
+use Rattle.shared_objects.specs.Phases.{phase_of, place_in, Makes}
 use Rattle.shared_objects.specs.declared.body.Body.{Body}
 use Rattle.shared_objects.specs.declared.view.Place.{Place}
 use Rattle.shared_objects.specs.declared.view.Place.TheVariants.{Here, Moving, Far}
@@ -16,7 +16,7 @@ use Rattle.shared_objects.specs.declared.seats.Phase.TheVariants as phases
 use Rattle.shared_objects.specs.declared.view.View.{View}
 use Rattle.shared_objects.proofs.Sums.{is_here, is_else, total_few}
 use Rattle.shared_objects.proofs.Keeps.{none_is_not}
-use Rattle.shared_objects.proofs.MoverKeeps.{placed_here, placed_else}
+use Rattle.shared_objects.proofs.Steps.{placed_here, placed_else}
 
 pub times-append : (n : ℕ) (xs ys : List ℕ) → times n (xs ++ ys) ≡ times n xs + times n ys
 times-append n [] ys = omega arith
@@ -153,22 +153,43 @@ all_in (x ∷ xs) (y ∷ ys) e = ap (λ l. phases.In ∷ l) (all_in xs ys (omega
 
 -- ---- after a step of the mover
 
-pub phased_after : (ps : List Phase) (out : List Place) (n : ℕ) (p : Place) (q : Phase) → ps ≡ map phase_of out → phase_of p ≡ q → slice_set ps n q ≡ map phase_of (slice_set out n p)
+phased_after : (ps : List Phase) (out : List Place) (n : ℕ) (p : Place) (q : Phase) → ps ≡ map phase_of out → phase_of p ≡ q → slice_set ps n q ≡ map phase_of (slice_set out n p)
 phased_after ps out n p q e is = ap (λ l. set l n q) e ∙ ap (set (map phase_of out) n) (sym is) ∙ sym (map-set phase_of out n p)
 
 -- one more is on its way
-pub held_taken : (v : View) (n : ℕ) (p : Place) (order : List ℕ) → ((m : ℕ) → is_moving (place_of v m) ≡ 1 → 0 < times m order)
+held_taken : (v : View) (n : ℕ) (p : Place) (order : List ℕ) → ((m : ℕ) → is_moving (place_of v m) ≡ 1 → 0 < times m order)
     → (m : ℕ) → is_moving (place_of (placed n p v) m) ≡ 1 → 0 < times m (order ++ n ∷ [])
 held_taken v n p order held m e = dite (ℕ_discrete n m)
     (λ here. omega (arith, times-append m order (n ∷ []), is_here n m here))
     (λ ne. let old = held m (sym (ap is_moving (placed_else v n p m (λ q. ne (sym q)))) ∙ e) in omega (arith, times-append m order (n ∷ [])))
 
 -- one is on its way no more
-pub held_landed : (v : View) (n : ℕ) (p : Place) (order before rest : List ℕ) → n < length v.out → is_moving p ≡ 0 → before ≡ n ∷ rest → ((m : ℕ) → times m before ≡ times m order) → ((m : ℕ) → is_moving (place_of v m) ≡ 1 → 0 < times m order)
+held_landed : (v : View) (n : ℕ) (p : Place) (order before rest : List ℕ) → n < length v.out → is_moving p ≡ 0 → before ≡ n ∷ rest → ((m : ℕ) → times m before ≡ times m order) → ((m : ℕ) → is_moving (place_of v m) ≡ 1 → 0 < times m order)
     → (m : ℕ) → is_moving (place_of (placed n p v) m) ≡ 1 → 0 < times m rest
 held_landed v n p order before rest wide still is same_times held m e = dite (ℕ_discrete n m)
     (λ here. absurd (let z : is_moving (place_of (placed n p v) m) ≡ 0 = ap is_moving (ap (place_of (placed n p v)) (sym here) ∙ placed_here v n p wide) ∙ still in omega (arith, z, e)))
     (λ ne. let old = held m (sym (ap is_moving (placed_else v n p m (λ q. ne (sym q)))) ∙ e) in omega (arith, same_times m, ap (times m) is, is_else n m ne))
+
+-- a mover: its view, its slots, its phases, and the numbers of its slots, with room for so many
+abbrev MoverFits : View → List (ℕ × Body) → List Phase → List ℕ → ℕ → Type 0
+MoverFits v slots named order room = Makes v × (named ≡ map phase_of v.out) × (length v.out ≡ length v.opening) × (order ≡ numbers slots)
+    × ((m : ℕ) → is_moving (place_of v m) ≡ 1 → 0 < times m order) × (length order ≡ total is_moving v.out) × (length v.opening ≤ room)
+
+module _ (v w : View) (n : ℕ) (p : Place) (old new : List (ℕ × Body)) (named : List Phase) (phase : Phase) (order after : List ℕ) (room wider : ℕ) (fits : MoverFits v old named order room)
+    (wide : n < length v.out) (is : w ≡ placed n p v) (is_phase : phase_of p ≡ phase) (slots : after ≡ numbers new) (roomy : room ≤ wider) where
+  placed_fits : ((m : ℕ) → is_moving (place_of (placed n p v) m) ≡ 1 → 0 < times m after) → length after + is_moving (place_of v n) ≡ length order + is_moving p → MoverFits w new (slice_set named n phase) after wider
+  placed_fits held count = subst (λ u. MoverFits u new (slice_set named n phase) after wider) (sym is)
+      (fits.0, phased_after named v.out n p phase fits.1 is_phase, length-set v.out n p ∙ fits.2, slots, held, omega (arith, count, fits.5, total_placed v.out n p wide), omega (arith, fits.6))
+
+  -- one more is on its way, behind the others
+  pub taken_fits : after ≡ order ++ n ∷ [] → is_moving (place_of v n) ≡ 0 → is_moving p ≡ 1 → MoverFits w new (slice_set named n phase) after wider
+  taken_fits longer was still = placed_fits (subst (λ l. (m : ℕ) → is_moving (place_of (placed n p v) m) ≡ 1 → 0 < times m l) (sym longer) (held_taken v n p order fits.4))
+      (omega (arith, ap length longer, length-append order (n ∷ []), was, still))
+
+  -- the first of them is on its way no more
+  pub landed_fits : (before : List ℕ) → before ≡ n ∷ after → ((m : ℕ) → times m before ≡ times m order) → length before ≡ length order → is_moving (place_of v n) ≡ 1 → is_moving p ≡ 0
+      → MoverFits w new (slice_set named n phase) after wider
+  landed_fits before first same_times as_long was still = placed_fits (held_landed v n p order before after wide still first same_times fits.4) (omega (arith, ap length first, as_long, was, still))
 
 abbrev pub zeros : ℕ → List ℕ
 zeros k = replicate k 0

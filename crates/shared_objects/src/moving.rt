@@ -12,6 +12,7 @@ use crate::body::Body;
 use crate::kinds::{BeginsLeave, BeginsReturn, Cools, EndsLeave, EndsReturn};
 use crate::seats::{MoverSeat, Phase, Seat};
 use crate::table::{SharedTable, WORDS_APART};
+use pointer_word::{FARTHER, HOT, STAMP};
 
 /// What became of a try to take a body.
 #[derive(Drop, Debug)]
@@ -24,17 +25,14 @@ pub enum Leave {
     NoObject,
 }
 
-/// The mark of heat.
-const HOT: u64 = 8;
-
 /// The word of an object that begins to leave, where no scope is open and no turn held. The mark of heat goes.
 fn word_leaving(word: u64) -> Option<u64>
-    ensures some { IfSome result (λ next. ((word % 65536 ≡ 0) ⊎ (word % 65536 ≡ 8)) × (next ≡ word - word % 65536 + 1)) }
-    ensures none { result ≡ None → (word % 65536 ≢ 0) × (word % 65536 ≢ 8) }
+    ensures some { IfSome result (λ next. ((word % STAMP ≡ 0) ⊎ (word % STAMP ≡ HOT)) × (next ≡ word - word % STAMP + FARTHER)) }
+    ensures none { result ≡ None → (word % STAMP ≢ 0) × (word % STAMP ≢ HOT) }
 {
-    let low = word % 65536;
+    let low = word % STAMP;
     if low == 0 || low == HOT {
-        Some(word - low + 1)
+        Some(word - low + FARTHER)
     } else {
         None
     }
@@ -106,7 +104,7 @@ impl SharedTable {
         bring(&mut mover.seat, &mut mover.order, n);
         self.table
             .shared
-            .fetch_add::<EndsLeave>(&mut mover.seat, n * WORDS_APART, 1);
+            .fetch_add::<EndsLeave>(&mut mover.seat, n * WORDS_APART, FARTHER);
         mover.order.remove(0);
         mover.phases[n] = Phase::Far;
     }
@@ -132,7 +130,7 @@ impl SharedTable {
         let n = number as usize;
         self.table
             .shared
-            .fetch_sub::<BeginsReturn>(&mut mover.seat, n * WORDS_APART, 1);
+            .fetch_sub::<BeginsReturn>(&mut mover.seat, n * WORDS_APART, FARTHER);
         mover.seat.turn();
         mover.order.push_reserved(n);
         mover.phases[n] = Phase::Moving;
@@ -156,7 +154,7 @@ impl SharedTable {
         );
         self.table
             .shared
-            .fetch_sub::<EndsReturn>(&mut mover.seat, n * WORDS_APART, 1);
+            .fetch_sub::<EndsReturn>(&mut mover.seat, n * WORDS_APART, FARTHER);
         mover.order.remove(0);
         mover.phases[n] = Phase::In;
     }

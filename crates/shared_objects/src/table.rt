@@ -16,6 +16,7 @@ use crate::kinds::{
 use crate::seats::Seat;
 use crate::view::View;
 use atomic_table::Table;
+use pointer_word::{HOT, PLACE, SCOPE, STAMP, TURN};
 use std::alloc::Global;
 
 /// How many words of the table there are for one object, so that no two objects share a cache line.
@@ -49,8 +50,8 @@ impl SharedTable {
         let found = self
             .table
             .shared
-            .fetch_add::<OpensScope>(seat, n * WORDS_APART, 256);
-        found % 4 == 0
+            .fetch_add::<OpensScope>(seat, n * WORDS_APART, SCOPE);
+        found & PLACE == 0
     }
 
     /// Close scope.
@@ -66,7 +67,7 @@ impl SharedTable {
     {
         self.table
             .shared
-            .fetch_sub::<ClosesScope>(seat, n * WORDS_APART, 256);
+            .fetch_sub::<ClosesScope>(seat, n * WORDS_APART, SCOPE);
     }
 
     /// Close scope, of an object that was found away.
@@ -81,7 +82,7 @@ impl SharedTable {
     {
         self.table
             .shared
-            .fetch_sub::<LeavesPass>(seat, n * WORDS_APART, 256);
+            .fetch_sub::<LeavesPass>(seat, n * WORDS_APART, SCOPE);
     }
 
     /// Take turn: the stamp that it found, where the turn was free.
@@ -99,9 +100,9 @@ impl SharedTable {
         let found = self
             .table
             .shared
-            .fetch_or::<TakesTurn>(seat, n * WORDS_APART, 12);
-        if found / 4 % 2 == 0 {
-            Some(found / 65536)
+            .fetch_or::<TakesTurn>(seat, n * WORDS_APART, TURN | HOT);
+        if found / TURN % 2 == 0 {
+            Some(found / STAMP)
         } else {
             None
         }
@@ -121,7 +122,7 @@ impl SharedTable {
     {
         self.table
             .shared
-            .fetch_add::<GivesTurn<T>>(seat, n * WORDS_APART, (stamp - found) * 65536 - 4);
+            .fetch_add::<GivesTurn<T>>(seat, n * WORDS_APART, (stamp - found) * STAMP - TURN);
     }
 
     /// Give turn, without an entry.
@@ -137,7 +138,7 @@ impl SharedTable {
         let _found = found;
         self.table
             .shared
-            .fetch_sub::<GivesUpTurn>(seat, n * WORDS_APART, 4);
+            .fetch_sub::<GivesUpTurn>(seat, n * WORDS_APART, TURN);
     }
 
     /// How many bytes the object has; 0 where there is none of this number.

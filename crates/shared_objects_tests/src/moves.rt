@@ -1,12 +1,13 @@
 //! Bodies that leave and come back.
 
 use crate::compared::same;
-use crate::stage::{Careless, LOAD, Stage, add, number_of};
+use crate::stage::{LOAD, Stage, add, number_of};
 use far_store::OwnStore;
 use memory::Reach;
 use shared_objects::{Ended, Fetched, Leave};
 use std::alloc::Global;
 use std::test::Fail;
+use test_devices::Short;
 
 #[test]
 fn an_object_that_is_out_is_away(rt: HostRuntime) -> Result<(), Fail> {
@@ -48,7 +49,7 @@ fn two_objects_leave_at_once(rt: HostRuntime) -> Result<(), Fail> {
 
 #[test]
 fn bytes_of_another_length_are_handed_back(rt: HostRuntime) -> Result<(), Fail> {
-    let mut stage: Stage<Careless> = Stage::open(rt.alloc(), 1, 1)?;
+    let mut stage: Stage<Short> = Stage::open(rt.alloc(), 1, 1)?;
     same!(rt; matches!(stage.begin_leave(1), Leave::Taken(_)), true);
     same!(rt; stage.end_leave(1), true);
     same!(rt; stage.begin_return(1), true);

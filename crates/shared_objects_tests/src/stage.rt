@@ -1,11 +1,10 @@
 //! A table of objects of eight bytes, with all its seats.
 ghost use Rattle.std.specs.Prelude.{◌≡◌, ◌<◌, ◌≤◌, false, length, IfOk};
 ghost use Rattle.std.proofs.Props.{props};
-ghost use Rattle.far_store.specs.Calls.{own_called};
 ghost use Rattle.shared_objects.specs.Tables.{IsMoverOf};
 ghost use Rattle.shared_objects_tests.specs.Stages.{AreSeatsOf};
 
-use far_store::{FarStore, OwnParcel, OwnStore, StoreFault};
+use far_store::FarStore;
 use isa_table::{AtomicOp, Size, Width};
 use memory::{Action, Op, Reach};
 use shared_objects::{
@@ -32,53 +31,6 @@ pub fn add(number: u64) -> Op {
     }
 }
 
-/// So many bodies of eight zero bytes.
-pub fn bodies(alloc: Global, count: usize) -> Result<Vec<Vec<u8>>, AllocError>
-    ensures { IfOk result (λ v. length v.items ≡ count) }
-{
-    let mut bodies = Vec::new(alloc);
-    while bodies.len() < count {
-        bodies.push(vec![in alloc; 0u8; 8]?)?;
-    }
-    Ok(bodies)
-}
-
-/// A far store that doesn't promise to give back what was put.
-#[derive(Drop)]
-pub struct Careless {
-    store: OwnStore,
-}
-
-impl FarStore for Careless {
-    ghost RETURNS = { false };
-
-    const RETURNS: bool = false;
-
-    type Parcel = OwnParcel;
-
-    ghost bytes_in = { λ p. p.bytes };
-
-    ghost faults_of = { λ s. s.store };
-
-    ghost called = { λ s call t. own_called s.store call t.store };
-
-    fn put(&mut self, bytes: Vec<u8>) -> Result<OwnParcel, (StoreFault, Vec<u8>)> {
-        self.store.put(bytes)
-    }
-
-    fn get(&mut self, parcel: &OwnParcel) -> Result<Vec<u8>, StoreFault> {
-        self.store.get(parcel)
-    }
-
-    fn forget(&mut self, parcel: OwnParcel) {
-        self.store.forget(parcel);
-    }
-
-    fn faults(&self) -> u64 {
-        self.store.faults()
-    }
-}
-
 /// A table with all its seats. The first actor has the index 0.
 #[derive(Drop)]
 pub struct Stage<F: FarStore> {
@@ -93,7 +45,7 @@ impl<F: FarStore> Stage<F> {
         requires { (objects ≤ 1024) × (actors ≤ 56) }
         ensures { IfOk result (λ s. length s.actors.items ≡ actors) }
     {
-        let Ok(bodies) = bodies(alloc, objects) else {
+        let Ok(bodies) = test_devices::objects(alloc, objects, 8) else {
             return Err(OpenFault::Memory);
         };
         let (shared, actors, mover) = Shared::open(alloc, bodies, actors)?;
@@ -280,6 +232,5 @@ pub fn number_of(ended: &Ended) -> Option<u64> {
     let Ended::Here(bytes) = ended else {
         return None;
     };
-    let bytes: [u8; 8] = bytes.as_slice().try_into().ok()?;
-    Some(u64::from_le_bytes(bytes))
+    test_devices::number_of(bytes)
 }

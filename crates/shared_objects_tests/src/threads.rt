@@ -5,13 +5,14 @@ ghost use Rattle.shared_objects_tests.specs.Stages.{AreSeatsOf};
 ghost use denote.Param.Send.{IsSync};
 
 use crate::compared::same;
-use crate::stage::{add, bodies, goes_and_returns, number_of};
+use crate::stage::{add, goes_and_returns, number_of};
 use far_store::OwnStore;
 use memory::Reach;
 use shared_objects::{ActorSeat, MoverSeat, Shared, SharedTable};
 use std::alloc::AllocError;
 use std::test::Fail;
 use std::thread::{Threads, join, map_vec, yield_now};
+use test_devices::objects;
 
 /// How often an actor tries at most, in all.
 const TRIES: u32 = 500_000;
@@ -64,7 +65,7 @@ fn by_two<R: Threads + Sync>(
 
 #[test]
 fn two_threads_add(rt: HostRuntime) -> Result<(), Fail> {
-    let bodies = bodies(rt.alloc(), 1)?;
+    let bodies = objects(rt.alloc(), 1, 8)?;
     let (shared, mut actors, mover): (Shared<OwnStore>, Vec<ActorSeat>, MoverSeat) = Shared::open(
         rt.alloc(),
         bodies,
@@ -126,7 +127,7 @@ fn by_three<R: Threads + Sync>(
 
 #[test]
 fn a_look_while_two_threads_add_finds_rising_stamps(rt: HostRuntime) -> Result<(), Fail> {
-    let bodies = bodies(rt.alloc(), 1)?;
+    let bodies = objects(rt.alloc(), 1, 8)?;
     let (shared, mut actors, mover): (Shared<OwnStore>, Vec<ActorSeat>, MoverSeat) = Shared::open(
         rt.alloc(),
         bodies,
@@ -215,7 +216,7 @@ fn by_all<R: Threads + Sync>(
 
 #[test]
 fn eight_threads_add_while_bodies_move(rt: HostRuntime) -> Result<(), Fail> {
-    let bodies = bodies(rt.alloc(), 4)?;
+    let bodies = objects(rt.alloc(), 4, 8)?;
     let (shared, actors, mover): (Shared<OwnStore>, Vec<ActorSeat>, MoverSeat) = Shared::open(
         rt.alloc(),
         bodies,

@@ -2,6 +2,7 @@
 ghost use Rattle.std.specs.Prelude.{false, true};
 ghost use Rattle.far_store.specs.Calls.{own_called};
 
+use crate::made::number_of;
 use far_store::{FarStore, OwnParcel, OwnStore, StoreFault};
 use std::alloc::{AllocError, Global};
 use std::cell::Cell;
@@ -173,4 +174,14 @@ impl FarStore for Short {
     fn faults(&self) -> u64 {
         self.store.faults()
     }
+}
+
+/// The number for which the parcel of an object stands, if one is kept.
+pub fn number_kept<F: FarStore>(
+    store: &mut F,
+    parcels: &[Option<F::Parcel>],
+    object: usize,
+) -> Option<u64> {
+    let parcel = parcels.get(object)?.as_ref()?;
+    number_of(&store.get(parcel).ok()?)
 }

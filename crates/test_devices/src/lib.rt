@@ -10,8 +10,8 @@ mod readers;
 mod tcp;
 mod writers;
 
-pub use far_stores::{Asked, Call, Counting, LOGGED, Short};
-pub use made::{code, objects};
+pub use far_stores::{Asked, Call, Counting, LOGGED, Short, number_kept};
+pub use made::{code, number_of, objects};
 pub use pipe::{PipeReader, PipeWriter};
 pub use readers::{FailingReader, Pieces};
 pub use tcp::{Flaw, ends, serve_flawed};

@@ -1,4 +1,4 @@
-//! Objects and code.
+//! Objects, numbers and code.
 ghost use Rattle.std.specs.Prelude.{◌≡◌, length, IfOk};
 
 use std::alloc::{AllocError, Global};
@@ -12,6 +12,11 @@ pub fn objects(alloc: Global, count: usize, bytes: usize) -> Result<Vec<Vec<u8>>
         bodies.push(vec![in alloc; 0u8; bytes]?)?;
     }
     Ok(bodies)
+}
+
+/// The number that eight bytes are, the least first.
+pub fn number_of(bytes: &[u8]) -> Option<u64> {
+    Some(u64::from_le_bytes(bytes.try_into().ok()?))
 }
 
 /// The code of these slots, each written as its bytes, first to last.

@@ -7,12 +7,14 @@ import os
 import sys
 from typing import Any, Callable, Optional, Sequence
 
+from .. import limits
+from ..agent import STACK
 from ..commands import fault_text
 from ..image import Unloadable
-from ..replies import Broken, Refused
+from ..replies import PAUSED, RUNNING, Broken, Refused
 from ..ship import FUEL, Unshippable
 from .channel import Channel, Ended
-from .engine import RUNNING, Engine, Goal, Impossible, Stop
+from .engine import Engine, Goal, Impossible, Stop
 from .expressions import Invalid, Value, integer
 from .frames import Frame
 from .lines import NoDwarf, SourceLine
@@ -20,7 +22,7 @@ from .program import NoPlace, Place
 from .running import Runner
 from .session import WORKERS, Plan, Session
 from .types import INTEGER
-from .variables import STACK_OBJECT, Tree
+from .variables import Tree
 from .views import STOPS
 
 Body = dict[str, Any]
@@ -188,7 +190,7 @@ class Adapter:
             if self._engine.is_running(number):
                 continue
             state = self._engine.registers(number).state
-            if self._stops_on_entry or state not in (RUNNING, "paused"):
+            if self._stops_on_entry or state not in (RUNNING, PAUSED):
                 self._event("stopped", reason="entry", threadId=number, allThreadsStopped=False)
             else:
                 self._engine.run(number)
@@ -429,7 +431,7 @@ class Adapter:
         """Bytes of an object, or of a machine's stack: the reference of a stack begins with its machine and a colon."""
         machine, _, text = str(arguments["memoryReference"]).rpartition(":")
         address, count = int(text, 16) + int(arguments.get("offset") or 0), int(arguments["count"])
-        number = int(machine) if machine else self._any_frame().machine if address >> 32 == STACK_OBJECT else 0
+        number = int(machine) if machine else self._any_frame().machine if address >> 32 == STACK else 0
         content = self._readable(number, address, count)
         return {"address": f"0x{address:x}", "data": base64.b64encode(content).decode("ascii"), "unreadableBytes": count - len(content)}
 
@@ -454,7 +456,7 @@ class Adapter:
         address = int(str(arguments["memoryReference"]), 16) + int(arguments.get("offset") or 0)
         number, slot = divmod(address - CODE, SLOTS)
         program = self._engine.machine(number).program
-        starts = program.starts if program else list(range(4096))
+        starts = program.starts if program else list(range(limits.SLOTS))
         here = starts.index(slot) + int(arguments.get("instructionOffset") or 0)
         chosen = range(here, here + int(arguments["instructionCount"]))
         return {"instructions": [self._instruction(number, starts[k]) if 0 <= k < len(starts) else nothing(number, k) for k in chosen]}

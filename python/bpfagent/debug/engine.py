@@ -10,18 +10,16 @@ import time
 from dataclasses import dataclass, field
 from typing import Callable, Generator, Optional, Sequence
 
-from ..agent import Agent, patiently, pauses
-from ..replies import Refused, Registers
+from ..agent import PIECE, STACK, Agent, patiently, pauses
+from ..limits import LONGEST, MACHINES, OBJECTS, SLOTS, STACK_SIZE
+from ..replies import PAUSED, RUNNING, Refused, Registers
 from .expressions import Invalid, Value, evaluate, integer
-from .frames import STACK_OBJECT, CallSite, Frame, FrameContext, Unreadable, Unwinder, depth_of
+from .frames import CallSite, Frame, FrameContext, Unreadable, Unwinder, depth_of
 from .lines import SourceLine
 from .program import NoPlace, Place, Program
 from .symbols import Nowhere
 from .types import BYTE, INTEGERS, Type
 
-# The protocol's limits.
-MACHINES, SLOTS, OBJECTS, PIECE, STACK_SIZE, LONGEST = 48, 4096, 1024, 4096, 4096, 65_536
-RUNNING, PAUSED = "run", "paused"
 # How often a service is asked for machines that others shipped, in seconds.
 LOOK = 0.5
 # How long a byte is asked for while the object comes back, or another has its turn on it, in seconds.
@@ -179,7 +177,7 @@ class Engine:
     def memory(self, machine: int, address: int, length: int) -> bytes:
         """Bytes that a machine sees. `Unreadable` says why they can't be had."""
         number, offset = address >> 32, address & 0xFFFF_FFFF
-        if number == STACK_OBJECT:
+        if number == STACK:
             if offset + length > STACK_SIZE:
                 raise Unreadable(f"0x{address:x} is outside the stack")
             return self._pieces(lambda at, size: self.agent.stack(machine, at, size), offset, length)

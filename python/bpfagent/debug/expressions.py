@@ -6,10 +6,10 @@ import re
 from dataclasses import dataclass
 from typing import Callable, Optional, Protocol
 
+from ..limits import LONGEST, WORD
 from .types import ARRAY, INTEGER, POINTER, UNSIGNED, Type, member_bytes, number_of, pointer_to, shown
 
 TOKEN = re.compile(r"\s*(?:(0[xX][0-9a-fA-F]+|[0-9]+)|(\$?[A-Za-z_]\w*)|(->|[=!<>]=|&&|\|\||[-+*/%&.()\[\]<>!]))")
-WORD = (1 << 64) - 1
 # The digits of the greatest word, in each base.
 DIGITS = {10: 20, 16: 16}
 COMPARISONS: dict[str, Callable[[int, int], bool]] = {
@@ -20,8 +20,6 @@ COMPARISONS: dict[str, Callable[[int, int], bool]] = {
     ">": operator.gt,
     ">=": operator.ge,
 }
-# No value has more bytes: no object has.
-LARGEST = 65_536
 # How deeply brackets and operators of one operand may be nested.
 NESTED = 50
 
@@ -238,7 +236,8 @@ class Parser:
 
     def at(self, type_: Type, address: int) -> Value:
         """The value of a type at an address."""
-        if not 0 < type_.size <= LARGEST:
+        # no object has more bytes
+        if not 0 < type_.size <= LONGEST:
             raise Invalid(f"{type_} has no size")
         return Value(type_, self._context.memory(address, type_.size), address)
 

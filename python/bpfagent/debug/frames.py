@@ -19,7 +19,6 @@ from .types import UNSIGNED, Type
 # R10 of the outermost function, and by how much a call lowers it.
 TOP = 0xFFFF_FFFF_0000_1000
 CALL = 512
-STACK_OBJECT = 0xFFFF_FFFF
 # A call keeps these registers; the others are the callee's.
 KEPT = (6, 7, 8, 9)
 

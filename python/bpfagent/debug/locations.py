@@ -4,7 +4,8 @@ from __future__ import annotations
 import re
 from typing import Any, Callable, Optional, Sequence
 
-from .symbols import FRAME, WORD, Location, Nowhere
+from ..limits import WORD
+from .symbols import FRAME, Location, Nowhere
 
 # Operations on the two topmost values, and on the topmost one.
 BINARY: dict[str, Callable[[int, int], int]] = {

@@ -6,6 +6,7 @@ from typing import Callable, Optional, Sequence
 
 from ..commands import guarded, place_of
 from ..image import Unloadable
+from ..limits import MACHINES
 from ..replies import Broken, Refused
 from ..ship import Unshippable, WrongArgument, checked, program_parser
 from .engine import Impossible
@@ -39,7 +40,7 @@ def parser() -> argparse.ArgumentParser:
     where.add_argument("--connect", type=place_of, metavar="HOST:PORT", help="attach to a service")
     where.add_argument("--dap", action="store_true", help="speak the Debug Adapter Protocol on standard input and output, for editors")
     options.add_argument("--workers", type=count_of(0, 16), metavar="W", help=f"the workers of --serve ({WORKERS})")
-    options.add_argument("--machines", type=count_of(1, 48), default=1, metavar="N", help="how many machines run the program (1)")
+    options.add_argument("--machines", type=count_of(1, MACHINES), default=1, metavar="N", help="how many machines run the program (1)")
     options.add_argument("--with", dest="others", action="append", default=[], metavar="FILE", help="another program, with the same arguments; may be repeated")
     options.add_argument(
         "--execute", "-x", action="append", default=[], metavar="COMMAND", help="a command of the debugger that is done first; may be repeated"

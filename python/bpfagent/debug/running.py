@@ -8,8 +8,8 @@ from __future__ import annotations
 import time
 from typing import Generator, Iterator, Optional, Sequence
 
-from ..replies import Hit, Paused, Ran, Refused, Registers, Step, Stopped, Waiting, step_of
-from .engine import PAUSED, RUNNING, Engine, Goal, Machine, Stop
+from ..replies import PAUSED, RUNNING, Hit, Paused, Ran, Refused, Registers, Step, Stopped, Waiting, step_of
+from .engine import Engine, Goal, Machine, Stop
 from .expressions import Value
 from .frames import CallSite, depth_of
 from .lines import SourceLine

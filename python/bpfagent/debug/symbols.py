@@ -17,7 +17,6 @@ if TYPE_CHECKING:
 REGISTERS = 11
 FRAME = 10
 VARIABLES = ("DW_TAG_variable", "DW_TAG_formal_parameter")
-WORD = (1 << 64) - 1
 
 
 @dataclass(frozen=True)

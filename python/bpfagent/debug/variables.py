@@ -3,6 +3,7 @@ from __future__ import annotations
 
 from typing import Any, Callable, Optional
 
+from ..agent import STACK
 from .expressions import Invalid, Value
 from .types import ARRAY, POINTER, VOID, member_bytes
 
@@ -10,12 +11,11 @@ Children = Callable[[], list[tuple[str, Value]]]
 Read = Callable[[int, int], bytes]
 # How many elements of an array are given.
 ELEMENTS = 256
-STACK_OBJECT = 0xFFFF_FFFF
 
 
 def reference_of(machine: int, address: int) -> str:
     """An address for the editor. That of a stack has its machine before it, for each machine has its own."""
-    return f"{machine}:0x{address:x}" if address >> 32 == STACK_OBJECT else f"0x{address:x}"
+    return f"{machine}:0x{address:x}" if address >> 32 == STACK else f"0x{address:x}"
 
 
 class Tree:

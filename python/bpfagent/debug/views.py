@@ -5,7 +5,9 @@ from typing import TYPE_CHECKING, Iterable, Iterator, Optional
 
 from ..accesses import OF_MEMORY, access_text, place_text
 from ..agent import STACK
-from .engine import RUNNING, SLOTS, Engine, Impossible, Stop
+from ..limits import SLOTS
+from ..replies import RUNNING
+from .engine import Engine, Impossible, Stop
 from .frames import CALL, TOP
 from .lines import SourceLine, short
 from .sources import lines_of

@@ -9,13 +9,11 @@ from types import TracebackType
 from typing import Iterable, Iterator, Mapping, Optional
 
 from ..agent import PIECE, Agent, address
+from ..limits import MACHINES, OBJECTS, WORD
 from ..replies import BYTES, Broken, Ran, Refused, Stopped, step_of
 from .jobs import Job, JobRefused, JobStopped, Result
 from .store import Read, Setting, Store
 
-# What one agent takes in its life.
-MACHINES, OBJECTS = 48, 1024
-WORD = (1 << 64) - 1
 # How many steps are asked for at once: first, and at most, so that neither pipe is ever full.
 FIRST, BLOCK = 64, 4096
 # The longest reply to a step, and how many seconds a reply may take.

@@ -15,10 +15,9 @@ from redis.connection import parse_url
 from redis.crc import key_slot
 from redis.retry import Retry
 
+from ..limits import LONGEST
 from .jobs import Job, JobStopped, Result
 
-# The longest object, in bytes.
-LENGTH = 65_536
 # Seconds: how long Redis may be unreachable, the longest pause between two tries, and how long a reply may take.
 PATIENCE, PAUSE, REPLY = 30.0, 0.5, 10.0
 # How long `WAIT` waits for replicas, in milliseconds.
@@ -70,8 +69,8 @@ class Store:
 
     def put(self, key: str, content: bytes) -> None:
         """Writes an object of 1 to 65,536 bytes."""
-        if not 0 < len(content) <= LENGTH:
-            raise ValueError(f"an object has 1 to {LENGTH} bytes, and not {len(content)}")
+        if not 0 < len(content) <= LONGEST:
+            raise ValueError(f"an object has 1 to {LONGEST} bytes, and not {len(content)}")
         self.once(Job(b"", {key: "w"}), lambda read: (Result(0, ()), {key: content}))
 
     def get(self, key: str) -> bytes:

@@ -9,18 +9,14 @@ ghost use Rattle.streams.specs.Streams.{ConsumesAtMost};
 use crate::assembly::refusals::report_refusal;
 use crate::failure::{ExitStatus, Failure};
 use crate::reporting::report;
-use arrayvec::ArrayVec;
 use loader::{CODE_LIMIT, LoadError, load};
 use std::alloc::Global;
 use std::io::{Read, Write};
-use streams::{put_all, read_at_most};
+use streams::{Line, put_all, read_at_most};
 
 /// As much as is read: the longest code that can be valid, and one byte more, which shows that
 /// there is more.
 pub(crate) const CHECK_LIMIT: usize = CODE_LIMIT + 1;
-
-/// A line about valid code.
-type OkLine = ArrayVec<u8, 32>;
 
 /// How many slots the code has, where it is valid.
 fn count_slots(alloc: Global, code: &[u8]) -> Result<usize, Failure>
@@ -31,14 +27,13 @@ fn count_slots(alloc: Global, code: &[u8]) -> Result<usize, Failure>
 }
 
 /// The line about valid code of so many slots.
-fn ok_line_of(slots: usize) -> OkLine
+fn ok_line_of(slots: usize) -> Line<32>
     ensures { result.items ≡ ok_line slots }
 {
-    let mut line = OkLine::new();
-    let mut number = itoa::Buffer::new();
-    let _ = line.try_extend_from_slice(b"ok ");
-    let _ = line.try_extend_from_slice(number.format(slots).as_bytes());
-    let _ = line.try_push(b'\n');
+    let mut line = Line::new();
+    line.put(b"ok ");
+    line.put_decimal(slots);
+    line.end();
     line
 }
 

@@ -8,17 +8,17 @@ ghost use Rattle.agent.specs.Failures.{failure_line};
 
 use crate::failure::{ExitStatus, Failure};
 use crate::reporting::say;
-use arrayvec::ArrayVec;
 use asm_grammar::{Wanted, blamed_token, wanted_in};
 use asm_table::Sort;
 use assembler::{Why, line_at};
 use std::io::Write;
+use streams::Line;
 
 /// How many bytes are quoted at most.
 const QUOTE_LIMIT: usize = 200;
 
 /// The line of a failure, and an explanation: two quotes, a number, the words between, and what would fit.
-type Explanation = ArrayVec<u8, 640>;
+type Explanation = Line<640>;
 
 /// A byte as it is quoted.
 fn quoted_byte(b: u8) -> u8
@@ -119,9 +119,10 @@ fn say_fitting(out: &mut Explanation, line: &[u8], why: Why)
     requires { array_vec_len out.old ≤ 560 }
     ensures { out.new.items ≡ out.old.items ++ fits_text why line.now }
 {
-    let _ = out.try_extend_from_slice(b", where ");
-    let _ = out.try_extend_from_slice(fitting_text(why, wanted_in(line, why)));
-    let _ = out.try_extend_from_slice(b" fits\n");
+    out.put(b", where ");
+    out.put(fitting_text(why, wanted_in(line, why)));
+    out.put(b" fits");
+    out.end();
 }
 
 /// Says which token of a line is meant.
@@ -132,12 +133,11 @@ fn say_token(out: &mut Explanation, line: &[u8], start: usize, end: usize)
     ensures text { out.new.items ≡ out.old.items ++ token_text line.now start end }
     ensures room { array_vec_len out.new ≤ 560 }
 {
-    let mut number = itoa::Buffer::new();
-    let _ = out.try_extend_from_slice(b"column ");
-    let _ = out.try_extend_from_slice(number.format(start + 1).as_bytes());
-    let _ = out.try_extend_from_slice(b": ");
+    out.put(b"column ");
+    out.put_decimal(start + 1);
+    out.put(b": ");
     quote(out, &line[start..end]);
-    let _ = out.try_extend_from_slice(b" in ");
+    out.put(b" in ");
     quote(out, line);
 }
 
@@ -147,7 +147,7 @@ fn say_end(out: &mut Explanation, line: &[u8])
     ensures text { out.new.items ≡ out.old.items ++ end_text line.now }
     ensures room { array_vec_len out.new ≤ 560 }
 {
-    let _ = out.try_extend_from_slice(b"at the end of ");
+    out.put(b"at the end of ");
     quote(out, line);
 }
 
@@ -173,7 +173,7 @@ fn explained(failure: Failure, input: &[u8]) -> Explanation
     ensures { (text : List ℕ) × Explains input.now failure text × (result.items ≡ failure_line failure ++ text) }
 {
     let mut out = Explanation::new();
-    let _ = out.try_extend_from_slice(&failure.line());
+    out.put(&failure.line());
     if let Failure::WrongLine(error) = failure {
         if let Some(line) = line_at(input, error.line.saturating_sub(1)) {
             say_of_line(&mut out, line, error.why);

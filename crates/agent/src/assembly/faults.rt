@@ -1,6 +1,5 @@
 //! What `check --explain` says of bytes that begin with no instruction.
-ghost use Rattle.std.specs.Prelude.{◌≡◌, ◌≤◌, ◌-◌, ◌++◌, length, take, drop, decimal, OnOk};
-ghost use Rattle.std.specs.Fmt.{signed_decimal};
+ghost use Rattle.std.specs.Prelude.{◌≡◌, ◌≤◌, ◌++◌, length, take, drop, OnOk};
 ghost use Rattle.hex.specs.Hex.{encode_lower};
 ghost use Rattle.bpf_codec.specs.Faults.{IsLeastFault, has_reserved_bits};
 ghost use Rattle.agent.specs.FaultsExplained.{allowed_text, choice_text, choices_text, differs, encoding_text, fault_text, field_of, field_text, fields_text, fits_in, half_text, held_text, is_like, is_meant, loaded_text, meant, no_opcode_text, number_in, opcode_text, other_text, others_text, packet_text, place_name, platform_text, reserved_text, second_text, sets_reserved_bits, short_text, shown_in, slot_text, some_fits_in, wrong_text};
@@ -8,6 +7,7 @@ ghost use Rattle.agent.specs.FaultsExplained.{allowed_text, choice_text, choices
 use asm_table::mnemonic_of;
 use bpf_codec::{Fault, Field, Slot, layout_of, may_hold_in, rows_at, slot_at};
 use isa_table::Instr;
+use itoa::Integer;
 use std::alloc::{AllocError, Global};
 
 /// A field of a slot beside the opcode (RFC 9669, section 3.1).
@@ -117,25 +117,11 @@ fn meant(f: Slot, rows: &[Instr]) -> Option<Instr>
     None
 }
 
-/// Adds a number.
-fn put_number(out: &mut Vec<u8>, n: u32) -> Result<(), AllocError>
-    ensures { OnOk result (out.new.items ≡ out.old.items ++ decimal n) }
+/// Adds a number in decimal.
+pub(crate) fn put_decimal<I: Integer>(out: &mut Vec<u8>, number: I) -> Result<(), AllocError>
+    ensures { OnOk result (out.new.items ≡ out.old.items ++ I.text number) }
 {
-    out.extend_from_slice(itoa::Buffer::new().format(n).as_bytes())
-}
-
-/// Adds a count of bytes.
-fn put_count(out: &mut Vec<u8>, n: usize) -> Result<(), AllocError>
-    ensures { OnOk result (out.new.items ≡ out.old.items ++ decimal n) }
-{
-    out.extend_from_slice(itoa::Buffer::new().format(n).as_bytes())
-}
-
-/// Adds a number with its sign.
-fn put_signed(out: &mut Vec<u8>, n: i32) -> Result<(), AllocError>
-    ensures { OnOk result (out.new.items ≡ out.old.items ++ signed_decimal n) }
-{
-    out.extend_from_slice(itoa::Buffer::new().format(n).as_bytes())
+    out.extend_from_slice(itoa::Buffer::new().format(number).as_bytes())
 }
 
 /// Adds bytes in hex.
@@ -152,7 +138,7 @@ fn put_allowed(out: &mut Vec<u8>, field: Field) -> Result<(), AllocError>
 {
     match field {
         Field::Register(_) => out.extend_from_slice(b"0 to 10"),
-        Field::Only(n) => put_number(out, n),
+        Field::Only(n) => put_decimal(out, n),
         _ => out.extend_from_slice(b"any number"),
     }
 }
@@ -221,7 +207,7 @@ fn put_held(out: &mut Vec<u8>, place: Place, f: Slot) -> Result<(), AllocError>
 {
     out.extend_from_slice(place_name(place))?;
     out.extend_from_slice(b" is ")?;
-    put_signed(out, shown_in(place, f))
+    put_decimal(out, shown_in(place, f))
 }
 
 /// Adds what is said of a field that is wrong.
@@ -372,7 +358,7 @@ fn put_platform(out: &mut Vec<u8>, f: Slot) -> Result<(), AllocError>
         );
     }
     out.extend_from_slice(b"src is ")?;
-    put_number(out, u32::from(f.src))?;
+    put_decimal(out, f.src)?;
     out.extend_from_slice(b", so lddw loads ")?;
     out.extend_from_slice(loaded_text(f.src))?;
     out.extend_from_slice(b"; there is no platform here to supply it (RFC 9669, section 5.4)")
@@ -394,7 +380,7 @@ fn put_half(out: &mut Vec<u8>, bytes: &[u8]) -> Result<(), AllocError>
     ensures { OnOk result (out.new.items ≡ out.old.items ++ half_text bytes.now) }
 {
     out.extend_from_slice(b"lddw takes two slots, and the second one has ")?;
-    put_count(out, bytes.len() - 8)?;
+    put_decimal(out, bytes.len() - 8)?;
     out.extend_from_slice(b" of 8 bytes (RFC 9669, section 3.2)")
 }
 
@@ -414,7 +400,7 @@ fn put_short(out: &mut Vec<u8>, bytes: &[u8]) -> Result<(), AllocError>
     ensures { OnOk result (out.new.items ≡ out.old.items ++ short_text bytes.now) }
 {
     out.extend_from_slice(b"the slot has ")?;
-    put_count(out, bytes.len())?;
+    put_decimal(out, bytes.len())?;
     out.extend_from_slice(b" of 8 bytes (RFC 9669, section 3.1)")
 }
 

@@ -7,7 +7,7 @@ ghost use Rattle.agent.specs.CodeExplained.{ReportsRefusal, Says, SaysAt, SaysOf
 ghost use Rattle.agent.specs.Failures.{failure_line};
 ghost use Rattle.agent.specs.Reports.{Reports};
 
-use crate::assembly::faults::{put_fault, put_hex};
+use crate::assembly::faults::{put_decimal, put_fault, put_hex};
 use crate::failure::{ExitStatus, Failure};
 use crate::reporting::{report, say};
 use bpf_codec::{Fault, decode_at};
@@ -80,7 +80,7 @@ fn put_target(out: &mut Vec<u8>, slot: i128) -> Result<(), AllocError>
     ensures { OnOk result (out.new.items ≡ ((out.old.items ++ codes "it leads to slot ") ++ signed_decimal slot) ++ codes ", ") }
 {
     out.extend_from_slice(b"it leads to slot ")?;
-    out.extend_from_slice(itoa::Buffer::new().format(slot).as_bytes())?;
+    put_decimal(out, slot)?;
     out.extend_from_slice(b", ")
 }
 

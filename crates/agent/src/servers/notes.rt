@@ -118,9 +118,7 @@ impl<R: Clock + Eprint> Notes<R> {
             let _ = eprintln!(self.rt; "{now} {note}");
         }
     }
-}
 
-impl<R: Clock + Eprint> Notes<R> {
     /// The far server at this address can't be connected to.
     pub fn unreached(&self, far: SocketAddr, error: &Error) {
         self.write(match error.kind() {
@@ -128,9 +126,7 @@ impl<R: Clock + Eprint> Notes<R> {
             _ => Note::Unreached(far),
         });
     }
-}
 
-impl<R: Clock + Eprint> Notes<R> {
     /// The stream of the far server failed.
     pub fn broken(&self, error: &Error) {
         match error.kind() {

@@ -44,11 +44,10 @@ fn line_not_here(number: u32) -> FailureLine
     ensures { result.items ≡ listen_text (ListenFault.NotHere number) ++ 10 ∷ [] }
 {
     let mut line = FailureLine::new();
-    let mut digits = itoa::Buffer::new();
-    let _ = line.try_extend_from_slice(b"object ");
-    let _ = line.try_extend_from_slice(digits.format(number).as_bytes());
-    let _ = line.try_extend_from_slice(b" isn't here");
-    let _ = line.try_push(b'\n');
+    line.put(b"object ");
+    line.put_decimal(number);
+    line.put(b" isn't here");
+    line.end();
     line
 }
 

@@ -12,7 +12,6 @@ ghost use Rattle.far_store.specs.declared.fault.StoreFault.TheVariants.{Damaged}
 
 use super::ObjectStore;
 use crate::handing::{end_leave_into_at, end_return_from_at, free_far_at, parcel_at};
-use crate::standing::{length_at, place_at};
 use far_store::{FarStore, HandsOut, Moved, Place};
 
 impl<F: FarStore> ObjectStore<F> {
@@ -31,7 +30,7 @@ impl<F: FarStore> ObjectStore<F> {
         ensures asks { AsksToFree F.called self.old number result self.new }
     {
         let index = number as usize;
-        match place_at(self.bodies.as_slice(), index) {
+        match self.place(number) {
             None => Moved::NoObject,
             Some(Place::Far) => {
                 let bodies = self.bodies.as_mut_slice();
@@ -56,10 +55,10 @@ impl<F: HandsOut> ObjectStore<F> {
         ensures never { (f : StoreFault) → result ≢ Moved.Fault f }
     {
         let index = number as usize;
-        match place_at(self.bodies.as_slice(), index) {
+        match self.place(number) {
             None => Moved::NoObject,
             Some(Place::Leaving) => {
-                let gained = length_at(self.bodies.as_slice(), index) as u32;
+                let gained = self.length(number as u64) as u32;
                 let bodies = self.bodies.as_mut_slice();
                 end_leave_into_at(self.alloc, &mut self.store, bodies, index, into);
                 self.spare += gained;
@@ -80,10 +79,10 @@ impl<F: HandsOut> ObjectStore<F> {
         ensures others { (f : StoreFault) → result ≡ Moved.Fault f → bytes.now ≢ bytes_of self.old.state.objects number → f ≡ Damaged }
     {
         let index = number as usize;
-        match place_at(self.bodies.as_slice(), index) {
+        match self.place(number) {
             None => Moved::NoObject,
             Some(Place::Returning) => {
-                let length = length_at(self.bodies.as_slice(), index) as u32;
+                let length = self.length(number as u64) as u32;
                 let bodies = self.bodies.as_mut_slice();
                 match end_return_from_at(&mut self.store, bodies, index, bytes) {
                     Ok(()) => Moved::Done,

@@ -1,12 +1,10 @@
-use Rattle.std.proofs.Common.{◌≡◌, [], IsSome, subst, ◌∙◌, ap, ap₂, refl, sym, true, false, is_some, map, List, Option, None, Some, option_map, codes}
+use Rattle.std.proofs.Common.{◌≡◌, IsSome, subst, ◌∙◌, ap, ap₂, refl, sym, true, false, is_some, map, List, Option, None, Some, option_map, codes}
 use Rattle.std.specs.Prelude.{option_and_then}
 use Rattle.std.proofs.lemmas.Result.{err_from_is_err_and}
-use Rattle.clap.specs.Words.{App, app_of, fault_of, is_simple, is_simple_and_free, subcommand_of}
 use Rattle.clap.specs.Walk.{Row, Text, first_of}
 use Rattle.clap.specs.Words.{found_of, rows_of}
-use Rattle.clap.proofs.OnLiterals.{clap_on_literals}
 use Rattle.clap.proofs.WalkLemmas.{first_value-rows}
-use Rattle.agent.specs.CommandLine.{command_line, faults_of, task_named}
+use Rattle.agent.specs.CommandLine.{task_named}
 use Rattle.agent.proofs.Subcommands.{IsEntered, needed, right_enters}
 use Rattle.agent.proofs.arguments.read_asked.Goals as goal
 
@@ -21,78 +19,45 @@ module _ {X A B : Type 0} (f : X → A) (g : X → B) where
   joined (Some x) None e h = absurd (cc)
   joined (Some x) (Some q) e h = let a : f x ≡ q.0 = cc in let b : g x ≡ q.1 = cc in ap₂ (λ u v. Some (u, v)) a b
 
-simple : is_simple command_line ≡ true
-unfolding clap_on_literals
-simple = refl
-
-free : is_simple_and_free command_line ≡ true
-unfolding clap_on_literals
-free = refl
-
 pub unreachable-requires : goal.unreachable-requires
 unreachable-requires g c =
-    let words = map g.S.AsStr.text c.args.arguments.now in
-    let line_is = c.in_ok-make_command.ensures in
-    let parsed = c.in_ok-matches.ensures in
-    let right : faults_of words ≡ [] = ap (λ (a : App). fault_of a words) (sym line_is) ∙ parsed.kinds (ap is_simple_and_free line_is ∙ free) in
-    let met = (parsed.matches (ap is_simple line_is ∙ simple)).1 ∙ ap (λ (a : App). subcommand_of a words) line_is in
-    let seen = joined _ _ _ _ (c.subcommand.ensures.name ∙ firsts _ _ _) c.subcommand.ensures.rows ∙ met in
-    let some = ap is_some seen ∙ (right_enters words right).0 in
+    let right = right_enters (map g.S.AsStr.text c.args.arguments.now) c.in_ok-matches.ensures.ok.0 in
+    let seen = joined _ _ _ _ (c.subcommand.ensures.name ∙ firsts _ _ _) c.subcommand.ensures.rows ∙ c.in_ok-matches.ensures.ok.1 in
+    let some = ap is_some seen ∙ right.0 in
     let none : false ≡ true = rw c.in_default.is at some in
     cc none
 
 pub task_called-requires : goal.task_called-requires
 task_called-requires g c =
-    let words = map g.S.AsStr.text c.args.arguments.now in
-    let line_is = c.in_ok-make_command.ensures in
-    let parsed = c.in_ok-matches.ensures in
-    let right : faults_of words ≡ [] = ap (λ (a : App). fault_of a words) (sym line_is) ∙ parsed.kinds (ap is_simple_and_free line_is ∙ free) in
-    let met = (parsed.matches (ap is_simple line_is ∙ simple)).1 ∙ ap (λ (a : App). subcommand_of a words) line_is in
-    let seen = joined _ _ _ _ (c.subcommand.ensures.name ∙ firsts _ _ _) c.subcommand.ensures.rows ∙ met in
+    let right = right_enters (map g.S.AsStr.text c.args.arguments.now) c.in_ok-matches.ensures.ok.0 in
+    let seen = joined _ _ _ _ (c.subcommand.ensures.name ∙ firsts _ _ _) c.subcommand.ensures.rows ∙ c.in_ok-matches.ensures.ok.1 in
     let pair = rw c.in-Some.is at seen in
-    let entered = subst IsEntered (sym pair) (right_enters words right).1 in
+    let entered = subst IsEntered (sym pair) right.1 in
     let needs = needed c.in-Some.name.now (rows_of (found_of c.in-Some.inner.now)) entered.1 in
     record { run = needs.0; store = needs.1; serve = needs.2 }
 
 pub unreachable-requires-in_default-task_called : goal.unreachable-requires-in_default-task_called
 unreachable-requires-in_default-task_called g c =
-    let words = map g.S.AsStr.text c.args.arguments.now in
-    let line_is = c.in_ok-make_command.ensures in
-    let parsed = c.in_ok-matches.ensures in
-    let right : faults_of words ≡ [] = ap (λ (a : App). fault_of a words) (sym line_is) ∙ parsed.kinds (ap is_simple_and_free line_is ∙ free) in
-    let met = (parsed.matches (ap is_simple line_is ∙ simple)).1 ∙ ap (λ (a : App). subcommand_of a words) line_is in
-    let seen = joined _ _ _ _ (c.subcommand.ensures.name ∙ firsts _ _ _) c.subcommand.ensures.rows ∙ met in
+    let right = right_enters (map g.S.AsStr.text c.args.arguments.now) c.in_ok-matches.ensures.ok.0 in
+    let seen = joined _ _ _ _ (c.subcommand.ensures.name ∙ firsts _ _ _) c.subcommand.ensures.rows ∙ c.in_ok-matches.ensures.ok.1 in
     let pair = rw c.in-Some.is at seen in
-    let some = (subst IsEntered (sym pair) (right_enters words right).1).0 in
+    let some = (subst IsEntered (sym pair) right.1).0 in
     let none : false ≡ true = subst (λ o. IsSome o) (sym c.task_called.ensures ∙ c.in_default-task_called.is) some in
     cc none
 
 pub returns-clause-ok : goal.returns-clause-ok
 returns-clause-ok g c =
-    let words = map g.S.AsStr.text c.args.arguments.now in
-    let line_is = c.in_ok-make_command.ensures in
-    let parsed = c.in_ok-matches.ensures in
-    let right : faults_of words ≡ [] = ap (λ (a : App). fault_of a words) (sym line_is) ∙ parsed.kinds (ap is_simple_and_free line_is ∙ free) in
-    let met = (parsed.matches (ap is_simple line_is ∙ simple)).1 ∙ ap (λ (a : App). subcommand_of a words) line_is in
-    let seen = joined _ _ _ _ (c.subcommand.ensures.name ∙ firsts _ _ _) c.subcommand.ensures.rows ∙ met in
+    let seen = joined _ _ _ _ (c.subcommand.ensures.name ∙ firsts _ _ _) c.subcommand.ensures.rows ∙ c.in_ok-matches.ensures.ok.1 in
     let pair = rw c.in-Some.is at seen in
-    (right, ap (option_and_then (λ p. task_named p.0 p.1)) (sym pair) ∙ sym c.task_called.ensures ∙ c.in-Some-task_called.is)
+    (c.in_ok-matches.ensures.ok.0, ap (option_and_then (λ p. task_named p.0 p.1)) (sym pair) ∙ sym c.task_called.ensures ∙ c.in-Some-task_called.is)
 
 pub returns-clause-far : goal.returns-clause-far
 returns-clause-far g c =
-    let words = map g.S.AsStr.text c.args.arguments.now in
-    let line_is = c.in_ok-make_command.ensures in
-    let parsed = c.in_ok-matches.ensures in
-    let met = (parsed.matches (ap is_simple line_is ∙ simple)).1 ∙ ap (λ (a : App). subcommand_of a words) line_is in
-    let seen = joined _ _ _ _ (c.subcommand.ensures.name ∙ firsts _ _ _) c.subcommand.ensures.rows ∙ met in
+    let seen = joined _ _ _ _ (c.subcommand.ensures.name ∙ firsts _ _ _) c.subcommand.ensures.rows ∙ c.in_ok-matches.ensures.ok.1 in
     let pair = rw c.in-Some.is at seen in
     c.get_str.ensures ∙ first_value-rows (found_of c.in-Some.inner.now) (codes "far") ∙ ap (λ (o : Option (Text × List Row)). option_and_then (λ p. first_of (codes "far") p.1) o) pair
 
 pub returns-in_err-matches-clause-err : goal.returns-in_err-matches-clause-err
 returns-in_err-matches-clause-err g c =
-    let words = map g.S.AsStr.text c.args.arguments.now in
-    let line_is = c.in_ok-make_command.ensures in
-    let p = err_from_is_err_and c.from_residual-in_err-matches.result c.from_residual-in_err-matches.ensures.1 in
-    let fails = c.in_err-matches.ensures.kinds (ap is_simple_and_free line_is ∙ free) in
-    let same : fault_of (app_of c.in_ok-make_command.field-0) words ≡ faults_of words = ap (λ (a : App). fault_of a words) line_is in
-    rw (p.1, p.2, sym same) fails
+    let p = err_from_is_err_and c.from_residual.result c.from_residual.ensures.1 in
+    rw (p.1, p.2) c.in_err-matches.ensures.err

@@ -1,11 +1,10 @@
-use Rattle.std.proofs.Common.{arith, ap, sym, ◌∙◌, subst, ◌≡◌, ℕ, ◌<◌, ◌≤◌, List, [], ◌∷◌, ◌++◌, length, map, length-set, length-append, refl}
-use Rattle.std.specs.Prelude.{slice_set, vec_capacity}
+use Rattle.std.proofs.Common.{arith, ap, sym, ◌∙◌, subst, ◌≡◌, ℕ, ◌<◌, List, [], ◌∷◌, ◌++◌, length, refl}
+use Rattle.std.specs.Prelude.{vec_capacity}
 use Rattle.std.proofs.lemmas.List.{length-map}
 use Rattle.atomic_table.specs.Table.{rest, turned}
 use Rattle.memory.specs.Objects.{bytes_of}
 use Rattle.shared_objects.specs.Opening.{opening_bytes}
-use Rattle.shared_objects.specs.Rule.{place_of, times, is_moving, total}
-use Rattle.shared_objects.specs.Phases.{phase_of, Makes}
+use Rattle.shared_objects.specs.Rule.{is_moving}
 use Rattle.shared_objects.specs.Kinds.{Sat, placed}
 use Rattle.shared_objects.specs.declared.body.Body.{Body}
 use Rattle.shared_objects.specs.declared.view.View.{View}
@@ -14,7 +13,7 @@ use Rattle.shared_objects.specs.declared.view.Place.TheVariants as places
 use Rattle.shared_objects.specs.declared.seats.Phase.TheVariants as phases
 use Rattle.shared_objects.proofs.Logs.{object_home}
 use Rattle.shared_objects.proofs.MoverKeeps.{lifts_ok}
-use Rattle.shared_objects.proofs.Slots.{numbers, map-append, phased_after, held_taken, total_placed, room_left}
+use Rattle.shared_objects.proofs.Slots.{numbers, map-append, taken_fits, room_left}
 use Rattle.shared_objects.proofs.table.SharedTable.begin_leave.Goals as goal
 
 pub compare_exchange-found-requires : goal.compare_exchange-found-requires
@@ -49,14 +48,6 @@ invariant_of-mover-2 c = let m = c.args.mover.now in let v : View = m.seat.me.0 
     let slots : numbers c.turn.new.self.me.1 ≡ numbers m.seat.me.1 ++ n ∷ [] = ap (λ y. numbers y.1) r ∙ ap (λ y. numbers (turned y.1)) x ∙ map-append (rest c.compare_exchange-found.new.seat.me.1) ((n, record { bytes = c.new.result }) ∷ [])
     ∙ ap (λ y. numbers (rest y.1) ++ n ∷ []) t.1 in
     let is = c.push_reserved.ensures.items in
-    let count = total_placed v.out n p wide in
-    let was : is_moving (place_of v n) ≡ 0 = ap is_moving (c.if-not-is_here.ensures.here refl) in record {
-      makes = subst Makes (sym e) m.makes;
-      phased = subst (λ (u : View). slice_set m.phases.items n phases.Moving ≡ map phase_of u.out) (sym e) (phased_after m.phases.items v.out n p phases.Moving m.phased refl);
-      wide = subst (λ (u : View). length u.out ≡ length u.opening) (sym e) (length-set v.out n p ∙ m.wide);
-      ordered = is ∙ ap (λ l. l ++ n ∷ []) m.ordered ∙ sym slots;
-      held = subst (λ (u : View). (k : ℕ) → is_moving (place_of u k) ≡ 1 → 0 < times k c.push_reserved.new.self.items) (sym e)
-          (subst (λ l. (k : ℕ) → is_moving (place_of (placed n p v) k) ≡ 1 → 0 < times k l) (sym is) (held_taken v n p m.order.items m.held));
-      counted = subst (λ (u : View). length c.push_reserved.new.self.items ≡ total is_moving u.out) (sym e) (omega (arith, ap length is, length-append m.order.items (n ∷ []), m.counted, count, was));
-      room = subst (λ (u : View). length u.opening ≤ vec_capacity c.push_reserved.new.self) (sym e) (omega (arith, m.room, c.push_reserved.ensures.capacity));
-    }
+    let q = taken_fits v _ n p m.seat.me.1 c.turn.new.self.me.1 m.phases.items phases.Moving m.order.items c.push_reserved.new.self.items (vec_capacity m.order) (vec_capacity c.push_reserved.new.self)
+    (m.makes, m.phased, m.wide, m.ordered, m.held, m.counted, m.room) wide e refl (is ∙ ap (λ l. l ++ n ∷ []) m.ordered ∙ sym slots) (omega (arith, c.push_reserved.ensures.capacity)) is (ap is_moving (c.if-not-is_here.ensures.here refl)) refl in
+    record { makes = q.0; phased = q.1; wide = q.2; ordered = q.3; held = q.4; counted = q.5; room = q.6 }

@@ -1,17 +1,17 @@
-use Rattle.std.proofs.Common.{arith, ap, sym, ◌∙◌, subst, ◌≡◌, ℕ, ◌*◌, ◌<◌, ◌≤◌, List, [], ◌∷◌, ◌++◌, length, map, length-set, length-append}
-use Rattle.std.specs.Prelude.{slice_set, vec_capacity}
+use Rattle.std.proofs.Common.{arith, ap, sym, ◌∙◌, ◌≡◌, ℕ, ◌*◌, ◌<◌, List, [], ◌∷◌, ◌++◌, length}
+use Rattle.std.specs.Prelude.{vec_capacity}
 use Rattle.std.proofs.lemmas.List.{length-map}
 use Rattle.atomic_table.specs.Table.{turned}
 use Rattle.shared_objects.specs.Opening.{opening_bytes}
-use Rattle.shared_objects.specs.Rule.{place_of, times, bytes_taken, is_moving, total}
-use Rattle.shared_objects.specs.Phases.{phase_of, Makes}
+use Rattle.shared_objects.specs.Rule.{place_of, bytes_taken, is_moving}
+use Rattle.shared_objects.specs.Phases.{phase_of}
 use Rattle.shared_objects.specs.Kinds.{placed, called, object_at}
 use Rattle.shared_objects.specs.declared.view.View.{View}
 use Rattle.shared_objects.specs.declared.view.Place.{Place}
 use Rattle.shared_objects.specs.declared.seats.Phase.TheVariants as phases
 use Rattle.shared_objects.proofs.Logs.{object_home}
 use Rattle.shared_objects.proofs.MoverKeeps.{calls_ok}
-use Rattle.shared_objects.proofs.Slots.{numbers, map-append, inside, is_far_place, phased_after, held_taken, total_placed, room_left}
+use Rattle.shared_objects.proofs.Slots.{numbers, map-append, inside, is_far_place, taken_fits, room_left}
 use Rattle.shared_objects.proofs.table.SharedTable.begin_return.Goals as goal
 
 pub fetch_sub-requires : goal.fetch_sub-requires
@@ -40,15 +40,6 @@ invariant_of-mover c = let m = c.args.mover.now in let v : View = m.seat.me.0 in
     let slots : numbers c.turn.new.self.me.1 ≡ numbers m.seat.me.1 ++ n ∷ [] = ap (λ y. numbers y.1) r ∙ ap (λ y. numbers (turned y.1)) f.1 ∙ map-append m.seat.me.1 ((object_at (n * 16), f.0) ∷ [])
     ∙ ap (λ k. numbers m.seat.me.1 ++ k ∷ []) (object_home n) in
     let is = c.push_reserved.ensures.items in
-    let count = total_placed v.out n p wide in
-    let was : is_moving (place_of v n) ≡ 0 = ap is_moving t.1 in
-    let now : is_moving p ≡ 1 = ap (λ (y : Place). is_moving (called y)) t.1 in record {
-      makes = subst Makes (sym e) m.makes;
-      phased = subst (λ (u : View). slice_set m.phases.items n phases.Moving ≡ map phase_of u.out) (sym e) (phased_after m.phases.items v.out n p phases.Moving m.phased (ap (λ (y : Place). phase_of (called y)) t.1));
-      wide = subst (λ (u : View). length u.out ≡ length u.opening) (sym e) (length-set v.out n p ∙ m.wide);
-      ordered = is ∙ ap (λ l. l ++ n ∷ []) m.ordered ∙ sym slots;
-      held = subst (λ (u : View). (k : ℕ) → is_moving (place_of u k) ≡ 1 → 0 < times k c.push_reserved.new.self.items) (sym e)
-          (subst (λ l. (k : ℕ) → is_moving (place_of (placed n p v) k) ≡ 1 → 0 < times k l) (sym is) (held_taken v n p m.order.items m.held));
-      counted = subst (λ (u : View). length c.push_reserved.new.self.items ≡ total is_moving u.out) (sym e) (omega (arith, ap length is, length-append m.order.items (n ∷ []), m.counted, count, was, now));
-      room = subst (λ (u : View). length u.opening ≤ vec_capacity c.push_reserved.new.self) (sym e) (omega (arith, m.room, c.push_reserved.ensures.capacity));
-    }
+    let q = taken_fits v _ n p m.seat.me.1 c.turn.new.self.me.1 m.phases.items phases.Moving m.order.items c.push_reserved.new.self.items (vec_capacity m.order) (vec_capacity c.push_reserved.new.self)
+    (m.makes, m.phased, m.wide, m.ordered, m.held, m.counted, m.room) wide e (ap (λ (y : Place). phase_of (called y)) t.1) (is ∙ ap (λ l. l ++ n ∷ []) m.ordered ∙ sym slots) (omega (arith, c.push_reserved.ensures.capacity)) is (ap is_moving t.1) (ap (λ (y : Place). is_moving (called y)) t.1) in
+    record { makes = q.0; phased = q.1; wide = q.2; ordered = q.3; held = q.4; counted = q.5; room = q.6 }

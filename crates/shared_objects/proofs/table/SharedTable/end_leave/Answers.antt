@@ -1,17 +1,17 @@
-use Rattle.std.proofs.Common.{arith, ap, sym, ◌∙◌, subst, ◌≡◌, ℕ, ◌<◌, ◌≤◌, List, length, map, drop, length-set}
-use Rattle.std.specs.Prelude.{slice_set, vec_capacity}
+use Rattle.std.proofs.Common.{arith, ap, sym, ◌∙◌, subst, ◌≡◌, ℕ, ◌<◌, List, ◌∷◌, length, drop}
+use Rattle.std.specs.Prelude.{vec_capacity}
 use Rattle.std.proofs.lemmas.List.{length-map}
 use Rattle.atomic_table.specs.Table.{rest}
 use Rattle.shared_objects.specs.Opening.{opening_bytes}
-use Rattle.shared_objects.specs.Rule.{place_of, times, bytes_taken, is_moving, total}
-use Rattle.shared_objects.specs.Phases.{phase_of, Makes}
+use Rattle.shared_objects.specs.Rule.{place_of, bytes_taken, is_moving}
+use Rattle.shared_objects.specs.Phases.{phase_of}
 use Rattle.shared_objects.specs.Kinds.{placed, sent}
 use Rattle.shared_objects.specs.declared.view.View.{View}
 use Rattle.shared_objects.specs.declared.view.Place.{Place}
 use Rattle.shared_objects.specs.declared.seats.Phase.TheVariants as phases
 use Rattle.shared_objects.proofs.Logs.{object_home}
 use Rattle.shared_objects.proofs.MoverKeeps.{sends_ok}
-use Rattle.shared_objects.proofs.Slots.{numbers, inside, is_moving_place, first_slot, numbers_rest, phased_after, held_landed, total_placed}
+use Rattle.shared_objects.proofs.Slots.{numbers, inside, is_moving_place, first_slot, numbers_rest, landed_fits}
 use Rattle.shared_objects.proofs.table.SharedTable.end_leave.Goals as goal
 
 pub fetch_add-requires : goal.fetch_add-requires
@@ -42,16 +42,7 @@ invariant_of-mover c = let m = c.args.mover.now in let v : View = m.seat.me.0 in
     let slots : numbers c.fetch_add.new.seat.me.1 ≡ numbers (rest c.bring.new.seat.me.1) = ap (λ y. numbers y.1) f in
     let is = c.remove.ensures.items in
     let less : c.remove.new.self.items ≡ b.first.0 = is ∙ ap (drop 1) b.first.1 in
-    let count = total_placed v.out n p wide in
-    let was : is_moving (place_of v n) ≡ 1 = ap is_moving t.1 in
-    let still : is_moving p ≡ 0 = ap (λ (y : Place). is_moving (sent y)) t.1 in record {
-      makes = subst Makes (sym e) m.makes;
-      phased = subst (λ (u : View). slice_set m.phases.items n phases.Far ≡ map phase_of u.out) (sym e) (phased_after m.phases.items v.out n p phases.Far m.phased (ap (λ (y : Place). phase_of (sent y)) t.1));
-      wide = subst (λ (u : View). length u.out ≡ length u.opening) (sym e) (length-set v.out n p ∙ m.wide);
-      ordered = is ∙ ap (drop 1) b.ordered ∙ numbers_rest c.bring.new.seat.me.1 ∙ sym slots;
-      held = subst (λ (u : View). (k : ℕ) → is_moving (place_of u k) ≡ 1 → 0 < times k c.remove.new.self.items) (sym e)
-          (subst (λ l. (k : ℕ) → is_moving (place_of (placed n p v) k) ≡ 1 → 0 < times k l) (sym less)
-          (held_landed v n p m.order.items c.bring.new.order.items b.first.0 wide still b.first.1 b.held m.held));
-      counted = subst (λ (u : View). length c.remove.new.self.items ≡ total is_moving u.out) (sym e) (omega (arith, ap length less, ap length b.first.1, b.room.0, m.counted, count, was, still));
-      room = subst (λ (u : View). length u.opening ≤ vec_capacity c.remove.new.self) (sym e) (omega (arith, m.room, b.room.1, c.remove.ensures.capacity));
-    }
+    let q = landed_fits v _ n p m.seat.me.1 c.fetch_add.new.seat.me.1 m.phases.items phases.Far m.order.items c.remove.new.self.items (vec_capacity m.order) (vec_capacity c.remove.new.self)
+    (m.makes, m.phased, m.wide, m.ordered, m.held, m.counted, m.room) wide e (ap (λ (y : Place). phase_of (sent y)) t.1) (is ∙ ap (drop 1) b.ordered ∙ numbers_rest c.bring.new.seat.me.1 ∙ sym slots) (omega (arith, b.room.1, c.remove.ensures.capacity))
+    c.bring.new.order.items (b.first.1 ∙ ap (λ l. n ∷ l) (sym less)) b.held b.room.0 (ap is_moving t.1) (ap (λ (y : Place). is_moving (sent y)) t.1) in
+    record { makes = q.0; phased = q.1; wide = q.2; ordered = q.3; held = q.4; counted = q.5; room = q.6 }

@@ -1,38 +1,30 @@
-use Rattle.std.proofs.Common.{arith, ap, sym, ◌∙◌, refl, ◌≡◌, ℕ, ◌<◌, List, [], length}
-use Rattle.std.proofs.lemmas.List.{length-map}
+use Rattle.std.proofs.Common.{arith, ap, sym, ◌∙◌, refl, ◌≡◌, ℕ, List, [], length}
 use Rattle.memory.specs.Access.{replaced}
 use Rattle.memory.specs.Objects.{bytes_of}
 use Rattle.memory.specs.declared.deeds.Deed.TheVariants.{Writes}
 use Rattle.memory.specs.declared.deeds.Given.TheVariants.{Nothing}
 use Rattle.shared_objects.specs.History.{entry}
-use Rattle.shared_objects.specs.Kinds.{looking, recorded}
-use Rattle.shared_objects.specs.Opening.{opening_bytes}
+use Rattle.shared_objects.specs.Kinds.{recorded}
 use Rattle.shared_objects.specs.declared.body.Body.{Body}
 use Rattle.shared_objects.specs.declared.view.View.{View}
-use Rattle.shared_objects.specs.declared.view.Entry.{Entry}
-use Rattle.shared_objects.proofs.Logs.{top-snoc}
-use Rattle.shared_objects.proofs.Acting.{noted_seat, same_body}
+use Rattle.shared_objects.proofs.Acting.{busy_seat, worn_seat, done_seat, opened_at, same_body}
 use Rattle.shared_objects.proofs.table.SharedTable.put.Goals as goal
 
 pub invariant_of-actor-in-Busy : goal.invariant_of-actor-in-Busy
-invariant_of-actor-in-Busy c = let a = c.args.actor.now in let r = a.rests in let e = c.in-Busy.ensures.begins in let key : List (List ℕ) = opening_bytes c.args.self.now.table.shared.key.bodies.value in
-    let lt : c.args.number < length a.seat.me.0.opening = omega (arith, c.if-not-has_range.ensures.object refl, ap length c.args.self.now.sizes, length-map key length, ap length c.requires.1) in
-    let q = noted_seat a.seat.me _ _ a.window _ c.args.number a.stamp r a.opens a.near e.0 e.1 refl r.1 refl refl refl refl refl refl lt a.stamped in
+invariant_of-actor-in-Busy c = let a = c.args.actor.now in let e = c.in-Busy.ensures.begins in
+    let q = busy_seat a.seat.me _ a.window _ c.args.number a.stamp (a.rests, a.opens, a.near, a.stamped) (opened_at _ _ _ _ c.args.self.now.sizes c.requires.1 (c.if-not-has_range.ensures.object refl)) e.1 e.0 in
     record { rests = q.0; opens = q.1; near = q.2; stamped = q.3 }
 
 pub invariant_of-actor-in-Worn : goal.invariant_of-actor-in-Worn
-invariant_of-actor-in-Worn c = let a = c.args.actor.now in let r = a.rests in let e = c.in-Worn.ensures.begins in let key : List (List ℕ) = opening_bytes c.args.self.now.table.shared.key.bodies.value in
-    let lt : c.args.number < length a.seat.me.0.opening = omega (arith, c.if-not-has_range.ensures.object refl, ap length c.args.self.now.sizes, length-map key length, ap length c.requires.1) in
-    let q = noted_seat a.seat.me _ _ a.window _ c.args.number a.stamp r a.opens a.near e.0.2 e.1 refl refl refl refl refl refl refl refl lt a.stamped in
+invariant_of-actor-in-Worn c = let a = c.args.actor.now in let e = c.in-Worn.ensures.begins in
+    let q = worn_seat a.seat.me _ a.window _ c.args.number a.stamp (a.rests, a.opens, a.near, a.stamped) (opened_at _ _ _ _ c.args.self.now.sizes c.requires.1 (c.if-not-has_range.ensures.object refl)) e.1 e.0.0 e.0.2 in
     record { rests = q.0; opens = q.1; near = q.2; stamped = q.3 }
 
 pub invariant_of-actor-in-Turn : goal.invariant_of-actor-in-Turn
-invariant_of-actor-in-Turn c = let a = c.args.actor.now in let v : View = a.seat.me.0 in let r = a.rests in let b = c.in-Turn.ensures.begins in let key : List (List ℕ) = opening_bytes c.args.self.now.table.shared.key.bodies.value in
-    let lt : c.args.number < length v.opening = omega (arith, c.if-not-has_range.ensures.object refl, ap length c.args.self.now.sizes, length-map key length, ap length c.requires.1) in
+invariant_of-actor-in-Turn c = let a = c.args.actor.now in let b = c.in-Turn.ensures.begins in
     let seen = c.write.ensures.view ∙ b.2.2.0 in
-    let done : Entry = entry v.actor c.in-Turn.stamp c.in-Turn.found c.args.number (Writes c.args.offset c.args.bytes.now) Nothing in
     let is = c.record_write.ensures.me ∙ ap (λ (u : View). (recorded (entry u.actor c.in-Turn.stamp c.in-Turn.found c.args.number (Writes c.args.offset c.args.bytes.now) Nothing) u, [])) seen in
-    let q = noted_seat a.seat.me _ (recorded done (looking c.args.number v)) a.window _ c.args.number c.in-Turn.stamp r a.opens a.near is b.3 refl refl refl refl refl refl refl refl lt (omega (arith, top-snoc 0 v.entries done)) in
+    let q = done_seat a.seat.me _ a.window _ c.args.number a.stamp (a.rests, a.opens, a.near, a.stamped) (opened_at _ _ _ _ c.args.self.now.sizes c.requires.1 (c.if-not-has_range.ensures.object refl)) b.3 _ is in
     record { rests = q.0; opens = q.1; near = q.2; stamped = q.3 }
 
 pub write-requires-clause-held : goal.write-requires-clause-held

@@ -1,15 +1,14 @@
-use Rattle.std.proofs.Common.{ap, ◌∷◌, [], ◌∙◌, ℕ, List, sym, ◌≡◌, length, ◌+◌, ◌≤◌, ◌++◌, take, drop, subst, arith}
-use Rattle.atomic_table.specs.Table.{rest}
+use Rattle.std.proofs.Common.{ap, [], ◌∙◌, ℕ, List, sym, ◌≡◌, length, ◌+◌, ◌≤◌, ◌++◌, take, drop, subst, arith}
 use Rattle.memory.specs.Access.{part}
 use Rattle.shared_objects.specs.declared.body.Body.{Body}
-use Rattle.shared_objects.proofs.Acting.{same_body, part_long, take_whole}
+use Rattle.shared_objects.proofs.Acting.{same_body, first_held, still_alone, part_long, take_whole}
 use Rattle.shared_objects.proofs.table.SharedTable.read.Goals as goal
 
 pub slot_mut-requires : goal.slot_mut-requires
-slot_mut-requires c = let t = c.requires.held in (c.requires.seat, (t.0, t.1 ∙ ap (λ l. (c.args.n, t.0) ∷ rest l) (sym t.1)))
+slot_mut-requires c = (c.requires.seat, first_held c.args.seat.now.me c.args.n _ c.requires.held)
 
 pub returns-clause-held : goal.returns-clause-held
-returns-clause-held c = let t = c.requires.held in let none-left : rest c.args.seat.now.me.1 ≡ [] = ap rest t.1 in let held = c.slot_mut.result.now in
+returns-clause-held c = let t = c.requires.held in let alone = still_alone c.args.seat.now.me c.args.n _ t in let held = c.slot_mut.result.now in
     let same : held ≡ t.0 = same_body c.args.n held t.0 _ [] (sym c.slot_mut.ensures.value ∙ t.1) in
     let new : List ℕ = c.read.new.into in let old : List ℕ = c.args.into.now.items in
     let wide : length c.as_mut_slice.result.now ≡ length old = omega (arith, c.as_mut_slice.ensures.len, c.args.into.now.ok.0) in
@@ -18,6 +17,6 @@ returns-clause-held c = let t = c.requires.held in let none-left : rest c.args.s
     let long : length new ≡ length old = ap length is ∙ part_long c.args.offset (length old) held.bytes.items room in
     let all : c.args.into.now.len ≡ length new = omega (arith, long, c.args.into.now.ok.0) in (
       held,
-      c.slot_mut.ensures.value ∙ ap (λ l. (c.args.n, held) ∷ l) none-left,
-      (ap (λ (k : ℕ). take k (new ++ drop (length new) old)) all ∙ take_whole new old long ∙ is, (c.read.new.self, ap (λ l. (c.args.n, c.read.new.self) ∷ l) none-left, ap (λ (b : Body). b.bytes.items) c.read.ensures.same)),
+      c.slot_mut.ensures.value ∙ alone held,
+      (ap (λ (k : ℕ). take k (new ++ drop (length new) old)) all ∙ take_whole new old long ∙ is, (c.read.new.self, alone c.read.new.self, ap (λ (b : Body). b.bytes.items) c.read.ensures.same)),
     )

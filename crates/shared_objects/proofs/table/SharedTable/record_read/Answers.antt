@@ -1,16 +1,9 @@
-use Rattle.std.proofs.Common.{ap, ◌∙◌, sym, subst, length}
-use Rattle.memory.specs.declared.deeds.Deed.{Deed}
+use Rattle.std.proofs.Common.{ap}
 use Rattle.memory.specs.declared.deeds.Given.TheVariants.{Bytes}
-use Rattle.memory.specs.Deeds.{EndsInside, given_by, left_by}
-use Rattle.shared_objects.specs.declared.view.Entry.{Entry}
+use Rattle.shared_objects.proofs.Acting.{told_by}
 use Rattle.shared_objects.proofs.table.SharedTable.record_read.Goals as goal
 
 pub give_turn-requires-clause-held : goal.give_turn-requires-clause-held
-give_turn-requires-clause-held g c = let h = c.requires.held in let q = c.requires.entry in
-    let d = ap (λ (y : Entry). y.deed) q in let gv = ap (λ (y : Entry). y.given) q in (
-      h.0,
-      h.1,
-      subst (λ (y : Deed). EndsInside y (length h.0)) (sym d) (h.2, h.3),
-      gv ∙ ap Bytes h.4 ∙ ap (λ (y : Deed). given_by y h.0) (sym d),
-      (h.5.0, h.5.1, h.5.2 ∙ ap (λ (y : Deed). left_by y h.0) (sym d)),
-    )
+give_turn-requires-clause-held g c = let h = c.requires.held in
+    let t = told_by c.args.seat.now.me c.args.n h.0 _ _ c.requires.entry (h.2, h.3) (ap Bytes h.4) h.5 in
+    (h.0, h.1, t.0, t.1, t.2)
