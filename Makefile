@@ -37,7 +37,7 @@ install: $(PROGRAM) lib ## PREFIX=/usr/local: installs program, library, header,
 uninstall: ## PREFIX=/usr/local: removes what was installed there
 	@python3 tools/install.py --uninstall --destdir "$(DESTDIR)" "$(PREFIX)"
 
-test: ## whether everything works, without a proof; 6 to 10 minutes on four processors
+test: ## whether everything works, without a proof; 6 to 12 minutes on four processors
 	@python3 tests/test.py $(RT)
 
 prove: ## proves everything, and tests the proved program; 70 to 110 minutes on four processors

@@ -280,7 +280,7 @@ def show_documents(program: str) -> str:
                 continue
             command = command.replace(PROGRAM, shlex.quote(program))
             done = subprocess.run(["sh", "-c", command], cwd=ROOT, stdin=subprocess.DEVNULL, stdout=subprocess.PIPE, stderr=subprocess.STDOUT, text=True, timeout=seconds(program), env=package.environment(program))
-            want(is_shown(done.stdout, output), f"{path.name}: {command} printed {done.stdout}")
+            want(is_shown(done.stdout, output), f"{path.name}: {command} printed {done.stdout.strip()}")
             count += 1
     return f"{count} commands of documents print what stands there"
 
