@@ -172,7 +172,8 @@ impl<K: Mark> Taken<K> {
 
     /// Whether this is the next cell, with a machine.
     pub fn is_next(&self, locked: &Locked<K>) -> bool
-        ensures { result ≡ true → (locked.now.number ≡ self.now + 1) × (is_some locked.now.running ≡ true) }
+        ensures yes { result ≡ true → (locked.now.number ≡ self.now + 1) × (is_some locked.now.running ≡ true) }
+        ensures all { (locked.now.number ≡ self.now + 1) → (is_some locked.now.running ≡ true) → result ≡ true }
     {
         locked.has_machine() && locked.number() > self.count && locked.number() - self.count == 1
     }
