@@ -103,11 +103,11 @@ def reading(fault: Callable[[str], Exception]) -> Iterator[None]:
     try:
         yield
     except DAMAGE as why:
-        raise fault(f"this object file is cut, or is none ({why})") from None
+        raise fault(f"this is not a whole object file ({why})") from None
     except Exception as why:  # pyelftools has classes of its own, and of `construct`
         if type(why).__module__.split(".")[0] != "elftools":
             raise
-        raise fault("this object file is cut, or is none") from None
+        raise fault("this is not a whole object file") from None
 
 
 def is_object_file(content: bytes) -> bool:

@@ -30,7 +30,9 @@ FUEL = 1_000_000
 SECONDS = 60.0
 # How long a program of a service that waits for an object is left alone, in seconds.
 PAUSE = 0.005
-OBJECT = ":N, an object of the service"
+ARGUMENT = "is neither a number nor +N, =TEXT or @FILE"
+JOINED = "is neither a number nor :N, an object of the service"
+ALONE = "isn't a number, and --line takes numbers alone"
 T = TypeVar("T")
 # What to do about a stop.
 HINTS = {
@@ -58,10 +60,10 @@ def ship_line(code: bytes, fuel: object, arguments: Sequence[object]) -> str:
     return " ".join(["ship", str(fuel), *map(str, arguments), *["0"] * (ARGUMENTS - len(arguments)), code.hex()])
 
 
-def number_of(text: str, others: str = "+N, =TEXT or @FILE") -> int:
-    """The number that an argument is, which might have been one of these others."""
+def number_of(text: str, otherwise: str = ARGUMENT) -> int:
+    """The number that an argument is. `otherwise` says what is wrong with a text that isn't one."""
     if not NUMBER.fullmatch(text):
-        raise WrongArgument(f"is neither a number nor {others}")
+        raise WrongArgument(otherwise)
     if len(text) > DIGITS or not 0 <= int(text, 0) < 2**64:
         raise WrongArgument("isn't from 0 to 2^64 - 1")
     return int(text, 0)
@@ -71,23 +73,25 @@ def length_of(text: str) -> int:
     """The length of an object that an argument asks for."""
     length = number_of(text)
     if not 1 <= length <= LONGEST:
-        raise WrongArgument(f"isn't from +1 to +{LONGEST}: an object has as many bytes")
+        raise WrongArgument(f"isn't from +1 to +{LONGEST}, the lengths of an object")
     return length
 
 
 def object_of(text: str) -> int:
     """The number, or the address of the service's object, that an argument is."""
     if not text.startswith(":"):
-        return number_of(text, OBJECT)
-    number = number_of(text[1:], OBJECT)
+        return number_of(text, JOINED)
+    number = number_of(text[1:], JOINED)
     if not 1 <= number <= OBJECTS:
-        raise WrongArgument(f"isn't from :1 to :{OBJECTS}: there are as many objects")
+        raise WrongArgument(f"isn't from :1 to :{OBJECTS}, the numbers of objects")
     return address(number)
 
 
 def wrong_length(content: bytes) -> str:
     """Why there is no object of these bytes; empty if there is one."""
-    return "" if 1 <= len(content) <= LONGEST else f"has {len(content)} bytes, and an object has 1 to {LONGEST}"
+    if 1 <= len(content) <= LONGEST:
+        return ""
+    return f"has {f'more than {LONGEST}' if content else 'no'} bytes, and an object has 1 to {LONGEST}"
 
 
 def form_of(argument: str) -> None:
@@ -104,7 +108,7 @@ def form_of(argument: str) -> None:
 def each_of(arguments: Sequence[str], take: Callable[[str], T]) -> list[T]:
     """What each argument of a program is taken for. `WrongArgument` says which one is none."""
     if len(arguments) > ARGUMENTS:
-        raise WrongArgument(f"{len(arguments)} arguments are given, and a program takes five")
+        raise WrongArgument(f"{len(arguments)} arguments are given, and a program takes at most five")
     found = []
     for place, argument in enumerate(arguments, 1):
         try:
@@ -126,7 +130,9 @@ def value_of(argument: str) -> Union[int, bytes]:
     if argument.startswith("="):
         return os.fsencode(argument[1:])
     if argument.startswith("@"):
-        return pathlib.Path(argument[1:]).read_bytes()
+        # One byte too many shows that the file is too long, however long it is.
+        with open(argument[1:], "rb") as file:
+            return file.read(LONGEST + 1)
     return number_of(argument)
 
 
@@ -322,7 +328,7 @@ def run(given: argparse.Namespace, image: Image) -> bool:
 def reader_of(given: argparse.Namespace) -> Callable[[str], object]:
     """What an argument of the program may be, by what the options have done with it."""
     if given.line:
-        return number_of
+        return lambda text: number_of(text, ALONE)
     return object_of if given.connect else form_of
 
 

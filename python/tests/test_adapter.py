@@ -192,7 +192,7 @@ class Sessions(unittest.TestCase):
         self.assertIn("No such file", self.refused("launch", program="/none.c"))
         self.assertEqual(self.refused("launch"), "there is no program to debug: name a file, or connect to a service")
         self.assertEqual(self.refused("launch", program=TABLE[0], arguments=["1", "nine"]), "argument 2, `nine`: is neither a number nor +N, =TEXT or @FILE")
-        self.assertEqual(self.refused("launch", program=TABLE[0], arguments=["1"] * 6), "6 arguments are given, and a program takes five")
+        self.assertEqual(self.refused("launch", program=TABLE[0], arguments=["1"] * 6), "6 arguments are given, and a program takes at most five")
         self.assertEqual(self.refused("attach", port=1, program=TABLE[0]), "no service can be reached at 127.0.0.1:1: Connection refused")
         self.launch()
         self.assertEqual(self.refused("launch", program=TABLE[0]), "something is debugged already")

@@ -135,7 +135,7 @@ class Ships(unittest.TestCase):
         """The argument that is none is named, with its place, before anything is started; an object that can't be made, too."""
         code, folder = self.codes["exit"], self.folder
         range_of = "isn't from 0 to 2^64 - 1"
-        lengths = "isn't from +1 to +65536: an object has as many bytes"
+        lengths = "isn't from +1 to +65536, the lengths of an object"
         for given, why in (
             ("nine", TAKES),
             ("", TAKES),
@@ -154,17 +154,18 @@ class Ships(unittest.TestCase):
         ):
             for place in (1, 5):
                 self.want_usage(["none.c", *["0"] * (place - 1), given], f"bpfagent-ship: error: argument {place}, `{given}`: {why}")
-        self.want_usage([code, *"123456"], "bpfagent-ship: error: 6 arguments are given, and a program takes five")
-        self.want_usage(["--line", code, "+8"], f"argument 1, `+8`: {TAKES}")
-        self.want_usage([code, "7", "="], "argument 2, `=`: has 0 bytes, and an object has 1 to 65536")
+        self.want_usage([code, *"123456"], "bpfagent-ship: error: 6 arguments are given, and a program takes at most five")
+        self.want_usage(["--line", code, "+8"], "argument 1, `+8`: isn't a number, and --line takes numbers alone")
+        self.want_usage([code, "7", "="], "argument 2, `=`: has no bytes, and an object has 1 to 65536")
         self.want_usage([], "bpfagent-ship: error: the following arguments are required: FILE")
         for words in (["--check", code, "1"], ["--output", f"{folder}/x", code, "1"]):
             self.want_usage(words, f"{words[0]} takes no ARGUMENT: nothing is run")
         self.want_said([code, "1", f"@{folder}/none"], 1, "", f"bpfagent-ship: argument 2, `@{folder}/none`: No such file or directory\n")
         long = folder / "long"
-        for content in (b"", bytes(65_537)):
+        for content, size in ((b"", "no"), (bytes(65_537), "more than 65536")):
             long.write_bytes(content)
-            self.want_said([code, f"@{long}"], 1, "", f"bpfagent-ship: argument 1, `@{long}`: has {len(content)} bytes, and an object has 1 to 65536\n")
+            self.want_said([code, f"@{long}"], 1, "", f"bpfagent-ship: argument 1, `@{long}`: has {size} bytes, and an object has 1 to 65536\n")
+        self.want_said([code, "@/dev/zero"], 1, "", "bpfagent-ship: argument 1, `@/dev/zero`: has more than 65536 bytes, and an object has 1 to 65536\n")
         self.want_said([f"{folder}/none"], 1, "", f"bpfagent-ship: {folder}/none: No such file or directory\n")
         (folder / "any.asm").write_text("exit")
         silent = shutil.which("false")
@@ -229,7 +230,7 @@ class Ships(unittest.TestCase):
                 stopped = "stopped 4 outside\n0 instructions\nat slot 0: ldxb r0, [r1]\n[r1] is object 2\n"
                 self.want_said([loads, "--connect", at, ":2"], 1, stopped, "")
                 self.want_usage([loads, "--connect", at, "+8"], "argument 1, `+8`: is neither a number nor :N, an object of the service")
-                self.want_usage([loads, "--connect", at, ":1025"], "argument 1, `:1025`: isn't from :1 to :1024: there are as many objects")
+                self.want_usage([loads, "--connect", at, ":1025"], "argument 1, `:1025`: isn't from :1 to :1024, the numbers of objects")
         self.want_said([loads, "--connect", at], 1, "", f"bpfagent-ship: the service at {at} can't be reached: Connection refused\n")
 
     def test_explained(self) -> None:
