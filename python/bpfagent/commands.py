@@ -54,7 +54,7 @@ def port_of(text: str) -> int:
 def place_of(text: str) -> tuple[str, int]:
     """HOST:PORT as an argument. Without a host it is this one."""
     host, _, port = text.rpartition(":")
-    if not port.isdecimal() or not 1 <= int(port) <= 65_535:
+    if not port.isdecimal() or not 1 <= int(port) <= 65_535 or "/" in host:
         raise argparse.ArgumentTypeError(f"{text!r} is not HOST:PORT, with a port from 1 to 65535")
     return host.strip("[]") or "127.0.0.1", int(port)
 

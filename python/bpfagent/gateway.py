@@ -92,6 +92,8 @@ class Node:
         self.stream.write(b"*%d\r\n" % len(words) + b"".join(b"$%d\r\n%b\r\n" % (len(word), word) for word in words))
         self.stream.flush()
         line = self.stream.readline()
+        if not line:
+            raise ConnectionError("the connection was closed")
         kind, text = line[:1], line[1:-2]
         if not line.endswith(b"\r\n") or kind not in b"+-:$":
             raise ConnectionError(f"this is no reply: {line[:40]!r}")

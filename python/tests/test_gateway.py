@@ -277,6 +277,7 @@ class Gateways(unittest.TestCase):
         self.assertTrue(store.get(number, digest) is None and store.ask(FORGET, number) == (REFUSED_ID, b""), "a parcel that Redis has lost")
         store.close()
         status, _, errors = gateway.end()
+        self.assertIn(f"redis: can't be reached: {redis.address}: the connection was closed\n", errors.decode())
         self.assertTrue(status == 0 and errors.count(b"redis: ") == 28 and errors.count(b" again\n") == 14, f"what was said of faults: {errors!r}")
         redis.end()
 
@@ -320,7 +321,7 @@ class Gateways(unittest.TestCase):
         )
         version = ended(*GATEWAY, "--version", seconds=SECONDS)
         self.assertTrue(version == (0, f"bpfagent-redis {__version__}\n".encode(), b""), f"the version: {version}")
-        for words in (["--redis", "x"], ["--redis", "127.0.0.1:0"], ["--port", "65536"], ["--port", "x"], ["x"]):
+        for words in (["--redis", "x"], ["--redis", "127.0.0.1:0"], ["--redis", "redis://127.0.0.1:1"], ["--port", "65536"], ["--port", "x"], ["x"]):
             wrong = ended(*GATEWAY, *words, seconds=SECONDS)
             self.assertTrue(wrong[:2] == (2, b"") and wrong[2].startswith(b"usage: bpfagent-redis "), f"wrong arguments of the gateway: {wrong}")
         with socket.create_server(("127.0.0.1", 0)) as taken:
