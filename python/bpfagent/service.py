@@ -19,6 +19,7 @@ HOST = "127.0.0.1"
 CONNECTIONS = 1
 # How long the end of a process may take that has nothing more to do, in seconds.
 GRACE = 0.5
+CLOSED = "the service was closed"
 
 
 class Service:
@@ -42,7 +43,12 @@ class Service:
         self.port: int = 0
 
     def listen(self) -> int:
-        """Ends the setup, and gives the port. Raises `Broken` if the service ends, or doesn't listen in time."""
+        """Ends the setup, and gives the port, also of a service that listens already. Raises `Broken` if the service ends, or doesn't
+        listen in time."""
+        if self._is_closed:
+            raise Broken(CLOSED)
+        if self.port:
+            return self.port
         self.setup.close()
         return self._listen(None if self._timeout is None else time.monotonic() + self._timeout)
 
@@ -76,7 +82,10 @@ class Service:
             raise Broken("the service didn't answer in time") from None
 
     def connect(self, timeout: Optional[float] = None) -> Agent:
-        """One more client, after `listen`. `timeout`, in seconds, bounds the connecting and each reply."""
+        """One more client, after `listen`; before it, and after `close`, this raises `Broken`. `timeout`, in seconds, bounds the
+        connecting and each reply."""
+        if self._is_closed or not self.port:
+            raise Broken(CLOSED if self._is_closed else "the service doesn't listen yet")
         agent = Agent.connect(HOST, self.port, timeout)
         self._clients.append(agent)
         self._unused = max(self._unused - 1, 0)
@@ -89,7 +98,7 @@ class Service:
         happens while others are connected. It also raises `Broken` if the service ends with another status than 0.
         """
         if self._is_closed:
-            raise Broken("the service was closed")
+            raise Broken(CLOSED)
         self._is_closed = True
         until = time.monotonic() + seconds
         output, fault = b"", ""

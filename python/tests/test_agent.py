@@ -599,6 +599,17 @@ class Services(Case):
                 "a service to which somebody else is connected",
             )
 
+    def test_order(self) -> None:
+        """A service listens once, before any client connects, and neither is done after its end."""
+        service = bpfagent.Service(PROGRAM)
+        self.assertEqual(why_broken(service.connect), "the service doesn't listen yet")
+        self.assertEqual(service.listen(), service.port)
+        self.assertEqual(service.listen(), service.port, "a service that listens already")
+        service.connect(SECONDS)
+        self.assertEqual(service.close(), ["closed"])
+        for late in (service.listen, service.connect, service.close):
+            self.assertEqual(why_broken(late), "the service was closed")
+
     def test_hung(self) -> None:
         """`close` returns in time, whatever the service does, and nothing of it goes on."""
         for number, (text, why) in enumerate(HUNG.items()):
