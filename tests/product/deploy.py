@@ -31,6 +31,7 @@ def of_unit(program: str) -> None:
         return
     text = (DEPLOY / "bpfagent@.service").read_text()
     want(text.count("/usr/bin/bpfagent ") == 1, "the unit doesn't start one /usr/bin/bpfagent")
+    want("RestrictAddressFamilies=AF_INET AF_INET6\n" in text, "the unit refuses a far server with an IPv6 address")
     with tempfile.TemporaryDirectory() as folder:
         unit = pathlib.Path(folder) / "bpfagent@7070.service"
         unit.write_text(text.replace("/usr/bin/bpfagent", program))
