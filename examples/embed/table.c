@@ -3,6 +3,7 @@
    keys in one more object and writes the values in their place. The values have to be the same.
 
    table hash_table.lookup.code */
+#define _XOPEN_SOURCE 700
 #include "common.h"
 #include <time.h>
 
