@@ -107,7 +107,7 @@ def write(place: pathlib.Path, content: bytes, mode: int) -> None:
 def install(args: argparse.Namespace, below: pathlib.Path) -> int:
     missing = [str(source) for _, source, _ in files(args) if not source.is_file()]
     if missing:
-        raise Wrong(f"{', '.join(missing)} isn't built; make lib and make program build them")
+        raise Wrong(f"make lib and make program come first, which build {' and '.join(missing)}")
     written = []
     with tempfile.TemporaryDirectory(prefix="install-") as room:
         for place, source, mode in (*files(args), *told_by(args.program.resolve(), room)):

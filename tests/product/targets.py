@@ -12,6 +12,7 @@ import os
 import pathlib
 import re
 import shutil
+import subprocess
 import sys
 
 sys.path.insert(0, str(pathlib.Path(__file__).resolve().parents[1]))
@@ -34,6 +35,14 @@ def make(*arguments: str) -> str:
 def show_program(rt: str) -> None:
     """The gate has proved it, so there is nothing to do, and nothing is said."""
     want_equal(make(f"RT={rt}", "program"), "", "what make program says")
+
+
+def show_missing(rt: str) -> None:
+    """Without the toolchain a target that builds says in a line what is missing."""
+    for target in ("try", "run", "program", "lib"):
+        done = subprocess.run(["make", "--no-print-directory", "RT=/none/rt", target], cwd=ROOT, stdin=subprocess.DEVNULL, capture_output=True, text=True, timeout=60)
+        lines = done.stderr.splitlines()
+        want(done.returncode == 2 and len(lines) == 2 and "/none/rt can't be run (No such file or directory)" in lines[0], f"make {target} without rt says {done.stderr}")
 
 
 def show_run(rt: str) -> None:
@@ -80,4 +89,4 @@ def show_bench(rt: str) -> str | None:
 
 
 if __name__ == "__main__":
-    run_parts("targets", [show_help, show_program, show_run, show_try, show_c, show_bench])
+    run_parts("targets", [show_help, show_missing, show_program, show_run, show_try, show_c, show_bench])
