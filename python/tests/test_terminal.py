@@ -221,6 +221,28 @@ class Sessions(unittest.TestCase):
                 self.assertEqual(terminal.ask("machine 3") and terminal.ask("stepi"), ["slot 1: ldxdw r1, [r10-8]"])
                 self.assertEqual(terminal.close(), 0)
 
+    def test_flags(self) -> None:
+        """A machine that bpfagent-ship shipped is recognized with its flags, and without them the debugger names them."""
+        with Service(PROGRAM, "--workers", "0", "--connections", "2", timeout=SECONDS) as service:
+            code = pathlib.Path(self.folder.name) / "optimized.code"
+            subprocess.run([*DEBUGGER[:2], "bpfagent.ship", "--output", str(code), TABLE[0]], check=True)
+            service.setup.ship(code.read_bytes(), 100)
+            at = f"127.0.0.1:{service.listen()}"
+            with self.debugger("--connect", at, TABLE[0]) as terminal:
+                self.assertRegex(terminal.greeting[0], r", another program$")
+                self.assertRegex(terminal.greeting[1], r"^no machine runs .*table\.c as the debugger compiles it: .* --flag=-O2$")
+            with self.debugger("--connect", at, "--flag=-O2", TABLE[0]) as terminal:
+                self.assertRegex(terminal.greeting[0], r"program at .*table\.c:")
+                self.assertEqual(len(terminal.greeting), 1)
+
+    def test_parameters(self) -> None:
+        """Where a function hasn't stored its parameters yet, they have no values, rather than what the stack had before."""
+        with self.debugger(*TABLE) as terminal:
+            self.assertEqual(terminal.ask("print key"), ["key = <not stored yet>"])
+            self.assertEqual(terminal.ask("print *table"), ["not stored yet"])
+            terminal.ask("next")
+            self.assertEqual(terminal.ask("print key"), ["key = 7"])
+
     def test_interrupt(self) -> None:
         """An interrupt stops a program that doesn't end, over `run`."""
         with self.debugger("--fuel", str(2**63), self.source(ENDLESS), "+8") as terminal:

@@ -111,6 +111,9 @@ class Terminal(cmd.Cmd):
         for program in self.engine.programs:
             if program.why:
                 print(f"{program.image.path}: {program.why}")
+        files = [program.image.path for program in self.engine.programs if program.image.path.suffix == ".c"]
+        if files and self.engine.machines and not any(machine.program for machine in self.engine.machines.values()):
+            print(f"no machine runs {files[0]} as the debugger compiles it: for what bpfagent-ship shipped, give --flag=-O2")
 
     def onecmd(self, line: str) -> bool:
         """Does one command; what it can't do it says in a line."""
