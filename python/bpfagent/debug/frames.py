@@ -188,7 +188,7 @@ class FrameContext:
             pieces = evaluator.pieces(variable.operations(self._frame.slot))
             if len(pieces) == 1:
                 location = pieces[0][0]
-                if variable.is_parameter and location.address is not None and self._is_in_prologue():
+                if variable.is_parameter and location.address is not None and self._is_at_its_beginning():
                     return Value(variable.type, address=location.address, why="not stored yet")
                 return self._at(variable.type, location)
             content = b"".join(self._at(Type("base", size=size), location).bytes for location, size in pieces)
@@ -198,10 +198,10 @@ class FrameContext:
         except (Unreadable, IndexError) as why:
             return Value(variable.type, why=str(why) or "its place isn't known")
 
-    def _is_in_prologue(self) -> bool:
-        """Whether the frame stands where its function has yet to store its parameters."""
-        slot, scopes = self._frame.slot, self._frame.scopes
-        return bool(scopes) and slot is not None and scopes[0].slot <= slot < scopes[0].body
+    def _is_at_its_beginning(self) -> bool:
+        """Whether the frame stands at its function's first instruction, which has yet to store the parameters."""
+        scopes = self._frame.scopes
+        return bool(scopes) and self._frame.slot == scopes[0].slot < scopes[0].body
 
     def _at(self, type_: Type, location: Location) -> Value:
         """The value of a type at a place."""
