@@ -607,8 +607,9 @@ class Services(Case):
         self.assertEqual(service.listen(), service.port, "a service that listens already")
         service.connect(SECONDS)
         self.assertEqual(service.close(), ["closed"])
-        for late in (service.listen, service.connect, service.close):
-            self.assertEqual(why_broken(late), "the service was closed")
+        late: list[Callable[[], object]] = [service.listen, service.connect, service.close]
+        for call in late:
+            self.assertEqual(why_broken(call), "the service was closed")
 
     def test_hung(self) -> None:
         """`close` returns in time, whatever the service does, and nothing of it goes on."""
