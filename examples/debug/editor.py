@@ -9,6 +9,7 @@ from __future__ import annotations
 
 import json
 import os
+import shutil
 import subprocess
 import sys
 from typing import Any, Optional
@@ -40,6 +41,8 @@ class Editor:
         length = 0
         while line := self.process.stdout.readline().strip():
             length = int(line.split(b":")[1])
+        if not length:
+            raise RuntimeError("the debugger has ended")
         message: Body = json.loads(self.process.stdout.read(length))
         return message
 
@@ -136,7 +139,8 @@ def main() -> None:
     if file is None:
         sys.exit(__doc__)
     try:
-        with Editor(["bpfagent-debug", "--dap"]) as editor:
+        installed = shutil.which("bpfagent-debug")
+        with Editor([*([installed] if installed else [sys.executable, "-m", "bpfagent.debug.main"]), "--dap"]) as editor:
             session(editor, file, words[words.index(file) + 1 :], options)
     except (OSError, RuntimeError) as why:
         sys.exit(f"editor.py: {why}")
