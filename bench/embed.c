@@ -6,12 +6,11 @@
    embed FOLDER SIDE NAME FUEL    runs one side once, for bench/embed.py: run, one, step or bare; tells the steps that ran and R0 */
 #include "bpfagent.h"
 #include "times.h"
+#include "work.h"
 #include <inttypes.h>
 #include <stdio.h>
 #include <stdlib.h>
 #include <string.h>
-
-uint64_t bpf_run(const uint8_t *code, size_t length, uint64_t fuel, uint64_t argument, uint32_t objects, size_t machines, size_t granted, uint64_t *steps);
 
 #define RUNS 41
 #define SIDES 4
@@ -77,9 +76,9 @@ static double by_library(uint64_t n, uint64_t fuel, struct outcome *o)
 static double bare(uint64_t fuel, struct outcome *o)
 {
     double a = now();
-    bpf_run(code, length, 0, bpfagent_address(1, 0), 1, 1, 0, &o->steps);
+    bpf_run(code, length, &(struct work){ 0, bpfagent_address(1, 0), 1, 1, 0 }, &o->steps);
     double b = now();
-    o->result = bpf_run(code, length, fuel, bpfagent_address(1, 0), 1, 1, 0, &o->steps);
+    o->result = bpf_run(code, length, &(struct work){ fuel, bpfagent_address(1, 0), 1, 1, 0 }, &o->steps);
     return now() - b - (b - a);
 }
 

@@ -76,27 +76,21 @@ static void write_head(uint8_t *to, uint8_t kind, uint64_t id, uint32_t length)
     for (int k = 0; k < 4; k++) to[9 + k] = (uint8_t)(length >> (24 - 8 * k));
 }
 
-static int write_all(int stream, const uint8_t *bytes, size_t left)
-{
-    while (left) {
-        ssize_t n = write(stream, bytes, left);
-        if (n <= 0) return 0;
-        bytes += n;
-        left -= (size_t)n;
+/* A function that calls `move` until all bytes have gone or come; 0 if it fails before. */
+#define ALL(name, move, byte)                                  \
+    static int name(int stream, byte *bytes, size_t left)      \
+    {                                                          \
+        while (left) {                                         \
+            ssize_t n = move(stream, bytes, left);             \
+            if (n <= 0) return 0;                              \
+            bytes += n;                                        \
+            left -= (size_t)n;                                 \
+        }                                                      \
+        return 1;                                              \
     }
-    return 1;
-}
 
-static int read_all(int stream, uint8_t *bytes, size_t left)
-{
-    while (left) {
-        ssize_t n = read(stream, bytes, left);
-        if (n <= 0) return 0;
-        bytes += n;
-        left -= (size_t)n;
-    }
-    return 1;
-}
+ALL(write_all, write, const uint8_t)
+ALL(read_all, read, uint8_t)
 
 static int read_head(int stream, struct head *head)
 {

@@ -10,18 +10,16 @@ from typing import Iterable, Iterator, Optional
 
 FIGURES = Path(__file__).resolve().parent / "figures.json"
 
-# What a line may say: its name, a ratio of times, the machine instructions of both sides.
+# The name of a line, and what it may tell: fields of a row.
 NAME = re.compile(r"(\S.*?)(?: {2,}|: )")
-RATIO = re.compile(r"ratio +([\d.]+)")
-BOTH = re.compile(r"([\d.]+) (?:and|beside) +([\d.]+) machine instructions")
+TOLD = re.compile(
+    r"ratio +(?P<ratio>[\d.]+)|(?P<ours>[\d.]+) (?:and|beside) +(?P<theirs>[\d.]+) machine instructions"
+    r"|median +(?P<median>[\d.]+) us, 99th percentile +(?P<percentile>[\d.]+) us|(?P<share>[\d.]+) of 100"
+)
 # The library for C: a run in one call beside a step in a loop, once in nanoseconds and once in machine instructions.
 LIBRARY = re.compile(r"(\w+) +run +([\d.]+)( ns)?,.*? bare +([\d.]+)( ns)?")
 # A worker: machine instructions alone, all kinds in one line.
 WORKER = re.compile(r"machine instructions of one worker an instruction of one machine: (.*)")
-# How long something takes, in microseconds.
-LATENCY = re.compile(r"median +([\d.]+) us, 99th percentile +([\d.]+) us")
-# How many of a hundred.
-SHARE = re.compile(r"([\d.]+) of 100")
 
 
 @dataclass
@@ -53,13 +51,9 @@ def rows_of_line(part: str, line: str) -> Iterator[Row]:
         for name, count in re.findall(r"(\w+) ([\d.]+)", worker[1]):
             yield Row(part, name, ours=float(count))
     elif name := NAME.match(line):
-        if latency := LATENCY.search(line):
-            yield Row(part, name[1], median=float(latency[1]), percentile=float(latency[2]))
-        elif share := SHARE.search(line):
-            yield Row(part, name[1], share=float(share[1]))
-        ratio, both = RATIO.search(line), BOTH.search(line)
-        if ratio or both:
-            yield Row(part, name[1], float(ratio[1]) if ratio else None, *(float(both[k]) if both else None for k in (1, 2)))
+        told = {field: float(value) for found in TOLD.finditer(line) for field, value in found.groupdict().items() if value}
+        if told:
+            yield Row(part, name[1], **told)
 
 
 def joined(rows: Iterable[Row]) -> list[Row]:

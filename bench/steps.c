@@ -3,13 +3,10 @@
    Machine instructions are counted by bench/counts.py, which has this program run one side once. */
 #include "flat.h"
 #include "times.h"
+#include "work.h"
 #include <stdio.h>
 #include <stdlib.h>
 #include <string.h>
-
-/* The code in the last of so many machines, beside so many objects: the first of 65,536 bytes. It is granted so many of them, or
-   all where that is 0. Gives R0 as it stops, and how many instructions ran. */
-uint64_t bpf_run(const uint8_t *code, size_t length, uint64_t fuel, uint64_t argument, uint32_t objects, size_t machines, size_t granted, uint64_t *steps);
 
 #define RUNS 101
 #define STEPS 400000
@@ -77,9 +74,9 @@ static struct counts tell_counts(const char *name)
 static double ours(const struct code *c, uint64_t fuel, const struct setting *s, struct outcome *o)
 {
     double a = now();
-    bpf_run(c->bytes, c->length, 0, s->argument, s->objects, s->machines, s->granted, &o->steps);
+    bpf_run(c->bytes, c->length, &(struct work){ 0, s->argument, s->objects, s->machines, s->granted }, &o->steps);
     double b = now();
-    o->result = bpf_run(c->bytes, c->length, fuel, s->argument, s->objects, s->machines, s->granted, &o->steps);
+    o->result = bpf_run(c->bytes, c->length, &(struct work){ fuel, s->argument, s->objects, s->machines, s->granted }, &o->steps);
     return now() - b - (b - a);
 }
 
@@ -360,7 +357,7 @@ static int run_once(const char *folder, const char *side, const char *name, uint
         flat_decode(decoded, c.bytes, c.length / 8);
         theirs(decoded, fuel, &o);
     } else {
-        o.result = bpf_run(c.bytes, c.length, fuel, s.argument, s.objects, s.machines, s.granted, &o.steps);
+        o.result = bpf_run(c.bytes, c.length, &(struct work){ fuel, s.argument, s.objects, s.machines, s.granted }, &o.steps);
     }
     printf("%llu %llu\n", (unsigned long long)o.steps, (unsigned long long)o.result);
     return 0;

@@ -1,11 +1,8 @@
 #!/usr/bin/env python3
 """Tries the edits of crates/*/edits, wrong bodies that the prover has to refuse: edits.py RT [CRATE..], edits.py --check
 
-The gate tries those of must-fail/, which show most; these are tried when their crate has changed. They run in a copy of the
-crates, where they lie in must-fail/. It is in the folder for temporary files, since `rt ci` refuses a second crates.txt below the
-repository, and stays there with what its checks have kept. Where all edits of a crate are refused, edits/TRIED gets a checksum of
-the crate's sources and edits. `--check` fails where a crate differs from what its edits were tried on, or where they weren't
-tried yet, and names the command; the gate fails for the first of these.
+They run in a copy of the crates, where they lie in must-fail/. Where all edits of a crate are refused, edits/TRIED gets a checksum of its sources and
+edits. `--check` fails where a crate differs from that, or has none, and names the command; the gate fails for the first alone.
 """
 from __future__ import annotations
 
@@ -21,10 +18,10 @@ from typing import Iterable, Iterator
 
 from lib.sources import ROOT, crates
 
+# Outside the repository, since `rt ci` refuses a second crates.txt below it. What its checks have kept stays there.
 COPY = pathlib.Path(tempfile.gettempdir()) / f"bpfagent-edits-{os.getuid()}-{hashlib.sha256(bytes(ROOT)).hexdigest()[:8]}"
 TRIED = "TRIED"
 SAID = re.compile(r"rt: must-fail (\w+)/(\S+\.edit): (refused|NOT REFUSED|BAD EDIT|NOT TRIED)")
-ENTRIES = ("crates.txt", "HANDLES")
 
 
 def edits_of(crate: str) -> list[pathlib.Path]:
@@ -72,7 +69,7 @@ def copy_crates(names: Iterable[str]) -> None:
         shutil.copytree(source, to, ignore=shutil.ignore_patterns("out", "must-fail", "edits", "__pycache__"), dirs_exist_ok=True)
         if crate in names:
             shutil.copytree(source / "edits", to / "must-fail", ignore=shutil.ignore_patterns(TRIED))
-    for entry in ENTRIES:
+    for entry in ("crates.txt", "HANDLES"):
         shutil.copy(ROOT / entry, COPY)
 
 
@@ -117,7 +114,7 @@ def say_changed() -> int:
     return say("have changed since their edits were tried", changed())
 
 
-def main() -> None:
+if __name__ == "__main__":
     words = sys.argv[1:]
     if not words:
         sys.exit(__doc__)
@@ -129,7 +126,3 @@ def main() -> None:
     if unknown:
         sys.exit(f"edits: {', '.join(unknown)}: no crate with a folder edits/")
     sys.exit(1 if try_edits(rt, names or [*changed(), *new()]) else 0)
-
-
-if __name__ == "__main__":
-    main()

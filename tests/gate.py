@@ -1,10 +1,8 @@
 #!/usr/bin/env python3
 """The gate: gate.py RT, or gate.py --quick for what takes seconds.
 
-First the scripts that compare pages and lists with the sources, the test of .ci/run itself, and whether a crate has changed since
-its edits in edits/ were tried. Then `rt ci`, with a line on how far it is. Then what runs the program as `rt ci` has built it, by
-LLVM and by Rattle's own compiler, and beside it the library for C. The last line is that of `rt ci`; whatever else fails is counted
-in it.
+First the scripts of form/, and whether a crate has changed since its edits in edits/ were tried. Then `rt ci`, with a line on how far it is. Then what
+runs the program as `rt ci` has built it, and beside it the library for C. The last line is that of `rt ci`; whatever else fails is counted in it.
 """
 from __future__ import annotations
 
@@ -20,7 +18,7 @@ from typing import Iterable
 
 import edits
 from form import listed
-from lib.calls import FORM, LIBRARY, PROVE, PROVE_ALONE, Done, call_script, jobs
+from lib.calls import ALONE, FORM, LIBRARY, PROVE, Done, call_script, jobs
 from lib.sources import ROOT, crates
 
 BUILT = ["crates/bpfagent/out/bpfagent", "crates/bpfagent/out/bpfagent.by-rattle"]
@@ -84,11 +82,11 @@ def prove(rt: str, start: float) -> tuple[int, int]:
     if not failed or all((ROOT / program).is_file() for program in BUILT):
         with concurrent.futures.ThreadPoolExecutor(2) as pool:
             failed += sum(pool.map(lambda lines: failures_of(lines, rt), (PROVE, LIBRARY)))
-        failed += failures_of(PROVE_ALONE, rt)
+        failed += failures_of(ALONE, rt)
     return passed, failed
 
 
-def main() -> None:
+if __name__ == "__main__":
     if not sys.argv[1:]:
         sys.exit(__doc__)
     start = time.monotonic()
@@ -101,7 +99,3 @@ def main() -> None:
     print(f"gate: {spent(start)}", flush=True)
     print(f"{passed} passed, {failed} failed", flush=True)
     sys.exit(1 if failed else 0)
-
-
-if __name__ == "__main__":
-    main()

@@ -1,9 +1,8 @@
 #!/usr/bin/env python3
 """Whether everything works, without a proof, in minutes: test.py RT
 
-Builds the program as `make try` does, and runs the scripts over it; beside that the tests of every crate by `rt try --test`, as
-many at a time as processors and memory allow. What looks at how long something takes runs at the end, alone. A line tells of each
-part. The last line is `N passed, M failed`: tests of crates and scripts. What fits only the proved program runs in `make prove`.
+Builds the program as `make try` does, and runs the scripts over it; beside that the tests of every crate by `rt try --test`, as many at a time as
+processors and memory allow; at the end, alone, what looks at time. The last line is `N passed, M failed`: tests of crates and scripts.
 """
 from __future__ import annotations
 
@@ -39,7 +38,6 @@ def of_crate(rt: str, crate: str) -> Done:
 
 
 def told(done: Done) -> Done:
-    """Tells of a part that has ended."""
     print(f"test: {done.name}: {done.passed} passed{f', {done.failed} FAILED' if done.failed else ''}, {done.seconds:.0f} s", flush=True)
     if done.failed:
         lines = [line[:WIDTH] for line in done.output.splitlines() if not line.endswith(" ... ok")]
@@ -48,8 +46,7 @@ def told(done: Done) -> Done:
 
 
 def run_all(first: list[Call], others: list[Call], width: int) -> tuple[int, int]:
-    """Runs so many at a time, tells of each as it ends, and gives how much passed and failed. One lane does `first` in their order, since
-    each may need what those before it built, and then helps with the others."""
+    """How much passed and failed of all, so many at a time. One lane does `first` in their order, since each may need what those before it built."""
     left: queue.SimpleQueue[Call] = queue.SimpleQueue()
     for other in others:
         left.put(other)

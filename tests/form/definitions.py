@@ -1,12 +1,9 @@
 #!/usr/bin/env python3
-"""Checks that every definition that a public clause depends on has a comment, and that docs/DEFINITIONS.md, the guide to
-them, names each crate that has one. With --write it writes the list of them, out/DEFINITIONS-INDEX.md, and at its end the files of
-specs/ that have none.
+"""Checks that every definition that a public clause depends on has a comment, and that docs/DEFINITIONS.md names each crate that has one.
 
-A public clause is one of a `pub fn`, of an export to C, of a method of a trait's impl, or of a `pub trait`, and what a public type says of
-itself (its Model, its ghost items). From the names in these clauses the script follows the imports: the `ghost use`
-lines of src/, then the `use` lines of specs/, through the crates of this repository. The crates stand in the order in
-which the guide, docs/DEFINITIONS.md, names them in its table, and it has to name each.
+A public clause is one of a `pub fn`, of an export to C, of a method of a trait's impl, or of a `pub trait`, and what a public type says of itself (its
+Model, its ghost items). From the names in these clauses the script follows the `ghost use` lines of src/, then the `use` lines of specs/. With --write
+it writes out/DEFINITIONS-INDEX.md: the list of them, crates in the order of the guide's table, and at its end the files of specs/ that have none.
 """
 from __future__ import annotations
 
@@ -182,7 +179,7 @@ def unneeded(own: Sequence[str], found: Sequence[Place]) -> Iterator[str]:
             yield f"- `{crate}`: {', '.join(private)}\n"
 
 
-def main() -> None:
+if __name__ == "__main__":
     own, rows = libraries(), guide_rows()
     order = [crate for names, _ in rows for crate in names]
     found, specs = reached(own)
@@ -195,7 +192,3 @@ def main() -> None:
         lines = [line for crate in order + unnamed for line in table(crate, found, specs)]
         (ROOT / INDEX).write_text(HEAD + "".join([*lines, *unneeded(own, found)]))
     report(wrong, f"each of the {len(found)} definitions that public clauses depend on has a comment")
-
-
-if __name__ == "__main__":
-    main()

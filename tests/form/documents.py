@@ -1,8 +1,7 @@
 #!/usr/bin/env python3
-"""Checks that documents are true of the repository as far as a script can see it: each link leads to a file and a heading,
-each file, each target of make and each option of a script that is named is there, each line of Rust that is quoted stands in the
-file that is named before it; the picture of the crates has each crate, with what it stands on by crates.txt. With --write the
-script draws it."""
+"""Checks that documents are true as far as a script can see it: links lead to a file and a heading, files, targets of make and options of scripts
+are there, quoted Rust stands in the file that is named before it, the picture of the crates is that of crates.txt. With --write the script draws it.
+"""
 from __future__ import annotations
 
 import pathlib
@@ -99,14 +98,10 @@ def wrong_picture(is_written: bool) -> Iterator[str]:
         yield f"{PICTURE}: the picture isn't what crates.txt says: tests/form/documents.py --write makes it so"
 
 
-def main() -> None:
+if __name__ == "__main__":
     wrong = list(wrong_picture(sys.argv[1:] == ["--write"]))
     for page in pages():
         text = page.read_text()
         said = [*wrong_links(page, text), *wrong_paths(text), *wrong_commands(text), *wrong_quotes(text)]
         wrong += [f"{page.relative_to(ROOT)} {what}" for what in said]
     report(wrong, f"links, files, commands, quotes, and the picture of the crates in {len(pages())} documents are right")
-
-
-if __name__ == "__main__":
-    main()

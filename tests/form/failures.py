@@ -1,10 +1,9 @@
 #!/usr/bin/env python3
 """Checks that out of memory, and a fault of a reader or a writer, are answered only where tests/form/failures.txt says.
 
-No proof shows that a function answers them only after a call that failed. So each place of the program's crates that writes
-one of these words, or asks for room, is listed: its file, its function and the reason. A function with a place more or less
-fails this test until someone has looked at it. Nothing may lose a value without dropping it, and nothing flushes a stream.
-With --write the script writes the list: a place that is new there has `?` for a reason, which the test refuses.
+No proof shows that a function answers them only after a call that failed. So each place that writes one of these words, or asks for room, is listed
+with its file, its function and the reason. Nothing may lose a value without dropping it, and nothing flushes a stream. With --write the script writes
+the list: a place that is new there has `?` for a reason, which the test refuses.
 """
 from __future__ import annotations
 
@@ -23,17 +22,13 @@ WORDS = re.compile(r"\b(?:AllocError|AllocFailed|NoMemory|OutOfMemory|ReadFault|
 ROOM = re.compile(r"\b(?:with_capacity\w*|(?:try_)?reserve\w*|resize\w*|repeat|vec!)\s*[(\[]")
 # What follows a pattern, which answers nothing. A brace before `if` ends a block, whose value it may be: `{ return Err(NoMemory) } if ..`.
 PATTERN = re.compile(r"[\s)}]*(?:\||=>)|[\s)]*if\b|[\s)]*=[^=]")
-# A `use` that gives a word another name, takes all names of a module or a type, or takes variants of a type.
-RENAMING = re.compile(r"\bas\b|\*|\b[A-Z]\w*::")
-# A type of these words that gets another name, by which they would be answered unseen.
-RENAMED_TYPE = re.compile(r"^use\b.*\b(?:Why|Failure|OpenAgent|\w+Error|\w+Fault) as\b|^type \w+(?:<[^=]*>)? = (?:\w+::)*(?:Why|Failure|OpenAgent|\w+Error|\w+Fault);?$")
-OUTSIDE = re.compile(r"(?m)^\s*(?:pub(?:\([^)]*\))? )?(use|const|static|type|macro_rules!)\s[^;{]*")
-LEAKS = re.compile(r"\bmem::forget\b|\bmem::\{[^;]*\bforget\b|\bmem(?: as\b|::\*)|\b(?:ManuallyDrop|into_raw\w*|from_raw\w*)\b|[.:]leak\b")
-# A flush: no clause refuses one, and no count of the system's calls shows it, since std's standard output does nothing then.
-FLUSHES = re.compile(r"[.:]flush\b")
-HEAD = """# Where the program answers out of memory or a fault of a stream, and where it asks for room: for each function its file, and for each
-# place in it the reason: which failed call comes before, or how much is asked for. `python3 tests/form/failures.py --write` writes
-# the places; the reasons are written by hand.
+# What stands nowhere, with what is wrong about it. No clause refuses a flush, and no count of the system's calls shows it.
+NOWHERE = {
+    re.compile(r"\bmem::forget\b|\bmem::\{[^;]*\bforget\b|\bmem(?: as\b|::\*)|\b(?:ManuallyDrop|into_raw\w*|from_raw\w*)\b|[.:]leak\b"): "may lose a value without dropping it",
+    re.compile(r"[.:]flush\b"): "flushes, and a line is written by its writes alone",
+}
+HEAD = """# Where the program answers out of memory or a fault of a stream, or asks for room: of each place in a function which failed call comes before,
+# or how much is asked for. `python3 tests/form/failures.py --write` writes the places; the reasons are written by hand.
 """
 BETWEEN = " | "
 
@@ -54,6 +49,13 @@ def in_functions(code: str) -> Iterator[str]:
         for word in [*WORDS.finditer(code, begin, end), *ROOM.finditer(code, begin, end)]:
             if ROOM.match(word[0]) or not PATTERN.match(code, word.end()):
                 yield function
+
+
+# A `use` that gives a word another name, takes all names of a module or a type, or takes variants of a type.
+RENAMING = re.compile(r"\bas\b|\*|\b[A-Z]\w*::")
+# A type of these words that gets another name, by which they would be answered unseen.
+RENAMED_TYPE = re.compile(r"^use\b.*\b(?:Why|Failure|OpenAgent|\w+Error|\w+Fault) as\b|^type \w+(?:<[^=]*>)? = (?:\w+::)*(?:Why|Failure|OpenAgent|\w+Error|\w+Fault);?$")
+OUTSIDE = re.compile(r"(?m)^\s*(?:pub(?:\([^)]*\))? )?(use|const|static|type|macro_rules!)\s[^;{]*")
 
 
 def outside(code: str, text: str) -> Iterator[str]:
@@ -82,7 +84,7 @@ def places() -> list[Place]:
 
 
 def found_in_code(pattern: re.Pattern[str]) -> Iterator[str]:
-    """Where the program's code has this: of LEAKS and FLUSHES, nowhere."""
+    """Where the program's code has this."""
     for crate in crates_below("bpfagent"):
         for path in sources_of(crate):
             yield from (f"{path.relative_to(ROOT)}: {found[0]}" for found in pattern.finditer(blanked(path.read_text())))
@@ -103,7 +105,7 @@ def write(found: list[Place]) -> None:
     LIST.write_text(HEAD + "".join(f"{' '.join(place)}: {BETWEEN.join(reasons)}\n" for place, reasons in now.items()))
 
 
-def main() -> None:
+if __name__ == "__main__":
     found = places()
     if sys.argv[1:] == ["--write"]:
         write(found)
@@ -111,12 +113,7 @@ def main() -> None:
     has, wanted = collections.Counter(found), collections.Counter(place for place, _ in known)
     wrong = [f"crates/{place[0]}: {place[1]} has {has[place]} places, and tests/form/failures.txt {wanted[place]}" for place in sorted({*has, *wanted}) if has[place] != wanted[place]]
     wrong += [f"tests/form/failures.txt: no reason is given for {place[1]} of {place[0]}" for place, reason in known if len(reason.strip("? .")) < 5]
-    wrong += [f"{said} may lose a value without dropping it" for said in found_in_code(LEAKS)]
-    wrong += [f"{said} flushes, and a line is written by its writes alone" for said in found_in_code(FLUSHES)]
+    wrong += [f"{said} {what}" for pattern, what in NOWHERE.items() for said in found_in_code(pattern)]
     if wrong:
         wrong.append("look at these places: does each answer follow a call that failed, and is the room bounded? tests/form/failures.py --write lists them; the reasons are yours to write")
     report(wrong, f"out of memory, faults of streams and room for values are at the {len(found)} places of tests/form/failures.txt, and at no other")
-
-
-if __name__ == "__main__":
-    main()

@@ -1,9 +1,8 @@
 #!/usr/bin/env python3
-"""Compares the lists of tests that scripts write with what their scripts write now; how they are laid out doesn't count. The
-files that stand in several crates, since no library can have them, have to be the same. What `script_runner` is to say counts
-the replies of its scripts.
-With --vectors it also makes the long scripts of crates/script_runner again, by an interpreter of RFC 9669 of its own, and says
-whether the replies of the other scripts are those that the interpreter gives."""
+"""Compares what scripts write with what they write now: lists of tests, however they are laid out, files that stand in several crates, and the
+number of replies that `script_runner` tells. With --vectors it also makes the long scripts of crates/script_runner again, by an interpreter of RFC 9669
+of its own, and says whether the replies of the other scripts are those that the interpreter gives.
+"""
 from __future__ import annotations
 
 import itertools
@@ -87,11 +86,8 @@ def differing_vectors() -> Iterator[str]:
         yield f"not all replies are those of the interpreter: {done.stdout}{done.stderr}"
 
 
-def main() -> None:
+if __name__ == "__main__":
     has_vectors = sys.argv[1:] == ["--vectors"]
     found = [*differing(), *differing_places(), *differing_copies(), *miscounted_replies(), *(differing_vectors() if has_vectors else [])]
     more = ", and so are the long scripts; the replies of all scripts are those of the interpreter" if has_vectors else ""
     report(found, f"lists of tests are what they are made from{more}")
-
-
-main()

@@ -1,8 +1,7 @@
 #!/usr/bin/env python3
 """Checks that the kinds of atomic steps stand in one private module.
 
-A proof of a step of threads says no more than the kinds of step that there are: one more, anywhere, could assert anything. So
-each `impl` of the traits that make a kind stands in that module, which no other hands out.
+A proof of a step of threads says no more than its kind: another one, anywhere, could assert anything. So each `impl` of a trait that makes one is there.
 """
 from __future__ import annotations
 
@@ -47,11 +46,6 @@ def wrong(kinds: list[str]) -> Iterator[str]:
         yield f"{MODULE} has no kinds, or isn't private"
 
 
-def main() -> None:
-    kinds: list[str] = []
-    said = list(wrong(kinds))
-    report(said, f"the {len(kinds)} kinds of atomic steps stand in one private module")
-
-
 if __name__ == "__main__":
-    main()
+    KINDS: list[str] = []
+    report(list(wrong(KINDS)), f"the {len(KINDS)} kinds of atomic steps stand in one private module")

@@ -1,7 +1,6 @@
 #!/usr/bin/env python3
-"""Checks that nothing lies in the repository that the gate would pass over: a folder of crates/ that isn't in crates.txt, a
-folder of edits of another name, a file that no `mod` leads to, a test that is left out, an edit that can't be made, a script
-or a part of one that nothing calls.
+"""Checks that the gate passes over nothing: a folder of crates/ that isn't in crates.txt, a folder of edits of another name, a file that no `mod`
+leads to, a test that is left out, an edit that can't be made, a script or a part of one that nothing calls.
 """
 from __future__ import annotations
 
@@ -95,10 +94,6 @@ def misfits() -> Iterator[str]:
                 texts[path] = texts.get(path, "").replace(old, line[4:].removeprefix(" "))
 
 
-def main() -> None:
-    wrong = [*strays(), *unread(), *uncalled(), *misfits()]
-    report(wrong, f"all files of the {len(crates())} crates are read; {edits()} edits in must-fail/ and {len(edits_in('edits'))} in edits/ can be made")
-
-
 if __name__ == "__main__":
-    main()
+    READ = f"all files of the {len(crates())} crates are read; {edits()} edits in must-fail/ and {len(edits_in('edits'))} in edits/ can be made"
+    report([*strays(), *unread(), *uncalled(), *misfits()], READ)

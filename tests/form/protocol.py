@@ -1,10 +1,8 @@
 #!/usr/bin/env python3
-"""Compares the examples of README.md and docs/PROTOCOL.md, those with replies, with the script that the tests run and README's
-with what `make run` shows; with --write, writes the script. Of each command of the protocol's synopsis the page has a part, in
-the same order, and explains each of its replies there or among those of all commands; and its tables have no other reply.
-
-The synopsis, the Python client and the C header have the commands of the table by which the program reads lines, each with as
-many values."""
+"""Compares the examples of README.md and docs/PROTOCOL.md with the script that the tests run, which --write writes, and README's with what `make
+run` shows. Of each command of the synopsis the page has a part, in the same order, and explains each of its replies there or among those of all
+commands; its tables have no other reply. The synopsis, the Python client and the C header have the commands of the program's table.
+"""
 from __future__ import annotations
 
 import ast
@@ -31,16 +29,7 @@ HEADER = ROOT / "include/bpfagent.h"
 # A row of the table: the command's name, its limits, and the fields in which it differs from a row of numbers alone.
 ROW = re.compile(r"Kind::\w+ => (?:Form \{(?P<fields>[^}]*?)\.\.)?numbered\(b\"(?P<name>\w+)\", &(?P<limits>\[[^\]]*\]|START)\)")
 # What the synopsis calls a number with these limits. `ANY` alone is an address, and six of it begin a machine.
-WORDS = {
-    "OBJECT": "n",
-    "MACHINE": "m",
-    "OBJECT_LENGTH": "LENGTH",
-    "OBJECT_OFFSET": "OFFSET",
-    "STACK_OFFSET": "OFFSET",
-    "RANGE_LENGTH": "LENGTH",
-    "SLOT": "SLOT",
-    "ANY": "ADDRESS",
-}
+WORDS = {"OBJECT": "n", "MACHINE": "m", **dict.fromkeys(["OBJECT_LENGTH", "RANGE_LENGTH"], "LENGTH"), **dict.fromkeys(["OBJECT_OFFSET", "STACK_OFFSET"], "OFFSET"), "SLOT": "SLOT", "ANY": "ADDRESS"}
 START = ["FUEL", "A1", "A2", "A3", "A4", "A5"]
 BYTES = {"RANGE_LIMIT": "BYTES", "LINE_LIMIT": "CODE"}
 # The export for a command that grants objects.
@@ -138,8 +127,7 @@ def client_drifts(known: list[Command]) -> Iterator[str]:
 
 
 def header_drifts(known: list[Command]) -> Iterator[str]:
-    """Where the C header has other commands than the table, or takes more or fewer numbers. A number stands for bytes and for grants,
-    how many they are; `room`, how many bytes the caller lends for an answer, is of the library alone."""
+    """Where the C header has other commands than the table. Bytes and grants are numbers there, how many they are; `room` is the library's own."""
     exports = dict(re.findall(r"^uint32_t bpfagent_(\w+)\(([^)]*)\);", HEADER.read_text(), re.M))
     for command in known:
         name = GRANTING.get(command.name, command.name)
@@ -169,7 +157,7 @@ def wrong(text: str, script: str) -> Iterator[str]:
         yield "README.md doesn't show the conversation of `make run`, crates/bpfagent/stdin and stdout"
 
 
-def main() -> None:
+if __name__ == "__main__":
     text = PROTOCOL.read_text()
     if not SYNOPSIS.search(text):
         sys.exit(f"{PROTOCOL.name} has no synopsis")
@@ -177,7 +165,3 @@ def main() -> None:
     if sys.argv[1:] == ["--write"]:
         SCRIPT.write_text(script)
     report(wrong(text, script), "README and PROTOCOL show what the tests run, and the synopsis has each command")
-
-
-if __name__ == "__main__":
-    main()

@@ -1,7 +1,7 @@
-"""What `make test` and `make prove` run over the program. A line is a call; a new script gets a line in TEST or ALONE, and in PROVE.
+"""What `make test` and `make prove` run over the program. A line is a call; a new script gets a line in EITHER or ALONE, or in TEST and in PROVE.
 
-PROGRAM is the program: that of `make try` in TEST and ALONE, the proved one in PROVE and LIBRARY. BOTH is the program of LLVM and that of
-Rattle's own compiler, one after the other. RT is the toolchain's command.
+PROGRAM is the program: that of `make try` for `make test`, the proved one for `make prove`, which calls those with BOTH a second time with the program
+of Rattle's own compiler. RT is the toolchain's command.
 """
 from __future__ import annotations
 
@@ -16,51 +16,35 @@ from lib.sources import ROOT
 
 FORM = [f"tests/form/{name}.py" for name in ("protocol", "definitions", "generated", "failures", "documents", "kinds", "listed", "planted")]
 
-# One by one, beside the tests of crates.
-TEST = [
+# What both targets run, one by one.
+EITHER = [
     "tests/product/python_package.py PROGRAM",
-    "tests/product/program.py PROGRAM",
-    "tests/product/sweep.py PROGRAM --thin",
-    "tests/product/store.py PROGRAM",
-    "tests/product/deploy.py PROGRAM",
-    "tests/product/header.py",
-    "tests/product/manual.py PROGRAM",
-    "tests/product/verbose.py PROGRAM",
-]
-
-# After the others, one by one, since they look at how long something takes.
-ALONE = [
-    "tests/product/service.py PROGRAM",
-    "tests/product/waiting.py PROGRAM",
-    "tests/product/silence.py PROGRAM",
-    "tests/product/python_package.py PROGRAM test_fleet",
-]
-
-# One by one, beside those of LIBRARY.
-PROVE = [
     "tests/product/program.py BOTH",
     "tests/product/store.py BOTH",
-    "tests/form/generated.py --vectors",
-    "tests/product/python_package.py PROGRAM",
     "tests/product/deploy.py PROGRAM",
+    "tests/product/header.py",
     "tests/product/manual.py PROGRAM",
     "tests/product/verbose.py PROGRAM",
+]
+# Beside the tests of crates.
+TEST = [*EITHER, "tests/product/sweep.py PROGRAM --thin"]
+# Beside those of LIBRARY.
+PROVE = [
+    *EITHER,
+    "tests/form/generated.py --vectors",
     "tests/product/sweep.py PROGRAM",
     "tests/product/refusals.py RT",
-    "tests/product/header.py",
     "tools/build.py RT stamp",
     "tests/product/targets.py RT",
 ]
-
 # One by one. The first proves the library's crate once more, over what `rt ci` has left, since that builds no library.
 LIBRARY = [
     "tools/library.py RT --over-ci",
     "tests/product/embed.py RT",
     "tests/product/consumer.py RT PROGRAM",
 ]
-
-# After the others, one by one, since they look at how long something takes.
-PROVE_ALONE = [
+# After the others of both targets, one by one, since they look at how long something takes.
+ALONE = [
     "tests/product/service.py BOTH",
     "tests/product/waiting.py PROGRAM",
     "tests/product/silence.py PROGRAM",

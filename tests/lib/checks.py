@@ -38,8 +38,7 @@ def give_up(*_: object) -> None:
 
 
 def run_parts(name: str, parts: Sequence[Callable[..., str | None]], seconds: int = LIMIT) -> None:
-    """Runs each part with the paths that the command line names, and ends with the first that fails or hangs. A part may say what it
-    did or left out."""
+    """Runs each part with the paths of the command line, up to the first that fails or hangs. A part may say what it did or left out."""
     given = [os.path.abspath(shutil.which(word) or word) for word in sys.argv[1:]]
     if len(given) != len(inspect.signature(parts[0]).parameters):
         sys.exit((sys.modules["__main__"].__doc__ or "").split("\n")[0])

@@ -110,8 +110,7 @@ def is_heard(host: str, port: int) -> bool:
 def free_port() -> int:
     """A port of this host on which nobody listens."""
     with socket.create_server(("127.0.0.1", 0)) as listener:
-        port: int = listener.getsockname()[1]
-    return port
+        return int(listener.getsockname()[1])
 
 
 @contextlib.contextmanager
@@ -212,8 +211,7 @@ class Service(Listener):
         return self.texts() == (0, "".join(f"{line}\n" for line in ["closed", *lines]), "")
 
     def ends_well(self, objects: Mapping[int, bytes] | None = None, machines: Sequence[str] = (), may_be_out: bool = False) -> bool:
-        """Whether it ended by itself, and left these objects, by number, and machines, by their `regs` lines. Where the mover
-        was asked for an object it may still have taken it away."""
+        """Whether it ended by itself, and left these objects, by number, and machines, by their `regs` lines. The mover may still have an object."""
         objects = objects or {}
         status, output, errors = self.texts()
         said, lines = output.splitlines(), [object_line(number, held) for number, held in objects.items()]

@@ -1,6 +1,6 @@
-"""Scripts of commands and their replies: lines of commands, each with its one reply after `> `, `---` where a fresh agent
-begins, with the arguments of `run` behind it, and `#` before a comment. At the end of a conversation with a service stand, after
-`= `, the lines of what it leaves when it has closed."""
+"""Scripts of commands, each with its one reply after `> `; `---` begins a fresh agent, with the arguments of `run` behind it, and `#` a comment.
+At the end of a conversation with a service stand, after `= `, the lines of what it leaves when it has closed.
+"""
 from __future__ import annotations
 
 from typing import List, Tuple

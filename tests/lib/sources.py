@@ -94,8 +94,7 @@ def next_part(text: str, at: int) -> int:
 
 
 def function_places(text: str, begin: str = r"\bfn (\w+)") -> Iterator[tuple[str, list[str], int, int]]:
-    """Each function of a blanked text: its name, its clauses, and where its body begins and ends, which is twice the same
-    place where there is none."""
+    """Each function of a blanked text: its name, its clauses, and where its body begins and ends, which is one place if there is none."""
     for item in re.finditer(begin, text):
         clauses, at = [], item.end()
         while True:

@@ -1,9 +1,8 @@
 #!/usr/bin/env python3
 """The installed library, as those have it who use it: consumer.py RT PROGRAM
 
-The library is built as `make lib` does it, and installed into a folder of its own together with PROGRAM. examples/consumer/ is built
-against it by pkg-config and by CMake's find_package, each as C and as C++17 with all warnings as errors, and run. Then everything
-is uninstalled, and nothing is left. What isn't installed is skipped, and named.
+The library is built as `make lib` does it, and installed into a folder of its own. examples/consumer/ is built against it by pkg-config and by CMake,
+each as C and as C++17, and run. Then everything is uninstalled. What isn't installed is skipped, and named.
 """
 from __future__ import annotations
 

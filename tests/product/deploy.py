@@ -1,9 +1,8 @@
 #!/usr/bin/env python3
 """Checks the form of the files in deploy/: deploy.py PROGRAM
 
-By systemd-analyze the unit, with PROGRAM in place of the installed one; by PyYAML the files for Kubernetes and Compose. Each
-container has limits and probes, runs as nobody with nothing to write but a temporary folder, and calls Dask with options that its
-commands have. Says what it leaves out because a Debian package is missing.
+By systemd-analyze the unit, with PROGRAM in place of the installed one; by PyYAML the files for Kubernetes and Compose. Says what it leaves out because
+a Debian package is missing.
 """
 import importlib.util
 import os

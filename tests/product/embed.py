@@ -1,9 +1,8 @@
 #!/usr/bin/env python3
 """The library for C at work: embed.py RT
 
-The library is built by the commands of docs/EMBEDDING.md, if it isn't there of these sources, and linked with the programs of
-examples/embed/, which say by themselves whether all is as it should be: with each compiler that there is, with the sanitizers of
-each, and under valgrind. The page's pieces of C are compiled. What isn't installed is skipped, and named.
+The library is built by the commands of docs/EMBEDDING.md, and linked with the programs of examples/embed/, which say by themselves whether all is as it
+should be: with each compiler, its sanitizers, and under valgrind. The page's pieces of C are compiled. What isn't installed is skipped, and named.
 """
 from __future__ import annotations
 

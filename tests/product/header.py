@@ -1,9 +1,8 @@
 #!/usr/bin/env python3
 """The header of the library for C is what the sources say: header.py
 
-The exports of crates/bpfagent_c and what include/bpfagent.h declares have to be alike: names, parameters, results, the fields of
-structs, each number of each enum, the version. Its table of answers and the calls in examples/embed/ have to be alike. Then the
-header is compiled as C and as C++, where there is a compiler, with all warnings as errors.
+It has the exports of crates/bpfagent_c: names, parameters, results, fields of structs, numbers of enums, the version. Its table of answers is that of
+the calls in examples/embed/. It is compiled as C and as C++, where there is a compiler, with all warnings as errors.
 """
 from __future__ import annotations
 

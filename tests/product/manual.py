@@ -1,8 +1,8 @@
 #!/usr/bin/env python3
 """Tests the script that writes manual pages and completion: manual.py PROGRAM
 
-Each page has each option and, for `run`, each command of the protocol, and man takes it without a warning. Bash and zsh offer
-each command, and then its options. What isn't installed is left out, and the last line says so.
+Each page has each option and, for `run`, each command of the protocol, and man takes it without a warning. Bash and zsh offer them. What isn't installed
+is left out, and the last line says so.
 """
 from __future__ import annotations
 
@@ -22,7 +22,7 @@ from lib.sources import ROOT
 
 SCRIPT = ROOT / "tools/manual.py"
 SECONDS = 60
-COMMANDS = ["run", "check", "asm", "dis", "store", "serve"]
+COMMANDS = re.findall(r"(?m)^## `bpfagent (\w+)`", (ROOT / "docs/COMMAND-LINE.md").read_text())
 # Prints what zsh is offered: it stands for the functions of zsh that show it.
 ZSH = """compdef() { : }
 _describe() { local -a shown; shown=("${(@P)2}"); print -rl -- "${shown[@]%%:*}" }

@@ -1,9 +1,8 @@
 #!/usr/bin/env python3
 """Runs the program as a user would: program.py PROGRAM
 
-Each status and stream, what a closed or failing stream leaves and how far the input was read then, what the documents
-show, and the conversations of examples/ over pipes, line by line: each reply has to come before the next command is sent,
-so that a program that waits for more is found out.
+Each status and stream, what a closed or failing stream leaves and how far the input was read then, what the documents show, and the conversations of
+examples/ over pipes, line by line, so that a program that waits for more is found out.
 """
 from __future__ import annotations
 
@@ -269,8 +268,7 @@ def is_shown(printed: str, shown: str) -> bool:
 
 
 def show_documents(program: str) -> str:
-    """The commands that the documents show print what stands there; those that need a compiler are left out where there is none, or no pyelftools.
-    Each begins with `$ ` in a block of its own, is run at the top of the repository, and may go on after a backslash."""
+    """The commands that the documents show, after `$ `, print what stands there; those that need a compiler or pyelftools are left out without."""
     count, compiles = 0, has_clang() and package.reads_object_files()
     (ROOT / "out").mkdir(exist_ok=True)
     for path in pages():

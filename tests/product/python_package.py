@@ -1,8 +1,7 @@
 #!/usr/bin/env python3
 """Runs the tests of the Python package in python/tests, module by module, side by side: python_package.py PROGRAM [MODULE..]
 
-Without names it runs all but test_fleet, which takes all processors. What needs clang, pyelftools or another package says that it
-was skipped, and names it.
+Without names it runs all but test_fleet, which takes all processors. What needs a package that isn't there says that it was skipped, and names it.
 """
 from __future__ import annotations
 
@@ -33,7 +32,7 @@ def tests_of(module: str, environment: Mapping[str, str]) -> str:
     return "\n".join(f"python: {module}: {line}" for line in lines if line.startswith(("Ran ", "OK")) or "... skipped" in line)
 
 
-def main() -> None:
+if __name__ == "__main__":
     program, *names = sys.argv[1:]
     # The longest first, and so the wheel.
     modules = names or sorted((path.stem for path in TESTS.glob("test_*.py") if path.stem != ALONE), reverse=True)
@@ -44,7 +43,3 @@ def main() -> None:
                 print(said)
     except (Failed, OSError, ValueError, subprocess.TimeoutExpired) as wrong:
         sys.exit(f"python: {wrong}")
-
-
-if __name__ == "__main__":
-    main()

@@ -1,17 +1,12 @@
 #!/usr/bin/env python3
 """Runs the programs with each of their allocations failing in turn, and counts what they ask of the system: refusals.py RT [PROGRAM]
 
-Where an allocation fails before the first line, the program ends with `no memory` and status 3. Where a later one fails, one
-command is answered `nomem`, or `kept n fault far` if it is `returned`, and the conversation goes on as if the command hadn't come.
-So it is in each stored conversation: of the allocations before the first line, the same in each, all are tried once and then two;
-of the others up to MOST, which are all in those of worked.script. `check`, `asm`, `dis` and a far server end with `no memory`; a
-service does too, or answers `nomem` once.
+Where an allocation fails before the first line, the program ends with `no memory` and status 3. Where a later one fails, one command is answered
+`nomem`, or `kept n fault far` if it is `returned`, and the conversation goes on as if the command hadn't come. Of the allocations before the first
+line, the same in each stored conversation, all are tried once and then two; of the others up to MOST. `check`, `asm`, `dis` and a far server end with
+`no memory`; a service does too, or answers `nomem` once. What comes of the five parts of `failing_allocations` stands in OUTCOMES.
 
-What comes of the five parts of `failing_allocations`, and nothing else, stands in OUTCOMES. Where its `list` of commands is refused,
-the world is as before.
-
-For each command it counts allocations and their bytes; for a conversation reads and writes: one read for what has come, one write
-for a reply, and no flush. The programs are those that `rt ci` has built; the compiler is that of the kit.
+For each command it counts allocations and their bytes; for a conversation reads and writes: one read for what has come, one write for a reply.
 """
 from __future__ import annotations
 
@@ -161,8 +156,7 @@ BOUNDED = ("ship ", "line ")
 
 
 def counted_commands(failing: Failing) -> None:
-    """How many allocations each of the commands makes, and of how many bytes: exactly so many, and a step, a reply and the
-    reading of a line none."""
+    """How many allocations each of the commands makes, and of how many bytes: a step, a reply and the reading of a line none."""
     lines = [line for line, _, _ in COUNTED]
     made = [failing.counted(PROGRAM, ["run"], said(lines[:k]))[1] for k in range(len(lines) + 1)]
     for (line, wanted, size), before, after in zip(COUNTED, made, made[1:]):
@@ -172,8 +166,7 @@ def counted_commands(failing: Failing) -> None:
 
 
 def counted_streams(failing: Failing) -> None:
-    """One read for each 4096 bytes that have come and one at the end, one write for each reply, and no flush. A file gives
-    what is asked for."""
+    """One read for each 4096 bytes that have come and one at the end, one write for each reply, and no flush."""
     given = b"step 1\n" * 5_000
     with tempfile.TemporaryFile() as file, tempfile.NamedTemporaryFile() as counts:
         file.write(given)
@@ -204,14 +197,8 @@ OUTCOMES = {
     "list": ["no world", "no commands", "refused, 0 replies, slot 0, fuel 10", "done, 7 replies, slot 1, fuel 8"],
     "table": ["no bodies", "no table", "opened, read again, closed", "opened, read, not closed", "opened, read, closed"],
     "stream": [
-        f"{came}, {memory} without memory, {refused} refused, 0 otherwise, {memory + refused} faults, {server}"
-        for came, memory, refused, server in [
-            ("no server", 0, 0, "not served"),
-            ("not all left", 0, 0, "served"),
-            ("all came home", 1, 0, "served"),
-            ("all came home", 0, 1, "served"),
-            ("all came home", 0, 0, "served"),
-        ]
+        f"{came}, {memory} without memory, {refused} refused, 0 otherwise, {memory + refused} faults, {'not ' * (came == 'no server')}served"
+        for came, memory, refused in [("no server", 0, 0), ("not all left", 0, 0), ("all came home", 1, 0), ("all came home", 0, 1), ("all came home", 0, 0)]
     ],
     "pool": ["no bodies", "no machines", "no table", "no pool", "no mover", "came home, asked again", "came home"],
     "service": ["no world", "not opened", "no agent", "opened, read again, closed", "opened, read once, closed", "opened, read, not closed", "opened, read, closed"],
@@ -219,8 +206,7 @@ OUTCOMES = {
 
 
 def served(env: dict[str, str]) -> tuple[int, bytes, bytes, bytes, bytes]:
-    """A service with one client: its status, what it writes before it listens, what the client is answered, what it writes then, and
-    standard error. One that doesn't end is killed."""
+    """A service with one client: its status, its output before it listens, what the client is answered, its output then, and standard error."""
     pipe, before, answers = subprocess.PIPE, [], b""
     process = subprocess.Popen([PROGRAM, "serve", "--workers", "1"], stdin=pipe, stdout=pipe, stderr=pipe, env=env)
     limit = threading.Timer(60, process.kill)

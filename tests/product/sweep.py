@@ -1,10 +1,9 @@
 #!/usr/bin/env python3
 """Goes through sizes, places and numbers one by one on the built program: sweep.py PROGRAM [--thin] [PART..]
 
-What no clause can refuse is an answer that memory ran out, or that a stream failed, at some odd place. So each length of
-code, text, bytes and reads, each slot and many lines and budgets are tried. It also looks at time and memory: two inputs
-that a program with quadratic work would not finish, and how much memory the program takes after 10,000 commands. With --thin
-it tries one in a hundred of the sizes, and looks at neither time nor memory: that is for a program of `make try`.
+No clause refuses an answer that memory ran out, or that a stream failed, at some odd place. So each length of code, text, bytes and reads, each slot and
+many lines and budgets are tried. It also looks at time and memory: two inputs that a program with quadratic work would not finish, and what 10,000
+commands leave. --thin is for a program of `make try`: one in a hundred of the sizes, and neither time nor memory.
 """
 from __future__ import annotations
 
@@ -249,8 +248,7 @@ def ten_thousand_commands() -> None:
 
 
 def thousands_of_moves() -> None:
-    """1,000 objects of the greatest length, each written, sent away, brought back, sent away again and freed: what is freed
-    is given back."""
+    """1,000 objects of the greatest length are written, leave, return, leave again and are freed: what is freed is given back."""
     moves = ["leave {n}", "left {n}", "return {n}", "returned {n}"]
     lines = [line.format(n=n) for n in range(1, 1001) for line in ("make 65536", "put {n} 65535 ab", *moves, "get {n} 65535 1", "put {n} 0 cd", *moves, "free {n}")]
     moved = ["leaving {n}", "left {n}", "returning {n}", "home {n}"]

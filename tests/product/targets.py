@@ -1,10 +1,7 @@
 #!/usr/bin/env python3
 """Calls make as the pages do: targets.py RT
 
-Once the program is proved, `make program` has nothing to do, and `make run` shows the first conversation. `make try` builds
-the program without a proof. `make -C examples/c check` compares what is stored with what
-the compilers make, where they are there. Of `make bench`, whose times say nothing beside other work and which proves the library
-for C once more, only what it is made of is looked at: each file that it names is there and is one that its compiler takes.
+`make bench` says nothing beside other work, and proves the library for C once more. So only its files are looked at: each is there and compiles.
 """
 from __future__ import annotations
 

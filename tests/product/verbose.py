@@ -1,8 +1,7 @@
 #!/usr/bin/env python3
 """Reads what `bpfagent serve -v` writes to standard error: verbose.py PROGRAM
 
-A whole session over a far store: clients that come, go and break, objects that leave, return and fail by their numbers, and what is here and
-far at the end. A port that is taken, a far server that isn't there. Without `-v` there is nothing.
+A whole session over a far store, a port that is taken, a far server that isn't there; without `-v` nothing.
 """
 from __future__ import annotations
 

@@ -1,7 +1,4 @@
-"""The instructions of RFC 9669 as one table, and the code that consists of them.
-
-It is written from the text of RFC 9669 and of docs/PROTOCOL.md alone and shares nothing with the crates.
-"""
+"""The instructions of RFC 9669 as one table, written from its text and docs/PROTOCOL.md alone, and the code that consists of them."""
 from __future__ import annotations
 
 from typing import Collection, Iterator, NamedTuple
@@ -42,8 +39,7 @@ ANY_OFFSET, ANY_IMM, ZERO, USED = range(-(1 << 15), 1 << 15), range(-(1 << 31), 
 
 
 class Row(NamedTuple):
-    """What an opcode does, what its fields may hold, and its line of assembly. Where the offset or the imm has to be one of a few
-    numbers, a dictionary says by which name the instruction goes with each of them."""
+    """What an opcode does, what its fields may hold, and its line of assembly. A dictionary names the instruction for each number of a field."""
 
     kind: str
     dst: Collection[int]

@@ -1,21 +1,21 @@
 -- What `asm` explains of the bytes that it has read, it explains of the whole input.
 use Rattle.std.proofs.Common.{◌≡◌, ◌≢◌, ◌⊎◌, ℕ, Bool, true, false, List, [], ◌∷◌, ◌++◌, take, subst, refl, append-nil, Option, None, Some, IfSome, Result, Ok, Err, inl, inr}
 use Rattle.std.specs.Prelude.{⊤}
+use Rattle.std.proofs.lemmas.Option.{IfSome_then}
 use Rattle.std.proofs.KnownBytes.{Keeps-refl}
-use Rattle.clap.specs.Words.{HasKind, Kinds, kind_of}
-use Rattle.clap.specs.declared.error.Error.{Error}
 use Rattle.agent.specs.AsmLeaves.{AsmLeaves}
-use Rattle.agent.specs.ErrorShown.{Shows}
 use Rattle.asm_text.specs.Tokens.{Lexeme, IsFirstOf}
-use Rattle.agent.specs.Explained.{Explains, ReportsAsm, ReportsAsmOutcome, ReportsExplained, SaysFirst, end_text, token_text}
-use Rattle.agent.specs.Failures.{status_number}
+use Rattle.agent.specs.Explained.{Explains, ReportsAsm, ReportsExplained, SaysFirst, end_text, token_text}
 use Rattle.agent.specs.Reports.{Reports}
 use Rattle.agent.specs.declared.failure.Failure.{Failure}
 use Rattle.agent.specs.declared.failure.Failure.TheVariants.{Refused, WrongLine, InputTooLong, Read, Write, NoMemory}
 use Rattle.agent.specs.declared.failure.ExitStatus.{ExitStatus}
 use Rattle.agent.proofs.CheckedPrefix.{short}
-use Rattle.agent.proofs.OutOfMemory.{only_memory}
 use Rattle.agent.proofs.WholeInput.{assembled_whole}
+
+-- what is left and reported of an input, with an explanation or without
+abbrev pub IsReported : Bool → Option (List ℕ) → Option (List ℕ) → Option (List ℕ) → Option (List ℕ) → List ℕ → ExitStatus → Type 0
+IsReported explains before after told_before told_after input status = (outcome : Result ⊤ Failure) × AsmLeaves input before after outcome × ReportsAsm explains input told_before told_after outcome status
 
 left_whole : (limit : ℕ) (input : List ℕ) (before after : Option (List ℕ)) (outcome : Result ⊤ Failure) → limit ≡ 1048577 → AsmLeaves (take limit input) before after outcome → AsmLeaves input before after outcome
 left_whole limit input before after (Ok done) is l = (l.0, assembled_whole limit input (Ok l.0) is l.1, l.2)
@@ -34,10 +34,6 @@ explained_whole limit input text before after InputTooLong is l e = e
 explained_whole limit input text before after Read is l e = e
 explained_whole limit input text before after NoMemory is l e = e
 
--- what is left and reported of an input, with an explanation or without
-abbrev pub IsReported : Bool → Option (List ℕ) → Option (List ℕ) → Option (List ℕ) → Option (List ℕ) → List ℕ → ExitStatus → Type 0
-IsReported explains before after told_before told_after input status = (outcome : Result ⊤ Failure) × AsmLeaves input before after outcome × ReportsAsm explains input told_before told_after outcome status
-
 reported_whole : (explains : Bool) (limit : ℕ) (input : List ℕ) (before after told_before told_after : Option (List ℕ)) (outcome : Result ⊤ Failure) (status : ExitStatus) → limit ≡ 1048577 → AsmLeaves (take limit input) before after outcome
     → ReportsAsm explains (take limit input) told_before told_after outcome status → ReportsAsm explains input told_before told_after outcome status
 reported_whole false limit input before after told_before told_after outcome status is l s = s
@@ -47,11 +43,9 @@ reported_whole true limit input before after told_before told_after (Err failure
 -- the input was read
 pub reported_over : (given before after told_before told_after : Option (List ℕ)) (explains : Bool) (status : ExitStatus) (outcome : Result ⊤ Failure) (limit : ℕ) (read : List ℕ) → limit ≡ 1048577 → IfSome given (λ input. read ≡ take limit input)
     → AsmLeaves read before after outcome → ReportsAsm explains read told_before told_after outcome status → IfSome given (λ input. IsReported explains before after told_before told_after input status)
-reported_over None before after told_before told_after explains status outcome limit read is read_is left says = tt
-reported_over (Some input) before after told_before told_after explains status outcome limit read is read_is left says =
-    let l = subst (λ bytes. AsmLeaves bytes before after outcome) read_is left in
-    let s = subst (λ bytes. ReportsAsm explains bytes told_before told_after outcome status) read_is says in
-    (outcome, left_whole limit input before after outcome is l, reported_whole explains limit input before after told_before told_after outcome status is l s)
+reported_over given before after told_before told_after explains status outcome limit read is read_is left says = IfSome_then given read_is (λ input same.
+    let l = subst (λ bytes. AsmLeaves bytes before after outcome) same left in
+    (outcome, left_whole limit input before after outcome is l, reported_whole explains limit input before after told_before told_after outcome status is l (subst (λ bytes. ReportsAsm explains bytes told_before told_after outcome status) same says)))
 
 unread : (explains : Bool) (input : List ℕ) (out told_before told_after : Option (List ℕ)) (status : ExitStatus) (failure : Failure) → (failure ≡ Read) ⊎ (failure ≡ NoMemory)
     → ReportsAsm explains [] told_before told_after (Err failure) status → IsReported explains out out told_before told_after input status
@@ -66,24 +60,10 @@ pub unread_over : (given out told_before told_after : Option (List ℕ)) (explai
 unread_over None out told_before told_after explains status failure why says = tt
 unread_over (Some input) out told_before told_after explains status failure why says = unread explains input out told_before told_after status failure why says
 
--- the status by its number
-pub numbered_over : (given before after told_before told_after : Option (List ℕ)) (explains : Bool) (status : ExitStatus) (number : ℕ)
-    → IfSome given (λ input. IsReported explains before after told_before told_after input status) → number ≡ status_number status
-    → IfSome given (λ input. ReportsAsmOutcome explains input (AsmLeaves input before after) told_before told_after number)
-numbered_over None before after told_before told_after explains status number says is = tt
-numbered_over (Some input) before after told_before told_after explains status number says is = (says.0, status, says.1, says.2, is)
-
-explained_memory : (explains : Bool) (input : List ℕ) (told_before told_after : Option (List ℕ)) (status : ExitStatus) → Reports told_before told_after (Err NoMemory) status → ReportsAsm explains input told_before told_after (Err NoMemory) status
+-- there was no memory
+pub explained_memory : (explains : Bool) (input : List ℕ) (told_before told_after : Option (List ℕ)) (status : ExitStatus) → Reports told_before told_after (Err NoMemory) status → ReportsAsm explains input told_before told_after (Err NoMemory) status
 explained_memory false input told_before told_after status says = says
 explained_memory true input told_before told_after status says = ([], refl, rw append-nil says.0, says.1)
-
--- right arguments that are answered by an error: there was no memory to read them
-pub memory_over : (given : Option (List ℕ)) (explains : Bool) (kinds : Kinds) (error : Error) (before after told_before told_after : Option (List ℕ)) (status : ExitStatus) (number : ℕ)
-    → kinds ≡ [] → HasKind kinds error → Shows (kind_of error) before after told_before told_after status → number ≡ status_number status
-    → IfSome given (λ input. ReportsAsmOutcome explains input (AsmLeaves input before after) told_before told_after number)
-memory_over None explains kinds error before after told_before told_after status number right has shown is = tt
-memory_over (Some input) explains kinds error before after told_before told_after status number right has shown is =
-    let says = rw (only_memory kinds error right has) at shown in (Err NoMemory, status, (tt, says.0), explained_memory explains input told_before told_after status says.1, is)
 
 -- a token is named
 pub says_token : (ts : List Lexeme) (line fits : List ℕ) (start end : ℕ) → ts ≢ [] → IsFirstOf ts line start end → SaysFirst ts line fits (token_text line start end ++ fits)

@@ -1,25 +1,25 @@
 -- What `check` explains of the bytes that it has read, it explains of the whole input.
-use Rattle.std.proofs.Common.{◌≡◌, ◌⊎◌, ℕ, Bool, true, false, List, [], ◌∷◌, take, ap, subst, sym, ◌∙◌, refl, arith, codes, Option, None, Some, IfSome, Result, Ok, Err, inl, inr}
+use Rattle.std.proofs.Common.{◌≡◌, ◌⊎◌, ℕ, Bool, true, false, List, ◌∷◌, take, ap, subst, sym, ◌∙◌, refl, arith, codes, Option, None, Some, IfSome, Result, Ok, Err, inl, inr}
 use Rattle.std.proofs.lemmas.List.{take-take}
 use Rattle.std.specs.Str.{bytes_eq}
 use Rattle.std.specs.Prelude.{⊤}
+use Rattle.std.proofs.lemmas.Option.{IfSome_then}
 use Rattle.std.proofs.KnownBytes.{Keeps-refl}
-use Rattle.clap.specs.Words.{HasKind, Kinds, kind_of}
-use Rattle.clap.specs.declared.error.Error.{Error}
 use Rattle.loader.specs.Refusals.{Refuses}
 use Rattle.loader.specs.declared.loading.LoadError.{LoadError}
 use Rattle.loader.specs.declared.loading.Why.{Why}
 use Rattle.loader.specs.declared.loading.Why.TheVariants as why
 use Rattle.agent.specs.CheckLeaves.{CheckLeaves}
-use Rattle.agent.specs.CodeExplained.{ReportsCheck, ReportsCheckOutcome, ReportsExplainedCode, ReportsRefusal, Says, SaysOfCode, is_elf}
-use Rattle.agent.specs.ErrorShown.{Shows}
-use Rattle.agent.specs.Failures.{status_number}
+use Rattle.agent.specs.CodeExplained.{ReportsCheck, ReportsExplainedCode, ReportsRefusal, Says, SaysOfCode, is_elf}
 use Rattle.agent.specs.Reports.{Reports}
 use Rattle.agent.specs.declared.failure.Failure.{Failure}
 use Rattle.agent.specs.declared.failure.Failure.TheVariants.{Refused, WrongLine, InputTooLong, Read, Write, NoMemory}
 use Rattle.agent.specs.declared.failure.ExitStatus.{ExitStatus}
 use Rattle.agent.proofs.CheckedPrefix.{found_whole, short}
-use Rattle.agent.proofs.OutOfMemory.{only_memory}
+
+-- what is left and reported of an input, with an explanation or without
+abbrev pub IsReported : Bool → Option (List ℕ) → Option (List ℕ) → Option (List ℕ) → Option (List ℕ) → List ℕ → ExitStatus → Type 0
+IsReported explains before after told_before told_after input status = (outcome : Result ⊤ Failure) × CheckLeaves input before after outcome × ReportsCheck explains input told_before told_after outcome status
 
 left_whole : (limit : ℕ) (input : List ℕ) (before after : Option (List ℕ)) (outcome : Result ⊤ Failure) → limit ≡ 32769 → CheckLeaves (take limit input) before after outcome → CheckLeaves input before after outcome
 left_whole limit input before after (Ok done) is l = (l.0, found_whole limit input (Ok l.0) is l.1, l.2)
@@ -56,10 +56,6 @@ reported_whole : (limit : ℕ) (input : List ℕ) (error : LoadError) (before af
     → CheckLeaves (take limit input) before after (Err (Refused error)) → ReportsRefusal (take limit input) error told_before told_after status → ReportsRefusal input error told_before told_after status
 reported_whole limit input error before after told_before told_after status is l s = (s.0, said_of_whole limit input s.0 error.slot error.why is l.0.0 s.1, s.2, s.3)
 
--- what is left and reported of an input, with an explanation or without
-abbrev pub IsReported : Bool → Option (List ℕ) → Option (List ℕ) → Option (List ℕ) → Option (List ℕ) → List ℕ → ExitStatus → Type 0
-IsReported explains before after told_before told_after input status = (outcome : Result ⊤ Failure) × CheckLeaves input before after outcome × ReportsCheck explains input told_before told_after outcome status
-
 told_whole : (explains : Bool) (limit : ℕ) (input : List ℕ) (before after told_before told_after : Option (List ℕ)) (outcome : Result ⊤ Failure) (status : ExitStatus) → limit ≡ 32769 → CheckLeaves (take limit input) before after outcome
     → ReportsCheck explains (take limit input) told_before told_after outcome status → ReportsCheck explains input told_before told_after outcome status
 told_whole false limit input before after told_before told_after outcome status is l s = s
@@ -71,14 +67,17 @@ told_whole true limit input before after told_before told_after (Err Read) statu
 told_whole true limit input before after told_before told_after (Err Write) status is l s = s
 told_whole true limit input before after told_before told_after (Err NoMemory) status is l s = s
 
+-- there was no memory
+pub checked_memory : (explains : Bool) (input : List ℕ) (told_before told_after : Option (List ℕ)) (status : ExitStatus) → Reports told_before told_after (Err NoMemory) status → ReportsCheck explains input told_before told_after (Err NoMemory) status
+checked_memory false input told_before told_after status says = says
+checked_memory true input told_before told_after status says = says
+
 -- the code was read
 pub reported_over : (given before after told_before told_after : Option (List ℕ)) (explains : Bool) (status : ExitStatus) (outcome : Result ⊤ Failure) (limit : ℕ) (read : List ℕ) → limit ≡ 32769 → IfSome given (λ input. read ≡ take limit input)
     → CheckLeaves read before after outcome → ReportsCheck explains read told_before told_after outcome status → IfSome given (λ input. IsReported explains before after told_before told_after input status)
-reported_over None before after told_before told_after explains status outcome limit read is read_is left says = tt
-reported_over (Some input) before after told_before told_after explains status outcome limit read is read_is left says =
-    let l = subst (λ bytes. CheckLeaves bytes before after outcome) read_is left in
-    let s = subst (λ bytes. ReportsCheck explains bytes told_before told_after outcome status) read_is says in
-    (outcome, left_whole limit input before after outcome is l, told_whole explains limit input before after told_before told_after outcome status is l s)
+reported_over given before after told_before told_after explains status outcome limit read is read_is left says = IfSome_then given read_is (λ input same.
+    let l = subst (λ bytes. CheckLeaves bytes before after outcome) same left in
+    (outcome, left_whole limit input before after outcome is l, told_whole explains limit input before after told_before told_after outcome status is l (subst (λ bytes. ReportsCheck explains bytes told_before told_after outcome status) same says)))
 
 -- there was no memory to explain a refusal
 unexplained_over : (given before after told_before told_after : Option (List ℕ)) (status : ExitStatus) (outcome : Result ⊤ Failure) (error : LoadError) (read : List ℕ) → CheckLeaves read before after outcome
@@ -128,22 +127,3 @@ pub unread_over : (given out told_before told_after : Option (List ℕ)) (explai
     → Reports told_before told_after (Err failure) status → IfSome given (λ input. IsReported explains out out told_before told_after input status)
 unread_over None out told_before told_after explains status failure why says = tt
 unread_over (Some input) out told_before told_after explains status failure why says = unread explains input out told_before told_after status failure why says
-
--- the status by its number
-pub numbered_over : (given before after told_before told_after : Option (List ℕ)) (explains : Bool) (status : ExitStatus) (number : ℕ)
-    → IfSome given (λ input. IsReported explains before after told_before told_after input status) → number ≡ status_number status
-    → IfSome given (λ input. ReportsCheckOutcome explains input (CheckLeaves input before after) told_before told_after number)
-numbered_over None before after told_before told_after explains status number says is = tt
-numbered_over (Some input) before after told_before told_after explains status number says is = (says.0, status, says.1, says.2, is)
-
-checked_memory : (explains : Bool) (input : List ℕ) (told_before told_after : Option (List ℕ)) (status : ExitStatus) → Reports told_before told_after (Err NoMemory) status → ReportsCheck explains input told_before told_after (Err NoMemory) status
-checked_memory false input told_before told_after status says = says
-checked_memory true input told_before told_after status says = says
-
--- right arguments that are answered by an error: there was no memory to read them
-pub memory_over : (given : Option (List ℕ)) (explains : Bool) (kinds : Kinds) (error : Error) (before after told_before told_after : Option (List ℕ)) (status : ExitStatus) (number : ℕ)
-    → kinds ≡ [] → HasKind kinds error → Shows (kind_of error) before after told_before told_after status → number ≡ status_number status
-    → IfSome given (λ input. ReportsCheckOutcome explains input (CheckLeaves input before after) told_before told_after number)
-memory_over None explains kinds error before after told_before told_after status number right has shown is = tt
-memory_over (Some input) explains kinds error before after told_before told_after status number right has shown is =
-    let says = rw (only_memory kinds error right has) at shown in (Err NoMemory, status, says.0, checked_memory explains input told_before told_after status says.1, is)

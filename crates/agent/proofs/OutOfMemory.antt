@@ -7,7 +7,7 @@ use Rattle.clap.specs.declared.error.Error.{Error}
 use Rattle.clap.specs.declared.error.kind.ErrorKind.TheVariants as kind
 use Rattle.agent.specs.ErrorShown.{Shows}
 use Rattle.agent.specs.Failures.{status_number}
-use Rattle.agent.specs.Reports.{ReportsOutcome}
+use Rattle.agent.specs.Reports.{Reports}
 use Rattle.streams.specs.Streams.{ConsumesAtMost}
 use Rattle.agent.specs.declared.failure.Failure.{Failure}
 use Rattle.agent.specs.declared.failure.Failure.TheVariants.{NoMemory}
@@ -18,20 +18,16 @@ only_memory [] error right (inl is) = is
 only_memory [] error right (inr among) = absurd among
 only_memory (k ∷ kinds) error right has = absurd (cc)
 
-reported : (kinds : Kinds) (error : Error) (out_before out_after before after : Option (List ℕ)) (status : ExitStatus) (number : ℕ)
-    → kinds ≡ [] → HasKind kinds error → Shows (kind_of error) out_before out_after before after status → number ≡ status_number status
-    → (work : Result ⊤ Failure → Type 0) → (Keeps out_before out_after → work (Err NoMemory)) → ReportsOutcome work before after number
-reported kinds error out_before out_after before after status number right has shown is work kept =
-    let says = rw (only_memory kinds error right has) at shown in (Err NoMemory, status, kept says.0, says.1, is)
-
--- the same whatever the input is
+-- there was no memory, whatever the input is: `work` says what is left, and `reports` what is told
 pub reported_over : (given : Option (List ℕ)) (kinds : Kinds) (error : Error) (out_before out_after before after : Option (List ℕ)) (status : ExitStatus) (number : ℕ)
     → kinds ≡ [] → HasKind kinds error → Shows (kind_of error) out_before out_after before after status → number ≡ status_number status
-    → (work : List ℕ → Result ⊤ Failure → Type 0) → ((input : List ℕ) → Keeps (Some input) given → Keeps out_before out_after → work input (Err NoMemory))
-    → IfSome given (λ input. ReportsOutcome (work input) before after number)
-reported_over None kinds error out_before out_after before after status number right has shown is work kept = tt
-reported_over (Some input) kinds error out_before out_after before after status number right has shown is work kept =
-    reported kinds error out_before out_after before after status number right has shown is (work input) (kept input refl)
+    → (work : List ℕ → Result ⊤ Failure → Type 0) (reports : List ℕ → Result ⊤ Failure → ExitStatus → Type 0)
+    → ((input : List ℕ) → Keeps (Some input) given → Keeps out_before out_after → work input (Err NoMemory))
+    → ((input : List ℕ) → Reports before after (Err NoMemory) status → reports input (Err NoMemory) status)
+    → IfSome given (λ input. (outcome : Result ⊤ Failure) × (s : ExitStatus) × work input outcome × reports input outcome s × (number ≡ status_number s))
+reported_over None kinds error out_before out_after before after status number right has shown is work reports kept told = tt
+reported_over (Some input) kinds error out_before out_after before after status number right has shown is work reports kept told =
+    let says = rw (only_memory kinds error right has) at shown in (Err NoMemory, status, kept input refl says.0, told input says.1, is)
 
 consumes_nothing : (known : Option (List ℕ)) → Consumes known known []
 consumes_nothing None = tt

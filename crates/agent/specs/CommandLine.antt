@@ -33,17 +33,21 @@ run_shape = record (new_shape (codes "run")) { rules = number_rule budget_option
 abbrev pub flag_rule : Text → Rule
 flag_rule name = record (new_rule name) { long = Some name; action = Some SetTrue }
 
+-- a subcommand with one flag
+abbrev pub flagged_shape : Text → Text → Shape
+flagged_shape name flag = record (new_shape name) { rules = flag_rule flag ∷ [] }
+
 -- `check`, with its flag
 abbrev pub check_shape : Shape
-check_shape = record (new_shape (codes "check")) { rules = flag_rule (codes "explain") ∷ [] }
+check_shape = flagged_shape (codes "check") (codes "explain")
 
 -- `asm`, with its flag
 abbrev pub asm_shape : Shape
-asm_shape = record (new_shape (codes "asm")) { rules = flag_rule (codes "explain") ∷ [] }
+asm_shape = flagged_shape (codes "asm") (codes "explain")
 
 -- `dis`, with its flag
 abbrev pub dis_shape : Shape
-dis_shape = record (new_shape (codes "dis")) { rules = flag_rule (codes "slots") ∷ [] }
+dis_shape = flagged_shape (codes "dis") (codes "slots")
 
 -- the greatest port
 abbrev pub port_limit : ℕ

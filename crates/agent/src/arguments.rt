@@ -1,7 +1,7 @@
 //! The arguments of the command line.
 ghost use Rattle.std.specs.Prelude.{◌≡◌, ℕ, List, Result, [], Some, map, codes, option_map, IfOk, IfErr};
 ghost use Rattle.clap.specs.Words.{app_of, found_of, new_app, new_rule, rows_of, rule_of, subcommand_of, subcommand_rows_of, HasKind};
-ghost use Rattle.agent.specs.CommandLine.{HasServing, IsLocal, asm_shape, bare, budget_option, check_shape, command_line, connections_option, dis_shape, far_of, far_rule, far_timeout_option, faults_of, flag_rule, is_set, number_in, port_option, run_shape, serve_shape, serving_in, store_shape, task_named, task_of, verbose_rule, workers_option};
+ghost use Rattle.agent.specs.CommandLine.{HasServing, IsLocal, asm_shape, bare, budget_option, check_shape, command_line, connections_option, dis_shape, far_of, far_rule, far_timeout_option, faults_of, flag_rule, flagged_shape, is_set, number_in, port_option, run_shape, serve_shape, serving_in, store_shape, task_named, task_of, verbose_rule, workers_option};
 ghost use Rattle.agent.specs.OptionNumbers.{HasNumber, ParsesAs, number_rule, parses_as};
 
 mod help_texts;
@@ -159,6 +159,20 @@ fn make_subcommand<'a>(alloc: Global, name: &'a str, about: &'a str, help: &'a s
     Command::new(alloc, name).about(about).after_help(help)
 }
 
+/// A subcommand of this name with one flag; in one line what each is about, and what else help says.
+fn make_flagged<'a>(
+    alloc: Global,
+    name: &'a str,
+    about: &'a str,
+    help: &'a str,
+    flag: &'a str,
+    flag_about: &'a str,
+) -> Result<Command<'a>, AllocError>
+    ensures { IfOk result (λ c. ((app_of c).top ≡ flagged_shape name.entry.now flag.entry.now) × IsLocal c) }
+{
+    make_subcommand(alloc, name, about, help).arg(make_flag(alloc, flag, flag_about))
+}
+
 /// `run`, with its option.
 fn make_run<'a>(alloc: Global) -> Result<Command<'a>, AllocError>
     ensures { IfOk result (λ c. ((app_of c).top ≡ run_shape) × IsLocal c) }
@@ -176,51 +190,42 @@ fn make_run<'a>(alloc: Global) -> Result<Command<'a>, AllocError>
 fn make_check<'a>(alloc: Global) -> Result<Command<'a>, AllocError>
     ensures { IfOk result (λ c. ((app_of c).top ≡ check_shape) × IsLocal c) }
 {
-    make_subcommand(
+    make_flagged(
         alloc,
         "check",
         "Check the raw code of standard input",
         CHECK_HELP,
-    )
-    .arg(make_flag(
-        alloc,
         "explain",
         "Name the instruction, and the rule that it breaks, in a second line",
-    ))
+    )
 }
 
 /// `asm`, with its option.
 fn make_asm<'a>(alloc: Global) -> Result<Command<'a>, AllocError>
     ensures { IfOk result (λ c. ((app_of c).top ≡ asm_shape) × IsLocal c) }
 {
-    make_subcommand(
+    make_flagged(
         alloc,
         "asm",
         "Turn the assembly of standard input into raw code",
         ASM_HELP,
-    )
-    .arg(make_flag(
-        alloc,
         "explain",
         "Quote the line of an error, and name the token, in a second line",
-    ))
+    )
 }
 
 /// `dis`, with its option.
 fn make_dis<'a>(alloc: Global) -> Result<Command<'a>, AllocError>
     ensures { IfOk result (λ c. ((app_of c).top ≡ dis_shape) × IsLocal c) }
 {
-    make_subcommand(
+    make_flagged(
         alloc,
         "dis",
         "Show the raw code of standard input as assembly",
         DIS_HELP,
-    )
-    .arg(make_flag(
-        alloc,
         "slots",
         "Show the number of its slot before each instruction",
-    ))
+    )
 }
 
 /// `store`, with its options.

@@ -120,12 +120,16 @@ pub fn tool<'a, S: AsStr, R: Read, W: Write, E: Write>(
     ensures asm { (explains : Bool) → faults_of (map S.text arguments.entry.now) ≡ [] → task_of (map S.text arguments.entry.now) ≡ Some (Task.Assemble explains)
         → IfSome (R.remaining reader.old) (λ input. ReportsAsmOutcome explains input (AsmLeaves input (W.contents writer.old) (W.contents writer.new))
         (E.contents errors.old) (E.contents errors.new) result) }
-    ensures dis { (has_slots : Bool) → faults_of (map S.text arguments.entry.now) ≡ [] → task_of (map S.text arguments.entry.now) ≡ Some (Task.Disassemble has_slots)
+    ensures dis { (has_slots : Bool) → faults_of (map S.text arguments.entry.now) ≡ []
+        → task_of (map S.text arguments.entry.now) ≡ Some (Task.Disassemble has_slots)
         → IfSome (R.remaining reader.old) (λ input. ReportsOutcome (DisLeaves has_slots input (W.contents writer.old) (W.contents writer.new))
         (E.contents errors.old) (E.contents errors.new) result) }
-    ensures consumed { (explains : Bool) → task_of (map S.text arguments.entry.now) ≡ Some (Task.Check explains) → ConsumesAtMost check_limit (R.remaining reader.old) (R.remaining reader.new) }
-    ensures consumed_by_asm { (explains : Bool) → task_of (map S.text arguments.entry.now) ≡ Some (Task.Assemble explains) → ConsumesAtMost asm_limit (R.remaining reader.old) (R.remaining reader.new) }
-    ensures consumed_by_dis { (has_slots : Bool) → task_of (map S.text arguments.entry.now) ≡ Some (Task.Disassemble has_slots) → ConsumesAtMost check_limit (R.remaining reader.old) (R.remaining reader.new) }
+    ensures consumed { (explains : Bool) → task_of (map S.text arguments.entry.now) ≡ Some (Task.Check explains)
+        → ConsumesAtMost check_limit (R.remaining reader.old) (R.remaining reader.new) }
+    ensures consumed_by_asm { (explains : Bool) → task_of (map S.text arguments.entry.now) ≡ Some (Task.Assemble explains)
+        → ConsumesAtMost asm_limit (R.remaining reader.old) (R.remaining reader.new) }
+    ensures consumed_by_dis { (has_slots : Bool) → task_of (map S.text arguments.entry.now) ≡ Some (Task.Disassemble has_slots)
+        → ConsumesAtMost check_limit (R.remaining reader.old) (R.remaining reader.new) }
     ensures invalid { faults_of (map S.text arguments.entry.now) ≢ []
         → ShowsOneOf (faults_of (map S.text arguments.entry.now)) (W.contents writer.old) (W.contents writer.new)
         (E.contents errors.old) (E.contents errors.new) result }

@@ -1,14 +1,14 @@
 //! How the programs that are measured start.
 #![tactic(auto)]
 
-ghost use Rattle.std.specs.Prelude.{◌≤◌, IfSome};
+ghost use Rattle.std.specs.Prelude.{◌≡◌, ◌≤◌, IfSome};
 
 use far_store::OwnStore;
 use isa_table::Size;
 use loader::load;
 use machine::{GRANT_LIMIT, Grant, Grants, Machine};
 use memory::{Action, Op};
-use object_store::{MACHINE_LIMIT, ObjectStore};
+use object_store::{MACHINE_LIMIT, ObjectStore, StoreMemory};
 use std::alloc::Global;
 
 /// How many bytes the objects that aren't far may have.
@@ -25,37 +25,53 @@ const LOAD: Op = Op {
     action: Action::Load { size: Size::Byte },
 };
 
-/// A machine at the start of the code, with this fuel and R1 as given, and the objects that it reaches: the first of 65,536
-/// bytes, and each other of 64. It has the number that is given, and each machine of a lower number has the last object in its
-/// scope. It is granted the first objects, so many, or all of them where that is 0. Gives nothing where the code isn't loaded, no
-/// machine has such a number, or more are granted than may be.
-pub fn start(
-    alloc: Global,
-    code: &[u8],
-    fuel: u64,
-    argument: u64,
-    objects: u32,
-    machines: usize,
-    granted: usize,
-) -> Option<(Machine, ObjectStore<OwnStore>)>
-    ensures { IfSome result (λ started. machines ≤ 48) }
+/// What a machine that is measured starts with.
+#[repr(C)]
+#[derive(Clone, Copy, Drop)]
+pub struct Work {
+    /// The fuel.
+    pub fuel: u64,
+    /// R1; R2 to R5 are 0.
+    pub argument: u64,
+    /// How many objects there are: the first of 65,536 bytes, and each other of 64.
+    pub objects: u32,
+    /// The machine's number. Each machine of a lower number has the last object in its scope.
+    pub machines: usize,
+    /// How many of the first objects it is granted, or 0 for all of them.
+    pub granted: usize,
+}
+
+/// A machine at the start of the code, and the objects that it reaches. Gives nothing where the code isn't loaded, no machine has
+/// such a number, or more objects are granted than may be.
+pub fn start(alloc: Global, code: &[u8], work: Work) -> Option<(Machine, ObjectStore<OwnStore>)>
+    ensures { IfSome result (λ started. work.machines ≤ 48) }
 {
-    if machines > MACHINE_LIMIT || granted > GRANT_LIMIT {
+    if work.machines > MACHINE_LIMIT || work.granted > GRANT_LIMIT {
         return None;
     }
     let program = load(alloc, code).ok()?;
-    let mut store = store_of(alloc, objects)?;
-    for who in 1..machines {
-        hold(&mut store, who, objects);
+    let mut store = store_of(alloc, work.objects)?;
+    for who in 1..work.machines {
+        hold(&mut store, who, work.objects);
     }
-    let grants = if granted == 0 {
+    let grants = if work.granted == 0 {
         Grants::all()
     } else {
-        first_objects(granted)
+        first_objects(work.granted)
     };
-    let arguments = [argument, 0, 0, 0, 0];
-    let machine = Machine::granted(program, machines, fuel, arguments, grants);
+    let arguments = [work.argument, 0, 0, 0, 0];
+    let machine = Machine::granted(program, work.machines, work.fuel, arguments, grants);
     Some((machine, store))
+}
+
+/// The memory of that machine.
+pub fn memory_of<'a>(store: &'a mut ObjectStore<OwnStore>, work: Work) -> StoreMemory<'a, OwnStore>
+    ensures { result.who ≡ work.machines }
+{
+    StoreMemory {
+        store,
+        who: work.machines,
+    }
 }
 
 /// The first objects, so many, for writing.

@@ -3,10 +3,9 @@
 
 ghost use Rattle.bench_steps.specs.Reached.{RunsTo, IsEnd};
 
-use bench_start::start;
+use bench_start::{Work, memory_of, start};
 use machine::{Machine, Stepped};
 use memory::Memory;
-use object_store::StoreMemory;
 use std::alloc::Global;
 
 /// Steps the machine until it stops, or waits, and counts the steps that ran.
@@ -29,24 +28,11 @@ fn run_to_end<M: Memory>(machine: &mut Machine, memory: &mut M) -> (Stepped, u64
 /// Runs the code as `start` has it, step by step. Gives R0 as the machine stops, and how many instructions ran; 0 where it doesn't
 /// start.
 #[unsafe(no_mangle)]
-pub extern "C" fn bpf_run(
-    alloc: Global,
-    code: &[u8],
-    fuel: u64,
-    argument: u64,
-    objects: u32,
-    machines: usize,
-    granted: usize,
-    steps: &mut u64,
-) -> u64 {
-    let started = start(alloc, code, fuel, argument, objects, machines, granted);
-    let Some((mut machine, mut store)) = started else {
+pub extern "C" fn bpf_run(alloc: Global, code: &[u8], work: &Work, steps: &mut u64) -> u64 {
+    let Some((mut machine, mut store)) = start(alloc, code, *work) else {
         return 0;
     };
-    let mut memory = StoreMemory {
-        store: &mut store,
-        who: machines,
-    };
+    let mut memory = memory_of(&mut store, *work);
     *steps = run_to_end(&mut machine, &mut memory).1;
     machine.registers()[0]
 }

@@ -1,5 +1,6 @@
 -- Parcels by their ids.
-use Rattle.std.proofs.Common.{◌≡◌, ℕ, List, [], ◌∷◌, ◌++◌, length, drop, get_or, ap, ◌∙◌, sym, refl, None, Some, Option, IfSome, IsSome, is_some, true, false, nat_eq, if◌then◌else◌}
+use Rattle.std.proofs.Common.{◌≡◌, ◌<◌, ℕ, suc, List, [], ◌∷◌, ◌++◌, length, drop, get_or, ap, ◌∙◌, sym, refl, None, Some, Option, IfSome, IsSome, is_some, true, false, nat_eq, if◌then◌else◌}
+use Rattle.std.proofs.Math.Seq.{drop-cons}
 use Rattle.std.proofs.lemmas.List.{drop_at}
 use Rattle.far_stream.specs.Frames.{frame, head, done}
 use Rattle.far_stream.specs.Sent.{Sent}
@@ -20,6 +21,18 @@ under_first id sent kept is = ap (λ b. if b then Some sent.bytes else kept_unde
 
 pub without_first : (id : ℕ) (sent : Sent) (kept : List Sent) → nat_eq sent.id id ≡ true → without id (sent ∷ kept) ≡ kept
 without_first id sent kept is = ap (λ b. if b then kept else (sent ∷ without id kept)) is
+
+-- the parcel at a place is the first of those from there on
+split_at : (place : ℕ) (sent : Sent) (kept : List Sent) → place < length kept → sent ≡ get_or kept place sent → drop place kept ≡ sent ∷ drop (suc place) kept
+split_at place sent kept within is = drop-cons kept place sent within ∙ ap (λ k. k ∷ drop (suc place) kept) (sym is)
+
+pub under_at : (id place : ℕ) (sent : Sent) (kept : List Sent) → place < length kept → sent ≡ get_or kept place sent → nat_eq sent.id id ≡ true
+    → kept_under id (drop place kept) ≡ Some sent.bytes
+under_at id place sent kept within is same = ap (kept_under id) (split_at place sent kept within is) ∙ under_first id sent (drop (suc place) kept) same
+
+pub without_at : (id place : ℕ) (sent : Sent) (kept : List Sent) → place < length kept → sent ≡ get_or kept place sent → nat_eq sent.id id ≡ true
+    → without id (drop place kept) ≡ drop (suc place) kept
+without_at id place sent kept within is same = ap (without id) (split_at place sent kept within is) ∙ without_first id sent (drop (suc place) kept) same
 
 -- the first of the parcels hasn't
 pub under_later : (id : ℕ) (sent : Sent) (kept : List Sent) → nat_eq sent.id id ≡ false → kept_under id (sent ∷ kept) ≡ kept_under id kept

@@ -1,10 +1,11 @@
 //! Frames, and their heads.
-ghost use Rattle.std.specs.Prelude.{◌≡◌, ◌++◌, ◌<◌, ◌≤◌, [], true, false, OnOk, IfOk, IfErr, IfSome, IfNone, Result};
+ghost use Rattle.std.specs.Prelude.{◌≡◌, ◌≢◌, ◌++◌, ◌<◌, ◌≤◌, [], true, false, OnOk, IfOk, IfErr, IfSome, IfNone, Result};
 ghost use Rattle.std.specs.Io.KnownBytes.{Consumes, IsAtEnd};
 ghost use Rattle.far_stream.specs.Frames.{head, IsHead};
 ghost use Rattle.far_stream.specs.Conversations.{IsAsking};
 ghost use Rattle.far_stream.specs.Hearing.{IsProper};
 ghost use Rattle.far_stream.specs.Kinds.{Asks, kind_number, status_number};
+ghost use Rattle.far_stream.specs.declared.frame.Kind.{Kind};
 ghost use Rattle.far_stream.specs.Payloads.{CutsOffWithin};
 
 use crate::fault::Cut;
@@ -27,7 +28,34 @@ pub(crate) enum Kind {
     Forget = 3,
 }
 
+/// What is answered.
+#[derive(Clone, Copy)]
+pub(crate) enum Status {
+    /// It is done.
+    Done = 0,
+    /// The id is kept already, or isn't kept.
+    RefusedId = 1,
+    /// There is no room.
+    NoRoom = 2,
+}
+
 impl Kind {
+    /// The kind that a head's first byte names.
+    fn of(number: u8) -> Option<Kind>
+        ensures some { IfSome result (λ kind. number ≡ kind_number kind) }
+        ensures none { IfNone result ((kind : Kind) → number ≢ kind_number kind) }
+    {
+        const PUT: u8 = Kind::Put as u8;
+        const GET: u8 = Kind::Get as u8;
+        const FORGET: u8 = Kind::Forget as u8;
+        match number {
+            PUT => Some(Kind::Put),
+            GET => Some(Kind::Get),
+            FORGET => Some(Kind::Forget),
+            _ => None,
+        }
+    }
+
     /// The head of a request.
     pub fn head(self, id: u64, count: u32) -> Head
         ensures kind { result.kind ≡ kind_number self }
@@ -40,17 +68,6 @@ impl Kind {
             count,
         }
     }
-}
-
-/// What is answered.
-#[derive(Clone, Copy)]
-pub(crate) enum Status {
-    /// It is done.
-    Done = 0,
-    /// The id is kept already, or isn't kept.
-    RefusedId = 1,
-    /// There is no room.
-    NoRoom = 2,
 }
 
 impl Status {
@@ -105,10 +122,10 @@ impl Head {
         ensures some { IfSome result (λ kind. Asks kind self.kind self.count) }
         ensures none { IfNone result (IsAsking self.kind self.count → ⊥) }
     {
-        match self.kind {
-            1 if self.count > 0 && self.count <= PAYLOAD_LIMIT => Some(Kind::Put),
-            2 if self.count == 0 => Some(Kind::Get),
-            3 if self.count == 0 => Some(Kind::Forget),
+        match Kind::of(self.kind)? {
+            Kind::Put if self.count > 0 && self.count <= PAYLOAD_LIMIT => Some(Kind::Put),
+            Kind::Get if self.count == 0 => Some(Kind::Get),
+            Kind::Forget if self.count == 0 => Some(Kind::Forget),
             _ => None,
         }
     }
@@ -126,7 +143,8 @@ impl Head {
 
     /// Reads the head of a frame. There is none where the input has ended before it.
     pub fn read<R: Read>(reader: &mut R) -> Result<Option<Head>, Cut>
-        ensures found { IfOk result (λ found. IfSome found (λ h. IsHead h.kind h.id h.count × Consumes (R.remaining reader.old) (R.remaining reader.new) (head h.kind h.id h.count))) }
+        ensures found { IfOk result (λ found. IfSome found (λ h. IsHead h.kind h.id h.count
+            × Consumes (R.remaining reader.old) (R.remaining reader.new) (head h.kind h.id h.count))) }
         ensures end { IfOk result (λ found. IfNone found (Consumes (R.remaining reader.old) (R.remaining reader.new) [] × IsAtEnd (R.remaining reader.new))) }
         ensures err { IfErr result (λ cut. CutsOffWithin cut (R.remaining reader.old) (R.remaining reader.new)) }
     {

@@ -28,7 +28,8 @@ pub(crate) fn read_payload<R: Read>(
     to: &mut Vec<u8>,
 ) -> Result<(), PayloadFault>
     requires { vec_len to.old < 2 ^ 32 }
-    ensures ok { OnOk result ((payload : List ℕ) × (length payload ≡ count) × Consumes (R.remaining reader.old) (R.remaining reader.new) payload × (to.new.items ≡ to.old.items ++ payload)) }
+    ensures ok { OnOk result ((payload : List ℕ) × (length payload ≡ count) × Consumes (R.remaining reader.old) (R.remaining reader.new) payload
+        × (to.new.items ≡ to.old.items ++ payload)) }
     ensures err { IfErr result (λ fault. LosesPayload fault count (R.remaining reader.old) (R.remaining reader.new)) }
 {
     let start = to.len();

@@ -33,7 +33,8 @@ pub fn right_budgets()
 pub fn right_ports()
     ensures word { (faults_of (codes "store" ∷ codes "--port" ∷ codes "8" ∷ []) ≡ [])
         × (task_of (codes "store" ∷ codes "--port" ∷ codes "8" ∷ []) ≡ Some (Task.Store 8 false)) }
-    ensures most { (faults_of (codes "store" ∷ codes "--port=65535" ∷ []) ≡ []) × (task_of (codes "store" ∷ codes "--port=65535" ∷ []) ≡ Some (Task.Store port_limit false)) }
+    ensures most { (faults_of (codes "store" ∷ codes "--port=65535" ∷ []) ≡ [])
+        × (task_of (codes "store" ∷ codes "--port=65535" ∷ []) ≡ Some (Task.Store port_limit false)) }
     ensures great { faults_of (codes "store" ∷ codes "--port" ∷ codes "65536" ∷ []) ≢ [] }
     ensures text { faults_of (codes "store" ∷ codes "--port" ∷ codes "x" ∷ []) ≢ [] }
     ensures missing { faults_of (codes "store" ∷ codes "--port" ∷ []) ≢ [] }
@@ -42,7 +43,8 @@ pub fn right_ports()
 /// The options of `serve`, and numbers that are too small or too great for them. `--far` may be left out.
 pub fn right_services()
     ensures all { (faults_of all_of_serve ≡ []) × (task_of all_of_serve ≡ Some (Task.Serve (record { port = 7070; connections = 8; workers = 0; budget = 64; sweep = true; far_timeout = 250; verbose = true }))) }
-    ensures far { (faults_of far_serving ≡ []) × (task_of far_serving ≡ Some (Task.Serve plain_serving)) × (far_of far_serving ≡ Some (codes "127.0.0.1:7070")) }
+    ensures far { (faults_of far_serving ≡ []) × (task_of far_serving ≡ Some (Task.Serve plain_serving))
+        × (far_of far_serving ≡ Some (codes "127.0.0.1:7070")) }
     ensures no_far { far_of all_of_serve ≡ None }
     ensures missing { faults_of (codes "serve" ∷ codes "--far" ∷ []) ≢ [] }
     ensures no_connection { faults_of (codes "serve" ∷ codes "--connections" ∷ codes "0" ∷ []) ≢ [] }
@@ -56,10 +58,12 @@ pub fn right_services()
 /// `--slots` asks `dis` for the slots, `--explain` asks `check` and `asm` for an explanation; `-v` and `--verbose` ask `store` to
 /// write down what happens.
 pub fn right_flags()
-    ensures explain_check { (faults_of (codes "check" ∷ codes "--explain" ∷ []) ≡ []) × (task_of (codes "check" ∷ codes "--explain" ∷ []) ≡ Some (Task.Check true)) }
+    ensures explain_check { (faults_of (codes "check" ∷ codes "--explain" ∷ []) ≡ [])
+        × (task_of (codes "check" ∷ codes "--explain" ∷ []) ≡ Some (Task.Check true)) }
     ensures explain { (faults_of (codes "asm" ∷ codes "--explain" ∷ []) ≡ []) × (task_of (codes "asm" ∷ codes "--explain" ∷ []) ≡ Some (Task.Assemble true)) }
     ensures slots { (faults_of (codes "dis" ∷ codes "--slots" ∷ []) ≡ []) × (task_of (codes "dis" ∷ codes "--slots" ∷ []) ≡ Some (Task.Disassemble true)) }
-    ensures verbose { (faults_of (codes "store" ∷ codes "--verbose" ∷ []) ≡ []) × (task_of (codes "store" ∷ codes "--verbose" ∷ []) ≡ Some (Task.Store 0 true)) }
+    ensures verbose { (faults_of (codes "store" ∷ codes "--verbose" ∷ []) ≡ [])
+        × (task_of (codes "store" ∷ codes "--verbose" ∷ []) ≡ Some (Task.Store 0 true)) }
     ensures short { (faults_of (codes "store" ∷ codes "-v" ∷ []) ≡ []) × (task_of (codes "store" ∷ codes "-v" ∷ []) ≡ Some (Task.Store 0 true)) }
 {}
 

@@ -31,9 +31,11 @@ pub fn asked_server<'a, S: AsStr>(
     alloc: Global,
     arguments: &'a [S],
 ) -> Result<Option<Server<'a>>, AllocError>
-    ensures some { IfOk result (λ asked. IfSome asked (λ server. (faults_of (map S.text arguments.entry.now) ≡ []) × (task_of (map S.text arguments.entry.now) ≡ Some (server_task server)))) }
+    ensures some { IfOk result (λ asked. IfSome asked (λ server. (faults_of (map S.text arguments.entry.now) ≡ [])
+        × (task_of (map S.text arguments.entry.now) ≡ Some (server_task server)))) }
     ensures far { IfOk result (λ asked. IfSome asked (IsFarAs (map S.text arguments.entry.now))) }
-    ensures none { IfOk result (λ asked. asked ≡ None → (server : Server) → faults_of (map S.text arguments.entry.now) ≡ [] → task_of (map S.text arguments.entry.now) ≢ Some (server_task server)) }
+    ensures none { IfOk result (λ asked. asked ≡ None → (server : Server) → faults_of (map S.text arguments.entry.now) ≡ []
+        → task_of (map S.text arguments.entry.now) ≢ Some (server_task server)) }
 {
     let asked = match read_asked(alloc, arguments) {
         Ok(asked) => asked,

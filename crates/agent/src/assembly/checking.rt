@@ -54,7 +54,8 @@ fn report_explained<E: Write>(
     errors: &mut E,
 ) -> ExitStatus
     ensures { ReportsExplainedCode code.now (E.contents errors.old) (E.contents errors.new) outcome result
-        ⊎ ((error : LoadError) × (outcome ≡ Err (Failure.Refused error)) × Reports (E.contents errors.old) (E.contents errors.new) (Err Failure.NoMemory) result) }
+        ⊎ ((error : LoadError) × (outcome ≡ Err (Failure.Refused error))
+        × Reports (E.contents errors.old) (E.contents errors.new) (Err Failure.NoMemory) result) }
 {
     match outcome {
         Ok(()) => ExitStatus::Done,

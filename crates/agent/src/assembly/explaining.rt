@@ -53,13 +53,11 @@ fn operand_text(sort: Sort) -> &'static [u8]
     ensures short { length result.now ≤ 60 }
 {
     match sort {
+        Sort::Imm | Sort::Imm64 => b"a number",
+        Sort::Target | Sort::LongTarget => b"a label, or a number with a sign,",
         Sort::Register => b"a register, r0 to r10,",
         Sort::RegisterOrImm => b"a register or a number",
-        Sort::Imm => b"a number",
         Sort::Memory => b"a place in memory, such as [r1+8],",
-        Sort::Imm64 => b"a number",
-        Sort::Target => b"a label, or a number with a sign,",
-        Sort::LongTarget => b"a label, or a number with a sign,",
     }
 }
 
@@ -70,11 +68,9 @@ fn range_text(sort: Sort) -> &'static [u8]
 {
     match sort {
         Sort::Register => b"a register, r0 to r10,",
-        Sort::RegisterOrImm => b"a number from -2147483648 to 2147483647",
-        Sort::Imm => b"a number from -2147483648 to 2147483647",
-        Sort::Memory => b"an offset from -32768 to 32767",
+        Sort::RegisterOrImm | Sort::Imm => b"a number from -2147483648 to 2147483647",
+        Sort::Memory | Sort::Target => b"an offset from -32768 to 32767",
         Sort::Imm64 => b"a number from -9223372036854775808 to 18446744073709551615",
-        Sort::Target => b"an offset from -32768 to 32767",
         Sort::LongTarget => b"an offset from -2147483648 to 2147483647",
     }
 }

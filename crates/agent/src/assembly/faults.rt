@@ -10,6 +10,9 @@ use isa_table::Instr;
 use itoa::Integer;
 use std::alloc::{AllocError, Global};
 
+/// How adding to a text went: out of memory, or well.
+pub(crate) type Added = Result<(), AllocError>;
+
 /// A field of a slot beside the opcode (RFC 9669, section 3.1).
 #[derive(Clone, Copy, Drop)]
 enum Place {
@@ -118,14 +121,14 @@ fn meant(f: Slot, rows: &[Instr]) -> Option<Instr>
 }
 
 /// Adds a number in decimal.
-pub(crate) fn put_decimal<I: Integer>(out: &mut Vec<u8>, number: I) -> Result<(), AllocError>
+pub(crate) fn put_decimal<I: Integer>(out: &mut Vec<u8>, number: I) -> Added
     ensures { OnOk result (out.new.items ≡ out.old.items ++ I.text number) }
 {
     out.extend_from_slice(itoa::Buffer::new().format(number).as_bytes())
 }
 
 /// Adds bytes in hex.
-pub(crate) fn put_hex(alloc: Global, out: &mut Vec<u8>, bytes: &[u8]) -> Result<(), AllocError>
+pub(crate) fn put_hex(alloc: Global, out: &mut Vec<u8>, bytes: &[u8]) -> Added
     ensures { OnOk result (out.new.items ≡ out.old.items ++ encode_lower bytes.now) }
 {
     let digits = hex::encode(alloc, bytes)?;
@@ -133,7 +136,7 @@ pub(crate) fn put_hex(alloc: Global, out: &mut Vec<u8>, bytes: &[u8]) -> Result<
 }
 
 /// Adds the numbers that a field may hold.
-fn put_allowed(out: &mut Vec<u8>, field: Field) -> Result<(), AllocError>
+fn put_allowed(out: &mut Vec<u8>, field: Field) -> Added
     ensures { OnOk result (out.new.items ≡ out.old.items ++ allowed_text field) }
 {
     match field {
@@ -144,7 +147,7 @@ fn put_allowed(out: &mut Vec<u8>, field: Field) -> Result<(), AllocError>
 }
 
 /// Adds the same, and in which instruction.
-fn put_choice(out: &mut Vec<u8>, place: Place, instr: Instr) -> Result<(), AllocError>
+fn put_choice(out: &mut Vec<u8>, place: Place, instr: Instr) -> Added
     ensures { OnOk result (out.new.items ≡ out.old.items ++ choice_text place instr) }
 {
     put_allowed(out, field_of(place, instr))?;
@@ -163,7 +166,7 @@ fn differs(first: Field, other: Field) -> bool
 }
 
 /// Adds what a field may hold in another row, where that differs from the first one.
-fn put_other(out: &mut Vec<u8>, place: Place, first: Instr, row: Instr) -> Result<(), AllocError>
+fn put_other(out: &mut Vec<u8>, place: Place, first: Instr, row: Instr) -> Added
     ensures { OnOk result (out.new.items ≡ out.old.items ++ other_text place first row) }
 {
     if !differs(field_of(place, first), field_of(place, row)) {
@@ -174,12 +177,7 @@ fn put_other(out: &mut Vec<u8>, place: Place, first: Instr, row: Instr) -> Resul
 }
 
 /// Adds the same of each row.
-fn put_others(
-    out: &mut Vec<u8>,
-    place: Place,
-    first: Instr,
-    rows: &[Instr],
-) -> Result<(), AllocError>
+fn put_others(out: &mut Vec<u8>, place: Place, first: Instr, rows: &[Instr]) -> Added
     ensures { OnOk result (out.new.items ≡ out.old.items ++ others_text place first rows.now) }
 {
     for row in rows {
@@ -189,12 +187,7 @@ fn put_others(
 }
 
 /// Adds what a field may hold in each of these rows, the first of which is meant.
-fn put_choices(
-    out: &mut Vec<u8>,
-    place: Place,
-    first: Instr,
-    rows: &[Instr],
-) -> Result<(), AllocError>
+fn put_choices(out: &mut Vec<u8>, place: Place, first: Instr, rows: &[Instr]) -> Added
     ensures { OnOk result (out.new.items ≡ out.old.items ++ choices_text place first rows.now) }
 {
     put_choice(out, place, first)?;
@@ -202,7 +195,7 @@ fn put_choices(
 }
 
 /// Adds what a slot holds in a field.
-fn put_held(out: &mut Vec<u8>, place: Place, f: Slot) -> Result<(), AllocError>
+fn put_held(out: &mut Vec<u8>, place: Place, f: Slot) -> Added
     ensures { OnOk result (out.new.items ≡ out.old.items ++ held_text place f) }
 {
     out.extend_from_slice(place_name(place))?;
@@ -211,13 +204,7 @@ fn put_held(out: &mut Vec<u8>, place: Place, f: Slot) -> Result<(), AllocError>
 }
 
 /// Adds what is said of a field that is wrong.
-fn put_wrong(
-    out: &mut Vec<u8>,
-    place: Place,
-    f: Slot,
-    first: Instr,
-    rows: &[Instr],
-) -> Result<(), AllocError>
+fn put_wrong(out: &mut Vec<u8>, place: Place, f: Slot, first: Instr, rows: &[Instr]) -> Added
     ensures { OnOk result (out.new.items ≡ out.old.items ++ wrong_text place f first rows.now) }
 {
     put_held(out, place, f)?;
@@ -227,13 +214,7 @@ fn put_wrong(
 }
 
 /// Adds what is said of a field.
-fn put_field(
-    out: &mut Vec<u8>,
-    place: Place,
-    f: Slot,
-    first: Instr,
-    rows: &[Instr],
-) -> Result<(), AllocError>
+fn put_field(out: &mut Vec<u8>, place: Place, f: Slot, first: Instr, rows: &[Instr]) -> Added
     ensures { OnOk result (out.new.items ≡ out.old.items ++ field_text place f first rows.now) }
 {
     if some_fits_in(place, f, rows) {
@@ -243,7 +224,7 @@ fn put_field(
 }
 
 /// Adds what is said of each field of the slot.
-fn put_fields(out: &mut Vec<u8>, f: Slot, first: Instr, rows: &[Instr]) -> Result<(), AllocError>
+fn put_fields(out: &mut Vec<u8>, f: Slot, first: Instr, rows: &[Instr]) -> Added
     ensures { OnOk result (out.new.items ≡ out.old.items ++ fields_text f first rows.now) }
 {
     put_field(out, Place::Dst, f, first, rows)?;
@@ -253,12 +234,7 @@ fn put_fields(out: &mut Vec<u8>, f: Slot, first: Instr, rows: &[Instr]) -> Resul
 }
 
 /// Adds the same where an instruction is meant, otherwise a general rule.
-fn put_slot(
-    out: &mut Vec<u8>,
-    first: Option<Instr>,
-    f: Slot,
-    rows: &[Instr],
-) -> Result<(), AllocError>
+fn put_slot(out: &mut Vec<u8>, first: Option<Instr>, f: Slot, rows: &[Instr]) -> Added
     ensures { OnOk result (out.new.items ≡ out.old.items ++ slot_text first f rows.now) }
 {
     match first {
@@ -295,7 +271,7 @@ fn second_head(bytes: &[u8]) -> &[u8]
 }
 
 /// Adds what is said of reserved bits that are set.
-fn put_reserved(alloc: Global, out: &mut Vec<u8>, bytes: &[u8]) -> Result<(), AllocError>
+fn put_reserved(alloc: Global, out: &mut Vec<u8>, bytes: &[u8]) -> Added
     ensures { OnOk result (out.new.items ≡ out.old.items ++ reserved_text bytes.now) }
 {
     out.extend_from_slice(b"the second slot begins with ")?;
@@ -304,7 +280,7 @@ fn put_reserved(alloc: Global, out: &mut Vec<u8>, bytes: &[u8]) -> Result<(), Al
 }
 
 /// Adds what is said of a second slot.
-fn put_second(alloc: Global, out: &mut Vec<u8>, bytes: &[u8]) -> Result<(), AllocError>
+fn put_second(alloc: Global, out: &mut Vec<u8>, bytes: &[u8]) -> Added
     ensures { OnOk result (out.new.items ≡ out.old.items ++ second_text bytes.now) }
 {
     if !sets_reserved_bits(bytes) {
@@ -314,7 +290,7 @@ fn put_second(alloc: Global, out: &mut Vec<u8>, bytes: &[u8]) -> Result<(), Allo
 }
 
 /// Adds what is said of an instruction's slots in which a field is wrong.
-fn put_encoding(alloc: Global, out: &mut Vec<u8>, bytes: &[u8]) -> Result<(), AllocError>
+fn put_encoding(alloc: Global, out: &mut Vec<u8>, bytes: &[u8]) -> Added
     requires { 8 ≤ length bytes.now }
     ensures { OnOk result (out.new.items ≡ out.old.items ++ encoding_text bytes.now) }
 {
@@ -326,7 +302,7 @@ fn put_encoding(alloc: Global, out: &mut Vec<u8>, bytes: &[u8]) -> Result<(), Al
 }
 
 /// Adds the opcode, in hex.
-fn put_opcode(alloc: Global, out: &mut Vec<u8>, bytes: &[u8]) -> Result<(), AllocError>
+fn put_opcode(alloc: Global, out: &mut Vec<u8>, bytes: &[u8]) -> Added
     requires { 8 ≤ length bytes.now }
     ensures { OnOk result (out.new.items ≡ out.old.items ++ opcode_text bytes.now) }
 {
@@ -349,7 +325,7 @@ fn loaded_text(source: u8) -> &'static [u8]
 }
 
 /// Adds what is asked of a platform: by `lddw`, or else by a call with source 2 (RFC 9669, section 4.3.1).
-fn put_platform(out: &mut Vec<u8>, f: Slot) -> Result<(), AllocError>
+fn put_platform(out: &mut Vec<u8>, f: Slot) -> Added
     ensures { OnOk result (out.new.items ≡ out.old.items ++ platform_text f) }
 {
     if f.opcode != 0x18 {
@@ -365,7 +341,7 @@ fn put_platform(out: &mut Vec<u8>, f: Slot) -> Result<(), AllocError>
 }
 
 /// Adds what is said of an opcode that no instruction has.
-fn put_no_opcode(alloc: Global, out: &mut Vec<u8>, bytes: &[u8]) -> Result<(), AllocError>
+fn put_no_opcode(alloc: Global, out: &mut Vec<u8>, bytes: &[u8]) -> Added
     requires { 8 ≤ length bytes.now }
     ensures { OnOk result (out.new.items ≡ out.old.items ++ no_opcode_text bytes.now) }
 {
@@ -375,7 +351,7 @@ fn put_no_opcode(alloc: Global, out: &mut Vec<u8>, bytes: &[u8]) -> Result<(), A
 }
 
 /// Adds what is said of a wide instruction whose second slot isn't there whole.
-fn put_half(out: &mut Vec<u8>, bytes: &[u8]) -> Result<(), AllocError>
+fn put_half(out: &mut Vec<u8>, bytes: &[u8]) -> Added
     requires { 8 ≤ length bytes.now }
     ensures { OnOk result (out.new.items ≡ out.old.items ++ half_text bytes.now) }
 {
@@ -385,7 +361,7 @@ fn put_half(out: &mut Vec<u8>, bytes: &[u8]) -> Result<(), AllocError>
 }
 
 /// Adds what is said of legacy packet access.
-fn put_packet(alloc: Global, out: &mut Vec<u8>, bytes: &[u8]) -> Result<(), AllocError>
+fn put_packet(alloc: Global, out: &mut Vec<u8>, bytes: &[u8]) -> Added
     requires { 8 ≤ length bytes.now }
     ensures { OnOk result (out.new.items ≡ out.old.items ++ packet_text bytes.now) }
 {
@@ -396,7 +372,7 @@ fn put_packet(alloc: Global, out: &mut Vec<u8>, bytes: &[u8]) -> Result<(), Allo
 }
 
 /// Adds what is said of a slot that isn't there whole.
-fn put_short(out: &mut Vec<u8>, bytes: &[u8]) -> Result<(), AllocError>
+fn put_short(out: &mut Vec<u8>, bytes: &[u8]) -> Added
     ensures { OnOk result (out.new.items ≡ out.old.items ++ short_text bytes.now) }
 {
     out.extend_from_slice(b"the slot has ")?;
@@ -406,12 +382,7 @@ fn put_short(out: &mut Vec<u8>, bytes: &[u8]) -> Result<(), AllocError>
 
 /// Adds what is said of bytes of which this is the least fault, without a line end.
 #[tactic(auto, using(crate::proofs::FirstSlot::whole))]
-pub(crate) fn put_fault(
-    alloc: Global,
-    out: &mut Vec<u8>,
-    bytes: &[u8],
-    fault: Fault,
-) -> Result<(), AllocError>
+pub(crate) fn put_fault(alloc: Global, out: &mut Vec<u8>, bytes: &[u8], fault: Fault) -> Added
     requires { IsLeastFault fault bytes.now }
     ensures { OnOk result (out.new.items ≡ out.old.items ++ fault_text fault bytes.now) }
 {

@@ -7,7 +7,7 @@ ghost use Rattle.agent.specs.CodeExplained.{ReportsRefusal, Says, SaysAt, SaysOf
 ghost use Rattle.agent.specs.Failures.{failure_line};
 ghost use Rattle.agent.specs.Reports.{Reports};
 
-use crate::assembly::faults::{put_decimal, put_fault, put_hex};
+use crate::assembly::faults::{Added, put_decimal, put_fault, put_hex};
 use crate::failure::{ExitStatus, Failure};
 use crate::reporting::{report, say};
 use bpf_codec::{Fault, decode_at};
@@ -76,7 +76,7 @@ fn target_of(slot: usize, instr: &Instr) -> Option<i128>
 }
 
 /// Adds the slot to which an instruction leads.
-fn put_target(out: &mut Vec<u8>, slot: i128) -> Result<(), AllocError>
+fn put_target(out: &mut Vec<u8>, slot: i128) -> Added
     ensures { OnOk result (out.new.items ≡ ((out.old.items ++ codes "it leads to slot ") ++ signed_decimal slot) ++ codes ", ") }
 {
     out.extend_from_slice(b"it leads to slot ")?;
@@ -85,7 +85,7 @@ fn put_target(out: &mut Vec<u8>, slot: i128) -> Result<(), AllocError>
 }
 
 /// Adds where an instruction leads, if that is asked for.
-fn put_lead(out: &mut Vec<u8>, is_asked: bool, to: Option<i128>) -> Result<(), AllocError>
+fn put_lead(out: &mut Vec<u8>, is_asked: bool, to: Option<i128>) -> Added
     ensures { OnOk result (out.new.items ≡ out.old.items ++ lead_text is_asked to) }
 {
     if !is_asked {
@@ -98,7 +98,7 @@ fn put_lead(out: &mut Vec<u8>, is_asked: bool, to: Option<i128>) -> Result<(), A
 }
 
 /// Adds the rule and a line end.
-fn put_rule(out: &mut Vec<u8>, why: Why) -> Result<(), AllocError>
+fn put_rule(out: &mut Vec<u8>, why: Why) -> Added
     ensures { OnOk result (out.new.items ≡ out.old.items ++ rule_line why) }
 {
     out.extend_from_slice(rule_of(why))?;
@@ -106,12 +106,7 @@ fn put_rule(out: &mut Vec<u8>, why: Why) -> Result<(), AllocError>
 }
 
 /// Adds what is said of the instruction at a slot.
-fn put_instruction(
-    out: &mut Vec<u8>,
-    slot: usize,
-    instr: &Instr,
-    why: Why,
-) -> Result<(), AllocError>
+fn put_instruction(out: &mut Vec<u8>, slot: usize, instr: &Instr, why: Why) -> Added
     ensures { OnOk result (out.new.items ≡ out.old.items ++ instruction_text slot instr.now why) }
 {
     line(instr, out)?;
@@ -129,7 +124,7 @@ fn bytes_from(code: &[u8], slot: usize) -> &[u8]
 }
 
 /// Adds what is said of bytes that begin with no instruction.
-fn put_bytes(alloc: Global, out: &mut Vec<u8>, bytes: &[u8], fault: Fault) -> Result<(), AllocError>
+fn put_bytes(alloc: Global, out: &mut Vec<u8>, bytes: &[u8], fault: Fault) -> Added
     requires { IsLeastFault fault bytes.now }
     ensures { OnOk result (out.new.items ≡ out.old.items ++ bytes_text bytes.now fault) }
 {
@@ -140,13 +135,7 @@ fn put_bytes(alloc: Global, out: &mut Vec<u8>, bytes: &[u8], fault: Fault) -> Re
 }
 
 /// Adds what is said of what stands at a slot.
-fn put_place(
-    alloc: Global,
-    out: &mut Vec<u8>,
-    code: &[u8],
-    slot: usize,
-    why: Why,
-) -> Result<(), AllocError>
+fn put_place(alloc: Global, out: &mut Vec<u8>, code: &[u8], slot: usize, why: Why) -> Added
     ensures { OnOk result ((text : List ℕ) × SaysAt (drop (8 * slot) code.now) slot why text × (out.new.items ≡ out.old.items ++ text)) }
 {
     match decode_at(code, slot) {
@@ -156,12 +145,7 @@ fn put_place(
 }
 
 /// Adds the line that explains a refusal.
-fn put_explanation(
-    alloc: Global,
-    out: &mut Vec<u8>,
-    code: &[u8],
-    error: LoadError,
-) -> Result<(), AllocError>
+fn put_explanation(alloc: Global, out: &mut Vec<u8>, code: &[u8], error: LoadError) -> Added
     ensures { OnOk result ((text : List ℕ) × SaysOfCode code.now error.slot error.why text × (out.new.items ≡ out.old.items ++ text)) }
 {
     if code.starts_with(ELF) {
@@ -175,7 +159,8 @@ fn put_explanation(
 
 /// The line of a refusal, and the one that explains it.
 fn explained(alloc: Global, code: &[u8], error: LoadError) -> Result<Vec<u8>, AllocError>
-    ensures { IfOk result (λ all. (text : List ℕ) × SaysOfCode code.now error.slot error.why text × (all.items ≡ failure_line (Failure.Refused error) ++ text)) }
+    ensures { IfOk result (λ all. (text : List ℕ) × SaysOfCode code.now error.slot error.why text
+        × (all.items ≡ failure_line (Failure.Refused error) ++ text)) }
 {
     let mut all = Vec::new(alloc);
     all.extend_from_slice(&Failure::Refused(error).line())?;
@@ -191,7 +176,8 @@ pub(crate) fn report_refusal<E: Write>(
     error: LoadError,
     errors: &mut E,
 ) -> ExitStatus
-    ensures { ReportsRefusal code.now error (E.contents errors.old) (E.contents errors.new) result ⊎ Reports (E.contents errors.old) (E.contents errors.new) (Err Failure.NoMemory) result }
+    ensures { ReportsRefusal code.now error (E.contents errors.old) (E.contents errors.new) result
+        ⊎ Reports (E.contents errors.old) (E.contents errors.new) (Err Failure.NoMemory) result }
 {
     match explained(alloc, code, error) {
         Ok(all) => {

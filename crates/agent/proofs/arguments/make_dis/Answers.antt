@@ -1,7 +1,0 @@
-use Rattle.std.proofs.Common.{refl, codes}
-use Rattle.agent.specs.CommandLine.{flag_rule}
-use Rattle.agent.proofs.Globals.{with_last}
-use Rattle.agent.proofs.arguments.make_dis.Goals as goal
-
-pub returns : goal.returns
-returns c = with_last _ _ _ (flag_rule (codes "slots")) refl c.make_subcommand.ensures c.make_flag.ensures c.arg.result c.arg.ensures
