@@ -194,7 +194,7 @@ typedef struct bpfagent_parcel {
 uint32_t bpfagent_new(bpfagent *agent, uint32_t budget);
 
 /* The same, of an agent whose caller keeps the bytes of its far objects: use bpfagent_left_into and bpfagent_returned_from.
-   bpfagent_left answers BPFAGENT_FAULT_HERE, except of an object that was not written since it came back: the bytes that were
+   bpfagent_left answers BPFAGENT_FAULT_HERE, except of an object that was only read since it came back: the bytes that were
    handed out before still stand for that one. */
 uint32_t bpfagent_new_handing(bpfagent *agent, uint32_t budget);
 
@@ -236,7 +236,7 @@ uint32_t bpfagent_returned(bpfagent *agent, uint32_t object);
    `length` is written. 65,536 bytes are always enough. No fault comes of it.
 
    In an agent of bpfagent_new it may be called too. Such an object comes back by bpfagent_returned_from alone, unless the library
-   still has its bytes: of an object that was not written since bpfagent_returned. */
+   still has its bytes: of an object that was only read since bpfagent_returned. */
 uint32_t bpfagent_left_into(bpfagent *agent, uint32_t object, uint8_t *buffer, size_t room, size_t *length,
                             bpfagent_parcel *parcel);
 
