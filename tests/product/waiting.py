@@ -158,9 +158,15 @@ class Killed(Server):
         self.process.wait()
 
 
+def threads_of(pid: int) -> dict[str, tuple[float, float]]:
+    """For how many seconds each thread of a process has run, and for how many it waited for a processor."""
+    words = {thread: pathlib.Path(f"/proc/{pid}/task/{thread}/schedstat").read_text().split() for thread in os.listdir(f"/proc/{pid}/task")}
+    return {thread: (int(ran) / 1e9, int(waited) / 1e9) for thread, (ran, waited, _) in words.items()}
+
+
 def processor_time(pid: int) -> float:
     """The seconds that all threads of a process have run."""
-    return sum(int(pathlib.Path(f"/proc/{pid}/task/{thread}/schedstat").read_text().split()[0]) for thread in os.listdir(f"/proc/{pid}/task")) / 1e9
+    return sum(ran for ran, _ in threads_of(pid).values())
 
 
 def switches(pid: int) -> int:
@@ -221,17 +227,23 @@ class Trial(Service):
         """The far store is well again: the machines that wait go on to their ends by themselves."""
         self.far.manner = "well"
         for machine in self.waiters:
-            until(f"machine {machine} waits for ever", lambda: " exit " in self.client.ask(f"regs {machine}"))
+            until(f"machine {machine} waits for ever", lambda: " exit " in self.client.ask(f"regs {machine}"), NEVER)
 
     def spent(self) -> float:
         """The processor time that was taken."""
         return processor_time(self.process.pid)
 
     def core(self, seconds: float) -> float:
-        """How much of a core is taken."""
-        before = self.spent()
+        """How much of a core threads take of the time in which they don't wait for one: one that never sleeps takes all of it, on a busy
+        machine too."""
+        before, start = threads_of(self.process.pid), time.monotonic()
         time.sleep(seconds)
-        return (self.spent() - before) / seconds
+        after, passed = threads_of(self.process.pid), time.monotonic() - start
+        shares = []
+        for thread, (ran, waited) in before.items():
+            runs, waits = after[thread][0] - ran, after[thread][1] - waited
+            shares.append(runs / max(passed - waits, runs, 1e-6))
+        return sum(shares)
 
     def fuel(self) -> int:
         """What fuel some of the machines that run have: they take turns, so each does as much as another."""
@@ -243,7 +255,7 @@ class Trial(Service):
         costs = []
         for _ in range(TURNS):
             before, fuel = self.spent(), self.fuel()
-            until("machines that run don't", lambda: self.spent() - before > seconds, NEVER, 0.01)
+            until("machines that run don't", lambda: self.spent() - before > seconds, pause=0.01)
             spent, done = self.spent() - before, fuel - self.fuel()
             want(done > 0, "machines that run don't")
             costs.append(spent / done)
