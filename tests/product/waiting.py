@@ -83,7 +83,7 @@ class Bounds(NamedTuple):
 
 def bounds(program: str) -> Bounds:
     """A program with run-time checks is slower."""
-    return Bounds(1.0, 0.05, 10.0, 0.1, 1.0, 25, 25) if has_checks(program) else Bounds(0.2, 0.005, 1.0, 0.02, 0.1, 1, 30)
+    return Bounds(1.0, 0.05, 10.0, 0.1, 0.5, 25, 25) if has_checks(program) else Bounds(0.2, 0.005, 1.0, 0.02, 0.1, 1, 30)
 
 
 class Far:
