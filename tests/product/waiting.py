@@ -45,10 +45,8 @@ GIVEN = 600_000
 REQUESTS, REQUESTS_OF_ONE = 20, 8
 # how often threads of an idle service run in a second
 SWITCHES = 5
-# how many other objects are asked to leave
-OTHERS = 10
-# more requests than the mover's queue takes
-REPEATS = 100
+# how many other objects are asked to leave, and more requests than the mover's queue takes
+OTHERS, REPEATS = 10, 100
 REFUSED = 1
 FUEL = 1 << 60
 EXIT = "9500000000000000"
@@ -169,6 +167,12 @@ def processor_time(pid: int) -> float:
     return sum(ran for ran, _ in threads_of(pid).values())
 
 
+def put_on(pid: int, processors: set[int]) -> None:
+    """From now on all threads of a process run on these processors."""
+    for thread in os.listdir(f"/proc/{pid}/task"):
+        os.sched_setaffinity(int(thread), processors)
+
+
 def switches(pid: int) -> int:
     """How often the threads of a process were given a processor."""
     lines = [line for thread in os.listdir(f"/proc/{pid}/task") for line in pathlib.Path(f"/proc/{pid}/task/{thread}/status").read_text().splitlines()]
@@ -229,10 +233,6 @@ class Trial(Service):
         for machine in self.waiters:
             until(f"machine {machine} waits for ever", lambda: " exit " in self.client.ask(f"regs {machine}"), NEVER)
 
-    def spent(self) -> float:
-        """The processor time that was taken."""
-        return processor_time(self.process.pid)
-
     def core(self, seconds: float) -> float:
         """How much of a core threads take of the time in which they don't wait for one: one that never sleeps takes all of it, on a busy
         machine too."""
@@ -251,14 +251,17 @@ class Trial(Service):
 
     def cost(self, seconds: float) -> float:
         """The processor time of an instruction, up to a factor, at its least in a few turns, since whatever else runs only adds to it.
-        A turn lasts for so much of that time, however long it takes."""
-        costs = []
+        A turn lasts for so much of that time, however long it takes. Threads share one processor meanwhile, since what they cost each
+        other depends on how many others they get."""
+        pid, costs = self.process.pid, []
+        put_on(pid, {min(os.sched_getaffinity(0))})
         for _ in range(TURNS):
-            before, fuel = self.spent(), self.fuel()
-            until("machines that run don't", lambda: self.spent() - before > seconds, pause=0.01)
-            spent, done = self.spent() - before, fuel - self.fuel()
+            before, fuel = processor_time(pid), self.fuel()
+            until("machines that run don't", lambda: processor_time(pid) - before > seconds, pause=0.01)
+            spent, done = processor_time(pid) - before, fuel - self.fuel()
             want(done > 0, "machines that run don't")
             costs.append(spent / done)
+        put_on(pid, os.sched_getaffinity(0))
         return min(costs)
 
     def replies(self) -> list[float]:
@@ -299,10 +302,11 @@ def most_in_a_second(times: list[float]) -> int:
 def show_trial(program: str, manner: str, workers: int, waiting: int, running: int, seconds: float) -> None:
     """A service whose far store becomes worse. Machines that run cost as much as before others waited."""
     with Killed(program) if manner == "killed" else Far() as far, Trial(program, far, workers, waiting, running) as trial:
-        before = trial.cost(seconds) if running else 0
+        # what it costs at first is more
+        before = [trial.cost(seconds) for _ in range(2)][1] if running else 0
         trial.spoil(manner)
         if running:
-            measured("the processor time of an instruction, as a ratio", lambda: trial.cost(seconds) / before, 1 + trial.bounds.share, 2)
+            measured("the processor time of an instruction, as a ratio", lambda: trial.cost(seconds) / before, 1 + trial.bounds.share, 3)
         elif waiting:
             measured("the share of a core that waits", lambda: trial.core(seconds), trial.bounds.core)
         asked = list(far.asked)
@@ -412,13 +416,13 @@ def show_busy(program: str) -> None:
 
 
 TRIALS = {
-    "slow": ((1, 1, 0, 1), (2, 4, 4, 0.3), (16, 24, 24, 0.3)),
+    "slow": ((1, 1, 0, 1), (2, 4, 4, 0.1), (16, 24, 24, 0.1)),
     # where no machine waits nobody notices what becomes of the store
-    "silent": ((1, 0, 1, 0.2), (2, 0, 8, 0.2), (16, 0, 48, 0.2), (1, 1, 0, 3), (2, 48, 0, 1), (16, 4, 4, 0.3)),
-    "refusing": ((1, 24, 24, 0.3), (2, 1, 0, 3), (16, 48, 0, 2)),
-    "lying": ((1, 48, 0, 2), (2, 4, 4, 0.3), (16, 1, 0, 2)),
-    "cut": ((1, 4, 4, 0.3), (2, 24, 24, 0.3), (16, 8, 0, 2)),
-    "killed": ((1, 8, 0, 3), (2, 1, 0, 1), (16, 24, 24, 0.3)),
+    "silent": ((1, 0, 1, 0.1), (2, 0, 8, 0.1), (16, 0, 48, 0.1), (1, 1, 0, 3), (2, 48, 0, 1), (16, 4, 4, 0.1)),
+    "refusing": ((1, 24, 24, 0.1), (2, 1, 0, 3), (16, 48, 0, 2)),
+    "lying": ((1, 48, 0, 2), (2, 4, 4, 0.1), (16, 1, 0, 2)),
+    "cut": ((1, 4, 4, 0.1), (2, 24, 24, 0.1), (16, 8, 0, 2)),
+    "killed": ((1, 8, 0, 3), (2, 1, 0, 1), (16, 24, 24, 0.1)),
 }
 
 if __name__ == "__main__":
