@@ -25,7 +25,6 @@ from bpfagent.far import DONE, FORGET, GET, LIMIT, NO_ROOM, PUT, REFUSED_ID, Sto
 from support import PROGRAM, ROOT, SECONDS
 
 from lib.programs import Client, Listener, Server, Service, ended, free_port, object_line, redis_server
-from product.service import away
 from product.store import KEPT, frame, talk, unanswered
 
 GATEWAY = [sys.executable, "-m", "bpfagent.gateway"]
@@ -394,7 +393,7 @@ class Gateways(unittest.TestCase):
             client.ask_until("get 1 0 8", "bytes", pause=0.001) == f"bytes {held.hex()}" and redis.instead == [], "the object that came home at the third time"
         )
         eventually(lambda: redis.kept == {}, f"what is in Redis of an object that is home: {redis.kept}")
-        away(client, f"bytes {held.hex()}")
+        client.until_away(1, f"bytes {held.hex()}")
         client.ask_until("get 1 0 8", "bytes", pause=0.001)
         self.assertTrue(client.end() == "" and service.ends_with([object_line(1, held)]), "the end of a service over the gateway")
         self.assertTrue(gateway.end()[0] == 0 and redis.kept == {}, "the gateway of a service")

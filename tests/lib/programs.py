@@ -1,6 +1,7 @@
 """Starts and stops the program, for the tests of the product."""
 from __future__ import annotations
 
+import atexit
 import contextlib
 import datetime
 import functools
@@ -20,7 +21,6 @@ from lib.checks import Failed, want
 
 # How long a program, or one answer of it, may take, in seconds.
 SECONDS = 60
-LOOKS = 10_000
 # How long something that comes by itself may take, also on a busy machine, in seconds.
 LONG = 180
 # How much slower a program of `make try` is taken to be: it has run-time checks and isn't optimized.
@@ -98,11 +98,24 @@ def room_for(program: str, threads: int) -> dict[int, int]:
     return {resource.RLIMIT_STACK: STACK, resource.RLIMIT_AS: size + threads * STACK + STACK // 2}
 
 
+Found = TypeVar("Found")
+
+
+def until(what: str, look: Callable[[], Found], seconds: float = LONG, pause: float = 0.001) -> Found:
+    """What a look gives as soon as it gives something, with a pause after each that gives nothing."""
+    end = time.monotonic() + seconds
+    while time.monotonic() < end:
+        if found := look():
+            return found
+        time.sleep(pause)
+    raise Failed(what)
+
+
 def is_heard(host: str, port: int) -> bool:
     """Whether somebody listens on this port of an address."""
     try:
         socket.create_connection((host, port), timeout=SECONDS).close()
-    except OSError:
+    except ConnectionRefusedError:
         return False
     return True
 
@@ -116,29 +129,28 @@ def free_port() -> int:
 @contextlib.contextmanager
 def redis_server() -> Iterator[int]:
     """The port of a redis-server that keeps nothing on disk."""
-    port, end = free_port(), time.monotonic() + LONG
+    port = free_port()
     with tempfile.TemporaryDirectory() as folder:
         alone = ["--bind", "127.0.0.1", "--save", "", "--appendonly", "no", "--dir", folder]
         process = subprocess.Popen(["redis-server", "--port", str(port), *alone], stdout=subprocess.DEVNULL)
         try:
-            while not is_heard("127.0.0.1", port):
-                want(time.monotonic() < end, "redis-server doesn't listen")
-                time.sleep(0.005)
+            until("redis-server doesn't listen", lambda: is_heard("127.0.0.1", port))
             yield port
         finally:
             process.terminate()
-            process.wait()
+            process.wait(SECONDS)
 
 
 P = TypeVar("P", bound="Process")
 
 
 class Process:
-    """A program that was started with pipes. Leaving its block kills it where it hasn't ended."""
+    """A program that was started with pipes. Leaving its block kills it where it hasn't ended, and so does the end of the script."""
 
     def __init__(self, *command: object, limits: Mapping[int, int] | None = None, **how: Any) -> None:
         pipe = subprocess.PIPE
         self.process = subprocess.Popen([str(word) for word in command], stdin=pipe, stdout=pipe, stderr=pipe, preexec_fn=limited_to(limits), **how)
+        atexit.register(self.process.kill)
 
     def __enter__(self: P) -> P:
         return self
@@ -254,15 +266,24 @@ class Client:
                 return reply
         raise Failed(f"{command} is answered {reply}, and not {wanted}")
 
-    def until_away(self, number: int, seconds: float = LONG) -> None:
-        """An object is asked to leave until a reading finds it away, which asks for it to return. It stays where a reading meets the mover."""
-        end = time.monotonic() + seconds
-        while time.monotonic() < end:
-            want((reply := self.ask(f"leave {number}")) in (f"asked {number}", "full"), f"leave {number} is answered {reply}")
+    def until_away(self, number: int, held: str = "bytes ") -> None:
+        """An object of eight bytes or more, whose first ones are answered so, is asked to leave until a reading finds it away, which asks for it
+        to return. It stays where a reading meets the mover."""
+
+        def look() -> bool:
+            want((reply := self.ask(f"leave {number}")) == f"asked {number}", f"leave {number} is answered {reply}")
             time.sleep(0.001)
-            if self.ask(f"get {number} 0 1") == f"away {number}":
-                return
-        raise Failed(f"object {number} doesn't leave")
+            reply = self.ask(f"get {number} 0 8")
+            want(reply.startswith((held, f"busy {number}", f"away {number}")), f"object {number} is read as {reply}, and not {held}")
+            return reply == f"away {number}"
+
+        until(f"object {number} doesn't leave", look)
+
+    def there_and_back(self, held: str, number: int = 1) -> None:
+        """An object that begins with eight bytes which are answered so leaves, and has them when it is here again."""
+        self.until_away(number, held)
+        found = self.ask_until(f"get {number} 0 8", "bytes")
+        want(found == held, f"object {number} returned with {found}, and not {held}")
 
     def end(self) -> str:
         """Says that nothing more comes, and gives what it still hears."""

@@ -18,11 +18,11 @@ import subprocess
 import sys
 import threading
 import time
-from typing import Any, Callable, TypeVar
+from typing import Any, Callable
 
 sys.path.insert(0, str(pathlib.Path(__file__).resolve().parents[1]))
 from lib.checks import Failed, run_parts, want, want_equal
-from lib.programs import LONG, SECONDS, Client, Server, Service, ended, free_port, is_heard, object_line, opened, room_for, unreadable
+from lib.programs import LONG, SECONDS, Client, Server, Service, ended, free_port, is_heard, object_line, opened, room_for, unreadable, until
 from lib.scripts import Talk
 from lib.sources import ROOT
 
@@ -58,9 +58,6 @@ COUNTER = (ROOT / "examples/c/counter.code").read_bytes().hex()
 LOCKED = (ROOT / "examples/c/locked.code").read_bytes().hex()
 # where a machine has given the lock back, by xchg [r8], r1, and closed its scopes
 OUTSIDE = LOCKED.index("db180000e1000000" + CLOSE) // 16 + 2
-
-
-Found = TypeVar("Found")
 
 
 class Meeting:
@@ -104,16 +101,6 @@ class Meeting:
         return sorted(self.told)
 
 
-def until(what: str, look: Callable[[], Found | None]) -> Found:
-    """What a look gives as soon as it gives something. It looks every millisecond."""
-    end = time.monotonic() + LONG
-    while time.monotonic() < end:
-        if (found := look()) is not None:
-            return found
-        time.sleep(0.001)
-    raise Failed(what)
-
-
 def of_eight(number: int) -> bytes:
     """An object of eight bytes that holds this number."""
     return number.to_bytes(8, "little")
@@ -126,16 +113,16 @@ def is_stopped(reply: str) -> bool:
 
 def stopped(client: Client, machine: int | str) -> str:
     """The `regs` of a machine when it has stopped."""
-    return until(f"machine {machine} doesn't stop", lambda: reply if is_stopped(reply := client.ask(f"regs {machine}")) else None)
+    return until(f"machine {machine} doesn't stop", lambda: is_stopped(reply := client.ask(f"regs {machine}")) and reply)
 
 
 def paused(client: Client, machine: int, slot: int) -> list[str]:
     """The words of `regs` of a machine when it is paused, which is at this slot."""
 
-    def look() -> list[str] | None:
+    def look() -> Any:
         words = client.ask(f"regs {machine}").split()
         want(not is_stopped(" ".join(words)), f"machine {machine} stops: {words}")
-        return words if words[4] == "paused" else None
+        return words[4] == "paused" and words
 
     words = until(f"machine {machine} isn't paused", look)
     want_equal(words[2], f"{slot}", f"where machine {machine} is paused")
@@ -204,46 +191,15 @@ def show_row(program: str) -> None:
     want(client.end() == "" and service.ends_well({1: of_eight(1)}, shown, may_be_out=True), "the end of a service without workers")
 
 
-def show_digest(program: str) -> None:
-    """An object of three bytes closes with their SHA-256, which NIST gives as an example of FIPS 180-4."""
-    service, client = opened(program, "--workers", 0, setup=["make 3", "put 1 0 616263"])
-    want(service.told == ["made 1", "ok"], f"the input is answered {service.told}")
-    want(client.ask("get 1 0 3") == "bytes 616263", "the object of the input")
-    want(client.end() == "", "more than the reply")
-    want(service.ends_with(["object 1 3 ba7816bf8f01cfea414140de5dae2223b00361a396177a9cb410ff61f20015ad"]), "the digest of abc")
-
-
 def close_two(program: str) -> None:
     """Two machines that two workers run add 200 times to an object that is asked to leave meanwhile."""
     ships = [f"ship 1000 0x100000000 1 0 0 0 {ADDS}"] * 2
     service, client = opened(program, "--workers", 2, setup=["make 8", *ships])
-    for _ in range(20):
-        asked = client.ask("leave 1")
-        want(asked in ("asked 1", "full"), f"leave is answered {asked}")
+    want([client.ask("leave 1") for _ in range(20)] == ["asked 1"] * 20, "an object that is asked to leave again and again")
     shown = [stopped(client, 1), stopped(client, 2)]
     want(all(" exit " in reply for reply in shown), f"the machines stop so: {shown}")
+    want_equal(client.ask_until("get 1 0 8", "bytes"), f"bytes {of_eight(200).hex()}", "the object after 200 adds")
     want(client.end() == "" and service.ends_well({1: of_eight(200)}, shown, may_be_out=True), "the end of a service in which two machines added")
-
-
-def service_runs(program: str) -> None:
-    """Two workers run a loop of 100 atomic adds."""
-    service, client = opened(program, "--workers", 2, setup=["make 8", f"ship 1000 0x100000000 1 0 0 0 {ADDS}"])
-    shown = stopped(client, 1)
-    want(" exit " in shown, "the machine's stop")
-    want(client.ask("get 1 0 8") == "bytes 6400000000000000", "the object after 100 adds")
-    want(client.end() == "" and service.ends_well({1: of_eight(100)}, [shown]), "the end of a service with workers")
-
-
-def away(client: Client, held: str, number: int = 1) -> None:
-    """An object, which begins with these eight bytes, is asked to leave until it is away. The reading that finds it so asks for it."""
-
-    def look() -> Any:
-        want(client.ask(f"leave {number}") in (f"asked {number}", "full"), f"object {number} isn't asked to leave")
-        found = client.ask(f"get {number} 0 8")
-        want(found in (held, f"busy {number}", f"away {number}"), f"get is answered {found}")
-        return found == f"away {number}" or None
-
-    until(f"object {number} doesn't leave", look)
 
 
 def away_unmissed(client: Client) -> None:
@@ -251,43 +207,25 @@ def away_unmissed(client: Client) -> None:
     was here before."""
     client.ask_until("get 2 0 1", "bytes")
 
-    def look() -> Any:
+    def look() -> bool:
         client.ask_until("leave 1", "asked 1")
         client.ask_until("leave 2", "asked 2")
-        return client.ask("get 2 0 1") == "away 2" or None
+        return client.ask("get 2 0 1") == "away 2"
 
     until("object 2 doesn't leave", look)
 
 
-def there_and_back(client: Client, held: str) -> None:
-    """Object 1, which has these bytes, is asked to leave until it is away, and read until it is here again."""
-    away(client, held)
-    found = client.ask_until("get 1 0 8", "bytes")
-    want(found == held, f"the object returned with {found}")
-
-
-def service_moves(program: str) -> None:
-    """An object leaves when it is asked to, and returns when it is missed."""
-    service, client = opened(program, setup=["make 8", "put 1 0 2a"])
-    there_and_back(client, "bytes 2a00000000000000")
-    want(client.end() == "" and service.ends_well({1: of_eight(42)}, may_be_out=True), "the end of a service that moves")
-
-
-def service_sweeps(program: str) -> None:
-    """An object that nobody uses leaves by itself, and returns when it is missed."""
-    service, client = opened(program, "--sweep", setup=["make 8", "put 1 0 2a"])
-    client.ask_until("get 1 0 1", "away 1", pause=0.1)
-    want(client.ask_until("get 1 0 1", "bytes") == "bytes 2a", "the object that returned")
-    want(client.end() == "" and service.ends_well({1: of_eight(42)}, may_be_out=True), "the end of a service that sweeps")
-
-
-def show_without_sweep(program: str) -> None:
-    """Without --sweep it stays."""
-    service, client = opened(program, setup=["make 8", "put 1 0 2a"])
-    for _ in range(5):
-        time.sleep(0.1)
-        want(client.ask("get 1 0 1") == "bytes 2a", "an object leaves that nobody asked to")
-    want(client.end() == "" and service.ends_well({1: of_eight(42)}), "the end of a service that doesn't sweep")
+def show_sweep(program: str) -> None:
+    """An object that nobody uses leaves by itself where the mover sweeps, and returns when it is missed. Else it stays."""
+    for flags in (["--sweep"], []):
+        service, client = opened(program, *flags, setup=["make 8", "put 1 0 2a"])
+        if flags:
+            client.ask_until("get 1 0 1", "away 1", pause=0.1)
+        for _ in range(0 if flags else 5):
+            time.sleep(0.1)
+            want(client.ask("get 1 0 1") == "bytes 2a", "an object leaves that nobody asked to")
+        want(client.ask_until("get 1 0 1", "bytes") == "bytes 2a", "the object that returned, or stayed")
+        want(client.end() == "" and service.ends_well({1: of_eight(42)}, may_be_out=bool(flags)), f"the end of a service with {flags}")
 
 
 def ship_counter(meeting: Meeting, service: Service, times: int, _: int) -> tuple[str, str]:
@@ -295,7 +233,7 @@ def ship_counter(meeting: Meeting, service: Service, times: int, _: int) -> tupl
     client = Client(service)
     machine = client.ask(f"ship {10 * times + 10} 0x100000000 {times} 0 0 0 {COUNTER}").split()[1]
     for _ in range(20):
-        want(client.ask("leave 1") in ("asked 1", "full"), "a request to the mover")
+        want(client.ask("leave 1") == "asked 1", "a request to the mover")
         client.ask("get 1 0 8")
     reply = stopped(client, machine)
     want(f" exit {times:016x}" in reply, f"machine {machine}: {reply}")
@@ -314,7 +252,7 @@ def show_crowd(program: str, *arguments: object) -> None:
     want_equal([reader.ask(f"regs {machine}") for machine in range(1, 8)], shown, "machines that have stopped stay as they are")
     found = reader.ask_until("get 1 0 8", "bytes")
     want_equal(found, f"bytes {of_eight(7 * times).hex()}", f"what seven counters of {times} count")
-    there_and_back(reader, found)
+    reader.there_and_back(found)
     want(reader.end() == "" and service.ends_well({1: of_eight(7 * times)}, shown, may_be_out=True), "the end of a service with eight clients")
 
 
@@ -324,12 +262,12 @@ def show_far(program: str) -> None:
     far = f"127.0.0.1:{server.port}"
     service, client = opened(program, "--far", far, "--workers", 1, setup=["make 8", "put 1 0 2a"])
     for _ in range(5):
-        there_and_back(client, "bytes 2a00000000000000")
+        client.there_and_back("bytes 2a00000000000000")
     shipped = client.ask(f"ship 1000 0x100000000 1 0 0 0 {ADDS}")
     client.ask("leave 1")
     shown = stopped(client, 1)
     want(shipped == "shipped 1" and " exit " in shown, f"a machine whose object leaves: {shown}")
-    there_and_back(client, "bytes 8e00000000000000")
+    client.there_and_back("bytes 8e00000000000000")
     want(client.end() == "" and service.ends_well({1: of_eight(142)}, [shown], may_be_out=True), "the end of a service over a far server")
     show_crowd(program, "--far", far)
     want(server.end() == (0, b"", b""), "the far server of two services")
@@ -344,7 +282,7 @@ def show_lost_server(program: str) -> None:
     server.process.kill()
     server.process.communicate()
     for _ in range(20):
-        want(client.ask("leave 3") in ("asked 3", "full") and client.ask("get 1 0 1") == "away 1" and client.ask("step 1") == "waiting 1 1", "an object whose server is gone")
+        want(client.ask("leave 3") == "asked 3" and client.ask("get 1 0 1") == "away 1" and client.ask("step 1") == "waiting 1 1", "an object whose server is gone")
         time.sleep(0.01)
     want(client.ask_until("get 3 0 1", "bytes") == "bytes 07", "an object that couldn't leave")
     shown = client.ask("regs 1")
@@ -388,7 +326,7 @@ def show_far_bytes(program: str) -> None:
         write_all(client, number, held[number])
     for _ in range(2):
         for number in held:
-            away(client, f"bytes {held[number][:8].hex()}", number)
+            client.until_away(number, f"bytes {held[number][:8].hex()}")
         for number, length in LENGTHS.items():
             want(read_all(client, number, length) == held[number], f"object {number} comes back with other bytes")
             want(client.ask(f"put {number} {length - 1} 5a") == "ok", f"the last byte of object {number}")
@@ -411,7 +349,7 @@ def left_often(client: Client) -> list[int]:
     end = time.monotonic() + LONG / 2
     while time.monotonic() < end:
         asked, *found = client.ask_at_once(["leave 1", *["get 1 0 8"] * 15])
-        want(asked in ("asked 1", "full"), f"leave is answered {asked}")
+        want_equal(asked, "asked 1", "an object that is to leave")
         for reply in found:
             seen += reply == "away 1" and not was_away
             was_away = reply == "away 1"
@@ -476,7 +414,7 @@ def show_debuggers(program: str) -> None:
     once = sum(range(1, 8))
 
     def leaves(count: int) -> None:
-        away(reader, f"bytes {of_eight(count).hex()}")
+        reader.until_away(1, f"bytes {of_eight(count).hex()}")
         away_unmissed(reader)
 
     leaves(0)
@@ -499,7 +437,7 @@ def show_debuggers(program: str) -> None:
 
 def runs_on(client: Client, rounds: int) -> None:
     """Waits until machine 1 has gone round more often."""
-    until("a machine doesn't go on", lambda: int(client.ask("regs 1").split()[8], 16) > rounds or None)
+    until("a machine doesn't go on", lambda: int(client.ask("regs 1").split()[8], 16) > rounds)
 
 
 def show_breakpoint(program: str) -> None:
@@ -539,12 +477,12 @@ def take_lock(meeting: Meeting, service: Service, machine: int) -> tuple[int, st
     want(client.ask(f"unbreak {machine} {OUTSIDE}") == "ok" and client.ask(f"resume {machine}") == "ok", "it goes on to its end")
 
     def look() -> Any:
-        want(client.ask("leave 1") in ("asked 1", "full"), "a request to the mover")
+        want(client.ask("leave 1") == "asked 1", "a request to the mover")
         found = client.ask("get 1 0 24")
         if found not in ("away 1", "busy 1"):
             inside, *balances = accounts_of(found)
             want(inside or sum(balances) == MONEY, f"nobody is inside, and the accounts have {balances}")
-        return reply if is_stopped(reply := client.ask(f"regs {machine}")) else None
+        return is_stopped(reply := client.ask(f"regs {machine}")) and reply
 
     reply = until(f"machine {machine} doesn't stop", look)
     want(" exit " in reply and client.end() == "", f"machine {machine} stops so: {reply}")
@@ -573,7 +511,7 @@ def move_under_lock(program: str, machines: int, *arguments: object) -> None:
 
     def leaves() -> None:
         before = reader.ask_until("get 1 0 24", "bytes")
-        away(reader, f"bytes {of_eight(0).hex()}")
+        reader.until_away(1, f"bytes {of_eight(0).hex()}")
         found = reader.ask_until("get 1 0 24", "bytes")
         want(found == before and sum(accounts_of(found)) == MONEY, f"the accounts leave as {before} and return as {found}")
         away_unmissed(reader)
@@ -706,7 +644,7 @@ def show_port(program: str) -> None:
     want(again.port == port and Client(again).end() == "" and again.ends_well(), "the port that is asked for")
 
 
-SHOWN = [show_protocol, show_examples, show_row, show_digest, close_two, service_runs, service_moves, service_sweeps, show_without_sweep, show_crowd, show_debuggers, show_breakpoint, show_locks, show_lost, show_first_end, show_few_threads, show_few_files, show_far, show_far_bytes, show_lost_server, show_unreached, show_statuses, show_port]
+SHOWN = [show_protocol, show_examples, show_row, close_two, show_sweep, show_crowd, show_debuggers, show_breakpoint, show_locks, show_lost, show_first_end, show_few_threads, show_few_files, show_far, show_far_bytes, show_lost_server, show_unreached, show_statuses, show_port]
 
 
 if __name__ == "__main__":

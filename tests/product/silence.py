@@ -16,23 +16,30 @@ from typing import Iterator
 
 sys.path.insert(0, str(pathlib.Path(__file__).resolve().parents[1]))
 from lib.checks import run_parts, want, want_equal
-from lib.programs import SECONDS, Client, Server, Service, ended, object_line, opened
+from lib.programs import SECONDS, Client, Server, Service, ended, has_checks, object_line
 from lib.sources import ROOT
 
 sys.path.append(str(ROOT / "python"))
 from bpfagent.far import DONE, HEAD, PUT
 
-# The time that the far server is given, in milliseconds, and in seconds. It is long beside the pauses of a busy machine.
-MILLIS = 3000
-GIVEN = MILLIS / 1000
-# How much longer than that a move may take to fail, and the longest time that a reply, and the end of a service, may take, in seconds. Each
-# is shorter than what the server is given: a reply that waited for the server would be found out.
-LATE = 1.5
-REPLY = 1.5
-END = 1.5
 # How long the mover may take to come to a request, in seconds.
 BEGINS = 0.5
 HELD = b"\x2a" + bytes(7)
+
+
+def given(program: str) -> int:
+    """The time that the far server is given, in milliseconds. It is long beside the pauses of a busy machine. A reply, the end of a service,
+    and what comes late may take half of it: a reply that waited for the server would be found out."""
+    return 8000 if has_checks(program) else 3000
+
+
+def begun(program: str, far: str, *setup: str) -> tuple[Service, Client, float]:
+    """A service over a far server, a client of it, and how long a reply may take, in seconds."""
+    millis = given(program)
+    service = Service(program, "--far", far, "--far-timeout", millis, "--workers", 1, setup=setup)
+    client = Client(service)
+    client.stream.settimeout(millis / 2000)
+    return service, client, millis / 2000
 
 
 def fall_silent(stream: socket.socket, answered: int) -> None:
@@ -60,7 +67,7 @@ def silent(answered: int = 0) -> Iterator[str]:
                 stream, _ = listener.accept()
                 fall_silent(stream, answered)
 
-        server = threading.Thread(target=take)
+        server = threading.Thread(target=take, daemon=True)
         server.start()
         yield f"127.0.0.1:{listener.getsockname()[1]}"
         server.join(SECONDS)
@@ -78,94 +85,76 @@ def unaccepting() -> Iterator[str]:
         yield f"127.0.0.1:{listener.getsockname()[1]}"
 
 
-def wait_until(client: Client, command: str, wanted: str) -> float:
-    """How long it takes until a command is answered so, where each reply comes soon."""
-    start = time.monotonic()
-    reply = ""
-    while not reply.startswith(wanted):
-        asked = time.monotonic()
-        want(asked - start < SECONDS, f"{command} is answered {reply}, and not {wanted}")
-        reply = client.ask(command)
-        took = time.monotonic() - asked
-        want(took < REPLY, f"{command} is answered after {took:.3f} s, while the far server is silent")
-        time.sleep(0.005)
+def since(start: float) -> float:
+    """The seconds that have passed."""
     return time.monotonic() - start
 
 
-def ends(client: Client, service: Service, lines: list[str], seconds: float = END) -> None:
-    """The last client goes, and the service ends within so many seconds."""
+def ends(client: Client, service: Service, lines: list[str], seconds: float) -> None:
+    """The last client goes, and the service ends within so many seconds, also where a move still waits for its server."""
     want_equal(client.end(), "", "what is said beyond the replies")
     start = time.monotonic()
-    service.process.wait(SECONDS)
-    took = time.monotonic() - start
-    want(took < seconds, f"the service ends {took:.1f} s after its last client")
     want(service.ends_with(lines), "the end of a service whose far server is silent")
+    want(since(start) < seconds, f"the service ends {since(start):.1f} s after its last client")
 
 
 def show_silent_put(program: str) -> None:
     """A server that never answers: the object stays here when the time has passed, and the next one at once."""
     with silent() as far:
-        service, client = opened(program, "--far", far, "--far-timeout", MILLIS, "--workers", 1, setup=["make 8", "put 1 0 2a", "make 8"])
+        service, client, half = begun(program, far, "make 8", "put 1 0 2a", "make 8")
         start = time.monotonic()
         client.until_away(1)
-        wait_until(client, "get 1 0 8", "bytes 2a")
-        took = time.monotonic() - start
-        want(GIVEN / 2 < took < GIVEN + LATE, f"a silent server is given {took:.2f} s")
+        client.ask_until("get 1 0 8", "bytes 2a", pause=0.005)
+        want(half < since(start) < 3 * half, f"a silent server is given {since(start):.2f} s")
         want_equal(client.ask("leave 2"), "asked 2", "an object that is to leave over a broken stream")
         time.sleep(BEGINS)
-        took = wait_until(client, "get 2 0 8", "bytes 00")
-        want(took < LATE, f"a move over a stream that is broken takes {took:.2f} s")
-        ends(client, service, [object_line(1, HELD), object_line(2, bytes(8))])
+        start = time.monotonic()
+        client.ask_until("get 2 0 8", "bytes 00", pause=0.005)
+        want(since(start) < half, f"a move over a stream that is broken takes {since(start):.2f} s")
+        ends(client, service, [object_line(1, HELD), object_line(2, bytes(8))], half)
 
 
 def show_silent_get(program: str) -> None:
     """A server that keeps two objects and then is silent: they stay far, and what is here is answered as ever."""
     with silent(2) as far:
-        service, client = opened(program, "--far", far, "--far-timeout", MILLIS, "--workers", 1, setup=["make 8", "make 8", "make 8", "put 3 0 2a"])
+        service, client, half = begun(program, far, "make 8", "make 8", "make 8", "put 3 0 2a")
         want_equal(client.ask_at_once(["leave 1", "leave 2"]), ["asked 1", "asked 2"], "objects that are to leave")
         client.until_away(2)
         start = time.monotonic()
-        while time.monotonic() - start < 2 * GIVEN:
-            want(wait_until(client, "get 3 0 8", "bytes 2a") < REPLY, "an object that is here")
-            want_equal(client.ask("get 1 0 8"), "away 1", "an object that is far")
-        ends(client, service, ["object 1 out", "object 2 out", object_line(3, HELD)])
+        while since(start) < 3 * half:
+            want_equal([client.ask("get 3 0 1"), client.ask("get 1 0 8")], ["bytes 2a", "away 1"], "an object that is here, and one that is far")
+            time.sleep(0.005)
+        ends(client, service, ["object 1 out", "object 2 out", object_line(3, HELD)], half)
 
 
 def show_end_within_a_move(program: str) -> None:
-    """The last client goes while a move waits for a silent server: the service ends when that move has failed at the latest."""
+    """The last client goes while a move waits for a silent server."""
     with silent() as far:
-        service, client = opened(program, "--far", far, "--far-timeout", MILLIS, setup=["make 8"])
-        want_equal(client.ask("leave 1"), "asked 1", "an object that is to leave")
-        ends(client, service, [object_line(1, bytes(8))], GIVEN + END)
+        service, client, half = begun(program, far, "make 8")
+        client.until_away(1)
+        ends(client, service, [object_line(1, bytes(8))], half)
 
 
 def show_unaccepting(program: str) -> None:
     """A server that takes no connection can't be reached, when the time has passed."""
     with unaccepting() as far:
         start = time.monotonic()
-        done = ended(program, "serve", "--far", far, "--far-timeout", MILLIS)
-        took = time.monotonic() - start
+        done = ended(program, "serve", "--far", far, "--far-timeout", given(program))
+        took = since(start)
     want_equal(done, (3, b"", b"far server can't be reached\n"), "a server that takes no connection")
-    want(GIVEN / 2 < took < GIVEN + LATE, f"a server that takes no connection is given {took:.2f} s")
-
-
-def there_and_back(client: Client, held: str) -> None:
-    """Object 1 leaves when it is asked to, and returns when it is missed."""
-    client.until_away(1)
-    wait_until(client, "get 1 0 8", held)
+    want(0.5 < 1000 * took / given(program) < 1.5, f"a server that takes no connection is given {took:.2f} s")
 
 
 def show_two_services(program: str) -> None:
     """Two services at one server at the same time: objects of both leave and return."""
     with Server(program) as server:
         far = f"127.0.0.1:{server.port}"
-        services = [Service(program, "--far", far, "--workers", 0, setup=["make 8", f"put 1 0 0{mark}"]) for mark in (1, 2)]
-        clients = [Client(service) for service in services]
+        both = [begun(program, far, "make 8", f"put 1 0 0{mark}") for mark in (1, 2)]
         for _ in range(3):
-            for mark, client in enumerate(clients, 1):
-                there_and_back(client, f"bytes 0{mark}")
-        for mark, (client, service) in enumerate(zip(clients, services), 1):
-            ends(client, service, [object_line(1, bytes([mark, *bytes(7)]))])
+            for mark, (_, client, _) in enumerate(both, 1):
+                client.there_and_back(f"bytes {bytes([mark, *bytes(7)]).hex()}")
+        for mark, (service, client, half) in enumerate(both, 1):
+            ends(client, service, [object_line(1, bytes([mark, *bytes(7)]))], half)
         want_equal(server.end(), (0, b"", b""), "the far server of two services")
 
 

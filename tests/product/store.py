@@ -15,11 +15,10 @@ import socket
 import subprocess
 import sys
 import threading
-import time
 
 sys.path.insert(0, str(pathlib.Path(__file__).resolve().parents[1]))
 from lib.checks import run_parts, want, want_equal
-from lib.programs import SECONDS, Server, ended, has_checks, is_heard, noted, room_for, size_of, unreadable
+from lib.programs import SECONDS, Server, ended, has_checks, is_heard, noted, room_for, size_of, unreadable, until
 from lib.sources import ROOT
 
 sys.path.append(str(ROOT / "python"))
@@ -114,17 +113,6 @@ def is_refused(server: Server) -> bool:
         return True
 
 
-def is_taken(server: Server) -> bool:
-    """Whether a client is served before long."""
-    end = time.monotonic() + SECONDS
-    while time.monotonic() < end:
-        with contextlib.suppress(OSError), server.connect() as stream:
-            if asked(stream, frame(GET, 1)) == frame(REFUSED_ID, 1):
-                return True
-        time.sleep(0.02)
-    return False
-
-
 def show_many(program: str) -> None:
     """64 clients at the same time, each with 1024 parcels of its own; the 65th is refused, until one of them goes; the end cuts all off."""
     server = Server(program)
@@ -140,7 +128,7 @@ def show_many(program: str) -> None:
                 text = parcel(mark, number)
                 want_equal(asked(stream, frame(GET, number), len(text)), frame(DONE, number, text), "the bytes of a client")
         streams[7].close()
-        want(is_taken(server), "no client is served after one has gone")
+        until("no client is served after one has gone", lambda: not is_refused(server), SECONDS, 0.02)
         want_equal(server.end(), ENDS_WELL, "a server with as many clients as there may be")
         want(all(stream.recv(1) == b"" for stream in streams[:7]), "a client that is cut off hears more")
 
@@ -163,10 +151,7 @@ def show_memory(program: str) -> None:
     for clients in (2, 8, 2, 8):
         took = put_much(server, clients) - before
         want(took > MUCH, f"{MUCH} bytes are kept in {took}")
-        end = time.monotonic() + SECONDS
-        while (left := size_of(server.process.pid, "VmRSS") - before) >= LITTLE and time.monotonic() < end:
-            time.sleep(0.02)
-        want(left < LITTLE, f"{left} bytes stay when {clients} clients have gone")
+        until(f"{LITTLE} bytes stay when {clients} clients have gone", lambda: size_of(server.process.pid, "VmRSS") - before < LITTLE, SECONDS, 0.02)
     for _ in range(500):
         want_equal(talk(server, frame(PUT, 1, bytes(LIMIT))), frame(DONE, 1), "one client of many")
     want(size_of(server.process.pid, "VmRSS") - before < LITTLE, "memory grows with the clients that went")
