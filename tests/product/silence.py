@@ -2,12 +2,15 @@
 """Runs `bpfagent serve` over far servers that don't answer: silence.py PROGRAM
 
 A server that connects and then is silent, one that falls silent while it has an object, and one that doesn't take a connection. A move fails when
-`--far-timeout` has passed, later ones fail at once, replies go on meanwhile, and the service ends. Two services at one `bpfagent store`.
+`--far-timeout` has passed, later ones fail at once, replies go on meanwhile, and the service ends. A service that is stopped by a signal
+meanwhile. Two services at one `bpfagent store`.
 """
 from __future__ import annotations
 
 import contextlib
+import os
 import pathlib
+import signal
 import socket
 import sys
 import threading
@@ -20,7 +23,7 @@ from lib.programs import SECONDS, Client, Server, Service, ended, has_checks, ob
 from lib.sources import ROOT
 
 sys.path.append(str(ROOT / "python"))
-from bpfagent.far import DONE, HEAD, PUT
+from bpfagent.far import DONE, GET, HEAD, PUT
 
 # How long the mover may take to come to a request, in seconds.
 BEGINS = 0.5
@@ -135,6 +138,25 @@ def show_end_within_a_move(program: str) -> None:
         ends(client, service, [object_line(1, bytes(8))], half)
 
 
+def show_interrupted(program: str) -> None:
+    """The service is stopped by a signal while a move waits for the far server, and goes on: the move waits on, and so does the next."""
+    with socket.create_server(("127.0.0.1", 0)) as listener:
+        service, client, half = begun(program, f"127.0.0.1:{listener.getsockname()[1]}", "make 8")
+        with listener.accept()[0] as stream:
+            stream.settimeout(half)
+            want_equal(client.ask("leave 1"), "asked 1", "an object that is to leave")
+            kind, number, length = HEAD.unpack(stream.recv(HEAD.size, socket.MSG_WAITALL))
+            want_equal((kind, stream.recv(length)), (PUT, bytes(8)), "a request that waits")
+            for sent in (signal.SIGSTOP, signal.SIGCONT):
+                time.sleep(0.1)
+                os.kill(service.process.pid, sent)
+            time.sleep(0.1)
+            want_equal(client.ask("get 1 0 8"), "away 1", "an object that is on its way")
+            stream.sendall(HEAD.pack(DONE, number, 0))
+            want_equal(HEAD.unpack(stream.recv(HEAD.size, socket.MSG_WAITALL)), (GET, number, 0), "what a service asks for that was stopped meanwhile")
+            ends(client, service, ["object 1 out"], half)
+
+
 def show_unaccepting(program: str) -> None:
     """A server that takes no connection can't be reached, when the time has passed."""
     with unaccepting() as far:
@@ -158,7 +180,7 @@ def show_two_services(program: str) -> None:
         want_equal(server.end(), (0, b"", b""), "the far server of two services")
 
 
-SHOWN = [show_silent_put, show_silent_get, show_end_within_a_move, show_unaccepting, show_two_services]
+SHOWN = [show_silent_put, show_silent_get, show_end_within_a_move, show_interrupted, show_unaccepting, show_two_services]
 
 
 if __name__ == "__main__":

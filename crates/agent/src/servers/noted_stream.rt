@@ -1,12 +1,16 @@
 //! The stream of a far server, whose errors are written down.
 
 use crate::servers::notes::{Note, Notes};
-use std::io::{self, Eprint, ErrorKind, Read, Write};
+use std::io::{self, Eprint, Error, ErrorKind, Read, Write};
 use std::marker::Model;
 use std::net::TcpStream;
 use std::time::Clock;
 
-/// A stream, and where its errors are written down.
+/// How often in a row a call that was interrupted is made again.
+const CALLS: usize = 1000;
+
+/// A stream, and where its errors are written down. A call that is interrupted is made again: a process that is stopped by a signal
+/// and goes on finds its calls with a time-out interrupted, and its stream is well.
 #[derive(Drop)]
 pub(crate) struct NotedStream<R: Copy> {
     stream: TcpStream,
@@ -30,29 +34,37 @@ impl<R: Copy> NotedStream<R> {
 
 impl<R: Clock + Eprint + Copy> Read for NotedStream<R> {
     fn read(&mut self, buf: &mut [u8]) -> io::Result<usize> {
-        match self.stream.read(buf) {
-            Ok(0) if !buf.is_empty() => {
-                self.notes.write(Note::Broken(ErrorKind::UnexpectedEof));
-                Ok(0)
-            }
-            Ok(count) => Ok(count),
-            Err(error) => {
-                self.notes.broken(&error);
-                Err(error)
+        for _ in 0..CALLS {
+            match self.stream.read(buf) {
+                Ok(0) if !buf.is_empty() => {
+                    self.notes.write(Note::Broken(ErrorKind::UnexpectedEof));
+                    return Ok(0);
+                }
+                Ok(count) => return Ok(count),
+                Err(error) if error.kind() == ErrorKind::Interrupted => {}
+                Err(error) => {
+                    self.notes.broken(&error);
+                    return Err(error);
+                }
             }
         }
+        Err(Error::from(ErrorKind::Interrupted))
     }
 }
 
 impl<R: Clock + Eprint + Copy> Write for NotedStream<R> {
     fn write(&mut self, buf: &[u8]) -> io::Result<usize> {
-        match self.stream.write(buf) {
-            Ok(count) => Ok(count),
-            Err(error) => {
-                self.notes.broken(&error);
-                Err(error)
+        for _ in 0..CALLS {
+            match self.stream.write(buf) {
+                Ok(count) => return Ok(count),
+                Err(error) if error.kind() == ErrorKind::Interrupted => {}
+                Err(error) => {
+                    self.notes.broken(&error);
+                    return Err(error);
+                }
             }
         }
+        Err(Error::from(ErrorKind::Interrupted))
     }
 
     // a stream of TCP keeps nothing back
