@@ -1,8 +1,9 @@
 #!/usr/bin/env python3
 """The gate: gate.py RT, or gate.py --quick for what takes seconds.
 
-First the scripts of form/, and whether a crate has changed since its edits in edits/ were tried. Then `rt ci`, with a line on how far it is. Then what
-runs the program as `rt ci` has built it, and beside it the library for C. The last line is that of `rt ci`; whatever else fails is counted in it.
+First the scripts of form/, and whether a crate has changed since its edits in edits/ were tried. Then `rt ci`, with a line on how far it is, and beside
+it the scripts over the program, from when `rt ci` has built that. Then what calls the toolchain or looks at times, and the library for C. The last line is
+that of `rt ci`; whatever else fails is counted in it.
 """
 from __future__ import annotations
 
@@ -14,15 +15,17 @@ import resource
 import subprocess
 import sys
 import time
-from typing import Iterable
+from typing import Callable, Iterable
 
 import edits
 from form import listed
-from lib.calls import ALONE, FORM, LIBRARY, PROVE, Done, call_script, jobs
+from lib.calls import ALONE, EITHER, FORM, LIBRARY, PROVE, Done, call_script, jobs, need_toolchain
 from lib.sources import ROOT, crates
 
 BUILT = ["crates/bpfagent/out/bpfagent", "crates/bpfagent/out/bpfagent.by-rattle"]
 PROVED = re.compile(r"rt: \w+(: its tests are)? proved$")
+# What `rt ci` says once the program is built.
+BUILDS = re.compile(r"rt: bpfagent (proved$|is kept: )")
 LAST = re.compile(r"(\d+) passed, (\d+) failed")
 # What a check may take of memory, in bytes. A check that spreads over several processors takes up to half as much again.
 OF_A_CHECK = 5_000_000_000
@@ -46,13 +49,15 @@ def spent(start: float) -> str:
     return f"{(time.monotonic() - start) / 60:.0f} minutes, {of_processors:.0f} of processor time, on {len(os.sched_getaffinity(0))} processors"
 
 
-def run_ci(rt: str) -> tuple[int, str]:
-    """Passes on what `rt ci` says, but for its last line, and gives its status and that line."""
+def run_ci(rt: str, is_built: Callable[[], object]) -> tuple[int, str]:
+    """Passes on what `rt ci` says, but for its last line, and gives its status and that line. Tells when the program is built."""
     start, proved, tests, last = time.monotonic(), 0, 0, ""
     process = subprocess.Popen([rt, "ci"], cwd=ROOT, env={"RT_JOBS": str(jobs(OF_A_CHECK)), **os.environ}, stdout=subprocess.PIPE, stderr=subprocess.STDOUT, text=True, errors="replace")
     for line in process.stdout:
         if last:
             print(last, flush=True)
+        if BUILDS.match(last):
+            is_built()
         if done := PROVED.match(last):
             tests += bool(done[1])
             proved += not done[1]
@@ -77,18 +82,23 @@ def judged(status: int, last: str) -> tuple[int, int]:
 
 def prove(rt: str, start: float) -> tuple[int, int]:
     """How much passed and failed by `rt ci`, and of the scripts over what is proved."""
-    passed, failed = judged(*run_ci(rt))
-    print(f"gate: rt ci: {spent(start)}", flush=True)
-    if not failed or all((ROOT / program).is_file() for program in BUILT):
-        with concurrent.futures.ThreadPoolExecutor(2) as pool:
-            failed += sum(pool.map(lambda lines: failures_of(lines, rt), (PROVE, LIBRARY)))
-        failed += failures_of(ALONE, rt)
-    return passed, failed
+    with concurrent.futures.ThreadPoolExecutor(2) as pool:
+        beside: list[concurrent.futures.Future[int]] = []
+        passed, failed = judged(*run_ci(rt, lambda: beside.append(pool.submit(failures_of, EITHER, rt))))
+        print(f"gate: rt ci: {spent(start)}", flush=True)
+        if not beside:
+            print("gate: rt ci has built no program", flush=True)
+            return passed, failed + 1
+        failed += sum(ended.result() for ended in beside)
+        failed += sum(pool.map(lambda lines: failures_of(lines, rt), (PROVE, LIBRARY)))
+    return passed, failed + failures_of(ALONE, rt)
 
 
-if __name__ == "__main__":
+def main() -> None:
     if not sys.argv[1:]:
         sys.exit(__doc__)
+    if "--quick" not in sys.argv:
+        need_toolchain(sys.argv[1])
     start = time.monotonic()
     failed = failures_of(FORM)
     failed += edits.say_changed() > 0
@@ -99,3 +109,7 @@ if __name__ == "__main__":
     print(f"gate: {spent(start)}", flush=True)
     print(f"{passed} passed, {failed} failed", flush=True)
     sys.exit(1 if failed else 0)
+
+
+if __name__ == "__main__":
+    main()

@@ -15,7 +15,7 @@ import sys
 import time
 from typing import Callable
 
-from lib.calls import ALONE, FORM, TEST, Done, call, call_script, jobs
+from lib.calls import ALONE, FORM, TEST, Done, call, call_script, jobs, need_toolchain
 from lib.sources import ROOT, crates, has_tests
 
 Call = Callable[[], Done]
@@ -68,6 +68,7 @@ def main() -> None:
     if len(sys.argv) != 2:
         sys.exit(__doc__)
     rt, start = sys.argv[1], time.monotonic()
+    need_toolchain(rt)
 
     def scripts(lines: list[str]) -> list[Call]:
         return [lambda line=line: call_script(line, rt, PROGRAM, SECONDS) for line in lines]

@@ -7,6 +7,7 @@ from __future__ import annotations
 
 import os
 import pathlib
+import shutil
 import subprocess
 import sys
 import time
@@ -16,7 +17,8 @@ from lib.sources import ROOT
 
 FORM = [f"tests/form/{name}.py" for name in ("protocol", "definitions", "generated", "failures", "documents", "kinds", "listed", "planted")]
 
-# What both targets run, one by one.
+# What both targets run, one by one; `make prove` from when `rt ci` has built the program, beside what it still does. So none of them calls the
+# toolchain.
 EITHER = [
     "tests/product/python_package.py PROGRAM",
     "tests/product/program.py BOTH",
@@ -28,9 +30,8 @@ EITHER = [
 ]
 # Beside the tests of crates.
 TEST = [*EITHER, "tests/product/sweep.py PROGRAM --thin"]
-# Beside those of LIBRARY.
+# After `rt ci`, beside those of LIBRARY.
 PROVE = [
-    *EITHER,
     "tests/form/generated.py --vectors",
     "tests/product/sweep.py PROGRAM",
     "tests/product/refusals.py RT",
@@ -61,6 +62,12 @@ class Done:
     failed: int
     output: str
     seconds: float
+
+
+def need_toolchain(rt: str) -> None:
+    """Ends the script with a line that says so where the toolchain's command isn't there."""
+    if not shutil.which(rt):
+        sys.exit(f"{rt} can't be run: it belongs to the Rattle toolchain, see 'What it needs' in README.md")
 
 
 def jobs(memory: int) -> int:

@@ -7,6 +7,7 @@ examples/ over pipes, line by line, so that a program that waits for more is fou
 from __future__ import annotations
 
 import concurrent.futures
+import contextlib
 import itertools
 import os
 import pathlib
@@ -14,6 +15,7 @@ import re
 import resource
 import shlex
 import shutil
+import socket
 import struct
 import subprocess
 import sys
@@ -163,6 +165,27 @@ def show_faults(program: str) -> None:
             want_ended(program, arguments, given, 3, b"", b"write fault\n", stdout=full)
 
 
+# What a shell does with the standard streams of a server, and how that ends.
+CLOSED = {"<&-": (3, b"", b"read fault\n"), ">&-": (3, b"", b"write fault\n"), "-v >&- 2>&-": (3, b"", b""), "-v 2>&- </": (3, b"", b"")}
+
+
+def show_closed(program: str) -> None:
+    """No socket takes the place of a standard stream that is closed: the far server is neither heard nor told anything."""
+    for closing, wanted in CLOSED.items():
+        with socket.create_server(("127.0.0.1", 0)) as listener, concurrent.futures.ThreadPoolExecutor(1) as pool:
+            listener.settimeout(seconds(program))
+            line = f'exec "$0" serve --far 127.0.0.1:{listener.getsockname()[1]} {closing}'
+            ends = pool.submit(ended, "sh", "-c", line, program, given=b"make 8\n", seconds=seconds(program))
+            told = b""
+            # a stream whose bytes weren't read is reset at its end
+            with contextlib.suppress(ConnectionResetError), listener.accept()[0] as stream:
+                stream.settimeout(seconds(program))
+                stream.sendall(b"make 8\n")
+                while more := stream.recv(4096):
+                    told += more
+            want_equal((told, ends.result()), (b"", wanted), line)
+
+
 def show_offsets(program: str) -> None:
     """Where the input stands after a write fault at the first reply: fewer than 4096 bytes after its line are read, and lost."""
     with tempfile.TemporaryFile() as given, open("/dev/full", "wb") as full:
@@ -284,4 +307,4 @@ def show_documents(program: str) -> str:
 
 
 if __name__ == "__main__":
-    run_parts("program", [show_statuses, show_version, show_help_examples, show_faults, show_offsets, show_no_memory, show_wrong_fields, show_examples, show_documents])
+    run_parts("program", [show_statuses, show_version, show_help_examples, show_faults, show_closed, show_offsets, show_no_memory, show_wrong_fields, show_examples, show_documents])
