@@ -1,7 +1,8 @@
 #!/usr/bin/env python3
 """Time of `asm` and `dis` on a text of 4096 slots with 1,000 labels, beside a quarter of it: assembly.py PROGRAM
 
-The time of an empty text is taken off. That it grows linearly shows in the time of a line, and in its machine instructions.
+The time of the least input is taken off: of an empty text, and of code that is one EXIT. That the time grows linearly shows in that
+of a line, and in its machine instructions.
 """
 from __future__ import annotations
 
@@ -13,6 +14,7 @@ from rows import words
 
 RUNS = 7
 SIZES = ((1024, 250), (4096, 1000))
+EXIT = bytes.fromhex("9500000000000000")
 
 
 def text(slots: int, labels: int) -> bytes:
@@ -36,21 +38,21 @@ def timed(arguments: list[str], data: bytes) -> tuple[float, bytes]:
     return best, output
 
 
-def of_a_line(arguments: list[str], data: bytes, slots: int) -> float:
+def of_a_line(arguments: list[str], data: bytes, least: bytes, slots: int) -> float:
     """Machine instructions of a line."""
-    return (counted(arguments, data)[0] - counted(arguments, b"")[0]) / slots
+    return (counted(arguments, data)[0] - counted(arguments, least)[0]) / slots
 
 
 def main() -> None:
     (program,) = words("assembly.py PROGRAM", 1, 1)
     texts = [text(*size) for size in SIZES]
     codes = [timed([program, "asm"], source)[1] for source in texts]
-    for command, inputs in (("asm", texts), ("dis", codes)):
-        empty, _ = timed([program, command], b"")
-        few, many = (1e9 * (timed([program, command], data)[0] - empty) / slots for data, (slots, _) in zip(inputs, SIZES))
+    for command, inputs, least in (("asm", texts, b""), ("dis", codes, EXIT)):
+        shortest, _ = timed([program, command], least)
+        few, many = (1e9 * (timed([program, command], data)[0] - shortest) / slots for data, (slots, _) in zip(inputs, SIZES))
         line = f"{command}, 1024 and 4096 slots    {many:6.0f} beside {few:6.0f} ns a line, ratio {many / few:.2f}"
         if can_count():
-            one, other = (of_a_line([program, command], data, slots) for data, (slots, _) in zip(inputs, SIZES))
+            one, other = (of_a_line([program, command], data, least, slots) for data, (slots, _) in zip(inputs, SIZES))
             line += f"; {other:.0f} beside {one:.0f} machine instructions"
         print(line, flush=True)
 
