@@ -14,7 +14,7 @@ from typing import Collection, Iterator, Sequence, Tuple
 
 sys.path.insert(0, str(pathlib.Path(__file__).resolve().parents[1]))
 from lib.checks import report
-from lib.sources import ROOT, blanked, block, crates, functions
+from lib.sources import ROOT, blanked, block, crates, function_places
 
 # A definition: its crate, its file of specs/ and its name.
 Place = Tuple[str, str, str]
@@ -88,7 +88,7 @@ PUBLIC = r"(?m)^pub (?:const )?fn (\w+)"
 
 def clauses_in(text: str, begin: str, names: Collection[str] | None = None) -> list[str]:
     """The clauses of the functions that begin so, of all or of these names."""
-    return [clause for name, clauses, _ in functions(text, begin) if names is None or name in names for clause in clauses]
+    return [clause for name, clauses, _, _ in function_places(text, begin) if names is None or name in names for clause in clauses]
 
 
 IMPL = re.compile(r"(?m)^(?:pub trait (\w+)|impl\b(?:<[^{]*?>)? (?:([\w:]+)(?:<[^{]*?>)? for )?(\w+))[^{;]*")

@@ -9,8 +9,8 @@ from typing import List, Tuple
 Talk = List[Tuple[str, str]]
 
 
-def conversations(text: str) -> list[tuple[list[str], Talk]]:
-    """For each agent that a script talks to the arguments of `run`, and the commands with their replies."""
+def talks_of(text: str) -> list[tuple[list[str], Talk]]:
+    """The words behind each `---`, which may be none before the first, and the commands with their replies."""
     talks, command = [([], [])], None
     for number, line in enumerate(text.splitlines(), 1):
         if line.startswith("= "):
@@ -27,4 +27,9 @@ def conversations(text: str) -> list[tuple[list[str], Talk]]:
             command = line
     if command is not None:
         raise ValueError(f"no reply to {command[:60]} at the end")
-    return [(arguments, talk) for arguments, talk in talks if talk]
+    return talks
+
+
+def conversations(text: str) -> list[tuple[list[str], Talk]]:
+    """For each agent that a script talks to the arguments of `run`, and the commands with their replies."""
+    return [(arguments, talk) for arguments, talk in talks_of(text) if talk]

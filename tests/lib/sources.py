@@ -108,9 +108,3 @@ def function_places(text: str, begin: str = r"\bfn (\w+)") -> Iterator[tuple[str
                 break
             clauses.append(text[here:end])
             at = end
-
-
-def functions(text: str, begin: str = r"\bfn (\w+)") -> Iterator[tuple[str, list[str], str]]:
-    """Each function of a blanked text: its name, its clauses and its body, which is empty where there is none."""
-    for name, clauses, here, end in function_places(text, begin):
-        yield name, clauses, text[here:end]

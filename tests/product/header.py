@@ -50,9 +50,6 @@ SHARED = {"code_of_reply Misplaced", "code_of_reply Faulted", "code_of_reply _",
 Signature = tuple[str, list[str]]
 
 
-# ---- functions and structs
-
-
 def passed(kind: str) -> list[str]:
     """The types of C in which a parameter of this type is passed."""
     slice_of = re.fullmatch(r"&(mut )?\[(\w+)\]", kind)
@@ -104,14 +101,11 @@ def show_functions() -> str:
     return f"{len(ours)} exports"
 
 
-# ---- numbers
-
-
 def arms(text: str) -> dict[str, int]:
     """The number of each arm of each function, and of each variant of Code."""
     variants = re.search(r"(?s)enum Code \{(.*?)\n\}", text)[1]
     numbers = {f"Code {name}": int(number) for name, number in re.findall(r"(\w+) = (\d+),", variants)}
-    for name, body in re.findall(r"(?s)fn (\w+)\([^)]*\)[^{]*(?:ensures[^\n]*\n)*\{(.*?)\n\s*\}\n\}", text):
+    for name, body in re.findall(r"(?s)fn (\w+)\([^)]*\)[^{]*(?:ensures[^\n]*\n)*\{(.*?)\n\}", text):
         for arm, variant, number in re.findall(r"(?:\w+::)?(\w+)(?: \{ \.\. \}|\(\w+\))? => (?:Code::(\w+) as u32|(\d+)),", body):
             numbers[f"{name} {arm}"] = int(number) if number else numbers[f"Code {variant}"]
     return numbers
@@ -148,8 +142,6 @@ def show_version() -> None:
     want_equal(re.search(r'(?m)^__version__ = "([\d.]+)"', (ROOT / "python/bpfagent/__init__.py").read_text())[1], text, "the version of the Python package")
 
 
-# ---- answers
-
 MISUSE, FAILING = ((ROOT / f"examples/embed/{name}.c").read_text() for name in ("misuse", "failing"))
 # A call in C with what it is to answer; its arguments may have calls of one level.
 ANSWERED = re.compile(r"bpfagent_(\w+)\((?:[^();]|\([^()]*\))*\), BPFAGENT_(\w+)")
@@ -179,8 +171,6 @@ def show_answers() -> str:
     want_equal(sorted(set(re.findall(r"QUIET\(bpfagent_(\w+)\(", FAILING))), sorted(table.keys() - taking), "those that take none")
     return f"{sum(map(len, table.values()))} answers"
 
-
-# ---- compilers
 
 ALONE = """#include "bpfagent.h"
 int main(void)

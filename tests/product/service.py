@@ -23,7 +23,7 @@ from typing import Any, Callable
 sys.path.insert(0, str(pathlib.Path(__file__).resolve().parents[1]))
 from lib.checks import Failed, run_parts, want, want_equal
 from lib.programs import LONG, SECONDS, Client, Server, Service, ended, free_port, is_heard, object_line, opened, room_for, unreadable, until
-from lib.scripts import Talk
+from lib.scripts import Talk, talks_of
 from lib.sources import ROOT
 
 # how often an object is seen to have left while machines use it
@@ -132,19 +132,11 @@ def paused(client: Client, machine: int, slot: int) -> list[str]:
 def parts(text: str) -> tuple[list[str], list[tuple[str, Talk]], list[str]]:
     """Of an example the arguments, for the input and each client the commands with their replies, in order, and the lines of what
     is left."""
-    arguments, talks, command, left = [], [("setup", [])], None, []
-    for line in text.splitlines():
-        if line.startswith("--- --"):
-            arguments = line.split()[1:]
-        elif line.startswith("--- "):
-            talks.append((line[4:], []))
-        elif line.startswith("> "):
-            talks[-1][1].append((command, line[2:]))
-        elif line.startswith("= "):
-            left.append(line[2:])
-        elif line and not line.startswith("#"):
-            command = line
-    return arguments, talks, left
+    talks = talks_of(text)
+    arguments = [word for words, _ in talks if words and words[0].startswith("--") for word in words]
+    setup = [told for words, talk in talks if not words or words[0] in arguments for told in talk]
+    clients = [(words[0], talk) for words, talk in talks if words and words[0] not in arguments]
+    return arguments, [("setup", setup), *clients], [line[2:] for line in text.splitlines() if line.startswith("= ")]
 
 
 def talked(program: str, arguments: list[str], talks: list[tuple[str, Talk]], where: str) -> Service:

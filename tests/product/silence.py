@@ -13,17 +13,13 @@ import pathlib
 import signal
 import socket
 import sys
-import threading
 import time
 from typing import Iterator
 
 sys.path.insert(0, str(pathlib.Path(__file__).resolve().parents[1]))
 from lib.checks import run_parts, want, want_equal
-from lib.programs import SECONDS, Client, Server, Service, ended, has_checks, object_line
-from lib.sources import ROOT
-
-sys.path.append(str(ROOT / "python"))
-from bpfagent.far import DONE, GET, HEAD, PUT
+from lib.far import DONE, GET, HEAD, PUT, Far
+from lib.programs import Client, Server, Service, ended, has_checks, object_line
 
 # How long the mover may take to come to a request, in seconds.
 BEGINS = 0.5
@@ -36,45 +32,13 @@ def given(program: str) -> int:
     return 8000 if has_checks(program) else 3000
 
 
-def begun(program: str, far: str, *setup: str) -> tuple[Service, Client, float]:
-    """A service over a far server, a client of it, and how long a reply may take, in seconds."""
+def begun(program: str, far: int, *setup: str) -> tuple[Service, Client, float]:
+    """A service over the far server at a port, a client of it, and how long a reply may take, in seconds."""
     millis = given(program)
-    service = Service(program, "--far", far, "--far-timeout", millis, "--workers", 1, setup=setup)
+    service = Service(program, "--far", f"127.0.0.1:{far}", "--far-timeout", millis, "--workers", 1, setup=setup)
     client = Client(service)
     client.stream.settimeout(millis / 2000)
     return service, client, millis / 2000
-
-
-def fall_silent(stream: socket.socket, answered: int) -> None:
-    """Answers so many requests of a client, each a put, and then reads all that comes and says nothing."""
-    with contextlib.suppress(OSError), stream, stream.makefile("rb") as requests:
-        for _ in range(answered):
-            head = requests.read(HEAD.size)
-            if len(head) < HEAD.size:
-                return
-            kind, number, length = HEAD.unpack(head)
-            requests.read(length)
-            want_equal(kind, PUT, "a request before the silence")
-            stream.sendall(HEAD.pack(DONE, number, 0))
-        requests.read()
-
-
-@contextlib.contextmanager
-def silent(answered: int = 0) -> Iterator[str]:
-    """The address of a far server that answers so many puts of its one client, and then is silent."""
-    with socket.create_server(("127.0.0.1", 0)) as listener:
-        listener.settimeout(SECONDS)
-
-        def take() -> None:
-            with contextlib.suppress(OSError):
-                stream, _ = listener.accept()
-                fall_silent(stream, answered)
-
-        server = threading.Thread(target=take, daemon=True)
-        server.start()
-        yield f"127.0.0.1:{listener.getsockname()[1]}"
-        server.join(SECONDS)
-        want(not server.is_alive(), "the service keeps its stream to the far server")
 
 
 @contextlib.contextmanager
@@ -103,8 +67,8 @@ def ends(client: Client, service: Service, lines: list[str], seconds: float) -> 
 
 def show_silent_put(program: str) -> None:
     """A server that never answers: the object stays here when the time has passed, and the next one at once."""
-    with silent() as far:
-        service, client, half = begun(program, far, "make 8", "put 1 0 2a", "make 8")
+    with Far(0) as far:
+        service, client, half = begun(program, far.port, "make 8", "put 1 0 2a", "make 8")
         start = time.monotonic()
         client.until_away(1)
         client.ask_until("get 1 0 8", "bytes 2a", pause=0.005)
@@ -119,8 +83,8 @@ def show_silent_put(program: str) -> None:
 
 def show_silent_get(program: str) -> None:
     """A server that keeps two objects and then is silent: they stay far, and what is here is answered as ever."""
-    with silent(2) as far:
-        service, client, half = begun(program, far, "make 8", "make 8", "make 8", "put 3 0 2a")
+    with Far(2) as far:
+        service, client, half = begun(program, far.port, "make 8", "make 8", "make 8", "put 3 0 2a")
         want_equal(client.ask_at_once(["leave 1", "leave 2"]), ["asked 1", "asked 2"], "objects that are to leave")
         client.until_away(2)
         start = time.monotonic()
@@ -132,8 +96,8 @@ def show_silent_get(program: str) -> None:
 
 def show_end_within_a_move(program: str) -> None:
     """The last client goes while a move waits for a silent server."""
-    with silent() as far:
-        service, client, half = begun(program, far, "make 8")
+    with Far(0) as far:
+        service, client, half = begun(program, far.port, "make 8")
         client.until_away(1)
         ends(client, service, [object_line(1, bytes(8))], half)
 
@@ -141,7 +105,7 @@ def show_end_within_a_move(program: str) -> None:
 def show_interrupted(program: str) -> None:
     """The service is stopped by a signal while a move waits for the far server, and goes on: the move waits on, and so does the next."""
     with socket.create_server(("127.0.0.1", 0)) as listener:
-        service, client, half = begun(program, f"127.0.0.1:{listener.getsockname()[1]}", "make 8")
+        service, client, half = begun(program, listener.getsockname()[1], "make 8")
         with listener.accept()[0] as stream:
             stream.settimeout(half)
             want_equal(client.ask("leave 1"), "asked 1", "an object that is to leave")
@@ -170,8 +134,7 @@ def show_unaccepting(program: str) -> None:
 def show_two_services(program: str) -> None:
     """Two services at one server at the same time: objects of both leave and return."""
     with Server(program) as server:
-        far = f"127.0.0.1:{server.port}"
-        both = [begun(program, far, "make 8", f"put 1 0 0{mark}") for mark in (1, 2)]
+        both = [begun(program, server.port, "make 8", f"put 1 0 0{mark}") for mark in (1, 2)]
         for _ in range(3):
             for mark, (_, client, _) in enumerate(both, 1):
                 client.there_and_back(f"bytes {bytes([mark, *bytes(7)]).hex()}")

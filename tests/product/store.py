@@ -18,11 +18,8 @@ import threading
 
 sys.path.insert(0, str(pathlib.Path(__file__).resolve().parents[1]))
 from lib.checks import run_parts, want, want_equal
+from lib.far import DONE, FORGET, GET, HEAD, LIMIT, NO_ROOM, PUT, REFUSED_ID
 from lib.programs import SECONDS, Server, ended, has_checks, is_heard, noted, room_for, size_of, unreadable, until
-from lib.sources import ROOT
-
-sys.path.append(str(ROOT / "python"))
-from bpfagent.far import DONE, FORGET, GET, HEAD, LIMIT, NO_ROOM, PUT, REFUSED_ID
 
 KEPT = 1024
 CLIENTS = 64

@@ -62,9 +62,6 @@ def near(power: int) -> tuple[int, int, int]:
     return (2**power - 1, 2**power, 2**power + 1)
 
 
-# ---- code
-
-
 def check_counts(counts: list[int]) -> None:
     """Valid code of so many slots."""
     for n in counts:
@@ -96,9 +93,6 @@ def ship_bytes(lengths: list[int]) -> None:
     longest = (EXIT * (SLOTS + 2)).hex()
     talk = [(f"ship 1 0 0 0 0 0 {longest[: 2 * n]}", f"refused {n // 8} Short" if n <= 8 * SLOTS else "refused 0 TooLong") for n in lengths]
     want_replies(talk, f"ship of {lengths[0]} to {lengths[-1]} bytes")
-
-
-# ---- assembly
 
 
 def asm_lines(lines: list[int]) -> None:
@@ -138,9 +132,6 @@ def asm_offsets(powers: list[int]) -> None:
         if -(2**15) <= z < 2**15:
             code = b"\x05\0" + (z & 0xFFFF).to_bytes(2, "little") + bytes(4)
             want(call(["asm"], b"ja %+d\n" % z), (0, code, b""), f"ja {z:+}")
-
-
-# ---- commands
 
 
 def bytes_of(n: int) -> bytes:
@@ -212,9 +203,6 @@ def reads(sizes: list[int]) -> None:
         for n in sizes:
             want(it.answer(b"x" * (n - 1) + b"\n"), b"bad\n", f"a read of {n} bytes")
         want(it.end(), (0, b"", b""), "the end after reads of every size")
-
-
-# ---- time and memory
 
 
 def long_line() -> None:

@@ -10,35 +10,25 @@ with new services, since one may stay slower than another by how its memory happ
 """
 from __future__ import annotations
 
-import contextlib
 import os
 import pathlib
-import socket
 import statistics
 import subprocess
 import sys
-import threading
 import time
 from concurrent.futures import ThreadPoolExecutor
 from typing import Callable, NamedTuple
 
 sys.path.insert(0, str(pathlib.Path(__file__).resolve().parents[1]))
 from lib.checks import Failed, run_parts, want
+from lib.far import NEVER, Far
 from lib.programs import Client, Server, Service, has_checks, is_heard, until
-from lib.sources import ROOT
-
-sys.path.append(str(ROOT / "python"))
-from bpfagent.far import DONE, FORGET, GET, HEAD, PUT
 
 TRIES = 6
 # in how many turns processor time is measured
 TURNS = 4
 # of how many machines it is seen how far they have run
 LOOKED = 8
-# how long a command may take that is never answered, in seconds
-NEVER = 30
-# how long a slow store takes, in seconds, so that machines still wait when replies are measured
-SLOW = 3.0
 # what the far store is given, in milliseconds: a service that doesn't cut off a move at its end never ends
 GIVEN = 600_000
 # how many requests a store that fails gets in any second, for many objects, and for one, which is asked for after 10, 20, 40 .. milliseconds
@@ -47,7 +37,6 @@ REQUESTS, REQUESTS_OF_ONE = 20, 8
 SWITCHES = 5
 # how many other objects are asked to leave, and more requests than the mover's queue takes
 OTHERS, REPEATS = 10, 100
-REFUSED = 1
 FUEL = 1 << 60
 EXIT = "9500000000000000"
 # how long a store that gives nothing back is looked at, in seconds, and for how many objects it is asked
@@ -82,61 +71,6 @@ class Bounds(NamedTuple):
 def bounds(program: str) -> Bounds:
     """A program with run-time checks is slower."""
     return Bounds(1.0, 0.05, 10.0, 0.1, 0.5, 25, 25) if has_checks(program) else Bounds(0.2, 0.005, 1.0, 0.02, 0.1, 1, 30)
-
-
-class Far:
-    """A far store for one client, which notes when it is asked for what. From now on it answers in the way of `manner`."""
-
-    def __init__(self) -> None:
-        self.manner = "well"
-        self.asked: list[float] = []
-        self.gets: list[float] = []
-        self.kept: dict[int, bytes] = {}
-        self.listener = socket.create_server(("127.0.0.1", 0))
-        self.port: int = self.listener.getsockname()[1]
-        self.over = threading.Event()
-        self.thread = threading.Thread(target=self.serve, daemon=True)
-        self.thread.start()
-
-    def __enter__(self) -> Far:
-        return self
-
-    def __exit__(self, *_: object) -> None:
-        self.over.set()
-        # a call that accepts isn't ended by `close`
-        self.listener.shutdown(socket.SHUT_RDWR)
-        self.thread.join(NEVER)
-        self.listener.close()
-
-    def serve(self) -> None:
-        with contextlib.suppress(OSError), self.listener.accept()[0] as stream:
-            while head := stream.recv(HEAD.size, socket.MSG_WAITALL):
-                kind, number, length = HEAD.unpack(head)
-                held = stream.recv(length, socket.MSG_WAITALL) if length else b""
-                self.asked.append(time.monotonic())
-                self.gets += self.asked[-1:] if kind == GET else []
-                if self.manner == "cut" or (answer := self.answer(kind, number, held)) is None:
-                    return
-                stream.sendall(answer)
-
-    def answer(self, kind: int, number: int, held: bytes) -> bytes | None:
-        """The answer to a request, or none if the connection ends without one."""
-        if self.manner == "silent":
-            self.over.wait()
-            return None
-        if self.manner == "slow" and self.over.wait(SLOW):
-            return None
-        if self.manner == "refusing" or self.manner == "keeping" and kind == GET:
-            return HEAD.pack(REFUSED, number, 0)
-        found = self.kept.get(number, b"")
-        if kind == PUT:
-            self.kept[number] = held
-        if kind == FORGET:
-            self.kept.pop(number, None)
-        if kind != GET:
-            return HEAD.pack(DONE, number, 0)
-        told = bytes(byte ^ 1 for byte in found) if self.manner == "lying" else found
-        return HEAD.pack(DONE, number, len(told)) + told
 
 
 class Killed(Server):

@@ -17,7 +17,7 @@ use Rattle.agent.specs.RunLeaves.{RunLeaves}
 use Rattle.agent.specs.declared.failure.ExitStatus.{ExitStatus}
 use Rattle.agent.specs.declared.failure.ExitStatus.TheVariants as status
 use Rattle.agent.specs.declared.servers.serving.ServeFault.{ServeFault}
-use Rattle.agent.specs.declared.servers.serving.ServeFault.TheVariants.{Address, Far, Setup, Bind, Listen}
+use Rattle.agent.specs.declared.servers.serving.ServeFault.TheVariants.{Address, Unreachable, Setup, Bind, Listen}
 
 -- ---- what is said at the end
 
@@ -31,7 +31,7 @@ listen_text listen.Write = codes "write fault"
 -- the same of all that may go wrong
 abbrev pub serve_text : ServeFault → List ℕ
 serve_text Address = codes "error: --far takes an IP address and a port"
-serve_text Far = codes "far server can't be reached"
+serve_text Unreachable = codes "far server can't be reached"
 serve_text (Setup failure) = failure_text failure
 serve_text Bind = listen_text listen.Net
 serve_text (Listen fault) = listen_text fault
@@ -39,7 +39,7 @@ serve_text (Listen fault) = listen_text fault
 -- the status: an object that isn't here is an input that is refused
 abbrev pub serve_status : ServeFault → ExitStatus
 serve_status Address = status.InvalidArguments
-serve_status Far = status.Failed
+serve_status Unreachable = status.Failed
 serve_status (Setup failure) = status_of failure
 serve_status Bind = status.Failed
 serve_status (Listen (listen.NotHere n)) = status.Refused
@@ -67,7 +67,7 @@ ListensFrom X returns world before after ended = SaysAs (TellsClosingOf X return
 -- that they left, what the service says over such a far store. A port that can't be had comes before objects that aren't here.
 abbrev pub ServesOver : Type 0 → Bool → ℕ → List ℕ → Option (List ℕ) → Option (List ℕ) → Option (List ℕ) → Result ⊤ ServeFault → Type 0
 ServesOver X returns budget input before after unread (Err Address) = ⊥
-ServesOver X returns budget input before after unread (Err Far) = ⊥
+ServesOver X returns budget input before after unread (Err Unreachable) = ⊥
 ServesOver X returns budget input before after unread (Err (Setup failure)) = RunLeaves budget input before after unread (Err failure)
 ServesOver X returns budget input before after unread (Err Bind) = (world : WorldState) × SetsUp budget input before after world
 ServesOver X returns budget input before after unread (Err (Listen fault)) = (world : WorldState) × (mid : Option (List ℕ)) × SetsUp budget input before mid world × ListensFrom X returns world mid after (Err fault)
@@ -80,7 +80,7 @@ IsAddress far = (address : SocketAddr) × IsSocketText far address
 -- Why a far server isn't connected to: this text isn't its address, or it is, and the server can't be reached.
 abbrev pub Unconnected : List ℕ → ServeFault → Type 0
 Unconnected far Address = (address : SocketAddr) → ¬ (IsSocketText far address)
-Unconnected far Far = IsAddress far
+Unconnected far Unreachable = IsAddress far
 Unconnected far (Setup failure) = ⊥
 Unconnected far Bind = ⊥
 Unconnected far (Listen fault) = ⊥

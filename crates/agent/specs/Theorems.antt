@@ -184,17 +184,17 @@ pub record IsClosingOf (X : Type 0) (returns : Bool) (world : WorldState) (text 
   pub table : TableId
   pub mover : MoverState X
   pub connections : List ActorSeat
-  pub closed : ClosedState X
-  pub tells : text ≡ closed_line ++ closing_lines closed
+  pub state : ClosedState X
+  pub tells : text ≡ closed_line ++ closing_lines state
   -- Each object closes by the list, and each seat's entries are its actor's share of the list.
-  pub settles : Settles returns table (opened_bytes world) (machines_of world.machines) mover connections closed
+  pub settles : Settles returns table (opened_bytes world) (machines_of world.machines) mover connections state
   -- The list is that of all entries by stamp, then actor.
   pub list : settles.list.one ≡ sorted (all_entries (parts_of settles.seats connections))
   -- Where the far store returns what was put, it is legal, and run from the opening bytes it gives each answer and the closing bytes.
   pub legal : returns ≡ true → Legal (opened_bytes world) settles.list.one
   pub runs : returns ≡ true → ListRuns (opened_bytes world) settles.list.one settles.ends
   -- Each machine is the replay of its share.
-  pub machines : (c : ClosedCell) (r : RunningState) → Has closed.cells c → c.running ≡ Some r
+  pub machines : (c : ClosedCell) (r : RunningState) → Has state.cells c → c.running ≡ Some r
       → ReplaysShare (opened_bytes world) (machines_of world.machines) (parts_of settles.seats connections) settles.list.one c.number r
 
 -- the far store: the agent's own, or a server's client

@@ -1,5 +1,4 @@
 pub mod Back
-pub mod Encoded
 pub mod Granting
 pub mod HeldValues
 pub mod Reading

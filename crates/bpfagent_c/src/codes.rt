@@ -4,7 +4,7 @@ ghost use Rattle.object_store.specs.declared.errors.GetError.{GetError};
 ghost use Rattle.world.specs.Answers.{refused_get, reply_to_move};
 ghost use Rattle.world.specs.Machines.{refused_stack};
 ghost use Rattle.world.specs.declared.replies.Reply.{Reply};
-ghost use Rattle.bpfagent_c.specs.Codes.{code_of, code_of_back, code_of_end, code_of_lost, code_of_fault, code_of_place, code_of_reply, code_of_state, code_of_step, code_of_stop, code_of_text, code_of_why, number_of_place, place_numbered, stop_of_state, value_of_stop};
+ghost use Rattle.bpfagent_c.specs.Codes.{code_of, code_of_back, code_of_end, code_of_fault, code_of_place, code_of_reply, code_of_state, code_of_step, code_of_stop, code_of_text, code_of_why, number_of_place, place_numbered, stop_of_state, value_of_stop};
 
 use asm_grammar::Why as WrongText;
 use debugger::{State, StepReply};
@@ -211,28 +211,14 @@ pub(crate) fn code_of_moved(moved: Moved, back: Place) -> u32
     }
 }
 
-/// The number of a fault for which bytes didn't come back.
-fn code_of_lost(fault: StoreFault) -> u32
-    ensures { result ≡ code_of_lost fault }
-{
-    match fault {
-        StoreFault::Damaged => Code::Damaged as u32,
-        _ => code_of_fault(Place::Far),
-    }
-}
-
-/// The number of what was answered where bytes came back.
+/// The number of what was answered where bytes came back. Bytes that are others have a number of their own.
 pub(crate) fn code_of_back(moved: Moved) -> u32
     ensures { (n : ℕ) → result ≡ code_of_back n moved }
 {
-    match moved {
-        Moved::Done => Code::Done as u32,
-        Moved::NoObject => Code::Missing as u32,
-        Moved::Misplaced(place) => code_of_place(place),
-        Moved::Scoped => Code::Scoped as u32,
-        Moved::NoRoom => Code::NoRoom as u32,
-        Moved::Fault(fault) => code_of_lost(fault),
+    if moved == Moved::Fault(StoreFault::Damaged) {
+        return Code::Damaged as u32;
     }
+    code_of_moved(moved, Place::Far)
 }
 
 /// The number of a place.

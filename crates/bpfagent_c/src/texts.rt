@@ -1,9 +1,7 @@
 //! Code is checked, assembled and shown, without an agent.
-ghost use Rattle.std.specs.Prelude.{◌≡◌, ◌++◌, Option, Result, List, ℕ, Ok, Err, OnOk, IfOk, IfErr};
+ghost use Rattle.std.specs.Prelude.{◌≡◌, Option, Result, List, ℕ, Ok, Err, IfOk, IfErr};
 ghost use Rattle.asm_grammar.specs.Reasons.{why_number};
 ghost use Rattle.assembler.specs.declared.error.AsmError.{AsmError};
-ghost use Rattle.bpf_codec.specs.Slots.{encoding};
-ghost use Rattle.loader.specs.Instructions.{encodings};
 ghost use Rattle.loader.specs.declared.loading.LoadError.{LoadError};
 ghost use Rattle.bpfagent_c.specs.declared.texts.LineError.{LineError};
 ghost use Rattle.bpfagent_c.specs.Codes.{code_of_text};
@@ -13,11 +11,9 @@ use crate::codes::{Code, code_of_text, code_of_why};
 use crate::shown::{Refusal, write_bytes};
 use asm_grammar::Why as WrongText;
 use assembler::{AsmError, assemble_bytes};
-use bpf_codec::encode;
 use disassembler::line;
-use isa_table::Instr;
-use loader::{LoadError, Why, load};
-use std::alloc::{AllocError, Global};
+use loader::{LoadError, Why, encode_all, load};
+use std::alloc::Global;
 
 /// Why a text isn't assembly.
 #[repr(C)]
@@ -78,25 +74,6 @@ pub extern "C" fn bpfagent_check(alloc: Global, code: &[u8], refusal: &mut Refus
 }
 
 // ---- assembly
-
-/// Adds the encoding of an instruction.
-fn put_encoding(code: &mut Vec<u8>, i: &Instr) -> Result<(), AllocError>
-    ensures { OnOk result (code.new.items ≡ code.old.items ++ encoding i.now) }
-{
-    let (bytes, slots) = encode(i);
-    code.extend_from_slice(&bytes[..8 * slots])
-}
-
-/// The encodings of the instructions, one after the other.
-fn encode_all(alloc: Global, instrs: &[Instr]) -> Result<Vec<u8>, AllocError>
-    ensures { IfOk result (λ code. code.items ≡ encodings instrs.now) }
-{
-    let mut code = Vec::new(alloc);
-    for i in instrs {
-        put_encoding(&mut code, i)?;
-    }
-    Ok(code)
-}
 
 /// The code that a text spells.
 fn assembled(alloc: Global, text: &[u8]) -> Result<Vec<u8>, AsmError>

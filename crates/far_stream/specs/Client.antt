@@ -44,8 +44,8 @@ Talks {S} remaining contents old request heard failed new =
     ⊎ (failed × AppendsPart (contents old) (contents new) request)
 
 -- On a stream that is broken a call answers what broke it, and nothing is written or read.
-abbrev pub Calls : {S A : Type 0} → Client S → Result A StoreFault → Client S → Type 0 → Type 0
-Calls old result new talks = MatchOption old.broken talks (λ fault. (result ≡ Err fault) × (new.stream ≡ old.stream) × (new.puts ≡ old.puts))
+abbrev pub UnlessBroken : {S A : Type 0} → Client S → Result A StoreFault → Client S → Type 0 → Type 0
+UnlessBroken old result new talks = MatchOption old.broken talks (λ fault. (result ≡ Err fault) × (new.stream ≡ old.stream) × (new.puts ≡ old.puts))
 
 -- bytes that a frame can carry, and a number for them
 abbrev pub IsSendable : ℕ → List ℕ → Type 0
@@ -58,35 +58,35 @@ Unsent old bytes result new = (new.stream ≡ old.stream) × (new.puts ≡ old.p
 
 -- what a put writes and hears
 abbrev pub AsksToPut : {S : Type 0} → (S → Option (List ℕ)) → (S → Option (List ℕ)) → Client S → List ℕ → Result ⊤ StoreFault → Client S → Type 0
-AsksToPut remaining contents old bytes result new = Calls old result new (Unsent old bytes result new
+AsksToPut remaining contents old bytes result new = UnlessBroken old result new (Unsent old bytes result new
     ⊎ (IsSendable old.puts bytes × (new.puts ≡ old.puts + 1)
     × Talks remaining contents old.stream (frame put_kind new.puts bytes) (λ before after. PutHears new.puts before after result) (result ≡ Err Io) new.stream))
 
 -- what a get writes and hears
 abbrev pub AsksToGet : {S : Type 0} → (S → Option (List ℕ)) → (S → Option (List ℕ)) → Client S → Sent → Result (List ℕ) StoreFault → Client S → Type 0
-AsksToGet remaining contents old sent result new = Calls old result new ((new.puts ≡ old.puts)
+AsksToGet remaining contents old sent result new = UnlessBroken old result new ((new.puts ≡ old.puts)
     × Talks remaining contents old.stream (head get_kind sent.id 0) (λ before after. GetHears sent before after result) (result ≡ Err Io) new.stream)
 
 -- what a forget writes and hears
 abbrev pub AsksToForget : {S : Type 0} → (S → Option (List ℕ)) → (S → Option (List ℕ)) → Client S → ℕ → Result ⊤ StoreFault → Client S → Type 0
-AsksToForget remaining contents old id found new = Calls old found new ((new.puts ≡ old.puts)
+AsksToForget remaining contents old id found new = UnlessBroken old found new ((new.puts ≡ old.puts)
     × Talks remaining contents old.stream (head forget_kind id 0) (λ before after. ForgetHears id before after found) (found ≡ Err Io) new.stream)
 
 -- what a put does
-abbrev pub Puts : {S : Type 0} → (S → Option (List ℕ)) → (S → Option (List ℕ)) → Client S → List ℕ → Result ⊤ StoreFault → Client S → Type 0
-Puts remaining contents old bytes result new = Counts old result new × AsksToPut remaining contents old bytes result new
+abbrev pub PutsOver : {S : Type 0} → (S → Option (List ℕ)) → (S → Option (List ℕ)) → Client S → List ℕ → Result ⊤ StoreFault → Client S → Type 0
+PutsOver remaining contents old bytes result new = Counts old result new × AsksToPut remaining contents old bytes result new
 
 -- what a get does
-abbrev pub Gets : {S : Type 0} → (S → Option (List ℕ)) → (S → Option (List ℕ)) → Client S → Sent → Result (List ℕ) StoreFault → Client S → Type 0
-Gets remaining contents old sent result new = Counts old result new × AsksToGet remaining contents old sent result new
+abbrev pub GetsOver : {S : Type 0} → (S → Option (List ℕ)) → (S → Option (List ℕ)) → Client S → Sent → Result (List ℕ) StoreFault → Client S → Type 0
+GetsOver remaining contents old sent result new = Counts old result new × AsksToGet remaining contents old sent result new
 
 -- what a forget does: what it finds is counted where it is a fault, and told in no other way
-abbrev pub Forgets : {S : Type 0} → (S → Option (List ℕ)) → (S → Option (List ℕ)) → Client S → ℕ → Client S → Type 0
-Forgets remaining contents old id new = (found : Result ⊤ StoreFault) × Counts old found new × AsksToForget remaining contents old id found new
+abbrev pub ForgetsOver : {S : Type 0} → (S → Option (List ℕ)) → (S → Option (List ℕ)) → Client S → ℕ → Client S → Type 0
+ForgetsOver remaining contents old id new = (found : Result ⊤ StoreFault) × Counts old found new × AsksToForget remaining contents old id found new
 
 -- what a call leaves of a client: a put, a get or a forget, under the number of its parcel
 abbrev pub Called : {S : Type 0} → (S → Option (List ℕ)) → (S → Option (List ℕ)) → Client S → Call → Client S → Type 0
-Called remaining contents old (Put bytes None) new = Puts remaining contents old bytes (Ok tt) new
-Called remaining contents old (Put bytes (Some fault)) new = Puts remaining contents old bytes (Err fault) new
-Called remaining contents old (Get bytes answer) new = (id : ℕ) × Gets remaining contents old (record { id = id; bytes = bytes }) answer new
-Called remaining contents old (Forget bytes) new = (id : ℕ) × Forgets remaining contents old id new
+Called remaining contents old (Put bytes None) new = PutsOver remaining contents old bytes (Ok tt) new
+Called remaining contents old (Put bytes (Some fault)) new = PutsOver remaining contents old bytes (Err fault) new
+Called remaining contents old (Get bytes answer) new = (id : ℕ) × GetsOver remaining contents old (record { id = id; bytes = bytes }) answer new
+Called remaining contents old (Forget bytes) new = (id : ℕ) × ForgetsOver remaining contents old id new

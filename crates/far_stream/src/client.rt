@@ -149,7 +149,7 @@ impl<S: Read + Write + Drop> FarStore for StreamStore<S> {
     ghost use Rattle.sha2.specs.Sha256.{sha256};
     ghost use Rattle.std.specs.Prelude.{None, Some, Ok, Err};
     ghost use Rattle.far_store.specs.Calls.Call.{Forget, Get, Put};
-    ghost use Rattle.far_stream.specs.Client.{Called, Forgets, Gets, Puts, put_outcome};
+    ghost use Rattle.far_stream.specs.Client.{Called, ForgetsOver, GetsOver, PutsOver, put_outcome};
 
     ghost RETURNS = { false };
 
@@ -164,7 +164,7 @@ impl<S: Read + Write + Drop> FarStore for StreamStore<S> {
     ghost called = { Called S.remaining S.contents };
 
     fn put(&mut self, bytes: Vec<u8>) -> Result<StreamParcel, (StoreFault, Vec<u8>)>
-        ensures puts { Puts S.remaining S.contents self.old bytes.items (put_outcome result) self.new }
+        ensures puts { PutsOver S.remaining S.contents self.old bytes.items (put_outcome result) self.new }
         ensures number { IfOk result (λ p. p.id ≡ self.new.puts) }
         ensures parcel { IfOk result (λ p. p.bytes ≡ bytes.items) }
         ensures calm { OnOk result (self.new.faults ≡ self.old.faults) }
@@ -183,7 +183,7 @@ impl<S: Read + Write + Drop> FarStore for StreamStore<S> {
     }
 
     fn get(&mut self, parcel: &StreamParcel) -> Result<Vec<u8>, StoreFault>
-        ensures gets { Gets S.remaining S.contents self.old parcel.now (seen (λ v. v.items) result) self.new }
+        ensures gets { GetsOver S.remaining S.contents self.old parcel.now (seen (λ v. v.items) result) self.new }
         ensures bytes { IfOk result (λ v. (length v.items ≡ length parcel.now.bytes) × (sha256 v.items ≡ sha256 parcel.now.bytes)) }
         ensures calm { OnOk result (self.new.faults ≡ self.old.faults) }
         ensures fault { OnErr result (Rises self.old.faults self.new.faults) }
@@ -200,7 +200,7 @@ impl<S: Read + Write + Drop> FarStore for StreamStore<S> {
     }
 
     fn forget(&mut self, parcel: StreamParcel)
-        ensures forgets { Forgets S.remaining S.contents self.old parcel.id self.new }
+        ensures forgets { ForgetsOver S.remaining S.contents self.old parcel.id self.new }
         ensures faults { self.old.faults ≤ self.new.faults }
         ensures called { Called S.remaining S.contents self.old (Forget parcel.bytes) self.new }
     {

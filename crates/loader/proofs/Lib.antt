@@ -1,4 +1,5 @@
 pub mod Positions
+pub mod Encoded
 pub mod KeptEntries
 pub mod OneReason
 pub mod ReadEntries

@@ -7,6 +7,7 @@ mod jumps;
 mod laws;
 mod machine;
 mod outcomes;
+mod pairs;
 mod registers;
 mod rights;
 mod rows;

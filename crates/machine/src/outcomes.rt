@@ -1,23 +1,25 @@
 //! What a step came to.
 ghost use Rattle.std.specs.Prelude.{◌≡◌, None, false, true};
+ghost use Rattle.machine.specs.TableStep.{Closes};
 
-use crate::state::{Done, Point, Stepped, Stop, Written};
+use crate::state::{Done, Stepped, Stop, Written};
+use memory::Memory;
 
 /// An instruction was done, and wrote no byte.
 #[inline(always)]
-pub fn ran(point: Point) -> Done
-    ensures { result ≡ record { point = point; answer = Stepped.Ran None; closes = false } }
+pub fn ran(slot: usize) -> Done
+    ensures { result ≡ record { slot = slot; answer = Stepped.Ran None; closes = false } }
 {
-    wrote(point, None)
+    wrote(slot, None)
 }
 
 /// An instruction was done, and wrote these bytes, if any.
 #[inline(always)]
-pub fn wrote(point: Point, written: Option<Written>) -> Done
-    ensures { result ≡ record { point = point; answer = Stepped.Ran written; closes = false } }
+pub fn wrote(slot: usize, written: Option<Written>) -> Done
+    ensures { result ≡ record { slot = slot; answer = Stepped.Ran written; closes = false } }
 {
     Done {
-        point,
+        slot,
         answer: Stepped::Ran(written),
         closes: false,
     }
@@ -25,22 +27,22 @@ pub fn wrote(point: Point, written: Option<Written>) -> Done
 
 /// A helper was run, which closes all scopes or none.
 #[inline(always)]
-pub fn helped(point: Point, closes: bool) -> Done
-    ensures { result ≡ record { point = point; answer = Stepped.Ran None; closes = closes } }
+pub fn helped(slot: usize, closes: bool) -> Done
+    ensures { result ≡ record { slot = slot; answer = Stepped.Ran None; closes = closes } }
 {
     Done {
         closes,
-        ..ran(point)
+        ..ran(slot)
     }
 }
 
 /// The object of that number can't be reached now.
 #[inline(always)]
-pub fn wait(point: Point, number: u32) -> Done
-    ensures { result ≡ record { point = point; answer = Stepped.Waiting number; closes = false } }
+pub fn wait(slot: usize, number: u32) -> Done
+    ensures { result ≡ record { slot = slot; answer = Stepped.Waiting number; closes = false } }
 {
     Done {
-        point,
+        slot,
         answer: Stepped::Waiting(number),
         closes: false,
     }
@@ -48,12 +50,24 @@ pub fn wait(point: Point, number: u32) -> Done
 
 /// The machine stops, and all its scopes close.
 #[inline(always)]
-pub fn halted(point: Point, stop: Stop) -> Done
-    ensures { result ≡ record { point = point; answer = Stepped.Stopped stop; closes = true } }
+pub fn halted(slot: usize, stop: Stop) -> Done
+    ensures { result ≡ record { slot = slot; answer = Stepped.Stopped stop; closes = true } }
 {
     Done {
-        point,
+        slot,
         answer: Stepped::Stopped(stop),
         closes: true,
+    }
+}
+
+/// Closes all scopes of the machine, or none.
+#[inline(always)]
+pub fn close_if<M: Memory>(closes: bool, memory: &mut M)
+    requires ready { M.is_ready memory.old }
+    ensures ready { M.is_ready memory.new }
+    ensures closes { Closes closes M.acts memory.old memory.new }
+{
+    if closes {
+        memory.close_scopes();
     }
 }

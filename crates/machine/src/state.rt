@@ -1,5 +1,6 @@
 //! Parts of a machine that others see.
-ghost use Rattle.std.specs.Prelude.{◌≡◌};
+ghost use Rattle.std.specs.Prelude.{◌≡◌, ◌<◌};
+ghost use Rattle.machine.specs.Points.{fuel_after};
 
 use isa_table::Size;
 use memory::Op;
@@ -93,12 +94,32 @@ pub struct Point {
     pub fuel: u64,
 }
 
-/// What a step did, where the machine is then, and whether all its scopes close.
+/// What a step did, the slot where the machine is then, and whether all its scopes close. What fuel it took, the answer tells.
 #[derive(Clone, Copy, Drop, Debug, PartialEq, Eq)]
 pub struct Done {
-    pub point: Point,
+    pub slot: usize,
     pub answer: Stepped,
     pub closes: bool,
+}
+
+/// What one dispatch of a run did: an instruction, or two that ran, and the slot where the machine is then.
+#[derive(Clone, Copy, Drop)]
+pub enum Turn {
+    One(Done),
+    Two(usize),
+}
+
+/// The fuel that is left after a step: an instruction that ran takes one, and so does EXIT.
+#[inline(always)]
+pub(crate) fn fuel_after(fuel: u64, answer: Stepped) -> u64
+    requires { 0 < fuel }
+    ensures { result ≡ fuel_after fuel answer }
+{
+    match answer {
+        Stepped::Ran(_) => fuel - 1,
+        Stepped::Stopped(Stop::Exit(_)) => fuel - 1,
+        _ => fuel,
+    }
 }
 
 /// What a call keeps for its return. That R6 to R9 and R10 are kept is the BPF ABI's convention.

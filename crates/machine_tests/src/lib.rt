@@ -16,4 +16,6 @@ mod grants;
 #[cfg(test)]
 mod helper_calls;
 #[cfg(test)]
+mod pairs;
+#[cfg(test)]
 mod programs;

@@ -1,5 +1,5 @@
 -- A store that is lent to a machine, seen as the store, and as its state alone.
-use Rattle.std.proofs.Common.{◌≡◌, ℕ, true, refl, ap, ◌∙◌, subst}
+use Rattle.std.proofs.Common.{ℕ, true, refl, ap, ◌∙◌, subst}
 use Rattle.object_store.specs.Lending.{ClosesWithin, IsLent, TouchesWithin, lent_memory, within_memory}
 use Rattle.object_store.specs.Stores.{StoreWithin, store_memory}
 use Rattle.machine.specs.declared.state.Stepped.{Stepped}

@@ -1,5 +1,5 @@
 -- What is so of each move.
-use Rattle.std.proofs.Common.{◌≡◌, ℕ, true, false, refl, ap}
+use Rattle.std.proofs.Common.{◌≡◌, ℕ, true, false, ap, arith}
 use Rattle.far_store.specs.declared.places.Place.{Place}
 use Rattle.far_store.specs.declared.places.Place.TheVariants as place
 use Rattle.far_store.specs.declared.places.Moved.{Moved}
@@ -48,13 +48,7 @@ moves_stay move.Returned old new n d h = ends_return old new n d h
 -- ---- replies
 
 pub moved_undebugged : (m : MoveKind) (n : ℕ) → undebugged_reply (moved_reply m n) ≡ moved_reply m n
-moved_undebugged move.Leave n = refl
-moved_undebugged move.Left n = refl
-moved_undebugged move.Return n = refl
-moved_undebugged move.Returned n = refl
+moved_undebugged m n = grind arith
 
 pub moved_unpaused : (m : MoveKind) (n : ℕ) → is_pause (moved_reply m n) ≡ false
-moved_unpaused move.Leave n = refl
-moved_unpaused move.Left n = refl
-moved_unpaused move.Return n = refl
-moved_unpaused move.Returned n = refl
+moved_unpaused m n = grind arith

@@ -1,5 +1,5 @@
 -- Machines without their debug states.
-use Rattle.std.proofs.Common.{◌≡◌, ℕ, zero, suc, ◌-◌, Bool, true, false, not, ◌&&◌, ◌||◌, is_none, cond, List, [], map, Option, Some, None, inl, inr, refl, sym, ap, subst, ◌∙◌}
+use Rattle.std.proofs.Common.{◌≡◌, ℕ, zero, suc, ◌-◌, Bool, true, false, not, ◌&&◌, ◌||◌, is_none, cond, List, [], map, Option, Some, None, inl, inr, refl, sym, ap, subst, ◌∙◌, arith}
 use Rattle.std.specs.Prelude.{option_map}
 use Rattle.std.proofs.lemmas.List.{map-set}
 use Rattle.std.proofs.lemmas.Option.{slice_get-map}
@@ -93,11 +93,7 @@ unhit (step_reply.Hit slot) = step_reply.Ran slot
 unhit told = told
 
 unhit_reply : (m : ℕ) (told : StepReply) → undebugged_reply (reply_to_step m told) ≡ reply_to_step m (unhit told)
-unhit_reply m (step_reply.Ran slot) = refl
-unhit_reply m (step_reply.Hit slot) = refl
-unhit_reply m (step_reply.Waiting n) = refl
-unhit_reply m (step_reply.Paused slot) = refl
-unhit_reply m (step_reply.Stopped s) = refl
+unhit_reply m told = grind arith
 
 hit_ran : (b : Bool) (slot : ℕ) → unhit (cond b (step_reply.Hit slot) (step_reply.Ran slot)) ≡ step_reply.Ran slot
 hit_ran true slot = refl
@@ -152,25 +148,13 @@ unshown (show_reply.Registers shown) = show_reply.Registers (record shown { stat
 unshown told = told
 
 unshown_reply : (m : ℕ) (told : ShowReply) → undebugged_reply (reply_to_show m told) ≡ reply_to_show m (unshown told)
-unshown_reply m (show_reply.Registers shown) = refl
-unshown_reply m (show_reply.Emitted values) = refl
-unshown_reply m (show_reply.Bytes shown) = refl
-unshown_reply m (show_reply.Disassembled slot text) = refl
-unshown_reply m show_reply.Outside = refl
-unshown_reply m show_reply.NoSlot = refl
-unshown_reply m show_reply.NoMemory = refl
+unshown_reply m told = grind arith
 
 bytes_undebugged : (bytes : List ℕ) (offset size : ℕ) (told : ShowReply) → ShowsBytes bytes offset size told → ShowsBytes bytes offset size (unshown told)
-bytes_undebugged bytes offset size (show_reply.Bytes shown) h = h
-bytes_undebugged bytes offset size show_reply.Outside h = h
-bytes_undebugged bytes offset size show_reply.NoMemory h = h
-bytes_undebugged bytes offset size _ h = absurd h
+bytes_undebugged bytes offset size told h = grind arith
 
 line_undebugged : (code : List ℕ) (slot : ℕ) (told : ShowReply) → ShowsLine code slot told → ShowsLine code slot (unshown told)
-line_undebugged code slot (show_reply.Disassembled n text) h = h
-line_undebugged code slot show_reply.NoSlot h = h
-line_undebugged code slot show_reply.NoMemory h = h
-line_undebugged code slot _ h = absurd h
+line_undebugged code slot told h = grind arith
 
 show_undebugged : (c : ShowCommand) (d : Debuggee) (told : ShowReply) → Shows c d told → Shows c (undebugged_machine d) (unshown told)
 show_undebugged Regs d (show_reply.Registers shown) h = shown_undebugged d shown h
@@ -211,13 +195,7 @@ machine_undebugged memory m c old new before after r e (inr h) = inr (record {
 })
 
 not_pause : (m : ℕ) (told : ShowReply) → is_pause (reply_to_show m told) ≡ false
-not_pause m (show_reply.Registers shown) = refl
-not_pause m (show_reply.Emitted values) = refl
-not_pause m (show_reply.Bytes shown) = refl
-not_pause m (show_reply.Disassembled slot text) = refl
-not_pause m show_reply.Outside = refl
-not_pause m show_reply.NoSlot = refl
-not_pause m show_reply.NoMemory = refl
+not_pause m told = grind arith
 
 -- the debugging commands and pauses are not seen
 command_unseen : {S : Type 0} (memory : Memories S) (m : ℕ) (c : MachineCommand) (old new : Debuggee) (before after : S) (r : Reply) → is_undebugged (Machine m c) r ≡ false

@@ -1,10 +1,9 @@
 -- Debugging changes nothing.
-use Rattle.std.proofs.Common.{◌≡◌, ◌≤◌, ◌+◌, ℕ, Bool, true, false, cond, List, [], ◌∷◌, length, map, refl, sym, ap, ◌∙◌, subst}
+use Rattle.std.proofs.Common.{◌≡◌, ◌≤◌, ◌+◌, ℕ, true, false, List, [], ◌∷◌, length, map, refl, sym, ap, ◌∙◌, subst, arith}
 use Rattle.std.proofs.lemmas.List.{length-map, map-append}
 use Rattle.far_store.specs.declared.places.Place.{Place}
 use Rattle.far_store.specs.declared.places.Place.TheVariants as place
 use Rattle.far_store.specs.declared.places.Moved.{Moved}
-use Rattle.far_store.specs.declared.places.Moved.TheVariants as moved
 use Rattle.object_store.specs.Stores.{StoreState, machine_limit, store_memory}
 use Rattle.object_store.specs.Calls.{Frees}
 use Rattle.debugger.specs.declared.start.Start.{Start}
@@ -23,6 +22,7 @@ use Rattle.world.specs.Answers.{AnswersMake, AnswersPut, AnswersGet, AnswersMove
 use Rattle.world.specs.Kept.{commands_kept, replies_kept}
 use Rattle.world.specs.Undebugged.{undebugged, undebugged_machine, undebugged_command, undebugged_reply, undebugged_commands, undebugged_replies, is_pause, is_undebugged}
 use Rattle.world.specs.Unseen.{DebuggingChangesNothing, NeitherChangesAnything}
+use Rattle.world.proofs.Joined.{kept_first}
 use Rattle.world.proofs.Undebugged_machines.{undebugged_machines, machine_undebugged, machine_unseen, second}
 use Rattle.world.proofs.Moves.{moved_undebugged, moved_unpaused}
 use Rattle.world.proofs.Unmoved.{moving_changes_nothing}
@@ -43,19 +43,10 @@ put_kept old new n offset bytes reply.Done h = (h.0, ap undebugged h.1)
 put_kept old new n offset bytes _ h = absurd h
 
 get_kept : (s : StoreState) (n offset size : ℕ) (r : Reply) → AnswersGet s n offset size r → AnswersGet s n offset size (undebugged_reply r)
-get_kept s n offset size reply.Outside h = h
-get_kept s n offset size (reply.Away k) h = h
-get_kept s n offset size reply.NoMemory h = h
-get_kept s n offset size (reply.Bytes shown) h = h
-get_kept s n offset size _ h = absurd h
+get_kept s n offset size r h = grind arith
 
 same_to_move : (told : Reply) (back : Place) (n : ℕ) (m : Moved) → undebugged_reply told ≡ told → undebugged_reply (reply_to_move told back n m) ≡ reply_to_move told back n m
-same_to_move told back n moved.Done e = e
-same_to_move told back n moved.NoObject e = refl
-same_to_move told back n (moved.Misplaced p) e = refl
-same_to_move told back n moved.Scoped e = refl
-same_to_move told back n moved.NoRoom e = refl
-same_to_move told back n (moved.Fault f) e = refl
+same_to_move told back n m e = grind arith
 
 move_kept : (moves : StoreState → ℕ → Moved → StoreState → Type 0) (told : Reply) (back : Place) (old new : WorldState) (n : ℕ) (r : Reply) → undebugged_reply told ≡ told
     → AnswersMove moves told back old n r new → AnswersMove moves told back (undebugged old) n (undebugged_reply r) (undebugged new)
@@ -106,12 +97,7 @@ one_kept old new (Machine m (Debug c)) r e h = absurd (cc)
 
 -- no move is answered that a machine is paused
 move_told : {P : Type 0} (r told : Reply) (back : Place) (n : ℕ) (m : Moved) → r ≡ reply_to_move told back n m → is_pause told ≡ false → is_pause r ≡ true → P
-move_told r told back n moved.Done e f h = absurd (cc)
-move_told r told back n moved.NoObject e f h = absurd (cc)
-move_told r told back n (moved.Misplaced p) e f h = absurd (cc)
-move_told r told back n moved.Scoped e f h = absurd (cc)
-move_told r told back n moved.NoRoom e f h = absurd (cc)
-move_told r told back n (moved.Fault g) e f h = absurd (cc)
+move_told r told back n m e f h = absurd (grind arith)
 
 object_unpaused : {P : Type 0} (old new : WorldState) (n : ℕ) (c : ObjectCommand) (r : Reply) → AnswersObject old n c r new → is_pause r ≡ true → P
 object_unpaused old new n Free r h e = move_told r (reply.Freed n) place.Here n h.moved h.told refl e
@@ -132,16 +118,12 @@ one_erased old new _ _ e h = absurd (cc)
 
 -- ---- a run
 
-joined : (b : Bool) (old mid new : WorldState) (c : Event) (r : Reply) (cs : List Event) (rs : List Reply) → is_undebugged c r ≡ b → Answers old c r mid
-    → Runs Answers (undebugged mid) (undebugged_commands cs rs) (undebugged_replies cs rs) (undebugged new)
-    → Runs Answers (undebugged old) (map undebugged_command (cond b (c ∷ commands_kept is_undebugged cs rs) (commands_kept is_undebugged cs rs)))
-    (map undebugged_reply (cond b (r ∷ replies_kept is_undebugged cs rs) (replies_kept is_undebugged cs rs))) (undebugged new)
-joined true old mid new c r cs rs e h g = (undebugged mid, one_kept old mid c r e h, g)
-joined false old mid new c r cs rs e h g = subst (λ (s : WorldState). Runs Answers s (undebugged_commands cs rs) (undebugged_replies cs rs) (undebugged new)) (one_erased old mid c r e h) g
-
 pub debugging_changes_nothing : DebuggingChangesNothing
 debugging_changes_nothing old new [] [] h = ap undebugged h
-debugging_changes_nothing old new (c ∷ cs) (r ∷ rs) h = joined (is_undebugged c r) old h.0 new c r cs rs refl h.1 (debugging_changes_nothing h.0 new cs rs h.2)
+debugging_changes_nothing old new (c ∷ cs) (r ∷ rs) h =
+    kept_first (λ (s : WorldState) (left : List Event) (told : List Reply). Runs Answers s (map undebugged_command left) (map undebugged_reply told) (undebugged new)) (is_undebugged c r)
+    (undebugged old) (undebugged h.0) c (commands_kept is_undebugged cs rs) r (replies_kept is_undebugged cs rs)
+    (λ e rest. (undebugged h.0, one_kept old h.0 c r e h.1, rest)) (λ e. one_erased old h.0 c r e h.1) (debugging_changes_nothing h.0 new cs rs h.2)
 debugging_changes_nothing old new [] (r ∷ rs) h = absurd h
 debugging_changes_nothing old new (c ∷ cs) [] h = absurd h
 

@@ -1,5 +1,5 @@
 -- Moving objects changes nothing.
-use Rattle.std.proofs.Common.{◌≡◌, ℕ, Bool, true, false, ◌||◌, cond, List, [], ◌∷◌, inl, inr, refl, sym, ap, ◌∙◌, subst}
+use Rattle.std.proofs.Common.{◌≡◌, ℕ, Bool, true, false, ◌||◌, cond, List, [], ◌∷◌, inl, inr, refl, sym, ap, ◌∙◌, subst, arith}
 use Rattle.memory.specs.declared.access.Op.{Op}
 use Rattle.memory.specs.declared.access.Reach.{Reach}
 use Rattle.memory.specs.declared.access.Reach.TheVariants as reach
@@ -24,7 +24,6 @@ use Rattle.debugger.specs.declared.commands.MachineCommand.TheVariants.{Step, Sh
 use Rattle.debugger.specs.declared.replies.StepReply.{StepReply}
 use Rattle.debugger.specs.declared.replies.StepReply.TheVariants as step_reply
 use Rattle.debugger.specs.declared.replies.Debugged.{Debugged}
-use Rattle.debugger.specs.declared.replies.Debugged.TheVariants as debugged
 use Rattle.debugger.specs.declared.debuggee.Debuggee.{Debuggee}
 use Rattle.debugger.specs.DebugState.{DebugState, hits}
 use Rattle.debugger.specs.Pausing as pausing
@@ -41,6 +40,7 @@ use Rattle.world.specs.Machines.{AnswersCommand, AnswersMachine, reply_to_step, 
 use Rattle.world.specs.Answers.{AnswersMove, AnswersObject, Moves, moved_reply, place_before, reply_to_move, Answers}
 use Rattle.world.specs.Plain.{PlainState, plain_of, FreesPlain, ObjectPlain, PlainAnswers, is_absence, is_unmoved, unmoved_commands, unmoved_replies}
 use Rattle.world.specs.Unseen.{MovingChangesNothing}
+use Rattle.world.proofs.Joined.{kept_first}
 use Rattle.world.proofs.Numbered.{with_same}
 use Rattle.world.proofs.Moves.{moves_stay}
 use Rattle.world.proofs.Undebugged_machines.{not_second, second}
@@ -142,12 +142,7 @@ step_erased m way old new before after (step_reply.Waiting n) e h = waited m n w
 step_erased m way old new before after _ e h = absurd (cc)
 
 debug_is_here : (told : Debugged) → is_absence (reply_to_debug told) ≡ false
-debug_is_here debugged.Done = refl
-debug_is_here debugged.NoSlot = refl
-debug_is_here debugged.Outside = refl
-debug_is_here debugged.Full = refl
-debug_is_here debugged.NoWatch = refl
-debug_is_here debugged.NotPaused = refl
+debug_is_here told = grind arith
 
 command_erased : (m : ℕ) (c : MachineCommand) (old new : Debuggee) (before after : StoreState) (r : Reply) → is_absence r ≡ true
     → AnswersCommand (store_memory m) old before m c r new after → (new ≡ old) × (after ≡ before)
@@ -214,12 +209,7 @@ one_kept old new (Object n c) r e h = object_plain old new n c r e h
 one_kept old new (Machine m c) r e h = machine_plain m c old.machines new.machines old.store new.store r (not_second (is_absence r) e) h
 
 free_told : {P : Type 0} (r : Reply) (n : ℕ) (m : Moved) → r ≡ reply_to_move (reply.Freed n) place.Here n m → is_absence r ≡ true → P
-free_told r n moved.Done e h = absurd (cc)
-free_told r n moved.NoObject e h = absurd (cc)
-free_told r n (moved.Misplaced p) e h = absurd (cc)
-free_told r n moved.Scoped e h = absurd (cc)
-free_told r n moved.NoRoom e h = absurd (cc)
-free_told r n (moved.Fault f) e h = absurd (cc)
+free_told r n m e h = absurd (grind arith)
 
 object_erased : (old new : WorldState) (n : ℕ) (c : ObjectCommand) (r : Reply) → is_unmoved (Object n c) r ≡ false → AnswersObject old n c r new → plain_of new ≡ plain_of old
 object_erased old new n (Move m) r e h = move_erased (Moves m) (moves_stay m) (moved_reply m n) (place_before m) old new n r h
@@ -245,14 +235,10 @@ one_erased old new _ _ e h = absurd (cc)
 
 -- ---- a run
 
-joined : (b : Bool) (old mid new : WorldState) (c : Event) (r : Reply) (cs : List Event) (rs : List Reply) → is_unmoved c r ≡ b → Answers old c r mid
-    → Runs PlainAnswers (plain_of mid) (unmoved_commands cs rs) (unmoved_replies cs rs) (plain_of new)
-    → Runs PlainAnswers (plain_of old) (cond b (c ∷ unmoved_commands cs rs) (unmoved_commands cs rs)) (cond b (r ∷ unmoved_replies cs rs) (unmoved_replies cs rs)) (plain_of new)
-joined true old mid new c r cs rs e h g = (plain_of mid, one_kept old mid c r e h, g)
-joined false old mid new c r cs rs e h g = subst (λ (s : PlainState). Runs PlainAnswers s (unmoved_commands cs rs) (unmoved_replies cs rs) (plain_of new)) (one_erased old mid c r e h) g
-
 pub moving_changes_nothing : MovingChangesNothing
 moving_changes_nothing old new [] [] h = ap plain_of h
-moving_changes_nothing old new (c ∷ cs) (r ∷ rs) h = joined (is_unmoved c r) old h.0 new c r cs rs refl h.1 (moving_changes_nothing h.0 new cs rs h.2)
+moving_changes_nothing old new (c ∷ cs) (r ∷ rs) h =
+    kept_first (λ (s : PlainState) (left : List Event) (told : List Reply). Runs PlainAnswers s left told (plain_of new)) (is_unmoved c r) (plain_of old) (plain_of h.0) c (unmoved_commands cs rs) r (unmoved_replies cs rs)
+    (λ e rest. (plain_of h.0, one_kept old h.0 c r e h.1, rest)) (λ e. one_erased old h.0 c r e h.1) (moving_changes_nothing h.0 new cs rs h.2)
 moving_changes_nothing old new [] (r ∷ rs) h = absurd h
 moving_changes_nothing old new (c ∷ cs) [] h = absurd h

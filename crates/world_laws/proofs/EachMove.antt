@@ -174,39 +174,19 @@ abbrev pub Clears : (StoreState → ℕ → Moved → StoreState → Type 0) →
 Clears moves = (old new : StoreState) (n : ℕ) (told : Reply) (back : Place) (m : Moved) → moves old n m new → is_settled (reply_to_move told back n m) ≡ true → moves (cleared old) n m (cleared new)
 
 pub frees_clears : Clears Frees
-frees_clears old new n told back moved.Scoped h t = (h.0, h.1, ap cleared h.2)
-frees_clears old new n told back moved.Done h t = (h.0, h.1, omega arith, ap cleared h.3)
-frees_clears old new n told back moved.NoObject h t = (h.0, ap cleared h.1)
-frees_clears old new n told back (moved.Misplaced p) h t = (h.0, h.1, ap cleared h.2)
-frees_clears old new n told back _ h t = absurd h
+frees_clears old new n told back m h t = grind arith
 
 begins_leave : Clears BeginsLeave
-begins_leave old new n told back moved.Scoped h t = (h.0, h.1, ap cleared h.2)
-begins_leave old new n told back moved.Done h t = (h.0, h.1, ap cleared h.2)
-begins_leave old new n told back moved.NoObject h t = (h.0, ap cleared h.1)
-begins_leave old new n told back (moved.Misplaced p) h t = (h.0, h.1, ap cleared h.2)
-begins_leave old new n told back _ h t = absurd h
+begins_leave old new n told back m h t = grind arith
 
 ends_leave : Clears EndsLeave
-ends_leave old new n told back (moved.Fault f) h t = absurd (cc)
-ends_leave old new n told back moved.Done h t = (h.0, omega arith, ap cleared h.2)
-ends_leave old new n told back moved.NoObject h t = (h.0, ap cleared h.1)
-ends_leave old new n told back (moved.Misplaced p) h t = (h.0, h.1, ap cleared h.2)
-ends_leave old new n told back _ h t = absurd h
+ends_leave old new n told back m h t = grind arith
 
 begins_return : Clears BeginsReturn
-begins_return old new n told back moved.NoRoom h t = (h.0, h.1, ap cleared h.2)
-begins_return old new n told back moved.Done h t = (h.0, h.1, ap cleared h.2)
-begins_return old new n told back moved.NoObject h t = (h.0, ap cleared h.1)
-begins_return old new n told back (moved.Misplaced p) h t = (h.0, h.1, ap cleared h.2)
-begins_return old new n told back _ h t = absurd h
+begins_return old new n told back m h t = grind arith
 
 ends_return : Clears (EndsReturn true)
-ends_return old new n told back (moved.Fault f) h t = absurd (cc)
-ends_return old new n told back moved.Done h t = (h.0, ap cleared h.1)
-ends_return old new n told back moved.NoObject h t = (h.0, ap cleared h.1)
-ends_return old new n told back (moved.Misplaced p) h t = (h.0, h.1, ap cleared h.2)
-ends_return old new n told back _ h t = absurd h
+ends_return old new n told back m h t = grind arith
 
 pub clears : (k : MoveKind) → Clears (answers.Moves k)
 clears move.Leave = begins_leave

@@ -1,6 +1,5 @@
 -- A step keeps the machine's code.
-use Rattle.std.proofs.Common.{◌≡◌, ℕ, Bool, true, false, List, [], ◌∷◌, Option, Some, None, refl, ap, ◌∙◌, inl, inr}
-use Rattle.memory.specs.declared.access.Reach.TheVariants as reach
+use Rattle.std.proofs.Common.{◌≡◌, ℕ, Bool, true, false, List, [], ◌∷◌, Option, Some, None, refl, ap, ◌∙◌, inl, inr, arith}
 use Rattle.memory.specs.Memories.{Memories}
 use Rattle.helpers.specs.declared.helper.Helper.{Helper}
 use Rattle.helpers.specs.Helpers.{helper_of}
@@ -13,7 +12,7 @@ use Rattle.machine.specs.Rows.{Work}
 use Rattle.machine.specs.Rows.Work.{Computes, AccessesStack, Accesses, Measures}
 use Rattle.machine.specs.MachineState.{MachineState}
 use Rattle.machine.specs.Rows.{MemoryAnswer, Outcome, told_for, told_access, told_own, told_call, computed, exits, work_of}
-use Rattle.machine.specs.Rows.MemoryAnswer.{Reached, Measured}
+use Rattle.machine.specs.Rows.MemoryAnswer.{Measured}
 use Rattle.machine.specs.TableStep.{TableStep}
 use Rattle.machine.proofs.StepCases.{StepCase, step_case}
 
@@ -39,12 +38,7 @@ own_keeps true i x m = refl
 own_keeps false i x m = refl
 
 access_keeps : (i : Instr) (x : Accessing) (m : MachineState) (a : MemoryAnswer) → KeepsCode m (told_access i x m a)
-access_keeps i x m (Reached (reach.Done v)) = refl
-access_keeps i x m (Reached reach.Away) = refl
-access_keeps i x m (Reached reach.Busy) = refl
-access_keeps i x m (Reached reach.Outside) = refl
-access_keeps i x m (Reached reach.Worn) = refl
-access_keeps i x m _ = refl
+access_keeps i x m a = grind arith
 
 told_keeps : (w : Work) (i : Instr) (m : MachineState) (a : MemoryAnswer) → KeepsCode m (told_for w i m a)
 told_keeps Computes i m a = computed_keeps i m

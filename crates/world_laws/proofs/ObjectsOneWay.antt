@@ -86,18 +86,19 @@ put_leads n o bytes old new other _ g h = absurd g
 put : (n o : ℕ) (bytes : List ℕ) → OneWay (λ old a new. AnswersPut old n o bytes a new)
 put n o bytes = decided (λ old r new. AnswersPut old n o bytes r new) (RangeNeeds n o (length bytes)) (λ old. Outside ∷ Away n ∷ []) (λ old. Done) (put_first n o bytes) (put_leads n o bytes)
 
-abbrev Gets : ℕ → ℕ → ℕ → WorldState → Reply → WorldState → Type 0
-Gets n o z old r new = AnswersGet old.store n o z r × (new ≡ old)
+-- a get is answered, and the world stays as it is
+abbrev GetsAndKeeps : ℕ → ℕ → ℕ → WorldState → Reply → WorldState → Type 0
+GetsAndKeeps n o z old r new = AnswersGet old.store n o z r × (new ≡ old)
 
-get_first : (n o z : ℕ) → Firsts (Gets n o z) (RangeNeeds n o z) (λ old. Outside ∷ Away n ∷ []) (λ old. Bytes (range_of old.store.objects n o z))
+get_first : (n o z : ℕ) → Firsts (GetsAndKeeps n o z) (RangeNeeds n o z) (λ old. Outside ∷ Away n ∷ []) (λ old. Bytes (range_of old.store.objects n o z))
 get_first n o z old new Outside g p = inl (g.0, refl)
 get_first n o z old new (Away k) g p = inr (g.0.1.0, inl (g.0.1.1, ap Away g.0.0))
 get_first n o z old new (Bytes x) g p = inr (g.0.0, inr (g.0.1, ap Bytes g.0.2))
 get_first n o z old new NoMemory g p = absurd (cc)
 get_first n o z old new _ g p = absurd g.0
 
-get : (n o z : ℕ) → OneWay (Gets n o z)
-get n o z = decided (Gets n o z) (RangeNeeds n o z) (λ old. Outside ∷ Away n ∷ []) (λ old. Bytes (range_of old.store.objects n o z)) (get_first n o z) (λ old new other r g h. g.1 ∙ sym h.1)
+get : (n o z : ℕ) → OneWay (GetsAndKeeps n o z)
+get n o z = decided (GetsAndKeeps n o z) (RangeNeeds n o z) (λ old. Outside ∷ Away n ∷ []) (λ old. Bytes (range_of old.store.objects n o z)) (get_first n o z) (λ old new other r g h. g.1 ∙ sym h.1)
 
 -- ---- moves
 

@@ -23,7 +23,6 @@ use Rattle.debugger.specs.declared.commands.MachineCommand.TheVariants.{Step, Sh
 use Rattle.debugger.specs.declared.commands.DebugCommand.{DebugCommand}
 use Rattle.debugger.specs.declared.commands.DebugCommand.TheVariants as debug
 use Rattle.debugger.specs.declared.replies.ShowReply.{ShowReply}
-use Rattle.debugger.specs.declared.replies.ShowReply.TheVariants as show_reply
 use Rattle.debugger.specs.declared.replies.Debugged.{Debugged}
 use Rattle.debugger.specs.declared.replies.Debugged.TheVariants as debugged
 use Rattle.debugger.specs.declared.debuggee.Debuggee.{Debuggee}
@@ -204,13 +203,7 @@ steps w old new m c r (TableRow h) = walks w old new m c r h
 -- ---- showing
 
 quiet_show : (m : ℕ) (told : ShowReply) → is_placing (reply_to_show m told) ≡ false
-quiet_show m (show_reply.Registers shown) = refl
-quiet_show m (show_reply.Emitted values) = refl
-quiet_show m (show_reply.Bytes shown) = refl
-quiet_show m (show_reply.Disassembled slot text) = refl
-quiet_show m show_reply.Outside = refl
-quiet_show m show_reply.NoSlot = refl
-quiet_show m show_reply.NoMemory = refl
+quiet_show m told = grind arith
 
 -- a machine that is as it was
 pub as_it_was : (old : List Debuggee) (m : ℕ) (d e : Debuggee) (new : List Debuggee) → machine_at old m ≡ Some d → new ≡ with_machine old m e → e ≡ d → new ≡ old
@@ -219,12 +212,7 @@ as_it_was old m d e new f c s = c ∙ ap (λ (x : Debuggee). with_machine old m 
 -- ---- debugging
 
 quiet_debug : (told : Debugged) → is_placing (reply_to_debug told) ≡ false
-quiet_debug debugged.Done = refl
-quiet_debug debugged.NoSlot = refl
-quiet_debug debugged.Outside = refl
-quiet_debug debugged.Full = refl
-quiet_debug debugged.NoWatch = refl
-quiet_debug debugged.NotPaused = refl
+quiet_debug told = grind arith
 
 either : (b : Bool) (d e : DebugState) → d.paused ≡ false → e.paused ≡ false → (cond b d e).paused ≡ false
 either true d e g h = g

@@ -1,5 +1,5 @@
 -- What a call does to the store where it does something, and what it does where it is a move.
-use Rattle.std.proofs.Common.{◌≡◌, ◌+◌, ◌≤◌, ℕ, nat_eq, Bool, true, false, cond, List, [], ◌∷◌, ◌++◌, length, replicate, refl}
+use Rattle.std.proofs.Common.{◌≡◌, ◌+◌, ◌≤◌, ℕ, nat_eq, Bool, true, false, cond, List, [], ◌∷◌, ◌++◌, length, replicate, refl, arith}
 use Rattle.memory.specs.Objects.{IsLive, bytes_of, with_bytes}
 use Rattle.far_store.specs.declared.places.Place.{Place}
 use Rattle.far_store.specs.declared.places.Place.TheVariants as place
@@ -30,13 +30,7 @@ is_fault (reply.Faulted n p) = true
 is_fault _ = false
 
 pub quiet : (r : Reply) (n : ℕ) (p : Place) → is_placing r ≡ false → placed n p r ≡ p
-quiet (reply.Made k) n p e = absurd (cc)
-quiet (reply.Leaving k) n p e = absurd (cc)
-quiet (reply.Left k) n p e = absurd (cc)
-quiet (reply.Returning k) n p e = absurd (cc)
-quiet (reply.Home k) n p e = absurd (cc)
-quiet (reply.Faulted k q) n p e = absurd (cc)
-quiet _ n p e = refl
+quiet r n p e = grind arith
 
 pub unmade : (r : Reply) → is_placing r ≡ false → is_made r ≡ false
 unmade (reply.Made n) e = absurd (cc)

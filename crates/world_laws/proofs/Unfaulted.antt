@@ -1,5 +1,5 @@
 -- The count of faults is never looked at.
-use Rattle.std.proofs.Common.{◌≡◌, ℕ, true, List, inl, inr, refl, ap, sym, ◌∙◌}
+use Rattle.std.proofs.Common.{◌≡◌, ℕ, true, List, inl, inr, refl, ap, sym, ◌∙◌, arith}
 use Rattle.memory.specs.declared.access.Op.{Op}
 use Rattle.memory.specs.declared.access.Reach.{Reach}
 use Rattle.memory.specs.declared.access.Reach.TheVariants as reach
@@ -18,7 +18,7 @@ use Rattle.debugger.specs.declared.replies.StepReply.{StepReply}
 use Rattle.debugger.specs.declared.replies.StepReply.TheVariants as step_reply
 use Rattle.debugger.specs.declared.debuggee.Debuggee.{Debuggee}
 use Rattle.world.specs.declared.replies.Reply.{Reply}
-use Rattle.world.specs.declared.replies.Reply.TheVariants.{Made, Freed, Done, Bytes, NoMemory, Full, NoRoom, Outside, Away}
+use Rattle.world.specs.declared.replies.Reply.TheVariants.{Made, Freed, Done, NoMemory, Full, NoRoom, Outside, Away}
 use Rattle.world.specs.declared.events.Event.{Event}
 use Rattle.world.specs.declared.events.Event.TheVariants.{Make, Ship, Object, Machine}
 use Rattle.world.specs.declared.events.ObjectCommand.{ObjectCommand}
@@ -83,11 +83,7 @@ moves does told back old new n r c h t = record {
 }
 
 shows : (s : StoreState) (n o z : ℕ) (r : Reply) → AnswersGet s n o z r → AnswersGet (cleared s) n o z r
-shows s n o z Outside h = h
-shows s n o z (Away k) h = h
-shows s n o z NoMemory h = h
-shows s n o z (Bytes b) h = h
-shows s n o z _ h = absurd h
+shows s n o z r h = grind arith
 
 -- ---- all
 

@@ -1,8 +1,8 @@
 -- Commands on other objects, and on machines without a grant, don't look at the bytes of an object.
-use Rattle.std.proofs.Common.{◌≡◌, ◌≢◌, ℕ, zero, suc, ◌+◌, ◌<◌, ◌≤◌, Bool, true, false, nat_eq, List, [], ◌∷◌, ◌++◌, length, replicate, set, All, Option, Some, None, ◌⊎◌, inl, inr, refl, ap, sym, ◌∙◌, subst, length-append, arith}
+use Rattle.std.proofs.Common.{◌≡◌, ◌≢◌, ℕ, zero, suc, ◌+◌, ◌<◌, ◌≤◌, Bool, true, false, nat_eq, List, [], ◌∷◌, ◌++◌, length, replicate, set, All, Some, ◌⊎◌, inl, inr, refl, ap, sym, ◌∙◌, subst, length-append, arith}
 use Rattle.std.specs.Prelude.{slice_get}
 use Rattle.std.proofs.Math.ListN.{length-set}
-use Rattle.std.proofs.lemmas.List.{set-append_left}
+use Rattle.std.proofs.lemmas.List.{set-append_left, get_or-set_other}
 use Rattle.std.proofs.lemmas.List.Elements.{All-head, All-tail}
 use Rattle.std.proofs.lemmas.Bool.Decides.{nat_tests}
 use Rattle.memory.specs.declared.access.Op.{Op}
@@ -11,10 +11,10 @@ use Rattle.memory.specs.declared.access.Reach.TheVariants as reach
 use Rattle.memory.specs.declared.deeds.Deed.TheVariants.{Reads, Writes}
 use Rattle.memory.specs.Access.{IsInside, answer, after, part}
 use Rattle.memory.specs.Deeds.{EndsInside, left_by}
-use Rattle.memory.specs.Objects.{IsLive, IsFull, bytes_of, with_bytes}
+use Rattle.memory.specs.Objects.{bytes_of, with_bytes}
 use Rattle.memory.proofs.Accesses.{set_commutes}
 use Rattle.scopes.specs.Windows.{noted}
-use Rattle.object_store.specs.Stores.{StoreState, store_memory, Touches, StandsAt, HasRoom, near_bytes, near_length, window_of}
+use Rattle.object_store.specs.Stores.{StoreState, store_memory, Touches, StandsAt, near_bytes, near_length, window_of}
 use Rattle.object_store.specs.Calls.{RefusesMove, Frees, BeginsLeave, EndsLeave, BeginsReturn, EndsReturn}
 use Rattle.far_store.specs.declared.places.Place.{Place}
 use Rattle.far_store.specs.declared.places.Place.TheVariants as place
@@ -38,7 +38,7 @@ use Rattle.debugger.specs.declared.replies.StepReply.TheVariants as step_reply
 use Rattle.debugger.specs.declared.start.Start.{Start}
 use Rattle.debugger.specs.declared.debuggee.Debuggee.{Debuggee}
 use Rattle.world.specs.declared.replies.Reply.{Reply}
-use Rattle.world.specs.declared.replies.Reply.TheVariants.{Made, Freed, Done, Bytes, Shipped, NoMemory, Full, NoRoom, Outside, Away, Refused}
+use Rattle.world.specs.declared.replies.Reply.TheVariants.{Made, Done, Bytes, Shipped, NoMemory, Full, NoRoom, Outside, Away, Refused}
 use Rattle.world.specs.declared.events.Event.{Event}
 use Rattle.world.specs.declared.events.Event.TheVariants.{Make, Ship, Object, Machine}
 use Rattle.world.specs.declared.events.ObjectCommand.{ObjectCommand}
@@ -48,8 +48,8 @@ use Rattle.world.specs.declared.events.Move.TheVariants as move
 use Rattle.world.specs.Run.{Runs}
 use Rattle.world.specs.WorldState.{WorldState, machine_at, with_machine}
 use Rattle.world.specs.Machines.{AnswersCommand, AnswersMachine}
-use Rattle.world.specs.Answers.{Answers, AnswersMake, AnswersShip, AnswersObject, AnswersMove, AnswersPut, AnswersGet, Moves, moved_reply, place_before}
-use Rattle.world_laws.specs.Confinement.{with_other, LacksGrant, AllLackGrant, KeepsOff, RunsAreConfined}
+use Rattle.world.specs.Answers.{Answers, AnswersMake, AnswersShip, AnswersObject, AnswersPut, AnswersGet, Moves}
+use Rattle.world_laws.specs.Confinement.{with_other, LacksGrant, KeepsOff, RunsAreConfined}
 use Rattle.world_laws.proofs.Machines.{found_once, found_set, other_machine}
 
 -- ---- the bytes of one number
@@ -63,11 +63,7 @@ record Suits (n : ℕ) (b : List ℕ) (s : StoreState) : Type 0 where
   long : length b ≡ length (bytes_of s.objects n)
 
 other : (os : List (List ℕ)) (n k : ℕ) (b : List ℕ) → k ≢ n → bytes_of (set os n b) k ≡ bytes_of os k
-other [] n k b h = refl
-other (x ∷ xs) zero zero b h = absurd (h refl)
-other (x ∷ xs) zero (suc k) b h = refl
-other (x ∷ xs) (suc n) zero b h = refl
-other (x ∷ xs) (suc n) (suc k) b h = other xs n k b (λ e. h (ap suc e))
+other os n k b h = get_or-set_other os n k b [] h
 
 is_there : (os : List (List ℕ)) (n : ℕ) → 0 < length (bytes_of os n) → n < length os
 is_there [] n h = absurd (omega (arith, h))

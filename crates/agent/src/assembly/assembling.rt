@@ -1,9 +1,7 @@
 //! `asm`: assembly in, raw code out.
-ghost use Rattle.std.specs.Prelude.{◌≡◌, ◌++◌, OnOk, IfOk, IfErr, IfSome, Ok, Err};
+ghost use Rattle.std.specs.Prelude.{◌≡◌, IfOk, IfErr, IfSome, Ok, Err};
 ghost use Rattle.std.specs.Char.{encode_utf8};
 ghost use Rattle.std.specs.String.{string_bytes};
-ghost use Rattle.bpf_codec.specs.Slots.{encoding};
-ghost use Rattle.loader.specs.Instructions.{encodings};
 ghost use Rattle.std.specs.Prelude.{⊤, Result, Bool, Option, List, ℕ};
 ghost use Rattle.agent.specs.AsmLeaves.{AsmLeaves, Assembles, asm_limit, char_text, text_of_bytes};
 ghost use Rattle.agent.specs.Explained.{ReportsAsm};
@@ -14,8 +12,7 @@ use crate::assembly::explaining::report_explained;
 use crate::failure::{ExitStatus, Failure};
 use crate::reporting::report;
 use assembler::{Why, assemble};
-use bpf_codec::encode;
-use isa_table::Instr;
+use loader::encode_all;
 use std::alloc::{AllocError, Global};
 use std::io::{Read, Write};
 use streams::{put_all, read_at_most};
@@ -43,26 +40,6 @@ fn text_of(alloc: Global, bytes: &[u8]) -> Result<String, AllocError>
         text.push(char_of(*b))?;
     }
     Ok(text)
-}
-
-/// Adds the encoding of an instruction.
-fn put_encoding(code: &mut Vec<u8>, i: &Instr) -> Result<(), AllocError>
-    ensures { OnOk result (code.new.items ≡ code.old.items ++ encoding i.now) }
-{
-    let (bytes, slots) = encode(i);
-    code.extend_from_slice(&bytes[..8 * slots])?;
-    Ok(())
-}
-
-/// The encodings of the instructions, one after the other.
-fn encode_all(alloc: Global, instrs: &[Instr]) -> Result<Vec<u8>, AllocError>
-    ensures { IfOk result (λ code. code.items ≡ encodings instrs.now) }
-{
-    let mut code = Vec::new(alloc);
-    for i in instrs {
-        put_encoding(&mut code, i)?;
-    }
-    Ok(code)
 }
 
 /// The code that the input spells.

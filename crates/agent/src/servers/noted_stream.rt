@@ -1,4 +1,5 @@
 //! The stream of a far server, whose errors are written down.
+ghost use Rattle.std.specs.Prelude.{◌≡◌, IfSome};
 
 use crate::servers::notes::{Note, Notes};
 use std::io::{self, Eprint, Error, ErrorKind, Read, Write};
@@ -32,20 +33,31 @@ impl<R: Copy> NotedStream<R> {
     }
 }
 
+impl<R: Clock + Eprint + Copy> NotedStream<R> {
+    /// What a call answered, unless it was interrupted and is made again. An error is written down.
+    fn answer(&self, called: io::Result<usize>) -> Option<io::Result<usize>>
+        ensures { IfSome result (λ answer. answer ≡ called) }
+    {
+        match called {
+            Ok(count) => Some(Ok(count)),
+            Err(error) if error.kind() == ErrorKind::Interrupted => None,
+            Err(error) => {
+                self.notes.write(Note::Broken(error.kind()));
+                Some(Err(error))
+            }
+        }
+    }
+}
+
 impl<R: Clock + Eprint + Copy> Read for NotedStream<R> {
     fn read(&mut self, buf: &mut [u8]) -> io::Result<usize> {
         for _ in 0..CALLS {
-            match self.stream.read(buf) {
-                Ok(0) if !buf.is_empty() => {
-                    self.notes.write(Note::Broken(ErrorKind::UnexpectedEof));
-                    return Ok(0);
-                }
-                Ok(count) => return Ok(count),
-                Err(error) if error.kind() == ErrorKind::Interrupted => {}
-                Err(error) => {
-                    self.notes.broken(&error);
-                    return Err(error);
-                }
+            let called = self.stream.read(buf);
+            if !buf.is_empty() && matches!(called, Ok(0)) {
+                self.notes.write(Note::Broken(ErrorKind::UnexpectedEof));
+            }
+            if let Some(answer) = self.answer(called) {
+                return answer;
             }
         }
         Err(Error::from(ErrorKind::Interrupted))
@@ -55,13 +67,9 @@ impl<R: Clock + Eprint + Copy> Read for NotedStream<R> {
 impl<R: Clock + Eprint + Copy> Write for NotedStream<R> {
     fn write(&mut self, buf: &[u8]) -> io::Result<usize> {
         for _ in 0..CALLS {
-            match self.stream.write(buf) {
-                Ok(count) => return Ok(count),
-                Err(error) if error.kind() == ErrorKind::Interrupted => {}
-                Err(error) => {
-                    self.notes.broken(&error);
-                    return Err(error);
-                }
+            let called = self.stream.write(buf);
+            if let Some(answer) = self.answer(called) {
+                return answer;
             }
         }
         Err(Error::from(ErrorKind::Interrupted))

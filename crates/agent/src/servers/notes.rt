@@ -126,15 +126,6 @@ impl<R: Clock + Eprint> Notes<R> {
             _ => Note::Unreached(far),
         });
     }
-
-    /// The stream of the far server failed.
-    pub fn broken(&self, error: &Error) {
-        match error.kind() {
-            // the call is made again
-            ErrorKind::Interrupted => {}
-            kind => self.write(Note::Broken(kind)),
-        }
-    }
 }
 
 impl<R: Clock + Eprint> Journal for Notes<R> {

@@ -27,7 +27,7 @@ pub enum ServeFault {
     /// The far server's address isn't an IP address and a port.
     Address,
     /// The far server can't be reached.
-    Far,
+    Unreachable,
     /// The commands of the input weren't all done.
     Setup(Failure),
     /// The port can't be had.
@@ -72,7 +72,8 @@ impl ServeFault {
             ServeFault::Address => ExitStatus::InvalidArguments,
             ServeFault::Setup(failure) => failure.status(),
             ServeFault::Listen(ListenFault::NotHere(_)) => ExitStatus::Refused,
-            ServeFault::Far | ServeFault::Bind | ServeFault::Listen(_) => ExitStatus::Failed,
+            ServeFault::Unreachable | ServeFault::Bind | ServeFault::Listen(_) =>
+                ExitStatus::Failed,
         }
     }
 
@@ -82,7 +83,7 @@ impl ServeFault {
     {
         match self {
             ServeFault::Address => line_of(b"error: --far takes an IP address and a port"),
-            ServeFault::Far => line_of(b"far server can't be reached"),
+            ServeFault::Unreachable => line_of(b"far server can't be reached"),
             ServeFault::Setup(failure) => failure.line(),
             ServeFault::Bind => line_of(NET_FAULT.as_bytes()),
             ServeFault::Listen(fault) => line_of_listening(fault),
@@ -202,7 +203,7 @@ where
         }
         Err(error) => {
             notes.unreached(address, &error);
-            Err(ServeFault::Far)
+            Err(ServeFault::Unreachable)
         }
     }
 }

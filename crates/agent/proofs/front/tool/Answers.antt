@@ -1,4 +1,4 @@
-use Rattle.std.proofs.Common.{◌≡◌, ℕ, List, Option, None, Some, Result, IfSome, ap, sym, ◌∙◌}
+use Rattle.std.proofs.Common.{◌≡◌, ℕ, Bool, List, Option, None, Some, Result, IfSome, ap, sym, ◌∙◌}
 use Rattle.std.specs.Prelude.{⊤}
 use Rattle.agent.specs.CodeExplained.{ReportsCheck}
 use Rattle.agent.specs.Explained.{ReportsAsm}
@@ -54,12 +54,12 @@ reported_run : (given : Option (List ℕ)) (work : List ℕ → Result ⊤ Failu
 reported_run None work before after outcome status number done says is = tt
 reported_run (Some input) work before after outcome status number done says is = (outcome, status, done, says, is)
 
--- the status by its number, where it is reported with an explanation or without
-explained_run : (given : Option (List ℕ)) (work : List ℕ → Result ⊤ Failure → Type 0) (reports : List ℕ → Result ⊤ Failure → ExitStatus → Type 0) (status : ExitStatus) (number : ℕ)
-    → IfSome given (λ input. (outcome : Result ⊤ Failure) × work input outcome × reports input outcome status) → number ≡ status_number status
-    → IfSome given (λ input. (outcome : Result ⊤ Failure) × (s : ExitStatus) × work input outcome × reports input outcome s × (number ≡ status_number s))
-explained_run None work reports status number says is = tt
-explained_run (Some input) work reports status number says is = (says.0, status, says.1, says.2, is)
+-- the status by its number, where it is reported with an explanation or without, as was asked
+explained_run : (given : Option (List ℕ)) (work : List ℕ → Result ⊤ Failure → Type 0) (reports : Bool → List ℕ → Result ⊤ Failure → ExitStatus → Type 0) (asked told : Bool) (status : ExitStatus) (number : ℕ) → asked ≡ told
+    → IfSome given (λ input. (outcome : Result ⊤ Failure) × work input outcome × reports told input outcome status) → number ≡ status_number status
+    → IfSome given (λ input. (outcome : Result ⊤ Failure) × (s : ExitStatus) × work input outcome × reports asked input outcome s × (number ≡ status_number s))
+explained_run None work reports asked told status number same says is = tt
+explained_run (Some input) work reports asked told status number same says is = (says.0, status, says.1, rw same says.2, is)
 
 pub returns-in-Ok-Run-clause-run : goal.returns-in-Ok-Run-clause-run
 returns-in-Ok-Run-clause-run g c budget right asked =
@@ -79,12 +79,10 @@ pub returns-in-Ok-Assemble-clause-asm : goal.returns-in-Ok-Assemble-clause-asm
 returns-in-Ok-Assemble-clause-asm g c explains right asked =
     let told : Some (Assemble c.in-Ok-Assemble.explains) ≡ Some (Assemble explains) = ap Some (sym c.in-Ok-Assemble.field-0-is) ∙ sym c.in-Ok-Assemble.ensures.ok.1 ∙ asked in
     let same : explains ≡ c.in-Ok-Assemble.explains = cc in
-    rw same (explained_run _ (λ input. AsmLeaves input (g.W.Write.contents c.args.writer.now) (g.W.Write.contents c.asm.new.writer)) (λ input. ReportsAsm c.in-Ok-Assemble.explains input (g.E.Write.contents c.args.errors.now) (g.E.Write.contents c.asm.new.errors)) _ _
-    c.asm.ensures.reported c.number-in-Ok-Assemble.ensures)
+    explained_run _ (λ input. AsmLeaves input (g.W.Write.contents c.args.writer.now) (g.W.Write.contents c.asm.new.writer)) (λ e input. ReportsAsm e input (g.E.Write.contents c.args.errors.now) (g.E.Write.contents c.asm.new.errors)) _ _ _ _ same c.asm.ensures.reported c.number-in-Ok-Assemble.ensures
 
 pub returns-in-Ok-Check-clause-check : goal.returns-in-Ok-Check-clause-check
 returns-in-Ok-Check-clause-check g c explains right asked =
     let told : Some (Check c.in-Ok-Check.explains) ≡ Some (Check explains) = ap Some (sym c.in-Ok-Check.field-0-is) ∙ sym c.in-Ok-Check.ensures.ok.1 ∙ asked in
     let same : explains ≡ c.in-Ok-Check.explains = cc in
-    rw same (explained_run _ (λ input. CheckLeaves input (g.W.Write.contents c.args.writer.now) (g.W.Write.contents c.check.new.writer)) (λ input. ReportsCheck c.in-Ok-Check.explains input (g.E.Write.contents c.args.errors.now) (g.E.Write.contents c.check.new.errors)) _ _
-    c.check.ensures.reported c.number-in-Ok-Check.ensures)
+    explained_run _ (λ input. CheckLeaves input (g.W.Write.contents c.args.writer.now) (g.W.Write.contents c.check.new.writer)) (λ e input. ReportsCheck e input (g.E.Write.contents c.args.errors.now) (g.E.Write.contents c.check.new.errors)) _ _ _ _ same c.check.ensures.reported c.number-in-Ok-Check.ensures

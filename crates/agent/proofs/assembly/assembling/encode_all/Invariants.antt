@@ -1,6 +1,0 @@
-use Rattle.std.proofs.Common.{◌≡◌, ◌++◌, drop}
-use Rattle.loader.specs.Instructions.{encodings}
-use Rattle.agent.proofs.assembly.assembling.encode_all.Given as goal
-
-abbrev pub invariant-loop-i : goal.invariant-loop-i
-invariant-loop-i l = l.code.items ++ encodings (drop l.i-index l.instrs) ≡ encodings l.instrs

@@ -1,0 +1,78 @@
+"""A far store of one client, in Python, which doesn't stay well."""
+from __future__ import annotations
+
+import contextlib
+import socket
+import sys
+import threading
+import time
+from types import TracebackType
+
+from lib.checks import want
+from lib.sources import ROOT
+
+sys.path.append(str(ROOT / "python"))
+from bpfagent.far import DONE, FORGET, GET, HEAD, LIMIT, NO_ROOM, PUT, REFUSED_ID
+
+__all__ = ["DONE", "FORGET", "GET", "HEAD", "LIMIT", "NEVER", "NO_ROOM", "PUT", "REFUSED_ID", "Far"]
+
+# How long something may take that is never done, in seconds.
+NEVER = 30
+# How long a slow store takes, in seconds, so that machines still wait when replies are measured.
+SLOW = 3.0
+REFUSED = 1
+
+
+class Far:
+    """It notes when it is asked for what, and answers in the way of `manner`. After so many answers, if that is said, it is silent."""
+
+    def __init__(self, answers: int | None = None) -> None:
+        self.manner, self.answers = "well", answers
+        self.asked: list[float] = []
+        self.gets: list[float] = []
+        self.kept: dict[int, bytes] = {}
+        self.listener = socket.create_server(("127.0.0.1", 0))
+        self.port: int = self.listener.getsockname()[1]
+        self.over = threading.Event()
+        self.thread = threading.Thread(target=self.serve, daemon=True)
+        self.thread.start()
+
+    def __enter__(self) -> Far:
+        return self
+
+    def __exit__(self, kind: type[BaseException] | None, error: BaseException | None, trace: TracebackType | None) -> None:
+        self.over.set()
+        # a call that accepts isn't ended by `close`
+        self.listener.shutdown(socket.SHUT_RDWR)
+        self.thread.join(NEVER)
+        self.listener.close()
+        want(kind or not self.thread.is_alive(), "the service keeps its stream to the far store")
+
+    def serve(self) -> None:
+        with contextlib.suppress(OSError), self.listener.accept()[0] as stream:
+            while head := stream.recv(HEAD.size, socket.MSG_WAITALL):
+                kind, number, length = HEAD.unpack(head)
+                held = stream.recv(length, socket.MSG_WAITALL) if length else b""
+                self.asked.append(time.monotonic())
+                self.gets += self.asked[-1:] if kind == GET else []
+                if self.manner == "silent" or len(self.asked) - 1 == self.answers:
+                    # all that comes is read
+                    self.manner = "silent"
+                    continue
+                if self.manner == "cut" or self.manner == "slow" and self.over.wait(SLOW):
+                    return
+                stream.sendall(self.answer(kind, number, held))
+
+    def answer(self, kind: int, number: int, held: bytes) -> bytes:
+        """The answer to a request."""
+        if self.manner == "refusing" or self.manner == "keeping" and kind == GET:
+            return HEAD.pack(REFUSED, number, 0)
+        found = self.kept.get(number, b"")
+        if kind == PUT:
+            self.kept[number] = held
+        if kind == FORGET:
+            self.kept.pop(number, None)
+        if kind != GET:
+            return HEAD.pack(DONE, number, 0)
+        told = bytes(byte ^ 1 for byte in found) if self.manner == "lying" else found
+        return HEAD.pack(DONE, number, len(told)) + told
