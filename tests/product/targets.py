@@ -13,6 +13,7 @@ import subprocess
 import sys
 
 sys.path.insert(0, str(pathlib.Path(__file__).resolve().parents[1]))
+from lib import package
 from lib.checks import run_parts, want, want_equal
 from lib.programs import run
 from product.program import has_clang, talk_to
@@ -65,8 +66,8 @@ def show_help(rt: str) -> None:
 
 def show_c(rt: str) -> str | None:
     """What clang 14 and gcc make of the programs in C."""
-    if not (has_clang() and shutil.which("llvm-objcopy") and shutil.which("gcc")):
-        return "skipped what is made of programs in C, since clang 14, llvm-objcopy or gcc isn't there"
+    if not (has_clang() and package.reads_object_files() and shutil.which("gcc")):
+        return "skipped what is made of programs in C, since clang 14, pyelftools or gcc isn't there"
     make(f"RT={rt}", "-C", "examples/c", "check")
     return None
 
