@@ -11,13 +11,15 @@ from __future__ import annotations
 
 import argparse
 import contextlib
+import os
 import secrets
+import select
 import signal
 import socket
 import socketserver
 import sys
 import threading
-from typing import Any, Union
+from typing import Any, Iterator, Union
 
 from .commands import add_version, fault_text, guarded, place_of, port_of
 from .far import DONE, FORGET, GET, HEAD, LIMIT, NO_ROOM, PUT, REFUSED_ID
@@ -252,23 +254,35 @@ class Gateway(socketserver.ThreadingTCPServer):
                 connection.shutdown(socket.SHUT_RDWR)
 
 
-def serve(gateway: Gateway) -> None:
-    """Serves clients until standard input ends, or SIGINT or SIGTERM comes."""
+@contextlib.contextmanager
+def interrupts() -> Iterator[socket.socket]:
+    """What has bytes to read once SIGINT or SIGTERM has come. None is lost, however early it comes; one that was ignored stays ignored."""
+    numbers = [number for number in (signal.SIGINT, signal.SIGTERM) if signal.getsignal(number) != signal.SIG_IGN]
+    interrupted, woken = socket.socketpair()
+    with interrupted, woken:
+        woken.setblocking(False)
+        signal.set_wakeup_fd(woken.fileno())
+        before = {number: signal.signal(number, lambda *_: None) for number in numbers}
+        try:
+            yield interrupted
+        finally:
+            for number, handler in before.items():
+                signal.signal(number, handler)
+            signal.set_wakeup_fd(-1)
+
+
+def serve(gateway: Gateway, interrupted: socket.socket) -> None:
+    """Serves clients until standard input ends, or there is something to read from the socket."""
     thread = threading.Thread(target=gateway.serve_clients)
     thread.start()
     try:
-        while sys.stdin and sys.stdin.buffer.read(1 << 16):
-            pass
-    except KeyboardInterrupt:
-        pass
+        while sys.stdin:
+            ready, _, _ = select.select([sys.stdin, interrupted], [], [])
+            if interrupted in ready or not os.read(sys.stdin.fileno(), 1 << 16):
+                break
     finally:
         gateway.end()
         thread.join()
-
-
-def interrupt(*_: object) -> None:
-    """Ends the gateway at a signal as the end of its input does."""
-    raise KeyboardInterrupt
 
 
 def bound(port: int, redis: str, prefix: str) -> Gateway:
@@ -283,9 +297,9 @@ def run(given: argparse.Namespace) -> None:
     """Does what the options say."""
     with bound(given.port, "{}:{}".format(*given.redis), given.prefix) as gateway:
         gateway.try_redis()
-        print(f"listening {gateway.server_address[1]}", flush=True)
-        signal.signal(signal.SIGTERM, interrupt)
-        serve(gateway)
+        with interrupts() as interrupted:
+            print(f"listening {gateway.server_address[1]}", flush=True)
+            serve(gateway, interrupted)
 
 
 def main() -> None:

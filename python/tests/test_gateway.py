@@ -343,6 +343,16 @@ class Gateways(unittest.TestCase):
             store.close()
             redis.end()
 
+    def test_early_signals(self) -> None:
+        """A signal that comes as the gateway begins to listen ends it as a later one does."""
+        redis = Redis()
+        for number in (signal.SIGINT, signal.SIGTERM) * 5:
+            gateway = Gateway(redis.address)
+            gateway.process.send_signal(number)
+            self.assertEqual(gateway.process.wait(timeout=SECONDS), 0, f"a gateway that gets {number.name} at once")
+            self.assertEqual(gateway.end(), (0, b"", b""), f"what a gateway says that gets {number.name} at once")
+        redis.end()
+
     def test_idleness(self) -> None:
         """A gateway that nobody asks sleeps, with a client and without."""
         redis = Redis()
