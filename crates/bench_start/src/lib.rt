@@ -8,7 +8,8 @@ use isa_table::Size;
 use loader::load;
 use machine::{GRANT_LIMIT, Grant, Grants, Machine};
 use memory::{Action, Op};
-use object_store::{MACHINE_LIMIT, ObjectStore, StoreMemory};
+use object_store::{ObjectStore, StoreMemory};
+use scopes::MACHINE_LIMIT;
 use std::alloc::Global;
 
 /// How many bytes the objects that aren't far may have.

@@ -8,10 +8,10 @@ ghost use Rattle.bpfagent_c.specs.Codes.{code_of, code_of_back, code_of_end, cod
 
 use asm_grammar::Why as WrongText;
 use debugger::{State, StepReply};
-use far_store::{Moved, Place, StoreFault};
+use far_store::StoreFault;
 use loader::Why;
 use machine::Stop;
-use object_store::GetError;
+use object_store::{GetError, Moved, Place};
 use world::{Reply, StackError};
 
 /// What a call answers, with the numbers of `enum bpfagent_reply`: include/bpfagent.h says what each means.

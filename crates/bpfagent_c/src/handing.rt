@@ -8,8 +8,8 @@ ghost use Rattle.object_store.specs.Stores.{StandsAt};
 ghost use Rattle.sha2.specs.Sha256.{sha256};
 ghost use Rattle.far_store.specs.declared.fault.StoreFault.{StoreFault};
 ghost use Rattle.far_store.specs.declared.fault.StoreFault.TheVariants.{Damaged};
-ghost use Rattle.far_store.specs.declared.places.Moved.TheVariants as moved;
-ghost use Rattle.far_store.specs.declared.places.Place.TheVariants as place;
+ghost use Rattle.places.specs.declared.places.Moved.TheVariants as moved;
+ghost use Rattle.places.specs.declared.places.Place.TheVariants as place;
 ghost use Rattle.world.specs.declared.events.Event.{Event};
 ghost use Rattle.world.specs.declared.events.ObjectCommand.{ObjectCommand};
 ghost use Rattle.world.specs.declared.events.Move.{Move};
@@ -21,8 +21,8 @@ ghost use Rattle.bpfagent_c.specs.Handing.{Forgets, IsCalm, bytes_at, left_count
 use crate::codes::{Code, code_of_back, code_of_moved};
 use crate::handle::{Agent, give, take};
 use crate::shown::Parcel;
-use far_store::{Moved, Place};
 use library_store::LibraryStore;
+use object_store::{Moved, Place};
 use std::alloc::Global;
 use world::World;
 

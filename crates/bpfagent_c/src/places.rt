@@ -1,6 +1,6 @@
 //! Where objects are.
 ghost use Rattle.std.specs.Prelude.{◌≡◌, ◌⊎◌, true, false, length, None, Some};
-ghost use Rattle.far_store.specs.declared.places.Place.{Place};
+ghost use Rattle.places.specs.declared.places.Place.{Place};
 ghost use Rattle.bpfagent_c.specs.Codes.{number_of_place, place_numbered};
 ghost use Rattle.bpfagent_c.specs.Told.{HasNone};
 ghost use Rattle.bpfagent_c.specs.Shown.{over};
@@ -10,9 +10,9 @@ use crate::codes::{Code, number_of_place, place_numbered};
 use crate::handle::{Agent, give, take};
 use crate::shown::write_numbers;
 use arrayvec::ArrayVec;
-use far_store::Place;
 use library_store::LibraryStore;
 use memory::OBJECT_LIMIT;
+use object_store::Place;
 use std::alloc::Global;
 use world::World;
 

@@ -51,13 +51,13 @@ module _ (kind : Kind) (tokens : List (List ℕ)) (numbers : List ℕ) (left : L
   -- what comes after the numbers isn't as it has to be
   pub none_without_bytes : ((bytes : List ℕ) (words : List (List ℕ)) → AreBytes (most_bytes kind) left bytes words → ⊥) → (command : Event) → SaysOfKind kind tokens command → ⊥
   none_without_bytes none command s =
-      none s.bytes s.words (subst (λ l. AreBytes (most_bytes kind) l s.bytes s.words) (numbers_one (number_limits kind) tokens s.numbers numbers s.left left s.numbers_first first).1 s.bytes_next)
+      none s.bytes s.words (subst (λ l. AreBytes (most_bytes kind) l s.bytes s.words) (numbers_one (number_limits kind) tokens s.numbers numbers s.rest left s.numbers_first first).1 s.bytes_next)
 
   -- what comes after the bytes isn't as it has to be
   pub none_without_grants : (bytes : List ℕ) (words : List (List ℕ)) → AreBytes (most_bytes kind) left bytes words
       → ((grants : GrantState) → AreGrants (takes_grants kind) words grants → ⊥) → (command : Event) → SaysOfKind kind tokens command → ⊥
   none_without_grants bytes words next none command s =
-      let l = (numbers_one (number_limits kind) tokens s.numbers numbers s.left left s.numbers_first first).1 in
+      let l = (numbers_one (number_limits kind) tokens s.numbers numbers s.rest left s.numbers_first first).1 in
       let w = (bytes_one (most_bytes kind) left s.bytes bytes s.words words (subst (λ l. AreBytes (most_bytes kind) l s.bytes s.words) l s.bytes_next) next).1 in
       none s.grants (subst (λ t. AreGrants (takes_grants kind) t s.grants) w s.grants_last)
 
@@ -90,7 +90,7 @@ said_short : (tokens : List (List ℕ)) (command : Event) → Says tokens comman
 said_short [] command s = absurd s
 said_short (name ∷ tokens) command s =
     let t = s.2 in
-    subst AsksShort (sym t.is_command) (kind_asks_short s.0 t.numbers t.bytes t.grants (numbers_within (number_limits s.0) tokens t.numbers t.left t.numbers_first))
+    subst AsksShort (sym t.is_command) (kind_asks_short s.0 t.numbers t.bytes t.grants (numbers_within (number_limits s.0) tokens t.numbers t.rest t.numbers_first))
 
 pub asks_short : (line : List ℕ) (command : Event) → SpellsCommand line command → AsksShort command
 asks_short line command s = said_short (tokens_of line) command s.1

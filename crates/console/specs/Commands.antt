@@ -3,7 +3,7 @@ use Rattle.std.specs.Prelude.{◌≡◌, ℕ, ◌≤◌, ◌-◌, ◌/◌, ◌^�
 use Rattle.std.specs.Str.{bytes_eq}
 use Rattle.loader.specs.ValidCode.{code_limit}
 use Rattle.memory.specs.Objects.{object_bytes}
-use Rattle.object_store.specs.Stores.{machine_limit}
+use Rattle.scopes.specs.Windows.{machine_limit}
 use Rattle.machine.specs.MachineState.{stack_size}
 use Rattle.machine.specs.Grants.{GrantState}
 use Rattle.debugger.specs.declared.commands.MachineCommand.TheVariants.{Step, Show, Debug}
@@ -162,10 +162,10 @@ pub record SaysOfKind (kind : Kind) (tokens : List (List ℕ)) (command : Event)
   pub numbers : List ℕ
   pub bytes : List ℕ
   pub grants : GrantState
-  pub left : List (List ℕ)
+  pub rest : List (List ℕ)
   pub words : List (List ℕ)
-  pub numbers_first : AreNumbers (number_limits kind) tokens numbers left
-  pub bytes_next : AreBytes (most_bytes kind) left bytes words
+  pub numbers_first : AreNumbers (number_limits kind) tokens numbers rest
+  pub bytes_next : AreBytes (most_bytes kind) rest bytes words
   pub grants_last : AreGrants (takes_grants kind) words grants
   pub is_command : command ≡ event_with kind numbers bytes grants
 

@@ -33,16 +33,16 @@ IsNumberWithin limits token n = IsNumber token n × IsWithin limits n
 abbrev pub IsHex : List ℕ → List ℕ → Type 0
 IsHex token bytes = (0 < length bytes) × (decode_of token ≡ Ok bytes)
 
--- the first tokens are these numbers, one for each of the limits and within them, and the other tokens are left
+-- the first tokens are these numbers, one for each of the limits and within them, and the rest are the other tokens
 abbrev pub AreNumbers : List Limits → List (List ℕ) → List ℕ → List (List ℕ) → Type 0
-AreNumbers [] tokens [] left = left ≡ tokens
-AreNumbers (limits ∷ more) (token ∷ tokens) (n ∷ numbers) left = IsNumberWithin limits token n × AreNumbers more tokens numbers left
+AreNumbers [] tokens [] rest = rest ≡ tokens
+AreNumbers (limits ∷ more) (token ∷ tokens) (n ∷ numbers) rest = IsNumberWithin limits token n × AreNumbers more tokens numbers rest
 AreNumbers _ _ _ _ = ⊥
 
--- where there may be bytes, at most so many, the first token is their hex text; the other tokens are left
+-- where there may be bytes, at most so many, the first token is their hex text; the rest are the other tokens
 abbrev pub AreBytes : Option ℕ → List (List ℕ) → List ℕ → List (List ℕ) → Type 0
-AreBytes (Some most) tokens bytes left = (token : List ℕ) × (tokens ≡ token ∷ left) × IsHex token bytes × (length bytes ≤ most)
-AreBytes None tokens bytes left = (left ≡ tokens) × (bytes ≡ [])
+AreBytes (Some most) tokens bytes rest = (token : List ℕ) × (tokens ≡ token ∷ rest) × IsHex token bytes × (length bytes ≤ most)
+AreBytes None tokens bytes rest = (rest ≡ tokens) × (bytes ≡ [])
 
 -- the tokens of the rest of a line; none where there is no rest
 abbrev pub left_of : Option (Bor (List ℕ)) → List (List ℕ)

@@ -23,6 +23,6 @@ pub use laws::{
 };
 pub use replies::{Debugged, ShowReply, StepReply};
 pub use running::MachineRun;
-pub use shown::{Bytes, LineText, Shown, State, Values};
+pub use shown::{LineText, Shown, State, Values};
 pub use start::Start;
 pub use watch::Watch;

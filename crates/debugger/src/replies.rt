@@ -1,7 +1,8 @@
 //! What a machine answers to its commands.
 
-use crate::shown::{Bytes, LineText, Shown, Values};
+use crate::shown::{LineText, Shown, Values};
 use machine::Stop;
+use memory::Bytes;
 
 /// What a step was answered. It is much smaller than what may be shown, and is moved faster.
 #[derive(Clone, Copy, Drop, Debug, PartialEq, Eq)]

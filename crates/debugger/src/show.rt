@@ -5,10 +5,11 @@ ghost use Rattle.debugger.specs.Showing.{state_of, shown_of, Shows, ShowsBytes, 
 use crate::commands::ShowCommand;
 use crate::debuggee::Debuggee;
 use crate::replies::ShowReply;
-use crate::shown::{Bytes, LineText, Shown, State, Values};
+use crate::shown::{LineText, Shown, State, Values};
 use disassembler::line;
 use loader::Program;
 use machine::Stop;
+use memory::Bytes;
 use std::alloc::Global;
 
 /// Whether a machine goes on, is paused or is stopped.

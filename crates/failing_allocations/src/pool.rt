@@ -9,14 +9,14 @@ ghost use Rattle.workers.specs.Pools.{machines_of};
 
 use crate::bodies::bodies;
 use debugger::{Debuggee, Start, StepReply, Way};
-use far_store::{FarStore, Moved, OwnStore, StoreFault};
+use far_store::{FarStore, OwnStore, StoreFault};
 use loader::load;
 use machine::Stop;
 use shared_objects::{ActorSeat, MoverSeat, OpenFault, Shared};
 use std::alloc::{AllocError, Global};
 use std::marker::Brand;
 use std::sync::Wait;
-use workers::{Direction, Mark, Mover, Pool};
+use workers::{Direction, Mark, Moved, Mover, Pool};
 
 /// aadd [r1], r2; call 4; ldxdw r0, [r1]; exit
 const CODE: [u8; 32] = [

@@ -68,7 +68,7 @@ pub record IsUnread (bytes : List ℕ) (n : ℕ) (f : Fault) : Type 0 where
   pub place : n ≡ slot_count before
   pub rest : List ℕ
   pub encoded : bytes ≡ encodings before ++ rest
-  pub left : 0 < length rest
+  pub more : 0 < length rest
   pub begins_none : (i : Instr) → Fits i → Begins rest i → ⊥
   pub fault : IsLeastFault f rest
 

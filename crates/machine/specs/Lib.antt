@@ -1,5 +1,5 @@
 pub mod Grants
-pub mod GrantWords
+pub mod KeptGrants
 pub mod Rights
 pub mod MachineState
 pub mod Rows

@@ -2,16 +2,13 @@
 ghost use Rattle.std.specs.Prelude.{◌≡◌, ◌≤◌, ◌<◌, ◌++◌, ◌∷◌, [], false, length};
 ghost use Rattle.memory.specs.Objects.{object_limit};
 ghost use Rattle.machine.specs.Grants.{GrantState, all_granted, is_writing};
-ghost use Rattle.machine.specs.GrantWords.{grant_in, grants_in, word_of};
+ghost use Rattle.machine.specs.KeptGrants.{grant_of, grants_in};
 
 use memory::Action;
 use std::marker::Model;
 
 /// How many objects are granted one by one at most.
 pub const GRANT_LIMIT: usize = 16;
-
-/// In a word that keeps a grant: that the object may be written.
-const WRITING_BIT: u16 = 0x8000;
 
 /// An object that a machine may read, or write too.
 #[derive(Clone, Copy, Drop, Debug, Default, PartialEq, Eq)]
@@ -20,25 +17,57 @@ pub struct Grant {
     pub writes: bool,
 }
 
+/// A grant in half the bytes, since grants are passed on with each command. Number 0 keeps none.
+#[derive(Clone, Copy, Drop, Debug)]
+pub(crate) struct KeptGrant {
+    number: u16,
+    writes: bool,
+}
+
+const NO_GRANT: KeptGrant = KeptGrant {
+    number: 0,
+    writes: false,
+};
+
+impl KeptGrant {
+    fn of(grant: Grant) -> Self
+        requires { grant.number ≤ object_limit }
+        ensures { grant_of result ≡ grant }
+    {
+        KeptGrant {
+            number: grant.number as u16,
+            writes: grant.writes,
+        }
+    }
+
+    pub(crate) fn grant(self) -> Grant
+        ensures { result ≡ grant_of self }
+    {
+        Grant {
+            number: u32::from(self.number),
+            writes: self.writes,
+        }
+    }
+}
+
 /// The objects that a machine may reach: all, for writing, or some. Takes no memory.
-///
-/// Each grant is kept in 16 bits, and behind the last one stands 0: so they are small where they are passed on.
 #[derive(Drop, Debug)]
 pub struct Grants {
     all: bool,
     count: u8,
-    words: [u16; GRANT_LIMIT],
+    // those granted one by one, and none behind the last
+    kept: [KeptGrant; GRANT_LIMIT],
 }
 
 impl Model for Grants {
     ghost use Rattle.machine.specs.Grants.{GrantState};
-    ghost use Rattle.machine.specs.GrantWords.{grants_in, AreKept};
+    ghost use Rattle.machine.specs.KeptGrants.{grants_in, AreKept};
 
     ghost Value = { GrantState };
 
-    ghost view = { λ g. record { all = g.all; listed = grants_in g.words } };
+    ghost view = { λ g. record { all = g.all; listed = grants_in g.kept } };
 
-    ghost invariant = { λ g. AreKept g.count g.words };
+    ghost invariant = { λ g. AreKept g.count g.kept };
 }
 
 impl Grants {
@@ -49,7 +78,7 @@ impl Grants {
         Grants {
             all: true,
             count: 0,
-            words: [0; GRANT_LIMIT],
+            kept: [NO_GRANT; GRANT_LIMIT],
         }
     }
 
@@ -60,7 +89,7 @@ impl Grants {
         Grants {
             all: false,
             count: 0,
-            words: [0; GRANT_LIMIT],
+            kept: [NO_GRANT; GRANT_LIMIT],
         }
     }
 
@@ -71,7 +100,7 @@ impl Grants {
         ensures { self.new ≡ record self.old { listed = self.old.listed ++ grant ∷ [] } }
     {
         let count = self.count;
-        self.words[count as usize] = word_of(grant);
+        self.kept[count as usize] = KeptGrant::of(grant);
         self.count = count + 1;
     }
 
@@ -82,35 +111,12 @@ impl Grants {
         self.all
     }
 
-    /// The words that keep the grants one by one.
-    pub(crate) fn words(&self) -> &[u16; GRANT_LIMIT]
+    /// The grants one by one, and none behind the last.
+    pub(crate) fn kept(&self) -> &[KeptGrant; GRANT_LIMIT]
         ensures listed { grants_in result.now ≡ self.now.listed }
         ensures count { length result.now ≡ GRANT_LIMIT }
     {
-        &self.words
-    }
-}
-
-fn word_of(grant: Grant) -> u16
-    requires { grant.number ≤ object_limit }
-    ensures { result ≡ word_of grant }
-{
-    let number = grant.number as u16;
-    if grant.writes {
-        number + WRITING_BIT
-    } else {
-        number
-    }
-}
-
-pub(crate) fn grant_in(word: u16) -> Grant
-    ensures { result ≡ grant_in word }
-{
-    let writes = word >= WRITING_BIT;
-    let number = if writes { word - WRITING_BIT } else { word };
-    Grant {
-        number: number as u32,
-        writes,
+        &self.kept
     }
 }
 

@@ -5,7 +5,7 @@ ghost use Rattle.machine.specs.Grants.{GrantState, is_granted, is_listed};
 ghost use Rattle.machine.specs.Rights.{suffices, joined, full_of, IsTableOf, HasMore};
 ghost use Rattle.machine.specs.declared.rights.Right.TheVariants.{Nothing};
 
-use crate::grants::{Grant, Grants, grant_in};
+use crate::grants::{Grant, Grants};
 use memory::OBJECT_LIMIT;
 use std::marker::Model;
 
@@ -112,9 +112,9 @@ fn table_of(grants: &Grants) -> Table
     }
     let mut table = full_of(Right::Nothing);
     table[0] = Right::Writes;
-    let words = grants.words();
-    for word in words {
-        add(&mut table, grant_in(*word));
+    let all = grants.kept();
+    for kept in all {
+        add(&mut table, kept.grant());
     }
     table
 }

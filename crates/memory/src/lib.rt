@@ -10,6 +10,7 @@ mod deeds;
 mod laws;
 mod limits;
 mod memory;
+mod owned;
 
 pub use access::{Action, Op, Reach};
 pub use bytes::{act, overwrite};
@@ -21,3 +22,4 @@ pub use laws::{
 };
 pub use limits::{OBJECT_BYTES, OBJECT_LIMIT};
 pub use memory::Memory;
+pub use owned::Bytes;

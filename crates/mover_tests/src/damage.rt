@@ -3,7 +3,7 @@
 use crate::compared::same;
 use crate::trial::{Act, Answer, DONE, LEFT, Left, Row, tried};
 use debugger::StepReply::{Ran, Stopped, Waiting};
-use far_store::{Moved, Place, StoreFault};
+use far_store::StoreFault;
 use far_stream::{StreamFault, StreamStore};
 use machine::Stop;
 use shared_objects::Phase;
@@ -14,6 +14,7 @@ use std::test::Fail;
 use std::thread;
 use std::thread::Threads;
 use test_devices::{Flaw, serve_flawed};
+use workers::{Moved, Place};
 
 /// Both machines add, both objects leave, and the first comes back damaged. It is far then, and comes back when it is asked for
 /// again.

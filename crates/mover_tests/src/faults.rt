@@ -3,13 +3,14 @@
 use crate::compared::same;
 use crate::trial::{Act, Answer, DONE, LEFT, Left, Row, tried};
 use debugger::StepReply::{Ran, Stopped, Waiting};
-use far_store::{Failing, Moved, OwnStore, StoreFault};
+use far_store::{Failing, OwnStore, StoreFault};
 use machine::Stop;
 use shared_objects::Phase;
 use std::alloc::Global;
 use std::sync::Wait;
 use std::test::Fail;
 use test_devices::Short;
+use workers::Moved;
 
 /// A move that the far store refused.
 const REFUSED: Answer = Answer::Moved(Moved::Fault(StoreFault::Refused));

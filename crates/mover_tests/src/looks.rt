@@ -3,10 +3,10 @@
 use crate::compared::same;
 use crate::trial::{Act, Answer, DONE, LEFT, Left, Row, tried, tried_with_a_gap};
 use debugger::StepReply::Ran;
-use far_store::{Moved, OwnStore, Place};
+use far_store::OwnStore;
 use shared_objects::Phase;
 use std::test::Fail;
-use workers::Looked;
+use workers::{Looked, Moved, Place};
 
 /// It wasn't used since the last look, and left.
 const COLD: Answer = Answer::Looked(Looked::Cold(Moved::Done));

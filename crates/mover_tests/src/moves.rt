@@ -3,10 +3,11 @@
 use crate::compared::same;
 use crate::trial::{Act, Answer, DONE, LEFT, Left, Row, tried};
 use debugger::StepReply::{Ran, Stopped, Waiting};
-use far_store::{Moved, OwnStore, Place};
+use far_store::OwnStore;
 use machine::Stop;
 use shared_objects::Phase;
 use std::test::Fail;
+use workers::{Moved, Place};
 
 const GOES_AND_COMES_BACK: &[Row] = &[
     (Act::Step(1), Answer::Replied(Ran(1))),

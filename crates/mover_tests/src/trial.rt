@@ -9,7 +9,7 @@ ghost use Rattle.workers.specs.Pools.{machines_of};
 
 use crate::common::adding;
 use debugger::{Debuggee, StepReply, Way};
-use far_store::{FarStore, Moved, OwnStore};
+use far_store::{FarStore, OwnStore};
 use shared_objects::{ActorSeat, MoverSeat, Phase, Shared};
 use std::alloc::{AllocError, Global};
 use std::marker::Brand;
@@ -17,7 +17,7 @@ use std::sync::Wait;
 use std::sync::atomic::{AtomicU64, Ordering};
 use std::test::Fail;
 use test_devices::{number_kept, objects};
-use workers::{Direction, Gate, Looked, Mark, Mover, Pool, mover};
+use workers::{Direction, Gate, Looked, Mark, Moved, Mover, Pool, mover};
 
 /// What is done.
 #[derive(Clone, Copy, Drop)]

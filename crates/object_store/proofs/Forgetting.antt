@@ -1,7 +1,7 @@
 -- A store stays as it is always kept where an object that is far is freed.
 use Rattle.std.proofs.Common.{◌≡◌, ℕ, ◌<◌, List, [], length, map, set, ap, arith}
 use Rattle.std.proofs.lemmas.List.{length-set, get_or-set_same}
-use Rattle.far_store.specs.declared.places.Place.TheVariants.{Here, Far}
+use Rattle.places.specs.declared.places.Place.TheVariants.{Here, Far}
 use Rattle.memory.specs.Objects.{bytes_of, with_bytes}
 use Rattle.object_store.specs.Stores.{place_of}
 use Rattle.object_store.specs.Bodies.{Kept, IsKeptStore, bytes_in, place_in, scopes_in}
@@ -23,5 +23,5 @@ forgotten old new windows budget spare n k h b q s f =
       objects = rw b (objects_freed objects n k.objects);
       counts = rw s k.counts;
       windows_are = k.windows_are;
-      left = rw (b, q) (omega (arith, same, there, none, k.left));
+      budget_is = rw (b, q) (omega (arith, same, there, none, k.budget_is));
     }

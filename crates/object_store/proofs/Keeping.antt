@@ -2,10 +2,11 @@
 use Rattle.std.proofs.Common.{◌≡◌, ℕ, ◌+◌, ◌<◌, ◌≤◌, zero, suc, Bool, true, false, List, [], ◌∷◌, ◌++◌, length, slice_index_or, map, set, take, drop, replicate, None, refl, sym, ap, ◌∙◌, arith}
 use Rattle.std.proofs.lemmas.List.{length-map, length-set, map-append}
 use Rattle.std.proofs.Math.Seq.{take-append_seam}
-use Rattle.far_store.specs.declared.places.Place.{Place}
-use Rattle.far_store.specs.declared.places.Place.TheVariants.{Here, Far, Returning}
+use Rattle.places.specs.declared.places.Place.{Place}
+use Rattle.places.specs.declared.places.Place.TheVariants.{Here, Far, Returning}
 use Rattle.memory.specs.Objects.{AreObjects, bytes_of, with_bytes, object_limit, object_bytes}
-use Rattle.object_store.specs.Stores.{window_count, place_of, near_length, near_bytes}
+use Rattle.object_store.specs.Stores.{place_of, near_length, near_bytes}
+use Rattle.scopes.specs.Windows.{window_count}
 use Rattle.object_store.specs.Bodies.{Kept, CountsHold, IsKeptStore, BytesBack, bytes_in, place_in, scopes_in}
 use Rattle.object_store.proofs.Objects_kept.{objects_stay, objects_made, objects_freed}
 use Rattle.object_store.proofs.Counting.{uncounted_more, counts_at_first, none_held}
@@ -58,7 +59,7 @@ placed old new windows budget spare left n from p k h f b q s e =
       objects = rw b k.objects;
       counts = rw s k.counts;
       windows_are = k.windows_are;
-      left = rw (b, q) (omega (arith, g, k.left, e));
+      budget_is = rw (b, q) (omega (arith, g, k.budget_is, e));
     }
 
 -- with other bytes, as many
@@ -71,7 +72,7 @@ filled old new windows after budget spare n b k h l e q s w f =
       objects = rw e (objects_stay (map bytes_in old) n b k.objects l);
       counts = s;
       windows_are = w;
-      left = rw (e, q) (omega (arith, g, k.left, l));
+      budget_is = rw (e, q) (omega (arith, g, k.budget_is, l));
     }
 
 -- without bytes
@@ -84,7 +85,7 @@ emptied old new windows budget spare left n k h b q s f e =
       objects = rw b (objects_freed (map bytes_in old) n k.objects);
       counts = rw s k.counts;
       windows_are = k.windows_are;
-      left = rw (b, q) (omega (arith, g, k.left, e));
+      budget_is = rw (b, q) (omega (arith, g, k.budget_is, e));
     }
 
 -- back, over a store that returns what was put or one that may not
@@ -104,7 +105,7 @@ came_back false old new windows budget spare n k h f b q s =
       objects = rw b.1 (objects_stay objects n back k.objects b.0);
       counts = rw s k.counts;
       windows_are = k.windows_are;
-      left = rw (b.1, q) (omega (arith, same, there, k.left, b.0));
+      budget_is = rw (b.1, q) (omega (arith, same, there, k.budget_is, b.0));
     }
 
 -- ---- made
@@ -120,7 +121,7 @@ made old new body windows budget spare left k e p s room short l =
       objects = rw bytes (objects_made (map bytes_in old) body.bytes k.objects (let c = length-map old bytes_in in omega (arith, room)) short);
       counts = rw (scopes, s) (uncounted_more (map scopes_in old) windows k.counts);
       windows_are = k.windows_are;
-      left = rw (bytes, places, p) (omega (arith, g, k.left, l));
+      budget_is = rw (bytes, places, p) (omega (arith, g, k.budget_is, l));
     }
 
 -- a list that is written back whole
@@ -151,5 +152,5 @@ first_store bodies windows budget b w = rw (b, w) (record {
   objects = objects_first;
   counts = counts_at_first (replicate window_count []) (λ k. none_held window_count k);
   windows_are = refl;
-  left = omega arith;
+  budget_is = omega arith;
 })

@@ -2,7 +2,7 @@
 use Rattle.std.proofs.Common.{◌≡◌, ℕ, ◌+◌, ◌<◌, zero, suc, List, [], ◌∷◌, Vec, length, map, set, refl, ◌∙◌, Fits, w32, arith}
 use Rattle.std.specs.Vec.{with_items}
 use Rattle.std.proofs.lemmas.List.{with_items_is}
-use Rattle.far_store.specs.declared.places.Place.{Place}
+use Rattle.places.specs.declared.places.Place.{Place}
 use Rattle.memory.specs.Objects.{number_count, bytes_of}
 use Rattle.object_store.specs.Stores.{StoreState, place_of, near_length}
 use Rattle.object_store.specs.Bodies.{Kept, IsKeptStore, bytes_in, place_in, scopes_in}
@@ -29,7 +29,7 @@ pub fits_word : (bodies : List Kept) (windows : List (List ℕ)) (budget spare n
 fits_word bodies windows budget spare n count from k h e fits =
     let there = found bodies n from h in
     let g = rw there.place at (near_one bodies n there.inside) in
-    omega (arith, g, k.left, e, fits)
+    omega (arith, g, k.budget_is, e, fits)
 
 -- The store, once the list is back with the object in the other place. It has its memory still.
 pub placed_back : {Z : Type 0} (v : Vec Kept Z) (lent new : List Kept) (windows : List (List ℕ)) (budget spare left n : ℕ) (from to : Place)

@@ -3,10 +3,11 @@ use Rattle.std.specs.Prelude.{◌≡◌, ℕ, ◌+◌, ◌-◌, Bool, true, fals
 use Rattle.pointer_word.specs.declared.word.WordPlace.{WordPlace}
 use Rattle.pointer_word.specs.declared.word.WordPlace.TheVariants.{Local, Moving, Far as WordFar}
 use Rattle.pointer_word.specs.Words.{WordRecord}
-use Rattle.far_store.specs.declared.places.Place.{Place}
-use Rattle.far_store.specs.declared.places.Place.TheVariants.{Here, Leaving, Far, Returning}
+use Rattle.places.specs.declared.places.Place.{Place}
+use Rattle.places.specs.declared.places.Place.TheVariants.{Here, Leaving, Far, Returning}
 use Rattle.memory.specs.Objects.{AreObjects, bytes_of, with_bytes}
-use Rattle.object_store.specs.Stores.{Sent, window_count, holders, near_bytes}
+use Rattle.object_store.specs.Stores.{Sent, holders, near_bytes}
+use Rattle.scopes.specs.Windows.{window_count}
 
 -- ---- one object
 
@@ -133,5 +134,5 @@ pub record IsKeptStore (bodies : List Kept) (windows : List (List ℕ)) (budget 
   pub counts : CountsHold (map scopes_in bodies) windows
   -- a window for each machine, and one at number 0
   pub windows_are : length windows ≡ window_count
-  -- what is left, with the bytes of all objects that aren't far, is the budget
-  pub left : spare + near_bytes (map bytes_in bodies) (map place_in bodies) ≡ budget
+  -- what is spare, with the bytes of all objects that aren't far, is the budget
+  pub budget_is : spare + near_bytes (map bytes_in bodies) (map place_in bodies) ≡ budget

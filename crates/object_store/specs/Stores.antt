@@ -1,13 +1,13 @@
 -- A store of objects, as its callers see it: the bytes of each object, where it is, and which machines have it in scope.
 use Rattle.std.specs.Prelude.{◌≡◌, ℕ, ◌+◌, ◌<◌, ◌≤◌, Bool, false, cond, List, [], ◌∷◌, length, get_or, set, replicate, Option, None}
 use Rattle.std.specs.List.{sum_by}
-use Rattle.scopes.specs.Windows.{holds, noted}
+use Rattle.scopes.specs.Windows.{holds, noted, machine_limit, window_count}
 use Rattle.far_store.specs.Stores.{capped}
 use Rattle.memory.specs.declared.access.Op.{Op}
 use Rattle.memory.specs.declared.access.Reach.{Reach}
 use Rattle.memory.specs.declared.access.Reach.TheVariants.{Done, Away, Outside}
-use Rattle.far_store.specs.declared.places.Place.{Place}
-use Rattle.far_store.specs.declared.places.Place.TheVariants.{Here, Far}
+use Rattle.places.specs.declared.places.Place.{Place}
+use Rattle.places.specs.declared.places.Place.TheVariants.{Here, Far}
 use Rattle.memory.specs.Access.{answer, after}
 use Rattle.memory.specs.Memories.Known.{AllBytes}
 use Rattle.memory.specs.Memories.{Memories}
@@ -64,14 +64,6 @@ abbrev pub StandsAt : Place → StoreState → ℕ → Type 0
 StandsAt p s n = IsLive s.objects n × (place_of s.places n ≡ p)
 
 -- ---- windows
-
--- Machines are numbered from 1 to this. A window stands at 0 too, which is no machine's.
-abbrev pub machine_limit : ℕ
-machine_limit = 48
-
--- how many windows there are: those of the machines, and that at 0
-abbrev pub window_count : ℕ
-window_count = machine_limit + 1
 
 -- a window stands at this number
 abbrev pub HasWindow : ℕ → Type 0

@@ -15,6 +15,6 @@ mod standing;
 mod stores;
 
 pub use errors::{GetError, MakeError, PartsError, PutError};
-pub use far_store::{Moved, Place};
 pub use parts::Parts;
-pub use stores::{MACHINE_LIMIT, ObjectStore, StoreMemory};
+pub use places::{Moved, Place};
+pub use stores::{ObjectStore, StoreMemory};

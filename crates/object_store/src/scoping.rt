@@ -1,7 +1,7 @@
 //! Which objects the windows hold.
 ghost use Rattle.std.specs.Prelude.{◌≡◌, ◌<◌, ◌≤◌, [], false, length, map, set, get_or, Some, IfSome};
-ghost use Rattle.scopes.specs.Windows.{holds, noted, pushed_out};
-ghost use Rattle.object_store.specs.Stores.{window_count, window_of};
+ghost use Rattle.scopes.specs.Windows.{holds, noted, pushed_out, window_count};
+ghost use Rattle.object_store.specs.Stores.{window_of};
 ghost use Rattle.object_store.specs.Bodies.{CountsHold, IsCounted, grown, lessened, bytes_in, place_in, scopes_in, sent_in};
 
 use crate::bodies::Body;

@@ -19,14 +19,12 @@ use crate::standing::{
     Standing, act_at, copy_range, length_at, place_at, read_range, scopes_at, stand, stand_range,
     write_range,
 };
-use far_store::{FarStore, Moved, Place};
+use far_store::FarStore;
 use memory::{Memory, OBJECT_LIMIT, Op, Reach};
-use scopes::Window;
+use places::{Moved, Place};
+use scopes::{MACHINE_LIMIT, Window};
 use std::alloc::{AllocError, Global};
 use std::marker::Model;
-
-/// The greatest number of a machine, which has a window (this project's choice).
-pub const MACHINE_LIMIT: usize = 48;
 
 /// Objects by number, from 1 on, a window for each machine, and the far store to which objects are moved. It is seen as
 /// the lists of the objects' bytes, of their places and of the windows; a number without bytes is no object, and number 0

@@ -1,10 +1,11 @@
 //! What is done with objects and what is answered, as plain values.
 
 use crate::compared::compare_row;
-use far_store::{FarStore, Moved, Place};
+use far_store::FarStore;
 use isa_table::{AtomicOp, Size, Width};
 use memory::{Action, OBJECT_BYTES, Op, Reach};
-use object_store::{GetError, MACHINE_LIMIT, MakeError, ObjectStore, PutError};
+use object_store::{GetError, MakeError, Moved, ObjectStore, Place, PutError};
+use scopes::MACHINE_LIMIT;
 use std::process::Abort;
 
 /// What is done with objects.

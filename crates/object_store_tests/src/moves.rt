@@ -4,7 +4,8 @@ use crate::acts::{ADD_ONE, Act, Answer, DONE, LOAD, NO_OBJECT, tells};
 use crate::stores::{AMPLE, failing_objects, objects_within, own_objects};
 use far_store::StoreFault;
 use memory::Reach;
-use object_store::{GetError, MACHINE_LIMIT, MakeError, Moved, Place, PutError};
+use object_store::{GetError, MakeError, Moved, Place, PutError};
+use scopes::MACHINE_LIMIT;
 use std::test::Fail;
 
 const HERE: Answer = Answer::Moved(Moved::Misplaced(Place::Here));

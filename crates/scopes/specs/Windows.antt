@@ -1,7 +1,7 @@
 -- The window of a machine: the numbers of the objects that it reached last, the oldest first. That there are at most four
 -- and that the oldest goes first is this project's choice.
 use Rattle.std.specs.List.{list_any}
-use Rattle.std.specs.Prelude.{◌≡◌, ℕ, ◌≤◌, nat_eq, nat_le, Bool, false, cond, List, [], ◌∷◌, ◌++◌, length, Option, Some, None}
+use Rattle.std.specs.Prelude.{◌≡◌, ℕ, ◌+◌, ◌≤◌, nat_eq, nat_le, Bool, false, cond, List, [], ◌∷◌, ◌++◌, length, Option, Some, None}
 
 -- whether a number is in it
 abbrev pub holds : ℕ → List ℕ → Bool
@@ -38,3 +38,13 @@ noted n w = cond (holds n w) w (without_oldest w ++ n ∷ [])
 -- the number that is pushed out then
 abbrev pub pushed_out : ℕ → List ℕ → Option ℕ
 pushed_out n w = cond (holds n w) None (oldest_out w)
+
+-- ---- how many
+
+-- Machines are numbered from 1 to this (this project's choice). A window stands at 0 too, which is no machine's.
+abbrev pub machine_limit : ℕ
+machine_limit = 48
+
+-- how many windows there are: those of the machines, and that at 0
+abbrev pub window_count : ℕ
+window_count = machine_limit + 1

@@ -7,4 +7,4 @@ mod tests;
 mod window;
 
 pub use laws::{noting_again_changes_nothing, noting_keeps_the_newest, windows_stay_windows};
-pub use window::Window;
+pub use window::{MACHINE_LIMIT, Window};

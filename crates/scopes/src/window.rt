@@ -6,6 +6,9 @@ ghost use Rattle.scopes.specs.Places.{number_at};
 use std::marker::Model;
 use std::mem;
 
+/// The greatest number of a machine, each of which has a window (this project's choice).
+pub const MACHINE_LIMIT: usize = 48;
+
 /// What stands at a place without a number. It is no number of 32 bits.
 const NO_NUMBER: u64 = 0x1_0000_0000;
 

@@ -45,7 +45,7 @@ informed_number (Debug command) old before = refl
 -- a command on its machine
 pub answered_number : (command : MachineCommand) (old : SeatState) (before : CellState) (m : ℕ) (told : Reply) (new : SeatState) (after : CellState) → AnswersLent command old before m told new after
     → after.number ≡ before.number
-answered_number command old before m told new after (inl h) = ap number_of h.left
+answered_number command old before m told new after (inl h) = ap number_of h.unchanged
 answered_number command old before m told new after (inr h) = cell_number command (informed command old before) m told after h.answers ∙ informed_number command old before
 
 -- a machine that comes

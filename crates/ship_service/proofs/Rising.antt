@@ -77,7 +77,7 @@ stepped actor low first way old new before after told i h = walked actor low fir
 answered : (old new : SeatState) (m : ℕ) (way : Way) (before after : CellState) (said : Reply) → before.seat.view.actor ≡ m → AnswersLent (Step way) old before m said new after → StepsAbove m old before.seat after.seat new
 answered old new m way before after said actor (inl h) = record {
   more = [];
-  entries = ap (λ (c : CellState). c.seat.view.entries) h.left ∙ sym (append-nil before.seat.view.entries);
+  entries = ap (λ (c : CellState). c.seat.view.entries) h.unchanged ∙ sym (append-nil before.seat.view.entries);
   stamps = let k = ap (λ (s : SeatState). s.stamp) h.same in omega (arith, k);
 }
 answered old new m way before after said actor (inr h) =

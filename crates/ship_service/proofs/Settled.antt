@@ -9,7 +9,7 @@ use Rattle.atomic_table.specs.Seated.{TableId}
 use Rattle.far_store.specs.Stores.{parcel_bytes}
 use Rattle.machine.specs.MachineState.{MachineState}
 use Rattle.memory.specs.Objects.{bytes_of}
-use Rattle.object_store.specs.Stores.{machine_limit}
+use Rattle.scopes.specs.Windows.{machine_limit}
 use Rattle.shared_objects.specs.Ends.{Shows, Closes}
 use Rattle.shared_objects.specs.History.{Has}
 use Rattle.shared_objects.specs.One.{entries_by}

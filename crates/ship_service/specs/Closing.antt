@@ -4,7 +4,7 @@ use Rattle.std.specs.declared.alloc.Global.{Global}
 use Rattle.atomic_table.specs.Seated.{TableId}
 use Rattle.far_store.specs.declared.fault.StoreFault.{StoreFault}
 use Rattle.memory.specs.Objects.{bytes_of}
-use Rattle.object_store.specs.Stores.{machine_limit}
+use Rattle.scopes.specs.Windows.{machine_limit}
 use Rattle.shared_objects.specs.History.{Has}
 use Rattle.shared_objects.specs.One.{OneList, entries_by}
 use Rattle.shared_objects.specs.Parts.{part_of}
@@ -49,42 +49,42 @@ pub data EndsAs (place : Place) (bytes : List ℕ) (shown : Ended) (parcel : Opt
   Away : place ≡ Far bytes → shown ≡ ended.Out → parcel ≡ Some bytes → EndsAs place bytes shown parcel
 
 -- The object of a number, as it closes. None is on its way.
-pub record ObjectCloses {X : Type 0} (opening : List (List ℕ)) (mover : MoverState X) (ends : List (List ℕ)) (closed : ClosedState X) (n : ℕ) : Type 0 where
+pub record ObjectCloses {X : Type 0} (opening : List (List ℕ)) (mover : MoverState X) (ends : List (List ℕ)) (state : ClosedState X) (n : ℕ) : Type 0 where
   -- it has as many bytes as it was opened with
   pub long : length (bytes_of ends n) ≡ length (bytes_of opening n)
-  pub length_is : slice_index_or closed.lengths n 0 ≡ length (bytes_of opening n)
+  pub length_is : slice_index_or state.lengths n 0 ≡ length (bytes_of opening n)
   pub shown : Ended
-  pub shown_is : slice_get closed.objects n ≡ Some shown
-  pub ends_as : EndsAs (place_of mover.view n) (bytes_of ends n) shown (slice_index_or closed.parcels n None)
+  pub shown_is : slice_get state.objects n ≡ Some shown
+  pub ends_as : EndsAs (place_of mover.view n) (bytes_of ends n) shown (slice_index_or state.parcels n None)
 
 -- There are as many numbers as there were at the opening.
-pub record KeepsNumbers {X : Type 0} (opening ends : List (List ℕ)) (closed : ClosedState X) : Type 0 where
+pub record KeepsNumbers {X : Type 0} (opening ends : List (List ℕ)) (state : ClosedState X) : Type 0 where
   pub ends_are : length ends ≡ length opening
-  pub lengths_are : length closed.lengths ≡ length opening
-  pub objects_are : length closed.objects ≡ length opening
-  pub parcels_are : length closed.parcels ≡ length opening
+  pub lengths_are : length state.lengths ≡ length opening
+  pub objects_are : length state.objects ≡ length opening
+  pub parcels_are : length state.parcels ≡ length opening
 
 -- What the service of the table of this name leaves, by what its mover and the seats of its connections were then.
-pub record Settles {X : Type 0} (returns : Bool) (table : TableId) (opening : List (List ℕ)) (starts : List MachineState) (mover : MoverState X) (connections : List ActorSeat) (closed : ClosedState X) : Type 0 where
+pub record Settles {X : Type 0} (returns : Bool) (table : TableId) (opening : List (List ℕ)) (starts : List MachineState) (mover : MoverState X) (connections : List ActorSeat) (state : ClosedState X) : Type 0 where
   -- the seats of the cells, one for each machine that there may be
   pub seats : List ActorSeat
   pub all : length seats ≡ machine_limit
   -- each machine is the replay of its seat's entries from its start
-  pub machines : WereCells table opening starts seats closed.cells
+  pub machines : WereCells table opening starts seats state.cells
   -- the bytes with which each object closes, by number
   pub ends : List (List ℕ)
-  pub numbers : KeepsNumbers opening ends closed
-  pub objects : (n : ℕ) → n < length opening → ObjectCloses opening mover ends closed n
+  pub numbers : KeepsNumbers opening ends state
+  pub objects : (n : ℕ) → n < length opening → ObjectCloses opening mover ends state n
   -- all entries of all seats, those of the machines first, are one list, in which each actor has its own; by it each object has
   -- these bytes
   pub list : OneList returns opening (map part_of (seats ++ connections)) ends
-  pub store : closed.store ≡ mover.store
+  pub store : state.store ≡ mover.store
 
 -- ---- what is read of it
 
 -- the object of a number: a number without bytes is none
 abbrev pub live_object : {X : Type 0} → ClosedState X → ℕ → Option Ended
-live_object closed n = if slice_index_or closed.lengths n 0 == 0 then None else slice_get closed.objects n
+live_object state n = if slice_index_or state.lengths n 0 == 0 then None else slice_get state.objects n
 
 -- What the far store gives for a parcel. Where it gives back what was put, bytes that come are those for which the parcel stands.
 abbrev pub GivesParcel : Bool → Option (List ℕ) → Result (Vec ℕ Global) StoreFault → Type 0
@@ -105,5 +105,5 @@ pub record ReplaysShare (opening : List (List ℕ)) (starts : List MachineState)
 
 -- Each machine that is left is the replay of its own share of the one list.
 abbrev pub MachinesReplayTheList : Type 0 → Bool → TableId → List (List ℕ) → List MachineState → Type 0
-MachinesReplayTheList X returns table opening starts = (mover : MoverState X) (connections : List ActorSeat) (closed : ClosedState X) → (s : Settles returns table opening starts mover connections closed)
-    → (c : ClosedCell) (r : RunningState) → Has closed.cells c → c.running ≡ Some r → ReplaysShare opening starts (map part_of (s.seats ++ connections)) s.list.one c.number r
+MachinesReplayTheList X returns table opening starts = (mover : MoverState X) (connections : List ActorSeat) (state : ClosedState X) → (s : Settles returns table opening starts mover connections state)
+    → (c : ClosedCell) (r : RunningState) → Has state.cells c → c.running ≡ Some r → ReplaysShare opening starts (map part_of (s.seats ++ connections)) s.list.one c.number r

@@ -24,8 +24,8 @@ object_line n (Some e) = ended (object_text n e)
 
 -- the lines of the objects with numbers below this one, in order
 abbrev pub object_lines : {X : Type 0} → ClosedState X → ℕ → List ℕ
-object_lines closed zero = []
-object_lines closed (suc n) = object_lines closed n ++ object_line n (live_object closed n)
+object_lines state zero = []
+object_lines state (suc n) = object_lines state n ++ object_line n (live_object state n)
 
 -- the line of a machine, if there is one: that with which `regs` is answered
 abbrev pub machine_line : ℕ → Option RunningState → List ℕ
@@ -38,4 +38,4 @@ cell_line c = machine_line c.number c.running
 
 -- the lines of all objects, and then those of all machines
 abbrev pub closing_lines : {X : Type 0} → ClosedState X → List ℕ
-closing_lines closed = object_lines closed (length closed.lengths) ++ flat_map cell_line closed.cells
+closing_lines state = object_lines state (length state.lengths) ++ flat_map cell_line state.cells

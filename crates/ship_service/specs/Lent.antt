@@ -55,7 +55,7 @@ pub record MissesMachine (old : SeatState) (before : CellState) (told : Reply) (
   pub none : before.running ≡ None
   pub told_is : told ≡ reply.Missing
   pub same : new ≡ old
-  pub left : after ≡ before
+  pub unchanged : after ≡ before
 
 -- a command on what the lock of machine m's cell lends
 abbrev pub AnswersLent : MachineCommand → SeatState → CellState → ℕ → Reply → SeatState → CellState → Type 0

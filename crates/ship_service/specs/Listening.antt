@@ -13,7 +13,7 @@ use Rattle.world.specs.WorldState.{WorldState}
 use Rattle.ship_service.specs.Closing.{ClosedState, Settles}
 use Rattle.ship_service.specs.ClosingLines.{closing_lines}
 use Rattle.ship_service.specs.Opening.{opened_bytes}
-use Rattle.far_store.specs.declared.places.Place.{Place}
+use Rattle.places.specs.declared.places.Place.{Place}
 use Rattle.ship_service.specs.declared.listening.ListenFault.{ListenFault}
 use Rattle.ship_service.specs.declared.listening.ListenFault.TheVariants.{NotHere, Memory, Net, Write}
 
@@ -26,8 +26,8 @@ closed_line = codes "closed" ++ 10 ∷ []
 -- The text tells how a service closed that began with these bytes and machines: that it did, and then what it left. All entries
 -- of its machines and connections are one list, by which each object closes, and of which each machine is the replay of its share.
 abbrev pub TellsClosing : Type 0 → Bool → TableId → List (List ℕ) → List MachineState → List ℕ → Type 0
-TellsClosing X returns table opening starts text = (mover : MoverState X) × (connections : List ActorSeat) × (closed : ClosedState X)
-    × Settles returns table opening starts mover connections closed × (text ≡ closed_line ++ closing_lines closed)
+TellsClosing X returns table opening starts text = (mover : MoverState X) × (connections : List ActorSeat) × (state : ClosedState X)
+    × Settles returns table opening starts mover connections state × (text ≡ closed_line ++ closing_lines state)
 
 -- The text tells how a service closed that began with this world.
 abbrev pub TellsClosingOf : Type 0 → Bool → WorldState → List ℕ → Type 0

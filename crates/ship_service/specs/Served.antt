@@ -2,7 +2,7 @@
 -- others may step at any time, it is told what its lock lends: what the type of the cell says of it before and after, and
 -- what the command did in between.
 use Rattle.std.specs.Prelude.{◌≡◌, ◌⊎◌, ℕ, ◌+◌, ◌<◌, ◌≤◌, Bool, List, Some, None}
-use Rattle.object_store.specs.Stores.{machine_limit}
+use Rattle.scopes.specs.Windows.{machine_limit}
 use Rattle.shared_objects.specs.History.{top}
 use Rattle.shared_objects.specs.Kinds.{shut}
 use Rattle.machine.specs.MachineState.{MachineState}
@@ -69,7 +69,7 @@ pub record IntoCell (opening : List (List ℕ)) (starts : List MachineState) (le
   pub after : CellState
   pub said : Reply
   pub exists : lesser < machine_limit
-  pub taken : AreLent lent lesser
+  pub lent_before : AreLent lent lesser
   pub before_is : IsCell opening starts (lesser + 1) before
   pub after_is : IsCell opening starts (lesser + 1) after
   pub empty : before.running ≡ None

@@ -1,7 +1,7 @@
 //! Commands on machines by their numbers, each under the lock of the machine's cell.
 ghost use Rattle.std.specs.Prelude.{◌≡◌, ◌≤◌, ◌<◌, ◌+◌, ℕ, None, IfSome, IfNone, IfOk, IfErr};
 ghost use Rattle.std.specs.Sync.Mutex.{mutex_guard_value};
-ghost use Rattle.object_store.specs.Stores.{machine_limit};
+ghost use Rattle.scopes.specs.Windows.{machine_limit};
 ghost use Rattle.workers.specs.Cells.{seat_state};
 ghost use Rattle.ship_service.specs.Served.{IsCell, ServesMachine, ServesShip};
 
@@ -10,11 +10,11 @@ use crate::replies::ServiceReply;
 use crate::shared_agent::Agent;
 use debugger::{MachineCommand, Start};
 use far_store::FarStore;
-use object_store::MACHINE_LIMIT;
+use scopes::MACHINE_LIMIT;
 use shared_objects::ActorSeat;
 use std::alloc::Global;
 use std::sync::{MutexGuard, Wait};
-use workers::{Locked, Mark, Taken};
+use workers::{Locked, Mark, Occupied};
 use world::Reply;
 
 /// The lock of the cell of this number, if there can be such a machine.
@@ -63,21 +63,21 @@ pub(crate) fn answer_machine<F: FarStore, K: Mark, R: Wait>(
 fn lend_empty<'a, F: FarStore, K: Mark, R: Wait>(
     rt: &R,
     agent: &'a Agent<F, K>,
-) -> Result<(MutexGuard<'a, Locked<K>>, Taken<K>), Taken<K>>
+) -> Result<(MutexGuard<'a, Locked<K>>, Occupied<K>), Occupied<K>>
     ensures found { IfOk result (λ r. (r.1 < machine_limit) × IsCell K.opening K.starts (r.1 + 1) (mutex_guard_value r.0) × ((mutex_guard_value r.0).running ≡ None)) }
-    ensures none { IfErr result (λ taken. taken ≡ machine_limit) }
+    ensures none { IfErr result (λ occupied. occupied ≡ machine_limit) }
 {
-    let mut taken = agent.pool().taken(rt, MACHINE_LIMIT);
-    for lesser in taken.count()..MACHINE_LIMIT {
+    let mut occupied = agent.pool().occupied(rt, MACHINE_LIMIT);
+    for lesser in occupied.count()..MACHINE_LIMIT {
         let Some(locked) = lend(rt, agent, lesser + 1) else {
             unreachable!()
         };
         if !locked.has_machine() {
-            return Ok((locked, taken));
+            return Ok((locked, occupied));
         }
-        taken = taken.and(&locked);
+        occupied = occupied.and(&locked);
     }
-    Err(taken)
+    Err(occupied)
 }
 
 /// Makes the code a machine, in the first cell that has none.
@@ -90,16 +90,16 @@ pub(crate) fn ship<F: FarStore, K: Mark, R: Wait>(
 ) -> ServiceReply
     ensures { ServesShip K.opening K.starts K.lent start code.now result }
 {
-    let (mut locked, taken) = match lend_empty(rt, agent) {
+    let (mut locked, occupied) = match lend_empty(rt, agent) {
         Ok(found) => found,
-        Err(taken) => {
-            taken.fact();
+        Err(occupied) => {
+            occupied.fact();
             return ServiceReply::Plain(Reply::Full);
         }
     };
-    taken.fact();
+    occupied.fact();
     let said = ship_lent(rt, alloc, agent.pool(), &mut locked, start, code);
     locked.fact();
-    agent.pool().know_taken(rt, &taken, &locked);
+    agent.pool().know_occupied(rt, &occupied, &locked);
     ServiceReply::Plain(said)
 }

@@ -2,7 +2,7 @@
 ghost use Rattle.std.specs.Prelude.{◌≡◌, ◌+◌, ◌++◌, length, map, slice_index_or, All, IfOk, IfSome, IfNone, None};
 ghost use Rattle.std.specs.Option.{option_copied};
 ghost use Rattle.far_store.specs.Stores.{parcel_bytes};
-ghost use Rattle.object_store.specs.Stores.{machine_limit};
+ghost use Rattle.scopes.specs.Windows.{machine_limit};
 ghost use Rattle.shared_objects.specs.Tables.{table_opening};
 ghost use Rattle.workers.specs.Cells.{IsSeatOf};
 ghost use Rattle.ship_service.specs.Closing.{AreLengths, Settles, live_object, GivesParcel};

@@ -1,8 +1,7 @@
 //! What whoever runs a service may want to know.
 
 use console::DriveFault;
-use far_store::Moved;
-use workers::Request;
+use workers::{Moved, Request};
 
 /// So many objects, and their bytes in all.
 #[derive(Clone, Copy, Drop, Debug, PartialEq, Eq)]

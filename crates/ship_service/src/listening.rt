@@ -1,6 +1,6 @@
 //! A service that listens.
 ghost use Rattle.std.specs.Prelude.{◌≡◌, ◌+◌, length};
-ghost use Rattle.object_store.specs.Stores.{machine_limit};
+ghost use Rattle.scopes.specs.Windows.{machine_limit};
 ghost use Rattle.world.specs.WorldState.{state_of};
 ghost use Rattle.ship_service.specs.Listening.{FindsHere, OpensAll, SaysAs, SaysClosing, TellsClosing, TellsClosingOf};
 ghost use Rattle.ship_service.specs.Opening.{IsNamed};

@@ -6,9 +6,8 @@ ghost use Rattle.ship_service.specs.declared.replies.ServiceReply.TheVariants.{P
 ghost use Rattle.ship_service.specs.Ranges.{PutsOnce, GetsOnce, ServesPut, ServesGet, AsksMover, reply_to_get};
 
 use crate::replies::ServiceReply;
-use debugger::Bytes;
 use far_store::FarStore;
-use memory::Reach;
+use memory::{Bytes, Reach};
 use shared_objects::{ActorSeat, Fetched};
 use std::sync::Wait;
 use workers::{Direction, Mark, Pool, give_time};

@@ -1,6 +1,6 @@
 //! What all connections share.
 ghost use Rattle.std.specs.Prelude.{◌≡◌, length};
-ghost use Rattle.object_store.specs.Stores.{machine_limit};
+ghost use Rattle.scopes.specs.Windows.{machine_limit};
 
 use far_store::FarStore;
 use workers::{Mark, Pool};

@@ -6,7 +6,7 @@ use crate::connection::Connection;
 use crate::journal::Journal;
 use crate::serving::serve;
 use crate::shared_agent::Agent;
-use far_store::{FarStore, Moved};
+use far_store::FarStore;
 use listener::accept;
 use std::alloc::{AllocError, Global};
 use std::net::{Shutdown, TcpListener, TcpStream};
@@ -14,7 +14,7 @@ use std::sync::atomic::{AtomicBool, Ordering};
 use std::sync::{Mutex, Wait};
 use std::thread;
 use std::thread::Threads;
-use workers::{Gate, Mark, Mover, Request, mover, work};
+use workers::{Gate, Mark, Moved, Mover, Request, mover, work};
 
 /// Why a service ended before all its connections had.
 #[derive(Clone, Copy, Drop, Debug, PartialEq, Eq)]

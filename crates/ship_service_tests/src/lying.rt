@@ -13,7 +13,7 @@ use crate::closing_two::close_over;
 use crate::compared::same;
 use crate::stage::{last_seat, tells};
 use crate::tools::Talk;
-use far_store::{FarStore, Moved, StoreFault};
+use far_store::{FarStore, StoreFault};
 use shared_objects::Shared;
 use std::alloc::{AllocError, Global};
 use std::marker::Brand;
@@ -21,7 +21,7 @@ use std::process::Abort;
 use std::sync::Wait;
 use std::sync::atomic::{AtomicBool, AtomicU64, Ordering};
 use std::test::Fail;
-use workers::{Direction, Gate, Mark, mover};
+use workers::{Direction, Gate, Mark, Moved, mover};
 
 /// What stands for bytes in a [`Lying`] store.
 #[derive(Drop)]

@@ -118,12 +118,12 @@ impl Ticket {
 /// How many cells of the table that K names, from that of number 1 on, were each lent with a machine in it. It counts on by a cell
 /// that is lent, and by nothing else. A machine that has come stays, so what was known of the first cells is known later too.
 #[derive(Drop)]
-pub struct Taken<K: Mark> {
+pub struct Occupied<K: Mark> {
     count: usize,
     of: PhantomData<K>,
 }
 
-impl<K: Mark> Model for Taken<K> {
+impl<K: Mark> Model for Occupied<K> {
     ghost use Rattle.std.specs.Prelude.{◌≡◌, ℕ};
     ghost use Rattle.workers.specs.Marks.{each_lent};
 
@@ -134,13 +134,13 @@ impl<K: Mark> Model for Taken<K> {
     ghost invariant = { λ t. K.lent ≡ each_lent };
 }
 
-impl<K: Mark> Taken<K> {
+impl<K: Mark> Occupied<K> {
     /// None yet.
     pub fn none() -> Self
         requires { K.lent ≡ each_lent }
         ensures { result ≡ 0 }
     {
-        Taken {
+        Occupied {
             count: 0,
             of: PhantomData,
         }
@@ -164,7 +164,7 @@ impl<K: Mark> Taken<K> {
     pub fn up_to(&self, most: usize) -> Self
         ensures { result ≡ min self.now most }
     {
-        Taken {
+        Occupied {
             count: self.count.min(most),
             of: PhantomData,
         }
@@ -185,7 +185,7 @@ impl<K: Mark> Taken<K> {
         ensures { result ≡ self + 1 }
     {
         let _count = self.count;
-        Taken {
+        Occupied {
             count: locked.number(),
             of: PhantomData,
         }

@@ -14,14 +14,14 @@ mod retries;
 mod running;
 mod threads;
 
-pub use cell::{Locked, MachineCell, Taken, Ticket};
+pub use cell::{Locked, MachineCell, Occupied, Ticket};
 pub use closing::{ClosedCell, PoolParts};
-pub use far_store::{Moved, Place};
 pub use gate::Gate;
 pub use job::{Direction, Job, Request};
 pub use mark::Mark;
 pub use movers::{Looked, Mover};
 pub use patience::give_time;
+pub use places::{Moved, Place};
 pub use pool::{Pool, QUEUE_LIMIT, TURN_LIMIT, work};
 pub use running::{Running, Shipment};
 pub use threads::{mover, run_all, run_workers};

@@ -18,7 +18,7 @@ pub trait Mark {
     /// How many actors' seats were made.
     ghost seats: { ℕ };
 
-    /// Which cells were lent with a machine in them. Whoever serves learns it of a cell only by `Taken::fact`.
+    /// Which cells were lent with a machine in them. Whoever serves learns it of a cell only by `Occupied::fact`.
     ghost lent: { ℕ → Bool };
 }
 

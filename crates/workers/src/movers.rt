@@ -16,8 +16,9 @@ ghost use Rattle.workers.specs.Moves.{LeavesFor, ReturnsFrom, AsksToLeave, AsksT
 use crate::job::Direction;
 use crate::mark::Mark;
 use crate::pool::Pool;
-use far_store::{FarStore, Moved, Place, StoreFault};
+use far_store::{FarStore, StoreFault};
 use memory::OBJECT_LIMIT;
+use places::{Moved, Place};
 use shared_objects::{Leave, MoverSeat, SharedTable};
 use std::alloc::{AllocError, Global};
 use std::marker::{Model, PhantomData};

@@ -9,7 +9,7 @@ ghost use Rattle.workers.specs.Closing.{WereCells};
 ghost use Rattle.workers.specs.Marks.{each_lent};
 ghost use Rattle.workers.specs.Pools.{IsNewSeat, AreSeats, machines_of, machine_of, QueuesCell};
 
-use crate::cell::{Locked, MachineCell, Taken, Ticket};
+use crate::cell::{Locked, MachineCell, Occupied, Ticket};
 use crate::closing::{PoolParts, parts_of};
 use crate::gate::Gate;
 use crate::job::{Direction, Job, Request, put_into};
@@ -18,7 +18,8 @@ use crate::patience::give_time;
 use crate::requests::Requests;
 use crossbeam_queue::ArrayQueue;
 use debugger::{Debuggee, StepReply, Way};
-use far_store::{FarStore, Moved};
+use far_store::FarStore;
+use places::Moved;
 use shared_objects::{ActorSeat, Shared, SharedTable};
 use std::alloc::{AllocError, Global};
 use std::sync::atomic::{AtomicU64, Ordering};
@@ -44,7 +45,7 @@ pub struct Pool<F: FarStore, K: Mark> {
     // that of machine 1 first
     cells: Vec<MachineCell<K>>,
     // cells that are known to have machines, so that nobody waits for their locks to look for an empty one
-    taken: Mutex<Taken<K>>,
+    occupied: Mutex<Occupied<K>>,
     runs: ArrayQueue<Job>,
     // machines that wait for an object which is away
     waits: Mutex<ArrayQueue<Job>>,
@@ -172,18 +173,18 @@ fn cells_of<K: Mark, R: Wait>(
 }
 
 /// The first cells, as long as they have machines.
-fn taken_of<K: Mark, R: Wait>(rt: &R, cells: &[MachineCell<K>]) -> Taken<K>
+fn occupied_of<K: Mark, R: Wait>(rt: &R, cells: &[MachineCell<K>]) -> Occupied<K>
     requires { K.lent ≡ each_lent }
 {
-    let mut taken = Taken::none();
+    let mut occupied = Occupied::none();
     for cell in cells {
         let locked = cell.lock(rt);
-        if !taken.is_next(&locked) {
-            return taken;
+        if !occupied.is_next(&locked) {
+            return occupied;
         }
-        taken = taken.and(&locked);
+        occupied = occupied.and(&locked);
     }
-    taken
+    occupied
 }
 
 impl<F: FarStore, K: Mark> Pool<F, K> {
@@ -207,11 +208,11 @@ impl<F: FarStore, K: Mark> Pool<F, K> {
         let waits = ArrayQueue::new(alloc, QUEUE_LIMIT)?;
         let requests = Requests::new(alloc)?;
         let cells = cells_of(rt, alloc, &runs, seats, machines)?;
-        let taken = Mutex::new(taken_of(rt, &cells));
+        let occupied = Mutex::new(occupied_of(rt, &cells));
         Ok(Pool {
             shared,
             cells,
-            taken,
+            occupied,
             runs,
             waits: Mutex::new(waits),
             requests,
@@ -241,21 +242,21 @@ impl<F: FarStore, K: Mark> Pool<F, K> {
     }
 
     /// Of the first so many cells those that are known to have machines.
-    pub fn taken<R: Wait>(&self, rt: &R, most: usize) -> Taken<K>
+    pub fn occupied<R: Wait>(&self, rt: &R, most: usize) -> Occupied<K>
         ensures { result ≤ most }
     {
-        self.taken.lock(rt).up_to(most)
+        self.occupied.lock(rt).up_to(most)
     }
 
     /// From now on these cells are known to have machines, and so is the next one, if it has one.
-    pub fn know_taken<R: Wait>(&self, rt: &R, taken: &Taken<K>, next: &Locked<K>) {
-        let first = taken.up_to(taken.count());
+    pub fn know_occupied<R: Wait>(&self, rt: &R, occupied: &Occupied<K>, next: &Locked<K>) {
+        let first = occupied.up_to(occupied.count());
         let found = if first.is_next(next) {
             first.and(next)
         } else {
             first
         };
-        let mut known = self.taken.lock(rt);
+        let mut known = self.occupied.lock(rt);
         if known.count() < found.count() {
             *known = found;
         }
@@ -518,7 +519,7 @@ impl<F: FarStore, K: Mark> Pool<F, K> {
         let Pool {
             shared,
             cells,
-            taken: _,
+            occupied: _,
             runs: _,
             waits: _,
             requests: _,

@@ -7,7 +7,7 @@ use crate::common::{CLOSE, Crowd, EXIT, LOAD, LOOKS, OBJECT, goes, program, rest
 use crate::compared::same;
 use crate::course::{Code, Course, Left, left_of};
 use debugger::{Start, StepReply, Way};
-use far_store::{FarStore, Moved, OwnStore, Place};
+use far_store::{FarStore, OwnStore};
 use loader::Program;
 use shared_objects::MoverSeat;
 use std::alloc::Global;
@@ -16,7 +16,7 @@ use std::sync::atomic::Ordering;
 use std::test::Fail;
 use std::thread;
 use std::thread::Threads;
-use workers::{Direction, Mark, Mover, Pool, run_all};
+use workers::{Direction, Mark, Moved, Mover, Place, Pool, run_all};
 
 /// How often each machine adds to each object.
 const TIMES: u64 = 500;

@@ -23,7 +23,7 @@ StackAnswers machines m offset size reply = (s : StoreState) → AnswersMachine 
 shown : (machines : List Debuggee) (m offset size : ℕ) (d : Debuggee) (told : ShowReply) → machine_at machines m ≡ Some d → ShowsBytes d.machine.stack offset size told
     → StackAnswers machines m offset size (reply_to_show m told)
 shown machines m offset size d told found shows =
-    λ s. inr (record { debuggee = d; left = d; found = found; answers = (told, refl, shows, refl, refl); changed = sym (with_same machines m d found) })
+    λ s. inr (record { debuggee = d; became = d; found = found; answers = (told, refl, shows, refl, refl); changed = sym (with_same machines m d found) })
 
 at : (machines : List Debuggee) (m k : ℕ) (d : Debuggee) → m ≡ suc k → slice_get machines k ≡ Some d → machine_at machines m ≡ Some d
 at machines m k d e found = subst (λ (n : ℕ). machine_at machines n ≡ Some d) (sym e) found

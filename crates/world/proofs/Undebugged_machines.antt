@@ -188,10 +188,10 @@ machine_undebugged memory m c old new before after r e (inl h) =
     inl (record { none = missing_undebugged old m h.none; told = ap undebugged_reply h.told; unchanged = ap undebugged_machines h.unchanged; same = h.same })
 machine_undebugged memory m c old new before after r e (inr h) = inr (record {
   debuggee = undebugged_machine h.debuggee;
-  left = undebugged_machine h.left;
+  became = undebugged_machine h.became;
   found = found_undebugged old m h.debuggee h.found;
-  answers = command_undebugged memory m c h.debuggee h.left before after r e h.answers;
-  changed = ap undebugged_machines h.changed ∙ with_undebugged old m h.left;
+  answers = command_undebugged memory m c h.debuggee h.became before after r e h.answers;
+  changed = ap undebugged_machines h.changed ∙ with_undebugged old m h.became;
 })
 
 not_pause : (m : ℕ) (told : ShowReply) → is_pause (reply_to_show m told) ≡ false
@@ -210,4 +210,4 @@ pub machine_unseen : {S : Type 0} (memory : Memories S) (m : ℕ) (c : MachineCo
     → AnswersMachine memory old before m c r new after → (undebugged_machines new ≡ undebugged_machines old) × (after ≡ before)
 machine_unseen memory m c old new before after r e (inl h) = (ap undebugged_machines h.unchanged, h.same)
 machine_unseen memory m c old new before after r e (inr h) =
-    let k = command_unseen memory m c h.debuggee h.left before after r e h.answers in (unseen old new m h.debuggee h.left h.found k.0 h.changed, k.1)
+    let k = command_unseen memory m c h.debuggee h.became before after r e h.answers in (unseen old new m h.debuggee h.became h.found k.0 h.changed, k.1)

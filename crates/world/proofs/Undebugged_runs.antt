@@ -1,10 +1,11 @@
 -- Debugging changes nothing.
 use Rattle.std.proofs.Common.{◌≡◌, ◌≤◌, ◌+◌, ℕ, true, false, List, [], ◌∷◌, length, map, refl, sym, ap, ◌∙◌, subst, arith}
 use Rattle.std.proofs.lemmas.List.{length-map, map-append}
-use Rattle.far_store.specs.declared.places.Place.{Place}
-use Rattle.far_store.specs.declared.places.Place.TheVariants as place
-use Rattle.far_store.specs.declared.places.Moved.{Moved}
-use Rattle.object_store.specs.Stores.{StoreState, machine_limit, store_memory}
+use Rattle.places.specs.declared.places.Place.{Place}
+use Rattle.places.specs.declared.places.Place.TheVariants as place
+use Rattle.places.specs.declared.places.Moved.{Moved}
+use Rattle.object_store.specs.Stores.{StoreState, store_memory}
+use Rattle.scopes.specs.Windows.{machine_limit}
 use Rattle.object_store.specs.Calls.{Frees}
 use Rattle.debugger.specs.declared.start.Start.{Start}
 use Rattle.debugger.specs.declared.commands.MachineCommand.TheVariants.{Step, Show, Debug}

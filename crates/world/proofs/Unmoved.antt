@@ -4,10 +4,10 @@ use Rattle.memory.specs.declared.access.Op.{Op}
 use Rattle.memory.specs.declared.access.Reach.{Reach}
 use Rattle.memory.specs.declared.access.Reach.TheVariants as reach
 use Rattle.memory.specs.MapMemory.{map_memory, map_reaches}
-use Rattle.far_store.specs.declared.places.Place.{Place}
-use Rattle.far_store.specs.declared.places.Place.TheVariants as place
-use Rattle.far_store.specs.declared.places.Moved.{Moved}
-use Rattle.far_store.specs.declared.places.Moved.TheVariants as moved
+use Rattle.places.specs.declared.places.Place.{Place}
+use Rattle.places.specs.declared.places.Place.TheVariants as place
+use Rattle.places.specs.declared.places.Moved.{Moved}
+use Rattle.places.specs.declared.places.Moved.TheVariants as moved
 use Rattle.object_store.specs.Stores.{StoreState, store_memory, Touches}
 use Rattle.object_store.specs.Calls.{Frees}
 use Rattle.machine.specs.declared.state.Stepped.{Stepped}
@@ -103,9 +103,9 @@ machine_plain : (m : ℕ) (c : MachineCommand) (old new : List Debuggee) (before
 machine_plain m c old new before after r e (inl h) = inl (record { none = h.none; told = h.told; unchanged = h.unchanged; same = ap (λ (s : StoreState). s.objects) h.same })
 machine_plain m c old new before after r e (inr h) = inr (record {
   debuggee = h.debuggee;
-  left = h.left;
+  became = h.became;
   found = h.found;
-  answers = command_plain m c h.debuggee h.left before after r e h.answers;
+  answers = command_plain m c h.debuggee h.became before after r e h.answers;
   changed = h.changed;
 })
 
@@ -154,7 +154,7 @@ machine_erased : (m : ℕ) (c : MachineCommand) (old new : List Debuggee) (befor
     → AnswersMachine (store_memory m) old before m c r new after → (new ≡ old) × (after ≡ before)
 machine_erased m c old new before after r e (inl h) = (h.unchanged, h.same)
 machine_erased m c old new before after r e (inr h) =
-    let k = command_erased m c h.debuggee h.left before after r e h.answers in
+    let k = command_erased m c h.debuggee h.became before after r e h.answers in
     (h.changed ∙ ap (λ (d : Debuggee). with_machine old m d) k.0 ∙ with_same old m h.debuggee h.found, k.1)
 
 -- ---- moves

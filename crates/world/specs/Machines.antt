@@ -75,10 +75,10 @@ pub record Misses {S : Type 0} (old : List Debuggee) (before : S) (m : ℕ) (rep
 -- Machine m is there and answers the command. The other machines stay as they are.
 pub record Finds {S : Type 0} (memory : Memories S) (old : List Debuggee) (before : S) (m : ℕ) (command : MachineCommand) (reply : Reply) (new : List Debuggee) (after : S) : Type 0 where
   pub debuggee : Debuggee
-  pub left : Debuggee
+  pub became : Debuggee
   pub found : machine_at old m ≡ Some debuggee
-  pub answers : AnswersCommand memory debuggee before m command reply left after
-  pub changed : new ≡ with_machine old m left
+  pub answers : AnswersCommand memory debuggee before m command reply became after
+  pub changed : new ≡ with_machine old m became
 
 -- a command on machine m
 abbrev pub AnswersMachine : {S : Type 0} → Memories S → List Debuggee → S → ℕ → MachineCommand → Reply → List Debuggee → S → Type 0

@@ -1,6 +1,7 @@
 -- The machines that were shipped, each with its debug state, and the store of the objects that were made.
 use Rattle.std.specs.Prelude.{◌≤◌, ℕ, zero, suc, ◌-◌, List, [], ◌∷◌, length, slice_get, slice_set, Option, None}
-use Rattle.object_store.specs.Stores.{StoreState, StoreWithin, machine_limit, store_start, unsent}
+use Rattle.object_store.specs.Stores.{StoreState, StoreWithin, store_start, unsent}
+use Rattle.scopes.specs.Windows.{machine_limit}
 use Rattle.debugger.specs.declared.debuggee.Debuggee.{Debuggee}
 
 -- the machines that were shipped, each with its debug state, and the store of the objects that were made

@@ -3,8 +3,8 @@
 ghost use Rattle.std.specs.Prelude.{◌≡◌, ◌≤◌, IfSome, IfNone};
 ghost use Rattle.memory.specs.Objects.{object_bytes};
 
-use debugger::{Bytes, MachineCommand, Start};
-use memory::OBJECT_BYTES;
+use debugger::{MachineCommand, Start};
+use memory::{Bytes, OBJECT_BYTES};
 use std::marker::Model;
 
 /// How many bytes an object is made of: at least one, and at most 65,536.

@@ -10,12 +10,14 @@ mod stack;
 mod world;
 
 pub use debugger::{
-    Bytes, DebugCommand, Debuggee, LineText, MachineCommand, MachineRun, ShowCommand, Shown, Start,
-    State, StepReply, Values, Way,
+    DebugCommand, Debuggee, LineText, MachineCommand, MachineRun, ShowCommand, Shown, Start, State,
+    StepReply, Values, Way,
 };
 pub use events::{Event, Move, ObjectCommand, ObjectLength};
 pub use laws::{debugging_changes_nothing, moving_changes_nothing, neither_changes_anything};
-pub use object_store::{MACHINE_LIMIT, Moved, PartsError, Place};
+pub use memory::Bytes;
+pub use object_store::{Moved, PartsError, Place};
 pub use replies::Reply;
+pub use scopes::MACHINE_LIMIT;
 pub use stack::StackError;
 pub use world::{World, WorldParts};

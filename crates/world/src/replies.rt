@@ -5,9 +5,10 @@ ghost use Rattle.world.specs.Answers.{moved_reply, place_before, refused_get, re
 ghost use Rattle.world.specs.Machines.{reply_to_debug, reply_to_show, reply_to_step};
 
 use crate::events::Move;
-use debugger::{Bytes, Debugged, LineText, ShowReply, Shown, StepReply, Values};
+use debugger::{Debugged, LineText, ShowReply, Shown, StepReply, Values};
 use loader::LoadError;
 use machine::Stop;
+use memory::Bytes;
 use object_store::{GetError, Moved, Place};
 
 /// What a command was answered.

@@ -3,7 +3,8 @@ ghost use Rattle.std.specs.Prelude.{◌≡◌, ◌≢◌, ◌≤◌, ◌++◌, L
 ghost use Rattle.far_store.specs.Calls.{Calls};
 ghost use Rattle.memory.specs.Objects.{object_limit};
 ghost use Rattle.object_store.specs.Lending.{within_memory};
-ghost use Rattle.object_store.specs.Stores.{machine_limit, store_memory};
+ghost use Rattle.object_store.specs.Stores.{store_memory};
+ghost use Rattle.scopes.specs.Windows.{machine_limit};
 ghost use Rattle.object_store.specs.Calls.{Frees};
 ghost use Rattle.object_store.specs.Asking.{AsksToFree};
 ghost use Rattle.object_store.specs.Parts.{AllHere, RefusesParts, bodies_of, forgets_all};
@@ -27,12 +28,12 @@ use crate::events::{Event, Move, ObjectCommand, ObjectLength};
 use crate::machines::{answer_machine, run_machine, step_machine};
 use crate::replies::Reply;
 use crate::stack::{StackError, read_stack};
-use debugger::{Bytes, Debuggee, MachineCommand, MachineRun, Start, StepReply, Way};
+use debugger::{Debuggee, MachineCommand, MachineRun, Start, StepReply, Way};
 use far_store::FarStore;
 use loader::{Why, load};
-use object_store::{
-    GetError, MACHINE_LIMIT, MakeError, Moved, ObjectStore, PartsError, Place, PutError,
-};
+use memory::Bytes;
+use object_store::{GetError, MakeError, Moved, ObjectStore, PartsError, Place, PutError};
+use scopes::MACHINE_LIMIT;
 use std::alloc::{AllocError, Global};
 use std::marker::Model;
 
@@ -58,7 +59,7 @@ pub struct WorldParts<F> {
 
 impl<F: FarStore> Model for World<F> {
     ghost use Rattle.std.specs.Prelude.{◌≡◌, ◌≤◌, true, length, vec_capacity};
-    ghost use Rattle.object_store.specs.Stores.{machine_limit};
+    ghost use Rattle.scopes.specs.Windows.{machine_limit};
     ghost use Rattle.world.specs.WorldState.{WorldWithin};
 
     ghost Value = { WorldWithin F };

@@ -75,7 +75,7 @@ found_step memory way old before m r new after d e told f c t h = TableRow (reco
 pub parted : {S : Type 0} (memory : Memories S) (way : Way) (old : List Debuggee) (before : S) (m : ℕ) (r : Reply) (new : List Debuggee) (after : S)
     → StepsAt memory way old before m r new after → StepAnswer memory way old before m r new after
 parted memory way old before m r new after (inl h) = NoMachine h
-parted memory way old before m r new after (inr h) = found_step memory way old before m r new after h.debuggee h.left h.answers.0 h.found h.changed h.answers.1 h.answers.2
+parted memory way old before m r new after (inr h) = found_step memory way old before m r new after h.debuggee h.became h.answers.0 h.found h.changed h.answers.1 h.answers.2
 
 -- ---- and back
 
@@ -91,15 +91,15 @@ pub stepped_so : {S : Type 0} (memory : Memories S) (way : Way) (old : List Debu
     → Steps memory way old before m r new after → StepsAt memory way old before m r new after
 stepped_so memory way old before m r new after h =
     let told = reply_after h.answer h.machine.slot h.debuggee.debugger in
-    let left : Debuggee = record { machine = h.machine; debugger = debugged way h.answer h.debuggee.debugger } in
-    let walk : Walks memory way h.debuggee before told left after = record { goes = h.goes; answer = h.answer; machine = h.machine; step = h.step; told = refl; changed = refl } in
-    inr (record { debuggee = h.debuggee; left = left; found = h.found; answers = (told, h.told, walked memory way h.debuggee left before after told walk); changed = h.changed })
+    let became : Debuggee = record { machine = h.machine; debugger = debugged way h.answer h.debuggee.debugger } in
+    let walk : Walks memory way h.debuggee before told became after = record { goes = h.goes; answer = h.answer; machine = h.machine; step = h.step; told = refl; changed = refl } in
+    inr (record { debuggee = h.debuggee; became = became; found = h.found; answers = (told, h.told, walked memory way h.debuggee became before after told walk); changed = h.changed })
 
 pub halting : {S : Type 0} (memory : Memories S) (way : Way) (old : List Debuggee) (before : S) (m : ℕ) (r : Reply) (new : List Debuggee) (after : S)
     → Halts way old before m r new after → StepsAt memory way old before m r new after
 halting memory way old before m r new after h = inr (record {
   debuggee = h.debuggee;
-  left = record h.debuggee { debugger = with_pause h.slot h.debuggee.debugger };
+  became = record h.debuggee { debugger = with_pause h.slot h.debuggee.debugger };
   found = h.found;
   answers = (step_reply.Paused h.slot, h.told, record { held = h.held; slot_is = h.slot_is; changed = refl; same = h.same });
   changed = h.changed;

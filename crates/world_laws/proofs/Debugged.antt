@@ -33,8 +33,8 @@ alone : (old new : WorldState) (m : ℕ) (c : DebugCommand) (r : Reply) → Answ
 alone old new m c r (inl h) = (h.same, ap (map machine_in) h.unchanged, equal old.machines new.machines m h.unchanged)
 alone old new m c r (inr h) = (
   h.answers.3,
-  ap (map machine_in) h.changed ∙ with_map machine_in old.machines m h.debuggee h.left h.found (ap machine_in h.answers.2.1),
-  written old.machines new.machines m h.debuggee h.left h.found h.changed,
+  ap (map machine_in) h.changed ∙ with_map machine_in old.machines m h.debuggee h.became h.found (ap machine_in h.answers.2.1),
+  written old.machines new.machines m h.debuggee h.became h.found h.changed,
 )
 
 pub debugging_keeps : DebuggingChangesDebugStateAlone
@@ -44,7 +44,7 @@ debugging_keeps old new m c r h = alone old new m c r h
 
 others : (old new : WorldState) (m : ℕ) (c : MachineCommand) (r : Reply) → AnswersMachine (store_memory m) old.machines old.store m c r new.machines new.store → Others old.machines new.machines m
 others old new m c r (inl h) = equal old.machines new.machines m h.unchanged
-others old new m c r (inr h) = written old.machines new.machines m h.debuggee h.left h.found h.changed
+others old new m c r (inr h) = written old.machines new.machines m h.debuggee h.became h.found h.changed
 
 -- the windows of the others
 abbrev Scopes : WorldState → WorldState → ℕ → Type 0

@@ -188,7 +188,7 @@ finds_once : (who : ℕ) (c : MachineCommand) (old new other : List Debuggee) (s
     → Finds (store_memory who) old s who c b other u → is_settled a ≡ true → is_settled b ≡ true → Same new other t u a b
 finds_once who c old new other s t u a b g h p q =
     let same = found_once (machine_at old who) g.debuggee h.debuggee g.found h.found in
-    let e = command_once who c h.debuggee g.left h.left s t u a b (subst (λ (d : Debuggee). AnswersCommand (store_memory who) d s who c a g.left t) same g.answers) h.answers p q in
+    let e = command_once who c h.debuggee g.became h.became s t u a b (subst (λ (d : Debuggee). AnswersCommand (store_memory who) d s who c a g.became t) same g.answers) h.answers p q in
     (e.0, g.changed ∙ ap (λ (d : Debuggee). with_machine old who d) e.1 ∙ sym h.changed, e.2)
 
 pub machine : (who : ℕ) (c : MachineCommand) (old new other : List Debuggee) (s t u : StoreState) (a b : Reply) → AnswersMachine (store_memory who) old s who c a new t

@@ -28,7 +28,7 @@ refusals_keep old new c r h t = keeps old new c r (sort_of old new c r h) t
 
 shown : (old new : WorldState) (m : ℕ) (c : ShowCommand) (r : Reply) → AnswersMachine (store_memory m) old.machines old.store m (Show c) r new.machines new.store → new ≡ old
 shown old new m c r (inl h) = both old new h.unchanged h.same
-shown old new m c r (inr h) = both old new (as_it_was old.machines m h.debuggee h.left new.machines h.found h.changed h.answers.3) h.answers.4
+shown old new m c r (inr h) = both old new (as_it_was old.machines m h.debuggee h.became new.machines h.found h.changed h.answers.3) h.answers.4
 
 pub showing_keeps : ShowingChangesNothing
 showing_keeps old new (Object n (Get offset size)) r h t = h.1

@@ -7,10 +7,10 @@ use Rattle.std.proofs.lemmas.Bool.Decides.{nat_tests}
 use Rattle.memory.specs.declared.access.Op.{Op}
 use Rattle.memory.specs.declared.access.Reach.{Reach}
 use Rattle.memory.specs.declared.access.Reach.TheVariants as reach
-use Rattle.scopes.specs.Windows.{holds, noted, without_oldest}
-use Rattle.far_store.specs.declared.places.Place.{Place}
-use Rattle.far_store.specs.declared.places.Place.TheVariants.{Here}
-use Rattle.object_store.specs.Stores.{StoreState, window_count, IsScoped, Touches, holders, place_of, weight, window_of}
+use Rattle.scopes.specs.Windows.{holds, noted, without_oldest, window_count}
+use Rattle.places.specs.declared.places.Place.{Place}
+use Rattle.places.specs.declared.places.Place.TheVariants.{Here}
+use Rattle.object_store.specs.Stores.{StoreState, IsScoped, Touches, holders, place_of, weight, window_of}
 use Rattle.object_store.proofs.Counting.{none_held}
 use Rattle.world.specs.declared.replies.Reply.{Reply}
 use Rattle.world.specs.declared.events.Event.{Event}

@@ -4,10 +4,10 @@ use Rattle.std.proofs.Common.{◌≡◌, ℕ, Bool, true, false, cond, List, [],
 use Rattle.memory.specs.Objects.{bytes_of}
 use Rattle.memory.specs.Access.{replaced}
 use Rattle.memory.proofs.Lengths.{length-replaced}
-use Rattle.far_store.specs.declared.places.Place.{Place}
-use Rattle.far_store.specs.declared.places.Place.TheVariants as place
-use Rattle.far_store.specs.declared.places.Moved.{Moved}
-use Rattle.far_store.specs.declared.places.Moved.TheVariants as moved
+use Rattle.places.specs.declared.places.Place.{Place}
+use Rattle.places.specs.declared.places.Place.TheVariants as place
+use Rattle.places.specs.declared.places.Moved.{Moved}
+use Rattle.places.specs.declared.places.Moved.TheVariants as moved
 use Rattle.object_store.specs.Stores.{StoreState, store_memory}
 use Rattle.object_store.specs.Calls.{Frees}
 use Rattle.machine.specs.declared.state.Stop.{Stop}
@@ -245,8 +245,8 @@ debugs old new m c r d e told f s t h k =
 machines : (old new : WorldState) (m : ℕ) (c : MachineCommand) (r : Reply) → Finds (store_memory m) old.machines old.store m c r new.machines new.store → Sort old (Machine m c) r new
 machines old new m (Step w) r h = steps w old new m (Step w) r (parted (store_memory m) w old.machines old.store m r new.machines new.store (inr h))
 machines old new m (Show c) r h = Stays (ap is_placing h.answers.1 ∙ quiet_show m h.answers.0) refl
-    (both old new (as_it_was old.machines m h.debuggee h.left new.machines h.found h.changed h.answers.3) h.answers.4)
-machines old new m (Debug c) r h = debugs old new m c r h.debuggee h.left h.answers.0 h.found h.changed h.answers.1 h.answers.2 h.answers.3
+    (both old new (as_it_was old.machines m h.debuggee h.became new.machines h.found h.changed h.answers.3) h.answers.4)
+machines old new m (Debug c) r h = debugs old new m c r h.debuggee h.became h.answers.0 h.found h.changed h.answers.1 h.answers.2 h.answers.3
 
 by_number : (old new : WorldState) (m : ℕ) (c : MachineCommand) (r : Reply) → AnswersMachine (store_memory m) old.machines old.store m c r new.machines new.store → Sort old (Machine m c) r new
 by_number old new m c r (inl h) = misses old new m c r h

@@ -5,9 +5,9 @@ use Rattle.memory.specs.declared.access.Reach.{Reach}
 use Rattle.memory.specs.declared.access.Reach.TheVariants as reach
 use Rattle.object_store.specs.Stores.{StoreState, store_memory, Touches}
 use Rattle.object_store.specs.Calls.{Frees}
-use Rattle.far_store.specs.declared.places.Place.{Place}
-use Rattle.far_store.specs.declared.places.Place.TheVariants as place
-use Rattle.far_store.specs.declared.places.Moved.{Moved}
+use Rattle.places.specs.declared.places.Place.{Place}
+use Rattle.places.specs.declared.places.Place.TheVariants as place
+use Rattle.places.specs.declared.places.Moved.{Moved}
 use Rattle.machine.specs.Carrying.{Carries}
 use Rattle.machine.proofs.Carried.{steps_carry}
 use Rattle.debugger.specs.Debuggees.{Walks, AnswersStep}
@@ -69,7 +69,7 @@ machine : (who : ℕ) (c : MachineCommand) (old new : List Debuggee) (s t : Stor
     → AnswersMachine (store_memory who) old (cleared s) who c r new (cleared t)
 machine who c old new s t r (inl h) = inl (record { none = h.none; told = h.told; unchanged = h.unchanged; same = ap cleared h.same })
 machine who c old new s t r (inr h) =
-    inr (record { debuggee = h.debuggee; left = h.left; found = h.found; answers = command who c h.debuggee h.left s t r h.answers; changed = h.changed })
+    inr (record { debuggee = h.debuggee; became = h.became; found = h.found; answers = command who c h.debuggee h.became s t r h.answers; changed = h.changed })
 
 -- ---- moves
 

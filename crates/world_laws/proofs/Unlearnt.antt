@@ -16,10 +16,10 @@ use Rattle.memory.proofs.Accesses.{set_commutes}
 use Rattle.scopes.specs.Windows.{noted}
 use Rattle.object_store.specs.Stores.{StoreState, store_memory, Touches, StandsAt, near_bytes, near_length, window_of}
 use Rattle.object_store.specs.Calls.{RefusesMove, Frees, BeginsLeave, EndsLeave, BeginsReturn, EndsReturn}
-use Rattle.far_store.specs.declared.places.Place.{Place}
-use Rattle.far_store.specs.declared.places.Place.TheVariants as place
-use Rattle.far_store.specs.declared.places.Moved.{Moved}
-use Rattle.far_store.specs.declared.places.Moved.TheVariants as moved
+use Rattle.places.specs.declared.places.Place.{Place}
+use Rattle.places.specs.declared.places.Place.TheVariants as place
+use Rattle.places.specs.declared.places.Moved.{Moved}
+use Rattle.places.specs.declared.places.Moved.TheVariants as moved
 use Rattle.machine.specs.Grants.{GrantState, is_granted}
 use Rattle.machine.specs.MachineState.{MachineState}
 use Rattle.machine.specs.Rows.{Request, MemoryAnswer, Outcome, asks}
@@ -238,10 +238,10 @@ machine n b is_ours who c old new s t r o all (inl h) = (
 )
 machine n b is_ours who c old new s t r o all (inr h) =
     let l = all who h.debuggee o h.found in
-    let k = command n b who c h.debuggee h.left s t r l h.answers in (
-      inr (record { debuggee = h.debuggee; left = h.left; found = h.found; answers = k.0; changed = h.changed }),
+    let k = command n b who c h.debuggee h.became s t r l h.answers in (
+      inr (record { debuggee = h.debuggee; became = h.became; found = h.found; answers = k.0; changed = h.changed }),
       k.1,
-      subst (LackingIn n is_ours) (sym h.changed) (written_back n is_ours old who h.debuggee h.left h.found (subst (λ (g : GrantState). is_granted g false n ≡ false) (sym k.2) l) all),
+      subst (LackingIn n is_ours) (sym h.changed) (written_back n is_ours old who h.debuggee h.became h.found (subst (λ (g : GrantState). is_granted g false n ≡ false) (sym k.2) l) all),
     )
 
 -- ---- a machine that is shipped

@@ -3,14 +3,14 @@
 use crate::servers::moment::Moment;
 use console::DriveFault;
 use far_server::{CLIENT_LIMIT, Journal, Refusal};
-use far_store::{Moved, StoreFault};
+use far_store::StoreFault;
 use far_stream::StreamFault;
 use ship_service::Tally;
 use std::fmt::{self, Display, Formatter};
 use std::io::{Eprint, Error, ErrorKind};
 use std::net::SocketAddr;
 use std::time::Clock;
-use workers::{Direction, Request};
+use workers::{Direction, Moved, Request};
 
 /// Something that whoever runs a server has to know.
 #[derive(Clone, Copy, Drop, Debug, PartialEq, Eq)]

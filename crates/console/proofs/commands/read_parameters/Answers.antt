@@ -48,7 +48,7 @@ returns-in_err-bytes c =
     let text = hex_length c.in_ok-text.text.now b.0 b.2 in
     let all = take (length (number_limits kind)) numbers in
     reads_no_memory (SaysOfKind kind tokens) _ _ _ x.1 x.2 e.0 (event_with kind all b.0 grants)
-    record { numbers = all; bytes = b.0; grants = grants; left = left; words = words; numbers_first = first; bytes_next = next; grants_last = last; is_command = refl }
+    record { numbers = all; bytes = b.0; grants = grants; rest = left; words = words; numbers_first = first; bytes_next = next; grants_last = last; is_command = refl }
     (carries kind all b.0 grants left words next (omega (arith, text, e.1)))
 
 pub event-requires : goal.event-requires

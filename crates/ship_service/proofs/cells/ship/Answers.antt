@@ -10,7 +10,7 @@ returns g c =
     let was = subst (IsCell g.K.Mark.opening g.K.Mark.starts (c.in-Ok.found.1 + 1)) same found.1 in
     inr record {
       lesser = c.in-Ok.found.1;
-      taken = c.fact-2.ensures;
+      lent_before = c.fact-2.ensures;
       before = c.deref_mut.result.now;
       after = c.ship_lent-said.new.locked;
       said = c.ship_lent-said.result;

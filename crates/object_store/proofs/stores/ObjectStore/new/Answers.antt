@@ -1,6 +1,6 @@
 use Rattle.std.proofs.Common.{◌≡◌, [], ◌∷◌, false, None, refl, arith, rules}
-use Rattle.far_store.specs.declared.places.Place.TheVariants.{Here}
-use Rattle.object_store.specs.Stores.{window_count}
+use Rattle.places.specs.declared.places.Place.TheVariants.{Here}
+use Rattle.scopes.specs.Windows.{window_count}
 use Rattle.object_store.proofs.Keeping.{all_same, first_store}
 use Rattle.object_store.proofs.stores.ObjectStore.new.Goals as goal
 

@@ -1,6 +1,6 @@
 use Rattle.std.proofs.Common.{refl, ◌∙◌, arith}
 use Rattle.std.proofs.lemmas.List.{with_items_is}
-use Rattle.far_store.specs.declared.places.Place.TheVariants.{Far, Returning}
+use Rattle.places.specs.declared.places.Place.TheVariants.{Far, Returning}
 use Rattle.object_store.proofs.Placing.{placed_back, seen_placed}
 use Rattle.object_store.proofs.stores.ObjectStore.return_.Goals as goal
 
@@ -13,7 +13,7 @@ returns-else-needed-self-clause-begins g c =
     let count = rw (← c.self.view_is) at c.length-needed.ensures.length in
     rw (← c.self.view_is)
     (seen_placed c.self.inside.bodies _ c.begin_return_at.new.bodies _ _ _ c.args.number Far Returning (rw (c.in-Some-Far.field-0-is, ← c.self.view_is) at c.in-Some-Far.ensures.some)
-    (omega (arith, count, c.self.invariant.0.left)) c.as_mut_slice.ensures.value c.begin_return_at.auto.bodies c.as_mut_slice.ensures.len c.begin_return_at.ensures.bytes c.begin_return_at.ensures.places)
+    (omega (arith, count, c.self.invariant.0.budget_is)) c.as_mut_slice.ensures.value c.begin_return_at.auto.bodies c.as_mut_slice.ensures.len c.begin_return_at.ensures.bytes c.begin_return_at.ensures.places)
 
 pub returns-else-needed-self-clause-asks : goal.returns-else-needed-self-clause-asks
 returns-else-needed-self-clause-asks g c =

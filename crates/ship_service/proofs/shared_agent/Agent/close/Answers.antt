@@ -1,6 +1,6 @@
 use Rattle.std.proofs.Common.{◌≡◌, ℕ, List, ◌++◌, length, map, ◌∙◌, subst}
 use Rattle.far_store.specs.Stores.{parcel_bytes}
-use Rattle.object_store.specs.Stores.{machine_limit}
+use Rattle.scopes.specs.Windows.{machine_limit}
 use Rattle.shared_objects.specs.Ends.{Closes}
 use Rattle.shared_objects.specs.Parts.{part_of}
 use Rattle.shared_objects.specs.Tables.{table_opening}

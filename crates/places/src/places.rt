@@ -1,7 +1,6 @@
-//! Where an object is, and what a move did. Both stores of objects answer these, and no crate below both but this one knows
-//! the faults of a far store.
+//! Where an object is, and what a move did.
 
-use crate::fault::StoreFault;
+use far_store::StoreFault;
 
 /// Where an object is.
 #[derive(Clone, Copy, Drop, Debug, PartialEq, Eq)]
