@@ -112,11 +112,10 @@ impl Grants {
     }
 
     /// The grants one by one, and none behind the last.
-    pub(crate) fn kept(&self) -> &[KeptGrant; GRANT_LIMIT]
-        ensures listed { grants_in result.now ≡ self.now.listed }
-        ensures count { length result.now ≡ GRANT_LIMIT }
+    pub(crate) fn kept(&self) -> &[KeptGrant]
+        ensures { grants_in result.now ≡ self.now.listed }
     {
-        &self.kept
+        self.kept.as_slice()
     }
 }
 

@@ -1,5 +1,7 @@
-use Rattle.std.proofs.Common.{◌≡◌, take, slice_index, false, sym, ◌∙◌, subst, arith}
+use Rattle.std.proofs.Common.{◌≡◌, take, get_or, false, sym, ◌∙◌, subst, arith}
 use Rattle.std.proofs.lemmas.List.{take_all, take_more}
+use Rattle.machine.specs.declared.grants.Grant.{Grant}
+use Rattle.machine.specs.declared.grants.KeptGrant.{KeptGrant}
 use Rattle.machine.specs.KeptGrants.{grant_of, grants_in}
 use Rattle.machine.specs.Rights.{IsTableOf, HasMore}
 use Rattle.machine.proofs.TableOfRights.{all_table, no_table, kept_table, listed_table}
@@ -15,13 +17,14 @@ pub loop-kept-preserved : goal.loop-kept-preserved
 loop-kept-preserved c =
     let all = c.kept-all.result.now in
     let index = c.loop-kept.kept-index in
-    let more : HasMore c.loop-kept.table (grant_of (slice_index all index)) c.add.new.table = rw (← c.grant.ensures) c.add.ensures in
-    rw (take_more all index 0 (omega (arith, c.loop-kept-test.true))) (kept_table (take index all) (slice_index all index) c.loop-kept.table c.add.new.table c.loop-kept.invariant more)
+    let one : KeptGrant = get_or all index (record { number = 0; writes = false }) in
+    let more : HasMore c.loop-kept.table (grant_of one) c.add.new.table = subst (λ (g : Grant). HasMore c.loop-kept.table g c.add.new.table) c.grant.ensures c.add.ensures in
+    rw (take_more all index (record { number = 0; writes = false }) c.loop-kept-test.true) (kept_table (take index all) one c.loop-kept.table c.add.new.table c.loop-kept.invariant more)
 
 pub returns : goal.returns
 returns c =
     let all = c.kept-all.result.now in
     let index = c.loop-kept.kept-index in
-    let whole : take index all ≡ all = take_all index all (omega (arith, c.kept-all.ensures.count, c.loop-kept.auto.kept-index-end, c.loop-kept-test.false)) in
+    let whole : take index all ≡ all = take_all index all (omega (arith, c.loop-kept.auto.kept-index-end, c.loop-kept-test.false)) in
     let read : IsTableOf (record { all = false; listed = grants_in all }) c.loop-kept.table = subst (λ ws. IsTableOf (record { all = false; listed = grants_in ws }) c.loop-kept.table) whole c.loop-kept.invariant in
-    listed_table c.args.grants.now all c.loop-kept.table (sym c.is_all.ensures ∙ c.if-is_all.false) c.kept-all.ensures.listed read
+    listed_table c.args.grants.now all c.loop-kept.table (sym c.is_all.ensures ∙ c.if-is_all.false) c.kept-all.ensures read
