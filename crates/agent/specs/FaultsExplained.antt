@@ -15,34 +15,34 @@ use Rattle.bpf_codec.specs.declared.layout.Field.TheVariants.{Register, Only}
 use Rattle.bpf_codec.specs.declared.slot.Slot.{Slot}
 use Rattle.asm_table.specs.Mnemonics.{name}
 use Rattle.asm_table.specs.Parts.{mnemonic_of}
-use Rattle.agent.specs.declared.assembly.faults.Place.{Place}
-use Rattle.agent.specs.declared.assembly.faults.Place.TheVariants as place
+use Rattle.agent.specs.declared.assembly.faults.FieldPlace.{FieldPlace}
+use Rattle.agent.specs.declared.assembly.faults.FieldPlace.TheVariants as place
 
 -- ---- the fields of a slot beside its opcode (RFC 9669, section 3.1)
 
 -- a field's name
-abbrev pub place_name : Place → List ℕ
+abbrev pub place_name : FieldPlace → List ℕ
 place_name place.Dst = codes "dst"
 place_name place.Src = codes "src"
 place_name place.Offset = codes "offset"
 place_name place.Imm = codes "imm"
 
 -- the number that a slot holds there
-abbrev pub number_in : Place → Slot → ℕ
+abbrev pub number_in : FieldPlace → Slot → ℕ
 number_in place.Dst f = f.dst
 number_in place.Src f = f.src
 number_in place.Offset f = f.offset
 number_in place.Imm f = f.imm
 
 -- the same as it is shown: offset and imm are signed
-abbrev pub shown_in : Place → Slot → ℤ
+abbrev pub shown_in : FieldPlace → Slot → ℤ
 shown_in place.Dst f = pos f.dst
 shown_in place.Src f = pos f.src
 shown_in place.Offset f = cast_signed w16 f.offset
 shown_in place.Imm f = cast_signed w32 f.imm
 
 -- what an instruction has there
-abbrev pub field_of : Place → Instr → Field
+abbrev pub field_of : FieldPlace → Instr → Field
 field_of place.Dst i = (layout i).dst
 field_of place.Src i = (layout i).src
 field_of place.Offset i = (layout i).offset
@@ -51,15 +51,15 @@ field_of place.Imm i = (layout i).imm
 -- ---- which field is wrong, and which instruction is meant
 
 -- the instruction's row may hold what the slot holds there
-abbrev pub fits_in : Place → Slot → Instr → Bool
+abbrev pub fits_in : FieldPlace → Slot → Instr → Bool
 fits_in p f i = may_hold (field_of p i) (number_in p f)
 
 -- some of these rows may
-abbrev pub some_fits_in : Place → Slot → List Instr → Bool
+abbrev pub some_fits_in : FieldPlace → Slot → List Instr → Bool
 some_fits_in p f rows = list_any (λ i. fits_in p f i) rows
 
 -- the row may hold it, or none may
-abbrev pub is_like : Place → Slot → List Instr → Instr → Bool
+abbrev pub is_like : FieldPlace → Slot → List Instr → Instr → Bool
 is_like p f rows i = not (some_fits_in p f rows) || fits_in p f i
 
 -- the row may hold what the slot holds, except in the fields in which none may
@@ -79,7 +79,7 @@ allowed_text (Only n) = decimal n
 allowed_text _ = codes "any number"
 
 -- the same, and in which instruction
-abbrev pub choice_text : Place → Instr → List ℕ
+abbrev pub choice_text : FieldPlace → Instr → List ℕ
 choice_text p i = allowed_text (field_of p i) ++ codes " in " ++ name (mnemonic_of i)
 
 -- two fields hold different numbers in every instruction
@@ -88,27 +88,27 @@ differs (Only m) (Only n) = not (m == n)
 differs _ _ = false
 
 -- what the field may hold in another row, where that differs from the first one
-abbrev pub other_text : Place → Instr → Instr → List ℕ
+abbrev pub other_text : FieldPlace → Instr → Instr → List ℕ
 other_text p first i = if differs (field_of p first) (field_of p i) then codes " or " ++ choice_text p i else []
 
 -- the same of each row
-abbrev pub others_text : Place → Instr → List Instr → List ℕ
+abbrev pub others_text : FieldPlace → Instr → List Instr → List ℕ
 others_text p first rows = flat_map (λ i. other_text p first i) rows
 
 -- what a field may hold in each of these rows, the first of which is meant
-abbrev pub choices_text : Place → Instr → List Instr → List ℕ
+abbrev pub choices_text : FieldPlace → Instr → List Instr → List ℕ
 choices_text p first rows = choice_text p first ++ others_text p first rows
 
 -- what a slot holds in a field
-abbrev pub held_text : Place → Slot → List ℕ
+abbrev pub held_text : FieldPlace → Slot → List ℕ
 held_text p f = place_name p ++ codes " is " ++ signed_decimal (shown_in p f)
 
 -- what is said of a field that is wrong
-abbrev pub wrong_text : Place → Slot → Instr → List Instr → List ℕ
+abbrev pub wrong_text : FieldPlace → Slot → Instr → List Instr → List ℕ
 wrong_text p f first rows = held_text p f ++ codes ", and has to be " ++ choices_text p first rows ++ codes "; "
 
 -- what is said of a field: nothing where a row of the opcode may hold its number
-abbrev pub field_text : Place → Slot → Instr → List Instr → List ℕ
+abbrev pub field_text : FieldPlace → Slot → Instr → List Instr → List ℕ
 field_text p f first rows = if some_fits_in p f rows then [] else wrong_text p f first rows
 
 -- ---- what is said of a slot

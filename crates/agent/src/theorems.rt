@@ -2,7 +2,7 @@
 ghost use Rattle.agent.specs.Theorems.{ClosingTheorem, EachStepIsItsRow, OneLegalHistory, RepliesAreExplained, RunTheorem, SafeAndTotal};
 
 use memory::Memory;
-use workers::Mark;
+use workers::TableName;
 
 /// 1. Bytes are an instruction exactly where its encoding stands, each refusal is a function of the bytes, and every step has one
 /// outcome.
@@ -40,7 +40,7 @@ pub fn closing_theorem()
 }
 
 /// 5. Each reply of a connection tells of the entries that it adds.
-pub fn replies_are_explained<K: Mark>()
+pub fn replies_are_explained<K: TableName>()
     ensures { RepliesAreExplained K.opening K.starts K.lent }
 {
     ship_service::replies_are_entries::<K>();

@@ -5,7 +5,7 @@ ghost use Rattle.shared_objects.specs.Tables.{IsActorOf};
 use far_store::OwnStore;
 use isa_table::{AtomicOp, Size, Width};
 use memory::{Action, Op, Reach};
-use shared_objects::{ActorSeat, Ended, MoverSeat, Shared, SharedTable};
+use shared_objects::{ActorSeat, MoverSeat, ObjectEnd, Shared, SharedTable};
 use std::alloc::{AllocError, Global};
 use std::thread::{Threads, map_vec};
 
@@ -132,10 +132,10 @@ fn bodies(alloc: Global) -> Result<Vec<Vec<u8>>, AllocError>
 }
 
 /// The sum of the first eight bytes of all objects that are here.
-fn sum_of(ended: &[Ended]) -> u64 {
+fn sum_of(ended: &[ObjectEnd]) -> u64 {
     let mut sum = 0u64;
     for one in ended {
-        if let Ended::Here(bytes) = one {
+        if let ObjectEnd::Here(bytes) = one {
             let first: Option<[u8; 8]> = bytes.get(0..8).and_then(|bytes| bytes.try_into().ok());
             sum = sum.wrapping_add(first.map_or(0, u64::from_le_bytes));
         }

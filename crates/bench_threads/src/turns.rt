@@ -4,7 +4,7 @@ ghost use Rattle.shared_objects.specs.Kinds.{dealer};
 ghost use Rattle.shared_objects.specs.Opened.{AreFresh};
 ghost use Rattle.shared_objects.specs.Tables.{IsActorOf};
 ghost use Rattle.workers.specs.Cells.{IsTableOf};
-ghost use Rattle.workers.specs.Marks.{each_lent};
+ghost use Rattle.workers.specs.TableNames.{each_lent};
 ghost use Rattle.workers.specs.Pools.{machines_of};
 
 use debugger::{Debuggee, Start};
@@ -15,7 +15,7 @@ use std::alloc::{AllocError, Global};
 use std::marker::Brand;
 use std::sync::Wait;
 use std::sync::atomic::{AtomicU64, Ordering};
-use workers::{Gate, Mark, Pool, TURN_LIMIT, work};
+use workers::{Gate, Pool, TURN_LIMIT, TableName, work};
 
 /// The address of the object.
 const OBJECT: u64 = 0x0000_0001_0000_0000;
@@ -59,7 +59,7 @@ fn machines(alloc: Global, fuel: u64, code: &str) -> Option<Vec<Debuggee>>
 }
 
 /// One worker has so many turns.
-fn run<F: FarStore, K: Mark, R: Wait>(
+fn run<F: FarStore, K: TableName, R: Wait>(
     rt: &R,
     alloc: Global,
     shared: Shared<F>,

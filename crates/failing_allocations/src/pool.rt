@@ -4,7 +4,7 @@ ghost use Rattle.shared_objects.specs.Kinds.{dealer};
 ghost use Rattle.shared_objects.specs.Opened.{AreFresh, seated};
 ghost use Rattle.shared_objects.specs.Tables.{IsActorOf};
 ghost use Rattle.workers.specs.Cells.{IsTableOf};
-ghost use Rattle.workers.specs.Marks.{each_lent};
+ghost use Rattle.workers.specs.TableNames.{each_lent};
 ghost use Rattle.workers.specs.Pools.{machines_of};
 
 use crate::bodies::bodies;
@@ -16,7 +16,7 @@ use shared_objects::{ActorSeat, MoverSeat, OpenFault, Shared};
 use std::alloc::{AllocError, Global};
 use std::marker::Brand;
 use std::sync::Wait;
-use workers::{Direction, Mark, Moved, Mover, Pool};
+use workers::{Direction, Moved, Mover, Pool, TableName};
 
 /// aadd [r1], r2; call 4; ldxdw r0, [r1]; exit
 const CODE: [u8; 32] = [
@@ -37,7 +37,7 @@ fn machines(alloc: Global) -> Option<Vec<Debuggee>>
 }
 
 /// A step of the machine.
-fn step<F: FarStore, K: Mark, R: Wait>(rt: &R, pool: &Pool<F, K>) -> Option<StepReply> {
+fn step<F: FarStore, K: TableName, R: Wait>(rt: &R, pool: &Pool<F, K>) -> Option<StepReply> {
     let cell = pool.cell(1)?;
     cell.lock(rt).step(pool.table(), Way::Step)
 }
@@ -56,7 +56,7 @@ enum Came {
 }
 
 /// How the object came home.
-fn home<F: FarStore, K: Mark>(pool: &Pool<F, K>, mover: &mut Mover<F, K>) -> Came {
+fn home<F: FarStore, K: TableName>(pool: &Pool<F, K>, mover: &mut Mover<F, K>) -> Came {
     match mover.one(pool, 1, Direction::Return) {
         Moved::Done => Came::Home,
         Moved::Fault(StoreFault::Memory) => match mover.one(pool, 1, Direction::Return) {
@@ -68,7 +68,7 @@ fn home<F: FarStore, K: Mark>(pool: &Pool<F, K>, mover: &mut Mover<F, K>) -> Cam
 }
 
 /// What came of the object, to which the machine adds before and which it reads after.
-fn there_and_back<F: FarStore, K: Mark, R: Wait>(
+fn there_and_back<F: FarStore, K: TableName, R: Wait>(
     rt: &R,
     pool: &Pool<F, K>,
     mover: &mut Mover<F, K>,
@@ -86,7 +86,7 @@ fn there_and_back<F: FarStore, K: Mark, R: Wait>(
     }
 }
 
-fn moved<F: FarStore + Drop, K: Mark, R: Wait>(
+fn moved<F: FarStore + Drop, K: TableName, R: Wait>(
     rt: &R,
     alloc: Global,
     shared: Shared<F>,

@@ -7,7 +7,7 @@ use ship_service::{Agent, Connection, OpenAgent, Opened, serve};
 use std::alloc::Global;
 use std::marker::Brand;
 use std::sync::Wait;
-use workers::Mark;
+use workers::TableName;
 
 /// Two commands that step the machine, and the same range twice.
 const LINES: &[u8] = b"step 1\nstep 1\nget 1 0 2\nget 1 0 2\n";
@@ -55,7 +55,7 @@ impl Outcome {
 }
 
 /// How one conversation goes.
-fn one_talk<F: FarStore, K: Mark, R: Wait>(
+fn one_talk<F: FarStore, K: TableName, R: Wait>(
     rt: &R,
     agent: &Agent<F, K>,
     connection: &mut Connection<K>,
@@ -80,7 +80,11 @@ fn one_talk<F: FarStore, K: Mark, R: Wait>(
 }
 
 /// How a service goes whose first connection talks, and which closes then.
-fn served<F: FarStore + Drop, K: Mark, R: Wait>(rt: &R, alloc: Global, opened: Opened<F>) -> Outcome
+fn served<F: FarStore + Drop, K: TableName, R: Wait>(
+    rt: &R,
+    alloc: Global,
+    opened: Opened<F>,
+) -> Outcome
     requires { IsNamed K.table K.opening K.starts K.seats K.lent opened.shared.table opened.machines.items }
 {
     let (agent, mut connections, mover) = match Agent::<F, K>::open(rt, alloc, opened) {

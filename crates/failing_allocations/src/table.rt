@@ -6,7 +6,7 @@ use far_store::OwnStore;
 use isa_table::Size;
 use memory::{Action, Op, Reach};
 use pointer_word::STAMP_LIMIT;
-use shared_objects::{ActorSeat, Ended, Fetched, MoverSeat, OpenFault, Shared, SharedTable};
+use shared_objects::{ActorSeat, Fetched, MoverSeat, ObjectEnd, OpenFault, Shared, SharedTable};
 use std::alloc::{AllocError, Global};
 
 /// Eight bytes, read.
@@ -110,9 +110,10 @@ fn is_seven(found: &Fetched) -> bool {
 }
 
 /// How closing went.
-fn closing(ended: Result<Vec<Ended>, AllocError>) -> End {
+fn closing(ended: Result<Vec<ObjectEnd>, AllocError>) -> End {
     match ended {
-        Ok(ended) if ended.len() == 4 && ended.iter().all(|one| matches!(one, Ended::Here(_))) => {
+        Ok(ended)
+            if ended.len() == 4 && ended.iter().all(|one| matches!(one, ObjectEnd::Here(_))) => {
             End::Done
         }
         Ok(_) => End::Wrong,

@@ -10,19 +10,19 @@ use std::io::{Read, Write};
 
 /// How the conversation of the client of a number ended. It can be told once.
 #[derive(Drop, Debug, PartialEq, Eq)]
-pub(crate) struct Ended {
+pub(crate) struct ClientEnd {
     client: u64,
     outcome: Result<(), StreamFault>,
 }
 
-impl Ended {
+impl ClientEnd {
     /// Serves the client of this number to its end, from a store that is empty at first.
-    pub fn of_client<S: Read + Write>(alloc: Global, client: u64, stream: &mut S) -> Ended
+    pub fn of_client<S: Read + Write>(alloc: Global, client: u64, stream: &mut S) -> ClientEnd
         ensures client { result.client ≡ client }
         ensures served { Converses S.remaining S.contents stream.old result.outcome stream.new }
     {
         let outcome = serve_store(alloc, stream);
-        Ended { client, outcome }
+        ClientEnd { client, outcome }
     }
 
     /// How it ended.

@@ -24,7 +24,7 @@ struct Room {
 
 /// Whether a client is let in.
 #[derive(Clone, Copy, Drop, Debug, PartialEq, Eq)]
-pub(crate) enum Entry {
+pub(crate) enum Admission {
     /// It is, as the client of this number.
     Admitted(u64),
     /// As many are there as are served at the same time.
@@ -53,18 +53,18 @@ impl Hall {
     }
 
     /// Lets a client in, if there is room. By its stream it can be cut off.
-    pub fn admit<R: Wait>(&self, rt: &R, stream: TcpStream) -> Entry {
+    pub fn admit<R: Wait>(&self, rt: &R, stream: TcpStream) -> Admission {
         let mut room = self.room.lock(rt);
         if room.is_closed {
-            return Entry::Closed;
+            return Admission::Closed;
         }
         let client = room.came.saturating_add(1);
         let is_full = room.guests.len() >= CLIENT_LIMIT;
         if is_full || room.guests.push(Guest { client, stream }).is_err() {
-            return Entry::Full;
+            return Admission::Full;
         }
         room.came = client;
-        Entry::Admitted(client)
+        Admission::Admitted(client)
     }
 
     /// Whether the input goes on.

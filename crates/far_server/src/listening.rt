@@ -5,7 +5,7 @@ ghost use Rattle.streams.specs.Streams.{AppendsPart};
 ghost use Rattle.far_server.specs.Announced.{Announces, AnnouncesAs};
 ghost use Rattle.far_server.specs.Told.{Tells};
 
-use crate::ended::Ended;
+use crate::ended::ClientEnd;
 use crate::fault::ServerFault;
 use crate::journal::Journal;
 use crate::threads::Server;
@@ -28,7 +28,7 @@ fn announce_asked<W: Write>(asked: u16, bound: u16, writer: &mut W) -> Result<()
 }
 
 /// Says why clients were given up, as they end, until the last has gone.
-fn tell_all<R: Wait, E: Write>(rt: &R, ends: &Receiver<Ended, Global>, errors: &mut E)
+fn tell_all<R: Wait, E: Write>(rt: &R, ends: &Receiver<ClientEnd, Global>, errors: &mut E)
     ensures { Tells (E.contents errors.old) (E.contents errors.new) }
 {
     for _ in rt.forever() {

@@ -2,8 +2,8 @@
 ghost use Rattle.std.specs.Prelude.{OnOk};
 ghost use Rattle.std.specs.Io.KnownBytes.{IsAtEnd};
 
-use crate::ended::Ended;
-use crate::hall::{Entry, Hall};
+use crate::ended::ClientEnd;
+use crate::hall::{Admission, Hall};
 use crate::journal::{Journal, Refusal};
 use crossbeam_channel::{Receiver, Sender, bounded};
 use listener::accept;
@@ -64,14 +64,14 @@ struct Tools<'a, R: Wait, J: Journal> {
     rt: &'a R,
     alloc: Global,
     hall: &'a Hall,
-    ends: &'a Sender<Ended, Global>,
+    ends: &'a Sender<ClientEnd, Global>,
     journal: &'a J,
 }
 
 /// Serves a client, and hands on how that ended, unless it was cut off by the end of the input.
 fn serve_client<R: Wait, J: Journal>(tools: &Tools<R, J>, client: u64, stream: TcpStream) {
     let mut stream = stream;
-    let ended = Ended::of_client(tools.alloc, client, &mut stream);
+    let ended = ClientEnd::of_client(tools.alloc, client, &mut stream);
     tools.journal.went(client, ended.outcome());
     if tools.hall.is_open(tools.rt) {
         let _ = tools.ends.send(tools.rt, ended);
@@ -90,12 +90,12 @@ fn next_client<R: Wait, J: Journal>(
             return Err(NetFault);
         };
         match tools.hall.admit(tools.rt, shown) {
-            Entry::Admitted(client) => {
+            Admission::Admitted(client) => {
                 tools.journal.came(client);
                 return Ok(Some((client, stream)));
             }
-            Entry::Full => tools.journal.refused(Refusal::TooMany),
-            Entry::Closed => return Ok(None),
+            Admission::Full => tools.journal.refused(Refusal::TooMany),
+            Admission::Closed => return Ok(None),
         }
     }
     unreachable!()
@@ -138,7 +138,7 @@ fn host<R: Threads + Wait + Sync + Copy, J: Journal + Sync + Copy>(
     alloc: Global,
     hall: Arc<Hall>,
     listener: TcpListener,
-    ends: Sender<Ended, Global>,
+    ends: Sender<ClientEnd, Global>,
     journal: J,
 ) -> Result<(), NetFault> {
     let tools = Tools {
@@ -158,7 +158,7 @@ pub(crate) struct Server {
     address: SocketAddr,
     host: JoinHandle<Result<(), NetFault>>,
     /// How clients ended, one after the other, until the last has gone.
-    pub ends: Receiver<Ended, Global>,
+    pub ends: Receiver<ClientEnd, Global>,
 }
 
 impl Server {

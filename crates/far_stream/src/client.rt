@@ -4,7 +4,7 @@ ghost use Rattle.far_stream.specs.Hearing.{seen};
 ghost use Rattle.far_store.specs.Stores.{Rises, capped};
 
 use crate::answers::{read_answer, read_bytes, read_forgotten};
-use crate::frame::{Head, Kind, PAYLOAD_LIMIT, lay_out};
+use crate::frame::{FrameKind, Head, PAYLOAD_LIMIT, lay_out};
 use crate::parcel::StreamParcel;
 use far_store::{FarStore, StoreFault};
 use std::alloc::Global;
@@ -100,7 +100,7 @@ impl<S: Read + Write + Drop> StreamStore<S> {
         if bytes.is_empty() || bytes.len() > PAYLOAD_LIMIT as usize || self.puts == u64::MAX {
             return Err(StoreFault::Refused);
         }
-        let head = Kind::Put.head(self.puts + 1, bytes.len() as u32);
+        let head = FrameKind::Put.head(self.puts + 1, bytes.len() as u32);
         if lay_out(&mut self.frame, head, bytes).is_err() {
             return Err(StoreFault::Memory);
         }
@@ -123,7 +123,12 @@ impl<S: Read + Write + Drop> StreamStore<S> {
         if let Some(fault) = self.broken {
             return Err(fault);
         }
-        if put_all(&mut self.stream, &Kind::Get.head(parcel.id(), 0).bytes()).is_err() {
+        if put_all(
+            &mut self.stream,
+            &FrameKind::Get.head(parcel.id(), 0).bytes(),
+        )
+        .is_err()
+        {
             return Err(StoreFault::Io);
         }
         read_bytes(self.alloc, &mut self.stream, parcel)
@@ -138,7 +143,7 @@ impl<S: Read + Write + Drop> StreamStore<S> {
         if let Some(fault) = self.broken {
             return Err(fault);
         }
-        if put_all(&mut self.stream, &Kind::Forget.head(id, 0).bytes()).is_err() {
+        if put_all(&mut self.stream, &FrameKind::Forget.head(id, 0).bytes()).is_err() {
             return Err(StoreFault::Io);
         }
         read_forgotten(&mut self.stream, id)

@@ -5,7 +5,7 @@ ghost use Rattle.far_stream.specs.Frames.{head, IsHead};
 ghost use Rattle.far_stream.specs.Conversations.{IsAsking};
 ghost use Rattle.far_stream.specs.Hearing.{IsProper};
 ghost use Rattle.far_stream.specs.Kinds.{Asks, kind_number, status_number};
-ghost use Rattle.far_stream.specs.declared.frame.Kind.{Kind};
+ghost use Rattle.far_stream.specs.declared.frame.FrameKind.{FrameKind};
 ghost use Rattle.far_stream.specs.Payloads.{CutsOffWithin};
 
 use crate::fault::Cut;
@@ -22,7 +22,7 @@ pub const PAYLOAD_LIMIT: u32 = 65_536;
 
 /// What is asked.
 #[derive(Clone, Copy)]
-pub(crate) enum Kind {
+pub(crate) enum FrameKind {
     Put = 1,
     Get = 2,
     Forget = 3,
@@ -39,19 +39,19 @@ pub(crate) enum Status {
     NoRoom = 2,
 }
 
-impl Kind {
+impl FrameKind {
     /// The kind that a head's first byte names.
-    fn of(number: u8) -> Option<Kind>
+    fn of(number: u8) -> Option<FrameKind>
         ensures some { IfSome result (λ kind. number ≡ kind_number kind) }
-        ensures none { IfNone result ((kind : Kind) → number ≢ kind_number kind) }
+        ensures none { IfNone result ((kind : FrameKind) → number ≢ kind_number kind) }
     {
-        const PUT: u8 = Kind::Put as u8;
-        const GET: u8 = Kind::Get as u8;
-        const FORGET: u8 = Kind::Forget as u8;
+        const PUT: u8 = FrameKind::Put as u8;
+        const GET: u8 = FrameKind::Get as u8;
+        const FORGET: u8 = FrameKind::Forget as u8;
         match number {
-            PUT => Some(Kind::Put),
-            GET => Some(Kind::Get),
-            FORGET => Some(Kind::Forget),
+            PUT => Some(FrameKind::Put),
+            GET => Some(FrameKind::Get),
+            FORGET => Some(FrameKind::Forget),
             _ => None,
         }
     }
@@ -118,14 +118,14 @@ impl Head {
     }
 
     /// What a request with this head asks, where one may have it.
-    pub fn asks(self) -> Option<Kind>
+    pub fn asks(self) -> Option<FrameKind>
         ensures some { IfSome result (λ kind. Asks kind self.kind self.count) }
         ensures none { IfNone result (IsAsking self.kind self.count → ⊥) }
     {
-        match Kind::of(self.kind)? {
-            Kind::Put if self.count > 0 && self.count <= PAYLOAD_LIMIT => Some(Kind::Put),
-            Kind::Get if self.count == 0 => Some(Kind::Get),
-            Kind::Forget if self.count == 0 => Some(Kind::Forget),
+        match FrameKind::of(self.kind)? {
+            FrameKind::Put if self.count > 0 && self.count <= PAYLOAD_LIMIT => Some(FrameKind::Put),
+            FrameKind::Get if self.count == 0 => Some(FrameKind::Get),
+            FrameKind::Forget if self.count == 0 => Some(FrameKind::Forget),
             _ => None,
         }
     }

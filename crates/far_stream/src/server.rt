@@ -8,7 +8,7 @@ ghost use Rattle.far_stream.specs.Conversations.{Converses, EndsBetween};
 ghost use Rattle.far_stream.specs.Serving.{Forgotten, PutTaken, ServesOn};
 
 use crate::fault::{Cut, PayloadFault, StreamFault};
-use crate::frame::{Head, Kind, Status};
+use crate::frame::{FrameKind, Head, Status};
 use crate::keeping::{KEPT_LIMIT, Kept, place_of};
 use crate::payload::drop_payload;
 use std::alloc::Global;
@@ -114,9 +114,9 @@ fn serve_request<S: Read + Write>(
     ensures { ServesOn S.remaining S.contents (head request.kind request.id request.count) stream.old kept.old.items result kept.new.items stream.new }
 {
     match request.asks() {
-        Some(Kind::Put) => serve_put(alloc, stream, kept, request.id, request.count),
-        Some(Kind::Get) => serve_get(stream, kept, request.id),
-        Some(Kind::Forget) => serve_forget(stream, kept, request.id),
+        Some(FrameKind::Put) => serve_put(alloc, stream, kept, request.id, request.count),
+        Some(FrameKind::Get) => serve_get(stream, kept, request.id),
+        Some(FrameKind::Forget) => serve_forget(stream, kept, request.id),
         None => Err(StreamFault::Protocol),
     }
 }

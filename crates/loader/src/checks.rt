@@ -8,7 +8,7 @@ ghost use Rattle.loader.specs.Entries.{all_entries};
 ghost use Rattle.loader.specs.Refusals.{IsLeastComplaint, IsFirstWrong};
 
 use crate::loading::{LoadError, Why};
-use crate::program::{Entry, entry_at};
+use crate::program::{CodeEntry, entry_at};
 use helpers::Helper;
 use isa_table::{Instr, Reg, slots_of};
 
@@ -64,7 +64,7 @@ fn slot_of(number: i64, count: usize) -> Option<usize>
 }
 
 /// What is wrong with where the instruction leads.
-fn jump_complaint(entries: &[Entry], slot: usize, instr: Instr) -> Option<Why>
+fn jump_complaint(entries: &[CodeEntry], slot: usize, instr: Instr) -> Option<Why>
     requires short { 8 * length entries.now ≤ code_limit }
     requires room { 8 * slot < code_limit }
     ensures { (code after : List Instr) → entries.now ≡ all_entries code → MatchOption result (LeadsInside code slot instr) (λ why. IsLeastComplaint code slot instr after why) }
@@ -82,7 +82,7 @@ fn jump_complaint(entries: &[Entry], slot: usize, instr: Instr) -> Option<Why>
 }
 
 /// The least that is wrong with the instruction.
-fn complaint(entries: &[Entry], slot: usize, instr: Instr) -> Option<Why>
+fn complaint(entries: &[CodeEntry], slot: usize, instr: Instr) -> Option<Why>
     requires short { 8 * length entries.now ≤ code_limit }
     requires room { 8 * slot < code_limit }
     ensures { (code after : List Instr) → entries.now ≡ all_entries code → (after ≡ []) ↔ (slot + slots instr ≡ length entries.now) → MatchOption result (IsSound code slot instr after) (λ why. IsLeastComplaint code slot instr after why) }
@@ -103,7 +103,7 @@ fn complaint(entries: &[Entry], slot: usize, instr: Instr) -> Option<Why>
 }
 
 /// The first instruction with which something is wrong, and the least that is wrong with it.
-pub(crate) fn first_complaint(entries: &[Entry]) -> Option<LoadError>
+pub(crate) fn first_complaint(entries: &[CodeEntry]) -> Option<LoadError>
     requires { 8 * length entries.now ≤ code_limit }
     ensures { (code : List Instr) → entries.now ≡ all_entries code → MatchOption result (AllSound code code 0) (λ e. IsFirstWrong code code 0 e.slot e.why) }
 {

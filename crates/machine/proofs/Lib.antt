@@ -20,4 +20,4 @@ pub mod Confined
 pub mod Executing
 pub mod Running
 pub mod GrantedWork
-pub mod Turning
+pub mod Dispatching

@@ -12,4 +12,4 @@ pub mod Confinement
 pub mod Variants
 pub mod Points
 pub mod Runs
-pub mod Turns
+pub mod Dispatches

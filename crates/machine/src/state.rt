@@ -104,7 +104,7 @@ pub struct Done {
 
 /// What one dispatch of a run did: an instruction, or two that ran, and the slot where the machine is then.
 #[derive(Clone, Copy, Drop)]
-pub enum Turn {
+pub enum Dispatched {
     One(Done),
     Two(usize),
 }

@@ -4,7 +4,7 @@ ghost use Rattle.shared_objects.specs.Kinds.{dealer};
 ghost use Rattle.shared_objects.specs.Opened.{AreFresh, seated};
 ghost use Rattle.shared_objects.specs.Tables.{IsActorOf};
 ghost use Rattle.workers.specs.Cells.{IsTableOf};
-ghost use Rattle.workers.specs.Marks.{each_lent};
+ghost use Rattle.workers.specs.TableNames.{each_lent};
 ghost use Rattle.workers.specs.Pools.{machines_of};
 
 use crate::common::adding;
@@ -17,7 +17,7 @@ use std::sync::Wait;
 use std::sync::atomic::{AtomicU64, Ordering};
 use std::test::Fail;
 use test_devices::{number_kept, objects};
-use workers::{Direction, Gate, Looked, Mark, Moved, Mover, Pool, mover};
+use workers::{Direction, Gate, Looked, Moved, Mover, Pool, TableName, mover};
 
 /// What is done.
 #[derive(Clone, Copy, Drop)]
@@ -95,7 +95,7 @@ impl Gate for Rounds {
 }
 
 /// A step of the machine of a number.
-fn step<F: FarStore, K: Mark, R: Wait>(
+fn step<F: FarStore, K: TableName, R: Wait>(
     rt: &R,
     pool: &Pool<F, K>,
     number: usize,
@@ -105,7 +105,7 @@ fn step<F: FarStore, K: Mark, R: Wait>(
 }
 
 /// Lets the mover have so many rounds.
-fn serve<F: FarStore, K: Mark, R: Wait>(
+fn serve<F: FarStore, K: TableName, R: Wait>(
     rt: &R,
     pool: &Pool<F, K>,
     served: &mut Mover<F, K>,
@@ -120,7 +120,7 @@ fn serve<F: FarStore, K: Mark, R: Wait>(
 }
 
 /// What comes of one act.
-fn answer_to<F: FarStore, K: Mark, R: Wait>(
+fn answer_to<F: FarStore, K: TableName, R: Wait>(
     rt: &R,
     pool: &Pool<F, K>,
     served: &mut Mover<F, K>,
@@ -143,7 +143,7 @@ fn answer_to<F: FarStore, K: Mark, R: Wait>(
 }
 
 /// The first row of which something else comes, and what comes of it.
-fn other_of<F: FarStore, K: Mark, R: Wait>(
+fn other_of<F: FarStore, K: TableName, R: Wait>(
     rt: &R,
     pool: &Pool<F, K>,
     served: &mut Mover<F, K>,
@@ -160,7 +160,7 @@ fn other_of<F: FarStore, K: Mark, R: Wait>(
 }
 
 /// What a mover leaves, where that was the first other answer.
-fn left_of<F: FarStore + Drop, K: Mark>(
+fn left_of<F: FarStore + Drop, K: TableName>(
     served: Mover<F, K>,
     other: Option<(usize, Answer)>,
 ) -> Left {
@@ -188,7 +188,7 @@ struct Parts<F: FarStore> {
     store: F,
 }
 
-fn run<F: FarStore + Drop, K: Mark, R: Wait>(
+fn run<F: FarStore + Drop, K: TableName, R: Wait>(
     rt: &R,
     alloc: Global,
     parts: Parts<F>,

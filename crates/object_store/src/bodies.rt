@@ -28,7 +28,7 @@ use std::mem;
 /// doesn't promise to return what was put the mark is never set (this project's choice). What is out takes no memory for
 /// bytes here.
 #[derive(Drop)]
-pub struct Body<F: FarStore> {
+pub struct ObjectBody<F: FarStore> {
     word: Word,
     // wherever its bytes are
     length: usize,
@@ -40,7 +40,7 @@ pub struct Body<F: FarStore> {
     clean: bool,
 }
 
-impl<F: FarStore> Model for Body<F> {
+impl<F: FarStore> Model for ObjectBody<F> {
     ghost use Rattle.std.specs.Prelude.{vec_capacity};
     ghost use Rattle.far_store.specs.Stores.{parcel_bytes};
     ghost use Rattle.object_store.specs.Bodies.{Kept, IsKept, contents, place_of_word};
@@ -170,12 +170,12 @@ fn fetch<F: FarStore>(
     }
 }
 
-impl<F: FarStore> Body<F> {
+impl<F: FarStore> ObjectBody<F> {
     /// No object.
     pub fn none(alloc: Global) -> Self
         ensures { result ≡ record { bytes = []; place = place.Here; scopes = 0; parcel = None; clean = false } }
     {
-        Body {
+        ObjectBody {
             word: Word::new(),
             length: 0,
             bytes: Vec::new(alloc),
@@ -190,7 +190,7 @@ impl<F: FarStore> Body<F> {
         requires { 0 < length bytes.items }
         ensures { result ≡ record { bytes = bytes.items; place = place.Here; scopes = 0; parcel = None; clean = false } }
     {
-        Body {
+        ObjectBody {
             word: Word::new(),
             length: bytes.len(),
             bytes,
@@ -320,7 +320,7 @@ impl<F: FarStore> Body<F> {
         ensures calls { Calls F.called store.old (forgets self.parcel) store.new }
         ensures faults { F.faults_of store.old ≤ F.faults_of store.new }
     {
-        let Body {
+        let ObjectBody {
             bytes,
             mut parcel,
             ..

@@ -9,13 +9,13 @@ ghost use Rattle.object_store.specs.Bodies.{bytes_in, place_in, scopes_in, sent_
 ghost use Rattle.places.specs.declared.places.Place.TheVariants as place;
 ghost use Rattle.far_store.specs.declared.fault.StoreFault.TheVariants.{Damaged};
 
-use crate::bodies::Body;
+use crate::bodies::ObjectBody;
 use far_store::{FarStore, HandsOut, StoreFault};
 use std::alloc::Global;
 
 /// The parcel that stands for the bytes of an object, where the far store alone has them.
 #[tactic(auto, using(crate::proofs::Listed::at_steps))]
-pub fn parcel_at<F: FarStore>(bodies: &[Body<F>], number: usize) -> Option<&F::Parcel>
+pub fn parcel_at<F: FarStore>(bodies: &[ObjectBody<F>], number: usize) -> Option<&F::Parcel>
     ensures some { IfSome result (λ p. F.bytes_in p.now ≡ bytes_of (map bytes_in bodies.now) number) }
     ensures far { result ≡ None → number < length bodies.now → place_of (map place_in bodies.now) number ≢ place.Far }
     ensures returning { result ≡ None → number < length bodies.now → place_of (map place_in bodies.now) number ≢ place.Returning }
@@ -28,7 +28,7 @@ pub fn parcel_at<F: FarStore>(bodies: &[Body<F>], number: usize) -> Option<&F::P
 
 /// Leaves a number without bytes that was far.
 #[tactic(auto, using(crate::proofs::Listed::free_steps))]
-pub fn free_far_at<F: FarStore>(store: &mut F, bodies: &mut [Body<F>], number: usize)
+pub fn free_far_at<F: FarStore>(store: &mut F, bodies: &mut [ObjectBody<F>], number: usize)
     requires found { number < length bodies.old }
     requires far { place_of (map place_in bodies.old) number ≡ place.Far }
     ensures bytes { map bytes_in bodies.new ≡ with_bytes (map bytes_in bodies.old) number [] }
@@ -46,7 +46,7 @@ pub fn free_far_at<F: FarStore>(store: &mut F, bodies: &mut [Body<F>], number: u
 pub fn end_leave_into_at<F: HandsOut>(
     alloc: Global,
     store: &mut F,
-    bodies: &mut [Body<F>],
+    bodies: &mut [ObjectBody<F>],
     number: usize,
     into: &mut [u8],
 )
@@ -69,7 +69,7 @@ pub fn end_leave_into_at<F: HandsOut>(
 #[tactic(auto, using(crate::proofs::Listed::move_steps))]
 pub fn end_return_from_at<F: HandsOut>(
     store: &mut F,
-    bodies: &mut [Body<F>],
+    bodies: &mut [ObjectBody<F>],
     number: usize,
     bytes: &[u8],
 ) -> Result<(), StoreFault>

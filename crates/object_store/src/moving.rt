@@ -9,13 +9,18 @@ ghost use Rattle.object_store.specs.Calls.{FailsToReturn};
 ghost use Rattle.object_store.specs.Bodies.{bytes_in, place_in, scopes_in, sent_in, BytesBack, IsPlaced};
 ghost use Rattle.places.specs.declared.places.Place.TheVariants as place;
 
-use crate::bodies::Body;
+use crate::bodies::ObjectBody;
 use far_store::{FarStore, StoreFault};
 use std::alloc::Global;
 
 /// Leaves a number without bytes.
 #[tactic(auto, using(crate::proofs::Listed::free_steps))]
-pub fn free_at<F: FarStore>(alloc: Global, store: &mut F, bodies: &mut [Body<F>], number: usize)
+pub fn free_at<F: FarStore>(
+    alloc: Global,
+    store: &mut F,
+    bodies: &mut [ObjectBody<F>],
+    number: usize,
+)
     requires found { number < length bodies.old }
     requires here { place_of (map place_in bodies.old) number ≡ place.Here }
     ensures bytes { map bytes_in bodies.new ≡ with_bytes (map bytes_in bodies.old) number [] }
@@ -30,7 +35,7 @@ pub fn free_at<F: FarStore>(alloc: Global, store: &mut F, bodies: &mut [Body<F>]
 
 /// From here on its way.
 #[tactic(auto, using(crate::proofs::Listed::move_steps))]
-pub fn begin_leave_at<F: FarStore>(bodies: &mut [Body<F>], number: usize)
+pub fn begin_leave_at<F: FarStore>(bodies: &mut [ObjectBody<F>], number: usize)
     requires found { number < length bodies.old }
     requires here { place_of (map place_in bodies.old) number ≡ place.Here }
     requires alone { get_or (map scopes_in bodies.old) number 0 ≡ 0 }
@@ -44,7 +49,7 @@ pub fn begin_leave_at<F: FarStore>(bodies: &mut [Body<F>], number: usize)
 pub fn end_leave_at<F: FarStore>(
     alloc: Global,
     store: &mut F,
-    bodies: &mut [Body<F>],
+    bodies: &mut [ObjectBody<F>],
     number: usize,
 ) -> Result<(), StoreFault>
     requires found { number < length bodies.old }
@@ -67,7 +72,7 @@ pub fn end_leave_at<F: FarStore>(
 
 /// From the far store on its way.
 #[tactic(auto, using(crate::proofs::Listed::move_steps))]
-pub fn begin_return_at<F: FarStore>(bodies: &mut [Body<F>], number: usize)
+pub fn begin_return_at<F: FarStore>(bodies: &mut [ObjectBody<F>], number: usize)
     requires found { number < length bodies.old }
     requires far { place_of (map place_in bodies.old) number ≡ place.Far }
     ensures { IsPlaced bodies.old number place.Returning bodies.new }
@@ -79,7 +84,7 @@ pub fn begin_return_at<F: FarStore>(bodies: &mut [Body<F>], number: usize)
 #[tactic(auto, using(crate::proofs::Listed::move_steps))]
 pub fn end_return_at<F: FarStore>(
     store: &mut F,
-    bodies: &mut [Body<F>],
+    bodies: &mut [ObjectBody<F>],
     number: usize,
 ) -> Result<(), StoreFault>
     requires found { number < length bodies.old }

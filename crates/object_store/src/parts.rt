@@ -4,7 +4,7 @@ ghost use Rattle.far_store.specs.Calls.{Calls};
 ghost use Rattle.object_store.specs.Bodies.{bytes_in, place_in, sent_in};
 ghost use Rattle.object_store.specs.Parts.{AllHere, AreHere, IsFirstAway, bodies_of, forgets_all};
 
-use crate::bodies::Body;
+use crate::bodies::ObjectBody;
 use far_store::FarStore;
 use std::alloc::{AllocError, Global};
 
@@ -20,7 +20,7 @@ pub struct Parts<F> {
 
 /// The least number whose object isn't here, if there is one.
 #[tactic(auto, using(crate::proofs::Apart::scan_steps))]
-pub fn first_away<F: FarStore>(bodies: &[Body<F>]) -> Option<usize>
+pub fn first_away<F: FarStore>(bodies: &[ObjectBody<F>]) -> Option<usize>
     ensures none { result ≡ None → AllHere (map place_in bodies.now) }
     ensures some { IfSome result (λ n. IsFirstAway (map place_in bodies.now) n) }
     ensures found { IfSome result (λ n. n < length bodies.now) }
@@ -36,7 +36,7 @@ pub fn first_away<F: FarStore>(bodies: &[Body<F>]) -> Option<usize>
 /// The bytes of all objects, which are here. Their parcels are forgotten.
 pub fn take_all<F: FarStore>(
     alloc: Global,
-    bodies: Vec<Body<F>>,
+    bodies: Vec<ObjectBody<F>>,
     store: &mut F,
 ) -> Result<Vec<Vec<u8>>, AllocError>
     ensures bytes { IfOk result (λ v. AreHere bodies.items → map (λ b. b.items) v.items ≡ map bytes_in bodies.items) }

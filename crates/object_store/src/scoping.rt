@@ -4,13 +4,13 @@ ghost use Rattle.scopes.specs.Windows.{holds, noted, pushed_out, window_count};
 ghost use Rattle.object_store.specs.Stores.{window_of};
 ghost use Rattle.object_store.specs.Bodies.{CountsHold, IsCounted, grown, lessened, bytes_in, place_in, scopes_in, sent_in};
 
-use crate::bodies::Body;
+use crate::bodies::ObjectBody;
 use far_store::FarStore;
 use scopes::Window;
 
 #[tactic(auto, using(crate::proofs::Counting::body_steps))]
 #[inline(always)]
-fn open_scope<F: FarStore>(bodies: &mut [Body<F>], number: usize)
+fn open_scope<F: FarStore>(bodies: &mut [ObjectBody<F>], number: usize)
     requires object { number < length bodies.old }
     requires fits { get_or (map scopes_in bodies.old) number 0 < 255 }
     ensures { IsCounted bodies.old (grown number (map scopes_in bodies.old)) bodies.new }
@@ -20,7 +20,7 @@ fn open_scope<F: FarStore>(bodies: &mut [Body<F>], number: usize)
 
 #[tactic(auto, using(crate::proofs::Counting::body_steps))]
 #[inline(always)]
-fn end_scope<F: FarStore>(bodies: &mut [Body<F>], number: usize)
+fn end_scope<F: FarStore>(bodies: &mut [ObjectBody<F>], number: usize)
     requires object { number < length bodies.old }
     requires held { 0 < get_or (map scopes_in bodies.old) number 0 }
     ensures { IsCounted bodies.old (lessened (Some number) (map scopes_in bodies.old)) bodies.new }
@@ -30,7 +30,7 @@ fn end_scope<F: FarStore>(bodies: &mut [Body<F>], number: usize)
 
 #[tactic(auto, using(crate::proofs::Counting::below_counts))]
 #[inline(always)]
-fn end_pushed<F: FarStore>(bodies: &mut [Body<F>], out: Option<u32>)
+fn end_pushed<F: FarStore>(bodies: &mut [ObjectBody<F>], out: Option<u32>)
     requires held { IfSome out (λ n. 0 < get_or (map scopes_in bodies.old) n 0) }
     ensures { IsCounted bodies.old (lessened out (map scopes_in bodies.old)) bodies.new }
 {
@@ -41,7 +41,12 @@ fn end_pushed<F: FarStore>(bodies: &mut [Body<F>], out: Option<u32>)
 
 /// Notes a number in the window of a machine. Mostly it is held already, and then there is no call.
 #[inline(always)]
-pub fn note<F: FarStore>(bodies: &mut [Body<F>], windows: &mut [Window], who: usize, number: u32)
+pub fn note<F: FarStore>(
+    bodies: &mut [ObjectBody<F>],
+    windows: &mut [Window],
+    who: usize,
+    number: u32,
+)
     requires machine { (who < length windows.old) × (length windows.old ≤ window_count) }
     requires object { number < length bodies.old }
     requires counts { CountsHold (map scopes_in bodies.old) windows.old }
@@ -61,7 +66,7 @@ pub fn note<F: FarStore>(bodies: &mut [Body<F>], windows: &mut [Window], who: us
 /// Notes a number that a window doesn't hold, and counts it in place of the one that it pushes out.
 #[cold]
 #[inline(never)]
-fn note_new<F: FarStore>(bodies: &mut [Body<F>], window: &mut Window, number: u32)
+fn note_new<F: FarStore>(bodies: &mut [ObjectBody<F>], window: &mut Window, number: u32)
     requires object { number < length bodies.old }
     requires new { holds number window.old ≡ false }
     requires held { IfSome (pushed_out number window.old) (λ n. 0 < get_or (map scopes_in bodies.old) n 0) }
@@ -75,7 +80,7 @@ fn note_new<F: FarStore>(bodies: &mut [Body<F>], window: &mut Window, number: u3
 }
 
 /// Closes all scopes of a machine.
-pub fn close<F: FarStore>(bodies: &mut [Body<F>], windows: &mut [Window], who: usize)
+pub fn close<F: FarStore>(bodies: &mut [ObjectBody<F>], windows: &mut [Window], who: usize)
     requires machine { who < length windows.old }
     requires counts { CountsHold (map scopes_in bodies.old) windows.old }
     ensures counts { CountsHold (map scopes_in bodies.new) windows.new }

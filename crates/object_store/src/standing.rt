@@ -8,7 +8,7 @@ ghost use Rattle.object_store.specs.Bodies.{bytes_in, place_in, scopes_in, sent_
 ghost use Rattle.object_store.specs.Standings.{Stands, StandsRange};
 ghost use Rattle.places.specs.declared.places.Place.TheVariants as place;
 
-use crate::bodies::Body;
+use crate::bodies::ObjectBody;
 use far_store::FarStore;
 use memory::Op;
 use places::Place;
@@ -28,7 +28,7 @@ pub enum Standing {
 /// How many bytes a number has, wherever they are.
 #[tactic(auto, using(crate::proofs::Listed::at_steps))]
 #[inline(always)]
-pub fn length_at<F: FarStore>(bodies: &[Body<F>], number: usize) -> usize
+pub fn length_at<F: FarStore>(bodies: &[ObjectBody<F>], number: usize) -> usize
     ensures value { result ≡ length (bytes_of (map bytes_in bodies.now) number) }
     ensures found { 0 < result → number < length bodies.now }
 {
@@ -40,7 +40,7 @@ pub fn length_at<F: FarStore>(bodies: &[Body<F>], number: usize) -> usize
 
 /// The place of an object, if there is one.
 #[tactic(auto, using(crate::proofs::Listed::at_steps))]
-pub fn place_at<F: FarStore>(bodies: &[Body<F>], number: usize) -> Option<Place>
+pub fn place_at<F: FarStore>(bodies: &[ObjectBody<F>], number: usize) -> Option<Place>
     ensures none { result ≡ None → length (bytes_of (map bytes_in bodies.now) number) ≡ 0 }
     ensures some { IfSome result (λ p. (0 < length (bytes_of (map bytes_in bodies.now) number)) × (place_of (map place_in bodies.now) number ≡ p)) }
     ensures found { IsSome result → number < length bodies.now }
@@ -54,7 +54,7 @@ pub fn place_at<F: FarStore>(bodies: &[Body<F>], number: usize) -> Option<Place>
 /// Whether an access can be done.
 #[tactic(auto, using(crate::proofs::Listed::at_steps))]
 #[inline(always)]
-pub fn stand<F: FarStore>(bodies: &[Body<F>], number: usize, op: &Op) -> Standing
+pub fn stand<F: FarStore>(bodies: &[ObjectBody<F>], number: usize, op: &Op) -> Standing
     ensures stands { Stands (map bytes_in bodies.now) (map place_in bodies.now) number op.now result }
     ensures found { result ≡ Standing.Here → number < length bodies.now }
 {
@@ -75,7 +75,7 @@ pub fn stand<F: FarStore>(bodies: &[Body<F>], number: usize, op: &Op) -> Standin
 /// Whether a range can be read or written.
 #[tactic(auto, using(crate::proofs::Listed::at_steps))]
 pub fn stand_range<F: FarStore>(
-    bodies: &[Body<F>],
+    bodies: &[ObjectBody<F>],
     number: usize,
     offset: usize,
     count: usize,
@@ -96,7 +96,7 @@ pub fn stand_range<F: FarStore>(
 /// Does an access on an object.
 #[tactic(auto, using(crate::proofs::Listed::at_steps))]
 #[inline(always)]
-pub fn act_at<F: FarStore>(bodies: &mut [Body<F>], number: usize, op: &Op) -> u64
+pub fn act_at<F: FarStore>(bodies: &mut [ObjectBody<F>], number: usize, op: &Op) -> u64
     requires found { number < length bodies.old }
     requires here { place_of (map place_in bodies.old) number ≡ place.Here }
     requires inside { Reaches (map bytes_in bodies.old) number op.now }
@@ -113,7 +113,7 @@ pub fn act_at<F: FarStore>(bodies: &mut [Body<F>], number: usize, op: &Op) -> u6
 #[tactic(auto, using(crate::proofs::Listed::at_steps))]
 pub fn copy_range<F: FarStore>(
     alloc: Global,
-    bodies: &[Body<F>],
+    bodies: &[ObjectBody<F>],
     number: usize,
     offset: usize,
     count: usize,
@@ -128,7 +128,12 @@ pub fn copy_range<F: FarStore>(
 
 /// Copies a range over these bytes, which are as many.
 #[tactic(auto, using(crate::proofs::Listed::at_steps))]
-pub fn read_range<F: FarStore>(bodies: &[Body<F>], number: usize, offset: usize, into: &mut [u8])
+pub fn read_range<F: FarStore>(
+    bodies: &[ObjectBody<F>],
+    number: usize,
+    offset: usize,
+    into: &mut [u8],
+)
     requires found { number < length bodies.now }
     requires here { place_of (map place_in bodies.now) number ≡ place.Here }
     requires inside { HasRange (map bytes_in bodies.now) number offset (length into.old) }
@@ -139,7 +144,12 @@ pub fn read_range<F: FarStore>(bodies: &[Body<F>], number: usize, offset: usize,
 
 /// Writes over a range.
 #[tactic(auto, using(crate::proofs::Listed::at_steps))]
-pub fn write_range<F: FarStore>(bodies: &mut [Body<F>], number: usize, offset: usize, bytes: &[u8])
+pub fn write_range<F: FarStore>(
+    bodies: &mut [ObjectBody<F>],
+    number: usize,
+    offset: usize,
+    bytes: &[u8],
+)
     requires found { number < length bodies.old }
     requires here { place_of (map place_in bodies.old) number ≡ place.Here }
     requires inside { HasRange (map bytes_in bodies.old) number offset (length bytes.now) }
@@ -153,7 +163,7 @@ pub fn write_range<F: FarStore>(bodies: &mut [Body<F>], number: usize, offset: u
 
 /// How many windows hold a number.
 #[tactic(auto, using(crate::proofs::Listed::at_steps))]
-pub fn scopes_at<F: FarStore>(bodies: &[Body<F>], number: usize) -> u8
+pub fn scopes_at<F: FarStore>(bodies: &[ObjectBody<F>], number: usize) -> u8
     requires { number < length bodies.now }
     ensures { result ≡ get_or (map scopes_in bodies.now) number 0 }
 {

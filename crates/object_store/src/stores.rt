@@ -10,7 +10,7 @@ ghost use Rattle.object_store.specs.Calls.{Makes, Frees, Gets, Puts, BeginsLeave
 
 mod handing;
 
-use crate::bodies::Body;
+use crate::bodies::ObjectBody;
 use crate::errors::{GetError, MakeError, PartsError, PutError};
 use crate::moving::{begin_leave_at, begin_return_at, end_leave_at, end_return_at, free_at};
 use crate::parts::{Parts, first_away, from_one, take_all};
@@ -32,7 +32,7 @@ use std::marker::Model;
 #[derive(Drop)]
 pub struct ObjectStore<F: FarStore> {
     alloc: Global,
-    bodies: Vec<Body<F>>,
+    bodies: Vec<ObjectBody<F>>,
     // by the number of the machine
     windows: [Window; MACHINE_LIMIT + 1],
     budget: u32,
@@ -61,7 +61,7 @@ impl<F: FarStore + Drop> ObjectStore<F> {
         ensures { IfOk result (λ s. s ≡ record { state = store_start budget (F.faults_of store); far = store; sent = unsent ∷ [] }) }
     {
         let mut bodies = Vec::with_capacity(alloc, OBJECT_LIMIT + 1)?;
-        bodies.push_reserved(Body::none(alloc));
+        bodies.push_reserved(ObjectBody::none(alloc));
         Ok(ObjectStore {
             alloc,
             bodies,
@@ -119,7 +119,7 @@ impl<F: FarStore> ObjectStore<F> {
         }
         match vec![in self.alloc; 0u8; length as usize] {
             Ok(bytes) => {
-                self.bodies.push_reserved(Body::with_bytes(bytes));
+                self.bodies.push_reserved(ObjectBody::with_bytes(bytes));
                 self.spare -= length;
                 Ok(number as u32)
             }

@@ -13,7 +13,7 @@ use Rattle.shared_objects.specs.Kinds.{Sat, shut, looking, marked, recorded, wor
 use Rattle.scopes.specs.Windows.{noted}
 use Rattle.shared_objects.specs.History.{top}
 use Rattle.memory.specs.Deeds.{EndsInside, given_by, left_by}
-use Rattle.shared_objects.specs.declared.view.Entry.{Entry}
+use Rattle.shared_objects.specs.declared.view.SharedEntry.{SharedEntry}
 use Rattle.shared_objects.specs.declared.view.Mark.TheVariants.{Busy}
 use Rattle.shared_objects.proofs.Logs.{top-snoc}
 use Rattle.shared_objects.specs.Resting.{Rests, AllBelow, HoldsBody}
@@ -64,7 +64,7 @@ module _ (old new : Sat) (window after : List ℕ) (n stamp : ℕ) (fits : Actor
   worn_seat found is = noted_seat old new _ window after n stamp fits.0 fits.1 fits.2 is then refl refl refl refl refl refl refl refl lt fits.3
 
   -- there is one entry more
-  pub done_seat : (e : Entry) → new ≡ (recorded e (looking n old.0), []) → ActorFits new after e.stamp
+  pub done_seat : (e : SharedEntry) → new ≡ (recorded e (looking n old.0), []) → ActorFits new after e.stamp
   done_seat e is = noted_seat old new _ window after n e.stamp fits.0 fits.1 fits.2 is then refl refl refl refl refl refl refl refl lt (omega (arith, top-snoc 0 old.0.entries e))
 
 -- an object of the table is one of its opening
@@ -80,10 +80,10 @@ pub still_alone : (m : Sat) (n : ℕ) (P : Body → Type 0) → HoldsBody m n P 
 still_alone m n P h body = ap (λ l. (n, body) ∷ rest l) h.1
 
 -- what is known of an entry's deed and answer is known of an equal entry
-pub told_by : (m : Sat) (n : ℕ) (bytes : List ℕ) (e f : Entry) → e ≡ f → EndsInside f.deed (length bytes) → f.given ≡ given_by f.deed bytes → HoldsBody m n (λ body. body.bytes.items ≡ left_by f.deed bytes)
+pub told_by : (m : Sat) (n : ℕ) (bytes : List ℕ) (e f : SharedEntry) → e ≡ f → EndsInside f.deed (length bytes) → f.given ≡ given_by f.deed bytes → HoldsBody m n (λ body. body.bytes.items ≡ left_by f.deed bytes)
     → EndsInside e.deed (length bytes) × (e.given ≡ given_by e.deed bytes) × HoldsBody m n (λ body. body.bytes.items ≡ left_by e.deed bytes)
 told_by m n bytes e f is inside given held =
-    let Fit : Entry → Type 0 = λ x. EndsInside x.deed (length bytes) × (x.given ≡ given_by x.deed bytes) × HoldsBody m n (λ body. body.bytes.items ≡ left_by x.deed bytes) in
+    let Fit : SharedEntry → Type 0 = λ x. EndsInside x.deed (length bytes) × (x.given ≡ given_by x.deed bytes) × HoldsBody m n (λ body. body.bytes.items ≡ left_by x.deed bytes) in
     subst Fit (sym is) (inside, given, held)
 
 -- all of a vector is written over

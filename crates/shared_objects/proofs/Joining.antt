@@ -13,7 +13,7 @@ use Rattle.memory.specs.Objects.{bytes_of}
 use Rattle.shared_objects.specs.Rule.{total, times, has_turn, has_open, has_pass, has_moving, has_far, place_of, bytes_taken, is_moving, is_far, is_live, spent, HasPart, PartFits, MarkFits, Stands, turns_on, Knows, Kept}
 use Rattle.shared_objects.specs.Kinds.{gathers, gathers_all, part}
 use Rattle.shared_objects.specs.declared.body.Body.{Body}
-use Rattle.shared_objects.specs.declared.view.Entry.{Entry}
+use Rattle.shared_objects.specs.declared.view.SharedEntry.{SharedEntry}
 use Rattle.shared_objects.specs.declared.view.Part.{Part}
 use Rattle.shared_objects.specs.declared.view.Mark.{Mark}
 use Rattle.shared_objects.specs.declared.view.View.{View}
@@ -23,10 +23,10 @@ use Rattle.shared_objects.proofs.Moves.{no_live, same_fits, body_in}
 use Rattle.shared_objects.proofs.Keeps.{none_is_not, some_is}
 use Rattle.shared_objects.specs.Ends.{shown, all_shown, Shows, Closes}
 use Rattle.shared_objects.specs.Phases.{phase_of}
-use Rattle.shared_objects.specs.declared.view.Place.{Place}
-use Rattle.shared_objects.specs.declared.view.Place.TheVariants.{Here, Moving, Far}
+use Rattle.shared_objects.specs.declared.view.Whereabouts.{Whereabouts}
+use Rattle.shared_objects.specs.declared.view.Whereabouts.TheVariants.{Here, Moving, Far}
 use Rattle.shared_objects.specs.declared.seats.Phase.{Phase}
-use Rattle.shared_objects.specs.declared.closing.Ended.{Ended}
+use Rattle.shared_objects.specs.declared.closing.ObjectEnd.{ObjectEnd}
 use Rattle.shared_objects.proofs.One.{one_list}
 use Rattle.shared_objects.specs.One.{PartsFit}
 
@@ -70,8 +70,8 @@ joins_ok returns key id v other u maker alive_ here young free shut clean past h
             let turns : total (has_turn n) vs' ≡ total (has_turn n) s.views = omega (arith, both (has_turn n), ap (turns_on n) free) in
             let opens : total (has_open n) vs' ≡ total (has_open n) s.views = omega (arith, both (has_open n), ap (times n) shut) in
             let passes : total (has_pass n) vs' ≡ total (has_pass n) s.views = omega (arith, both (has_pass n), ap (times n) past) in
-            let still : has_moving n u ≡ 0 = ap (λ (l : List Place). is_moving (slice_index_or l n Here)) home in
-            let near : has_far n u ≡ 0 = ap (λ (l : List Place). is_far (slice_index_or l n Here)) home in
+            let still : has_moving n u ≡ 0 = ap (λ (l : List Whereabouts). is_moving (slice_index_or l n Here)) home in
+            let near : has_far n u ≡ 0 = ap (λ (l : List Whereabouts). is_far (slice_index_or l n Here)) home in
             let moving : total (has_moving n) vs' ≡ total (has_moving n) s.views = omega (arith, both (has_moving n), still) in
             let far : total (has_far n) vs' ≡ total (has_far n) s.views = omega (arith, both (has_far n), near) in
             same_fits _ _ _ _ _ _ _ _ _ _ (λ i. record { turns = turns i; opens = opens i; passes = passes i; moving = moving i; far = far i }) refl refl refl (o.objects.fits n lt);
@@ -164,10 +164,10 @@ joins_ok returns key id v other u maker alive_ here young free shut clean past h
 
 -- What the last seat knows: it has all entries; each body that is here, and the bytes of each object that is out, stand
 pub record Settled (returns : Bool) (key : List (List ℕ)) (v : View) (s : State Body View) : Type 0 where
-  pub logs : ℕ → List Entry
+  pub logs : ℕ → List SharedEntry
   pub parts : PartsFit v.gathered
-  pub into : (e : Entry) → HasPart v.gathered e → (e.object < length key) × Has (logs e.object) e
-  pub from : (n : ℕ) (e : Entry) → Has (logs n) e → (e.object ≡ n) × HasPart v.gathered e
+  pub into : (e : SharedEntry) → HasPart v.gathered e → (e.object < length key) × Has (logs e.object) e
+  pub from : (n : ℕ) (e : SharedEntry) → Has (logs n) e → (e.object ≡ n) × HasPart v.gathered e
   pub nowhere : (n : ℕ) → length key ≤ n → logs n ≡ []
   pub marks : (p : Part) → Has v.gathered p → (m : Mark) → Has p.marks m → MarkFits logs m
   pub legal : (n : ℕ) → n < length key → Chained 0 (logs n) × AllInside (length (bytes_of key n)) (logs n) × (returns ≡ true → Answers (bytes_of key n) (logs n))
@@ -226,58 +226,58 @@ settles returns key id v s o me maker alive_ last free idle_hands =
     }
 
 -- the bytes of each object, by where it is
-abbrev end_of : Place → Body → List ℕ
+abbrev end_of : Whereabouts → Body → List ℕ
 end_of Here body = body.bytes.items
 end_of (Moving bytes) body = bytes
 end_of (Far bytes) body = bytes
 
-abbrev all_ends : List Place → List Body → List (List ℕ)
+abbrev all_ends : List Whereabouts → List Body → List (List ℕ)
 all_ends [] bodies = []
 all_ends (p ∷ ps) [] = []
 all_ends (p ∷ ps) (b ∷ bs) = end_of p b ∷ all_ends ps bs
 
-ends_long : (out : List Place) (bs : List Body) → length out ≡ length bs → length (all_ends out bs) ≡ length bs
+ends_long : (out : List Whereabouts) (bs : List Body) → length out ≡ length bs → length (all_ends out bs) ≡ length bs
 ends_long [] [] e = refl
 ends_long [] (b ∷ bs) e = absurd (omega (arith, e))
 ends_long (p ∷ ps) [] e = absurd (omega (arith, e))
 ends_long (p ∷ ps) (b ∷ bs) e = omega (arith, ends_long ps bs (omega (arith, e)))
 
-shown_long : (out : List Place) (bs : List Body) → length out ≡ length bs → length (all_shown (map phase_of out) bs) ≡ length bs
+shown_long : (out : List Whereabouts) (bs : List Body) → length out ≡ length bs → length (all_shown (map phase_of out) bs) ≡ length bs
 shown_long [] [] e = refl
 shown_long [] (b ∷ bs) e = absurd (omega (arith, e))
 shown_long (p ∷ ps) [] e = absurd (omega (arith, e))
 shown_long (p ∷ ps) (b ∷ bs) e = omega (arith, shown_long ps bs (omega (arith, e)))
 
-shows_one : (p : Place) (b : Body) → Shows p (end_of p b) (shown (phase_of p) b)
+shows_one : (p : Whereabouts) (b : Body) → Shows p (end_of p b) (shown (phase_of p) b)
 shows_one Here b = refl
 shows_one (Moving bytes) b = refl
 shows_one (Far bytes) b = refl
 
-shows_all : (out : List Place) (bs : List Body) (n : ℕ) (e : Ended) → get_elem? (all_shown (map phase_of out) bs) n ≡ some e → Shows (slice_index_or out n Here) (bytes_of (all_ends out bs) n) e
+shows_all : (out : List Whereabouts) (bs : List Body) (n : ℕ) (e : ObjectEnd) → get_elem? (all_shown (map phase_of out) bs) n ≡ some e → Shows (slice_index_or out n Here) (bytes_of (all_ends out bs) n) e
 shows_all [] bs n e at = absurd (some-ne-none e (sym at))
 shows_all (p ∷ ps) [] n e at = absurd (some-ne-none e (sym at))
 shows_all (p ∷ ps) (b ∷ bs) zero e at = subst (Shows p (end_of p b)) (some-injective (shown (phase_of p) b) e at) (shows_one p b)
 shows_all (p ∷ ps) (b ∷ bs) (suc n) e at = shows_all ps bs n e at
 
-end_here : (out : List Place) (bs : List Body) (n : ℕ) (b : Body) → length out ≡ length bs → get_elem? bs n ≡ some b → slice_index_or out n Here ≡ Here → bytes_of (all_ends out bs) n ≡ b.bytes.items
+end_here : (out : List Whereabouts) (bs : List Body) (n : ℕ) (b : Body) → length out ≡ length bs → get_elem? bs n ≡ some b → slice_index_or out n Here ≡ Here → bytes_of (all_ends out bs) n ≡ b.bytes.items
 end_here [] [] n b long at is = absurd (some-ne-none b (sym at))
 end_here [] (x ∷ xs) n b long at is = absurd (omega (arith, long))
 end_here (p ∷ ps) [] n b long at is = absurd (omega (arith, long))
 end_here (p ∷ ps) (x ∷ xs) zero b long at is = ap (λ q. end_of q x) is ∙ ap (λ (y : Body). y.bytes.items) (some-injective x b at)
 end_here (p ∷ ps) (x ∷ xs) (suc n) b long at is = end_here ps xs n b (omega (arith, long)) at is
 
-end_taken : (p : Place) (b : Body) (bytes : List ℕ) → bytes_taken p ≡ Some bytes → end_of p b ≡ bytes
+end_taken : (p : Whereabouts) (b : Body) (bytes : List ℕ) → bytes_taken p ≡ Some bytes → end_of p b ≡ bytes
 end_taken Here b bytes e = absurd (none_is_not bytes e)
 end_taken (Moving x) b bytes e = some_is x bytes e
 end_taken (Far x) b bytes e = some_is x bytes e
 
-end_away : (out : List Place) (bs : List Body) (n : ℕ) (bytes : List ℕ) → length out ≡ length bs → bytes_taken (slice_index_or out n Here) ≡ Some bytes → bytes_of (all_ends out bs) n ≡ bytes
+end_away : (out : List Whereabouts) (bs : List Body) (n : ℕ) (bytes : List ℕ) → length out ≡ length bs → bytes_taken (slice_index_or out n Here) ≡ Some bytes → bytes_of (all_ends out bs) n ≡ bytes
 end_away [] bs n bytes long e = absurd (none_is_not bytes e)
 end_away (p ∷ ps) [] n bytes long e = absurd (omega (arith, long))
 end_away (p ∷ ps) (x ∷ xs) zero bytes long e = end_taken p x bytes e
 end_away (p ∷ ps) (x ∷ xs) (suc n) bytes long e = end_away ps xs n bytes (omega (arith, long)) e
 
-here_or : (p : Place) → (p ≡ Here) ⊎ ((bytes : List ℕ) × (bytes_taken p ≡ Some bytes))
+here_or : (p : Whereabouts) → (p ≡ Here) ⊎ ((bytes : List ℕ) × (bytes_taken p ≡ Some bytes))
 here_or Here = inl refl
 here_or (Moving bytes) = inr (bytes, refl)
 here_or (Far bytes) = inr (bytes, refl)

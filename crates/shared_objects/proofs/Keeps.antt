@@ -17,11 +17,11 @@ use Rattle.shared_objects.specs.Rule.{total, times, same, has_turn, has_open, ha
 use Rattle.shared_objects.specs.Kinds.{Sat, object_at, turn, with_scope, without, without_scope, with_pass, without_pass, marked, holding, recorded, worn_out, opens_scope, closes_scope, leaves_pass, takes_turn, gives_turn, gives_up_turn, Took, dealer, dealt, newcomer}
 use Rattle.shared_objects.specs.Rule.SlotFits.{AtHome, Lent}
 use Rattle.shared_objects.specs.declared.body.Body.{Body}
-use Rattle.shared_objects.specs.declared.view.Entry.{Entry}
+use Rattle.shared_objects.specs.declared.view.SharedEntry.{SharedEntry}
 use Rattle.shared_objects.specs.declared.view.Turn.{Turn}
 use Rattle.shared_objects.specs.declared.view.Mark.{Mark}
 use Rattle.shared_objects.specs.declared.view.Part.{Part}
-use Rattle.shared_objects.specs.declared.view.Place.TheVariants.{Here}
+use Rattle.shared_objects.specs.declared.view.Whereabouts.TheVariants.{Here}
 use Rattle.shared_objects.specs.declared.view.View.{View}
 use Rattle.shared_objects.specs.declared.view.Mark.TheVariants.{Away, Busy, Worn}
 use Rattle.shared_objects.proofs.Sums.{at_end, total-set, total-append, term_le, total_few, set_there, is_here, is_else, times-snoc, times-without, times-without_other}
@@ -190,7 +190,7 @@ turns_ok returns key slots id m n lt free opened_ few_scopes alive_ young s o wi
     ))
 
 -- give turn: it ends with one entry more, which carries the bytes on
-pub records_ok : (returns : Bool) (key : List (List ℕ)) (slots id : ℕ) (m : Sat) (t : Turn) (body : Body) (more : List (ℕ × Body)) (e : Entry) (k : ℕ)
+pub records_ok : (returns : Bool) (key : List (List ℕ)) (slots id : ℕ) (m : Sat) (t : Turn) (body : Body) (more : List (ℕ × Body)) (e : SharedEntry) (k : ℕ)
     → t.object < slots → m.1 ≡ (t.object, body) ∷ more → m.0.turn ≡ Some t
     → e.actor ≡ m.0.actor → e.object ≡ t.object → e.found ≡ t.stamp → EndsInside e.deed (length t.bytes) → t.stamp < e.stamp → top 0 m.0.entries < e.stamp → e.stamp < 2 ^ 48
     → e.given ≡ given_by e.deed t.bytes → body.bytes.items ≡ left_by e.deed t.bytes → k + 4 ≡ (e.stamp - t.stamp) * 65536 → m.0.live ≡ true → m.0.made ≡ 0
@@ -200,7 +200,7 @@ records_ok returns key slots id m t body more e k lt carried has by on found_is 
     let near : n < length key = omega (arith, o.objects.slots) in
     let f = o.objects.fits n near in let few = few_open returns key s o n in
     let kn = o.seats.knows id v me in
-    let log : List Entry = o.logs n ++ e ∷ [] in
+    let log : List SharedEntry = o.logs n ++ e ∷ [] in
     let x : ℕ = slice_index s.words (word_of n) in
     let at = kn.turn t has in
     let mine : has_turn n v ≡ 1 = turn_here v t has in
@@ -245,14 +245,14 @@ records_ok returns key slots id m t body more e k lt carried has by on found_is 
           (λ else. subst (λ l. Stands returns (bytes_of key j) l bytes) (sym (grown_else o.logs n log j else)) (kn.out j bytes q));
       entries = λ y h. ⊎_elim
           (λ old. let q = kn.entries y old in (q.0, entry_stays returns key s o id v w n ((x + k) % 2 ^ 64) hs log me near alive_ (has_longer (o.logs n) (e ∷ [])) y q.1))
-          (λ (new : e ≡ y). subst (λ (z : Entry). (z.actor ≡ id) × Has (grown o.logs n log z.object) z) new
+          (λ (new : e ≡ y). subst (λ (z : SharedEntry). (z.actor ≡ id) × Has (grown o.logs n log z.object) z) new
           (by ∙ kn.actor alive_, subst (λ l. Has l e) (sym (grown_here o.logs n log e.object on)) (has_last (o.logs n) e)))
           (has_snoc v.entries e y h);
       marks = λ y h. mark_stays returns key s o id v w n ((x + k) % 2 ^ 64) hs log me near alive_ (omega arith) y (kn.marks y h);
       rises = Rises-snoc 0 v.entries e kn.rises later;
     })
     (has_longer (o.logs n) (e ∷ []))
-    (λ y h. ⊎_elim (λ old. inl old) (λ (new : e ≡ y). inr (subst (λ (z : Entry). (z.object ≡ n) × Has w.entries z) new (on, has_last v.entries e))) (has_snoc (o.logs n) e y h))
+    (λ y h. ⊎_elim (λ old. inl old) (λ (new : e ≡ y). inr (subst (λ (z : SharedEntry). (z.object ≡ n) × Has w.entries z) new (on, has_last v.entries e))) (has_snoc (o.logs n) e y h))
     (has_longer v.entries (e ∷ [])) (omega arith) (inr mine) in
     gives_back (Kept returns key) s id (word_of n) ((x + k) % 2 ^ 64) x m (gives_turn e (step slots (word_of n) k 0 none)) n body more w carried kept refl
 

@@ -17,7 +17,7 @@ use Rattle.shared_objects.specs.Legal.{Legal, IsOneRun}
 use Rattle.shared_objects.specs.One.{Before, InOrder, OneList, entries_on, entries_by}
 use Rattle.shared_objects.specs.Rule.{HasPart, word_of, tally, spent, Kept}
 use Rattle.shared_objects.specs.declared.body.Body.{Body}
-use Rattle.shared_objects.specs.declared.view.Entry.{Entry}
+use Rattle.shared_objects.specs.declared.view.SharedEntry.{SharedEntry}
 use Rattle.shared_objects.specs.declared.view.Part.{Part}
 use Rattle.shared_objects.specs.declared.view.View.{View}
 use Rattle.shared_objects.proofs.Moves.{body_in}
@@ -28,7 +28,7 @@ use Rattle.shared_objects.proofs.Sorting.{has_either, has_left, has_right}
 
 -- ---- runs
 
-pub one_run : (opening : List (List ℕ)) (history : List Entry) → Legal opening history → IsOneRun opening history
+pub one_run : (opening : List (List ℕ)) (history : List SharedEntry) → Legal opening history → IsOneRun opening history
 one_run opening history l = record {
   ends = all_after opening history;
   long = all_long opening history;
@@ -36,10 +36,10 @@ one_run opening history l = record {
   folds = λ n lt. all_fold opening history l.near n;
 }
 
-actor_later : (e f : Entry) → e.actor ≡ f.actor → Before e f → e.stamp < f.stamp
+actor_later : (e f : SharedEntry) → e.actor ≡ f.actor → Before e f → e.stamp < f.stamp
 actor_later e f same b = ⊎_elim (λ (s : e.stamp < f.stamp). s) (λ (t : (e.stamp ≡ f.stamp) × (e.actor < f.actor)). let less = t.1 in absurd (omega (arith, same))) b
 
-by_actor : (actor : ℕ) (one : List Entry) → InOrder one → ((e : Entry) → Has one e → 0 < e.stamp) → Rises 0 (entries_by actor one)
+by_actor : (actor : ℕ) (one : List SharedEntry) → InOrder one → ((e : SharedEntry) → Has one e → 0 < e.stamp) → Rises 0 (entries_by actor one)
 by_actor actor one o low = pick_rises (λ e. e.actor == actor) 0 one o (λ e h yes. low e h)
     (λ e f he hf ye yf b. actor_later e f (by_is e.actor actor ye ∙ sym (by_is f.actor actor yf)) b)
 
@@ -92,8 +92,8 @@ word_shows returns opening s k n lt =
 -- ---- one history
 
 -- all entries of a list, in order
-orders : (es : List Entry) → ((e f : Entry) → Has es e → Has es f → (e ≡ f) ⊎ (Before e f ⊎ Before f e))
-    → (m : List Entry) × InOrder m × ((x : Entry) → Has es x → Has m x) × ((x : Entry) → Has m x → Has es x)
+orders : (es : List SharedEntry) → ((e f : SharedEntry) → Has es e → Has es f → (e ≡ f) ⊎ (Before e f ⊎ Before f e))
+    → (m : List SharedEntry) × InOrder m × ((x : SharedEntry) → Has es x → Has m x) × ((x : SharedEntry) → Has m x → Has es x)
 orders [] near = ([], tt, (λ x h. h), λ x h. h)
 orders (e ∷ es) near =
     let t = orders es (λ x y hx hy. near x y (later e x es hx) (later e y es hy)) in
@@ -105,15 +105,15 @@ orders (e ∷ es) near =
     )
 
 -- the entries of the first so many objects
-abbrev all_logs : (ℕ → List Entry) → ℕ → List Entry
+abbrev all_logs : (ℕ → List SharedEntry) → ℕ → List SharedEntry
 all_logs logs zero = []
 all_logs logs (suc n) = logs n ++ all_logs logs n
 
-logs_have : (logs : ℕ → List Entry) (count : ℕ) (e : Entry) → Has (all_logs logs count) e → (n : ℕ) × (n < count) × Has (logs n) e
+logs_have : (logs : ℕ → List SharedEntry) (count : ℕ) (e : SharedEntry) → Has (all_logs logs count) e → (n : ℕ) × (n < count) × Has (logs n) e
 logs_have logs zero e h = absurd (empty e h)
 logs_have logs (suc n) e h = ⊎_elim (λ q. (n, omega arith, q)) (λ q. let t = logs_have logs n e q in let lt = t.1 in (t.0, omega (arith, lt), t.2)) (has_either (logs n) (all_logs logs n) e h)
 
-logs_there : (logs : ℕ → List Entry) (count n : ℕ) (e : Entry) → n < count → Has (logs n) e → Has (all_logs logs count) e
+logs_there : (logs : ℕ → List SharedEntry) (count n : ℕ) (e : SharedEntry) → n < count → Has (logs n) e → Has (all_logs logs count) e
 logs_there logs zero n e lt h = absurd (omega (arith, lt))
 logs_there logs (suc k) n e lt h = dite (ℕ_discrete n k)
     (λ (same : n ≡ k). has_left (logs k) (all_logs logs k) e (subst (λ j. Has (logs j) e) same h))
@@ -124,7 +124,7 @@ module _ (returns : Bool) (opening : List (List ℕ)) (s : State Body View) (k :
   same_view i j v w at at' same = some-injective v w (sym at ∙ ap (get_elem? s.views) same ∙ at')
 
   -- a seat with entries wasn't taken in
-  not_gone : (id : ℕ) (v : View) (p : Part) (e : Entry) → get_elem? s.views id ≡ some v → get_elem? s.views p.actor ≡ some spent → Has v.entries e → id ≡ p.actor → ⊥
+  not_gone : (id : ℕ) (v : View) (p : Part) (e : SharedEntry) → get_elem? s.views id ≡ some v → get_elem? s.views p.actor ≡ some spent → Has v.entries e → id ≡ p.actor → ⊥
   not_gone id v p e at gone h same = empty e (subst (λ (u : View). Has u.entries e) (same_view id p.actor v spent at gone same) h)
 
   -- a seat that took others in is the first
@@ -132,7 +132,7 @@ module _ (returns : Bool) (opening : List (List ℕ)) (s : State Body View) (k :
   takes_in id v p at h = dite (ℕ_discrete id 0) (λ (same : id ≡ 0). same) (λ (ne : id ≢ 0). absurd (empty p (subst (λ l. Has l p) ((k.seats.knows id v at).alone ne) h)))
 
   -- an actor wrote no two entries at one stamp
-  one_each : (e f : Entry) → IsWrittenIn s e → IsWrittenIn s f → e.actor ≡ f.actor → e.stamp ≡ f.stamp → e ≡ f
+  one_each : (e f : SharedEntry) → IsWrittenIn s e → IsWrittenIn s f → e.actor ≡ f.actor → e.stamp ≡ f.stamp → e ≡ f
   one_each e f a b actor stamp =
       let ka = k.seats.knows a.0 a.1 a.2 in let kb = k.seats.knows b.0 b.1 b.2 in
       ⊎_elim
@@ -151,11 +151,11 @@ module _ (returns : Bool) (opening : List (List ℕ)) (s : State Body View) (k :
       let part : got.0 ≡ got'.0 = some-injective got.0 got'.0 (sym at ∙ ap (get_elem? b.1.gathered) place ∙ got'.1.1) in
       rises_unique 0 got'.0.entries e f q.rises (subst (λ (r : Part). Has r.entries e) part got.2) got'.2 stamp) b.3) a.3
 
-  near_log : (n : ℕ) (e : Entry) → Has (k.logs n) e → n < length opening
+  near_log : (n : ℕ) (e : SharedEntry) → Has (k.logs n) e → n < length opening
   near_log n e h = ⊎_elim (λ (near : n < length opening). near) (λ (far : length opening ≤ n). absurd (empty e (subst (λ l. Has l e) (k.objects.nowhere n far) h))) (cases_lt n (length opening))
 
   -- two entries are the same, or one stands before the other
-  in_line : (e f : Entry) → IsWrittenIn s e → IsWrittenIn s f → (e ≡ f) ⊎ (Before e f ⊎ Before f e)
+  in_line : (e f : SharedEntry) → IsWrittenIn s e → IsWrittenIn s f → (e ≡ f) ⊎ (Before e f ⊎ Before f e)
   in_line e f a b = dite (ℕ_discrete e.actor f.actor)
       (λ (actor : e.actor ≡ f.actor). dite (ℕ_discrete e.stamp f.stamp)
       (λ (stamp : e.stamp ≡ f.stamp). inl (one_each e f a b actor stamp))
@@ -163,26 +163,26 @@ module _ (returns : Bool) (opening : List (List ℕ)) (s : State Body View) (k :
       (λ (ne : e.actor ≢ f.actor). inr (apart_by_actor e f ne))
 
   -- what a seat wrote is in the entries of its object
-  logged : (e : Entry) → IsWrittenIn s e → Has (k.logs e.object) e
+  logged : (e : SharedEntry) → IsWrittenIn s e → Has (k.logs e.object) e
   logged e a = ⊎_elim (λ (own : Has a.1.entries e). ((k.seats.knows a.0 a.1 a.2).entries e own).1)
       (λ (got : HasPart a.1.gathered e). ((k.seats.parts a.0 a.1 a.2 got.0 got.1).entries e got.2).1) a.3
 
-  written : (n : ℕ) (e : Entry) → Has (k.logs n) e → IsWrittenIn s e
+  written : (n : ℕ) (e : SharedEntry) → Has (k.logs n) e → IsWrittenIn s e
   written n e h = (k.whole n e h).1
 
   pub has_history : HasHistory returns opening s
   has_history =
-      let es : List Entry = all_logs k.logs (length opening) in
-      let from : (e : Entry) → Has es e → IsWrittenIn s e = λ e h. let w = logs_have k.logs (length opening) e h in written w.0 e w.2 in
+      let es : List SharedEntry = all_logs k.logs (length opening) in
+      let from : (e : SharedEntry) → Has es e → IsWrittenIn s e = λ e h. let w = logs_have k.logs (length opening) e h in written w.0 e w.2 in
       let t = orders es (λ e f he hf. in_line e f (from e he) (from f hf)) in
-      let history : List Entry = t.0 in
-      let only : (e : Entry) → Has history e → IsWrittenIn s e = λ e h. from e (t.3 e h) in
-      let all : (e : Entry) → IsWrittenIn s e → Has history e = λ e a. let l = logged e a in t.2 e (logs_there k.logs (length opening) e.object e (near_log e.object e l) l) in
+      let history : List SharedEntry = t.0 in
+      let only : (e : SharedEntry) → Has history e → IsWrittenIn s e = λ e h. from e (t.3 e h) in
+      let all : (e : SharedEntry) → IsWrittenIn s e → Has history e = λ e a. let l = logged e a in t.2 e (logs_there k.logs (length opening) e.object e (near_log e.object e l) l) in
       let log : (n : ℕ) → n < length opening → entries_on n history ≡ k.logs n = λ n lt. own_log n (k.logs n) history (chained_rises 0 (k.logs n) (k.objects.fits n lt).chained) t.1
       (λ e h on. subst (λ j. Has (k.logs j) e) on (logged e (only e h)))
       (λ e h. (all e (written n e h), (k.whole n e h).0)) in
-      let near : (e : Entry) → Has history e → e.object < length opening = λ e h. near_log e.object e (logged e (only e h)) in
-      let low : (e : Entry) → Has history e → 0 < e.stamp = λ e h. rises_above 0 (k.logs e.object) e (chained_rises 0 (k.logs e.object) (k.objects.fits e.object (near e h)).chained) (logged e (only e h)) in
+      let near : (e : SharedEntry) → Has history e → e.object < length opening = λ e h. near_log e.object e (logged e (only e h)) in
+      let low : (e : SharedEntry) → Has history e → 0 < e.stamp = λ e h. rises_above 0 (k.logs e.object) e (chained_rises 0 (k.logs e.object) (k.objects.fits e.object (near e h)).chained) (logged e (only e h)) in
       record {
         history = history;
         only = only;

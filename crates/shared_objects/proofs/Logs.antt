@@ -9,7 +9,7 @@ use Rattle.memory.proofs.Lengths.{length-after, length-replaced}
 use Rattle.shared_objects.specs.History.{Has, Rises, Chained, AllInside, top, fold, Answers}
 use Rattle.shared_objects.specs.Kinds.{object_at}
 use Rattle.shared_objects.specs.Rule.{word_of}
-use Rattle.shared_objects.specs.declared.view.Entry.{Entry}
+use Rattle.shared_objects.specs.declared.view.SharedEntry.{SharedEntry}
 
 -- a word stands for its object
 pub object_home : (n : ℕ) → object_at (word_of n) ≡ n
@@ -29,31 +29,31 @@ has_last xs x = (length xs, at_last xs x (length xs) refl)
 pub has_snoc : {A : Type 0} (xs : List A) (x y : A) → Has (xs ++ x ∷ []) y → Has xs y ⊎ (x ≡ y)
 has_snoc xs x y h = ⊎_elim (λ e. inl (h.0, e)) (λ e. inr e) (at_snoc xs x y h.0 h.1)
 
-pub Rises-snoc : (floor : ℕ) (es : List Entry) (e : Entry) → Rises floor es → top floor es < e.stamp → Rises floor (es ++ e ∷ [])
+pub Rises-snoc : (floor : ℕ) (es : List SharedEntry) (e : SharedEntry) → Rises floor es → top floor es < e.stamp → Rises floor (es ++ e ∷ [])
 Rises-snoc floor [] e r h = (h, tt)
 Rises-snoc floor (x ∷ xs) e r h = (r.0, Rises-snoc x.stamp xs e r.1 h)
 
-pub Chained-snoc : (floor : ℕ) (es : List Entry) (e : Entry) → Chained floor es → e.found ≡ top floor es → top floor es < e.stamp → Chained floor (es ++ e ∷ [])
+pub Chained-snoc : (floor : ℕ) (es : List SharedEntry) (e : SharedEntry) → Chained floor es → e.found ≡ top floor es → top floor es < e.stamp → Chained floor (es ++ e ∷ [])
 Chained-snoc floor [] e r f h = (f, h, tt)
 Chained-snoc floor (x ∷ xs) e r f h = (r.0, r.1, Chained-snoc x.stamp xs e r.2 f h)
 
-pub chained_rises : (floor : ℕ) (es : List Entry) → Chained floor es → Rises floor es
+pub chained_rises : (floor : ℕ) (es : List SharedEntry) → Chained floor es → Rises floor es
 chained_rises floor [] c = tt
 chained_rises floor (x ∷ xs) c = (c.1, chained_rises x.stamp xs c.2)
 
-pub AllInside-snoc : (count : ℕ) (es : List Entry) (e : Entry) → AllInside count es → EndsInside e.deed count → AllInside count (es ++ e ∷ [])
+pub AllInside-snoc : (count : ℕ) (es : List SharedEntry) (e : SharedEntry) → AllInside count es → EndsInside e.deed count → AllInside count (es ++ e ∷ [])
 AllInside-snoc count [] e a h = (h, tt)
 AllInside-snoc count (x ∷ xs) e a h = (a.0, AllInside-snoc count xs e a.1 h)
 
-pub top-snoc : (floor : ℕ) (es : List Entry) (e : Entry) → top floor (es ++ e ∷ []) ≡ e.stamp
+pub top-snoc : (floor : ℕ) (es : List SharedEntry) (e : SharedEntry) → top floor (es ++ e ∷ []) ≡ e.stamp
 top-snoc floor [] e = refl
 top-snoc floor (x ∷ xs) e = top-snoc x.stamp xs e
 
-pub fold-snoc : (bytes : List ℕ) (es : List Entry) (e : Entry) → fold bytes (es ++ e ∷ []) ≡ left_by e.deed (fold bytes es)
+pub fold-snoc : (bytes : List ℕ) (es : List SharedEntry) (e : SharedEntry) → fold bytes (es ++ e ∷ []) ≡ left_by e.deed (fold bytes es)
 fold-snoc bytes [] e = refl
 fold-snoc bytes (x ∷ xs) e = fold-snoc (left_by x.deed bytes) xs e
 
-pub Answers-snoc : (bytes : List ℕ) (es : List Entry) (e : Entry) → Answers bytes es → e.given ≡ given_by e.deed (fold bytes es) → Answers bytes (es ++ e ∷ [])
+pub Answers-snoc : (bytes : List ℕ) (es : List SharedEntry) (e : SharedEntry) → Answers bytes es → e.given ≡ given_by e.deed (fold bytes es) → Answers bytes (es ++ e ∷ [])
 Answers-snoc bytes [] e a h = (h, tt)
 Answers-snoc bytes (x ∷ xs) e a h = (a.0, Answers-snoc (left_by x.deed bytes) xs e a.1 h)
 

@@ -12,8 +12,8 @@ use Rattle.shared_objects.specs.Rule.{has_moving, has_far, place_of, bytes_taken
 use Rattle.shared_objects.specs.Kinds.{Sat, placed, sent, called, with_cooling, cooling, begins_leave, ends_leave, begins_return, ends_return, cools}
 use Rattle.shared_objects.specs.Rule.SlotFits.{AtHome, Lent, Idle}
 use Rattle.shared_objects.specs.declared.body.Body.{Body}
-use Rattle.shared_objects.specs.declared.view.Place.{Place}
-use Rattle.shared_objects.specs.declared.view.Place.TheVariants.{Here, Moving, Far}
+use Rattle.shared_objects.specs.declared.view.Whereabouts.{Whereabouts}
+use Rattle.shared_objects.specs.declared.view.Whereabouts.TheVariants.{Here, Moving, Far}
 use Rattle.shared_objects.specs.declared.view.View.{View}
 use Rattle.shared_objects.proofs.Sums.{term_le}
 use Rattle.shared_objects.proofs.Moves.{body_in, body_far}
@@ -39,7 +39,7 @@ lifts_ok returns key slots id m n old next lt quiet next_is wide alive_ s o long
     let none-open : (tally n s.views).opens + (tally n s.views).passes ≡ 0 = ⊎_elim (λ e. omega (arith, e, hit, z, f.word_is, f.one_hot)) (λ e. omega (arith, e, hit, z, f.word_is, f.one_hot)) bit in
     let rest_is : old - old % 65536 ≡ 65536 * top 0 (o.logs n) = omega (arith, hit, z, none-open, f.word_is, f.one_hot) in
     let y = body_in f z in let body : Body = y.0 in
-    let p : Place = Moving body.bytes.items in
+    let p : Whereabouts = Moving body.bytes.items in
     let w : View = placed n p v in
     let was = term_le (has_moving n) s.views id v me in let was' = term_le (has_far n) s.views id v me in (
       w,
@@ -55,12 +55,12 @@ lifts_ok returns key slots id m n old next lt quiet next_is wide alive_ s o long
     ))
     (λ miss. (v, keeps, tt, unmoved returns key s o id v n me alive_ near, ((λ e. absurd (miss e)), λ _. refl)))
 
-sent_taken : (p : Place) → bytes_taken (sent p) ≡ bytes_taken p
+sent_taken : (p : Whereabouts) → bytes_taken (sent p) ≡ bytes_taken p
 sent_taken Here = refl
 sent_taken (Moving bytes) = refl
 sent_taken (Far bytes) = refl
 
-called_taken : (p : Place) → bytes_taken (called p) ≡ bytes_taken p
+called_taken : (p : Whereabouts) → bytes_taken (called p) ≡ bytes_taken p
 called_taken Here = refl
 called_taken (Moving bytes) = refl
 called_taken (Far bytes) = refl
@@ -74,7 +74,7 @@ sends_ok returns key slots id m n bytes body more lt carried at wide alive_ s o 
     let near : n < length key = omega (arith, o.objects.slots) in
     let f = o.objects.fits n near in let few = few_open returns key s o n in
     let x : ℕ = slice_index s.words (word_of n) in
-    let p : Place = sent (place_of v n) in
+    let p : Whereabouts = sent (place_of v n) in
     let part = term_le (has_moving n) s.views id v me in
     let was : has_moving n v ≡ 1 = ap is_moving at in let was' : has_far n v ≡ 0 = ap is_far at in
     let is : is_moving p ≡ 0 = ap (λ q. is_moving (sent q)) at in let is' : is_far p ≡ 1 = ap (λ q. is_far (sent q)) at in
@@ -93,7 +93,7 @@ calls_ok returns key slots id m n bytes lt at wide alive_ s o long me small =
     let near : n < length key = omega (arith, o.objects.slots) in
     let f = o.objects.fits n near in let few = few_open returns key s o n in
     let x : ℕ = slice_index s.words (word_of n) in
-    let p : Place = called (place_of v n) in
+    let p : Whereabouts = called (place_of v n) in
     let part = term_le (has_far n) s.views id v me in
     let was : has_moving n v ≡ 0 = ap is_moving at in let was' : has_far n v ≡ 1 = ap is_far at in
     let is : is_moving p ≡ 1 = ap (λ q. is_moving (called q)) at in let is' : is_far p ≡ 0 = ap (λ q. is_far (called q)) at in

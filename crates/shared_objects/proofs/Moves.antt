@@ -12,13 +12,13 @@ use Rattle.memory.specs.Objects.{bytes_of}
 use Rattle.shared_objects.specs.Rule.{total, has_turn, has_open, has_pass, has_moving, has_far, place_of, is_moving, is_far, bytes_taken, is_live, spent, HasPart, Written, PartFits, MarkFits, Stands, turns_on, word_of, Tally, tally, SlotFits, Fits, Knows, Kept}
 use Rattle.shared_objects.specs.Rule.SlotFits.{AtHome, Lent, Idle}
 use Rattle.shared_objects.specs.declared.body.Body.{Body}
-use Rattle.shared_objects.specs.declared.view.Entry.{Entry}
+use Rattle.shared_objects.specs.declared.view.SharedEntry.{SharedEntry}
 use Rattle.shared_objects.specs.declared.view.Turn.{Turn}
 use Rattle.shared_objects.specs.declared.view.Mark.{Mark}
 use Rattle.shared_objects.specs.declared.view.Mark.TheVariants.{Away, Busy, Worn}
 use Rattle.shared_objects.specs.declared.view.Part.{Part}
-use Rattle.shared_objects.specs.declared.view.Place.{Place}
-use Rattle.shared_objects.specs.declared.view.Place.TheVariants.{Here, Moving, Far}
+use Rattle.shared_objects.specs.declared.view.Whereabouts.{Whereabouts}
+use Rattle.shared_objects.specs.declared.view.Whereabouts.TheVariants.{Here, Moving, Far}
 use Rattle.shared_objects.specs.declared.view.View.{View}
 use Rattle.shared_objects.proofs.Sums.{set_there, total-set, term_le, terms_le, is_here}
 
@@ -29,44 +29,44 @@ abbrev pub state : List ℕ → List (maybe.Option Body) → List View → St
 state ws hs vs = record { words = ws; homes = hs; views = vs }
 
 -- the logs, with that of n replaced
-abbrev pub grown : (ℕ → List Entry) → ℕ → List Entry → ℕ → List Entry
+abbrev pub grown : (ℕ → List SharedEntry) → ℕ → List SharedEntry → ℕ → List SharedEntry
 grown logs n log m = cond (eqb m n) log (logs m)
 
-pub grown_here : (logs : ℕ → List Entry) (n : ℕ) (log : List Entry) (m : ℕ) → m ≡ n → grown logs n log m ≡ log
+pub grown_here : (logs : ℕ → List SharedEntry) (n : ℕ) (log : List SharedEntry) (m : ℕ) → m ≡ n → grown logs n log m ≡ log
 grown_here logs n log m e = ap (λ b. cond b log (logs m)) (eq-eqb m n e)
 
-pub grown_else : (logs : ℕ → List Entry) (n : ℕ) (log : List Entry) (m : ℕ) → m ≢ n → grown logs n log m ≡ logs m
+pub grown_else : (logs : ℕ → List SharedEntry) (n : ℕ) (log : List SharedEntry) (m : ℕ) → m ≢ n → grown logs n log m ≡ logs m
 grown_else logs n log m e = ap (λ b. cond b log (logs m)) (ne_eqb m n e)
 
-pub grown_same : (logs : ℕ → List Entry) (n : ℕ) → logs ≡ grown logs n (logs n)
+pub grown_same : (logs : ℕ → List SharedEntry) (n : ℕ) → logs ≡ grown logs n (logs n)
 grown_same logs n = λ i m. dite {P = m ≡ n} {C = logs m ≡ grown logs n (logs n) m} (ℕ_discrete m n) (λ e. ap logs e ∙ sym (grown_here logs n (logs n) m e)) (λ ne. sym (grown_else logs n (logs n) m ne)) i
 
-pub same_fits : (returns : Bool) (opening : List ℕ) (t t' : Tally) (w w' : ℕ) (h h' : maybe.Option (maybe.Option Body)) (l l' : List Entry)
+pub same_fits : (returns : Bool) (opening : List ℕ) (t t' : Tally) (w w' : ℕ) (h h' : maybe.Option (maybe.Option Body)) (l l' : List SharedEntry)
     → t' ≡ t → w' ≡ w → h' ≡ h → l' ≡ l → Fits returns opening t w h l → Fits returns opening t' w' h' l'
 same_fits returns opening t t' w w' h h' l l' p₁ p₃ p₄ p₅ f =
     subst (λ a. Fits returns opening a w' h' l') (sym p₁) (subst (λ a. Fits returns opening t a h' l') (sym p₃) (subst (λ a. Fits returns opening t w a l') (sym p₄) (subst (λ a. Fits returns opening t w h a) (sym p₅) f)))
 
 -- ---- where the body of an object is
 
-in_of : {returns : Bool} {opening : List ℕ} {t : Tally} {home : maybe.Option (maybe.Option Body)} {log : List Entry}
+in_of : {returns : Bool} {opening : List ℕ} {t : Tally} {home : maybe.Option (maybe.Option Body)} {log : List SharedEntry}
     → SlotFits returns opening t home log → t.moving + t.far + t.turns ≡ 0 → (body : Body) × (home ≡ some (some body)) × Stands returns opening log body.bytes.items
 in_of (AtHome calm body at stands) z = (body, at, stands)
 in_of (Lent out at) z = absurd (omega arith)
 in_of (Idle far body at) z = absurd (omega arith)
 
-far_of : {returns : Bool} {opening : List ℕ} {t : Tally} {home : maybe.Option (maybe.Option Body)} {log : List Entry} (hot : ℕ)
+far_of : {returns : Bool} {opening : List ℕ} {t : Tally} {home : maybe.Option (maybe.Option Body)} {log : List SharedEntry} (hot : ℕ)
     → t.moving + t.far ≤ 1 → (0 < t.moving + t.far → t.opens + t.turns + hot ≡ 0) → SlotFits returns opening t home log → 0 < t.far → (body : Body) × (home ≡ some (some body))
 far_of hot one here (AtHome calm body at stands) z = absurd (omega arith)
 far_of hot one here (Lent out at) z = absurd (let h = here (omega arith) in omega arith)
 far_of hot one here (Idle far body at) z = (body, at)
 
 -- here and with no turn held the body is at home
-pub body_in : {returns : Bool} {opening : List ℕ} {t : Tally} {word : ℕ} {home : maybe.Option (maybe.Option Body)} {log : List Entry}
+pub body_in : {returns : Bool} {opening : List ℕ} {t : Tally} {word : ℕ} {home : maybe.Option (maybe.Option Body)} {log : List SharedEntry}
     → Fits returns opening t word home log → t.moving + t.far + t.turns ≡ 0 → (body : Body) × (home ≡ some (some body)) × Stands returns opening log body.bytes.items
 body_in f z = in_of f.slot z
 
 -- where it is far some body is at home
-pub body_far : {returns : Bool} {opening : List ℕ} {t : Tally} {word : ℕ} {home : maybe.Option (maybe.Option Body)} {log : List Entry}
+pub body_far : {returns : Bool} {opening : List ℕ} {t : Tally} {word : ℕ} {home : maybe.Option (maybe.Option Body)} {log : List SharedEntry}
     → Fits returns opening t word home log → 0 < t.far → (body : Body) × (home ≡ some (some body))
 body_far f z = far_of f.hot f.one_out f.here f.slot z
 
@@ -84,7 +84,7 @@ tally_set vs id v w m me a =
     λ i. record { turns = step (has_turn m) a.turns i; opens = step (has_open m) a.opens i; passes = step (has_pass m) a.passes i; moving = step (has_moving m) a.moving i; far = step (has_far m) a.far i }
 
 -- a place with bytes counts
-pub place_weighs : (p : Place) (bytes : List ℕ) → bytes_taken p ≡ Some bytes → is_moving p + is_far p ≡ 1
+pub place_weighs : (p : Whereabouts) (bytes : List ℕ) → bytes_taken p ≡ Some bytes → is_moving p + is_far p ≡ 1
 place_weighs Here bytes e = let none : None ≡ Some bytes = e in cc
 place_weighs (Moving b) bytes e = refl
 place_weighs (Far b) bytes e = refl
@@ -103,16 +103,16 @@ no_live e = cc
 abbrev pub SameSeat : View → View → Type 0
 SameSeat v w = (w.made ≡ v.made) × (w.alive ≡ v.alive) × (w.live ≡ v.live) × (w.gathered ≡ v.gathered) × (w.actor ≡ v.actor) × (w.opening ≡ v.opening) × (w.returns ≡ v.returns)
 
-module _ (returns : Bool) (opening : List (List ℕ)) (s : St) (o : Kept returns opening s) (id : ℕ) (v w : View) (n x : ℕ) (hs : List (maybe.Option Body)) (log : List Entry)
+module _ (returns : Bool) (opening : List (List ℕ)) (s : St) (o : Kept returns opening s) (id : ℕ) (v w : View) (n x : ℕ) (hs : List (maybe.Option Body)) (log : List SharedEntry)
     (me : get_elem? s.views id ≡ some v) (near : n < length opening) (alive_ : v.live ≡ true) where
-  abbrev logs' : ℕ → List Entry
+  abbrev logs' : ℕ → List SharedEntry
   logs' = grown o.logs n log
 
   abbrev vs' : List View
   vs' = set s.views id w
 
   -- an entry stands as before
-  pub entry_stays : ((e : Entry) → Has (o.logs n) e → Has log e) → (e : Entry) → Has (o.logs e.object) e → Has (logs' e.object) e
+  pub entry_stays : ((e : SharedEntry) → Has (o.logs n) e → Has log e) → (e : SharedEntry) → Has (o.logs e.object) e → Has (logs' e.object) e
   entry_stays keeps e old = dite (ℕ_discrete e.object n)
       (λ here. subst (λ l. Has l e) (sym (grown_here o.logs n log e.object here)) (keeps e (subst (λ m. Has (o.logs m) e) here old)))
       (λ else. subst (λ l. Has l e) (sym (grown_else o.logs n log e.object else)) old)
@@ -126,7 +126,7 @@ module _ (returns : Bool) (opening : List (List ℕ)) (s : St) (o : Kept returns
       (λ else. let b : top 0 (logs' k) ≡ top 0 (o.logs k) = ap (top 0) (grown_else o.logs n log k else) in omega arith)
 
   -- what another seat knows
-  others : ((e : Entry) → Has (o.logs n) e → Has log e) → top 0 (o.logs n) ≤ top 0 log → (log ≡ o.logs n) ⊎ (has_turn n v ≡ 1)
+  others : ((e : SharedEntry) → Has (o.logs n) e → Has log e) → top 0 (o.logs n) ≤ top 0 log → (log ≡ o.logs n) ⊎ (has_turn n v ≡ 1)
       → (j : ℕ) (u : View) → j ≢ id → get_elem? s.views j ≡ some u → Knows returns opening logs' j u
   others keeps higher mine j u ne at = let k = o.seats.knows j u at in record {
     actor = k.actor;
@@ -160,18 +160,18 @@ module _ (returns : Bool) (opening : List (List ℕ)) (s : St) (o : Kept returns
     rises = k.rises;
   }
 
-  abbrev WrittenIn : List View → Entry → Type 0
+  abbrev WrittenIn : List View → SharedEntry → Type 0
   WrittenIn vs e = (j : ℕ) × (u : View) × (get_elem? vs j ≡ some u) × Written u e
 
   -- what is written in the seats stays written
-  stays : ((e : Entry) → Has v.entries e → Has w.entries e) → w.gathered ≡ v.gathered → (e : Entry) → WrittenIn s.views e → WrittenIn vs' e
+  stays : ((e : SharedEntry) → Has v.entries e → Has w.entries e) → w.gathered ≡ v.gathered → (e : SharedEntry) → WrittenIn s.views e → WrittenIn vs' e
   stays mine got e h = dite (ℕ_discrete h.0 id)
       (λ same. let is : h.1 ≡ v = some-injective h.1 v (sym h.2 ∙ ap (get_elem? s.views) same ∙ me) in
       (id, w, set_there s.views id v w me, ⊎_elim (λ own. inl (mine e (subst (λ (y : View). Has y.entries e) is own))) (λ part. inr (subst (λ l. HasPart l e) (sym got) (subst (λ (y : View). HasPart y.gathered e) is part))) h.3))
       (λ ne. (h.0, h.1, set_else s.views id h.0 w ne ∙ h.2, h.3))
 
   -- a seat that was taken in stays so
-  fits_on : ((e : Entry) → Has (o.logs n) e → Has log e) → top 0 (o.logs n) ≤ top 0 log → (p : Part) → PartFits o.logs s.views p → PartFits logs' vs' p
+  fits_on : ((e : SharedEntry) → Has (o.logs n) e → Has log e) → top 0 (o.logs n) ≤ top 0 log → (p : Part) → PartFits o.logs s.views p → PartFits logs' vs' p
   fits_on keeps higher p f = record {
     rises = f.rises;
     entries = λ e has. let old = f.entries e has in (old.0, entry_stays keeps e old.1);
@@ -185,9 +185,9 @@ module _ (returns : Bool) (opening : List (List ℕ)) (s : St) (o : Kept returns
       → SameSeat v w
       → Fits returns (bytes_of opening n) (tally n vs') x (get_elem? hs n) log
       → Knows returns opening logs' id w
-      → ((e : Entry) → Has (o.logs n) e → Has log e)
-      → ((e : Entry) → Has log e → Has (o.logs n) e ⊎ ((e.object ≡ n) × Has w.entries e))
-      → ((e : Entry) → Has v.entries e → Has w.entries e)
+      → ((e : SharedEntry) → Has (o.logs n) e → Has log e)
+      → ((e : SharedEntry) → Has log e → Has (o.logs n) e ⊎ ((e.object ≡ n) × Has w.entries e))
+      → ((e : SharedEntry) → Has v.entries e → Has w.entries e)
       → top 0 (o.logs n) ≤ top 0 log
       → (log ≡ o.logs n) ⊎ (has_turn n v ≡ 1)
       → Kept returns opening (state (set s.words (word_of n) x) hs vs')

@@ -11,7 +11,7 @@ use Rattle.shared_objects.specs.History.{Has, Rises, Chained, AllInside, top, fo
 use Rattle.memory.specs.Objects.{bytes_of}
 use Rattle.shared_objects.specs.Rule.{HasPart, MarkFits}
 use Rattle.shared_objects.specs.One.{Before, InOrder, pick, entries_by, entries_on, objects_after, Runs, OneList, PartsFit, MarkStands}
-use Rattle.shared_objects.specs.declared.view.Entry.{Entry}
+use Rattle.shared_objects.specs.declared.view.SharedEntry.{SharedEntry}
 use Rattle.shared_objects.specs.declared.view.Part.{Part}
 use Rattle.shared_objects.specs.declared.view.Mark.{Mark}
 use Rattle.shared_objects.specs.declared.view.Mark.TheVariants.{Away, Busy, Worn}
@@ -31,15 +31,15 @@ first x xs = (0, refl)
 pub later : {A : Type 0} (x y : A) (xs : List A) → Has xs y → Has (x ∷ xs) y
 later x y xs h = (suc h.0, h.1)
 
-pub through : (a b c : Entry) → Before a b → Before b c → Before a c
+pub through : (a b c : SharedEntry) → Before a b → Before b c → Before a c
 through a b c p q = ⊎_elim
     (λ (x : a.stamp < b.stamp). ⊎_elim (λ (y : b.stamp < c.stamp). inl (omega arith)) (λ (y : (b.stamp ≡ c.stamp) × (b.actor < c.actor)). let y0 = y.0 in inl (omega arith)) q)
     (λ (x : (a.stamp ≡ b.stamp) × (a.actor < b.actor)). let x0 = x.0 in let x1 = x.1 in
     ⊎_elim (λ (y : b.stamp < c.stamp). inl (omega arith)) (λ (y : (b.stamp ≡ c.stamp) × (b.actor < c.actor)). let y0 = y.0 in let y1 = y.1 in inr (omega arith, omega arith)) q) p
 
 -- an entry has its place in the order, and may be there already
-pub places : (e : Entry) (l : List Entry) → InOrder l → ((f : Entry) → Has l f → (e ≡ f) ⊎ (Before e f ⊎ Before f e))
-    → (m : List Entry) × InOrder m × Has m e × ((x : Entry) → Has l x → Has m x) × ((x : Entry) → Has m x → (e ≡ x) ⊎ Has l x)
+pub places : (e : SharedEntry) (l : List SharedEntry) → InOrder l → ((f : SharedEntry) → Has l f → (e ≡ f) ⊎ (Before e f ⊎ Before f e))
+    → (m : List SharedEntry) × InOrder m × Has m e × ((x : SharedEntry) → Has l x → Has m x) × ((x : SharedEntry) → Has m x → (e ≡ x) ⊎ Has l x)
 places e [] o near = (e ∷ [], (λ f h. absurd (empty f h), tt), first e [], λ x h. absurd (empty x h), λ x h. has_cons e x [] h)
 places e (f ∷ fs) o near = ⊎_elim
     (λ (same : e ≡ f). (f ∷ fs, o, subst (Has (f ∷ fs)) (sym same) (first f fs), (λ x h. h), λ x h. inr h))
@@ -55,10 +55,10 @@ places e (f ∷ fs) o near = ⊎_elim
     (near f (first f fs))
 
 -- two entries of one stamp or of different actors
-pub apart_by_stamp : (e f : Entry) → e.stamp < f.stamp → Before e f ⊎ Before f e
+pub apart_by_stamp : (e f : SharedEntry) → e.stamp < f.stamp → Before e f ⊎ Before f e
 apart_by_stamp e f h = inl (inl h)
 
-pub apart_by_actor : (e f : Entry) → e.actor ≢ f.actor → Before e f ⊎ Before f e
+pub apart_by_actor : (e f : SharedEntry) → e.actor ≢ f.actor → Before e f ⊎ Before f e
 apart_by_actor e f ne = ⊎_elim
     (λ (s : e.stamp < f.stamp). inl (inl s))
     (λ (ge : f.stamp ≤ e.stamp). dite (ℕ_discrete e.stamp f.stamp)
@@ -67,13 +67,13 @@ apart_by_actor e f ne = ⊎_elim
     (λ (other : e.stamp ≢ f.stamp). inr (inl (omega (arith, other)))))
     (cases_lt e.stamp f.stamp)
 
-pub rises_above : (floor : ℕ) (es : List Entry) (e : Entry) → Rises floor es → Has es e → floor < e.stamp
+pub rises_above : (floor : ℕ) (es : List SharedEntry) (e : SharedEntry) → Rises floor es → Has es e → floor < e.stamp
 rises_above floor [] e r h = absurd (empty e h)
-rises_above floor (x ∷ xs) e r h = ⊎_elim (λ (q : x ≡ e). subst (λ (y : Entry). floor < y.stamp) q r.0)
+rises_above floor (x ∷ xs) e r h = ⊎_elim (λ (q : x ≡ e). subst (λ (y : SharedEntry). floor < y.stamp) q r.0)
     (λ q. let up = rises_above x.stamp xs e r.1 q in let low = r.0 in omega arith) (has_cons x e xs h)
 
 -- two rising lists with the same entries are the same
-pub rises_same : (f g : ℕ) (xs ys : List Entry) → Rises f xs → Rises g ys → ((e : Entry) → Has xs e → Has ys e) → ((e : Entry) → Has ys e → Has xs e) → xs ≡ ys
+pub rises_same : (f g : ℕ) (xs ys : List SharedEntry) → Rises f xs → Rises g ys → ((e : SharedEntry) → Has xs e → Has ys e) → ((e : SharedEntry) → Has ys e → Has xs e) → xs ≡ ys
 rises_same f g [] [] r s there back = refl
 rises_same f g [] (y ∷ ys) r s there back = absurd (empty y (back y (first y ys)))
 rises_same f g (x ∷ xs) [] r s there back = absurd (empty x (there x (first x xs)))
@@ -81,17 +81,17 @@ rises_same f g (x ∷ xs) (y ∷ ys) r s there back =
     let same : x ≡ y = ⊎_elim (λ (q : y ≡ x). sym q) (λ (q : Has ys x). ⊎_elim (λ (p : x ≡ y). p)
     (λ (p : Has xs y). let a = rises_above y.stamp ys x s.1 q in let b = rises_above x.stamp xs y r.1 p in absurd (omega arith)) (has_cons x y xs (back y (first y ys)))) (has_cons y x ys (there x (first x xs))) in
     let tails : xs ≡ ys = rises_same x.stamp y.stamp xs ys r.1 s.1
-    (λ e h. ⊎_elim (λ (q : y ≡ e). let a = rises_above x.stamp xs e r.1 h in let b : x.stamp ≡ e.stamp = ap (λ (z : Entry). z.stamp) (same ∙ q) in absurd (omega arith)) (λ q. q) (has_cons y e ys (there e (later x e xs h))))
-    (λ e h. ⊎_elim (λ (q : x ≡ e). let a = rises_above y.stamp ys e s.1 h in let b : y.stamp ≡ e.stamp = ap (λ (z : Entry). z.stamp) (sym same ∙ q) in absurd (omega arith)) (λ q. q) (has_cons x e xs (back e (later y e ys h)))) in
+    (λ e h. ⊎_elim (λ (q : y ≡ e). let a = rises_above x.stamp xs e r.1 h in let b : x.stamp ≡ e.stamp = ap (λ (z : SharedEntry). z.stamp) (same ∙ q) in absurd (omega arith)) (λ q. q) (has_cons y e ys (there e (later x e xs h))))
+    (λ e h. ⊎_elim (λ (q : x ≡ e). let a = rises_above y.stamp ys e s.1 h in let b : y.stamp ≡ e.stamp = ap (λ (z : SharedEntry). z.stamp) (sym same ∙ q) in absurd (omega arith)) (λ q. q) (has_cons x e xs (back e (later y e ys h)))) in
     ap (λ z. z ∷ xs) same ∙ ap (λ l. y ∷ l) tails
 
-pub rises_unique : (floor : ℕ) (l : List Entry) (e f : Entry) → Rises floor l → Has l e → Has l f → e.stamp ≡ f.stamp → e ≡ f
+pub rises_unique : (floor : ℕ) (l : List SharedEntry) (e f : SharedEntry) → Rises floor l → Has l e → Has l f → e.stamp ≡ f.stamp → e ≡ f
 rises_unique floor [] e f r he hf same = absurd (empty e he)
 rises_unique floor (x ∷ xs) e f r he hf same = ⊎_elim
     (λ (p : x ≡ e). ⊎_elim (λ (q : x ≡ f). sym p ∙ q)
-    (λ (q : Has xs f). let a = rises_above x.stamp xs f r.1 q in let b : x.stamp ≡ e.stamp = ap (λ (z : Entry). z.stamp) p in absurd (omega arith)) (has_cons x f xs hf))
+    (λ (q : Has xs f). let a = rises_above x.stamp xs f r.1 q in let b : x.stamp ≡ e.stamp = ap (λ (z : SharedEntry). z.stamp) p in absurd (omega arith)) (has_cons x f xs hf))
     (λ (p : Has xs e). ⊎_elim
-    (λ (q : x ≡ f). let a = rises_above x.stamp xs e r.1 p in let b : x.stamp ≡ f.stamp = ap (λ (z : Entry). z.stamp) q in absurd (omega arith))
+    (λ (q : x ≡ f). let a = rises_above x.stamp xs e r.1 p in let b : x.stamp ≡ f.stamp = ap (λ (z : SharedEntry). z.stamp) q in absurd (omega arith))
     (λ (q : Has xs f). rises_unique x.stamp xs e f r.1 p q same) (has_cons x f xs hf))
     (has_cons x e xs he)
 
@@ -99,8 +99,8 @@ pub fewer : (p : Part) (ps : List Part) → PartsFit (p ∷ ps) → PartsFit ps
 fewer p ps f = ((λ q h. f.0 q (later p q ps h)), λ j k a b ha hb same. let e : suc j ≡ suc k = f.1 (suc j) (suc k) a b ha hb same in omega arith)
 
 -- one part more
-merge_part : (floor a : ℕ) (es l : List Entry) → Rises floor es → ((e : Entry) → Has es e → e.actor ≡ a) → InOrder l → ((e : Entry) → Has l e → e.actor ≢ a)
-    → (m : List Entry) × InOrder m × ((x : Entry) → Has es x → Has m x) × ((x : Entry) → Has l x → Has m x) × ((x : Entry) → Has m x → Has es x ⊎ Has l x)
+merge_part : (floor a : ℕ) (es l : List SharedEntry) → Rises floor es → ((e : SharedEntry) → Has es e → e.actor ≡ a) → InOrder l → ((e : SharedEntry) → Has l e → e.actor ≢ a)
+    → (m : List SharedEntry) × InOrder m × ((x : SharedEntry) → Has es x → Has m x) × ((x : SharedEntry) → Has l x → Has m x) × ((x : SharedEntry) → Has m x → Has es x ⊎ Has l x)
 merge_part floor a [] l r mine o others = (l, o, (λ x h. absurd (empty x h)), (λ x h. h), λ x h. inr h)
 merge_part floor a (e ∷ es) l r mine o others =
     let t = merge_part e.stamp a es l r.1 (λ x h. mine x (later e x es h)) o others in
@@ -114,7 +114,7 @@ merge_part floor a (e ∷ es) l r mine o others =
     )
 
 pub merges : (parts : List Part) → PartsFit parts
-    → (one : List Entry) × InOrder one × ((e : Entry) → Has one e → HasPart parts e) × ((e : Entry) → HasPart parts e → Has one e)
+    → (one : List SharedEntry) × InOrder one × ((e : SharedEntry) → Has one e → HasPart parts e) × ((e : SharedEntry) → HasPart parts e → Has one e)
 merges [] f = ([], tt, (λ e h. absurd (empty e h)), λ e h. absurd (empty h.0 h.1))
 merges (p ∷ ps) f =
     let t = merges ps (fewer p ps f) in
@@ -130,17 +130,17 @@ merges (p ∷ ps) f =
 
 -- ---- those that a test picks
 
-pick_here : (q : Entry → Bool) (e : Entry) (es : List Entry) → q e ≡ true → pick q (e ∷ es) ≡ e ∷ pick q es
+pick_here : (q : SharedEntry → Bool) (e : SharedEntry) (es : List SharedEntry) → q e ≡ true → pick q (e ∷ es) ≡ e ∷ pick q es
 pick_here q e es is = ap (λ b. cond b (e ∷ pick q es) (pick q es)) is
 
-pick_else : (q : Entry → Bool) (e : Entry) (es : List Entry) → q e ≡ false → pick q (e ∷ es) ≡ pick q es
+pick_else : (q : SharedEntry → Bool) (e : SharedEntry) (es : List SharedEntry) → q e ≡ false → pick q (e ∷ es) ≡ pick q es
 pick_else q e es is = ap (λ b. cond b (e ∷ pick q es) (pick q es)) is
 
 pub either_way : (b : Bool) → (b ≡ true) ⊎ (b ≡ false)
 either_way true = inl refl
 either_way false = inr refl
 
-pub picked : (q : Entry → Bool) (es : List Entry) (e : Entry) → Has (pick q es) e → Has es e × (q e ≡ true)
+pub picked : (q : SharedEntry → Bool) (es : List SharedEntry) (e : SharedEntry) → Has (pick q es) e → Has es e × (q e ≡ true)
 picked q [] e h = absurd (empty e h)
 picked q (x ∷ xs) e h = ⊎_elim
     (λ (yes : q x ≡ true). ⊎_elim (λ (p : x ≡ e). (subst (Has (x ∷ xs)) p (first x xs), ap q (sym p) ∙ yes)) (λ p. let t = picked q xs e p in (later x e xs t.0, t.1))
@@ -151,7 +151,7 @@ picked q (x ∷ xs) e h = ⊎_elim
 not_both : (b : Bool) → b ≡ true → b ≡ false → ⊥
 not_both b t f = let e : true ≡ false = sym t ∙ f in cc
 
-pub picks : (q : Entry → Bool) (es : List Entry) (e : Entry) → Has es e → q e ≡ true → Has (pick q es) e
+pub picks : (q : SharedEntry → Bool) (es : List SharedEntry) (e : SharedEntry) → Has es e → q e ≡ true → Has (pick q es) e
 picks q [] e h is = absurd (empty e h)
 picks q (x ∷ xs) e h is = ⊎_elim
     (λ (here : q x ≡ true). subst (λ l. Has l e) (sym (pick_here q x xs here)) (⊎_elim (λ (p : x ≡ e). subst (Has (x ∷ pick q xs)) p (first x (pick q xs))) (λ p. later x e (pick q xs) (picks q xs e p is)) (has_cons x e xs h)))
@@ -159,8 +159,8 @@ picks q (x ∷ xs) e h is = ⊎_elim
     (either_way (q x))
 
 -- what is picked rises, where no two that are picked have one stamp
-pub pick_rises : (q : Entry → Bool) (floor : ℕ) (es : List Entry) → InOrder es → ((e : Entry) → Has es e → q e ≡ true → floor < e.stamp)
-    → ((e f : Entry) → Has es e → Has es f → q e ≡ true → q f ≡ true → Before e f → e.stamp < f.stamp) → Rises floor (pick q es)
+pub pick_rises : (q : SharedEntry → Bool) (floor : ℕ) (es : List SharedEntry) → InOrder es → ((e : SharedEntry) → Has es e → q e ≡ true → floor < e.stamp)
+    → ((e f : SharedEntry) → Has es e → Has es f → q e ≡ true → q f ≡ true → Before e f → e.stamp < f.stamp) → Rises floor (pick q es)
 pick_rises q floor [] o low apart = tt
 pick_rises q floor (x ∷ xs) o low apart = ⊎_elim
     (λ (yes : q x ≡ true). subst (Rises floor) (sym (pick_here q x xs yes)) (
@@ -178,12 +178,12 @@ by_same : (a b : ℕ) → a ≡ b → (a == b) ≡ true
 by_same a b e = eq-eqb a b e
 
 -- each part is what its actor has in the one list
-pub own_part : (parts : List Part) (one : List Entry) → PartsFit parts → InOrder one → ((e : Entry) → Has one e → HasPart parts e) → ((e : Entry) → HasPart parts e → Has one e)
+pub own_part : (parts : List Part) (one : List SharedEntry) → PartsFit parts → InOrder one → ((e : SharedEntry) → Has one e → HasPart parts e) → ((e : SharedEntry) → HasPart parts e → Has one e)
     → (p : Part) → Has parts p → entries_by p.actor one ≡ p.entries
 own_part parts one f o only all p at =
     let mine = f.0 p at in
-    let q : Entry → Bool = λ e. e.actor == p.actor in
-    let owner : (e : Entry) → Has one e → q e ≡ true → Has p.entries e = λ e h yes. let w = only e h in
+    let q : SharedEntry → Bool = λ e. e.actor == p.actor in
+    let owner : (e : SharedEntry) → Has one e → q e ≡ true → Has p.entries e = λ e h yes. let w = only e h in
     let theirs = (f.0 w.0 w.1).1 e w.2 in
     let place : w.1.0 ≡ at.0 = f.1 w.1.0 at.0 w.0 p w.1.1 at.1 (sym theirs ∙ by_is e.actor p.actor yes) in
     let same : w.0 ≡ p = some-injective w.0 p (sym w.1.1 ∙ ap (get_elem? parts) place ∙ at.1) in
@@ -196,21 +196,21 @@ own_part parts one f o only all p at =
     (λ e h. picks q one e (all e (p, at, h)) (by_same e.actor p.actor (mine.1 e h)))
 
 -- the log of an object is what the one list has of it
-pub own_log : (n : ℕ) (log one : List Entry) → Rises 0 log → InOrder one → ((e : Entry) → Has one e → e.object ≡ n → Has log e) → ((e : Entry) → Has log e → Has one e × (e.object ≡ n)) → entries_on n one ≡ log
+pub own_log : (n : ℕ) (log one : List SharedEntry) → Rises 0 log → InOrder one → ((e : SharedEntry) → Has one e → e.object ≡ n → Has log e) → ((e : SharedEntry) → Has log e → Has one e × (e.object ≡ n)) → entries_on n one ≡ log
 own_log n log one r o there back =
-    let q : Entry → Bool = λ e. e.object == n in
+    let q : SharedEntry → Bool = λ e. e.object == n in
     rises_same 0 0 (entries_on n one) log
     (pick_rises q 0 one o (λ e h yes. rises_above 0 log e r (there e h (by_is e.object n yes)))
     (λ e g he hg ye yg b. ⊎_elim (λ s. s) (λ (t : (e.stamp ≡ g.stamp) × (e.actor < g.actor)). let less = t.1 in
     let is = rises_unique 0 log e g r (there e he (by_is e.object n ye)) (there g hg (by_is g.object n yg)) t.0 in
-    let x : e.actor ≡ g.actor = ap (λ (z : Entry). z.actor) is in absurd (omega arith)) b))
+    let x : e.actor ≡ g.actor = ap (λ (z : SharedEntry). z.actor) is in absurd (omega arith)) b))
     r
     (λ e h. let t = picked q one e h in there e t.0 (by_is e.object n t.1))
     (λ e h. let t = back e h in picks q one e t.0 (by_same e.object n t.1))
 
 -- ---- run in order
 
-abbrev pub all_after : List (List ℕ) → List Entry → List (List ℕ)
+abbrev pub all_after : List (List ℕ) → List SharedEntry → List (List ℕ)
 all_after os [] = os
 all_after os (e ∷ es) = all_after (objects_after os e) es
 
@@ -226,12 +226,12 @@ at_other (o ∷ os) zero (suc m) x ne = refl
 at_other (o ∷ os) (suc n) zero x ne = refl
 at_other (o ∷ os) (suc n) (suc m) x ne = at_other os n m x (λ e. ne (ap suc e))
 
-pub all_runs : (os : List (List ℕ)) (es : List Entry) → ((n : ℕ) → n < length os → Answers (bytes_of os n) (entries_on n es)) → ((e : Entry) → Has es e → e.object < length os)
+pub all_runs : (os : List (List ℕ)) (es : List SharedEntry) → ((n : ℕ) → n < length os → Answers (bytes_of os n) (entries_on n es)) → ((e : SharedEntry) → Has es e → e.object < length os)
     → Runs os es (all_after os es)
 all_runs os [] a near = refl
 all_runs os (e ∷ es) a near =
     let n : ℕ = e.object in let lt = near e (first e es) in
-    let q : ℕ → Entry → Bool = λ m x. x.object == m in
+    let q : ℕ → SharedEntry → Bool = λ m x. x.object == m in
     let here = subst (Answers (bytes_of os n)) (pick_here (q n) e es (by_same n n refl)) (a n lt) in
     let new : List ℕ = left_by e.deed (bytes_of os n) in (
       here.0,
@@ -242,18 +242,18 @@ all_runs os (e ∷ es) a near =
           (λ x h. let p = near x (later e x es h) in omega (arith, length-set os n new)),
     )
 
-pub all_fold : (os : List (List ℕ)) (es : List Entry) → ((e : Entry) → Has es e → e.object < length os) → (m : ℕ) → bytes_of (all_after os es) m ≡ fold (bytes_of os m) (entries_on m es)
+pub all_fold : (os : List (List ℕ)) (es : List SharedEntry) → ((e : SharedEntry) → Has es e → e.object < length os) → (m : ℕ) → bytes_of (all_after os es) m ≡ fold (bytes_of os m) (entries_on m es)
 all_fold os [] near m = refl
 all_fold os (e ∷ es) near m =
     let n : ℕ = e.object in let lt = near e (first e es) in
     let new : List ℕ = left_by e.deed (bytes_of os n) in
-    let q : ℕ → Entry → Bool = λ k x. x.object == k in
+    let q : ℕ → SharedEntry → Bool = λ k x. x.object == k in
     let rest = all_fold (objects_after os e) es (λ x h. let p = near x (later e x es h) in omega (arith, length-set os n new)) m in
     dite (ℕ_discrete m n)
     (λ same. rest ∙ ap (λ l. fold l (entries_on m es)) (ap (bytes_of (set os n new)) same ∙ at_same os n new lt) ∙ ap (λ k. fold (left_by e.deed (bytes_of os k)) (entries_on m es)) (sym same) ∙ ap (fold (bytes_of os m)) (sym (pick_here (q m) e es (by_same n m (sym same)))))
     (λ ne. rest ∙ ap (λ l. fold l (entries_on m es)) (at_other os n m new ne) ∙ ap (fold (bytes_of os m)) (sym (pick_else (q m) e es (ne_eqb n m (λ s. ne (sym s))))))
 
-pub all_long : (os : List (List ℕ)) (es : List Entry) → length (all_after os es) ≡ length os
+pub all_long : (os : List (List ℕ)) (es : List SharedEntry) → length (all_after os es) ≡ length os
 all_long os [] = refl
 all_long os (e ∷ es) = all_long (objects_after os e) es ∙ length-set os e.object (left_by e.deed (bytes_of os e.object))
 
@@ -263,7 +263,7 @@ same_lists [] (y ∷ ys) l h = absurd (omega arith)
 same_lists (x ∷ xs) [] l h = absurd (omega arith)
 same_lists (x ∷ xs) (y ∷ ys) l h = ap (λ z. z ∷ xs) (h 0 (omega arith)) ∙ ap (λ z. y ∷ z) (same_lists xs ys (omega arith) (λ n lt. h (suc n) (omega arith)))
 
-mark_stands : (count : ℕ) (logs : ℕ → List Entry) (one : List Entry) → ((n : ℕ) → n < count → entries_on n one ≡ logs n) → ((n : ℕ) → count ≤ n → logs n ≡ []) → (m : Mark) → MarkFits logs m → MarkStands one m
+mark_stands : (count : ℕ) (logs : ℕ → List SharedEntry) (one : List SharedEntry) → ((n : ℕ) → n < count → entries_on n one ≡ logs n) → ((n : ℕ) → count ≤ n → logs n ≡ []) → (m : Mark) → MarkFits logs m → MarkStands one m
 mark_stands count logs one same nowhere (Away n) h = tt
 mark_stands count logs one same nowhere (Busy n) h = tt
 mark_stands count logs one same nowhere (Worn n found) h = ⊎_elim
@@ -272,9 +272,9 @@ mark_stands count logs one same nowhere (Worn n found) h = ⊎_elim
     (cases_lt n count)
 
 -- Parts whose entries are the logs of the objects, which leave these bytes
-pub one_list : (returns : Bool) (opening : List (List ℕ)) (logs : ℕ → List Entry) (parts : List Part) (ends : List (List ℕ)) → PartsFit parts
-    → ((e : Entry) → HasPart parts e → (e.object < length opening) × Has (logs e.object) e)
-    → ((n : ℕ) (e : Entry) → Has (logs n) e → (e.object ≡ n) × HasPart parts e)
+pub one_list : (returns : Bool) (opening : List (List ℕ)) (logs : ℕ → List SharedEntry) (parts : List Part) (ends : List (List ℕ)) → PartsFit parts
+    → ((e : SharedEntry) → HasPart parts e → (e.object < length opening) × Has (logs e.object) e)
+    → ((n : ℕ) (e : SharedEntry) → Has (logs n) e → (e.object ≡ n) × HasPart parts e)
     → ((n : ℕ) → n < length opening → Chained 0 (logs n) × AllInside (length (bytes_of opening n)) (logs n) × (returns ≡ true → Answers (bytes_of opening n) (logs n)))
     → ((n : ℕ) → length opening ≤ n → logs n ≡ [])
     → ((p : Part) → Has parts p → (m : Mark) → Has p.marks m → MarkFits logs m)
@@ -282,8 +282,8 @@ pub one_list : (returns : Bool) (opening : List (List ℕ)) (logs : ℕ → List
     → (returns ≡ true → (n : ℕ) → n < length opening → bytes_of ends n ≡ fold (bytes_of opening n) (logs n))
     → OneList returns opening parts ends
 one_list returns opening logs parts ends f into from legal nowhere marks long bytes =
-    let t = merges parts f in let one : List Entry = t.0 in
-    let near : (e : Entry) → Has one e → e.object < length opening = λ e h. (into e (t.2 e h)).0 in
+    let t = merges parts f in let one : List SharedEntry = t.0 in
+    let near : (e : SharedEntry) → Has one e → e.object < length opening = λ e h. (into e (t.2 e h)).0 in
     let log : (n : ℕ) → n < length opening → entries_on n one ≡ logs n = λ n lt. own_log n (logs n) one (chained_rises 0 (logs n) (legal n lt).0) t.1
     (λ e h on. subst (λ k. Has (logs k) e) on (into e (t.2 e h)).1)
     (λ e h. let w = from n e h in (t.3 e w.1, w.0)) in

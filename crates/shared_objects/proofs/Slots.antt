@@ -9,8 +9,8 @@ use Rattle.shared_objects.specs.Rule.{times, total, place_of, bytes_taken, is_mo
 use Rattle.shared_objects.specs.Kinds.{placed}
 use Rattle.shared_objects.specs.Phases.{phase_of, place_in, Makes}
 use Rattle.shared_objects.specs.declared.body.Body.{Body}
-use Rattle.shared_objects.specs.declared.view.Place.{Place}
-use Rattle.shared_objects.specs.declared.view.Place.TheVariants.{Here, Moving, Far}
+use Rattle.shared_objects.specs.declared.view.Whereabouts.{Whereabouts}
+use Rattle.shared_objects.specs.declared.view.Whereabouts.TheVariants.{Here, Moving, Far}
 use Rattle.shared_objects.specs.declared.seats.Phase.{Phase}
 use Rattle.shared_objects.specs.declared.seats.Phase.TheVariants as phases
 use Rattle.shared_objects.specs.declared.view.View.{View}
@@ -83,7 +83,7 @@ numbers_rest (p ∷ ps) = refl
 
 -- ---- where an object is
 
-inside_list : (l : List Place) (n : ℕ) (bytes : List ℕ) → bytes_taken (slice_index_or l n Here) ≡ Some bytes → n < length l
+inside_list : (l : List Whereabouts) (n : ℕ) (bytes : List ℕ) → bytes_taken (slice_index_or l n Here) ≡ Some bytes → n < length l
 inside_list [] n bytes e = absurd (none_is_not bytes e)
 inside_list (x ∷ xs) zero bytes e = omega arith
 inside_list (x ∷ xs) (suc n) bytes e = omega (arith, inside_list xs n bytes e)
@@ -93,21 +93,21 @@ pub inside : (v : View) (n : ℕ) (bytes : List ℕ) → bytes_taken (place_of v
 inside v n bytes e = inside_list v.out n bytes e
 
 -- how many objects are on their way, after one of them has another place
-pub total_placed : (l : List Place) (n : ℕ) (p : Place) → n < length l → total is_moving (slice_set l n p) + is_moving (slice_index_or l n Here) ≡ total is_moving l + is_moving p
+pub total_placed : (l : List Whereabouts) (n : ℕ) (p : Whereabouts) → n < length l → total is_moving (slice_set l n p) + is_moving (slice_index_or l n Here) ≡ total is_moving l + is_moving p
 total_placed [] n p h = absurd (omega arith)
 total_placed (x ∷ xs) zero p h = omega arith
 total_placed (x ∷ xs) (suc n) p h = omega (arith, total_placed xs n p (omega arith))
 
-few_moving : (p : Place) → is_moving p ≤ 1
+few_moving : (p : Whereabouts) → is_moving p ≤ 1
 few_moving Here = omega arith
 few_moving (Moving bytes) = omega arith
 few_moving (Far bytes) = omega arith
 
-all_moving : (l : List Place) → total is_moving l ≤ length l
+all_moving : (l : List Whereabouts) → total is_moving l ≤ length l
 all_moving l = total_few is_moving l (λ j v e. few_moving v)
 
 -- where one isn't on its way, fewer are than there are objects
-pub room_left : (l : List Place) (n : ℕ) → n < length l → is_moving (slice_index_or l n Here) ≡ 0 → total is_moving l < length l
+pub room_left : (l : List Whereabouts) (n : ℕ) → n < length l → is_moving (slice_index_or l n Here) ≡ 0 → total is_moving l < length l
 room_left [] n h e = absurd (omega arith)
 room_left (x ∷ xs) zero h e = omega (arith, all_moving xs)
 room_left (x ∷ xs) (suc n) h e = omega (arith, room_left xs n (omega arith) e, few_moving x)
@@ -130,17 +130,17 @@ no_in e = cc
 no_in' : phases.Far ≡ phases.In → ⊥
 no_in' e = cc
 
-pub is_moving_place : (p : Place) → phase_of p ≡ phases.Moving → (bytes : List ℕ) × (p ≡ Moving bytes)
+pub is_moving_place : (p : Whereabouts) → phase_of p ≡ phases.Moving → (bytes : List ℕ) × (p ≡ Moving bytes)
 is_moving_place Here e = absurd (no_moving e)
 is_moving_place (Moving bytes) e = (bytes, refl)
 is_moving_place (Far bytes) e = absurd (no_moving' e)
 
-pub is_far_place : (p : Place) → phase_of p ≡ phases.Far → (bytes : List ℕ) × (p ≡ Far bytes)
+pub is_far_place : (p : Whereabouts) → phase_of p ≡ phases.Far → (bytes : List ℕ) × (p ≡ Far bytes)
 is_far_place Here e = absurd (no_far e)
 is_far_place (Moving bytes) e = absurd (no_far' e)
 is_far_place (Far bytes) e = (bytes, refl)
 
-pub is_here_place : (p : Place) → phase_of p ≡ phases.In → p ≡ Here
+pub is_here_place : (p : Whereabouts) → phase_of p ≡ phases.In → p ≡ Here
 is_here_place Here e = refl
 is_here_place (Moving bytes) e = absurd (no_in e)
 is_here_place (Far bytes) e = absurd (no_in' e)
@@ -153,18 +153,18 @@ all_in (x ∷ xs) (y ∷ ys) e = ap (λ l. phases.In ∷ l) (all_in xs ys (omega
 
 -- ---- after a step of the mover
 
-phased_after : (ps : List Phase) (out : List Place) (n : ℕ) (p : Place) (q : Phase) → ps ≡ map phase_of out → phase_of p ≡ q → slice_set ps n q ≡ map phase_of (slice_set out n p)
+phased_after : (ps : List Phase) (out : List Whereabouts) (n : ℕ) (p : Whereabouts) (q : Phase) → ps ≡ map phase_of out → phase_of p ≡ q → slice_set ps n q ≡ map phase_of (slice_set out n p)
 phased_after ps out n p q e is = ap (λ l. set l n q) e ∙ ap (set (map phase_of out) n) (sym is) ∙ sym (map-set phase_of out n p)
 
 -- one more is on its way
-held_taken : (v : View) (n : ℕ) (p : Place) (order : List ℕ) → ((m : ℕ) → is_moving (place_of v m) ≡ 1 → 0 < times m order)
+held_taken : (v : View) (n : ℕ) (p : Whereabouts) (order : List ℕ) → ((m : ℕ) → is_moving (place_of v m) ≡ 1 → 0 < times m order)
     → (m : ℕ) → is_moving (place_of (placed n p v) m) ≡ 1 → 0 < times m (order ++ n ∷ [])
 held_taken v n p order held m e = dite (ℕ_discrete n m)
     (λ here. omega (arith, times-append m order (n ∷ []), is_here n m here))
     (λ ne. let old = held m (sym (ap is_moving (placed_else v n p m (λ q. ne (sym q)))) ∙ e) in omega (arith, times-append m order (n ∷ [])))
 
 -- one is on its way no more
-held_landed : (v : View) (n : ℕ) (p : Place) (order before rest : List ℕ) → n < length v.out → is_moving p ≡ 0 → before ≡ n ∷ rest → ((m : ℕ) → times m before ≡ times m order) → ((m : ℕ) → is_moving (place_of v m) ≡ 1 → 0 < times m order)
+held_landed : (v : View) (n : ℕ) (p : Whereabouts) (order before rest : List ℕ) → n < length v.out → is_moving p ≡ 0 → before ≡ n ∷ rest → ((m : ℕ) → times m before ≡ times m order) → ((m : ℕ) → is_moving (place_of v m) ≡ 1 → 0 < times m order)
     → (m : ℕ) → is_moving (place_of (placed n p v) m) ≡ 1 → 0 < times m rest
 held_landed v n p order before rest wide still is same_times held m e = dite (ℕ_discrete n m)
     (λ here. absurd (let z : is_moving (place_of (placed n p v) m) ≡ 0 = ap is_moving (ap (place_of (placed n p v)) (sym here) ∙ placed_here v n p wide) ∙ still in omega (arith, z, e)))
@@ -175,7 +175,7 @@ abbrev MoverFits : View → List (ℕ × Body) → List Phase → List ℕ → �
 MoverFits v slots named order room = Makes v × (named ≡ map phase_of v.out) × (length v.out ≡ length v.opening) × (order ≡ numbers slots)
     × ((m : ℕ) → is_moving (place_of v m) ≡ 1 → 0 < times m order) × (length order ≡ total is_moving v.out) × (length v.opening ≤ room)
 
-module _ (v w : View) (n : ℕ) (p : Place) (old new : List (ℕ × Body)) (named : List Phase) (phase : Phase) (order after : List ℕ) (room wider : ℕ) (fits : MoverFits v old named order room)
+module _ (v w : View) (n : ℕ) (p : Whereabouts) (old new : List (ℕ × Body)) (named : List Phase) (phase : Phase) (order after : List ℕ) (room wider : ℕ) (fits : MoverFits v old named order room)
     (wide : n < length v.out) (is : w ≡ placed n p v) (is_phase : phase_of p ≡ phase) (slots : after ≡ numbers new) (roomy : room ≤ wider) where
   placed_fits : ((m : ℕ) → is_moving (place_of (placed n p v) m) ≡ 1 → 0 < times m after) → length after + is_moving (place_of v n) ≡ length order + is_moving p → MoverFits w new (slice_set named n phase) after wider
   placed_fits held count = subst (λ u. MoverFits u new (slice_set named n phase) after wider) (sym is)

@@ -15,22 +15,22 @@ use Rattle.shared_objects.specs.Rule.{total, times, has_turn, has_open, has_pass
 use Rattle.shared_objects.specs.Rule.SlotFits.{AtHome, Lent, Idle}
 use Rattle.shared_objects.specs.declared.body.Body.{Body}
 use Rattle.shared_objects.specs.declared.view.Cooling.{Cooling}
-use Rattle.shared_objects.specs.declared.view.Entry.{Entry}
+use Rattle.shared_objects.specs.declared.view.SharedEntry.{SharedEntry}
 use Rattle.shared_objects.specs.declared.view.Turn.{Turn}
 use Rattle.shared_objects.specs.declared.view.Mark.{Mark}
-use Rattle.shared_objects.specs.declared.view.Place.{Place}
-use Rattle.shared_objects.specs.declared.view.Place.TheVariants.{Here}
+use Rattle.shared_objects.specs.declared.view.Whereabouts.{Whereabouts}
+use Rattle.shared_objects.specs.declared.view.Whereabouts.TheVariants.{Here}
 use Rattle.shared_objects.specs.declared.view.View.{View}
 use Rattle.shared_objects.proofs.Sums.{total-set}
 use Rattle.shared_objects.proofs.Moves.{St, state, grown_same, Alike, SameSeat, moves, no_live}
 
 -- an object that is open, or whose turn is held, is here
-pub is_in : {returns : Bool} {opening : List ℕ} {t : Tally} {word : ℕ} {home : maybe.Option (maybe.Option Body)} {log : List Entry}
+pub is_in : {returns : Bool} {opening : List ℕ} {t : Tally} {word : ℕ} {home : maybe.Option (maybe.Option Body)} {log : List SharedEntry}
     → Fits returns opening t word home log → 0 < t.opens + t.turns → t.moving + t.far ≡ 0
 is_in {t = t} f busy = dite (ℕ_discrete (t.moving + t.far) 0) (λ z. z) (λ out. let h = f.here (omega arith) in absurd (omega arith))
 
 -- the slot fits as before where the turns and the places are counted as before
-same_slot : {returns : Bool} {opening : List ℕ} {t t' : Tally} {home : maybe.Option (maybe.Option Body)} {log : List Entry}
+same_slot : {returns : Bool} {opening : List ℕ} {t t' : Tally} {home : maybe.Option (maybe.Option Body)} {log : List SharedEntry}
     → t'.turns ≡ t.turns → t'.moving ≡ t.moving → t'.far ≡ t.far → SlotFits returns opening t home log → SlotFits returns opening t' home log
 same_slot turns moving far (AtHome calm body at stands) = AtHome (omega arith) body at stands
 same_slot turns moving far (Lent out at) = Lent (omega arith) at
@@ -45,10 +45,10 @@ gives_back holds s id at next found m told n body more w carried kept tells =
     subst P (sym carried) (w, gives, tt, kept, tells)
 
 -- the object that was placed is there, and the others are where they were
-pub placed_here : (v : View) (n : ℕ) (p : Place) → n < length v.out → place_of (placed n p v) n ≡ p
+pub placed_here : (v : View) (n : ℕ) (p : Whereabouts) → n < length v.out → place_of (placed n p v) n ≡ p
 placed_here v n p wide = get_or-set_same v.out n p Here wide
 
-pub placed_else : (v : View) (n : ℕ) (p : Place) (m : ℕ) → m ≢ n → place_of (placed n p v) m ≡ place_of v m
+pub placed_else : (v : View) (n : ℕ) (p : Whereabouts) (m : ℕ) → m ≢ n → place_of (placed n p v) m ≡ place_of v m
 placed_else v n p m ne = get_or-set_other v.out n m p Here ne
 
 module _ (returns : Bool) (key : List (List ℕ)) (s : St) (o : Kept returns key s) (id : ℕ) (v : View) (n x hot : ℕ) (me : get_elem? s.views id ≡ some v) (near : n < length key) (alive_ : v.live ≡ true) (one_hot : hot ≤ 1) where
@@ -108,7 +108,7 @@ module _ (returns : Bool) (key : List (List ℕ)) (s : St) (o : Kept returns key
       first (λ m. dite (ℕ_discrete m n) (λ e. subst (λ i. times i scopes + times i passing ≤ 1) (sym e) once) (λ ne. omega (arith, (apart m ne).0, (apart m ne).1, k.opens_once m))) turn k.out marked
 
   -- the seat takes the slot of the object, or gives it back
-  pub moves_slot : (slot : maybe.Option Body) (turn : Option Turn) (marks : List Mark) (out : List Place)
+  pub moves_slot : (slot : maybe.Option Body) (turn : Option Turn) (marks : List Mark) (out : List Whereabouts)
       → ((m : ℕ) → m ≢ n → (turns_on m turn ≡ has_turn m v) × (slice_index_or out m Here ≡ place_of v m))
       → ((turns moving far : ℕ) → turns + has_turn n v ≡ was.turns + turns_on n turn → moving + has_moving n v ≡ was.moving + is_moving (slice_index_or out n Here) → far + has_far n v ≡ was.far + is_far (slice_index_or out n Here)
       → WordIs (record was { turns = turns; moving = moving; far = far }) × (turns ≤ 1) × (moving + far ≤ 1) × RestsOut (record was { turns = turns; moving = moving; far = far })
@@ -132,7 +132,7 @@ module _ (returns : Bool) (key : List (List ℕ)) (s : St) (o : Kept returns key
       marked
 
   -- the mover puts the object into another place, with bytes that stand, and takes its slot or gives it back
-  pub puts : (slot : maybe.Option Body) (p : Place) → n < length v.out
+  pub puts : (slot : maybe.Option Body) (p : Whereabouts) → n < length v.out
       → ((moving far : ℕ) → moving + has_moving n v ≡ was.moving + is_moving p → far + has_far n v ≡ was.far + is_far p
       → WordIs (record was { moving = moving; far = far }) × (moving + far ≤ 1) × RestsOut (record was { moving = moving; far = far })
       × SlotFits returns (bytes_of key n) (record was { moving = moving; far = far }) (some slot) (o.logs n))

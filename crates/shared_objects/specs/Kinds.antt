@@ -11,12 +11,12 @@ use Rattle.memory.specs.declared.deeds.Given.TheVariants.{Nothing}
 use Rattle.scopes.specs.Windows.{noted}
 use Rattle.shared_objects.specs.Rule.{place_of, word_of, Kept}
 use Rattle.shared_objects.specs.declared.body.Body.{Body}
-use Rattle.shared_objects.specs.declared.view.Entry.{Entry}
+use Rattle.shared_objects.specs.declared.view.SharedEntry.{SharedEntry}
 use Rattle.shared_objects.specs.declared.view.Turn.{Turn}
 use Rattle.shared_objects.specs.declared.view.Mark.{Mark}
 use Rattle.shared_objects.specs.declared.view.Mark.TheVariants.{Away, Busy, Worn}
-use Rattle.shared_objects.specs.declared.view.Place.{Place}
-use Rattle.shared_objects.specs.declared.view.Place.TheVariants.{Here, Moving, Far}
+use Rattle.shared_objects.specs.declared.view.Whereabouts.{Whereabouts}
+use Rattle.shared_objects.specs.declared.view.Whereabouts.TheVariants.{Here, Moving, Far}
 use Rattle.shared_objects.specs.declared.view.Part.{Part}
 use Rattle.shared_objects.specs.declared.view.Cooling.{Cooling}
 use Rattle.shared_objects.specs.declared.view.View.{View}
@@ -73,7 +73,7 @@ abbrev pub newcomer : View → View
 newcomer v = record { made = 0; alive = 0; live = true; gathered = []; actor = v.made; opening = v.opening; returns = v.returns; scopes = []; passing = []; turn = None; entries = []; marks = []; out = []; coolings = [] }
 
 -- what an actor did
-abbrev pub part : ℕ → List Entry → List Mark → Part
+abbrev pub part : ℕ → List SharedEntry → List Mark → Part
 part actor entries marks = record { actor = actor; entries = entries; marks = marks }
 
 -- the first seat takes these in
@@ -117,7 +117,7 @@ abbrev pub holding : ℕ → ℕ → List ℕ → View → View
 holding n stamp bytes v = record v { turn = Some (turn n stamp bytes) }
 
 -- the turn ends with one entry more
-abbrev pub recorded : Entry → View → View
+abbrev pub recorded : SharedEntry → View → View
 recorded e v = record v { turn = None; entries = v.entries ++ e ∷ [] }
 
 -- the turn ends without an entry, since the stamps have run out
@@ -125,7 +125,7 @@ abbrev pub worn_out : ℕ → ℕ → View → View
 worn_out n found v = record v { turn = None; marks = v.marks ++ Worn n found ∷ [] }
 
 -- the object n is in this place
-abbrev pub placed : ℕ → Place → View → View
+abbrev pub placed : ℕ → Whereabouts → View → View
 placed n p v = record v { out = slice_set v.out n p }
 
 -- a cooling of the object n, which was hot then, or not
@@ -137,13 +137,13 @@ abbrev pub with_cooling : ℕ → Bool → View → View
 with_cooling n hot v = record v { coolings = v.coolings ++ cooling n hot ∷ [] }
 
 -- what is on its way is far
-abbrev pub sent : Place → Place
+abbrev pub sent : Whereabouts → Whereabouts
 sent Here = Here
 sent (Moving bytes) = Far bytes
 sent (Far bytes) = Far bytes
 
 -- what is far is on its way
-abbrev pub called : Place → Place
+abbrev pub called : Whereabouts → Whereabouts
 called Here = Here
 called (Moving bytes) = Moving bytes
 called (Far bytes) = Moving bytes
@@ -177,7 +177,7 @@ takes_turn st before found after = (st.first ≡ 12) × (found / 4 % 2 ≡ 0 →
     × (found / 4 % 2 ≡ 1 → after ≡ seat_keeping (marked (Busy (object_at st.word)) (view_of before)) before)
 
 -- give turn, with an entry
-abbrev pub gives_turn : Entry → Play
+abbrev pub gives_turn : SharedEntry → Play
 gives_turn e st before found after = after ≡ seat_giving (recorded e (view_of before)) before
 
 -- give turn, without an entry: the mark says which stamp it had found
@@ -220,5 +220,5 @@ abbrev pub looks : Bool → List (List ℕ) → Play
 looks returns opening st before found after = (after ≡ before) × Witness returns opening (view_of before) (object_at st.word) found
 
 -- an entry that none has
-abbrev pub no_entry : Entry
+abbrev pub no_entry : SharedEntry
 no_entry = record { actor = 0; stamp = 0; found = 0; object = 0; deed = Reads 0 0; given = Nothing }

@@ -11,7 +11,7 @@ use Rattle.shared_objects.specs.Legal.{Legal, IsOneRun, fold_of}
 use Rattle.shared_objects.specs.One.{OneList, Runs, sorted, all_entries, entries_on}
 use Rattle.shared_objects.specs.Rule.{total, has_open, has_pass, place_of, bytes_taken, word_of, Tally, tally, Written, Kept}
 use Rattle.shared_objects.specs.declared.body.Body.{Body}
-use Rattle.shared_objects.specs.declared.view.Entry.{Entry}
+use Rattle.shared_objects.specs.declared.view.SharedEntry.{SharedEntry}
 use Rattle.shared_objects.specs.declared.view.Part.{Part}
 use Rattle.shared_objects.specs.declared.view.View.{View}
 
@@ -24,7 +24,7 @@ CountsStayFew = (returns : Bool) (opening : List (List ℕ)) (s : State Body Vie
 -- What the word of an object says is what all seats have of it: its place is where the mover has it, its turn is taken exactly
 -- where one seat holds it, its count is that of the seats that have it open or pass by, and its stamp is the last of its
 -- entries. An object that is open, or hot, or whose turn is taken, is here.
-pub record ShowsSeats (t : Tally) (log : List Entry) (w : WordRecord) : Type 0 where
+pub record ShowsSeats (t : Tally) (log : List SharedEntry) (w : WordRecord) : Type 0 where
   pub place : place_number w.place ≡ t.moving + 2 * t.far
   pub turn : bit w.turn ≡ t.turns
   pub count : w.count ≡ t.opens + t.passes
@@ -40,24 +40,24 @@ WordsShowSeats = (returns : Bool) (opening : List (List ℕ)) (s : State Body Vi
 
 -- A legal history is one run of all its entries by stamp, then actor.
 abbrev pub LegalHistoriesRun : Type 0
-LegalHistoriesRun = (opening : List (List ℕ)) (history : List Entry) → Legal opening history → IsOneRun opening history
+LegalHistoriesRun = (opening : List (List ℕ)) (history : List SharedEntry) → Legal opening history → IsOneRun opening history
 
 -- A seat wrote the entry, or took in one that did.
-abbrev pub IsWrittenIn : State Body View → Entry → Type 0
+abbrev pub IsWrittenIn : State Body View → SharedEntry → Type 0
 IsWrittenIn s e = (id : ℕ) × (v : View) × (get_elem? s.views id ≡ some v) × Written v e
 
 -- The bytes are as long as those that the object was opened with; and where far stores give back what was put, they are its
 -- fold.
-abbrev pub IsLeft : Bool → List (List ℕ) → List Entry → ℕ → List ℕ → Type 0
+abbrev pub IsLeft : Bool → List (List ℕ) → List SharedEntry → ℕ → List ℕ → Type 0
 IsLeft returns opening history n bytes = (length bytes ≡ length (bytes_of opening n)) × (returns ≡ true → bytes ≡ fold_of opening history n)
 
 -- Between any two steps all entries of all seats are one history, the stamp of a word is that of its object's last entry, and
 -- a body that is here with no turn taken, or the bytes of one that is out, have the object's length. Where far stores give back
 -- what was put, the history is legal, and these bytes are the object's fold.
 pub record HasHistory (returns : Bool) (opening : List (List ℕ)) (s : State Body View) : Type 0 where
-  pub history : List Entry
-  pub only : (e : Entry) → Has history e → IsWrittenIn s e
-  pub all : (e : Entry) → IsWrittenIn s e → Has history e
+  pub history : List SharedEntry
+  pub only : (e : SharedEntry) → Has history e → IsWrittenIn s e
+  pub all : (e : SharedEntry) → IsWrittenIn s e → Has history e
   pub stamps : (n : ℕ) → n < length opening → slice_index s.words (word_of n) / 65536 ≡ top 0 (entries_on n history)
   pub legal : returns ≡ true → Legal opening history
   pub here : (n : ℕ) → n < length opening → slice_index s.words (word_of n) % 8 ≡ 0 → (body : Body) × (get_elem? s.homes n ≡ some (some body)) × IsLeft returns opening history n body.bytes.items

@@ -5,7 +5,7 @@ use Rattle.shared_objects.specs.Rule.{place_of}
 use Rattle.shared_objects.specs.Kinds.{placed}
 use Rattle.shared_objects.specs.Phases.{IsObject}
 use Rattle.shared_objects.specs.declared.view.View.{View}
-use Rattle.shared_objects.specs.declared.view.Place.TheVariants.{Here, Moving}
+use Rattle.shared_objects.specs.declared.view.Whereabouts.TheVariants.{Here, Moving}
 use Rattle.shared_objects.specs.declared.moving.Leave.{Leave}
 use Rattle.shared_objects.specs.declared.moving.Leave.TheVariants as leave
 

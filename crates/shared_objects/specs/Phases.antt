@@ -2,13 +2,13 @@
 use Rattle.std.specs.Prelude.{◌≡◌, ℕ, ◌+◌, ◌<◌, true, List, [], ◌∷◌, length, cond, ◌==◌, None}
 use Rattle.memory.specs.Objects.{bytes_of}
 use Rattle.shared_objects.specs.declared.view.View.{View}
-use Rattle.shared_objects.specs.declared.view.Place.{Place}
-use Rattle.shared_objects.specs.declared.view.Place.TheVariants as places
+use Rattle.shared_objects.specs.declared.view.Whereabouts.{Whereabouts}
+use Rattle.shared_objects.specs.declared.view.Whereabouts.TheVariants as places
 use Rattle.shared_objects.specs.declared.seats.Phase.{Phase}
 use Rattle.shared_objects.specs.declared.seats.Phase.TheVariants as phases
 
 -- the phase of an object in this place
-abbrev pub phase_of : Place → Phase
+abbrev pub phase_of : Whereabouts → Phase
 phase_of places.Here = phases.In
 phase_of (places.Moving bytes) = phases.Moving
 phase_of (places.Far bytes) = phases.Far

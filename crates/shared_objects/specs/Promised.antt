@@ -13,13 +13,13 @@ use Rattle.memory.specs.Objects.{bytes_of}
 use Rattle.shared_objects.specs.History.{Has, entry}
 use Rattle.shared_objects.specs.Touches.{Touches}
 use Rattle.shared_objects.specs.SeatMemories.{seat_memory, own_entry}
-use Rattle.shared_objects.specs.declared.view.Entry.{Entry}
+use Rattle.shared_objects.specs.declared.view.SharedEntry.{SharedEntry}
 use Rattle.shared_objects.specs.declared.view.Mark.{Mark}
 use Rattle.shared_objects.specs.declared.view.Mark.TheVariants as marks
 use Rattle.shared_objects.specs.declared.view.View.{View}
 
 -- entries of two lists, one after the other
-map_own : (xs ys : List Entry) → map own_entry (xs ++ ys) ≡ map own_entry xs ++ map own_entry ys
+map_own : (xs ys : List SharedEntry) → map own_entry (xs ++ ys) ≡ map own_entry xs ++ map own_entry ys
 map_own [] ys = refl
 map_own (x ∷ xs) ys = ap (λ l. own_entry x ∷ l) (map_own xs ys)
 
@@ -48,7 +48,7 @@ seat_answers v before n op Worn w stamp h = let t = h.2 in (h.0, (t.0, subst (λ
 -- what it adds to the seat's own entries; lengths and marks stay
 seat_adds : (v : View) (before n : ℕ) (op : Op) (r : Reach) (w : View) (stamp : ℕ) → Touches v before n op r w stamp
     → (map own_entry w.entries ≡ map own_entry v.entries ++ entries_added n op r) × (w.opening ≡ v.opening) × ((m : Mark) → Has v.marks m → Has w.marks m)
-seat_adds v before n op (Done x) w stamp h = let is = h.view_is in let e : Entry = entry v.actor stamp h.found n (Accesses op) (Number x) in
+seat_adds v before n op (Done x) w stamp h = let is = h.view_is in let e : SharedEntry = entry v.actor stamp h.found n (Accesses op) (Number x) in
     (ap (λ (u : View). map own_entry u.entries) is ∙ map_own v.entries (e ∷ []), ap (λ (u : View). u.opening) is, λ m has. subst (λ (u : View). Has u.marks m) (sym is) has)
 seat_adds v before n op Away w stamp h = let is = h.2 in
     (ap (λ (u : View). map own_entry u.entries) is ∙ sym (append_none (map own_entry v.entries)), ap (λ (u : View). u.opening) is, λ m has. subst (λ (u : View). Has u.marks m) (sym is) (has_more v.marks (marks.Away n) m has))

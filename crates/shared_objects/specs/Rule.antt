@@ -8,13 +8,13 @@ use Rattle.memory.specs.Objects.{bytes_of}
 use Rattle.scopes.specs.Windows.{window_limit}
 use Rattle.shared_objects.specs.History.{Has, Rises, Chained, AllInside, top, fold, Answers}
 use Rattle.shared_objects.specs.declared.body.Body.{Body}
-use Rattle.shared_objects.specs.declared.view.Entry.{Entry}
+use Rattle.shared_objects.specs.declared.view.SharedEntry.{SharedEntry}
 use Rattle.shared_objects.specs.declared.view.Mark.{Mark}
 use Rattle.shared_objects.specs.declared.view.Mark.TheVariants.{Away, Busy, Worn}
 use Rattle.shared_objects.specs.declared.view.Turn.{Turn}
 use Rattle.shared_objects.specs.declared.view.Part.{Part}
-use Rattle.shared_objects.specs.declared.view.Place.{Place}
-use Rattle.shared_objects.specs.declared.view.Place.TheVariants.{Here, Moving, Far}
+use Rattle.shared_objects.specs.declared.view.Whereabouts.{Whereabouts}
+use Rattle.shared_objects.specs.declared.view.Whereabouts.TheVariants.{Here, Moving, Far}
 use Rattle.shared_objects.specs.declared.view.View.{View}
 
 -- ---- counts
@@ -51,23 +51,23 @@ abbrev pub has_pass : ℕ → View → ℕ
 has_pass n v = times n v.passing
 
 -- where the object n is for the seat
-abbrev pub place_of : View → ℕ → Place
+abbrev pub place_of : View → ℕ → Whereabouts
 place_of v n = slice_index_or v.out n Here
 
 -- 1 where it is on its way
-abbrev pub is_moving : Place → ℕ
+abbrev pub is_moving : Whereabouts → ℕ
 is_moving Here = 0
 is_moving (Moving bytes) = 1
 is_moving (Far bytes) = 0
 
 -- 1 where it is far
-abbrev pub is_far : Place → ℕ
+abbrev pub is_far : Whereabouts → ℕ
 is_far Here = 0
 is_far (Moving bytes) = 0
 is_far (Far bytes) = 1
 
 -- the bytes that were taken
-abbrev pub bytes_taken : Place → Option (List ℕ)
+abbrev pub bytes_taken : Whereabouts → Option (List ℕ)
 bytes_taken Here = None
 bytes_taken (Moving bytes) = Some bytes
 bytes_taken (Far bytes) = Some bytes
@@ -103,15 +103,15 @@ tally n vs = record { turns = total (has_turn n) vs; opens = total (has_open n) 
 -- ---- the rule
 
 -- An entry of one of these parts.
-abbrev pub HasPart : List Part → Entry → Type 0
+abbrev pub HasPart : List Part → SharedEntry → Type 0
 HasPart parts e = (p : Part) × Has parts p × Has p.entries e
 
 -- The seat has the entry, or took it in.
-abbrev pub Written : View → Entry → Type 0
+abbrev pub Written : View → SharedEntry → Type 0
 Written v e = Has v.entries e ⊎ HasPart v.gathered e
 
 -- The bytes are as long as the opening ones; and where far stores give back what was put, they are the fold of the entries.
-abbrev pub Stands : Bool → List ℕ → List Entry → List ℕ → Type 0
+abbrev pub Stands : Bool → List ℕ → List SharedEntry → List ℕ → Type 0
 Stands returns opening log bytes = (length bytes ≡ length opening) × (returns ≡ true → bytes ≡ fold opening log)
 
 -- the word of the object n, so that the words of two objects never share a cache line
@@ -119,7 +119,7 @@ abbrev pub word_of : ℕ → ℕ
 word_of n = n * 16
 
 -- Where the body of an object is: its opening bytes, what all seats have of it, its slot, and its entries.
-pub data SlotFits (returns : Bool) (opening : List ℕ) (t : Tally) (home : maybe.Option (maybe.Option Body)) (log : List Entry) : Type 0 where
+pub data SlotFits (returns : Bool) (opening : List ℕ) (t : Tally) (home : maybe.Option (maybe.Option Body)) (log : List SharedEntry) : Type 0 where
   -- the object is here with no turn held: the body is at home
   AtHome : t.moving + t.far + t.turns ≡ 0 → (body : Body) → home ≡ some (some body) → Stands returns opening log body.bytes.items → SlotFits returns opening t home log
   -- its turn is held, or it is on its way: a seat has the slot
@@ -128,7 +128,7 @@ pub data SlotFits (returns : Bool) (opening : List ℕ) (t : Tally) (home : mayb
   Idle : 0 < t.far → (body : Body) → home ≡ some (some body) → SlotFits returns opening t home log
 
 -- One object: its opening bytes, what all seats have of it, its word, its slot, and its entries.
-pub record Fits (returns : Bool) (opening : List ℕ) (t : Tally) (word : ℕ) (home : maybe.Option (maybe.Option Body)) (log : List Entry) : Type 0 where
+pub record Fits (returns : Bool) (opening : List ℕ) (t : Tally) (word : ℕ) (home : maybe.Option (maybe.Option Body)) (log : List SharedEntry) : Type 0 where
   -- 1 where it was used since it was cooled last
   pub hot : ℕ
   pub word_is : word ≡ t.moving + 2 * t.far + 4 * t.turns + 8 * hot + 256 * (t.opens + t.passes) + 65536 * top 0 log
@@ -144,17 +144,17 @@ pub record Fits (returns : Bool) (opening : List ℕ) (t : Tally) (word : ℕ) (
   pub slot : SlotFits returns opening t home log
 
 -- The turn that a seat holds has the latest stamp and bytes, and at most four scopes are open meanwhile.
-abbrev pub TurnFits : Bool → List (List ℕ) → (ℕ → List Entry) → List ℕ → Turn → Type 0
+abbrev pub TurnFits : Bool → List (List ℕ) → (ℕ → List SharedEntry) → List ℕ → Turn → Type 0
 TurnFits returns opening logs scopes t = (t.stamp ≡ top 0 (logs t.object)) × Stands returns (bytes_of opening t.object) (logs t.object) t.bytes × (length scopes ≤ window_limit)
 
 -- The stamp that a worn turn found stands in the object's entries, or below.
-abbrev pub MarkFits : (ℕ → List Entry) → Mark → Type 0
+abbrev pub MarkFits : (ℕ → List SharedEntry) → Mark → Type 0
 MarkFits logs (Away n) = Unit {0}
 MarkFits logs (Busy n) = Unit {0}
 MarkFits logs (Worn n found) = found ≤ top 0 (logs n)
 
 -- One seat: what it has done is in the objects' entries, and what it holds or has out is the latest.
-pub record Knows (returns : Bool) (opening : List (List ℕ)) (logs : ℕ → List Entry) (id : ℕ) (v : View) : Type 0 where
+pub record Knows (returns : Bool) (opening : List (List ℕ)) (logs : ℕ → List SharedEntry) (id : ℕ) (v : View) : Type 0 where
   pub actor : v.live ≡ true → v.actor ≡ id
   pub opening_is : v.live ≡ true → v.opening ≡ opening
   pub returns_is : v.live ≡ true → v.returns ≡ returns
@@ -166,19 +166,19 @@ pub record Knows (returns : Bool) (opening : List (List ℕ)) (logs : ℕ → Li
   pub opens_once : (n : ℕ) → has_open n v + has_pass n v ≤ 1
   pub turn : (t : Turn) → v.turn ≡ Some t → TurnFits returns opening logs v.scopes t
   pub out : (n : ℕ) (bytes : List ℕ) → bytes_taken (place_of v n) ≡ Some bytes → Stands returns (bytes_of opening n) (logs n) bytes
-  pub entries : (e : Entry) → Has v.entries e → (e.actor ≡ id) × Has (logs e.object) e
+  pub entries : (e : SharedEntry) → Has v.entries e → (e.actor ≡ id) × Has (logs e.object) e
   pub marks : (m : Mark) → Has v.marks m → MarkFits logs m
   pub rises : Rises 0 v.entries
 
 -- What a seat that was taken in had done is in the objects' entries, and its seat is spent.
-pub record PartFits (logs : ℕ → List Entry) (views : List View) (p : Part) : Type 0 where
+pub record PartFits (logs : ℕ → List SharedEntry) (views : List View) (p : Part) : Type 0 where
   pub rises : Rises 0 p.entries
-  pub entries : (e : Entry) → Has p.entries e → (e.actor ≡ p.actor) × Has (logs e.object) e
+  pub entries : (e : SharedEntry) → Has p.entries e → (e.actor ≡ p.actor) × Has (logs e.object) e
   pub marks : (m : Mark) → Has p.marks m → MarkFits logs m
   pub gone : get_elem? views p.actor ≡ some spent
 
 -- The objects: each has its word, its slot and its entries.
-pub record ObjectsFit (returns : Bool) (opening : List (List ℕ)) (s : State Body View) (logs : ℕ → List Entry) : Type 0 where
+pub record ObjectsFit (returns : Bool) (opening : List (List ℕ)) (s : State Body View) (logs : ℕ → List SharedEntry) : Type 0 where
   pub words : length s.words ≡ word_of (length opening)
   pub slots : length s.homes ≡ length opening
   pub fits : (n : ℕ) → n < length opening → Fits returns (bytes_of opening n) (tally n s.views) (slice_index s.words (word_of n)) (get_elem? s.homes n) (logs n)
@@ -186,7 +186,7 @@ pub record ObjectsFit (returns : Bool) (opening : List (List ℕ)) (s : State Bo
   pub nowhere : (n : ℕ) → length opening ≤ n → logs n ≡ []
 
 -- The seats: each knows what it has done, and the first made the others and takes them in.
-pub record SeatsFit (returns : Bool) (opening : List (List ℕ)) (s : State Body View) (logs : ℕ → List Entry) : Type 0 where
+pub record SeatsFit (returns : Bool) (opening : List (List ℕ)) (s : State Body View) (logs : ℕ → List SharedEntry) : Type 0 where
   pub few : length s.views ≤ 57
   pub knows : (id : ℕ) (v : View) → get_elem? s.views id ≡ some v → Knows returns opening logs id v
   -- the first seat made the others
@@ -199,8 +199,8 @@ pub record SeatsFit (returns : Bool) (opening : List (List ℕ)) (s : State Body
 -- The whole table.
 pub record Kept (returns : Bool) (opening : List (List ℕ)) (s : State Body View) : Type 0 where
   -- the entries of each object, by rising stamps
-  pub logs : ℕ → List Entry
+  pub logs : ℕ → List SharedEntry
   pub objects : ObjectsFit returns opening s logs
   pub seats : SeatsFit returns opening s logs
   -- they are entries of the seats
-  pub whole : (n : ℕ) (e : Entry) → Has (logs n) e → (e.object ≡ n) × ((id : ℕ) × (v : View) × (get_elem? s.views id ≡ some v) × Written v e)
+  pub whole : (n : ℕ) (e : SharedEntry) → Has (logs n) e → (e.object ≡ n) × ((id : ℕ) × (v : View) × (get_elem? s.views id ≡ some v) × Written v e)

@@ -6,12 +6,12 @@ use Rattle.memory.specs.Objects.{bytes_of}
 use Rattle.shared_objects.specs.History.{Has}
 use Rattle.shared_objects.specs.Kinds.{shut}
 use Rattle.shared_objects.specs.Touches.{Touches}
-use Rattle.shared_objects.specs.declared.view.Entry.{Entry}
+use Rattle.shared_objects.specs.declared.view.SharedEntry.{SharedEntry}
 use Rattle.shared_objects.specs.declared.view.Mark.TheVariants.{Worn}
 use Rattle.shared_objects.specs.declared.view.View.{View}
 
 -- an entry as its actor alone knows it: object, deed and what was given
-abbrev pub own_entry : Entry → OwnEntry
+abbrev pub own_entry : SharedEntry → OwnEntry
 own_entry e = record { number = e.object; deed = e.deed; given = e.given }
 
 -- What has a seat lent to it, as a memory: what its machine does is done by the seat, and the loan and its table stay. What is

@@ -17,7 +17,7 @@ use std::alloc::{AllocError, Global};
 
 /// What is left of an object when the table has closed.
 #[derive(Drop)]
-pub enum Ended {
+pub enum ObjectEnd {
     /// It is here, with its bytes.
     Here(Vec<u8>),
     /// The mover had it out.
@@ -93,7 +93,7 @@ impl SharedTable {
         self,
         actors: Vec<ActorSeat>,
         mut mover: MoverSeat,
-    ) -> Result<Vec<Ended>, AllocError>
+    ) -> Result<Vec<ObjectEnd>, AllocError>
         requires mover { IsMoverOf self mover × (mover.seat.me.0.gathered ≡ []) }
         requires all { mover.seat.me.0.alive ≡ length actors.items + 1 }
         requires actors { All (IsActorOf self) actors.items }
@@ -118,21 +118,25 @@ impl SharedTable {
 }
 
 /// What is shown of an object.
-fn show(phase: Phase, body: Body) -> Ended
+fn show(phase: Phase, body: Body) -> ObjectEnd
     ensures { result ≡ shown phase body }
 {
     match phase {
         Phase::In => {
             let Body { bytes } = body;
-            Ended::Here(bytes)
+            ObjectEnd::Here(bytes)
         }
-        Phase::Moving => Ended::Out,
-        Phase::Far => Ended::Out,
+        Phase::Moving => ObjectEnd::Out,
+        Phase::Far => ObjectEnd::Out,
     }
 }
 
 /// The bodies of a closed table, in order, of those objects that are in.
-fn emptied(mut closed: Closed<Body, Global>, phases: &[Phase], mut ended: Vec<Ended>) -> Vec<Ended>
+fn emptied(
+    mut closed: Closed<Body, Global>,
+    phases: &[Phase],
+    mut ended: Vec<ObjectEnd>,
+) -> Vec<ObjectEnd>
     requires full { IsFull closed.slots }
     requires phases { length phases.now ≡ slots_len closed.slots }
     requires room { (ended.items ≡ []) × (slots_len closed.slots ≤ vec_capacity ended) }

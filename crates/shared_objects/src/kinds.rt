@@ -73,9 +73,9 @@ impl Play<Body, View> for TakesTurn {
 
 /// The entry that a step adds, which a call picks.
 pub trait Told {
-    ghost use Rattle.shared_objects.specs.declared.view.Entry.{Entry};
+    ghost use Rattle.shared_objects.specs.declared.view.SharedEntry.{SharedEntry};
 
-    ghost entry: { Entry };
+    ghost entry: { SharedEntry };
 }
 
 impl Told for Brand {

@@ -14,7 +14,7 @@ mod table;
 mod touching;
 mod view;
 
-pub use closing::Ended;
+pub use closing::ObjectEnd;
 pub use kinds::Key;
 pub use laws::{
     counts_stay_few, legal_histories_run, one_lists_are_legal, sorted_entries_run,
@@ -26,4 +26,4 @@ pub use seats::{ActorSeat, MoverSeat, Phase};
 pub use shared::{OpenFault, Shared};
 pub use table::SharedTable;
 pub use touching::Fetched;
-pub use view::{Entry, Mark, Part, Place, Turn, View};
+pub use view::{Mark, Part, SharedEntry, Turn, View, Whereabouts};

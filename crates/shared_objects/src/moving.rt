@@ -6,7 +6,7 @@ ghost use Rattle.shared_objects.specs.Leaves.{Leaves};
 ghost use Rattle.shared_objects.specs.Phases.{phase_of, IsObject};
 ghost use Rattle.shared_objects.specs.Rule.{times, place_of, bytes_taken};
 ghost use Rattle.shared_objects.specs.Tables.{IsMoverOf};
-ghost use Rattle.shared_objects.specs.declared.view.Place.TheVariants.{Here};
+ghost use Rattle.shared_objects.specs.declared.view.Whereabouts.TheVariants.{Here};
 
 use crate::body::Body;
 use crate::kinds::{BeginsLeave, BeginsReturn, Cools, EndsLeave, EndsReturn};

@@ -5,7 +5,7 @@ ghost use Rattle.shared_objects.specs.History.{top};
 ghost use Rattle.shared_objects.specs.Phases.{phase_of, Makes};
 ghost use Rattle.shared_objects.specs.Resting.{Rests, AllBelow};
 ghost use Rattle.shared_objects.specs.Rule.{times, place_of, is_moving, total};
-ghost use Rattle.shared_objects.specs.declared.view.Place.TheVariants.{Here};
+ghost use Rattle.shared_objects.specs.declared.view.Whereabouts.TheVariants.{Here};
 
 use crate::body::Body;
 use crate::view::View;

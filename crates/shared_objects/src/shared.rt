@@ -7,7 +7,7 @@ ghost use Rattle.shared_objects.specs.Opening.{opening_bytes};
 ghost use Rattle.shared_objects.specs.Parts.{part_of};
 ghost use Rattle.shared_objects.specs.Tables.{IsActorOf, IsMoverOf, table_opening};
 
-use crate::closing::Ended;
+use crate::closing::ObjectEnd;
 use crate::seats::{ActorSeat, MoverSeat};
 use crate::table::SharedTable;
 use far_store::FarStore;
@@ -65,7 +65,11 @@ impl<F: FarStore> Shared<F> {
     }
 
     /// All seats are handed back, as [`SharedTable::close`] says.
-    pub fn close(self, actors: Vec<ActorSeat>, mover: MoverSeat) -> Result<Vec<Ended>, AllocError>
+    pub fn close(
+        self,
+        actors: Vec<ActorSeat>,
+        mover: MoverSeat,
+    ) -> Result<Vec<ObjectEnd>, AllocError>
         requires mover { IsMoverOf self.table mover × (mover.seat.me.0.gathered ≡ []) }
         requires all { mover.seat.me.0.alive ≡ length actors.items + 1 }
         requires actors { All (IsActorOf self.table) actors.items }

@@ -4,7 +4,7 @@ use memory::{Deed, Given};
 use std::collections::LinkedList;
 
 /// One access to one object, or one range of it that was read or written.
-pub struct Entry {
+pub struct SharedEntry {
     pub actor: usize,
     pub stamp: u64,
     /// The stamp that its turn found.
@@ -34,12 +34,12 @@ pub enum Mark {
 /// What a seat that was taken in had done.
 pub struct Part {
     pub actor: usize,
-    pub entries: LinkedList<Entry>,
+    pub entries: LinkedList<SharedEntry>,
     pub marks: LinkedList<Mark>,
 }
 
 /// Where an object is for the seat of the mover.
-pub enum Place {
+pub enum Whereabouts {
     /// It is here.
     Here,
     /// It is on its way, and was taken with these bytes.
@@ -73,10 +73,10 @@ pub struct View {
     /// The objects that were found away, and are still counted.
     pub passing: LinkedList<usize>,
     pub turn: Option<Turn>,
-    pub entries: LinkedList<Entry>,
+    pub entries: LinkedList<SharedEntry>,
     pub marks: LinkedList<Mark>,
     /// By number where each object is, at the seat of the mover; none at any other.
-    pub out: LinkedList<Place>,
+    pub out: LinkedList<Whereabouts>,
     /// What each cooling found, in order, at the seat of the mover; none at any other.
     pub coolings: LinkedList<Cooling>,
 }

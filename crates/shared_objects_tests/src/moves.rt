@@ -4,7 +4,7 @@ use crate::compared::same;
 use crate::stage::{LOAD, Stage, add, number_of};
 use far_store::OwnStore;
 use memory::Reach;
-use shared_objects::{Ended, Fetched, Leave};
+use shared_objects::{Fetched, Leave, ObjectEnd};
 use std::alloc::Global;
 use std::test::Fail;
 use test_devices::Short;
@@ -41,7 +41,7 @@ fn two_objects_leave_at_once(rt: HostRuntime) -> Result<(), Fail> {
     let ended = stage.close()?;
     let out: Vec<bool> = ended
         .iter()
-        .map(|one| matches!(one, Ended::Out))
+        .map(|one| matches!(one, ObjectEnd::Out))
         .collect(rt.alloc())?;
     same!(rt; out.as_slice(), [false, true, true, false].as_slice());
     Ok(())
@@ -87,7 +87,7 @@ fn a_table_closes_with_what_is_out(rt: HostRuntime) -> Result<(), Fail> {
     same!(rt; numbers.as_slice(), [None, None, Some(42), None].as_slice());
     let out: Vec<bool> = ended
         .iter()
-        .map(|one| matches!(one, Ended::Out))
+        .map(|one| matches!(one, ObjectEnd::Out))
         .collect(rt.alloc())?;
     same!(rt; out.as_slice(), [false, true, false, true].as_slice());
     Ok(())

@@ -8,7 +8,7 @@ use far_store::FarStore;
 use isa_table::{AtomicOp, Size, Width};
 use memory::{Action, Op, Reach};
 use shared_objects::{
-    ActorSeat, Ended, Fetched, Leave, MoverSeat, OpenFault, Phase, Shared, SharedTable,
+    ActorSeat, Fetched, Leave, MoverSeat, ObjectEnd, OpenFault, Phase, Shared, SharedTable,
 };
 use std::alloc::{AllocError, Global};
 
@@ -176,7 +176,7 @@ impl<F: FarStore> Stage<F> {
         self.shared.table().cool(&mut self.mover, number)
     }
 
-    pub fn close(self) -> Result<Vec<Ended>, AllocError> {
+    pub fn close(self) -> Result<Vec<ObjectEnd>, AllocError> {
         let Stage {
             shared,
             actors,
@@ -228,8 +228,8 @@ pub fn goes_and_returns(table: &SharedTable, mover: &mut MoverSeat, number: u32)
 }
 
 /// The eight bytes of an object that is here as a number, the least first.
-pub fn number_of(ended: &Ended) -> Option<u64> {
-    let Ended::Here(bytes) = ended else {
+pub fn number_of(ended: &ObjectEnd) -> Option<u64> {
+    let ObjectEnd::Here(bytes) = ended else {
         return None;
     };
     test_devices::number_of(bytes)

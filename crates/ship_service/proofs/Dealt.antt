@@ -15,7 +15,7 @@ use Rattle.shared_objects.specs.Opened.{AreFresh, seated}
 use Rattle.shared_objects.specs.Tables.{IsActorOf}
 use Rattle.shared_objects.specs.declared.seats.ActorSeat.{ActorSeat}
 use Rattle.shared_objects.specs.declared.table.SharedTable.{SharedTable}
-use Rattle.shared_objects.specs.declared.view.Place.TheVariants.{Here}
+use Rattle.shared_objects.specs.declared.view.Whereabouts.TheVariants.{Here}
 use Rattle.shared_objects.specs.declared.view.View.{View}
 use Rattle.memory.specs.Objects.{bytes_of}
 use Rattle.workers.specs.Cells.{IsSeatOf, IsTableOf}

@@ -8,7 +8,7 @@ use Rattle.memory.specs.declared.deeds.Deed.TheVariants.{Accesses}
 use Rattle.memory.specs.declared.deeds.Given.TheVariants.{Number}
 use Rattle.shared_objects.specs.History.{entry}
 use Rattle.shared_objects.specs.Touches.{Touches}
-use Rattle.shared_objects.specs.declared.view.Entry.{Entry}
+use Rattle.shared_objects.specs.declared.view.SharedEntry.{SharedEntry}
 use Rattle.shared_objects.specs.declared.view.View.{View}
 use Rattle.machine.specs.MachineState.{MachineState}
 use Rattle.machine.specs.Carrying.{Carries}
@@ -25,30 +25,30 @@ use Rattle.ship_service.specs.Lent.{learning, AnswersLent}
 use Rattle.ship_service.specs.Telling.{RiseTo, StepsAbove, StepsStandAbove}
 
 -- one entry more
-rise_add : (actor low mid high : ℕ) (es : List Entry) (e : Entry) → RiseTo actor low es mid → e.actor ≡ actor → mid < e.stamp → e.stamp ≤ high → RiseTo actor low (es ++ e ∷ []) high
+rise_add : (actor low mid high : ℕ) (es : List SharedEntry) (e : SharedEntry) → RiseTo actor low es mid → e.actor ≡ actor → mid < e.stamp → e.stamp ≤ high → RiseTo actor low (es ++ e ∷ []) high
 rise_add actor low mid high [] e r a lt le = (a, omega (arith, r, lt), le)
 rise_add actor low mid high (x ∷ es) e r a lt le = (r.0, r.1, rise_add actor x.stamp mid high es e r.2 a lt le)
 
-rise_up : (actor low mid high : ℕ) (es : List Entry) → RiseTo actor low es mid → mid ≤ high → RiseTo actor low es high
+rise_up : (actor low mid high : ℕ) (es : List SharedEntry) → RiseTo actor low es mid → mid ≤ high → RiseTo actor low es high
 rise_up actor low mid high [] r le = omega (arith, r, le)
 rise_up actor low mid high (x ∷ es) r le = (r.0, r.1, rise_up actor x.stamp mid high es r.2 le)
 
 -- what a seat has more than at first
-record Rose (actor low : ℕ) (first : List Entry) (v : View) (stamp : ℕ) : Type 0 where
-  more : List Entry
+record Rose (actor low : ℕ) (first : List SharedEntry) (v : View) (stamp : ℕ) : Type 0 where
+  more : List SharedEntry
   entries : v.entries ≡ first ++ more
   stamps : RiseTo actor low more stamp
   actor_is : v.actor ≡ actor
 
-kept : (actor low : ℕ) (first : List Entry) (v w : View) (before stamp : ℕ) → Rose actor low first v before → w.entries ≡ v.entries → w.actor ≡ v.actor → stamp ≡ before → Rose actor low first w stamp
+kept : (actor low : ℕ) (first : List SharedEntry) (v w : View) (before stamp : ℕ) → Rose actor low first v before → w.entries ≡ v.entries → w.actor ≡ v.actor → stamp ≡ before → Rose actor low first w stamp
 kept actor low first v w before stamp r e a s = record { more = r.more; entries = e ∙ r.entries; stamps = subst (RiseTo actor low r.more) (sym s) r.stamps; actor_is = a ∙ r.actor_is }
 
-touched : (actor low : ℕ) (first : List Entry) (v : View) (before n : ℕ) (op : Op) (r : Reach) (w : View) (stamp : ℕ) → Touches v before n op r w stamp → Rose actor low first v before → Rose actor low first w stamp
+touched : (actor low : ℕ) (first : List SharedEntry) (v : View) (before n : ℕ) (op : Op) (r : Reach) (w : View) (stamp : ℕ) → Touches v before n op r w stamp → Rose actor low first v before → Rose actor low first w stamp
 touched actor low first v before n op (reach.Done x) w stamp h i =
-    let is = h.view_is in let e : Entry = entry v.actor stamp h.found n (Accesses op) (Number x) in
+    let is = h.view_is in let e : SharedEntry = entry v.actor stamp h.found n (Accesses op) (Number x) in
     let s : stamp ≡ max before h.found + 1 = h.stamp_is in let l = le-max_left before h.found in record {
       more = i.more ++ e ∷ [];
-      entries = ap (λ (u : View). u.entries) is ∙ ap (λ (es : List Entry). es ++ e ∷ []) i.entries ∙ append_assoc first i.more (e ∷ []);
+      entries = ap (λ (u : View). u.entries) is ∙ ap (λ (es : List SharedEntry). es ++ e ∷ []) i.entries ∙ append_assoc first i.more (e ∷ []);
       stamps = rise_add actor low before stamp i.more e i.stamps i.actor_is (omega (arith, s, l)) (omega arith);
       actor_is = ap (λ (u : View). u.actor) is ∙ i.actor_is;
     }
@@ -57,19 +57,19 @@ touched actor low first v before n op reach.Busy w stamp h i = kept actor low fi
 touched actor low first v before n op reach.Outside w stamp h i = kept actor low first v w before stamp i (ap (λ (u : View). u.entries) h.2) (ap (λ (u : View). u.actor) h.2) h.1
 touched actor low first v before n op reach.Worn w stamp h i = kept actor low first v w before stamp i (ap (λ (u : View). u.entries) h.2.2) (ap (λ (u : View). u.actor) h.2.2) h.1
 
-carries_rose : (actor low : ℕ) (first : List Entry) → Carries true seat_acts seat_acts (λ (s : SeatState). s) (λ (s : SeatState). Rose actor low first s.view s.stamp)
+carries_rose : (actor low : ℕ) (first : List SharedEntry) → Carries true seat_acts seat_acts (λ (s : SeatState). s) (λ (s : SeatState). Rose actor low first s.view s.stamp)
 carries_rose actor low first = record {
   reached = λ before after n op r i _ h. (h, touched actor low first before.view before.stamp n op r after.view after.stamp h.0 i);
   closed = λ before after i h. (h, kept actor low first before.view after.view before.stamp after.stamp i (ap (λ (u : View). u.entries) h.0) (ap (λ (u : View). u.actor) h.0) h.1);
   measured = λ before n. refl;
 }
 
-walked : (actor low : ℕ) (first : List Entry) (way : Way) (old new : Debuggee) (before after : SeatState) (told : StepReply) → Rose actor low first before.view before.stamp → Walks seat_acts way old before told new after
+walked : (actor low : ℕ) (first : List SharedEntry) (way : Way) (old new : Debuggee) (before after : SeatState) (told : StepReply) → Rose actor low first before.view before.stamp → Walks seat_acts way old before told new after
     → Rose actor low first after.view after.stamp
 walked actor low first way old new before after told i h =
     (step_carries true seat_acts seat_acts (λ (s : SeatState). s) (λ (s : SeatState). Rose actor low first s.view s.stamp) (carries_rose actor low first) old.machine h.machine before after h.answer i refl h.step).1
 
-stepped : (actor low : ℕ) (first : List Entry) (way : Way) (old new : Debuggee) (before after : SeatState) (told : StepReply) → Rose actor low first before.view before.stamp → AnswersStep seat_acts way old before told new after
+stepped : (actor low : ℕ) (first : List SharedEntry) (way : Way) (old new : Debuggee) (before after : SeatState) (told : StepReply) → Rose actor low first before.view before.stamp → AnswersStep seat_acts way old before told new after
     → Rose actor low first after.view after.stamp
 stepped actor low first way old new before after (step_reply.Paused slot) i h = subst (λ (s : SeatState). Rose actor low first s.view s.stamp) (sym h.same) i
 stepped actor low first way old new before after told i h = walked actor low first way old new before after told i h

@@ -16,14 +16,14 @@ use Rattle.shared_objects.specs.One.{entries_by}
 use Rattle.shared_objects.specs.Parts.{part_of}
 use Rattle.shared_objects.specs.Rule.{place_of}
 use Rattle.shared_objects.specs.Tables.{IsActorOf}
-use Rattle.shared_objects.specs.declared.closing.Ended.{Ended}
-use Rattle.shared_objects.specs.declared.closing.Ended.TheVariants as shown
+use Rattle.shared_objects.specs.declared.closing.ObjectEnd.{ObjectEnd}
+use Rattle.shared_objects.specs.declared.closing.ObjectEnd.TheVariants as shown
 use Rattle.shared_objects.specs.declared.seats.ActorSeat.{ActorSeat}
 use Rattle.shared_objects.specs.declared.table.SharedTable.{SharedTable}
-use Rattle.shared_objects.specs.declared.view.Entry.{Entry}
+use Rattle.shared_objects.specs.declared.view.SharedEntry.{SharedEntry}
 use Rattle.shared_objects.specs.declared.view.Part.{Part}
-use Rattle.shared_objects.specs.declared.view.Place.{Place}
-use Rattle.shared_objects.specs.declared.view.Place.TheVariants.{Here, Moving, Far}
+use Rattle.shared_objects.specs.declared.view.Whereabouts.{Whereabouts}
+use Rattle.shared_objects.specs.declared.view.Whereabouts.TheVariants.{Here, Moving, Far}
 use Rattle.workers.specs.Cells.{IsSeatOf, IsTableOf, seat_state, RunningState, IsReplayed, FitsCell}
 use Rattle.workers.specs.Closing.{WasCell, WereCells}
 use Rattle.workers.specs.Moves.{MoverState, KeepsParcel, KeepsParcels}
@@ -58,7 +58,7 @@ there (x ∷ xs) zero lt = (x, refl, refl)
 there (x ∷ xs) (suc n) lt = there xs n (omega arith)
 
 -- how an object closes, by its parcel and what is shown of it
-ends_as : (opening bytes : List ℕ) (p : Place) (e : Ended) (parcel : Option (List ℕ)) → KeepsParcel opening p parcel → Shows p bytes e → EndsAs p bytes e parcel
+ends_as : (opening bytes : List ℕ) (p : Whereabouts) (e : ObjectEnd) (parcel : Option (List ℕ)) → KeepsParcel opening p parcel → Shows p bytes e → EndsAs p bytes e parcel
 ends_as opening bytes Here (shown.Here found) parcel k s = AtHome refl found refl s k
 ends_as opening bytes Here shown.Out parcel k s = absurd s
 ends_as opening bytes (Moving was) e parcel k s = absurd k
@@ -110,7 +110,7 @@ part_there [] others k s e = absurd (some-ne-none s (sym e))
 part_there (x ∷ ss) others zero s e = ap (λ y. some (part_of y)) (some-injective x s e)
 part_there (x ∷ ss) others (suc k) s e = part_there ss others k s e
 
-share : (opening : List (List ℕ)) (starts : List MachineState) (parts : List Part) (one : List Entry) (number : ℕ) (s : ActorSeat) (running : Option RunningState) (r : RunningState) → Has parts (part_of s) → s.seat.me.0.actor ≡ number
+share : (opening : List (List ℕ)) (starts : List MachineState) (parts : List Part) (one : List SharedEntry) (number : ℕ) (s : ActorSeat) (running : Option RunningState) (r : RunningState) → Has parts (part_of s) → s.seat.me.0.actor ≡ number
     → entries_by number one ≡ s.seat.me.0.entries → running ≡ Some r → FitsCell opening starts number (seat_state s) running → ReplaysShare opening starts parts one number r
 share opening starts parts one number s running r there actor own e fits =
     let k : IsReplayed opening starts number (seat_state s) r = subst (FitsCell opening starts number (seat_state s)) e fits in record {

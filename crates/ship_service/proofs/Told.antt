@@ -14,7 +14,7 @@ use Rattle.shared_objects.specs.SeatMemories.{own_entry}
 use Rattle.shared_objects.specs.Touches.{PutsRange, GetsRange, Does}
 use Rattle.shared_objects.specs.declared.touching.Fetched.{Fetched}
 use Rattle.shared_objects.specs.declared.touching.Fetched.TheVariants as fetched
-use Rattle.shared_objects.specs.declared.view.Entry.{Entry}
+use Rattle.shared_objects.specs.declared.view.SharedEntry.{SharedEntry}
 use Rattle.shared_objects.specs.declared.view.View.{View}
 use Rattle.machine.specs.MachineState.{MachineState}
 use Rattle.debugger.specs.declared.commands.MachineCommand.{MachineCommand}
@@ -35,7 +35,7 @@ use Rattle.ship_service.specs.Telling.{added, RiseTo, TellsEntries, RepliesAreEn
 
 -- what a command adds
 record Tells (old : SeatState) (whats : List OwnEntry) (new : SeatState) : Type 0 where
-  more : List Entry
+  more : List SharedEntry
   entries : new.view.entries ≡ old.view.entries ++ more
   tells : map own_entry more ≡ whats
   stamps : RiseTo old.view.actor old.stamp more new.stamp
@@ -94,11 +94,11 @@ get_once_tells old new n offset size told (inr h) = subst (λ r. Tells old (adde
 
 -- ---- tries
 
-rise_from : (actor low mid high : ℕ) (es : List Entry) → low ≤ mid → RiseTo actor mid es high → RiseTo actor low es high
+rise_from : (actor low mid high : ℕ) (es : List SharedEntry) → low ≤ mid → RiseTo actor mid es high → RiseTo actor low es high
 rise_from actor low mid high [] h r = omega (arith, h, r)
 rise_from actor low mid high (e ∷ es) h r = let k = r.1 in (r.0, omega (arith, h, k), r.2)
 
-rise_join : (actor low mid high : ℕ) (es fs : List Entry) → RiseTo actor low es mid → RiseTo actor mid fs high → RiseTo actor low (es ++ fs) high
+rise_join : (actor low mid high : ℕ) (es fs : List SharedEntry) → RiseTo actor low es mid → RiseTo actor mid fs high → RiseTo actor low (es ++ fs) high
 rise_join actor low mid high [] fs r s = rise_from actor low mid high fs r s
 rise_join actor low mid high (e ∷ es) fs r s = (r.0, r.1, rise_join actor e.stamp mid high es fs r.2 s)
 

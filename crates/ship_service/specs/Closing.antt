@@ -10,13 +10,13 @@ use Rattle.shared_objects.specs.One.{OneList, entries_by}
 use Rattle.shared_objects.specs.Parts.{part_of}
 use Rattle.shared_objects.specs.Rule.{place_of}
 use Rattle.shared_objects.specs.SeatMemories.{own_entry}
-use Rattle.shared_objects.specs.declared.closing.Ended.{Ended}
-use Rattle.shared_objects.specs.declared.closing.Ended.TheVariants as ended
+use Rattle.shared_objects.specs.declared.closing.ObjectEnd.{ObjectEnd}
+use Rattle.shared_objects.specs.declared.closing.ObjectEnd.TheVariants as ended
 use Rattle.shared_objects.specs.declared.seats.ActorSeat.{ActorSeat}
-use Rattle.shared_objects.specs.declared.view.Entry.{Entry}
+use Rattle.shared_objects.specs.declared.view.SharedEntry.{SharedEntry}
 use Rattle.shared_objects.specs.declared.view.Part.{Part}
-use Rattle.shared_objects.specs.declared.view.Place.{Place}
-use Rattle.shared_objects.specs.declared.view.Place.TheVariants.{Here, Far}
+use Rattle.shared_objects.specs.declared.view.Whereabouts.{Whereabouts}
+use Rattle.shared_objects.specs.declared.view.Whereabouts.TheVariants.{Here, Far}
 use Rattle.machine.specs.MachineState.{MachineState}
 use Rattle.machine.specs.Replay.{IsReplay}
 use Rattle.workers.specs.Cells.{RunningState, StartedAs, lengths_of, is_marked_worn}
@@ -29,7 +29,7 @@ pub record ClosedState (X : Type 0) : Type 0 where
   -- by number, how many bytes the object has: a number that is no object's has none
   pub lengths : List ℕ
   -- by number, whether the object is here, with its bytes, or out
-  pub objects : List Ended
+  pub objects : List ObjectEnd
   -- number and machine of each cell
   pub cells : List ClosedCell
   -- the far store
@@ -42,7 +42,7 @@ abbrev pub AreLengths : List (List ℕ) → List ℕ → Type 0
 AreLengths opening lengths = (length lengths ≡ length opening) × ((n : ℕ) → n < length opening → slice_index_or lengths n 0 ≡ length (bytes_of opening n))
 
 -- How an object closes, by its place for the mover: with these bytes, shown so, and with a parcel that stands for these bytes, or none.
-pub data EndsAs (place : Place) (bytes : List ℕ) (shown : Ended) (parcel : Option (List ℕ)) : Type 0 where
+pub data EndsAs (place : Whereabouts) (bytes : List ℕ) (shown : ObjectEnd) (parcel : Option (List ℕ)) : Type 0 where
   -- it is here, with its bytes, and no parcel is kept
   AtHome : place ≡ Here → (found : Vec ℕ Global) → shown ≡ ended.Here found → found.items ≡ bytes → parcel ≡ None → EndsAs place bytes shown parcel
   -- it is far, and shown as out; the parcel stands for its bytes
@@ -53,7 +53,7 @@ pub record ObjectCloses {X : Type 0} (opening : List (List ℕ)) (mover : MoverS
   -- it has as many bytes as it was opened with
   pub long : length (bytes_of ends n) ≡ length (bytes_of opening n)
   pub length_is : slice_index_or state.lengths n 0 ≡ length (bytes_of opening n)
-  pub shown : Ended
+  pub shown : ObjectEnd
   pub shown_is : slice_get state.objects n ≡ Some shown
   pub ends_as : EndsAs (place_of mover.view n) (bytes_of ends n) shown (slice_index_or state.parcels n None)
 
@@ -83,7 +83,7 @@ pub record Settles {X : Type 0} (returns : Bool) (table : TableId) (opening : Li
 -- ---- what is read of it
 
 -- the object of a number: a number without bytes is none
-abbrev pub live_object : {X : Type 0} → ClosedState X → ℕ → Option Ended
+abbrev pub live_object : {X : Type 0} → ClosedState X → ℕ → Option ObjectEnd
 live_object state n = if slice_index_or state.lengths n 0 == 0 then None else slice_get state.objects n
 
 -- What the far store gives for a parcel. Where it gives back what was put, bytes that come are those for which the parcel stands.
@@ -94,7 +94,7 @@ GivesParcel returns parcel given = (bytes : List ℕ) × (parcel ≡ Some bytes)
 
 -- A machine is the replay, from its start, of what its actor has in the list: that is one of these parts, whose marks say which
 -- objects' stamps had run out.
-pub record ReplaysShare (opening : List (List ℕ)) (starts : List MachineState) (parts : List Part) (one : List Entry) (number : ℕ) (r : RunningState) : Type 0 where
+pub record ReplaysShare (opening : List (List ℕ)) (starts : List MachineState) (parts : List Part) (one : List SharedEntry) (number : ℕ) (r : RunningState) : Type 0 where
   pub share : Part
   pub there : Has parts share
   pub actor : share.actor ≡ number

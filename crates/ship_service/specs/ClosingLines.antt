@@ -2,8 +2,8 @@
 use Rattle.std.specs.Prelude.{ℕ, zero, suc, List, [], ◌++◌, codes, length, flat_map, Option, Some, None}
 use Rattle.hex.specs.Hex.{encode_lower}
 use Rattle.sha2.specs.Sha256.{sha256}
-use Rattle.shared_objects.specs.declared.closing.Ended.{Ended}
-use Rattle.shared_objects.specs.declared.closing.Ended.TheVariants.{Here, Out}
+use Rattle.shared_objects.specs.declared.closing.ObjectEnd.{ObjectEnd}
+use Rattle.shared_objects.specs.declared.closing.ObjectEnd.TheVariants.{Here, Out}
 use Rattle.debugger.specs.Showing.{shown_of}
 use Rattle.workers.specs.Cells.{RunningState}
 use Rattle.workers.specs.declared.closing.ClosedCell.{ClosedCell}
@@ -13,12 +13,12 @@ use Rattle.console.specs.Replies.{reply_text, number_text}
 use Rattle.ship_service.specs.Closing.{ClosedState, live_object}
 
 -- an object that is here is told by its length and the SHA-256 of its bytes, in lower hex
-abbrev pub object_text : ℕ → Ended → List ℕ
+abbrev pub object_text : ℕ → ObjectEnd → List ℕ
 object_text n (Here bytes) = codes "object" ++ number_text n ++ number_text (length bytes.items) ++ codes " " ++ encode_lower (sha256 bytes.items)
 object_text n Out = codes "object" ++ number_text n ++ codes " out"
 
 -- the line of an object, if there is one
-abbrev pub object_line : ℕ → Option Ended → List ℕ
+abbrev pub object_line : ℕ → Option ObjectEnd → List ℕ
 object_line n None = []
 object_line n (Some e) = ended (object_text n e)
 

@@ -5,12 +5,12 @@ use Rattle.object_store.specs.Parts.{AllHere, IsFirstAway, bodies_of}
 use Rattle.scopes.specs.Windows.{machine_limit}
 use Rattle.shared_objects.specs.declared.seats.ActorSeat.{ActorSeat}
 use Rattle.shared_objects.specs.declared.table.SharedTable.{SharedTable}
-use Rattle.shared_objects.specs.declared.view.Place.TheVariants.{Here}
+use Rattle.shared_objects.specs.declared.view.Whereabouts.TheVariants.{Here}
 use Rattle.shared_objects.specs.declared.view.View.{View}
 use Rattle.machine.specs.MachineState.{MachineState}
 use Rattle.debugger.specs.declared.debuggee.Debuggee.{Debuggee}
 use Rattle.workers.specs.Cells.{IsTableOf}
-use Rattle.workers.specs.Marks.{each_lent}
+use Rattle.workers.specs.TableNames.{each_lent}
 use Rattle.workers.specs.Moves.{MoverState}
 use Rattle.workers.specs.Pools.{machines_of}
 use Rattle.world.specs.WorldState.{WorldState}

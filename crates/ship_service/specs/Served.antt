@@ -8,7 +8,7 @@ use Rattle.shared_objects.specs.Kinds.{shut}
 use Rattle.machine.specs.MachineState.{MachineState}
 use Rattle.debugger.specs.declared.start.Start.{Start}
 use Rattle.debugger.specs.declared.commands.MachineCommand.{MachineCommand}
-use Rattle.workers.specs.Marks.{AreLent}
+use Rattle.workers.specs.TableNames.{AreLent}
 use Rattle.workers.specs.Cells.{SeatState, CellState, RunningState, IsReplayed, IsStamped, FitsCell, opened_as}
 use Rattle.world.specs.declared.replies.Reply.{Reply}
 use Rattle.world.specs.declared.replies.Reply.TheVariants as reply

@@ -5,7 +5,7 @@ use Rattle.memory.specs.declared.deeds.Entry.{Entry as OwnEntry}
 use Rattle.memory.specs.declared.deeds.Deed.TheVariants.{Reads, Writes}
 use Rattle.memory.specs.declared.deeds.Given.TheVariants.{Bytes, Nothing}
 use Rattle.shared_objects.specs.SeatMemories.{own_entry}
-use Rattle.shared_objects.specs.declared.view.Entry.{Entry}
+use Rattle.shared_objects.specs.declared.view.SharedEntry.{SharedEntry}
 use Rattle.machine.specs.MachineState.{MachineState}
 use Rattle.debugger.specs.declared.commands.Way.{Way}
 use Rattle.debugger.specs.declared.commands.MachineCommand.TheVariants.{Step}
@@ -31,13 +31,13 @@ all_added (c ∷ cs) (r ∷ rs) = added c r ++ all_added cs rs
 all_added _ _ = []
 
 -- the entries are of this actor, and their stamps rise from above the one to at most the other
-abbrev pub RiseTo : ℕ → ℕ → List Entry → ℕ → Type 0
+abbrev pub RiseTo : ℕ → ℕ → List SharedEntry → ℕ → Type 0
 RiseTo actor low [] high = low ≤ high
 RiseTo actor low (e ∷ es) high = (e.actor ≡ actor) × (low < e.stamp) × RiseTo actor e.stamp es high
 
 -- The seat has these entries more, of its own actor, each stamped above all that the seat had seen before it.
 pub record TellsEntries (old : SeatState) (commands : List Event) (replies : List ServiceReply) (new : SeatState) : Type 0 where
-  pub more : List Entry
+  pub more : List SharedEntry
   pub entries : new.view.entries ≡ old.view.entries ++ more
   pub tells : map own_entry more ≡ all_added commands replies
   pub stamps : RiseTo old.view.actor old.stamp more new.stamp
@@ -56,7 +56,7 @@ ReplyIsEntry opening starts lent = (old new : SeatState) (line bytes : List ℕ)
 -- What a step adds at the machine's seat: entries of its actor, stamped above all that the connection had seen before it, and at
 -- most at what it has seen after.
 pub record StepsAbove (m : ℕ) (old : SeatState) (before after : SeatState) (new : SeatState) : Type 0 where
-  pub more : List Entry
+  pub more : List SharedEntry
   pub entries : after.view.entries ≡ before.view.entries ++ more
   pub stamps : RiseTo m old.stamp more new.stamp
 

@@ -14,11 +14,11 @@ use scopes::MACHINE_LIMIT;
 use shared_objects::ActorSeat;
 use std::alloc::Global;
 use std::sync::{MutexGuard, Wait};
-use workers::{Locked, Mark, Occupied};
+use workers::{Locked, Occupied, TableName};
 use world::Reply;
 
 /// The lock of the cell of this number, if there can be such a machine.
-fn lend<'a, F: FarStore, K: Mark, R: Wait>(
+fn lend<'a, F: FarStore, K: TableName, R: Wait>(
     rt: &R,
     agent: &'a Agent<F, K>,
     machine: usize,
@@ -39,7 +39,7 @@ fn lend<'a, F: FarStore, K: Mark, R: Wait>(
 }
 
 /// Does a command on the machine of a number, if there is one.
-pub(crate) fn answer_machine<F: FarStore, K: Mark, R: Wait>(
+pub(crate) fn answer_machine<F: FarStore, K: TableName, R: Wait>(
     rt: &R,
     alloc: Global,
     agent: &Agent<F, K>,
@@ -60,7 +60,7 @@ pub(crate) fn answer_machine<F: FarStore, K: Mark, R: Wait>(
 
 /// The lock of the first cell that has no machine, and the cells of the lesser numbers, which were each lent with a machine; or
 /// else all cells, which were. No cell is lent that is known to have one, since a worker may have its lock.
-fn lend_empty<'a, F: FarStore, K: Mark, R: Wait>(
+fn lend_empty<'a, F: FarStore, K: TableName, R: Wait>(
     rt: &R,
     agent: &'a Agent<F, K>,
 ) -> Result<(MutexGuard<'a, Locked<K>>, Occupied<K>), Occupied<K>>
@@ -81,7 +81,7 @@ fn lend_empty<'a, F: FarStore, K: Mark, R: Wait>(
 }
 
 /// Makes the code a machine, in the first cell that has none.
-pub(crate) fn ship<F: FarStore, K: Mark, R: Wait>(
+pub(crate) fn ship<F: FarStore, K: TableName, R: Wait>(
     rt: &R,
     alloc: Global,
     agent: &Agent<F, K>,

@@ -11,10 +11,10 @@ use crate::connection::Connection;
 use crate::journal::{Journal, Tally};
 use crate::shared_agent::Agent;
 use far_store::{FarStore, StoreFault};
-use shared_objects::{ActorSeat, Ended, SharedTable};
+use shared_objects::{ActorSeat, ObjectEnd, SharedTable};
 use std::alloc::{AllocError, Global};
 use std::marker::Model;
-use workers::{ClosedCell, Mark, Mover, PoolParts};
+use workers::{ClosedCell, Mover, PoolParts, TableName};
 
 /// What the service leaves when it closes.
 #[derive(Drop)]
@@ -22,7 +22,7 @@ pub struct Closed<F: FarStore> {
     // by number
     lengths: Vec<usize>,
     // by number
-    objects: Vec<Ended>,
+    objects: Vec<ObjectEnd>,
     cells: Vec<ClosedCell>,
     store: F,
     // by number
@@ -33,7 +33,7 @@ pub struct Closed<F: FarStore> {
 #[derive(Drop)]
 pub struct ClosedParts<F: FarStore> {
     /// By number, whether the object is here, with its bytes, or out. A number that is no object's is here without bytes.
-    pub objects: Vec<Ended>,
+    pub objects: Vec<ObjectEnd>,
     /// Number and machine of each cell.
     pub cells: Vec<ClosedCell>,
     pub store: F,
@@ -60,7 +60,7 @@ impl<F: FarStore> Closed<F> {
     }
 
     /// The object of a number, if there is one: here, with its bytes, or out.
-    pub fn object(&self, number: usize) -> Option<&Ended>
+    pub fn object(&self, number: usize) -> Option<&ObjectEnd>
         ensures { option_copied result ≡ live_object self.now number }
     {
         let length = self.lengths.get(number)?;
@@ -77,8 +77,8 @@ impl<F: FarStore> Closed<F> {
         for number in 0..self.lengths.len() {
             let length = self.lengths[number];
             match self.object(number) {
-                Some(Ended::Here(_)) => here = here.and(length),
-                Some(Ended::Out) => far = far.and(length),
+                Some(ObjectEnd::Here(_)) => here = here.and(length),
+                Some(ObjectEnd::Out) => far = far.and(length),
                 None => {}
             }
         }
@@ -141,7 +141,7 @@ fn lengths_of(alloc: Global, table: &SharedTable, count: usize) -> Result<Vec<us
 }
 
 /// Adds the seats of connections.
-fn hand_back<K: Mark>(
+fn hand_back<K: TableName>(
     mut seats: Vec<ActorSeat>,
     connections: Vec<Connection<K>>,
 ) -> Result<Vec<ActorSeat>, AllocError>
@@ -155,7 +155,7 @@ fn hand_back<K: Mark>(
     Ok(seats)
 }
 
-impl<F: FarStore + Drop, K: Mark> Agent<F, K> {
+impl<F: FarStore + Drop, K: TableName> Agent<F, K> {
     /// Closes with these connections, which are all that there are beside the machines, and this mover. Each object is left
     /// here or out, as the mover has it; each machine as its cell has it; the far store and its parcels as the mover has them.
     /// Where memory runs out all is dropped.

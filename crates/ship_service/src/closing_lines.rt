@@ -15,7 +15,7 @@ use console::{REPLY_LIMIT, ReplyLine, print_reply, put_named};
 use far_store::FarStore;
 use hex::encode_to_slice;
 use sha2::{Digest, Sha256};
-use shared_objects::Ended;
+use shared_objects::ObjectEnd;
 use std::io::Write;
 use streams::{WriteFault, put_all};
 use workers::{ClosedCell, Running};
@@ -42,14 +42,14 @@ fn put_here(line: &mut ReplyLine, bytes: &[u8])
 }
 
 /// Makes this the line of an object.
-pub fn print_object(number: usize, object: &Ended, line: &mut ReplyLine)
+pub fn print_object(number: usize, object: &ObjectEnd, line: &mut ReplyLine)
     ensures { line.new.items ≡ ended (object_text number object.now) }
 {
     line.clear();
     put_named(line, b"object", number as u64);
     match object {
-        Ended::Here(bytes) => put_here(line, bytes),
-        Ended::Out => line.put(b" out"),
+        ObjectEnd::Here(bytes) => put_here(line, bytes),
+        ObjectEnd::Out => line.put(b" out"),
     }
     line.end();
 }

@@ -7,25 +7,25 @@ use console::Console;
 use shared_objects::ActorSeat;
 use std::alloc::{AllocError, Global};
 use std::marker::PhantomData;
-use workers::Mark;
+use workers::TableName;
 
 /// A connection: its seat, and the line that is coming.
 #[derive(Drop)]
-pub struct Connection<K: Mark> {
+pub struct Connection<K: TableName> {
     pub(crate) post: Post<K>,
     pub(crate) console: Console,
 }
 
 /// The seat of a connection, which answers its commands.
 #[derive(Drop)]
-pub struct Post<K: Mark> {
+pub struct Post<K: TableName> {
     pub(crate) alloc: Global,
     pub(crate) seat: ActorSeat,
     of: PhantomData<K>,
     pub ghost seated: { IsSeatOf K.table K.opening seat },
 }
 
-impl<K: Mark> Connection<K> {
+impl<K: TableName> Connection<K> {
     /// One with this seat. All the memory that it needs for lines is taken here.
     pub fn new(alloc: Global, seat: ActorSeat) -> Result<Self, AllocError>
         requires { IsSeatOf K.table K.opening seat }

@@ -4,37 +4,37 @@ ghost use Rattle.ship_service.specs.Served.{AnsweredMachinesAreSeen, OpenedMachi
 ghost use Rattle.ship_service.specs.Telling.{RepliesAreEntries, ReplyIsEntry, StepsStandAbove};
 
 use far_store::FarStore;
-use workers::Mark;
+use workers::TableName;
 
 /// In a conversation the `ok` of `put` and the `bytes` of `get` are, in order, the answers of the entries that are added at
 /// the connection's seat.
-pub fn replies_are_entries<K: Mark>()
+pub fn replies_are_entries<K: TableName>()
     ensures { RepliesAreEntries K.opening K.starts K.lent }
 {}
 
 /// So it is for a line whose reply is written in part.
-pub fn reply_is_entry<K: Mark>()
+pub fn reply_is_entry<K: TableName>()
     ensures { ReplyIsEntry K.opening K.starts K.lent }
 {}
 
 /// A machine that was there when the table was opened is never answered to be none.
-pub fn opened_machines_stay<K: Mark>()
+pub fn opened_machines_stay<K: TableName>()
     ensures { OpenedMachinesStay K.opening K.starts }
 {}
 
 /// Whatever a command on a machine is answered, the machine is then the replay of entries up to the stamp that the connection
 /// has seen, from the state that the table was opened with or from the start of valid code.
-pub fn answered_machines_are_seen<K: Mark>()
+pub fn answered_machines_are_seen<K: TableName>()
     ensures { AnsweredMachinesAreSeen K.opening K.starts }
 {}
 
 /// What a machine does in a step that a connection asks for stands above all that the connection had seen before, and the
 /// connection has seen it then.
-pub fn steps_stand_above<K: Mark>()
+pub fn steps_stand_above<K: TableName>()
     ensures { StepsStandAbove K.opening K.starts }
 {}
 
 /// Each machine that a closed service leaves is the replay of its own share of the one list.
-pub fn machines_replay_the_list<F: FarStore, K: Mark>()
+pub fn machines_replay_the_list<F: FarStore, K: TableName>()
     ensures { MachinesReplayTheList F F.RETURNS K.table K.opening K.starts }
 {}

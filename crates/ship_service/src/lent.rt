@@ -10,18 +10,18 @@ use loader::{Why, load};
 use shared_objects::ActorSeat;
 use std::alloc::Global;
 use std::sync::Wait;
-use workers::{Locked, Mark, Pool};
+use workers::{Locked, Pool, TableName};
 use world::Reply;
 
 /// Asks the mover for the object for which a machine waits, if it does.
-fn call_awaited<F: FarStore, K: Mark, R: Wait>(rt: &R, pool: &Pool<F, K>, reply: StepReply) {
+fn call_awaited<F: FarStore, K: TableName, R: Wait>(rt: &R, pool: &Pool<F, K>, reply: StepReply) {
     if let StepReply::Waiting(object) = reply {
         pool.call(rt, object);
     }
 }
 
 /// One step of the cell's machine, whose seat learns this seat's stamp before it, and this one that one's after it.
-fn step<F: FarStore, K: Mark, R: Wait>(
+fn step<F: FarStore, K: TableName, R: Wait>(
     rt: &R,
     pool: &Pool<F, K>,
     locked: &mut Locked<K>,
@@ -47,7 +47,7 @@ fn step<F: FarStore, K: Mark, R: Wait>(
 }
 
 /// Shows something of the cell's machine, whose stamp the seat learns.
-fn show<K: Mark>(
+fn show<K: TableName>(
     alloc: Global,
     locked: &Locked<K>,
     seat: &mut ActorSeat,
@@ -65,7 +65,7 @@ fn show<K: Mark>(
 }
 
 /// Puts the number of a machine that goes on again into the queue.
-fn requeue<F: FarStore, K: Mark, R: Wait>(
+fn requeue<F: FarStore, K: TableName, R: Wait>(
     rt: &R,
     pool: &Pool<F, K>,
     locked: &mut Locked<K>,
@@ -80,7 +80,7 @@ fn requeue<F: FarStore, K: Mark, R: Wait>(
 }
 
 /// Does a command of the debugger on the cell's machine, whose stamp the seat learns.
-fn debug<F: FarStore, K: Mark, R: Wait>(
+fn debug<F: FarStore, K: TableName, R: Wait>(
     rt: &R,
     pool: &Pool<F, K>,
     locked: &mut Locked<K>,
@@ -100,7 +100,7 @@ fn debug<F: FarStore, K: Mark, R: Wait>(
 }
 
 /// Does a command on the machine of the cell, if it has one.
-pub(crate) fn answer_lent<F: FarStore, K: Mark, R: Wait>(
+pub(crate) fn answer_lent<F: FarStore, K: TableName, R: Wait>(
     rt: &R,
     alloc: Global,
     pool: &Pool<F, K>,
@@ -120,7 +120,7 @@ pub(crate) fn answer_lent<F: FarStore, K: Mark, R: Wait>(
 }
 
 /// Makes the code a machine of the cell, and puts it into the queue.
-pub(crate) fn ship_lent<F: FarStore, K: Mark, R: Wait>(
+pub(crate) fn ship_lent<F: FarStore, K: TableName, R: Wait>(
     rt: &R,
     alloc: Global,
     pool: &Pool<F, K>,

@@ -22,7 +22,7 @@ use std::sync::Wait;
 use std::thread::Threads;
 use streams::put_all;
 use thiserror::Error;
-use workers::{Mark, Mover};
+use workers::{Mover, TableName};
 use world::World;
 
 /// Why a service ended otherwise than with its connections.
@@ -43,7 +43,7 @@ pub enum ListenFault {
 }
 
 /// Closes with all its connections, and says what is left.
-fn close<F: FarStore + Drop, K: Mark, W: Write, J: Journal>(
+fn close<F: FarStore + Drop, K: TableName, W: Write, J: Journal>(
     alloc: Global,
     journal: &J,
     writer: &mut W,
@@ -70,7 +70,7 @@ fn close<F: FarStore + Drop, K: Mark, W: Write, J: Journal>(
 /// Serves what was opened.
 fn listen_opened<
     F: FarStore + Drop + Send + Sync,
-    K: Mark + Send + Sync,
+    K: TableName + Send + Sync,
     W: Write,
     R: Threads + Wait + Sync,
     J: Journal + Sync,

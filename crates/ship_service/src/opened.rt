@@ -23,7 +23,7 @@ use shared_objects::{ActorSeat, MoverSeat, OpenFault, Shared};
 use std::alloc::{AllocError, Global};
 use std::sync::Wait;
 use thiserror::Error;
-use workers::{Mark, Mover, Pool};
+use workers::{Mover, Pool, TableName};
 use world::{World, WorldParts};
 
 /// How many connections there are: this project's choice.
@@ -154,7 +154,7 @@ impl<F: FarStore + Drop> Opened<F> {
 }
 
 /// A connection with each of these seats, in order.
-fn connections_of<K: Mark>(
+fn connections_of<K: TableName>(
     alloc: Global,
     seats: Vec<ActorSeat>,
 ) -> Result<Vec<Connection<K>>, AllocError>
@@ -169,7 +169,7 @@ fn connections_of<K: Mark>(
     Ok(connections)
 }
 
-impl<F: FarStore + Drop, K: Mark> Agent<F, K> {
+impl<F: FarStore + Drop, K: TableName> Agent<F, K> {
     /// The agent of what was opened, its connections, and the mover of its table. The machines have their cells, in order; those
     /// that are neither paused nor stopped are queued. Each connection has a seat of its own, which has seen and done nothing,
     /// and the mover has no parcel. On a refusal all is dropped.

@@ -10,14 +10,14 @@ use far_store::FarStore;
 use memory::{Bytes, Reach};
 use shared_objects::{ActorSeat, Fetched};
 use std::sync::Wait;
-use workers::{Direction, Mark, Pool, give_time};
+use workers::{Direction, Pool, TableName, give_time};
 use world::Reply;
 
 /// How often a range is tried again that was found busy.
 const RETRY_LIMIT: u32 = 64;
 
 /// The object was found away: the mover is asked to bring it back.
-fn call<F: FarStore, K: Mark, R: Wait>(rt: &R, pool: &Pool<F, K>, object: u32) -> ServiceReply
+fn call<F: FarStore, K: TableName, R: Wait>(rt: &R, pool: &Pool<F, K>, object: u32) -> ServiceReply
     ensures { result ≡ Plain (Away object) }
 {
     pool.call(rt, object);
@@ -25,7 +25,7 @@ fn call<F: FarStore, K: Mark, R: Wait>(rt: &R, pool: &Pool<F, K>, object: u32) -
 }
 
 /// Tries to write bytes into an object, once.
-fn put_once<F: FarStore, K: Mark, R: Wait>(
+fn put_once<F: FarStore, K: TableName, R: Wait>(
     rt: &R,
     pool: &Pool<F, K>,
     seat: &mut ActorSeat,
@@ -47,7 +47,7 @@ fn put_once<F: FarStore, K: Mark, R: Wait>(
 }
 
 /// Writes bytes into an object, in a few tries if another has its turn.
-pub(crate) fn put<F: FarStore, K: Mark, R: Wait>(
+pub(crate) fn put<F: FarStore, K: TableName, R: Wait>(
     rt: &R,
     pool: &Pool<F, K>,
     seat: &mut ActorSeat,
@@ -70,7 +70,7 @@ pub(crate) fn put<F: FarStore, K: Mark, R: Wait>(
 }
 
 /// The reply to what became of a range that was to be read.
-fn fetched<F: FarStore, K: Mark, R: Wait>(
+fn fetched<F: FarStore, K: TableName, R: Wait>(
     rt: &R,
     pool: &Pool<F, K>,
     object: u32,
@@ -88,7 +88,7 @@ fn fetched<F: FarStore, K: Mark, R: Wait>(
 }
 
 /// Tries to read bytes of an object, once.
-fn get_once<F: FarStore, K: Mark, R: Wait>(
+fn get_once<F: FarStore, K: TableName, R: Wait>(
     rt: &R,
     pool: &Pool<F, K>,
     seat: &mut ActorSeat,
@@ -107,7 +107,7 @@ fn get_once<F: FarStore, K: Mark, R: Wait>(
 }
 
 /// Reads bytes of an object, in as many tries.
-pub(crate) fn get<F: FarStore, K: Mark, R: Wait>(
+pub(crate) fn get<F: FarStore, K: TableName, R: Wait>(
     rt: &R,
     pool: &Pool<F, K>,
     seat: &mut ActorSeat,
@@ -130,7 +130,7 @@ pub(crate) fn get<F: FarStore, K: Mark, R: Wait>(
 }
 
 /// Asks the mover to move an object.
-pub(crate) fn ask<F: FarStore, K: Mark, R: Wait>(
+pub(crate) fn ask<F: FarStore, K: TableName, R: Wait>(
     rt: &R,
     pool: &Pool<F, K>,
     object: u32,

@@ -17,17 +17,17 @@ use shared_objects::ActorSeat;
 use std::alloc::Global;
 use std::io::{Read, Write};
 use std::sync::Wait;
-use workers::{Direction, Mark};
+use workers::{Direction, TableName};
 use world::{Event, Move, ObjectCommand};
 
 /// What all connections share, and the runtime by which one may wait for a machine that is being stepped.
 #[derive(Drop)]
-pub struct Service<'a, R, F: FarStore, K: Mark> {
+pub struct Service<'a, R, F: FarStore, K: TableName> {
     rt: &'a R,
     agent: &'a Agent<F, K>,
 }
 
-fn answer_object<F: FarStore, K: Mark, R: Wait>(
+fn answer_object<F: FarStore, K: TableName, R: Wait>(
     rt: &R,
     agent: &Agent<F, K>,
     seat: &mut ActorSeat,
@@ -50,7 +50,7 @@ fn answer_object<F: FarStore, K: Mark, R: Wait>(
     }
 }
 
-fn answer<F: FarStore, K: Mark, R: Wait>(
+fn answer<F: FarStore, K: TableName, R: Wait>(
     rt: &R,
     alloc: Global,
     agent: &Agent<F, K>,
@@ -71,7 +71,7 @@ fn answer<F: FarStore, K: Mark, R: Wait>(
     }
 }
 
-impl<'a, R: Wait, F: FarStore, K: Mark> Answerer<Service<'a, R, F, K>> for Post<K> {
+impl<'a, R: Wait, F: FarStore, K: TableName> Answerer<Service<'a, R, F, K>> for Post<K> {
     ghost use Rattle.workers.specs.Cells.{seat_state};
     ghost use Rattle.ship_service.specs.Served.{service};
 
@@ -89,7 +89,7 @@ impl<'a, R: Wait, F: FarStore, K: Mark> Answerer<Service<'a, R, F, K>> for Post<
 
 /// Answers each line of one connection, from its first byte to its end. What an earlier conversation left of a line is
 /// dropped.
-pub fn serve<F: FarStore, K: Mark, R: Wait, I: Read, O: Write>(
+pub fn serve<F: FarStore, K: TableName, R: Wait, I: Read, O: Write>(
     rt: &R,
     reader: &mut I,
     writer: &mut O,

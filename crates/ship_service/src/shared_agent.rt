@@ -3,16 +3,16 @@ ghost use Rattle.std.specs.Prelude.{◌≡◌, length};
 ghost use Rattle.scopes.specs.Windows.{machine_limit};
 
 use far_store::FarStore;
-use workers::{Mark, Pool};
+use workers::{Pool, TableName};
 
 /// The agent that connections share: a pool with a cell for each machine that there may be.
 #[derive(Drop)]
-pub struct Agent<F: FarStore, K: Mark> {
+pub struct Agent<F: FarStore, K: TableName> {
     pool: Pool<F, K>,
     pub ghost whole: { length pool.cells.items ≡ machine_limit },
 }
 
-impl<F: FarStore, K: Mark> Agent<F, K> {
+impl<F: FarStore, K: TableName> Agent<F, K> {
     /// One over this pool.
     pub fn new(pool: Pool<F, K>) -> Self
         requires { length pool.cells.items ≡ machine_limit }

@@ -14,7 +14,7 @@ use std::sync::atomic::{AtomicBool, Ordering};
 use std::sync::{Mutex, Wait};
 use std::thread;
 use std::thread::Threads;
-use workers::{Gate, Mark, Moved, Mover, Request, mover, work};
+use workers::{Gate, Moved, Mover, Request, TableName, mover, work};
 
 /// Why a service ended before all its connections had.
 #[derive(Clone, Copy, Drop, Debug, PartialEq, Eq)]
@@ -37,7 +37,7 @@ pub struct Plan {
 
 /// What a service leaves when all its threads have ended.
 #[derive(Drop)]
-pub struct Served<K: Mark> {
+pub struct Served<K: TableName> {
     /// All connections, those too that nobody came to.
     pub connections: Vec<Connection<K>>,
     pub outcome: Result<(), ThreadFault>,
@@ -77,14 +77,14 @@ impl<'a, J: Journal> Gate for UntilEnd<'a, J> {
 
 /// What all threads of a service share.
 #[derive(Drop)]
-struct Tools<'a, R: Wait, F: FarStore, K: Mark, J: Journal> {
+struct Tools<'a, R: Wait, F: FarStore, K: TableName, J: Journal> {
     rt: &'a R,
     gate: &'a UntilEnd<'a, J>,
     agent: &'a Agent<F, K>,
     sweep: bool,
 }
 
-impl<'a, R: Wait, F: FarStore, K: Mark, J: Journal> Tools<'a, R, F, K, J> {
+impl<'a, R: Wait, F: FarStore, K: TableName, J: Journal> Tools<'a, R, F, K, J> {
     /// From now on workers and mover end, also those that sleep, and a move that waits for the far store of this stream is cut off.
     fn end(&self, far: &Option<TcpStream>) {
         self.gate.ended.store(true, Ordering::SeqCst);
@@ -97,7 +97,7 @@ impl<'a, R: Wait, F: FarStore, K: Mark, J: Journal> Tools<'a, R, F, K, J> {
 
 /// Where connections come from, and what serves them.
 #[derive(Drop)]
-struct Front<'a, K: Mark> {
+struct Front<'a, K: TableName> {
     alloc: Global,
     listener: TcpListener,
     locks: &'a [Mutex<Connection<K>>],
@@ -106,7 +106,7 @@ struct Front<'a, K: Mark> {
 }
 
 /// Answers all that the client of a number says. What goes wrong on its stream ends its connection alone.
-fn serve_client<R: Wait, F: FarStore, K: Mark, J: Journal>(
+fn serve_client<R: Wait, F: FarStore, K: TableName, J: Journal>(
     tools: &Tools<R, F, K, J>,
     client: u64,
     lock: &Mutex<Connection<K>>,
@@ -139,7 +139,7 @@ fn cut_off(streams: &[TcpStream]) {
 /// that are there are cut off.
 fn serve_clients<
     F: FarStore + Send + Sync,
-    K: Mark + Send + Sync,
+    K: TableName + Send + Sync,
     R: Threads + Wait + Sync,
     J: Journal + Sync,
 >(
@@ -179,14 +179,14 @@ where
     )
 }
 
-fn step_machines<R: Wait, F: FarStore, K: Mark, J: Journal>(
+fn step_machines<R: Wait, F: FarStore, K: TableName, J: Journal>(
     tools: &Tools<R, F, K, J>,
     worker: usize,
 ) {
     work(tools.rt, tools.gate, tools.agent.pool(), worker);
 }
 
-fn move_objects<R: Wait, F: FarStore, K: Mark, J: Journal>(
+fn move_objects<R: Wait, F: FarStore, K: TableName, J: Journal>(
     tools: &Tools<R, F, K, J>,
     served: &mut Mover<F, K>,
 ) {
@@ -202,7 +202,7 @@ fn move_objects<R: Wait, F: FarStore, K: Mark, J: Journal>(
 /// Serves clients beside so many workers, which end with the last connection, as the mover does.
 fn serve_beside_workers<
     F: FarStore + Send + Sync,
-    K: Mark + Send + Sync,
+    K: TableName + Send + Sync,
     R: Threads + Wait + Sync,
     J: Journal + Sync,
 >(tools: &Tools<R, F, K, J>, front: Front<K>, workers: usize) -> Result<(), ThreadFault>
@@ -237,7 +237,7 @@ where
 /// Serves clients beside the mover and so many workers.
 fn serve_beside_mover<
     F: FarStore + Send + Sync,
-    K: Mark + Send + Sync,
+    K: TableName + Send + Sync,
     R: Threads + Wait + Sync,
     J: Journal + Sync,
 >(
@@ -265,7 +265,7 @@ where
 }
 
 /// Each connection behind a lock of its own.
-fn locked<K: Mark>(
+fn locked<K: TableName>(
     alloc: Global,
     connections: Vec<Connection<K>>,
 ) -> Result<Vec<Mutex<Connection<K>>>, AllocError>
@@ -279,7 +279,7 @@ fn locked<K: Mark>(
 }
 
 /// The connections without their locks, which nobody holds.
-fn unlocked<K: Mark>(
+fn unlocked<K: TableName>(
     alloc: Global,
     locks: Vec<Mutex<Connection<K>>>,
 ) -> Result<Vec<Connection<K>>, AllocError>
@@ -299,7 +299,7 @@ fn unlocked<K: Mark>(
 /// is an error before the first thread or after the last, and drops them.
 pub fn serve_all<
     F: FarStore + Send + Sync,
-    K: Mark + Send + Sync,
+    K: TableName + Send + Sync,
     R: Threads + Wait + Sync,
     J: Journal + Sync,
 >(

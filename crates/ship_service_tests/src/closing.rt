@@ -4,7 +4,7 @@ ghost use Rattle.shared_objects.specs.Kinds.{dealer};
 ghost use Rattle.shared_objects.specs.Opened.{AreFresh, seated};
 ghost use Rattle.shared_objects.specs.Tables.{IsActorOf};
 ghost use Rattle.workers.specs.Cells.{IsSeatOf, IsTableOf};
-ghost use Rattle.workers.specs.Marks.{each_lent};
+ghost use Rattle.workers.specs.TableNames.{each_lent};
 ghost use Rattle.workers.specs.Pools.{machines_of};
 
 use crate::compared::same;
@@ -19,7 +19,7 @@ use std::process::Abort;
 use std::sync::Wait;
 use std::test::Fail;
 use test_devices::Narrow;
-use workers::{Direction, Mark, Moved, Mover, Pool};
+use workers::{Direction, Moved, Mover, Pool, TableName};
 
 /// A service with one connection, in parts.
 #[derive(Drop)]
@@ -53,14 +53,14 @@ pub fn fetched<F: FarStore>(alloc: Global, closed: &mut Closed<F>) -> Vec<u8> {
 
 /// A service without workers, with one connection.
 #[derive(Drop)]
-pub struct Service<F: FarStore, K: Mark> {
+pub struct Service<F: FarStore, K: TableName> {
     pub agent: Agent<F, K>,
     pub connection: Connection<K>,
     pub served: Mover<F, K>,
 }
 
 /// The service of these parts.
-pub fn service_of<F: FarStore + Drop, K: Mark, R: Wait>(
+pub fn service_of<F: FarStore + Drop, K: TableName, R: Wait>(
     rt: &R,
     alloc: Global,
     parts: Parts<F>,
@@ -88,7 +88,7 @@ pub fn service_of<F: FarStore + Drop, K: Mark, R: Wait>(
 }
 
 /// What comes of a move of object 1 for which the mover is called.
-pub fn move_one<F: FarStore, K: Mark>(
+pub fn move_one<F: FarStore, K: TableName>(
     agent: &Agent<F, K>,
     served: &mut Mover<F, K>,
     direction: Direction,
@@ -97,7 +97,7 @@ pub fn move_one<F: FarStore, K: Mark>(
 }
 
 /// The service closes with its one connection.
-pub fn closed_of<F: FarStore + Drop, K: Mark>(
+pub fn closed_of<F: FarStore + Drop, K: TableName>(
     alloc: Global,
     agent: Agent<F, K>,
     connection: Connection<K>,
@@ -122,7 +122,7 @@ struct Course<'a> {
 }
 
 /// A service has this course, and closes.
-fn closed_after<F: FarStore + Drop, K: Mark, R: Wait + Abort>(
+fn closed_after<F: FarStore + Drop, K: TableName, R: Wait + Abort>(
     rt: &R,
     alloc: Global,
     service: Service<F, K>,
@@ -143,7 +143,7 @@ fn closed_after<F: FarStore + Drop, K: Mark, R: Wait + Abort>(
 }
 
 /// A service of these parts has this course.
-fn close_after<F: FarStore + Drop, K: Mark, R: Wait + Abort>(
+fn close_after<F: FarStore + Drop, K: TableName, R: Wait + Abort>(
     rt: &R,
     alloc: Global,
     parts: Parts<F>,

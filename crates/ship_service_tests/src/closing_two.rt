@@ -4,7 +4,7 @@ ghost use Rattle.shared_objects.specs.Kinds.{dealer};
 ghost use Rattle.shared_objects.specs.Opened.{AreFresh, seated};
 ghost use Rattle.shared_objects.specs.Tables.{IsActorOf};
 ghost use Rattle.workers.specs.Cells.{IsSeatOf, IsTableOf};
-ghost use Rattle.workers.specs.Marks.{each_lent};
+ghost use Rattle.workers.specs.TableNames.{each_lent};
 ghost use Rattle.workers.specs.Pools.{machines_of};
 ghost use denote.Param.Send.{IsSend};
 
@@ -14,7 +14,7 @@ use crate::stage::{last_seat, machine};
 use crate::tools::{LOOKS, Talk, Tools, UntilEnd, ask, has_exit, rest};
 use crate::watching::watches;
 use far_store::{FarStore, OwnStore};
-use shared_objects::{Ended, Shared};
+use shared_objects::{ObjectEnd, Shared};
 use ship_service::{Closed, Connection};
 use std::alloc::{AllocError, Global};
 use std::marker::Brand;
@@ -22,7 +22,7 @@ use std::sync::atomic::{AtomicBool, Ordering};
 use std::sync::{Mutex, Wait};
 use std::test::Fail;
 use std::thread::{self, Threads, yield_now};
-use workers::{Mark, Mover, mover, work};
+use workers::{Mover, TableName, mover, work};
 
 /// aadd [r1], r2 · call 4 · add r3, -1 · jne r3, 0, -4 · exit: between two additions the object may leave
 const ADDS: &[u64] = &[
@@ -37,7 +37,7 @@ const ADDS: &[u64] = &[
 const OBJECT: u64 = 0x0000_0001_0000_0000;
 
 /// Asks for a machine's registers until it has stopped by `exit`, and says whether it has.
-fn waits_for_exit<R: Wait, F: FarStore, K: Mark>(tools: &Tools<R, F, K>, said: &[u8]) -> bool {
+fn waits_for_exit<R: Wait, F: FarStore, K: TableName>(tools: &Tools<R, F, K>, said: &[u8]) -> bool {
     for _ in 0..LOOKS {
         if has_exit(&ask(tools, said)) {
             return true;
@@ -48,7 +48,7 @@ fn waits_for_exit<R: Wait, F: FarStore, K: Mark>(tools: &Tools<R, F, K>, said: &
 }
 
 /// Asks 20 times that object 1 leaves, and then waits until both machines have stopped by `exit`.
-fn leaves<R: Wait, F: FarStore, K: Mark>(tools: &Tools<R, F, K>) -> bool {
+fn leaves<R: Wait, F: FarStore, K: TableName>(tools: &Tools<R, F, K>) -> bool {
     for _ in 0..20 {
         let _told = ask(tools, b"leave 1\n");
         yield_now();
@@ -57,19 +57,22 @@ fn leaves<R: Wait, F: FarStore, K: Mark>(tools: &Tools<R, F, K>) -> bool {
 }
 
 /// Says what is to be said, and tells whether it was answered as it should be and both machines have ended.
-fn converses<R: Wait, F: FarStore, K: Mark>(tools: &Tools<R, F, K>) -> bool {
+fn converses<R: Wait, F: FarStore, K: TableName>(tools: &Tools<R, F, K>) -> bool {
     match tools.talk {
         Talk::Leaves => leaves(tools),
         Talk::Watches => watches(tools),
     }
 }
 
-fn serve_moves<R: Wait, F: FarStore, K: Mark>(tools: &Tools<R, F, K>, served: &mut Mover<F, K>) {
+fn serve_moves<R: Wait, F: FarStore, K: TableName>(
+    tools: &Tools<R, F, K>,
+    served: &mut Mover<F, K>,
+) {
     mover(tools.rt, tools.gate, tools.agent.pool(), served, false);
 }
 
 /// Runs two workers while the connection converses, and says whether both came and both machines ended.
-fn run_workers<F: FarStore + Send + Sync, K: Mark + Send + Sync, R: Threads + Wait + Sync>(
+fn run_workers<F: FarStore + Send + Sync, K: TableName + Send + Sync, R: Threads + Wait + Sync>(
     tools: &Tools<R, F, K>,
 ) -> bool
 where
@@ -93,7 +96,7 @@ where
 }
 
 /// Runs the mover, too.
-fn run<F: FarStore + Send + Sync, K: Mark + Send + Sync, R: Threads + Wait + Sync>(
+fn run<F: FarStore + Send + Sync, K: TableName + Send + Sync, R: Threads + Wait + Sync>(
     tools: &Tools<R, F, K>,
     served: &mut Mover<F, K>,
 ) -> bool
@@ -121,7 +124,7 @@ fn number_of(bytes: &[u8]) -> Option<u64> {
 
 /// The number that the bytes of object 1 are, here or from the far store, which is asked again where it first gives another length.
 fn count_of_one<F: FarStore>(alloc: Global, closed: &mut Closed<F>) -> Option<u64> {
-    if let Some(Ended::Here(bytes)) = closed.object(1) {
+    if let Some(ObjectEnd::Here(bytes)) = closed.object(1) {
         return number_of(bytes);
     }
     let count = number_of(&fetched(alloc, closed));
@@ -133,12 +136,11 @@ fn count_of_one<F: FarStore>(alloc: Global, closed: &mut Closed<F>) -> Option<u6
 
 /// Runs and closes a service: the number that object 1 is then, or none, unless workers and mover came and all was answered as it
 /// should be.
-fn close_after<F: FarStore + Drop + Send + Sync, K: Mark + Send + Sync, R: Threads + Wait + Sync>(
-    rt: &R,
-    alloc: Global,
-    parts: Parts<F>,
-    talk: Talk,
-) -> Result<Option<u64>, AllocError>
+fn close_after<
+    F: FarStore + Drop + Send + Sync,
+    K: TableName + Send + Sync,
+    R: Threads + Wait + Sync,
+>(rt: &R, alloc: Global, parts: Parts<F>, talk: Talk) -> Result<Option<u64>, AllocError>
 where
     F::Parcel: Send,
     requires table { IsTableOf K.table K.opening parts.shared.table }

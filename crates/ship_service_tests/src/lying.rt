@@ -5,7 +5,7 @@ ghost use Rattle.shared_objects.specs.Kinds.{dealer};
 ghost use Rattle.shared_objects.specs.Opened.{AreFresh, seated};
 ghost use Rattle.shared_objects.specs.Tables.{IsActorOf};
 ghost use Rattle.workers.specs.Cells.{IsSeatOf, IsTableOf};
-ghost use Rattle.workers.specs.Marks.{each_lent};
+ghost use Rattle.workers.specs.TableNames.{each_lent};
 ghost use Rattle.workers.specs.Pools.{machines_of};
 
 use crate::closing::{Parts, Service, move_one, service_of};
@@ -21,7 +21,7 @@ use std::process::Abort;
 use std::sync::Wait;
 use std::sync::atomic::{AtomicBool, AtomicU64, Ordering};
 use std::test::Fail;
-use workers::{Direction, Gate, Mark, Moved, mover};
+use workers::{Direction, Gate, Moved, TableName, mover};
 
 /// What stands for bytes in a [`Lying`] store.
 #[derive(Drop)]
@@ -129,7 +129,7 @@ enum Act {
 }
 
 /// The mover serves one request.
-fn serves<F: FarStore, K: Mark, R: Wait>(rt: &R, service: &mut Service<F, K>) {
+fn serves<F: FarStore, K: TableName, R: Wait>(rt: &R, service: &mut Service<F, K>) {
     let gate = Rounds {
         left: AtomicU64::new(1),
     };
@@ -137,7 +137,7 @@ fn serves<F: FarStore, K: Mark, R: Wait>(rt: &R, service: &mut Service<F, K>) {
 }
 
 /// An act is done, and comes to what it should.
-fn does<F: FarStore, K: Mark, R: Wait + Abort>(
+fn does<F: FarStore, K: TableName, R: Wait + Abort>(
     rt: &R,
     alloc: Global,
     service: &mut Service<F, K>,
@@ -157,13 +157,13 @@ fn does<F: FarStore, K: Mark, R: Wait + Abort>(
 }
 
 /// How many faults the far store of a service counted.
-fn faults_of<F: FarStore + Drop, K: Mark>(service: Service<F, K>) -> u64 {
+fn faults_of<F: FarStore + Drop, K: TableName>(service: Service<F, K>) -> u64 {
     let (_, store, _) = service.served.into_parts();
     store.faults()
 }
 
 /// The acts are done with a service: how many faults its far store counts then.
-fn faults_by<F: FarStore + Drop, K: Mark, R: Wait + Abort>(
+fn faults_by<F: FarStore + Drop, K: TableName, R: Wait + Abort>(
     rt: &R,
     alloc: Global,
     mut service: Service<F, K>,
@@ -176,7 +176,7 @@ fn faults_by<F: FarStore + Drop, K: Mark, R: Wait + Abort>(
 }
 
 /// The acts are done with a service of these parts: how many faults its far store counts then.
-fn faults_after<F: FarStore + Drop, K: Mark, R: Wait + Abort>(
+fn faults_after<F: FarStore + Drop, K: TableName, R: Wait + Abort>(
     rt: &R,
     alloc: Global,
     parts: Parts<F>,

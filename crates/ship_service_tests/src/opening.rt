@@ -15,7 +15,7 @@ use std::sync::Wait;
 use std::sync::atomic::{AtomicBool, AtomicU64, Ordering};
 use std::test::Fail;
 use test_devices::{Narrow, Pieces};
-use workers::{Direction, Gate, Mark, Moved, Mover, work};
+use workers::{Direction, Gate, Moved, Mover, TableName, work};
 use world::World;
 
 /// The most bytes of the objects that aren't far.
@@ -97,7 +97,7 @@ struct Script {
 
 /// A service that began with a world.
 #[derive(Drop)]
-struct Begun<F: FarStore, K: Mark> {
+struct Begun<F: FarStore, K: TableName> {
     agent: Agent<F, K>,
     connections: Vec<Connection<K>>,
     served: Mover<F, K>,
@@ -119,7 +119,7 @@ fn world_tells(
 }
 
 /// The service begins.
-fn begin<F: FarStore + Drop, K: Mark, R: Wait>(
+fn begin<F: FarStore + Drop, K: TableName, R: Wait>(
     rt: &R,
     alloc: Global,
     opened: Opened<F>,
@@ -135,7 +135,7 @@ fn begin<F: FarStore + Drop, K: Mark, R: Wait>(
 }
 
 /// Each connection says its lines, one after the other, and is answered so: how many there were.
-fn converse<F: FarStore, K: Mark, R: Wait + Abort>(
+fn converse<F: FarStore, K: TableName, R: Wait + Abort>(
     rt: &R,
     alloc: Global,
     agent: &Agent<F, K>,
@@ -152,14 +152,14 @@ fn converse<F: FarStore, K: Mark, R: Wait + Abort>(
 }
 
 /// How often a worker came to instructions, which took so many numbers out of the queue.
-fn turned<F: FarStore, K: Mark, R: Wait>(rt: &R, agent: &Agent<F, K>, turns: u64) -> [u64; 4] {
+fn turned<F: FarStore, K: TableName, R: Wait>(rt: &R, agent: &Agent<F, K>, turns: u64) -> [u64; 4] {
     let gate = Turns::new(turns);
     work(rt, &gate, agent.pool(), 0);
     gate.counts()
 }
 
 /// A worker takes so many numbers out of the queue; then each connection says its lines, one after the other.
-fn serves<F: FarStore + Drop, K: Mark, R: Wait + Abort>(
+fn serves<F: FarStore + Drop, K: TableName, R: Wait + Abort>(
     rt: &R,
     alloc: Global,
     opened: Opened<F>,

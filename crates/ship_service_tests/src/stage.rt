@@ -4,7 +4,7 @@ ghost use Rattle.shared_objects.specs.Kinds.{dealer};
 ghost use Rattle.shared_objects.specs.Opened.{AreFresh};
 ghost use Rattle.shared_objects.specs.Tables.{IsActorOf, IsMoverOf};
 ghost use Rattle.workers.specs.Cells.{IsSeatOf, IsTableOf};
-ghost use Rattle.workers.specs.Marks.{each_lent};
+ghost use Rattle.workers.specs.TableNames.{each_lent};
 ghost use Rattle.workers.specs.Pools.{machines_of};
 ghost use Rattle.ship_service_tests.specs.Stages.{AreNewSeats};
 
@@ -21,7 +21,7 @@ use std::process::Abort;
 use std::sync::Wait;
 use std::test::Fail;
 use test_devices::{FailingReader, Narrow, Pieces};
-use workers::{Mark, Pool};
+use workers::{Pool, TableName};
 
 /// Where a conversation begins.
 #[derive(Clone, Copy, Drop)]
@@ -120,7 +120,7 @@ fn machines(alloc: Global, setting: &Setting) -> Result<Vec<Debuggee>, Fail>
 
 /// What a connection is answered to these bytes, and how the conversation ends, where so many reads are good and so many
 /// bytes are taken.
-pub fn talk<F: FarStore, K: Mark, R: Wait>(
+pub fn talk<F: FarStore, K: TableName, R: Wait>(
     rt: &R,
     alloc: Global,
     agent: &Agent<F, K>,
@@ -136,7 +136,7 @@ pub fn talk<F: FarStore, K: Mark, R: Wait>(
 }
 
 /// What a connection says is answered so, and the conversation ends well.
-pub fn tells<F: FarStore, K: Mark, R: Wait + Abort>(
+pub fn tells<F: FarStore, K: TableName, R: Wait + Abort>(
     rt: &R,
     alloc: Global,
     agent: &Agent<F, K>,
@@ -149,7 +149,7 @@ pub fn tells<F: FarStore, K: Mark, R: Wait + Abort>(
 }
 
 /// What is said is answered so, over the reader and the writer of the setting: how the conversation ends.
-fn tells_as_set<F: FarStore, K: Mark, R: Wait + Abort>(
+fn tells_as_set<F: FarStore, K: TableName, R: Wait + Abort>(
     rt: &R,
     alloc: Global,
     agent: &Agent<F, K>,
@@ -171,7 +171,7 @@ fn tells_as_set<F: FarStore, K: Mark, R: Wait + Abort>(
 }
 
 /// The stamp up to which machine 1 has seen.
-fn stamp_of<F: FarStore, K: Mark, R: Wait>(rt: &R, agent: &Agent<F, K>) -> u64 {
+fn stamp_of<F: FarStore, K: TableName, R: Wait>(rt: &R, agent: &Agent<F, K>) -> u64 {
     match agent.pool().cell(1) {
         Some(cell) => cell.lock(rt).stamp(),
         None => 0,
@@ -190,12 +190,12 @@ struct Parts<F: FarStore> {
 }
 
 /// The stamp up to which a connection has seen.
-fn stamp_seen<K: Mark>(connection: Connection<K>) -> u64 {
+fn stamp_seen<K: TableName>(connection: Connection<K>) -> u64 {
     connection.into_seat().stamp()
 }
 
 /// The first connection says its bytes, and then the second, or the first again: each is answered so.
-fn talks<F: FarStore, K: Mark, R: Wait + Abort>(
+fn talks<F: FarStore, K: TableName, R: Wait + Abort>(
     rt: &R,
     alloc: Global,
     parts: Parts<F>,

@@ -7,7 +7,7 @@ use std::alloc::Global;
 use std::sync::atomic::{AtomicBool, Ordering};
 use std::sync::{Mutex, Wait};
 use std::thread::yield_now;
-use workers::{Gate, Mark};
+use workers::{Gate, TableName};
 
 /// How often a connection asks at most until it is answered what it waits for.
 pub const LOOKS: usize = 10_000;
@@ -39,7 +39,7 @@ impl Gate for UntilEnd {
 
 /// What all threads share.
 #[derive(Drop)]
-pub struct Tools<'a, R: Wait, F: FarStore, K: Mark> {
+pub struct Tools<'a, R: Wait, F: FarStore, K: TableName> {
     pub rt: &'a R,
     pub alloc: Global,
     pub gate: &'a UntilEnd,
@@ -56,7 +56,7 @@ pub fn rest() {
 }
 
 /// What the connection is answered.
-pub fn ask<R: Wait, F: FarStore, K: Mark>(tools: &Tools<R, F, K>, said: &[u8]) -> Vec<u8> {
+pub fn ask<R: Wait, F: FarStore, K: TableName>(tools: &Tools<R, F, K>, said: &[u8]) -> Vec<u8> {
     let mut connection = tools.connection.lock(tools.rt);
     let (told, _) = talk(
         tools.rt,

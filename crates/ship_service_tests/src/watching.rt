@@ -4,7 +4,7 @@
 use crate::tools::{LOOKS, Tools, ask, has_exit, rest};
 use far_store::FarStore;
 use std::sync::Wait;
-use workers::Mark;
+use workers::TableName;
 
 /// What the machines add up to.
 const TOTAL: u64 = 20_000;
@@ -45,18 +45,21 @@ fn answer_of(told: &[u8]) -> Answer {
 }
 
 /// Asks for the bytes of object 1.
-fn look<R: Wait, F: FarStore, K: Mark>(tools: &Tools<R, F, K>) -> Answer {
+fn look<R: Wait, F: FarStore, K: TableName>(tools: &Tools<R, F, K>) -> Answer {
     answer_of(&ask(tools, b"get 1 0 8\n"))
 }
 
 /// Asks that object 1 leaves, and says whether that was answered as it should be.
-fn asks_to_leave<R: Wait, F: FarStore, K: Mark>(tools: &Tools<R, F, K>) -> bool {
+fn asks_to_leave<R: Wait, F: FarStore, K: TableName>(tools: &Tools<R, F, K>) -> bool {
     let told = ask(tools, b"leave 1\n");
     told.as_slice() == b"asked 1\n".as_slice() || told.as_slice() == b"full\n".as_slice()
 }
 
 /// Asks that object 1 leaves, and for its bytes: the greatest count so far, or none where the answer is wrong or a lesser count.
-fn next_count<R: Wait, F: FarStore, K: Mark>(tools: &Tools<R, F, K>, least: u64) -> Option<u64> {
+fn next_count<R: Wait, F: FarStore, K: TableName>(
+    tools: &Tools<R, F, K>,
+    least: u64,
+) -> Option<u64> {
     if !asks_to_leave(tools) {
         return None;
     }
@@ -73,12 +76,12 @@ fn next_count<R: Wait, F: FarStore, K: Mark>(tools: &Tools<R, F, K>, least: u64)
 }
 
 /// Whether both machines have stopped by `exit`.
-fn have_ended<R: Wait, F: FarStore, K: Mark>(tools: &Tools<R, F, K>) -> bool {
+fn have_ended<R: Wait, F: FarStore, K: TableName>(tools: &Tools<R, F, K>) -> bool {
     has_exit(&ask(tools, b"regs 1\n")) && has_exit(&ask(tools, b"regs 2\n"))
 }
 
 /// Looks until both machines have ended, and says whether they have, without a wrong answer before.
-fn looks_until_the_end<R: Wait, F: FarStore, K: Mark>(tools: &Tools<R, F, K>) -> bool {
+fn looks_until_the_end<R: Wait, F: FarStore, K: TableName>(tools: &Tools<R, F, K>) -> bool {
     let mut least = 0;
     for _ in 0..LOOKS {
         let Some(count) = next_count(tools, least) else {
@@ -99,7 +102,7 @@ fn is_right(now: Answer) -> bool {
 }
 
 /// Asks that object 1 leaves until it is away, and says whether it was, without a wrong answer before.
-fn goes<R: Wait, F: FarStore, K: Mark>(tools: &Tools<R, F, K>) -> bool {
+fn goes<R: Wait, F: FarStore, K: TableName>(tools: &Tools<R, F, K>) -> bool {
     for _ in 0..LOOKS {
         if !asks_to_leave(tools) {
             return false;
@@ -114,7 +117,7 @@ fn goes<R: Wait, F: FarStore, K: Mark>(tools: &Tools<R, F, K>) -> bool {
 }
 
 /// Asks for the bytes of object 1 until they are here, and says whether they are right, without a wrong answer before.
-fn comes<R: Wait, F: FarStore, K: Mark>(tools: &Tools<R, F, K>) -> bool {
+fn comes<R: Wait, F: FarStore, K: TableName>(tools: &Tools<R, F, K>) -> bool {
     for _ in 0..LOOKS {
         let now = look(tools);
         if now == Answer::Count(TOTAL) || !is_right(now) {
@@ -126,7 +129,7 @@ fn comes<R: Wait, F: FarStore, K: Mark>(tools: &Tools<R, F, K>) -> bool {
 }
 
 /// Lets object 1 go and come four times, and says whether it did. Each time its bytes are those of another parcel.
-fn goes_and_comes<R: Wait, F: FarStore, K: Mark>(tools: &Tools<R, F, K>) -> bool {
+fn goes_and_comes<R: Wait, F: FarStore, K: TableName>(tools: &Tools<R, F, K>) -> bool {
     for _ in 0..4 {
         if !goes(tools) || !comes(tools) {
             return false;
@@ -137,6 +140,6 @@ fn goes_and_comes<R: Wait, F: FarStore, K: Mark>(tools: &Tools<R, F, K>) -> bool
 
 /// Looks at object 1 until both machines have ended, and then lets it go and come: whether all was answered as it should be, by
 /// `busy 1`, `away 1` and counts that never fall, of which the last are the total.
-pub fn watches<R: Wait, F: FarStore, K: Mark>(tools: &Tools<R, F, K>) -> bool {
+pub fn watches<R: Wait, F: FarStore, K: TableName>(tools: &Tools<R, F, K>) -> bool {
     looks_until_the_end(tools) && goes_and_comes(tools)
 }

@@ -9,8 +9,8 @@ use Rattle.memory.specs.Objects.{bytes_of}
 use Rattle.shared_objects.specs.Kinds.{placed, sent, called}
 use Rattle.shared_objects.specs.Phases.{IsObject}
 use Rattle.shared_objects.specs.Rule.{place_of}
-use Rattle.shared_objects.specs.declared.view.Place.{Place}
-use Rattle.shared_objects.specs.declared.view.Place.TheVariants.{Here, Moving, Far}
+use Rattle.shared_objects.specs.declared.view.Whereabouts.{Whereabouts}
+use Rattle.shared_objects.specs.declared.view.Whereabouts.TheVariants.{Here, Moving, Far}
 use Rattle.shared_objects.specs.declared.view.View.{View}
 use Rattle.places.specs.declared.places.Moved.TheVariants.{NoObject}
 use Rattle.workers.specs.declared.job.Direction.{Direction}
@@ -27,16 +27,16 @@ object_inside (x ∷ xs) (suc n) h = omega (arith, object_inside xs n h)
 pub inside : (v : View) (n : ℕ) → IsObject v.opening n → length v.out ≡ length v.opening → n < length v.out
 inside v n o e = omega (arith, object_inside v.opening n o)
 
-pub now_here : (v : View) (n : ℕ) (p : Place) → n < length v.out → place_of (placed n p v) n ≡ p
+pub now_here : (v : View) (n : ℕ) (p : Whereabouts) → n < length v.out → place_of (placed n p v) n ≡ p
 now_here v n p wide = get_or-set_same v.out n p Here wide
 
-now_else : (v : View) (n : ℕ) (p : Place) (m : ℕ) → m ≢ n → place_of (placed n p v) m ≡ place_of v m
+now_else : (v : View) (n : ℕ) (p : Whereabouts) (m : ℕ) → m ≢ n → place_of (placed n p v) m ≡ place_of v m
 now_else v n p m ne = get_or-set_other v.out n m p Here ne
 
-twice : (v : View) (n : ℕ) (p q : Place) → placed n q (placed n p v) ≡ placed n q v
+twice : (v : View) (n : ℕ) (p q : Whereabouts) → placed n q (placed n p v) ≡ placed n q v
 twice v n p q = ap (λ l. record v { out = l }) (set-set v.out n p q)
 
-back : (v : View) (n : ℕ) (p : Place) → place_of v n ≡ p → placed n p v ≡ v
+back : (v : View) (n : ℕ) (p : Whereabouts) → place_of v n ≡ p → placed n p v ≡ v
 back v n p e = ap (λ l. record v { out = l }) (ap (set v.out n) (sym e) ∙ set-get_or v.out n Here)
 
 -- taken, and sent
@@ -59,20 +59,20 @@ kept_away v n bytes wide e = ap (λ p. placed n (sent p) (placed n (called (plac
 -- ---- parcels
 
 -- where no parcel is kept the object is here
-pub none_here : (opening : List ℕ) (p : Place) → KeepsParcel opening p None → p ≡ Here
+pub none_here : (opening : List ℕ) (p : Whereabouts) → KeepsParcel opening p None → p ≡ Here
 none_here opening Here k = refl
 none_here opening (Moving b) k = absurd k
 none_here opening (Far b) k = absurd (cc)
 
 -- where one is kept it is far
-pub some_far : (opening : List ℕ) (p : Place) (bytes : List ℕ) → KeepsParcel opening p (Some bytes) → (p ≡ Far bytes) × (length bytes ≡ length opening)
+pub some_far : (opening : List ℕ) (p : Whereabouts) (bytes : List ℕ) → KeepsParcel opening p (Some bytes) → (p ≡ Far bytes) × (length bytes ≡ length opening)
 some_far opening Here bytes k = absurd (cc)
 some_far opening (Moving b) bytes k = absurd k
 some_far opening (Far b) bytes k = (cc, cc)
 
 module _ (v : View) (n : ℕ) (parcels : List (Option (List ℕ))) (wide : n < length v.out) (long : length v.out ≡ length v.opening) (keeps : KeepsParcels v parcels) where
   -- one object is in another place, and its parcel is another one
-  moved : (p : Place) (parcel : Option (List ℕ)) → KeepsParcel (bytes_of v.opening n) p parcel → KeepsParcels (placed n p v) (set parcels n parcel)
+  moved : (p : Whereabouts) (parcel : Option (List ℕ)) → KeepsParcel (bytes_of v.opening n) p parcel → KeepsParcels (placed n p v) (set parcels n parcel)
   moved p parcel k = (
     length-set parcels n parcel ∙ keeps.0,
     λ m. dite (ℕ_discrete m n)
@@ -80,10 +80,10 @@ module _ (v : View) (n : ℕ) (parcels : List (Option (List ℕ))) (wide : n < l
         let there = ap (place_of (placed n p v)) here ∙ now_here v n p wide in
         let kept = ap (λ i. slice_index_or (set parcels n parcel) i None) here ∙ get_or-set_same parcels n parcel None (omega (arith, wide, long, keeps.0)) in
         let one = subst (λ (q : Option (List ℕ)). KeepsParcel (bytes_of v.opening n) p q) (sym kept) k in
-        let two = subst (λ (q : Place). KeepsParcel (bytes_of v.opening n) q (slice_index_or (set parcels n parcel) m None)) (sym there) one in
+        let two = subst (λ (q : Whereabouts). KeepsParcel (bytes_of v.opening n) q (slice_index_or (set parcels n parcel) m None)) (sym there) one in
         subst (λ (o : List ℕ). KeepsParcel o (place_of (placed n p v) m) (slice_index_or (set parcels n parcel) m None)) (ap (bytes_of v.opening) (sym here)) two)
         (λ ne.
-        subst (λ (q : Place). KeepsParcel (bytes_of v.opening m) q (slice_index_or (set parcels n parcel) m None)) (sym (now_else v n p m ne))
+        subst (λ (q : Whereabouts). KeepsParcel (bytes_of v.opening m) q (slice_index_or (set parcels n parcel) m None)) (sym (now_else v n p m ne))
         (subst (λ (q : Option (List ℕ)). KeepsParcel (bytes_of v.opening m) (place_of v m) q) (sym (get_or-set_other parcels n m parcel None ne)) (keeps.1 m))),
   )
 
@@ -116,8 +116,8 @@ pub keeps_none : (v : View) (parcels : List (Option (List ℕ))) → v.out ≡ m
 keeps_none v parcels here long none = (
   long,
   λ n.
-      let there : place_of v n ≡ Here = ap (λ (l : List Place). slice_index_or l n Here) here ∙ all_here v.opening n in
-      subst (λ (q : Place). KeepsParcel (bytes_of v.opening n) q (slice_index_or parcels n None)) (sym there) (none n),
+      let there : place_of v n ≡ Here = ap (λ (l : List Whereabouts). slice_index_or l n Here) here ∙ all_here v.opening n in
+      subst (λ (q : Whereabouts). KeepsParcel (bytes_of v.opening n) q (slice_index_or parcels n None)) (sym there) (none n),
 )
 
 -- ---- the parcels themselves

@@ -16,7 +16,7 @@ use Rattle.shared_objects.specs.Promised.{seat_promises}
 use Rattle.shared_objects.specs.Touches.{Touches}
 use Rattle.shared_objects.specs.declared.view.Mark.{Mark}
 use Rattle.shared_objects.specs.declared.view.Mark.TheVariants.{Away, Busy, Worn}
-use Rattle.shared_objects.specs.declared.view.Entry.{Entry as ViewEntry}
+use Rattle.shared_objects.specs.declared.view.SharedEntry.{SharedEntry}
 use Rattle.shared_objects.specs.declared.view.View.{View}
 use Rattle.loader.specs.ValidCode.{ValidCode}
 use Rattle.machine.specs.Grants.{GrantState}
@@ -181,7 +181,7 @@ pub fresh_replayed : (opening : List (List ℕ)) (starts : List MachineState) (n
 fresh_replayed opening starts number seat r none started = record {
   start = r.debuggee.machine;
   started = started;
-  replay = subst (λ (l : List ViewEntry). IsReplay (lengths_of opening) (is_marked_worn seat.view.marks) r.debuggee.machine (map own_entry l) r.debuggee.machine) (sym none) (starts_as_replay (lengths_of opening) (is_marked_worn seat.view.marks) r.debuggee.machine);
+  replay = subst (λ (l : List SharedEntry). IsReplay (lengths_of opening) (is_marked_worn seat.view.marks) r.debuggee.machine (map own_entry l) r.debuggee.machine) (sym none) (starts_as_replay (lengths_of opening) (is_marked_worn seat.view.marks) r.debuggee.machine);
 }
 
 -- and a machine that is shipped is one

@@ -1,4 +1,4 @@
-pub mod Marks
+pub mod TableNames
 pub mod Cells
 pub mod Pools
 pub mod Moves

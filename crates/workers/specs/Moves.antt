@@ -17,8 +17,8 @@ use Rattle.shared_objects.specs.Rule.{place_of}
 use Rattle.shared_objects.specs.declared.seats.MoverSeat.{MoverSeat}
 use Rattle.shared_objects.specs.declared.seats.Phase.{Phase}
 use Rattle.shared_objects.specs.declared.seats.Phase.TheVariants as phases
-use Rattle.shared_objects.specs.declared.view.Place.{Place as ViewPlace}
-use Rattle.shared_objects.specs.declared.view.Place.TheVariants.{Here, Moving, Far}
+use Rattle.shared_objects.specs.declared.view.Whereabouts.{Whereabouts}
+use Rattle.shared_objects.specs.declared.view.Whereabouts.TheVariants.{Here, Moving, Far}
 use Rattle.shared_objects.specs.declared.view.View.{View}
 use Rattle.workers.specs.declared.job.Direction.{Direction}
 use Rattle.workers.specs.declared.job.Direction.TheVariants.{Leave, Return}
@@ -48,7 +48,7 @@ IsMoverSeat table opening returns seats seat = (seat.seat.table_id ≡ table) ×
 
 -- A parcel is kept of an object exactly where it is far, and stands for the bytes with which it was taken, which are as long as
 -- the opening ones. No object is on its way.
-abbrev pub KeepsParcel : List ℕ → ViewPlace → Option (List ℕ) → Type 0
+abbrev pub KeepsParcel : List ℕ → Whereabouts → Option (List ℕ) → Type 0
 KeepsParcel opening Here parcel = parcel ≡ None
 KeepsParcel opening (Moving bytes) parcel = ⊥
 KeepsParcel opening (Far bytes) parcel = (parcel ≡ Some bytes) × (length bytes ≡ length opening)
@@ -60,7 +60,7 @@ KeepsParcels v parcels = (length parcels ≡ length v.opening) × ((n : ℕ) →
 -- ---- what a request does to places
 
 -- The place that is told of an object: none is on its way.
-abbrev pub IsTold : ViewPlace → Place → Type 0
+abbrev pub IsTold : Whereabouts → Place → Type 0
 IsTold Here p = p ≡ told.Here
 IsTold (Moving bytes) p = ⊥
 IsTold (Far bytes) p = p ≡ told.Far

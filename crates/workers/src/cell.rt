@@ -4,11 +4,11 @@ ghost use Rattle.debugger.specs.Debuggees.{DebugsMachine, debuggee_start};
 ghost use Rattle.debugger.specs.Showing.{Shows};
 ghost use Rattle.machine.specs.MachineState.{granted_start};
 ghost use Rattle.shared_objects.specs.Tables.{table_returns};
-ghost use Rattle.workers.specs.Marks.{each_lent, AreLent};
+ghost use Rattle.workers.specs.TableNames.{each_lent, AreLent};
 ghost use Rattle.workers.specs.Cells.{IsSeatOf, IsTableOf, seat_state, opened_as, IsStamped, FitsCell, StepsCell, RunsCell, DebugsCell, ShowsCell, SeesAway, may_queue, is_going};
 
-use crate::mark::Mark;
 use crate::running::Running;
+use crate::table_name::TableName;
 use crossbeam_utils::CachePadded;
 use debugger::{
     DebugCommand, Debugged, Debuggee, MachineRun, ShowCommand, ShowReply, Start, StepReply, Way,
@@ -24,7 +24,7 @@ use std::time::Duration;
 /// A machine, or none, with its seat, under a lock. Whoever keeps the lock for more than one instruction can see whether another
 /// wants it. Neighbouring cells share no cache line.
 #[derive(Drop)]
-pub struct MachineCell<K: Mark> {
+pub struct MachineCell<K: TableName> {
     locked: CachePadded<Mutex<Locked<K>>>,
     // how many want the lock and haven't got it yet
     wanting: AtomicU64,
@@ -35,7 +35,7 @@ pub struct MachineCell<K: Mark> {
 /// How many milliseconds a worker that gave the lock up sleeps at most.
 const GIVEN_MILLIS: u64 = 10;
 
-impl<K: Mark> MachineCell<K> {
+impl<K: TableName> MachineCell<K> {
     /// What the lock is to lend, which nobody wants yet.
     pub fn new(locked: Locked<K>) -> Self {
         MachineCell {
@@ -118,14 +118,14 @@ impl Ticket {
 /// How many cells of the table that K names, from that of number 1 on, were each lent with a machine in it. It counts on by a cell
 /// that is lent, and by nothing else. A machine that has come stays, so what was known of the first cells is known later too.
 #[derive(Drop)]
-pub struct Occupied<K: Mark> {
+pub struct Occupied<K: TableName> {
     count: usize,
     of: PhantomData<K>,
 }
 
-impl<K: Mark> Model for Occupied<K> {
+impl<K: TableName> Model for Occupied<K> {
     ghost use Rattle.std.specs.Prelude.{◌≡◌, ℕ};
-    ghost use Rattle.workers.specs.Marks.{each_lent};
+    ghost use Rattle.workers.specs.TableNames.{each_lent};
 
     ghost Value = { ℕ };
 
@@ -134,7 +134,7 @@ impl<K: Mark> Model for Occupied<K> {
     ghost invariant = { λ t. K.lent ≡ each_lent };
 }
 
-impl<K: Mark> Occupied<K> {
+impl<K: TableName> Occupied<K> {
     /// None yet.
     pub fn none() -> Self
         requires { K.lent ≡ each_lent }
@@ -195,7 +195,7 @@ impl<K: Mark> Occupied<K> {
 /// What a cell's lock lends: a seat of the table, and a machine or none. The machine is the replay of the seat's entries from
 /// its start: the state that the table was opened with, or that in which it was shipped.
 #[derive(Drop)]
-pub struct Locked<K: Mark> {
+pub struct Locked<K: TableName> {
     number: usize,
     seat: ActorSeat,
     running: Option<Running>,
@@ -203,7 +203,7 @@ pub struct Locked<K: Mark> {
     of: PhantomData<K>,
 }
 
-impl<K: Mark> Model for Locked<K> {
+impl<K: TableName> Model for Locked<K> {
     ghost use Rattle.std.specs.Prelude.{◌≡◌};
     ghost use Rattle.workers.specs.Cells.{CellState, FitsCell, IsSeatOf, seat_state};
 
@@ -214,7 +214,7 @@ impl<K: Mark> Model for Locked<K> {
     ghost invariant = { λ c. IsSeatOf K.table K.opening c.seat × (c.seat.seat.me.0.actor ≡ c.number) × FitsCell K.opening K.starts c.number (seat_state c.seat) c.running };
 }
 
-impl<K: Mark> Locked<K> {
+impl<K: TableName> Locked<K> {
     /// The cell of this number, whose machine has not come yet.
     pub fn empty(number: usize, seat: ActorSeat) -> Self
         requires of { IsSeatOf K.table K.opening seat × (seat.seat.me.0.actor ≡ number) }

@@ -3,8 +3,8 @@ ghost use Rattle.std.specs.Prelude.{◌≡◌, length, IfOk};
 ghost use Rattle.workers.specs.Closing.{WereCells};
 
 use crate::cell::MachineCell;
-use crate::mark::Mark;
 use crate::running::Running;
+use crate::table_name::TableName;
 use far_store::FarStore;
 use shared_objects::{ActorSeat, Shared};
 use std::alloc::{AllocError, Global};
@@ -25,7 +25,7 @@ pub struct PoolParts<F: FarStore> {
 }
 
 /// The seats of cells, and what else they leave, in the same order.
-pub(crate) fn parts_of<K: Mark>(
+pub(crate) fn parts_of<K: TableName>(
     alloc: Global,
     cells: Vec<MachineCell<K>>,
 ) -> Result<(Vec<ActorSeat>, Vec<ClosedCell>), AllocError>

@@ -9,13 +9,13 @@ ghost use Rattle.shared_objects.specs.Opened.{seated};
 ghost use Rattle.shared_objects.specs.Phases.{IsObject};
 ghost use Rattle.shared_objects.specs.Rule.{place_of};
 ghost use Rattle.shared_objects.specs.Tables.{IsMoverOf, table_returns};
-ghost use Rattle.shared_objects.specs.declared.view.Place.TheVariants.{Here, Far};
+ghost use Rattle.shared_objects.specs.declared.view.Whereabouts.TheVariants.{Here, Far};
 ghost use Rattle.workers.specs.Cells.{IsTableOf};
 ghost use Rattle.workers.specs.Moves.{LeavesFor, ReturnsFrom, AsksToLeave, AsksToReturn, FailsToBring, IsMoverSeat, IsMoverView, KeepsParcels, MovesOne, AsksOne, LooksAt, number_after};
 
 use crate::job::Direction;
-use crate::mark::Mark;
 use crate::pool::Pool;
+use crate::table_name::TableName;
 use far_store::{FarStore, StoreFault};
 use memory::OBJECT_LIMIT;
 use places::{Moved, Place};
@@ -36,7 +36,7 @@ pub enum Looked {
 
 /// The mover of a table, with its far store, and a parcel of each object that is far.
 #[derive(Drop)]
-pub struct Mover<F: FarStore, K: Mark> {
+pub struct Mover<F: FarStore, K: TableName> {
     seat: MoverSeat,
     store: F,
     // by number
@@ -46,7 +46,7 @@ pub struct Mover<F: FarStore, K: Mark> {
     of: PhantomData<K>,
 }
 
-impl<F: FarStore, K: Mark> Model for Mover<F, K> {
+impl<F: FarStore, K: TableName> Model for Mover<F, K> {
     ghost use Rattle.std.specs.Prelude.{map};
     ghost use Rattle.far_store.specs.Stores.{parcel_bytes};
     ghost use Rattle.workers.specs.Moves.{MoverState, IsMoverSeat, KeepsParcels};
@@ -138,7 +138,7 @@ fn next_number(count: usize, last: u32) -> u32
     }
 }
 
-impl<F: FarStore + Drop, K: Mark> Mover<F, K> {
+impl<F: FarStore + Drop, K: TableName> Mover<F, K> {
     /// The mover of K's table, all of whose objects are here. Where memory runs out all is dropped.
     pub fn new(alloc: Global, seat: MoverSeat, store: F) -> Result<Self, AllocError>
         requires table { seat.seat.table_id ≡ K.table }
@@ -159,7 +159,7 @@ impl<F: FarStore + Drop, K: Mark> Mover<F, K> {
     }
 }
 
-impl<F: FarStore, K: Mark> Mover<F, K> {
+impl<F: FarStore, K: TableName> Mover<F, K> {
     /// What a mover keeps between two requests: its seat is that of K's table, and a parcel is kept of each object that is
     /// far and of no other, which stands for the bytes with which it was taken. Nothing is on its way.
     pub fn fact(&self)

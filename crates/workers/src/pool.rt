@@ -6,16 +6,16 @@ ghost use Rattle.shared_objects.specs.Opened.{AreFresh};
 ghost use Rattle.shared_objects.specs.Tables.{IsActorOf, table_returns};
 ghost use Rattle.workers.specs.Cells.{IsTableOf, opened_as};
 ghost use Rattle.workers.specs.Closing.{WereCells};
-ghost use Rattle.workers.specs.Marks.{each_lent};
+ghost use Rattle.workers.specs.TableNames.{each_lent};
 ghost use Rattle.workers.specs.Pools.{IsNewSeat, AreSeats, machines_of, machine_of, QueuesCell};
 
 use crate::cell::{Locked, MachineCell, Occupied, Ticket};
 use crate::closing::{PoolParts, parts_of};
 use crate::gate::Gate;
 use crate::job::{Direction, Job, Request, put_into};
-use crate::mark::Mark;
 use crate::patience::give_time;
 use crate::requests::Requests;
+use crate::table_name::TableName;
 use crossbeam_queue::ArrayQueue;
 use debugger::{Debuggee, StepReply, Way};
 use far_store::FarStore;
@@ -40,7 +40,7 @@ pub const TURN_LIMIT: u32 = 64;
 /// before the worker looks whether the return of its object is still asked for; the mover ends the return first, and looks for
 /// machines that wait for it then. Those that wait are under one lock, so none of them is out of sight meanwhile.
 #[derive(Drop)]
-pub struct Pool<F: FarStore, K: Mark> {
+pub struct Pool<F: FarStore, K: TableName> {
     shared: Shared<F>,
     // that of machine 1 first
     cells: Vec<MachineCell<K>>,
@@ -69,7 +69,7 @@ enum Ending {
 }
 
 /// Puts the number of the cell's machine into the queue, unless it is there.
-fn queue_machine<K: Mark, R: Wait>(rt: &R, runs: &ArrayQueue<Job>, locked: &mut Locked<K>)
+fn queue_machine<K: TableName, R: Wait>(rt: &R, runs: &ArrayQueue<Job>, locked: &mut Locked<K>)
     ensures { QueuesCell locked.old locked.new }
 {
     let Some(ticket) = locked.enqueue() else {
@@ -81,7 +81,7 @@ fn queue_machine<K: Mark, R: Wait>(rt: &R, runs: &ArrayQueue<Job>, locked: &mut 
 }
 
 /// Puts the number of the cell's machine among those that wait for an object, unless it is queued.
-fn queue_waiting<K: Mark, R: Wait>(
+fn queue_waiting<K: TableName, R: Wait>(
     rt: &R,
     waits: &Mutex<ArrayQueue<Job>>,
     locked: &mut Locked<K>,
@@ -107,7 +107,7 @@ fn found_busy(before: u32, ran: u64) -> u32 {
 }
 
 /// The ticket goes back to its cell, if it is this one.
-fn take_back<K: Mark>(locked: &mut Locked<K>, ticket: Ticket) -> bool
+fn take_back<K: TableName>(locked: &mut Locked<K>, ticket: Ticket) -> bool
     ensures { locked.new ≡ (if result then record locked.old { queued = false } else locked.old) }
 {
     let own = locked.number() == ticket.number();
@@ -118,7 +118,7 @@ fn take_back<K: Mark>(locked: &mut Locked<K>, ticket: Ticket) -> bool
 }
 
 /// The cell of a number, with its machine, if there is one.
-fn cell_of<K: Mark>(number: usize, seat: ActorSeat, machine: Option<Debuggee>) -> Locked<K>
+fn cell_of<K: TableName>(number: usize, seat: ActorSeat, machine: Option<Debuggee>) -> Locked<K>
     requires seat { IsNewSeat K.table K.opening number seat }
     requires machine { opened_as K.starts number ≡ machine_of machine }
 {
@@ -129,7 +129,7 @@ fn cell_of<K: Mark>(number: usize, seat: ActorSeat, machine: Option<Debuggee>) -
 }
 
 /// The next seat of those that are left, where so many went before.
-fn next_seat<K: Mark>(_before: usize, left: &mut IntoIter<ActorSeat>) -> Option<ActorSeat>
+fn next_seat<K: TableName>(_before: usize, left: &mut IntoIter<ActorSeat>) -> Option<ActorSeat>
     requires { AreSeats K.table K.opening (_before + 1) (into_iter_items left.old) }
     ensures some { IfSome result (λ seat. IsNewSeat K.table K.opening (_before + 1) seat × AreSeats K.table K.opening (_before + 1 + 1) (into_iter_items left.new) × (length (into_iter_items left.old) ≡ length (into_iter_items left.new) + 1)) }
     ensures none { IfNone result (length (into_iter_items left.old) ≡ 0) }
@@ -138,7 +138,7 @@ fn next_seat<K: Mark>(_before: usize, left: &mut IntoIter<ActorSeat>) -> Option<
 }
 
 /// The next machine of those that are left, where so many went before, if there is one.
-fn next_machine<K: Mark>(_before: usize, left: &mut IntoIter<Debuggee>) -> Option<Debuggee>
+fn next_machine<K: TableName>(_before: usize, left: &mut IntoIter<Debuggee>) -> Option<Debuggee>
     requires { machines_of (into_iter_items left.old) ≡ drop _before K.starts }
     ensures machine { opened_as K.starts (_before + 1) ≡ machine_of result }
     ensures rest { machines_of (into_iter_items left.new) ≡ drop (_before + 1) K.starts }
@@ -147,7 +147,7 @@ fn next_machine<K: Mark>(_before: usize, left: &mut IntoIter<Debuggee>) -> Optio
 }
 
 /// A cell for each seat. The first ones have these machines, of which those that go on are queued.
-fn cells_of<K: Mark, R: Wait>(
+fn cells_of<K: TableName, R: Wait>(
     rt: &R,
     alloc: Global,
     runs: &ArrayQueue<Job>,
@@ -173,7 +173,7 @@ fn cells_of<K: Mark, R: Wait>(
 }
 
 /// The first cells, as long as they have machines.
-fn occupied_of<K: Mark, R: Wait>(rt: &R, cells: &[MachineCell<K>]) -> Occupied<K>
+fn occupied_of<K: TableName, R: Wait>(rt: &R, cells: &[MachineCell<K>]) -> Occupied<K>
     requires { K.lent ≡ each_lent }
 {
     let mut occupied = Occupied::none();
@@ -187,7 +187,7 @@ fn occupied_of<K: Mark, R: Wait>(rt: &R, cells: &[MachineCell<K>]) -> Occupied<K
     occupied
 }
 
-impl<F: FarStore, K: Mark> Pool<F, K> {
+impl<F: FarStore, K: TableName> Pool<F, K> {
     /// A pool over a table that was opened, with a cell for each of these seats. The first ones have these machines, in order,
     /// as K names them; those that are neither paused nor stopped are queued. On a refusal all is dropped.
     pub fn new<R: Wait>(
@@ -537,7 +537,7 @@ impl<F: FarStore, K: Mark> Pool<F, K> {
 
 /// Steps machines of the queue, each until it waits, pauses, stops or has done 64 instructions, as long as the gate lets it. Where no
 /// other machine is queued it goes on with the same, and where none is it sleeps until it is woken. Wakes all others at its end.
-pub fn work<F: FarStore, K: Mark, R: Wait, G: Gate>(
+pub fn work<F: FarStore, K: TableName, R: Wait, G: Gate>(
     rt: &R,
     gate: &G,
     pool: &Pool<F, K>,

@@ -5,9 +5,9 @@ ghost use Rattle.workers.specs.Turning.{MovesOn};
 
 use crate::gate::Gate;
 use crate::job::{Direction, Request};
-use crate::mark::Mark;
 use crate::movers::{Looked, Mover};
 use crate::pool::{Pool, work};
+use crate::table_name::TableName;
 use far_store::FarStore;
 use places::Moved;
 use std::sync::Wait;
@@ -21,7 +21,7 @@ const PAUSE_MILLIS: u64 = 10;
 /// return that the far store failed to give is asked for again after a while. Where there is none it sleeps until it is woken. With
 /// `sweep` it looks, where there was no request for 10 ms, at the next object of its own accord. What it leaves of the mover is what
 /// requests and looks made of it, one after the other.
-pub fn mover<F: FarStore, K: Mark, R: Wait, G: Gate>(
+pub fn mover<F: FarStore, K: TableName, R: Wait, G: Gate>(
     rt: &R,
     gate: &G,
     pool: &Pool<F, K>,
@@ -46,7 +46,7 @@ pub fn mover<F: FarStore, K: Mark, R: Wait, G: Gate>(
 }
 
 /// The next request of the queue, or a return that is due again, if there is one: this first in every other turn.
-fn next_request<F: FarStore, K: Mark, R: Wait>(
+fn next_request<F: FarStore, K: TableName, R: Wait>(
     rt: &R,
     pool: &Pool<F, K>,
     turn: bool,
@@ -61,7 +61,7 @@ fn next_request<F: FarStore, K: Mark, R: Wait>(
     }
 }
 
-fn serve<F: FarStore, K: Mark, R: Wait, G: Gate>(
+fn serve<F: FarStore, K: TableName, R: Wait, G: Gate>(
     rt: &R,
     gate: &G,
     pool: &Pool<F, K>,
@@ -77,7 +77,7 @@ fn serve<F: FarStore, K: Mark, R: Wait, G: Gate>(
 }
 
 /// Leaves the far store alone for a while, if it failed.
-fn leave_alone<F: FarStore, K: Mark, R: Wait>(
+fn leave_alone<F: FarStore, K: TableName, R: Wait>(
     rt: &R,
     pool: &Pool<F, K>,
     direction: Direction,
@@ -91,7 +91,7 @@ fn leave_alone<F: FarStore, K: Mark, R: Wait>(
 }
 
 /// Where there is no request: sleeps, and looks at the next object, with `sweep`, if there is none still.
-fn rest<F: FarStore, K: Mark, R: Wait, G: Gate>(
+fn rest<F: FarStore, K: TableName, R: Wait, G: Gate>(
     rt: &R,
     gate: &G,
     pool: &Pool<F, K>,
@@ -110,7 +110,7 @@ fn rest<F: FarStore, K: Mark, R: Wait, G: Gate>(
 }
 
 /// Sleeps until the mover is woken, or until it looks of its own accord, or for as long as is left until a return is due again.
-fn sleep<F: FarStore, K: Mark, R: Wait>(rt: &R, pool: &Pool<F, K>, seen: u64, sweep: bool) {
+fn sleep<F: FarStore, K: TableName, R: Wait>(rt: &R, pool: &Pool<F, K>, seen: u64, sweep: bool) {
     match pool.requests().due_in(rt) {
         Some(left) => {
             let millis = left.min(PAUSE_MILLIS);
@@ -124,7 +124,7 @@ fn sleep<F: FarStore, K: Mark, R: Wait>(rt: &R, pool: &Pool<F, K>, seen: u64, sw
 
 /// After a look at the object of this number: tells the gate of one that left, and of a far store that failed, which is left alone for
 /// a while.
-fn heed_look<F: FarStore, K: Mark, R: Wait, G: Gate>(
+fn heed_look<F: FarStore, K: TableName, R: Wait, G: Gate>(
     rt: &R,
     gate: &G,
     pool: &Pool<F, K>,
@@ -143,14 +143,14 @@ fn heed_look<F: FarStore, K: Mark, R: Wait, G: Gate>(
 
 /// What the mover's thread takes, as one reference.
 #[derive(Drop)]
-struct Tools<'a, R: Wait, G: Gate, F: FarStore, K: Mark> {
+struct Tools<'a, R: Wait, G: Gate, F: FarStore, K: TableName> {
     rt: &'a R,
     gate: &'a G,
     pool: &'a Pool<F, K>,
     sweep: bool,
 }
 
-fn serve_moves<R: Wait, G: Gate, F: FarStore, K: Mark>(
+fn serve_moves<R: Wait, G: Gate, F: FarStore, K: TableName>(
     tools: &Tools<R, G, F, K>,
     served: &mut Mover<F, K>,
 ) {
@@ -160,7 +160,7 @@ fn serve_moves<R: Wait, G: Gate, F: FarStore, K: Mark>(
 /// Runs so many workers until the gate ends them, and tells how many threads were made.
 pub fn run_workers<
     F: FarStore + Send + Sync,
-    K: Mark + Send + Sync,
+    K: TableName + Send + Sync,
     R: Threads + Wait + Sync,
     G: Gate + Sync,
 >(rt: &R, gate: &G, pool: &Pool<F, K>, workers: usize) -> usize
@@ -180,7 +180,7 @@ where
 
 fn run_tools<
     F: FarStore + Send + Sync,
-    K: Mark + Send + Sync,
+    K: TableName + Send + Sync,
     R: Threads + Wait + Sync,
     G: Gate + Sync,
 >(tools: &Tools<R, G, F, K>, served: &mut Mover<F, K>, workers: usize) -> usize
@@ -204,7 +204,7 @@ where
 /// Runs so many workers and the mover until the gate ends them, and tells how many threads were made.
 pub fn run_all<
     F: FarStore + Send + Sync,
-    K: Mark + Send + Sync,
+    K: TableName + Send + Sync,
     R: Threads + Wait + Sync,
     G: Gate + Sync,
 >(

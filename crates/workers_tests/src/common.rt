@@ -9,7 +9,7 @@ use std::sync::atomic::{AtomicBool, AtomicU64, Ordering};
 use std::test::Fail;
 use std::thread::{self, Threads, yield_now};
 use test_devices::code;
-use workers::{Gate, Mark, Pool, work};
+use workers::{Gate, Pool, TableName, work};
 
 pub const EXIT: u64 = 0x9500_0000_0000_0000;
 
@@ -37,7 +37,7 @@ pub fn program(alloc: Global, slots: &[u64]) -> Result<Program, Fail> {
 }
 
 /// Whether the machine of this number goes on.
-pub fn goes<F: FarStore, K: Mark, R: Wait>(rt: &R, pool: &Pool<F, K>, number: usize) -> bool {
+pub fn goes<F: FarStore, K: TableName, R: Wait>(rt: &R, pool: &Pool<F, K>, number: usize) -> bool {
     match pool.cell(number) {
         Some(cell) => cell.lock(rt).is_going(),
         None => false,
@@ -45,7 +45,7 @@ pub fn goes<F: FarStore, K: Mark, R: Wait>(rt: &R, pool: &Pool<F, K>, number: us
 }
 
 /// What fuel machine 1 has.
-pub fn fuel<F: FarStore, K: Mark, R: Wait>(
+pub fn fuel<F: FarStore, K: TableName, R: Wait>(
     rt: &R,
     alloc: Global,
     pool: &Pool<F, K>,
@@ -76,7 +76,11 @@ pub fn waits_for(flag: &AtomicBool) -> bool {
 }
 
 /// Whether neither machine 1 nor machine 2 goes on, after so many looks at most.
-fn waits_for_ends<F: FarStore, K: Mark, R: Wait>(rt: &R, pool: &Pool<F, K>, looks: u64) -> bool {
+fn waits_for_ends<F: FarStore, K: TableName, R: Wait>(
+    rt: &R,
+    pool: &Pool<F, K>,
+    looks: u64,
+) -> bool {
     for _ in 0..looks {
         if !goes(rt, pool, 1) && !goes(rt, pool, 2) {
             return true;
@@ -89,7 +93,7 @@ fn waits_for_ends<F: FarStore, K: Mark, R: Wait>(rt: &R, pool: &Pool<F, K>, look
 /// A gate, and what is done while workers run under it.
 pub trait Driven: Gate {
     /// Waits until it has seen what it is for, and says whether it has.
-    fn is_seen<F: FarStore, K: Mark, R: Wait>(&self, rt: &R, pool: &Pool<F, K>) -> bool;
+    fn is_seen<F: FarStore, K: TableName, R: Wait>(&self, rt: &R, pool: &Pool<F, K>) -> bool;
 
     /// Has the workers end.
     fn end(&self);
@@ -99,7 +103,7 @@ pub trait Driven: Gate {
 pub fn run_driven<F, K, R, G>(rt: &R, gate: &G, pool: &Pool<F, K>, workers: usize) -> (usize, bool)
 where
     F: FarStore + Send + Sync,
-    K: Mark + Send + Sync,
+    K: TableName + Send + Sync,
     R: Threads + Wait + Sync,
     G: Driven + Sync,
     F::Parcel: Send,
@@ -174,7 +178,7 @@ impl Gate for Holds {
 
 impl Driven for Holds {
     /// Looks at machine 1 when a worker is held at its first instruction, and waits for both machines' ends.
-    fn is_seen<F: FarStore, K: Mark, R: Wait>(&self, rt: &R, pool: &Pool<F, K>) -> bool {
+    fn is_seen<F: FarStore, K: TableName, R: Wait>(&self, rt: &R, pool: &Pool<F, K>) -> bool {
         waits_for(&self.first);
         goes(rt, pool, 1);
         self.looked.store(true, Ordering::SeqCst);
@@ -243,7 +247,7 @@ impl Gate for Crowd {
 
 impl Driven for Crowd {
     /// Waits for both machines' ends.
-    fn is_seen<F: FarStore, K: Mark, R: Wait>(&self, rt: &R, pool: &Pool<F, K>) -> bool {
+    fn is_seen<F: FarStore, K: TableName, R: Wait>(&self, rt: &R, pool: &Pool<F, K>) -> bool {
         waits_for_ends(rt, pool, 100 * LOOKS)
     }
 

@@ -4,7 +4,7 @@ ghost use Rattle.shared_objects.specs.Kinds.{dealer};
 ghost use Rattle.shared_objects.specs.Opened.{AreFresh, seated};
 ghost use Rattle.shared_objects.specs.Tables.{IsActorOf, IsMoverOf};
 ghost use Rattle.workers.specs.Cells.{IsTableOf};
-ghost use Rattle.workers.specs.Marks.{each_lent};
+ghost use Rattle.workers.specs.TableNames.{each_lent};
 ghost use Rattle.workers.specs.Pools.{machines_of};
 
 use crate::common::program;
@@ -22,7 +22,7 @@ use std::sync::Wait;
 use std::test::Fail;
 use std::thread::Threads;
 use test_devices::objects;
-use workers::{Mark, Pool};
+use workers::{Pool, TableName};
 
 /// A machine at the start of its code.
 #[derive(Clone, Copy, Drop)]
@@ -63,7 +63,7 @@ pub enum Left {
 }
 
 /// What the course leaves.
-fn left_by<K: Mark + Send + Sync, R: Threads + Wait + Sync>(
+fn left_by<K: TableName + Send + Sync, R: Threads + Wait + Sync>(
     rt: &R,
     alloc: Global,
     pool: &Pool<OwnStore, K>,
@@ -87,7 +87,7 @@ fn left_by<K: Mark + Send + Sync, R: Threads + Wait + Sync>(
 }
 
 /// What the course leaves of a pool of these machines.
-fn left_over<K: Mark + Send + Sync, R: Threads + Wait + Sync>(
+fn left_over<K: TableName + Send + Sync, R: Threads + Wait + Sync>(
     rt: &R,
     alloc: Global,
     shared: Shared<OwnStore>,

@@ -14,10 +14,10 @@ use std::sync::Wait;
 use std::sync::atomic::{AtomicBool, AtomicU64, Ordering};
 use std::test::Fail;
 use std::thread::Threads;
-use workers::{Gate, Mark, Pool, run_workers, work};
+use workers::{Gate, Pool, TableName, run_workers, work};
 
 /// Ships a machine into cell 3, and steps it.
-fn ship_third<F: FarStore, K: Mark, R: Wait>(
+fn ship_third<F: FarStore, K: TableName, R: Wait>(
     rt: &R,
     pool: &Pool<F, K>,
     program: Program,
@@ -49,7 +49,7 @@ pub struct LeftByTwo {
 }
 
 /// Two workers under a gate that holds them until they have met.
-pub fn two<K: Mark + Send + Sync, R: Threads + Wait + Sync>(
+pub fn two<K: TableName + Send + Sync, R: Threads + Wait + Sync>(
     rt: &R,
     alloc: Global,
     pool: &Pool<OwnStore, K>,
@@ -105,7 +105,7 @@ pub struct LeftByFour {
 }
 
 /// Four workers.
-pub fn four<K: Mark + Send + Sync, R: Threads + Wait + Sync>(
+pub fn four<K: TableName + Send + Sync, R: Threads + Wait + Sync>(
     rt: &R,
     pool: &Pool<OwnStore, K>,
 ) -> LeftByFour {
@@ -180,7 +180,7 @@ pub struct Heard {
 }
 
 /// Two workers that tell their numbers.
-pub fn numbers<K: Mark + Send + Sync, R: Threads + Wait + Sync>(
+pub fn numbers<K: TableName + Send + Sync, R: Threads + Wait + Sync>(
     rt: &R,
     pool: &Pool<OwnStore, K>,
 ) -> Heard {
@@ -221,7 +221,7 @@ fn each_worker_has_its_number(rt: HostRuntime) -> Result<(), Fail> {
 
 /// Looks at the fuel of machine 1 before and after each instruction, and lets a worker have so many turns.
 #[derive(Drop)]
-struct Looks<'a, R: Wait, F: FarStore, K: Mark> {
+struct Looks<'a, R: Wait, F: FarStore, K: TableName> {
     rt: &'a R,
     alloc: Global,
     pool: &'a Pool<F, K>,
@@ -230,14 +230,14 @@ struct Looks<'a, R: Wait, F: FarStore, K: Mark> {
     after: AtomicU64,
 }
 
-impl<'a, R: Wait, F: FarStore, K: Mark> Looks<'a, R, F, K> {
+impl<'a, R: Wait, F: FarStore, K: TableName> Looks<'a, R, F, K> {
     /// The fuel of machine 1, or none.
     fn fuel(&self) -> u64 {
         fuel(self.rt, self.alloc, self.pool).unwrap_or(0)
     }
 }
 
-impl<'a, R: Wait, F: FarStore, K: Mark> Gate for Looks<'a, R, F, K> {
+impl<'a, R: Wait, F: FarStore, K: TableName> Gate for Looks<'a, R, F, K> {
     fn before(&self, _worker: usize, _machine: usize) {
         self.before.store(self.fuel(), Ordering::SeqCst);
     }
@@ -252,7 +252,7 @@ impl<'a, R: Wait, F: FarStore, K: Mark> Gate for Looks<'a, R, F, K> {
 }
 
 /// One turn of a worker under a gate that looks: what it sees before its instruction, and after it.
-pub fn looks_at_fuel<K: Mark, R: Wait>(
+pub fn looks_at_fuel<K: TableName, R: Wait>(
     rt: &R,
     alloc: Global,
     pool: &Pool<OwnStore, K>,

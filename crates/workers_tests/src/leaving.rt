@@ -10,10 +10,10 @@ use machine::Stop;
 use shared_objects::{Leave, MoverSeat};
 use std::sync::Wait;
 use std::test::Fail;
-use workers::{Mark, Pool};
+use workers::{Pool, TableName};
 
 /// What a step of machine 1 is answered, and whether object 1 may leave then. If so, it comes home as it was.
-fn step_and_leave<F: FarStore, K: Mark, R: Wait>(
+fn step_and_leave<F: FarStore, K: TableName, R: Wait>(
     rt: &R,
     pool: &Pool<F, K>,
     mover: &mut MoverSeat,
@@ -33,7 +33,7 @@ fn step_and_leave<F: FarStore, K: Mark, R: Wait>(
 }
 
 /// What comes of each of four steps.
-pub fn steps<K: Mark, R: Wait>(
+pub fn steps<K: TableName, R: Wait>(
     rt: &R,
     pool: &Pool<OwnStore, K>,
     mut mover: MoverSeat,

@@ -16,7 +16,7 @@ use std::sync::atomic::Ordering;
 use std::test::Fail;
 use std::thread;
 use std::thread::Threads;
-use workers::{Direction, Mark, Moved, Mover, Place, Pool, run_all};
+use workers::{Direction, Moved, Mover, Place, Pool, TableName, run_all};
 
 /// How often each machine adds to each object.
 const TIMES: u64 = 500;
@@ -64,7 +64,7 @@ const fn adding(first: u64, second: u64) -> Code {
 }
 
 /// Asks for both objects to leave, again and again, until both machines came to their ends.
-fn leave_until_ended<F: FarStore, K: Mark, R: Wait>(rt: &R, pool: &Pool<F, K>) -> bool {
+fn leave_until_ended<F: FarStore, K: TableName, R: Wait>(rt: &R, pool: &Pool<F, K>) -> bool {
     for _ in 0..4 * LOOKS {
         if !goes(rt, pool, 1) && !goes(rt, pool, 2) {
             return true;
@@ -76,7 +76,7 @@ fn leave_until_ended<F: FarStore, K: Mark, R: Wait>(rt: &R, pool: &Pool<F, K>) -
     false
 }
 
-fn step<F: FarStore, K: Mark, R: Wait>(
+fn step<F: FarStore, K: TableName, R: Wait>(
     rt: &R,
     pool: &Pool<F, K>,
     number: usize,
@@ -86,7 +86,7 @@ fn step<F: FarStore, K: Mark, R: Wait>(
 }
 
 /// Whether machine 3 waits for object 1. Else it reads it, and closes its scope.
-fn is_away<F: FarStore, K: Mark, R: Wait>(rt: &R, pool: &Pool<F, K>) -> bool {
+fn is_away<F: FarStore, K: TableName, R: Wait>(rt: &R, pool: &Pool<F, K>) -> bool {
     if let Some(StepReply::Waiting(_)) = step(rt, pool, 3) {
         return true;
     }
@@ -96,7 +96,7 @@ fn is_away<F: FarStore, K: Mark, R: Wait>(rt: &R, pool: &Pool<F, K>) -> bool {
 }
 
 /// Ships machine 3, and asks for object 1 to leave, again and again, until that machine waits for it.
-fn leave_until_away<F: FarStore, K: Mark, R: Wait>(
+fn leave_until_away<F: FarStore, K: TableName, R: Wait>(
     rt: &R,
     pool: &Pool<F, K>,
     program: Program,
@@ -121,7 +121,7 @@ fn leave_until_away<F: FarStore, K: Mark, R: Wait>(
 }
 
 /// Has objects leave, and ends workers and mover then.
-fn drive<F: FarStore, K: Mark, R: Wait>(
+fn drive<F: FarStore, K: TableName, R: Wait>(
     rt: &R,
     gate: &Crowd,
     pool: &Pool<F, K>,
@@ -135,7 +135,7 @@ fn drive<F: FarStore, K: Mark, R: Wait>(
 }
 
 /// Workers and mover on threads of their own, beside the one that has objects leave.
-fn run_moves<K: Mark + Send + Sync, R: Threads + Wait + Sync>(
+fn run_moves<K: TableName + Send + Sync, R: Threads + Wait + Sync>(
     rt: &R,
     gate: &Crowd,
     pool: &Pool<OwnStore, K>,
@@ -152,7 +152,7 @@ fn run_moves<K: Mark + Send + Sync, R: Threads + Wait + Sync>(
 }
 
 /// Whether an object is far, now that it is asked to leave.
-fn goes_away<F: FarStore, K: Mark>(
+fn goes_away<F: FarStore, K: TableName>(
     pool: &Pool<F, K>,
     served: &mut Mover<F, K>,
     number: u32,
@@ -171,7 +171,7 @@ fn sum_of<F: FarStore>(store: &mut F, parcels: &[Option<F::Parcel>], number: usi
 }
 
 /// Which numbers the far store has of both objects.
-fn sums_of<K: Mark>(served: Mover<OwnStore, K>) -> [Option<u64>; 2] {
+fn sums_of<K: TableName>(served: Mover<OwnStore, K>) -> [Option<u64>; 2] {
     let (_seat, mut store, parcels) = served.into_parts();
     let first = sum_of(&mut store, parcels.as_slice(), 1);
     let second = sum_of(&mut store, parcels.as_slice(), 2);
@@ -179,7 +179,7 @@ fn sums_of<K: Mark>(served: Mover<OwnStore, K>) -> [Option<u64>; 2] {
 }
 
 /// Both objects leave, and then workers and mover run.
-pub fn moves<K: Mark + Send + Sync, R: Threads + Wait + Sync>(
+pub fn moves<K: TableName + Send + Sync, R: Threads + Wait + Sync>(
     rt: &R,
     alloc: Global,
     pool: &Pool<OwnStore, K>,

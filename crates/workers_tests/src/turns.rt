@@ -13,7 +13,7 @@ use std::sync::Wait;
 use std::sync::atomic::{AtomicBool, AtomicU64, Ordering};
 use std::test::Fail;
 use std::thread::Threads;
-use workers::{Direction, Gate, Mark, Pool, work};
+use workers::{Direction, Gate, Pool, TableName, work};
 
 /// Lets a worker have so many turns, but doesn't let it sleep, and counts how often it comes to an instruction of machine 1, and of
 /// another.
@@ -111,7 +111,7 @@ fn point_of(shown: ShowReply) -> Option<Point> {
 }
 
 /// Where a machine is.
-fn point<F: FarStore, K: Mark, R: Wait>(
+fn point<F: FarStore, K: TableName, R: Wait>(
     rt: &R,
     alloc: Global,
     pool: &Pool<F, K>,
@@ -123,7 +123,12 @@ fn point<F: FarStore, K: Mark, R: Wait>(
 }
 
 /// Queues a machine, which is resumed before, if so asked.
-fn queue<F: FarStore, K: Mark, R: Wait>(rt: &R, pool: &Pool<F, K>, number: usize, resumed: bool) {
+fn queue<F: FarStore, K: TableName, R: Wait>(
+    rt: &R,
+    pool: &Pool<F, K>,
+    number: usize,
+    resumed: bool,
+) {
     let Some(cell) = pool.cell(number) else {
         return;
     };
@@ -134,13 +139,13 @@ fn queue<F: FarStore, K: Mark, R: Wait>(rt: &R, pool: &Pool<F, K>, number: usize
     pool.queue(rt, &mut locked);
 }
 
-fn queue_both<F: FarStore, K: Mark, R: Wait>(rt: &R, pool: &Pool<F, K>, resumed: bool) {
+fn queue_both<F: FarStore, K: TableName, R: Wait>(rt: &R, pool: &Pool<F, K>, resumed: bool) {
     queue(rt, pool, 1, resumed);
     queue(rt, pool, 2, resumed);
 }
 
 /// So many turns of a worker.
-fn have_turns<F: FarStore, K: Mark, R: Wait>(
+fn have_turns<F: FarStore, K: TableName, R: Wait>(
     rt: &R,
     alloc: Global,
     pool: &Pool<F, K>,
@@ -171,7 +176,7 @@ fn have_turns<F: FarStore, K: Mark, R: Wait>(
 }
 
 /// What is left after the turns, and after those that follow, if any.
-fn left_by<F: FarStore, K: Mark, R: Wait>(
+fn left_by<F: FarStore, K: TableName, R: Wait>(
     rt: &R,
     alloc: Global,
     pool: &Pool<F, K>,
@@ -202,7 +207,7 @@ fn send_away(table: &SharedTable, mut mover: MoverSeat, away: bool)
 }
 
 /// What a worker leaves of two machines over two objects.
-pub fn turned<K: Mark, R: Wait>(
+pub fn turned<K: TableName, R: Wait>(
     rt: &R,
     alloc: Global,
     pool: &Pool<OwnStore, K>,

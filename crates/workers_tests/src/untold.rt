@@ -11,7 +11,7 @@ use std::sync::Wait;
 use std::sync::atomic::{AtomicBool, Ordering};
 use std::test::Fail;
 use std::thread::Threads;
-use workers::{Gate, Mark, Pool};
+use workers::{Gate, Pool, TableName};
 
 /// More than a worker uses up, and so many whole turns.
 const FUEL: u64 = 64 << 50;
@@ -38,7 +38,7 @@ impl Gate for Untold {
 }
 
 impl Driven for Untold {
-    fn is_seen<F: FarStore, K: Mark, R: Wait>(&self, rt: &R, pool: &Pool<F, K>) -> bool {
+    fn is_seen<F: FarStore, K: TableName, R: Wait>(&self, rt: &R, pool: &Pool<F, K>) -> bool {
         if self.waits {
             is_found_waiting(rt, self.alloc, pool)
         } else {
@@ -52,7 +52,7 @@ impl Driven for Untold {
 }
 
 /// Whether machine 1 is found between two turns, after so many looks at most.
-fn is_found_between<F: FarStore, K: Mark, R: Wait>(
+fn is_found_between<F: FarStore, K: TableName, R: Wait>(
     rt: &R,
     alloc: Global,
     pool: &Pool<F, K>,
@@ -67,7 +67,7 @@ fn is_found_between<F: FarStore, K: Mark, R: Wait>(
 }
 
 /// Whether machine 1 is found with all its fuel, again and again.
-fn is_found_waiting<F: FarStore, K: Mark, R: Wait>(
+fn is_found_waiting<F: FarStore, K: TableName, R: Wait>(
     rt: &R,
     alloc: Global,
     pool: &Pool<F, K>,
@@ -82,7 +82,7 @@ fn is_found_waiting<F: FarStore, K: Mark, R: Wait>(
 }
 
 /// Whether machine 1 is found as it should be beside a worker that isn't told of instructions.
-fn is_found<K: Mark + Send + Sync, R: Threads + Wait + Sync>(
+fn is_found<K: TableName + Send + Sync, R: Threads + Wait + Sync>(
     rt: &R,
     alloc: Global,
     pool: &Pool<OwnStore, K>,
@@ -97,7 +97,7 @@ fn is_found<K: Mark + Send + Sync, R: Threads + Wait + Sync>(
 }
 
 /// Whether machine 1 is found between two turns.
-pub fn beside<K: Mark + Send + Sync, R: Threads + Wait + Sync>(
+pub fn beside<K: TableName + Send + Sync, R: Threads + Wait + Sync>(
     rt: &R,
     alloc: Global,
     pool: &Pool<OwnStore, K>,
@@ -106,7 +106,7 @@ pub fn beside<K: Mark + Send + Sync, R: Threads + Wait + Sync>(
 }
 
 /// Whether machine 1 is found that waits for object 1, which is on its way.
-pub fn beside_waiting<K: Mark + Send + Sync, R: Threads + Wait + Sync>(
+pub fn beside_waiting<K: TableName + Send + Sync, R: Threads + Wait + Sync>(
     rt: &R,
     alloc: Global,
     pool: &Pool<OwnStore, K>,

@@ -15,7 +15,7 @@ pub(crate) type Added = Result<(), AllocError>;
 
 /// A field of a slot beside the opcode (RFC 9669, section 3.1).
 #[derive(Clone, Copy, Drop)]
-enum Place {
+enum FieldPlace {
     Dst,
     Src,
     Offset,
@@ -23,63 +23,63 @@ enum Place {
 }
 
 /// The field's name.
-fn place_name(place: Place) -> &'static [u8]
+fn place_name(place: FieldPlace) -> &'static [u8]
     ensures { result.now ≡ place_name place }
 {
     match place {
-        Place::Dst => b"dst",
-        Place::Src => b"src",
-        Place::Offset => b"offset",
-        Place::Imm => b"imm",
+        FieldPlace::Dst => b"dst",
+        FieldPlace::Src => b"src",
+        FieldPlace::Offset => b"offset",
+        FieldPlace::Imm => b"imm",
     }
 }
 
 /// The number that a slot holds there.
-fn number_in(place: Place, f: Slot) -> u32
+fn number_in(place: FieldPlace, f: Slot) -> u32
     ensures { result ≡ number_in place f }
 {
     match place {
-        Place::Dst => u32::from(f.dst),
-        Place::Src => u32::from(f.src),
-        Place::Offset => u32::from(f.offset),
-        Place::Imm => f.imm,
+        FieldPlace::Dst => u32::from(f.dst),
+        FieldPlace::Src => u32::from(f.src),
+        FieldPlace::Offset => u32::from(f.offset),
+        FieldPlace::Imm => f.imm,
     }
 }
 
 /// The same as it is shown: offset and imm are signed.
-fn shown_in(place: Place, f: Slot) -> i32
+fn shown_in(place: FieldPlace, f: Slot) -> i32
     ensures { result ≡ shown_in place f }
 {
     match place {
-        Place::Dst => i32::from(f.dst),
-        Place::Src => i32::from(f.src),
-        Place::Offset => i32::from(f.offset.cast_signed()),
-        Place::Imm => f.imm.cast_signed(),
+        FieldPlace::Dst => i32::from(f.dst),
+        FieldPlace::Src => i32::from(f.src),
+        FieldPlace::Offset => i32::from(f.offset.cast_signed()),
+        FieldPlace::Imm => f.imm.cast_signed(),
     }
 }
 
 /// What an instruction has there.
-fn field_of(place: Place, instr: Instr) -> Field
+fn field_of(place: FieldPlace, instr: Instr) -> Field
     ensures { result ≡ field_of place instr }
 {
     let layout = layout_of(instr);
     match place {
-        Place::Dst => layout.dst,
-        Place::Src => layout.src,
-        Place::Offset => layout.offset,
-        Place::Imm => layout.imm,
+        FieldPlace::Dst => layout.dst,
+        FieldPlace::Src => layout.src,
+        FieldPlace::Offset => layout.offset,
+        FieldPlace::Imm => layout.imm,
     }
 }
 
 /// Whether the instruction's row may hold what the slot holds there.
-fn fits_in(place: Place, f: Slot, instr: Instr) -> bool
+fn fits_in(place: FieldPlace, f: Slot, instr: Instr) -> bool
     ensures { result ≡ fits_in place f instr }
 {
     may_hold_in(field_of(place, instr), number_in(place, f))
 }
 
 /// Whether some of these rows may.
-fn some_fits_in(place: Place, f: Slot, rows: &[Instr]) -> bool
+fn some_fits_in(place: FieldPlace, f: Slot, rows: &[Instr]) -> bool
     ensures { result ≡ some_fits_in place f rows.now }
 {
     for row in rows {
@@ -91,7 +91,7 @@ fn some_fits_in(place: Place, f: Slot, rows: &[Instr]) -> bool
 }
 
 /// Whether the row may hold it, or none may.
-fn is_like(place: Place, f: Slot, rows: &[Instr], row: Instr) -> bool
+fn is_like(place: FieldPlace, f: Slot, rows: &[Instr], row: Instr) -> bool
     ensures { result ≡ is_like place f rows.now row }
 {
     !some_fits_in(place, f, rows) || fits_in(place, f, row)
@@ -102,10 +102,10 @@ fn is_like(place: Place, f: Slot, rows: &[Instr], row: Instr) -> bool
 fn is_meant(f: Slot, rows: &[Instr], row: Instr) -> bool
     ensures { result ≡ is_meant f rows.now row }
 {
-    is_like(Place::Dst, f, rows, row)
-        && is_like(Place::Src, f, rows, row)
-        && is_like(Place::Offset, f, rows, row)
-        && is_like(Place::Imm, f, rows, row)
+    is_like(FieldPlace::Dst, f, rows, row)
+        && is_like(FieldPlace::Src, f, rows, row)
+        && is_like(FieldPlace::Offset, f, rows, row)
+        && is_like(FieldPlace::Imm, f, rows, row)
 }
 
 /// The first row that is meant.
@@ -147,7 +147,7 @@ fn put_allowed(out: &mut Vec<u8>, field: Field) -> Added
 }
 
 /// Adds the same, and in which instruction.
-fn put_choice(out: &mut Vec<u8>, place: Place, instr: Instr) -> Added
+fn put_choice(out: &mut Vec<u8>, place: FieldPlace, instr: Instr) -> Added
     ensures { OnOk result (out.new.items ≡ out.old.items ++ choice_text place instr) }
 {
     put_allowed(out, field_of(place, instr))?;
@@ -166,7 +166,7 @@ fn differs(first: Field, other: Field) -> bool
 }
 
 /// Adds what a field may hold in another row, where that differs from the first one.
-fn put_other(out: &mut Vec<u8>, place: Place, first: Instr, row: Instr) -> Added
+fn put_other(out: &mut Vec<u8>, place: FieldPlace, first: Instr, row: Instr) -> Added
     ensures { OnOk result (out.new.items ≡ out.old.items ++ other_text place first row) }
 {
     if !differs(field_of(place, first), field_of(place, row)) {
@@ -177,7 +177,7 @@ fn put_other(out: &mut Vec<u8>, place: Place, first: Instr, row: Instr) -> Added
 }
 
 /// Adds the same of each row.
-fn put_others(out: &mut Vec<u8>, place: Place, first: Instr, rows: &[Instr]) -> Added
+fn put_others(out: &mut Vec<u8>, place: FieldPlace, first: Instr, rows: &[Instr]) -> Added
     ensures { OnOk result (out.new.items ≡ out.old.items ++ others_text place first rows.now) }
 {
     for row in rows {
@@ -187,7 +187,7 @@ fn put_others(out: &mut Vec<u8>, place: Place, first: Instr, rows: &[Instr]) -> 
 }
 
 /// Adds what a field may hold in each of these rows, the first of which is meant.
-fn put_choices(out: &mut Vec<u8>, place: Place, first: Instr, rows: &[Instr]) -> Added
+fn put_choices(out: &mut Vec<u8>, place: FieldPlace, first: Instr, rows: &[Instr]) -> Added
     ensures { OnOk result (out.new.items ≡ out.old.items ++ choices_text place first rows.now) }
 {
     put_choice(out, place, first)?;
@@ -195,7 +195,7 @@ fn put_choices(out: &mut Vec<u8>, place: Place, first: Instr, rows: &[Instr]) ->
 }
 
 /// Adds what a slot holds in a field.
-fn put_held(out: &mut Vec<u8>, place: Place, f: Slot) -> Added
+fn put_held(out: &mut Vec<u8>, place: FieldPlace, f: Slot) -> Added
     ensures { OnOk result (out.new.items ≡ out.old.items ++ held_text place f) }
 {
     out.extend_from_slice(place_name(place))?;
@@ -204,7 +204,7 @@ fn put_held(out: &mut Vec<u8>, place: Place, f: Slot) -> Added
 }
 
 /// Adds what is said of a field that is wrong.
-fn put_wrong(out: &mut Vec<u8>, place: Place, f: Slot, first: Instr, rows: &[Instr]) -> Added
+fn put_wrong(out: &mut Vec<u8>, place: FieldPlace, f: Slot, first: Instr, rows: &[Instr]) -> Added
     ensures { OnOk result (out.new.items ≡ out.old.items ++ wrong_text place f first rows.now) }
 {
     put_held(out, place, f)?;
@@ -214,7 +214,7 @@ fn put_wrong(out: &mut Vec<u8>, place: Place, f: Slot, first: Instr, rows: &[Ins
 }
 
 /// Adds what is said of a field.
-fn put_field(out: &mut Vec<u8>, place: Place, f: Slot, first: Instr, rows: &[Instr]) -> Added
+fn put_field(out: &mut Vec<u8>, place: FieldPlace, f: Slot, first: Instr, rows: &[Instr]) -> Added
     ensures { OnOk result (out.new.items ≡ out.old.items ++ field_text place f first rows.now) }
 {
     if some_fits_in(place, f, rows) {
@@ -227,10 +227,10 @@ fn put_field(out: &mut Vec<u8>, place: Place, f: Slot, first: Instr, rows: &[Ins
 fn put_fields(out: &mut Vec<u8>, f: Slot, first: Instr, rows: &[Instr]) -> Added
     ensures { OnOk result (out.new.items ≡ out.old.items ++ fields_text f first rows.now) }
 {
-    put_field(out, Place::Dst, f, first, rows)?;
-    put_field(out, Place::Src, f, first, rows)?;
-    put_field(out, Place::Offset, f, first, rows)?;
-    put_field(out, Place::Imm, f, first, rows)
+    put_field(out, FieldPlace::Dst, f, first, rows)?;
+    put_field(out, FieldPlace::Src, f, first, rows)?;
+    put_field(out, FieldPlace::Offset, f, first, rows)?;
+    put_field(out, FieldPlace::Imm, f, first, rows)
 }
 
 /// Adds the same where an instruction is meant, otherwise a general rule.

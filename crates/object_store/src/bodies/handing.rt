@@ -9,7 +9,7 @@ ghost use Rattle.far_store.specs.Calls.{Calls, parcel_of, AsksInVain};
 ghost use Rattle.places.specs.declared.places.Place.TheVariants as place;
 ghost use Rattle.far_store.specs.declared.fault.StoreFault.TheVariants.{Damaged};
 
-use super::{Body, forget_kept, leave_far, reach_far, reach_here};
+use super::{ObjectBody, forget_kept, leave_far, reach_far, reach_here};
 use far_store::{FarStore, HandsOut, StoreFault};
 use std::alloc::Global;
 
@@ -43,7 +43,7 @@ fn take_in<F: HandsOut>(
     store.take_back(parcel, bytes)
 }
 
-impl<F: FarStore> Body<F> {
+impl<F: FarStore> ObjectBody<F> {
     /// The parcel that stands for its bytes, where the far store alone has them.
     pub fn parcel(&self) -> Option<&F::Parcel>
         ensures some { IfSome result (λ p. F.bytes_in p.now ≡ self.now.bytes) }
@@ -69,7 +69,7 @@ impl<F: FarStore> Body<F> {
     }
 }
 
-impl<F: HandsOut> Body<F> {
+impl<F: HandsOut> ObjectBody<F> {
     /// Its bytes go to the caller, over these, which are as many. Where its parcel stands for them it stays.
     pub fn end_leave_into(&mut self, alloc: Global, store: &mut F, into: &mut [u8])
         requires leaving { self.old.place ≡ place.Leaving }

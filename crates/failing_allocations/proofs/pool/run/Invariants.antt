@@ -1,6 +1,6 @@
 use Rattle.std.proofs.Common.{length}
 use Rattle.shared_objects.specs.Tables.{table_opening}
-use Rattle.workers.specs.Marks.{each_lent}
+use Rattle.workers.specs.TableNames.{each_lent}
 use Rattle.workers.specs.Pools.{machines_of}
 use Rattle.failing_allocations.proofs.pool.run.Given as goal
 

@@ -1,5 +1,5 @@
 use Rattle.shared_objects.specs.Tables.{table_opening}
-use Rattle.workers.specs.Marks.{each_lent}
+use Rattle.workers.specs.TableNames.{each_lent}
 use Rattle.workers.specs.Pools.{machines_of}
 use Rattle.ship_service.specs.Opening.{seat_count}
 use Rattle.failing_allocations.proofs.service.run.Given as goal

@@ -7,7 +7,7 @@ use Rattle.ship_service.proofs.cells.ship.Goals as goal
 pub returns : goal.returns
 returns g c =
     let found = c.in-Ok.ensures.found in let same = sym c.deref_mut.ensures.value in let t = c.ship_lent-said.ensures in
-    let was = subst (IsCell g.K.Mark.opening g.K.Mark.starts (c.in-Ok.found.1 + 1)) same found.1 in
+    let was = subst (IsCell g.K.TableName.opening g.K.TableName.starts (c.in-Ok.found.1 + 1)) same found.1 in
     inr record {
       lesser = c.in-Ok.found.1;
       lent_before = c.fact-2.ensures;
@@ -16,7 +16,7 @@ returns g c =
       said = c.ship_lent-said.result;
       exists = found.0;
       before_is = was;
-      after_is = subst (IsCell g.K.Mark.opening g.K.Mark.starts (c.in-Ok.found.1 + 1)) c.deref.ensures (cell_now _ _ _ c.deref.result.now (ap (λ (x : CellState). x.number) c.deref.ensures ∙ (shipped_number _ _ _ _ _ t ∙ was.number_is)) c.fact-3.ensures.number c.fact-3.ensures.opening c.fact-3.ensures.stamped c.fact-3.ensures.fits);
+      after_is = subst (IsCell g.K.TableName.opening g.K.TableName.starts (c.in-Ok.found.1 + 1)) c.deref.ensures (cell_now _ _ _ c.deref.result.now (ap (λ (x : CellState). x.number) c.deref.ensures ∙ (shipped_number _ _ _ _ _ t ∙ was.number_is)) c.fact-3.ensures.number c.fact-3.ensures.opening c.fact-3.ensures.stamped c.fact-3.ensures.fits);
       empty = subst (λ (x : CellState). x.running ≡ None) same found.2;
       told_is = refl;
       ships = t;

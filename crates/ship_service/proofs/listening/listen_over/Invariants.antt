@@ -1,6 +1,6 @@
 use Rattle.shared_objects.specs.Tables.{table_opening}
 use Rattle.ship_service.specs.Opening.{seat_count}
-use Rattle.workers.specs.Marks.{each_lent}
+use Rattle.workers.specs.TableNames.{each_lent}
 use Rattle.workers.specs.Pools.{machines_of}
 use Rattle.ship_service.proofs.listening.listen_over.Given as goal
 

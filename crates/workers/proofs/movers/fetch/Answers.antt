@@ -3,7 +3,7 @@ use Rattle.memory.specs.Objects.{bytes_of}
 use Rattle.shared_objects.specs.Kinds.{placed, sent}
 use Rattle.shared_objects.specs.Rule.{place_of}
 use Rattle.shared_objects.specs.declared.view.View.{View}
-use Rattle.shared_objects.specs.declared.view.Place.TheVariants.{Here}
+use Rattle.shared_objects.specs.declared.view.Whereabouts.TheVariants.{Here}
 use Rattle.workers.proofs.Placing.{inside, kept_away, came, false_or}
 use Rattle.workers.proofs.movers.fetch.Goals as goal
 

@@ -2,7 +2,7 @@ use Rattle.std.proofs.Common.{◌≡◌, ◌∷◌, [], List, ℕ, length, None,
 use Rattle.far_store.specs.Calls.Call.{Put}
 use Rattle.shared_objects.specs.Kinds.{placed, sent}
 use Rattle.shared_objects.specs.Rule.{place_of}
-use Rattle.shared_objects.specs.declared.view.Place.TheVariants.{Here, Far}
+use Rattle.shared_objects.specs.declared.view.Whereabouts.TheVariants.{Here, Far}
 use Rattle.shared_objects.specs.declared.view.View.{View}
 use Rattle.workers.proofs.Placing.{inside, went, stayed}
 use Rattle.workers.proofs.movers.send.Goals as goal

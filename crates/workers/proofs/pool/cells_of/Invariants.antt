@@ -4,8 +4,8 @@ use Rattle.workers.specs.Pools.{AreSeats, machines_of}
 use Rattle.workers.proofs.pool.cells_of.Given as goal
 
 abbrev pub invariant-cells : goal.invariant-cells
-invariant-cells g l = AreSeats g.K.Mark.table g.K.Mark.opening (length l.cells.items + 1) (into_iter_items l.seats_left)
-    × (machines_of (into_iter_items l.machines_left) ≡ drop (length l.cells.items) g.K.Mark.starts)
+invariant-cells g l = AreSeats g.K.TableName.table g.K.TableName.opening (length l.cells.items + 1) (into_iter_items l.seats_left)
+    × (machines_of (into_iter_items l.machines_left) ≡ drop (length l.cells.items) g.K.TableName.starts)
     × (length l.cells.items + length (into_iter_items l.seats_left) ≡ length l.fn.seats.items)
 
 abbrev pub decreases-cells : goal.decreases-cells

@@ -1,4 +1,4 @@
-use Rattle.far_stream.specs.declared.frame.Kind.TheVariants.{Put, Get, Forget}
+use Rattle.far_stream.specs.declared.frame.FrameKind.TheVariants.{Put, Get, Forget}
 use Rattle.far_stream.proofs.Serving.{no_kind}
 use Rattle.far_stream.proofs.frame.Head.asks.Goals as goal
 

@@ -8,8 +8,8 @@ use Rattle.shared_objects.specs.Rule.{is_moving}
 use Rattle.shared_objects.specs.Kinds.{Sat, placed}
 use Rattle.shared_objects.specs.declared.body.Body.{Body}
 use Rattle.shared_objects.specs.declared.view.View.{View}
-use Rattle.shared_objects.specs.declared.view.Place.{Place}
-use Rattle.shared_objects.specs.declared.view.Place.TheVariants as places
+use Rattle.shared_objects.specs.declared.view.Whereabouts.{Whereabouts}
+use Rattle.shared_objects.specs.declared.view.Whereabouts.TheVariants as places
 use Rattle.shared_objects.specs.declared.seats.Phase.TheVariants as phases
 use Rattle.shared_objects.proofs.Logs.{object_home}
 use Rattle.shared_objects.proofs.MoverKeeps.{lifts_ok}
@@ -43,7 +43,7 @@ invariant_of-mover-2 c = let m = c.args.mover.now in let v : View = m.seat.me.0 
     let wide : n < length v.out = omega (arith, m.wide, ap length c.requires.mover.1) in
     let t = subst (λ k. (b : Body) × (◌≡◌ {A = Sat} c.compare_exchange-found.new.seat.me (placed k (places.Moving b.bytes.items) v, (k, b) ∷ m.seat.me.1)) × (length b.bytes.items ≡ length (bytes_of v.opening k))) (object_home n) (c.compare_exchange-found.ensures.2.0 c.if-found-old.false) in
     let x = c.exchange-bytes.ensures.3 in let r = c.turn.ensures.2 in
-    let p : Place = places.Moving t.0.bytes.items in
+    let p : Whereabouts = places.Moving t.0.bytes.items in
     let e : c.turn.new.self.me.0 ≡ placed n p v = ap (λ y. y.0) r ∙ ap (λ y. y.0) x ∙ ap (λ y. y.0) t.1 in
     let slots : numbers c.turn.new.self.me.1 ≡ numbers m.seat.me.1 ++ n ∷ [] = ap (λ y. numbers y.1) r ∙ ap (λ y. numbers (turned y.1)) x ∙ map-append (rest c.compare_exchange-found.new.seat.me.1) ((n, record { bytes = c.new.result }) ∷ [])
     ∙ ap (λ y. numbers (rest y.1) ++ n ∷ []) t.1 in

@@ -7,7 +7,7 @@ use Rattle.shared_objects.specs.Opening.{opening_bytes}
 use Rattle.shared_objects.specs.Rule.{place_of, bytes_taken, is_moving}
 use Rattle.shared_objects.specs.Kinds.{placed}
 use Rattle.shared_objects.specs.declared.view.View.{View}
-use Rattle.shared_objects.specs.declared.view.Place.TheVariants as places
+use Rattle.shared_objects.specs.declared.view.Whereabouts.TheVariants as places
 use Rattle.shared_objects.specs.declared.seats.Phase.TheVariants as phases
 use Rattle.shared_objects.proofs.Logs.{object_home}
 use Rattle.shared_objects.proofs.Keeps.{some_is}

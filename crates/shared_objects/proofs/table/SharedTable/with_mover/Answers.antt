@@ -7,7 +7,7 @@ use Rattle.shared_objects.specs.Kinds.{dealer}
 use Rattle.shared_objects.specs.Phases.{phase_of, Makes}
 use Rattle.shared_objects.specs.declared.body.Body.{Body}
 use Rattle.shared_objects.specs.declared.view.View.{View}
-use Rattle.shared_objects.specs.declared.view.Place.TheVariants as places
+use Rattle.shared_objects.specs.declared.view.Whereabouts.TheVariants as places
 use Rattle.shared_objects.proofs.Logs.{map_map}
 use Rattle.shared_objects.proofs.Keeps.{starts_ok, all_here}
 use Rattle.shared_objects.proofs.Slots.{numbers, all_in, zeros_at, zeros_long, none_on_way}

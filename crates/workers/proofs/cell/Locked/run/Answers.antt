@@ -6,11 +6,11 @@ use Rattle.workers.proofs.cell.Locked.run.Goals as goal
 
 pub invariant_of-self-2 : goal.invariant_of-self-2
 invariant_of-self-2 g c =
-    let old = c.self.invariant in let F = FitsCell g.K.Mark.opening g.K.Mark.starts c.self.inside.number (seat_state c.self.inside.seat) in
+    let old = c.self.invariant in let F = FitsCell g.K.TableName.opening g.K.TableName.starts c.self.inside.number (seat_state c.self.inside.seat) in
     let was : F (Some c.in_ok-running.running.now) = subst F (sym c.in_ok-running.ensures.value) old.2 in (
       (c.run.ensures.seat.0 ∙ c.requires.0, c.run.ensures.seat.1 ∙ c.requires.1),
       run_actor _ _ _ _ _ _ _ c.run.ensures.runs ∙ old.1,
-      run_replayed g.K.Mark.opening g.K.Mark.starts c.self.inside.number _ _ _ _ _ _ _ old.0.1 c.run.ensures.runs c.run.ensures.same was,
+      run_replayed g.K.TableName.opening g.K.TableName.starts c.self.inside.number _ _ _ _ _ _ _ old.0.1 c.run.ensures.runs c.run.ensures.same was,
     )
 
 pub returns-clause-run : goal.returns-clause-run

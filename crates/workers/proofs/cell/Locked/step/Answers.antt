@@ -6,11 +6,11 @@ use Rattle.workers.proofs.cell.Locked.step.Goals as goal
 
 pub invariant_of-self-2 : goal.invariant_of-self-2
 invariant_of-self-2 g c =
-    let old = c.self.invariant in let F = FitsCell g.K.Mark.opening g.K.Mark.starts c.self.inside.number (seat_state c.self.inside.seat) in
+    let old = c.self.invariant in let F = FitsCell g.K.TableName.opening g.K.TableName.starts c.self.inside.number (seat_state c.self.inside.seat) in
     let was : F (Some c.in_ok-running.running.now) = subst F (sym c.in_ok-running.ensures.value) old.2 in (
       (c.step.ensures.seat.0 ∙ c.requires.0, c.step.ensures.seat.1 ∙ c.requires.1),
       answer_actor c.args.way _ _ _ _ _ c.step.ensures.step ∙ old.1,
-      stays_replayed g.K.Mark.opening g.K.Mark.starts c.self.inside.number c.args.way _ _ _ _ _ old.0.1 c.step.ensures.step c.step.ensures.same was,
+      stays_replayed g.K.TableName.opening g.K.TableName.starts c.self.inside.number c.args.way _ _ _ _ _ old.0.1 c.step.ensures.step c.step.ensures.same was,
     )
 
 pub returns-clause-step : goal.returns-clause-step

@@ -7,7 +7,7 @@ use Rattle.places.specs.declared.places.Moved.TheVariants.{Done, Fault}
 use Rattle.shared_objects.specs.Kinds.{placed}
 use Rattle.shared_objects.specs.Phases.{IsObject, phase_of}
 use Rattle.shared_objects.specs.Rule.{place_of}
-use Rattle.shared_objects.specs.declared.view.Place.TheVariants.{Here, Far}
+use Rattle.shared_objects.specs.declared.view.Whereabouts.TheVariants.{Here, Far}
 use Rattle.shared_objects.specs.declared.view.View.{View}
 use Rattle.workers.specs.Moves.{MoverState, IsMoverView, KeepsParcels, LeavesFor, ReturnsFrom, AsksToLeave, AsksToReturn}
 use Rattle.workers.proofs.Placing.{inside, found, kept_here}
@@ -23,7 +23,7 @@ invariant_of-self-in-Ok g c =
     let m = c.self.inside in let v : View = m.seat.seat.me.0 in let n : ℕ = c.args.number in let inv = c.self.invariant in
     let o = subst (λ x. IsObject x n) (sym inv.0.1.0) c.requires.object in
     let e : c.fetch.new.seat.seat.me.0 ≡ placed n Here v = c.in-Ok.ensures.fetched.0 in (
-      (c.in-Ok.ensures.mover.0 ∙ c.requires.table.0.0, subst (λ (u : View). IsMoverView g.K.Mark.opening g.F.FarStore.RETURNS g.K.Mark.seats u) (sym e) inv.0.1),
+      (c.in-Ok.ensures.mover.0 ∙ c.requires.table.0.0, subst (λ (u : View). IsMoverView g.K.TableName.opening g.F.FarStore.RETURNS g.K.TableName.seats u) (sym e) inv.0.1),
       subst (λ (u : View). KeepsParcels u (map (parcel_bytes g.F.FarStore.bytes_in) (slice_set m.parcels.items n c.take.new.self))) (sym e)
           (subst (λ x. KeepsParcels (placed n Here v) (map (parcel_bytes g.F.FarStore.bytes_in) (slice_set m.parcels.items n x))) (sym c.take.ensures.after)
           (kept_here g.F.FarStore.bytes_in v n m.parcels.items (inside v n o m.seat.wide) m.seat.wide inv.1)),
@@ -35,7 +35,7 @@ invariant_of-self-in-Err g c =
     let e : c.fetch.new.seat.seat.me.0 ≡ v = c.in-Err.ensures.fetched.0 in
     let same : slice_set (slice_set m.parcels.items n c.take.new.self) n (Some c.in-Some.kept) ≡ m.parcels.items =
     set-set m.parcels.items n c.take.new.self (Some c.in-Some.kept) ∙ ap (slice_set m.parcels.items n) (c.in-Some.ensures.value ∙ c.index_mut.ensures.value) ∙ set-get_or m.parcels.items n c.index_mut.result.now in (
-      (c.in-Err.ensures.mover.0 ∙ c.requires.table.0.0, subst (λ (u : View). IsMoverView g.K.Mark.opening g.F.FarStore.RETURNS g.K.Mark.seats u) (sym e) inv.0.1),
+      (c.in-Err.ensures.mover.0 ∙ c.requires.table.0.0, subst (λ (u : View). IsMoverView g.K.TableName.opening g.F.FarStore.RETURNS g.K.TableName.seats u) (sym e) inv.0.1),
       subst (λ (u : View). KeepsParcels u (map (parcel_bytes g.F.FarStore.bytes_in) (slice_set (slice_set m.parcels.items n c.take.new.self) n (Some c.in-Some.kept)))) (sym e)
           (subst (λ l. KeepsParcels v (map (parcel_bytes g.F.FarStore.bytes_in) l)) (sym same) inv.1),
     )

@@ -7,7 +7,7 @@ use Rattle.places.specs.declared.places.Moved.TheVariants.{Done, Fault}
 use Rattle.shared_objects.specs.Kinds.{placed}
 use Rattle.shared_objects.specs.Phases.{IsObject, phase_of}
 use Rattle.shared_objects.specs.Rule.{place_of}
-use Rattle.shared_objects.specs.declared.view.Place.TheVariants.{Here, Far}
+use Rattle.shared_objects.specs.declared.view.Whereabouts.TheVariants.{Here, Far}
 use Rattle.shared_objects.specs.declared.view.View.{View}
 use Rattle.workers.specs.Moves.{MoverState, IsMoverView, KeepsParcels, LeavesFor, ReturnsFrom, AsksToLeave, AsksToReturn}
 use Rattle.workers.proofs.Placing.{inside, lacks, kept_far, now_here}
@@ -18,7 +18,7 @@ invariant_of-self g c =
     let m = c.self.inside in let v : View = m.seat.seat.me.0 in let n : ℕ = c.args.number in let inv = c.self.invariant in
     let o = subst (λ x. IsObject x n) (sym inv.0.1.0) c.requires.object in
     let f = c.in-Ok.ensures.sent in (
-      (c.in-Ok.ensures.mover.0 ∙ c.requires.table.0.0, subst (λ (u : View). IsMoverView g.K.Mark.opening g.F.FarStore.RETURNS g.K.Mark.seats u) (sym f.0) inv.0.1),
+      (c.in-Ok.ensures.mover.0 ∙ c.requires.table.0.0, subst (λ (u : View). IsMoverView g.K.TableName.opening g.F.FarStore.RETURNS g.K.TableName.seats u) (sym f.0) inv.0.1),
       subst (λ (u : View). KeepsParcels u (map (parcel_bytes g.F.FarStore.bytes_in) (slice_set m.parcels.items n (Some c.in-Ok.parcel)))) (sym f.0)
           (kept_far g.F.FarStore.bytes_in v n m.parcels.items (inside v n o m.seat.wide) m.seat.wide inv.1 c.in-Ok.parcel f.1),
     )

@@ -1,7 +1,7 @@
 use Rattle.std.proofs.Common.{ℕ, List, length, map, sym, ap, ◌∙◌, arith}
 use Rattle.std.proofs.lemmas.List.{length-map}
 use Rattle.far_store.specs.Stores.{parcel_bytes}
-use Rattle.shared_objects.specs.declared.view.Place.TheVariants.{Here}
+use Rattle.shared_objects.specs.declared.view.Whereabouts.TheVariants.{Here}
 use Rattle.shared_objects.specs.declared.view.View.{View}
 use Rattle.workers.proofs.Placing.{keeps_none}
 use Rattle.workers.proofs.movers.Mover.new.Goals as goal

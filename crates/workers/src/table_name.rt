@@ -2,7 +2,7 @@
 use std::marker::Brand;
 
 /// A name for one table, as a type: what carries it is of that table. A call picks it, once.
-pub trait Mark {
+pub trait TableName {
     ghost use Rattle.std.specs.Prelude.{Bool, List, ℕ};
     ghost use Rattle.atomic_table.specs.Seated.{TableId};
     ghost use Rattle.machine.specs.MachineState.{MachineState};
@@ -22,9 +22,9 @@ pub trait Mark {
     ghost lent: { ℕ → Bool };
 }
 
-impl Mark for Brand {
+impl TableName for Brand {
     ghost use Rattle.std.specs.Prelude.{[]};
-    ghost use Rattle.workers.specs.Marks.{no_table, each_lent};
+    ghost use Rattle.workers.specs.TableNames.{no_table, each_lent};
 
     ghost table = { no_table };
 
