@@ -2,9 +2,9 @@
 use Rattle.std.proofs.Common.{◌≡◌, ◌≢◌, ◌⊎◌, ℕ, arith}
 use Rattle.far_store.specs.declared.fault.StoreFault.{StoreFault}
 use Rattle.far_store.specs.declared.fault.StoreFault.TheVariants.{Damaged}
-use Rattle.places.specs.declared.places.Moved.{Moved}
-use Rattle.places.specs.declared.places.Moved.TheVariants as moved
-use Rattle.places.specs.declared.places.Place.TheVariants as place
+use Rattle.placement.specs.declared.places.Moved.{Moved}
+use Rattle.placement.specs.declared.places.Moved.TheVariants as moved
+use Rattle.placement.specs.declared.places.Place.TheVariants as place
 use Rattle.world.specs.Answers.{reply_to_move}
 use Rattle.world.specs.declared.replies.Reply.TheVariants as reply
 use Rattle.bpfagent_c.specs.Codes.{code_of_back, code_of_reply}

@@ -1,7 +1,7 @@
 -- One object more, of those that are listed.
 use Rattle.std.proofs.Common.{◌≡◌, ℕ, suc, ◌+◌, true, false, Bool, cond, List, [], ◌∷◌, ◌++◌, refl, sym, ap, subst, ◌∙◌, arith}
 use Rattle.std.proofs.lemmas.List.{append-nil}
-use Rattle.places.specs.declared.places.Place.{Place}
+use Rattle.placement.specs.declared.places.Place.{Place}
 use Rattle.object_store.specs.Stores.{StoreState}
 use Rattle.bpfagent_c.specs.Handing.{is_at, standing}
 

@@ -1,9 +1,9 @@
 -- Replies, places and stops as the numbers that the header names.
 use Rattle.std.specs.Prelude.{ℕ, zero, suc, Option, Some, None}
-use Rattle.places.specs.declared.places.Place.{Place}
-use Rattle.places.specs.declared.places.Place.TheVariants as place
-use Rattle.places.specs.declared.places.Moved.{Moved}
-use Rattle.places.specs.declared.places.Moved.TheVariants as moved
+use Rattle.placement.specs.declared.places.Place.{Place}
+use Rattle.placement.specs.declared.places.Place.TheVariants as place
+use Rattle.placement.specs.declared.places.Moved.{Moved}
+use Rattle.placement.specs.declared.places.Moved.TheVariants as moved
 use Rattle.far_store.specs.declared.fault.StoreFault.{StoreFault}
 use Rattle.far_store.specs.declared.fault.StoreFault.TheVariants.{Damaged}
 use Rattle.loader.specs.declared.loading.Why.{Why}

@@ -2,9 +2,9 @@
 use Rattle.std.specs.Prelude.{◌≡◌, ℕ, zero, suc, nat_lt, Bool, true, false, ◌&&◌, cond, List, [], ◌∷◌, ◌++◌, length, Option, None, Some}
 use Rattle.sha2.specs.Sha256.{sha256}
 use Rattle.memory.specs.Objects.{IsLive, bytes_of}
-use Rattle.places.specs.declared.places.Place.{Place}
-use Rattle.places.specs.declared.places.Place.TheVariants as place
-use Rattle.places.specs.declared.places.Moved.{Moved}
+use Rattle.placement.specs.declared.places.Place.{Place}
+use Rattle.placement.specs.declared.places.Place.TheVariants as place
+use Rattle.placement.specs.declared.places.Moved.{Moved}
 use Rattle.object_store.specs.Stores.{StoreState, StandsAt, place_of}
 use Rattle.object_store.specs.Handing.{FreesFar}
 use Rattle.world.specs.declared.replies.Reply.{Reply}

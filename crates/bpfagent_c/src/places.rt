@@ -1,6 +1,6 @@
 //! Where objects are.
 ghost use Rattle.std.specs.Prelude.{◌≡◌, ◌⊎◌, true, false, length, None, Some};
-ghost use Rattle.places.specs.declared.places.Place.{Place};
+ghost use Rattle.placement.specs.declared.places.Place.{Place};
 ghost use Rattle.bpfagent_c.specs.Codes.{number_of_place, place_numbered};
 ghost use Rattle.bpfagent_c.specs.Told.{HasNone};
 ghost use Rattle.bpfagent_c.specs.Shown.{over};

@@ -4,8 +4,8 @@ use Rattle.std.specs.declared.alloc.Global.{Global}
 use Rattle.std.proofs.lemmas.Bool.{cases_lt}
 use Rattle.std.proofs.lemmas.List.{append-nil, length-map, map-append}
 use Rattle.far_store.specs.Calls.{Call, Calls}
-use Rattle.places.specs.declared.places.Place.{Place}
-use Rattle.places.specs.declared.places.Place.TheVariants.{Here}
+use Rattle.placement.specs.declared.places.Place.{Place}
+use Rattle.placement.specs.declared.places.Place.TheVariants.{Here}
 use Rattle.memory.specs.Objects.{number_count, object_limit}
 use Rattle.object_store.specs.Bodies.{Kept, bytes_in, place_in, sent_in}
 use Rattle.object_store.specs.Stores.{place_of}

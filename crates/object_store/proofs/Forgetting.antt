@@ -1,7 +1,7 @@
 -- A store stays as it is always kept where an object that is far is freed.
 use Rattle.std.proofs.Common.{◌≡◌, ℕ, ◌<◌, List, [], length, map, set, ap, arith}
 use Rattle.std.proofs.lemmas.List.{length-set, get_or-set_same}
-use Rattle.places.specs.declared.places.Place.TheVariants.{Here, Far}
+use Rattle.placement.specs.declared.places.Place.TheVariants.{Here, Far}
 use Rattle.memory.specs.Objects.{bytes_of, with_bytes}
 use Rattle.object_store.specs.Stores.{place_of}
 use Rattle.object_store.specs.Bodies.{Kept, IsKeptStore, bytes_in, place_in, scopes_in}

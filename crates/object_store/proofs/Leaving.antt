@@ -1,7 +1,7 @@
 -- What is left of one object of a list once it left, or couldn't.
 use Rattle.std.proofs.Common.{◌≡◌, ℕ, ◌<◌, Bool, true, false, List, length, map, set, get_or, Result, Ok, Err, Some, None, OnOk, OnErr, IsOk, IfErr, refl, ap, subst, ◌∙◌}
 use Rattle.far_store.specs.declared.fault.StoreFault.{StoreFault}
-use Rattle.places.specs.declared.places.Place.TheVariants.{Here, Far}
+use Rattle.placement.specs.declared.places.Place.TheVariants.{Here, Far}
 use Rattle.far_store.specs.Calls.{Call, Calls}
 use Rattle.memory.specs.Objects.{bytes_of}
 use Rattle.object_store.specs.Asking.{leave_calls}

@@ -2,7 +2,7 @@
 use Rattle.std.proofs.Common.{◌≡◌, ℕ, ◌+◌, ◌<◌, zero, suc, List, [], ◌∷◌, Vec, length, map, set, refl, ◌∙◌, Fits, w32, arith}
 use Rattle.std.specs.Vec.{with_items}
 use Rattle.std.proofs.lemmas.List.{with_items_is}
-use Rattle.places.specs.declared.places.Place.{Place}
+use Rattle.placement.specs.declared.places.Place.{Place}
 use Rattle.memory.specs.Objects.{number_count, bytes_of}
 use Rattle.object_store.specs.Stores.{StoreState, place_of, near_length}
 use Rattle.object_store.specs.Bodies.{Kept, IsKeptStore, bytes_in, place_in, scopes_in}

@@ -7,8 +7,8 @@ use Rattle.memory.specs.Objects.{bytes_of}
 use Rattle.object_store.specs.Stores.{HasRisen}
 use Rattle.object_store.specs.Calls.{FailsToReturn, ComesBack}
 use Rattle.far_store.specs.declared.fault.StoreFault.{StoreFault}
-use Rattle.places.specs.declared.places.Place.{Place}
-use Rattle.places.specs.declared.places.Place.TheVariants.{Here}
+use Rattle.placement.specs.declared.places.Place.{Place}
+use Rattle.placement.specs.declared.places.Place.TheVariants.{Here}
 use Rattle.object_store.specs.Stores.{StoreState, sent_of, with_place}
 use Rattle.object_store.specs.Bodies.{Kept, ReturnsTo, BytesBack, bytes_in, place_in, scopes_in, sent_in}
 use Rattle.far_store.specs.Calls.Call.{Get}

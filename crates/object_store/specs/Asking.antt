@@ -10,8 +10,8 @@ use Rattle.memory.specs.declared.access.Op.{Op}
 use Rattle.memory.specs.declared.access.Reach.{Reach}
 use Rattle.memory.specs.declared.access.Reach.TheVariants.{Done}
 use Rattle.memory.specs.Objects.{bytes_of}
-use Rattle.places.specs.declared.places.Moved.{Moved}
-use Rattle.places.specs.declared.places.Moved.TheVariants as moved
+use Rattle.placement.specs.declared.places.Moved.{Moved}
+use Rattle.placement.specs.declared.places.Moved.TheVariants as moved
 use Rattle.object_store.specs.Stores.{Sent, StoreWithin, unsent, sent_of}
 
 -- ---- the calls

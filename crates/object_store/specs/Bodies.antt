@@ -3,8 +3,8 @@ use Rattle.std.specs.Prelude.{◌≡◌, ℕ, ◌+◌, ◌-◌, Bool, true, fals
 use Rattle.pointer_word.specs.declared.word.WordPlace.{WordPlace}
 use Rattle.pointer_word.specs.declared.word.WordPlace.TheVariants.{Local, Moving, Far as WordFar}
 use Rattle.pointer_word.specs.Words.{WordRecord}
-use Rattle.places.specs.declared.places.Place.{Place}
-use Rattle.places.specs.declared.places.Place.TheVariants.{Here, Leaving, Far, Returning}
+use Rattle.placement.specs.declared.places.Place.{Place}
+use Rattle.placement.specs.declared.places.Place.TheVariants.{Here, Leaving, Far, Returning}
 use Rattle.memory.specs.Objects.{AreObjects, bytes_of, with_bytes}
 use Rattle.object_store.specs.Stores.{Sent, holders, near_bytes}
 use Rattle.scopes.specs.Windows.{window_count}

@@ -1,10 +1,10 @@
 -- What the calls of a store do: the state before, the answer, and the state after. A refusal changes nothing; refusals are
 -- tested in the order in which they stand.
 use Rattle.std.specs.Prelude.{◌≡◌, ◌⊎◌, ℕ, ◌≤◌, Bool, true, false, List, [], ◌∷◌, ◌++◌, length, replicate, Result, Ok, Err}
-use Rattle.places.specs.declared.places.Place.{Place}
-use Rattle.places.specs.declared.places.Place.TheVariants.{Here, Leaving, Far, Returning}
-use Rattle.places.specs.declared.places.Moved.{Moved}
-use Rattle.places.specs.declared.places.Moved.TheVariants.{Done, NoObject, Misplaced, Scoped, NoRoom, Fault}
+use Rattle.placement.specs.declared.places.Place.{Place}
+use Rattle.placement.specs.declared.places.Place.TheVariants.{Here, Leaving, Far, Returning}
+use Rattle.placement.specs.declared.places.Moved.{Moved}
+use Rattle.placement.specs.declared.places.Moved.TheVariants.{Done, NoObject, Misplaced, Scoped, NoRoom, Fault}
 use Rattle.object_store.specs.declared.errors.MakeError.{MakeError}
 use Rattle.object_store.specs.declared.errors.MakeError.TheVariants as make_error
 use Rattle.object_store.specs.declared.errors.GetError.{GetError}

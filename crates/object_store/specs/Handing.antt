@@ -1,9 +1,9 @@
 -- Objects that are far, and whose bytes the caller keeps.
 use Rattle.std.specs.Prelude.{◌≡◌, ℕ, ◌≤◌, []}
 use Rattle.memory.specs.Objects.{with_bytes}
-use Rattle.places.specs.declared.places.Place.TheVariants.{Here, Far}
-use Rattle.places.specs.declared.places.Moved.{Moved}
-use Rattle.places.specs.declared.places.Moved.TheVariants.{Done}
+use Rattle.placement.specs.declared.places.Place.TheVariants.{Here, Far}
+use Rattle.placement.specs.declared.places.Moved.{Moved}
+use Rattle.placement.specs.declared.places.Moved.TheVariants.{Done}
 use Rattle.object_store.specs.Stores.{StoreState, StandsAt, with_place}
 use Rattle.object_store.specs.Calls.{RefusesMove}
 

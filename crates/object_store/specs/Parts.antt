@@ -1,8 +1,8 @@
 -- What is left of a store that is taken apart.
 use Rattle.std.specs.Prelude.{◌≡◌, ℕ, ◌<◌, List, [], ◌∷◌, ◌++◌}
 use Rattle.far_store.specs.Calls.{Call}
-use Rattle.places.specs.declared.places.Place.{Place}
-use Rattle.places.specs.declared.places.Place.TheVariants.{Here}
+use Rattle.placement.specs.declared.places.Place.{Place}
+use Rattle.placement.specs.declared.places.Place.TheVariants.{Here}
 use Rattle.object_store.specs.declared.errors.PartsError.{PartsError}
 use Rattle.object_store.specs.declared.errors.PartsError.TheVariants.{NotHere, Memory}
 use Rattle.object_store.specs.Bodies.{Kept}

@@ -1,8 +1,8 @@
 -- Whether an access can be done.
 use Rattle.std.specs.Prelude.{◌≡◌, ℕ, List}
 use Rattle.memory.specs.declared.access.Op.{Op}
-use Rattle.places.specs.declared.places.Place.{Place}
-use Rattle.places.specs.declared.places.Place.TheVariants as place
+use Rattle.placement.specs.declared.places.Place.{Place}
+use Rattle.placement.specs.declared.places.Place.TheVariants as place
 use Rattle.object_store.specs.declared.standing.Standing.{Standing}
 use Rattle.object_store.specs.declared.standing.Standing.TheVariants.{Outside, Away, Here}
 use Rattle.memory.specs.Objects.{Reaches, HasRange}

@@ -6,8 +6,8 @@ use Rattle.far_store.specs.Stores.{capped}
 use Rattle.memory.specs.declared.access.Op.{Op}
 use Rattle.memory.specs.declared.access.Reach.{Reach}
 use Rattle.memory.specs.declared.access.Reach.TheVariants.{Done, Away, Outside}
-use Rattle.places.specs.declared.places.Place.{Place}
-use Rattle.places.specs.declared.places.Place.TheVariants.{Here, Far}
+use Rattle.placement.specs.declared.places.Place.{Place}
+use Rattle.placement.specs.declared.places.Place.TheVariants.{Here, Far}
 use Rattle.memory.specs.Access.{answer, after}
 use Rattle.memory.specs.Memories.Known.{AllBytes}
 use Rattle.memory.specs.Memories.{Memories}

@@ -8,14 +8,14 @@ ghost use Rattle.object_store.specs.Bodies.{sent, sent_in, ReturnsTo};
 ghost use Rattle.object_store.specs.Asking.{forgets, leave_calls, clean_after};
 ghost use Rattle.far_store.specs.Calls.Call.{Put, Get};
 ghost use Rattle.far_store.specs.Calls.{Calls, parcel_of, AsksInVain};
-ghost use Rattle.places.specs.declared.places.Place.TheVariants as place;
+ghost use Rattle.placement.specs.declared.places.Place.TheVariants as place;
 ghost use Rattle.pointer_word.specs.declared.word.WordPlace.TheVariants.{Local, Moving, Far};
 
 mod handing;
 
 use far_store::{FarStore, StoreFault};
 use memory::{Action, Op, act, overwrite};
-use places::Place;
+use placement::Place;
 use pointer_word::{Word, WordPlace};
 use std::alloc::{AllocError, Global};
 use std::marker::Model;

@@ -6,7 +6,7 @@ ghost use Rattle.object_store.specs.Asking.{forgets, leave_calls};
 ghost use Rattle.far_store.specs.Calls.Call.{Get};
 ghost use Rattle.far_store.specs.Calls.{Calls, parcel_of, AsksInVain};
 ghost use Rattle.object_store.specs.Bodies.{bytes_in, place_in, scopes_in, sent_in};
-ghost use Rattle.places.specs.declared.places.Place.TheVariants as place;
+ghost use Rattle.placement.specs.declared.places.Place.TheVariants as place;
 ghost use Rattle.far_store.specs.declared.fault.StoreFault.TheVariants.{Damaged};
 
 use crate::bodies::ObjectBody;

@@ -16,5 +16,5 @@ mod stores;
 
 pub use errors::{GetError, MakeError, PartsError, PutError};
 pub use parts::Parts;
-pub use places::{Moved, Place};
+pub use placement::{Moved, Place};
 pub use stores::{ObjectStore, StoreMemory};

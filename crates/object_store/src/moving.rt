@@ -7,7 +7,7 @@ ghost use Rattle.far_store.specs.Calls.Call.{Get};
 ghost use Rattle.far_store.specs.Calls.{Calls, parcel_of, AsksInVain};
 ghost use Rattle.object_store.specs.Calls.{FailsToReturn};
 ghost use Rattle.object_store.specs.Bodies.{bytes_in, place_in, scopes_in, sent_in, BytesBack, IsPlaced};
-ghost use Rattle.places.specs.declared.places.Place.TheVariants as place;
+ghost use Rattle.placement.specs.declared.places.Place.TheVariants as place;
 
 use crate::bodies::ObjectBody;
 use far_store::{FarStore, StoreFault};

@@ -6,12 +6,12 @@ ghost use Rattle.object_store.specs.Stores.{place_of, sent_of};
 ghost use Rattle.object_store.specs.Asking.{clean_after};
 ghost use Rattle.object_store.specs.Bodies.{bytes_in, place_in, scopes_in, sent_in};
 ghost use Rattle.object_store.specs.Standings.{Stands, StandsRange};
-ghost use Rattle.places.specs.declared.places.Place.TheVariants as place;
+ghost use Rattle.placement.specs.declared.places.Place.TheVariants as place;
 
 use crate::bodies::ObjectBody;
 use far_store::FarStore;
 use memory::Op;
-use places::Place;
+use placement::Place;
 use std::alloc::{AllocError, Global};
 
 /// What stands in the way of an access.

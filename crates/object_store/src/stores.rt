@@ -21,7 +21,7 @@ use crate::standing::{
 };
 use far_store::FarStore;
 use memory::{Memory, OBJECT_LIMIT, Op, Reach};
-use places::{Moved, Place};
+use placement::{Moved, Place};
 use scopes::{MACHINE_LIMIT, Window};
 use std::alloc::{AllocError, Global};
 use std::marker::Model;

@@ -13,7 +13,7 @@ use Rattle.world.specs.WorldState.{WorldState}
 use Rattle.ship_service.specs.Closing.{ClosedState, Settles}
 use Rattle.ship_service.specs.ClosingLines.{closing_lines}
 use Rattle.ship_service.specs.Opening.{opened_bytes}
-use Rattle.places.specs.declared.places.Place.{Place}
+use Rattle.placement.specs.declared.places.Place.{Place}
 use Rattle.ship_service.specs.declared.listening.ListenFault.{ListenFault}
 use Rattle.ship_service.specs.declared.listening.ListenFault.TheVariants.{NotHere, Memory, Net, Write}
 

@@ -12,7 +12,7 @@ use Rattle.shared_objects.specs.Rule.{place_of}
 use Rattle.shared_objects.specs.declared.view.Whereabouts.{Whereabouts}
 use Rattle.shared_objects.specs.declared.view.Whereabouts.TheVariants.{Here, Moving, Far}
 use Rattle.shared_objects.specs.declared.view.View.{View}
-use Rattle.places.specs.declared.places.Moved.TheVariants.{NoObject}
+use Rattle.placement.specs.declared.places.Moved.TheVariants.{NoObject}
 use Rattle.workers.specs.declared.job.Direction.{Direction}
 use Rattle.workers.specs.declared.job.Direction.TheVariants.{Leave, Return}
 use Rattle.workers.specs.Moves.{KeepsParcel, KeepsParcels, MovesOne}

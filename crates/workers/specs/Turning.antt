@@ -1,7 +1,7 @@
 -- What a mover does in turn: requests that it serves, and looks of its own accord.
 use Rattle.std.specs.Prelude.{◌≡◌, ◌⊎◌, ℕ, zero, suc, Bool}
 use Rattle.far_store.specs.Calls.{Call}
-use Rattle.places.specs.declared.places.Moved.{Moved}
+use Rattle.placement.specs.declared.places.Moved.{Moved}
 use Rattle.workers.specs.declared.job.Direction.{Direction}
 use Rattle.workers.specs.declared.movers.Looked.{Looked}
 use Rattle.workers.specs.Moves.{MoverState, MovesOne, AsksOne, LooksAt, number_after}

@@ -1,7 +1,7 @@
 //! Who is told of each instruction that a worker does, and of each move.
 
 use crate::job::Request;
-use places::Moved;
+use placement::Moved;
 
 /// Told of each instruction, before and after it, while no cell's lock is held, unless it says that it isn't. It is told of moves too,
 /// and asked whether to go on.

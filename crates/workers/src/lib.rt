@@ -20,7 +20,7 @@ pub use gate::Gate;
 pub use job::{Direction, Job, Request};
 pub use movers::{Looked, Mover};
 pub use patience::give_time;
-pub use places::{Moved, Place};
+pub use placement::{Moved, Place};
 pub use pool::{Pool, QUEUE_LIMIT, TURN_LIMIT, work};
 pub use running::{Running, Shipment};
 pub use table_name::TableName;

@@ -18,7 +18,7 @@ use crate::pool::Pool;
 use crate::table_name::TableName;
 use far_store::{FarStore, StoreFault};
 use memory::OBJECT_LIMIT;
-use places::{Moved, Place};
+use placement::{Moved, Place};
 use shared_objects::{Leave, MoverSeat, SharedTable};
 use std::alloc::{AllocError, Global};
 use std::marker::{Model, PhantomData};

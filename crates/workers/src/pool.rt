@@ -19,7 +19,7 @@ use crate::table_name::TableName;
 use crossbeam_queue::ArrayQueue;
 use debugger::{Debuggee, StepReply, Way};
 use far_store::FarStore;
-use places::Moved;
+use placement::Moved;
 use shared_objects::{ActorSeat, Shared, SharedTable};
 use std::alloc::{AllocError, Global};
 use std::sync::atomic::{AtomicU64, Ordering};

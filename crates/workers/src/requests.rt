@@ -5,7 +5,7 @@ use crate::pool::QUEUE_LIMIT;
 use crate::retries::Retries;
 use crossbeam_queue::ArrayQueue;
 use memory::OBJECT_LIMIT;
-use places::Moved;
+use placement::Moved;
 use std::alloc::{AllocError, Global};
 use std::sync::atomic::{AtomicBool, AtomicU64, Ordering};
 use std::sync::{Mutex, Wait};

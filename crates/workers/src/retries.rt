@@ -2,7 +2,7 @@
 //! time is that which the mover has slept.
 
 use crate::job::{Direction, Request};
-use places::Moved;
+use placement::Moved;
 use std::alloc::{AllocError, Global};
 
 /// After how many milliseconds a return that failed is asked for again, which is doubled each time that it fails again, and the

@@ -9,7 +9,7 @@ use crate::movers::{Looked, Mover};
 use crate::pool::{Pool, work};
 use crate::table_name::TableName;
 use far_store::FarStore;
-use places::Moved;
+use placement::Moved;
 use std::sync::Wait;
 use std::thread;
 use std::thread::Threads;

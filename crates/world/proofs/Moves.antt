@@ -1,9 +1,9 @@
 -- What is so of each move.
 use Rattle.std.proofs.Common.{◌≡◌, ℕ, true, false, ap, arith}
-use Rattle.places.specs.declared.places.Place.{Place}
-use Rattle.places.specs.declared.places.Place.TheVariants as place
-use Rattle.places.specs.declared.places.Moved.{Moved}
-use Rattle.places.specs.declared.places.Moved.TheVariants as moved
+use Rattle.placement.specs.declared.places.Place.{Place}
+use Rattle.placement.specs.declared.places.Place.TheVariants as place
+use Rattle.placement.specs.declared.places.Moved.{Moved}
+use Rattle.placement.specs.declared.places.Moved.TheVariants as moved
 use Rattle.object_store.specs.Stores.{StoreState}
 use Rattle.object_store.specs.Calls.{RefusesMove, BeginsLeave, EndsLeave, BeginsReturn, EndsReturn}
 use Rattle.world.specs.declared.events.Move.{Move as MoveKind}

@@ -1,9 +1,9 @@
 -- Debugging changes nothing.
 use Rattle.std.proofs.Common.{◌≡◌, ◌≤◌, ◌+◌, ℕ, true, false, List, [], ◌∷◌, length, map, refl, sym, ap, ◌∙◌, subst, arith}
 use Rattle.std.proofs.lemmas.List.{length-map, map-append}
-use Rattle.places.specs.declared.places.Place.{Place}
-use Rattle.places.specs.declared.places.Place.TheVariants as place
-use Rattle.places.specs.declared.places.Moved.{Moved}
+use Rattle.placement.specs.declared.places.Place.{Place}
+use Rattle.placement.specs.declared.places.Place.TheVariants as place
+use Rattle.placement.specs.declared.places.Moved.{Moved}
 use Rattle.object_store.specs.Stores.{StoreState, store_memory}
 use Rattle.scopes.specs.Windows.{machine_limit}
 use Rattle.object_store.specs.Calls.{Frees}

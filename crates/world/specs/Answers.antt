@@ -5,10 +5,10 @@ use Rattle.loader.specs.Refusals.{HasCodeSize, Refuses}
 use Rattle.loader.specs.declared.loading.Why.TheVariants as why
 use Rattle.object_store.specs.Stores.{StoreState, store_memory}
 use Rattle.object_store.specs.Calls.{Makes, Gets, Puts, Frees, BeginsLeave, EndsLeave, BeginsReturn, EndsReturn}
-use Rattle.places.specs.declared.places.Place.{Place}
-use Rattle.places.specs.declared.places.Place.TheVariants as place
-use Rattle.places.specs.declared.places.Moved.{Moved}
-use Rattle.places.specs.declared.places.Moved.TheVariants as moved
+use Rattle.placement.specs.declared.places.Place.{Place}
+use Rattle.placement.specs.declared.places.Place.TheVariants as place
+use Rattle.placement.specs.declared.places.Moved.{Moved}
+use Rattle.placement.specs.declared.places.Moved.TheVariants as moved
 use Rattle.object_store.specs.declared.errors.MakeError.TheVariants as make_error
 use Rattle.object_store.specs.declared.errors.PutError.TheVariants as put_error
 use Rattle.object_store.specs.declared.errors.GetError.{GetError}

@@ -1,9 +1,9 @@
 -- What the commands ask of the far store, call by call and in order, and what it has of each object then.
 use Rattle.std.specs.Prelude.{◌≡◌, ℕ, true, false, [], ◌∷◌, ◌++◌, set}
 use Rattle.far_store.specs.Calls.{Call}
-use Rattle.places.specs.declared.places.Place.{Place}
-use Rattle.places.specs.declared.places.Place.TheVariants as place
-use Rattle.places.specs.declared.places.Moved.{Moved}
+use Rattle.placement.specs.declared.places.Place.{Place}
+use Rattle.placement.specs.declared.places.Place.TheVariants as place
+use Rattle.placement.specs.declared.places.Moved.{Moved}
 use Rattle.object_store.specs.Asking.{AsksNothing, AsksToFree, AsksToLeave, AsksToReturn}
 use Rattle.object_store.specs.Lending.{within_memory}
 use Rattle.object_store.specs.Stores.{StoreWithin, sent_of, unsent}

@@ -1,7 +1,7 @@
 -- Where an object is, read off the replies.
 use Rattle.std.specs.Prelude.{ℕ, nat_eq, cond, List, [], ◌∷◌}
-use Rattle.places.specs.declared.places.Place.{Place}
-use Rattle.places.specs.declared.places.Place.TheVariants as place
+use Rattle.placement.specs.declared.places.Place.{Place}
+use Rattle.placement.specs.declared.places.Place.TheVariants as place
 use Rattle.world.specs.declared.replies.Reply.{Reply}
 use Rattle.world.specs.declared.replies.Reply.TheVariants.{Made, Leaving, Left, Returning, Home, Faulted}
 

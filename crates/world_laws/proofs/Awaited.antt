@@ -5,7 +5,7 @@ use Rattle.memory.specs.declared.access.Op.{Op}
 use Rattle.memory.specs.declared.access.Reach.{Reach}
 use Rattle.memory.specs.declared.access.Reach.TheVariants as reach
 use Rattle.memory.specs.Objects.{Reaches}
-use Rattle.places.specs.declared.places.Place.TheVariants.{Here}
+use Rattle.placement.specs.declared.places.Place.TheVariants.{Here}
 use Rattle.object_store.specs.Stores.{StoreState, store_memory, Touches, place_of}
 use Rattle.machine.specs.declared.state.Stepped.{Stepped}
 use Rattle.machine.specs.declared.state.Stepped.TheVariants as stepped

@@ -7,8 +7,8 @@ use Rattle.memory.specs.declared.access.Reach.TheVariants as reach
 use Rattle.memory.specs.Objects.{bytes_of, with_bytes}
 use Rattle.memory.specs.Access.{after}
 use Rattle.memory.proofs.Lengths.{length-after}
-use Rattle.places.specs.declared.places.Place.{Place}
-use Rattle.places.specs.declared.places.Place.TheVariants.{Here, Leaving, Far, Returning}
+use Rattle.placement.specs.declared.places.Place.{Place}
+use Rattle.placement.specs.declared.places.Place.TheVariants.{Here, Leaving, Far, Returning}
 use Rattle.object_store.specs.Stores.{StoreState, Touches, near_length, near_bytes}
 use Rattle.object_store.proofs.Keeping.{near_placed, near_made}
 use Rattle.world.specs.declared.replies.Reply.{Reply}

@@ -4,10 +4,10 @@ use Rattle.std.proofs.Common.{◌≡◌, ℕ, Bool, true, false, List, [], ◌�
 use Rattle.memory.specs.Objects.{IsLive, bytes_of, with_bytes}
 use Rattle.object_store.specs.Stores.{StoreState, HasRoom, IsScoped, place_of, with_place}
 use Rattle.object_store.specs.Calls.{RefusesMove, Frees, BeginsLeave, EndsLeave, BeginsReturn, EndsReturn}
-use Rattle.places.specs.declared.places.Place.{Place}
-use Rattle.places.specs.declared.places.Place.TheVariants as place
-use Rattle.places.specs.declared.places.Moved.{Moved}
-use Rattle.places.specs.declared.places.Moved.TheVariants as moved
+use Rattle.placement.specs.declared.places.Place.{Place}
+use Rattle.placement.specs.declared.places.Place.TheVariants as place
+use Rattle.placement.specs.declared.places.Moved.{Moved}
+use Rattle.placement.specs.declared.places.Moved.TheVariants as moved
 use Rattle.debugger.specs.Refusals.{Decides}
 use Rattle.world.specs.declared.replies.Reply.{Reply}
 use Rattle.world.specs.declared.replies.Reply.TheVariants as reply

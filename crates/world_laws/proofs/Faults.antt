@@ -1,6 +1,6 @@
 -- What a fault of the far store changes.
 use Rattle.std.proofs.Common.{◌≡◌, ℕ, sym, ap, subst, ◌∙◌, refl}
-use Rattle.places.specs.declared.places.Place.{Place}
+use Rattle.placement.specs.declared.places.Place.{Place}
 use Rattle.object_store.specs.Stores.{StoreState, with_place, HasRisen}
 use Rattle.world.specs.declared.replies.Reply.TheVariants.{Faulted}
 use Rattle.world.specs.declared.events.Event.{Event}

@@ -1,8 +1,8 @@
 -- Moves change where an object is, and nothing else.
 use Rattle.std.proofs.Common.{◌≡◌, ◌≢◌, ℕ, refl, sym, ap, subst}
 use Rattle.std.proofs.lemmas.List.{get_or-set_other}
-use Rattle.places.specs.declared.places.Place.{Place}
-use Rattle.places.specs.declared.places.Place.TheVariants.{Here}
+use Rattle.placement.specs.declared.places.Place.{Place}
+use Rattle.placement.specs.declared.places.Place.TheVariants.{Here}
 use Rattle.object_store.specs.Stores.{StoreState, place_of, with_place}
 use Rattle.world.specs.declared.replies.Reply.{Reply}
 use Rattle.world.specs.WorldState.{WorldState}

@@ -3,10 +3,10 @@ use Rattle.std.proofs.Common.{◌≡◌, ℕ, true, List, [], ◌∷◌, length,
 use Rattle.memory.specs.Objects.{IsFull, HasRange, range_of}
 use Rattle.object_store.specs.Stores.{StoreState, HasRoom, place_of}
 use Rattle.object_store.specs.Calls.{Frees}
-use Rattle.places.specs.declared.places.Place.{Place}
-use Rattle.places.specs.declared.places.Place.TheVariants as place
-use Rattle.places.specs.declared.places.Moved.{Moved}
-use Rattle.places.specs.declared.places.Moved.TheVariants as moved
+use Rattle.placement.specs.declared.places.Place.{Place}
+use Rattle.placement.specs.declared.places.Place.TheVariants as place
+use Rattle.placement.specs.declared.places.Moved.{Moved}
+use Rattle.placement.specs.declared.places.Moved.TheVariants as moved
 use Rattle.debugger.specs.Refusals.{Decides}
 use Rattle.world.specs.declared.replies.Reply.{Reply}
 use Rattle.world.specs.declared.replies.Reply.TheVariants.{Made, Freed, Done, Bytes, NoMemory, Full, NoRoom, Outside, Away}

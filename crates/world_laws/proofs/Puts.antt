@@ -7,7 +7,7 @@ use Rattle.memory.specs.Access.{replaced}
 use Rattle.memory.specs.Objects.{bytes_of, HasRange, range_of, with_range}
 use Rattle.memory.proofs.Lengths.{length-replaced}
 use Rattle.object_store.specs.Stores.{StoreState, place_of}
-use Rattle.places.specs.declared.places.Place.TheVariants as place
+use Rattle.placement.specs.declared.places.Place.TheVariants as place
 use Rattle.world.specs.declared.replies.Reply.{Reply}
 use Rattle.world.specs.declared.replies.Reply.TheVariants.{Done, Bytes, NoMemory, Outside, Away}
 use Rattle.world.specs.Answers.{AnswersGet}

@@ -8,8 +8,8 @@ use Rattle.memory.specs.declared.access.Op.{Op}
 use Rattle.memory.specs.declared.access.Reach.{Reach}
 use Rattle.memory.specs.declared.access.Reach.TheVariants as reach
 use Rattle.scopes.specs.Windows.{holds, noted, without_oldest, window_count}
-use Rattle.places.specs.declared.places.Place.{Place}
-use Rattle.places.specs.declared.places.Place.TheVariants.{Here}
+use Rattle.placement.specs.declared.places.Place.{Place}
+use Rattle.placement.specs.declared.places.Place.TheVariants.{Here}
 use Rattle.object_store.specs.Stores.{StoreState, IsScoped, Touches, holders, place_of, weight, window_of}
 use Rattle.object_store.proofs.Counting.{none_held}
 use Rattle.world.specs.declared.replies.Reply.{Reply}

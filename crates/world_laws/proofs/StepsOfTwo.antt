@@ -10,8 +10,8 @@ use Rattle.memory.specs.Objects.{bytes_of, with_bytes}
 use Rattle.memory.proofs.Accesses.{set_commutes}
 use Rattle.memory.proofs.Lengths.{length-after, length-set_at}
 use Rattle.scopes.specs.Windows.{noted}
-use Rattle.places.specs.declared.places.Place.{Place}
-use Rattle.places.specs.declared.places.Place.TheVariants.{Here}
+use Rattle.placement.specs.declared.places.Place.{Place}
+use Rattle.placement.specs.declared.places.Place.TheVariants.{Here}
 use Rattle.object_store.specs.Stores.{StoreState, store_memory, place_of, window_of, with_window}
 use Rattle.machine.specs.declared.state.Stepped.{Stepped}
 use Rattle.machine.specs.MachineState.{MachineState}

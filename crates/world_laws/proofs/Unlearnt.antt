@@ -16,10 +16,10 @@ use Rattle.memory.proofs.Accesses.{set_commutes}
 use Rattle.scopes.specs.Windows.{noted}
 use Rattle.object_store.specs.Stores.{StoreState, store_memory, Touches, StandsAt, near_bytes, near_length, window_of}
 use Rattle.object_store.specs.Calls.{RefusesMove, Frees, BeginsLeave, EndsLeave, BeginsReturn, EndsReturn}
-use Rattle.places.specs.declared.places.Place.{Place}
-use Rattle.places.specs.declared.places.Place.TheVariants as place
-use Rattle.places.specs.declared.places.Moved.{Moved}
-use Rattle.places.specs.declared.places.Moved.TheVariants as moved
+use Rattle.placement.specs.declared.places.Place.{Place}
+use Rattle.placement.specs.declared.places.Place.TheVariants as place
+use Rattle.placement.specs.declared.places.Moved.{Moved}
+use Rattle.placement.specs.declared.places.Moved.TheVariants as moved
 use Rattle.machine.specs.Grants.{GrantState, is_granted}
 use Rattle.machine.specs.MachineState.{MachineState}
 use Rattle.machine.specs.Rows.{Request, MemoryAnswer, Outcome, asks}

@@ -1,6 +1,6 @@
 -- Where objects are, what moves change, and what keeps an object in its place.
 use Rattle.std.specs.Prelude.{◌≡◌, ◌≢◌, ◌≤◌, ℕ, List}
-use Rattle.places.specs.declared.places.Place.TheVariants.{Here}
+use Rattle.placement.specs.declared.places.Place.TheVariants.{Here}
 use Rattle.object_store.specs.Stores.{IsScoped, place_of, near_bytes}
 use Rattle.world.specs.declared.replies.Reply.{Reply}
 use Rattle.world.specs.Run.{Runs}

@@ -1,7 +1,7 @@
 -- What replies tell of the state, and which replies there may be.
 use Rattle.std.specs.Prelude.{◌≡◌, ◌≢◌, ℕ, zero, suc, Bool, true, false, List, [], ◌∷◌, length, map, ◌⊎◌}
 use Rattle.memory.specs.Objects.{bytes_of}
-use Rattle.places.specs.declared.places.Place.{Place}
+use Rattle.placement.specs.declared.places.Place.{Place}
 use Rattle.object_store.specs.Stores.{with_place, window_of, HasRisen}
 use Rattle.machine.specs.MachineState.{MachineState}
 use Rattle.debugger.specs.declared.debuggee.Debuggee.{Debuggee}

@@ -4,7 +4,7 @@ use Rattle.isa_table.specs.Table.{size_bytes}
 use Rattle.isa_table.specs.declared.instr.Instr.{Instr}
 use Rattle.memory.specs.declared.access.Op.{Op}
 use Rattle.memory.specs.Objects.{Reaches, bytes_of}
-use Rattle.places.specs.declared.places.Place.TheVariants.{Here}
+use Rattle.placement.specs.declared.places.Place.TheVariants.{Here}
 use Rattle.object_store.specs.Stores.{StoreState, store_memory, place_of, window_of}
 use Rattle.machine.specs.declared.state.Stop.{Stop}
 use Rattle.machine.specs.declared.state.Stepped.{Stepped}

@@ -6,7 +6,7 @@ ghost use Rattle.object_store.specs.Bodies.{sent, sent_in};
 ghost use Rattle.object_store.specs.Asking.{forgets, leave_calls};
 ghost use Rattle.far_store.specs.Calls.Call.{Put, Get};
 ghost use Rattle.far_store.specs.Calls.{Calls, parcel_of, AsksInVain};
-ghost use Rattle.places.specs.declared.places.Place.TheVariants as place;
+ghost use Rattle.placement.specs.declared.places.Place.TheVariants as place;
 ghost use Rattle.far_store.specs.declared.fault.StoreFault.TheVariants.{Damaged};
 
 use super::{ObjectBody, forget_kept, leave_far, reach_far, reach_here};

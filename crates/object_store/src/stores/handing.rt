@@ -5,15 +5,15 @@ ghost use Rattle.object_store.specs.Stores.{StandsAt};
 ghost use Rattle.object_store.specs.Asking.{AsksToFree, AsksToLeave, AsksToReturn};
 ghost use Rattle.object_store.specs.Calls.{EndsLeave, EndsReturn};
 ghost use Rattle.object_store.specs.Handing.{FreesFar};
-ghost use Rattle.places.specs.declared.places.Moved.{Moved};
-ghost use Rattle.places.specs.declared.places.Place.TheVariants as place;
+ghost use Rattle.placement.specs.declared.places.Moved.{Moved};
+ghost use Rattle.placement.specs.declared.places.Place.TheVariants as place;
 ghost use Rattle.far_store.specs.declared.fault.StoreFault.{StoreFault};
 ghost use Rattle.far_store.specs.declared.fault.StoreFault.TheVariants.{Damaged};
 
 use super::ObjectStore;
 use crate::handing::{end_leave_into_at, end_return_from_at, free_far_at, parcel_at};
 use far_store::{FarStore, HandsOut};
-use places::{Moved, Place};
+use placement::{Moved, Place};
 
 impl<F: FarStore> ObjectStore<F> {
     /// The parcel that stands for the bytes of an object, where the far store alone has them.

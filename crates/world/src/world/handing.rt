@@ -3,8 +3,8 @@ ghost use Rattle.std.specs.Prelude.{◌≡◌, ◌≢◌, true, None, IfSome, le
 ghost use Rattle.memory.specs.Objects.{IsLive, bytes_of};
 ghost use Rattle.far_store.specs.declared.fault.StoreFault.{StoreFault};
 ghost use Rattle.far_store.specs.declared.fault.StoreFault.TheVariants.{Damaged};
-ghost use Rattle.places.specs.declared.places.Moved.{Moved};
-ghost use Rattle.places.specs.declared.places.Place.TheVariants as place;
+ghost use Rattle.placement.specs.declared.places.Moved.{Moved};
+ghost use Rattle.placement.specs.declared.places.Place.TheVariants as place;
 ghost use Rattle.object_store.specs.Asking.{AsksToFree, AsksToLeave, AsksToReturn};
 ghost use Rattle.object_store.specs.Stores.{StandsAt};
 ghost use Rattle.object_store.specs.Handing.{FreesFar};

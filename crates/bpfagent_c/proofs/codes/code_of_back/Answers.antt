@@ -1,6 +1,6 @@
 use Rattle.std.proofs.Common.{◌≢◌, refl, sym, ◌∙◌, rules}
 use Rattle.far_store.specs.declared.fault.StoreFault.TheVariants.{Damaged}
-use Rattle.places.specs.declared.places.Moved.TheVariants as moved
+use Rattle.placement.specs.declared.places.Moved.TheVariants as moved
 use Rattle.world.specs.declared.replies.Reply.TheVariants as reply
 use Rattle.bpfagent_c.proofs.Back.{back_else}
 use Rattle.bpfagent_c.proofs.codes.code_of_back.Goals as goal

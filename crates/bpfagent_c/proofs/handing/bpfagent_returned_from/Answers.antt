@@ -1,5 +1,5 @@
 use Rattle.std.proofs.Common.{Some, sym, ◌∙◌}
-use Rattle.places.specs.declared.places.Place.TheVariants as place
+use Rattle.placement.specs.declared.places.Place.TheVariants as place
 use Rattle.world.specs.Answers.{reply_to_move}
 use Rattle.world.specs.declared.replies.Reply.TheVariants as reply
 use Rattle.bpfagent_c.proofs.Back.{told_back, back_done, back_damaged, back_lost}

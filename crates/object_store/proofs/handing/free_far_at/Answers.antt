@@ -1,5 +1,5 @@
 use Rattle.std.proofs.Common.{ap}
-use Rattle.places.specs.declared.places.Place.TheVariants.{Here}
+use Rattle.placement.specs.declared.places.Place.TheVariants.{Here}
 use Rattle.object_store.specs.Bodies.{place_in}
 use Rattle.object_store.proofs.Listed.{place_by}
 use Rattle.object_store.proofs.handing.free_far_at.Goals as goal

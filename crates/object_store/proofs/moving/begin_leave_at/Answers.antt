@@ -1,5 +1,5 @@
 use Rattle.std.proofs.Common.{◌∙◌}
-use Rattle.places.specs.declared.places.Place.TheVariants.{Leaving}
+use Rattle.placement.specs.declared.places.Place.TheVariants.{Leaving}
 use Rattle.object_store.proofs.Listed.{place_at, scopes_at, placed_at}
 use Rattle.object_store.proofs.moving.begin_leave_at.Goals as goal
 

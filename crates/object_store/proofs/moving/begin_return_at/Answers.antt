@@ -1,5 +1,5 @@
 use Rattle.std.proofs.Common.{◌∙◌}
-use Rattle.places.specs.declared.places.Place.TheVariants.{Returning}
+use Rattle.placement.specs.declared.places.Place.TheVariants.{Returning}
 use Rattle.object_store.proofs.Listed.{place_at, placed_at}
 use Rattle.object_store.proofs.moving.begin_return_at.Goals as goal
 

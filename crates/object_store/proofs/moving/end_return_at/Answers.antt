@@ -1,5 +1,5 @@
 use Rattle.std.proofs.Common.{ℕ, ◌<◌, List, get_or, ap, subst, sym, length, ◌∙◌}
-use Rattle.places.specs.declared.places.Place.TheVariants.{Here, Far}
+use Rattle.placement.specs.declared.places.Place.TheVariants.{Here, Far}
 use Rattle.object_store.specs.Bodies.{bytes_in, place_in, scopes_in, sent_in}
 use Rattle.object_store.specs.Stores.{Sent}
 use Rattle.object_store.proofs.Listed.{bytes_at, place_at, bytes_same, place_by, scopes_same, sent_by, sent_same}

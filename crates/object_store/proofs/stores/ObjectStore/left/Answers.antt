@@ -1,6 +1,6 @@
 use Rattle.std.proofs.Common.{refl, ◌∙◌, arith}
 use Rattle.std.proofs.lemmas.List.{with_items_is}
-use Rattle.places.specs.declared.places.Place.TheVariants.{Here, Leaving, Far}
+use Rattle.placement.specs.declared.places.Place.TheVariants.{Here, Leaving, Far}
 use Rattle.object_store.proofs.Leaving.{not_clean}
 use Rattle.object_store.proofs.Placing.{fits_word, placed_back, seen_placed}
 use Rattle.object_store.proofs.stores.ObjectStore.left.Goals as goal

@@ -1,5 +1,5 @@
 use Rattle.std.proofs.Common.{◌≡◌, ◌≤◌, ◌+◌, ◌-◌, length, arith, rules}
-use Rattle.places.specs.declared.places.Place.TheVariants.{Here}
+use Rattle.placement.specs.declared.places.Place.TheVariants.{Here}
 use Rattle.memory.specs.Objects.{object_bytes, object_limit}
 use Rattle.object_store.proofs.Keeping.{made}
 use Rattle.object_store.proofs.stores.ObjectStore.make.Goals as goal

@@ -1,5 +1,5 @@
 use Rattle.std.proofs.Common.{◌≡◌, [], ◌∷◌, false, None, refl, arith, rules}
-use Rattle.places.specs.declared.places.Place.TheVariants.{Here}
+use Rattle.placement.specs.declared.places.Place.TheVariants.{Here}
 use Rattle.scopes.specs.Windows.{window_count}
 use Rattle.object_store.proofs.Keeping.{all_same, first_store}
 use Rattle.object_store.proofs.stores.ObjectStore.new.Goals as goal

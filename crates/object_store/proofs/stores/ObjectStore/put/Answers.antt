@@ -1,6 +1,6 @@
 use Rattle.std.proofs.Common.{◌≡◌, ◌<◌, length, map, arith, rules}
 use Rattle.std.proofs.lemmas.List.{with_items_is}
-use Rattle.places.specs.declared.places.Place.TheVariants.{Here}
+use Rattle.placement.specs.declared.places.Place.TheVariants.{Here}
 use Rattle.memory.specs.Access.{replaced}
 use Rattle.memory.specs.Objects.{HasRange, bytes_of}
 use Rattle.object_store.specs.Stores.{place_of}

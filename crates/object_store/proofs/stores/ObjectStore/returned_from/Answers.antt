@@ -1,5 +1,5 @@
 use Rattle.std.proofs.Common.{refl, arith}
-use Rattle.places.specs.declared.places.Place.TheVariants.{Here, Far, Returning}
+use Rattle.placement.specs.declared.places.Place.TheVariants.{Here, Far, Returning}
 use Rattle.object_store.proofs.Placing.{fits_word, placed_back}
 use Rattle.object_store.proofs.stores.ObjectStore.returned_from.Goals as goal
 

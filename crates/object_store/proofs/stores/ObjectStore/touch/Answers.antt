@@ -1,6 +1,6 @@
 use Rattle.std.proofs.Common.{◌≡◌, ◌<◌, ◌++◌, ◌∙◌, length, map, take, drop, arith, rules}
 use Rattle.std.proofs.lemmas.List.{with_items_is}
-use Rattle.places.specs.declared.places.Place.TheVariants.{Here}
+use Rattle.placement.specs.declared.places.Place.TheVariants.{Here}
 use Rattle.memory.specs.Access.{after}
 use Rattle.memory.specs.Objects.{Reaches, bytes_of}
 use Rattle.object_store.specs.Stores.{place_of}

@@ -3,7 +3,7 @@ use Rattle.std.specs.Prelude.{Option, slice_set}
 use Rattle.std.proofs.lemmas.List.{set-set, set-get_or}
 use Rattle.far_store.specs.Calls.Call.{Forget}
 use Rattle.far_store.specs.Stores.{parcel_bytes}
-use Rattle.places.specs.declared.places.Moved.TheVariants.{Done, Fault}
+use Rattle.placement.specs.declared.places.Moved.TheVariants.{Done, Fault}
 use Rattle.shared_objects.specs.Kinds.{placed}
 use Rattle.shared_objects.specs.Phases.{IsObject, phase_of}
 use Rattle.shared_objects.specs.Rule.{place_of}

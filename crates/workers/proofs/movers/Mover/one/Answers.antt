@@ -1,5 +1,5 @@
 use Rattle.std.proofs.Common.{ℕ, sym, ◌∙◌, subst, arith}
-use Rattle.places.specs.declared.places.Moved.TheVariants.{NoObject}
+use Rattle.placement.specs.declared.places.Moved.TheVariants.{NoObject}
 use Rattle.shared_objects.specs.Phases.{IsObject}
 use Rattle.shared_objects.specs.declared.view.View.{View}
 use Rattle.workers.specs.Moves.{MoverState, MovesOne}
