@@ -53,8 +53,7 @@ def show_try(rt: str) -> None:
     """It says that its program isn't proved, and that one holds the first conversation; `make test` looks at the rest of it."""
     said = make(f"RT={rt}", "try")
     want("is not proved" in said, f"make try says {said}")
-    arguments, talk = conversations((ROOT / "crates/script_runner/data/protocol.script").read_text())[0]
-    talk_to(str(UNPROVED), arguments, talk)
+    talk_to(str(UNPROVED), *conversations((ROOT / "crates/script_runner/data/protocol.script").read_text())[0])
 
 
 def show_help(rt: str) -> None:
