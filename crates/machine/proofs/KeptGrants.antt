@@ -1,6 +1,5 @@
 -- Grants that are kept one by one.
-use Rattle.std.proofs.Common.{◌≡◌, ℕ, zero, suc, ◌<◌, ◌≤◌, ◌+◌, ◌-◌, nat_eq, nat_le, Bool, true, false, List, [], ◌∷◌, ◌++◌, length, replicate, slice_set, refl, ap, arith}
-use Rattle.machine.specs.declared.grants.Grant.{Grant}
+use Rattle.std.proofs.Common.{◌≡◌, ℕ, zero, suc, ◌<◌, nat_eq, false, List, [], ◌∷◌, ◌++◌, length, replicate, slice_set, refl, ap, arith}
 use Rattle.machine.specs.declared.grants.KeptGrant.{KeptGrant}
 use Rattle.machine.specs.KeptGrants.{grant_of, grants_in, AreKept}
 

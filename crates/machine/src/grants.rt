@@ -60,6 +60,7 @@ pub struct Grants {
 }
 
 impl Model for Grants {
+    ghost use Rattle.std.specs.Prelude.{length, ◌≡◌};
     ghost use Rattle.machine.specs.Grants.{GrantState};
     ghost use Rattle.machine.specs.KeptGrants.{grants_in, AreKept};
 
@@ -67,7 +68,7 @@ impl Model for Grants {
 
     ghost view = { λ g. record { all = g.all; listed = grants_in g.kept } };
 
-    ghost invariant = { λ g. AreKept g.count g.kept };
+    ghost invariant = { λ g. AreKept g.count g.kept × (length g.kept ≡ 16) };
 }
 
 impl Grants {

@@ -1,5 +1,6 @@
+use Rattle.std.proofs.Common.{refl}
 use Rattle.machine.proofs.KeptGrants.{none_kept}
 use Rattle.machine.proofs.grants.Grants.none.Goals as goal
 
 pub invariant_of-result : goal.invariant_of-result
-invariant_of-result c = none_kept 16
+invariant_of-result c = (none_kept 16, refl)
