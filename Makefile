@@ -40,7 +40,7 @@ uninstall: ## PREFIX=/usr/local: removes what was installed there
 test: ## whether everything works, without a proof; 6 to 12 minutes on four processors
 	@python3 tests/test.py $(RT)
 
-prove: ## proves everything, and tests the proved program; 70 to 90 minutes on four processors
+prove: ## proves everything, and tests the proved program; 65 to 90 minutes on four processors
 	@python3 tests/gate.py $(RT)
 
 edits: ## NAME='CRATE..': tries the wrong bodies in edits/ of these crates, or of all that have changed; half a minute each
