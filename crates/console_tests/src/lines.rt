@@ -2,9 +2,10 @@
 
 use crate::compared::same;
 use console::{Console, LineFault};
+use machine::{GRANT_LIMIT, Grant, Grants};
 use std::alloc::{AllocError, Global};
 use std::test::Fail;
-use world::Event;
+use world::{Bytes, Event, Start};
 
 /// What a console has next.
 #[derive(Clone, Copy, Drop, Debug, PartialEq, Eq)]
@@ -77,26 +78,6 @@ const GOOD: &[(&str, &str)] = &[
     (
         "get 1 0 1",
         "Object { object: 1, command: Get { offset: 0, length: 1 } }",
-    ),
-    (
-        "ship 18446744073709551615 0xffffffffffffffff 0xFfFf 0 0 0x0000000000000001 00",
-        "Ship { start: Start { fuel: 18446744073709551615, arguments: [18446744073709551615, 65535, 0, 0, 1], grants: Grants { all: true, count: 0, words: [0, 0, 0, 0, 0, 0, 0, 0, 0, 0, 0, 0, 0, 0, 0, 0] } }, code: Bytes { bytes: [0] } }",
-    ),
-    (
-        "ship2 1 0 0 0 0 2 95",
-        "Ship { start: Start { fuel: 1, arguments: [0, 0, 0, 0, 2], grants: Grants { all: false, count: 0, words: [0, 0, 0, 0, 0, 0, 0, 0, 0, 0, 0, 0, 0, 0, 0, 0] } }, code: Bytes { bytes: [149] } }",
-    ),
-    (
-        "ship2 1 0 0 0 0 2 95 r1",
-        "Ship { start: Start { fuel: 1, arguments: [0, 0, 0, 0, 2], grants: Grants { all: false, count: 1, words: [1, 0, 0, 0, 0, 0, 0, 0, 0, 0, 0, 0, 0, 0, 0, 0] } }, code: Bytes { bytes: [149] } }",
-    ),
-    (
-        "ship2 1 0 0 0 0 0x2 95 w0x1 r1024",
-        "Ship { start: Start { fuel: 1, arguments: [0, 0, 0, 0, 2], grants: Grants { all: false, count: 2, words: [32769, 1024, 0, 0, 0, 0, 0, 0, 0, 0, 0, 0, 0, 0, 0, 0] } }, code: Bytes { bytes: [149] } }",
-    ),
-    (
-        "ship2 1 0 0 0 0 2 95 r1 r2 r3 r4 r5 r6 r7 r8 w9 w10 w11 w12 w13 w14 w15 w16",
-        "Ship { start: Start { fuel: 1, arguments: [0, 0, 0, 0, 2], grants: Grants { all: false, count: 16, words: [1, 2, 3, 4, 5, 6, 7, 8, 32777, 32778, 32779, 32780, 32781, 32782, 32783, 32784] } }, code: Bytes { bytes: [149] } }",
     ),
     ("leave 1", "Object { object: 1, command: Move(Leave) }"),
     (
@@ -183,6 +164,104 @@ const GOOD: &[(&str, &str)] = &[
     ),
 ];
 
+/// Which objects a line grants.
+#[derive(Clone, Copy, Drop, Debug)]
+enum Granted {
+    All,
+    Nothing,
+    /// Object 1 to read.
+    One,
+    /// Object 1 to write, and object 1024 to read.
+    Two,
+    /// Objects 1 to 8 to read, and objects 9 to 16 to write.
+    Sixteen,
+}
+
+/// Object 1 to read.
+fn one() -> Grants {
+    let mut grants = Grants::none();
+    grants.add(Grant {
+        number: 1,
+        writes: false,
+    });
+    grants
+}
+
+/// Object 1 to write, and object 1024 to read.
+fn two() -> Grants {
+    let mut grants = Grants::none();
+    grants.add(Grant {
+        number: 1,
+        writes: true,
+    });
+    grants.add(Grant {
+        number: 1024,
+        writes: false,
+    });
+    grants
+}
+
+/// Objects 1 to 8 to read, and objects 9 to 16 to write.
+fn sixteen() -> Grants {
+    let mut grants = Grants::none();
+    for count in 0..GRANT_LIMIT {
+        grants.add(Grant {
+            number: count as u32 + 1,
+            writes: count >= 8,
+        });
+    }
+    grants
+}
+
+fn grants_of(granted: Granted) -> Grants {
+    match granted {
+        Granted::All => Grants::all(),
+        Granted::Nothing => Grants::none(),
+        Granted::One => one(),
+        Granted::Two => two(),
+        Granted::Sixteen => sixteen(),
+    }
+}
+
+/// Lines that ship code of one byte, each with fuel, arguments, grants and that byte.
+const SHIPPED: &[(&str, u64, [u64; 5], Granted, u8)] = &[
+    (
+        "ship 18446744073709551615 0xffffffffffffffff 0xFfFf 0 0 0x0000000000000001 00",
+        u64::MAX,
+        [u64::MAX, 65535, 0, 0, 1],
+        Granted::All,
+        0x00,
+    ),
+    (
+        "ship2 1 0 0 0 0 2 95",
+        1,
+        [0, 0, 0, 0, 2],
+        Granted::Nothing,
+        0x95,
+    ),
+    (
+        "ship2 1 0 0 0 0 2 95 r1",
+        1,
+        [0, 0, 0, 0, 2],
+        Granted::One,
+        0x95,
+    ),
+    (
+        "ship2 1 0 0 0 0 0x2 95 w0x1 r1024",
+        1,
+        [0, 0, 0, 0, 2],
+        Granted::Two,
+        0x95,
+    ),
+    (
+        "ship2 1 0 0 0 0 2 95 r1 r2 r3 r4 r5 r6 r7 r8 w9 w10 w11 w12 w13 w14 w15 w16",
+        1,
+        [0, 0, 0, 0, 2],
+        Granted::Sixteen,
+        0x95,
+    ),
+];
+
 /// What a line says, as text: a command, or why it is none.
 fn text_of(alloc: Global, said: Option<Result<Event, LineFault>>) -> Result<String, Fail> {
     match said {
@@ -207,6 +286,26 @@ fn read(alloc: Global, line: &str) -> Result<String, Fail> {
 fn good_lines(rt: HostRuntime) -> Result<(), Fail> {
     for &(line, event) in GOOD {
         same!(rt; read(rt.alloc(), line)?.as_str(), event, line);
+    }
+    Ok(())
+}
+
+#[test]
+fn shipped_code(rt: HostRuntime) -> Result<(), Fail> {
+    for &(line, fuel, arguments, granted, byte) in SHIPPED {
+        let mut code = Vec::new(rt.alloc());
+        code.extend_from_slice(&[byte])?;
+        let start = Start {
+            fuel,
+            arguments,
+            grants: grants_of(granted),
+        };
+        let event = Event::Ship {
+            start,
+            code: Bytes::new(code),
+        };
+        let wanted = text_of(rt.alloc(), Some(Ok(event)))?;
+        same!(rt; read(rt.alloc(), line)?.as_str(), wanted.as_str(), line);
     }
     Ok(())
 }
