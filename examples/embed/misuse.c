@@ -121,48 +121,42 @@ static void no_object(bpfagent *a, uint32_t n)
     must(bytes[0] == 77 && place == 77 && length == 77, 1, "nothing was written");
 }
 
-/* The calls that an object's place allows or not. */
-enum { FREE = 1, LEAVE = 2, LEFT = 4, RETURN = 8, RETURNED = 16, FORGET = 32 };
-
-/* All of these calls but those that are allowed are answered that the object is in this place. */
-static void all_but(bpfagent *a, uint32_t n, unsigned allowed, uint32_t place)
+/* An object in each place, and every move that isn't for an object there. */
+static void in_each_place(bpfagent *a, uint32_t n)
 {
     uint8_t bytes[8] = { 0 };
     size_t length = 0;
     bpfagent_parcel parcel;
 
-    if (!(allowed & FREE))
-        wants(bpfagent_free(a, n), place, "free");
-    if (!(allowed & LEAVE))
-        wants(bpfagent_leave(a, n), place, "leave");
-    if (!(allowed & LEFT)) {
-        wants(bpfagent_left(a, n), place, "left");
-        wants(bpfagent_left_into(a, n, bytes, 8, &length, &parcel), place, "left_into");
-    }
-    if (!(allowed & RETURN))
-        wants(bpfagent_return(a, n), place, "return");
-    if (!(allowed & RETURNED)) {
-        wants(bpfagent_returned(a, n), place, "returned");
-        wants(bpfagent_returned_from(a, n, bytes, 8), place, "returned_from");
-    }
-    if (!(allowed & FORGET))
-        wants(bpfagent_forget(a, n), place, "forget");
-}
-
-/* An object in each place, and every call that isn't for an object there. */
-static void in_each_place(bpfagent *a, uint32_t n)
-{
-    uint8_t bytes[8] = { 0 };
-
-    all_but(a, n, FREE | LEAVE, BPFAGENT_IS_HERE);
+    wants(bpfagent_left(a, n), BPFAGENT_IS_HERE, "left");
+    wants(bpfagent_left_into(a, n, bytes, 8, &length, &parcel), BPFAGENT_IS_HERE, "left_into");
+    wants(bpfagent_return(a, n), BPFAGENT_IS_HERE, "return");
+    wants(bpfagent_returned(a, n), BPFAGENT_IS_HERE, "returned");
+    wants(bpfagent_returned_from(a, n, bytes, 8), BPFAGENT_IS_HERE, "returned_from");
+    wants(bpfagent_forget(a, n), BPFAGENT_IS_HERE, "forget");
     must(bpfagent_leave(a, n), BPFAGENT_OK, "leave");
     wants(bpfagent_put(a, n, 0, bytes, 8), BPFAGENT_AWAY, "put");
     wants(bpfagent_get(a, n, 0, bytes, 8), BPFAGENT_AWAY, "get");
-    all_but(a, n, LEFT, BPFAGENT_IS_LEAVING);
+    wants(bpfagent_free(a, n), BPFAGENT_IS_LEAVING, "free");
+    wants(bpfagent_leave(a, n), BPFAGENT_IS_LEAVING, "leave");
+    wants(bpfagent_return(a, n), BPFAGENT_IS_LEAVING, "return");
+    wants(bpfagent_returned(a, n), BPFAGENT_IS_LEAVING, "returned");
+    wants(bpfagent_returned_from(a, n, bytes, 8), BPFAGENT_IS_LEAVING, "returned_from");
+    wants(bpfagent_forget(a, n), BPFAGENT_IS_LEAVING, "forget");
     must(bpfagent_left(a, n), BPFAGENT_OK, "left");
-    all_but(a, n, RETURN | FORGET, BPFAGENT_IS_FAR);
+    wants(bpfagent_free(a, n), BPFAGENT_IS_FAR, "free");
+    wants(bpfagent_leave(a, n), BPFAGENT_IS_FAR, "leave");
+    wants(bpfagent_left(a, n), BPFAGENT_IS_FAR, "left");
+    wants(bpfagent_left_into(a, n, bytes, 8, &length, &parcel), BPFAGENT_IS_FAR, "left_into");
+    wants(bpfagent_returned(a, n), BPFAGENT_IS_FAR, "returned");
+    wants(bpfagent_returned_from(a, n, bytes, 8), BPFAGENT_IS_FAR, "returned_from");
     must(bpfagent_return(a, n), BPFAGENT_OK, "return");
-    all_but(a, n, RETURNED, BPFAGENT_IS_RETURNING);
+    wants(bpfagent_free(a, n), BPFAGENT_IS_RETURNING, "free");
+    wants(bpfagent_leave(a, n), BPFAGENT_IS_RETURNING, "leave");
+    wants(bpfagent_left(a, n), BPFAGENT_IS_RETURNING, "left");
+    wants(bpfagent_left_into(a, n, bytes, 8, &length, &parcel), BPFAGENT_IS_RETURNING, "left_into");
+    wants(bpfagent_return(a, n), BPFAGENT_IS_RETURNING, "return");
+    wants(bpfagent_forget(a, n), BPFAGENT_IS_RETURNING, "forget");
     must(bpfagent_returned(a, n), BPFAGENT_OK, "returned");
 }
 
