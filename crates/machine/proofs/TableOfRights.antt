@@ -9,8 +9,7 @@ use Rattle.machine.specs.declared.grants.Grant.{Grant}
 use Rattle.machine.specs.declared.rights.Right.{Right}
 use Rattle.machine.specs.declared.rights.Right.TheVariants.{Nothing, Reads, Writes}
 use Rattle.machine.specs.Grants.{GrantState, is_listed, is_object_number}
-use Rattle.machine.specs.declared.grants.KeptGrant.{KeptGrant}
-use Rattle.machine.specs.KeptGrants.{grant_of, grants_in}
+use Rattle.machine.specs.KeptGrants.{grants_in}
 use Rattle.machine.specs.Rights.{suffices, joined, full_of, IsTableOf, HasMore}
 
 -- ---- the first tables
@@ -90,29 +89,29 @@ joins : (empty : Bool) (g : Grant) (gs hs tail : List Grant) → gs ≡ hs ++ ta
 joins true g gs hs tail e = e
 joins false g gs hs tail e = ap (λ (l : List Grant). g ∷ l) e
 
-grants_append : (kept : List KeptGrant) (one : KeptGrant) → grants_in (kept ++ one ∷ []) ≡ grants_in kept ++ grants_in (one ∷ [])
+grants_append : (kept : List Grant) (one : Grant) → grants_in (kept ++ one ∷ []) ≡ grants_in kept ++ grants_in (one ∷ [])
 grants_append [] one = refl
-grants_append (first ∷ kept) one = joins (nat_eq first.number 0) (grant_of first) (grants_in (kept ++ one ∷ [])) (grants_in kept) (grants_in (one ∷ [])) (grants_append kept one)
+grants_append (first ∷ kept) one = joins (nat_eq first.number 0) first (grants_in (kept ++ one ∷ [])) (grants_in kept) (grants_in (one ∷ [])) (grants_append kept one)
 
 -- number 0 keeps no grant
-no_more : (kept : List KeptGrant) (one : KeptGrant) (old new : List Right) → one.number ≡ 0 → IsTableOf (record { all = false; listed = grants_in kept }) old → HasMore old (grant_of one) new → IsTableOf (record { all = false; listed = grants_in kept }) new
-no_more kept one old new e t m zero h writes = m zero h writes ∙ ap (λ b. is_listed writes zero (grant_of one) || b) (t zero h writes) ∙ sym (or_true (is_listed writes zero (grant_of one)))
+no_more : (kept : List Grant) (one : Grant) (old new : List Right) → one.number ≡ 0 → IsTableOf (record { all = false; listed = grants_in kept }) old → HasMore old one new → IsTableOf (record { all = false; listed = grants_in kept }) new
+no_more kept one old new e t m zero h writes = m zero h writes ∙ ap (λ b. is_listed writes zero one || b) (t zero h writes) ∙ sym (or_true (is_listed writes zero one))
 no_more kept one old new e t m (suc n) h writes =
     let other : nat_eq 0 (suc n) ≡ false = grind (arith, nat_tests) in
-    let none : is_listed writes (suc n) (grant_of one) ≡ false = rw (e, other) refl in
+    let none : is_listed writes (suc n) one ≡ false = rw (e, other) refl in
     m (suc n) h writes ∙ rw none (t (suc n) h writes)
 
-one_more : (empty : Bool) (kept : List KeptGrant) (one : KeptGrant) → nat_eq one.number 0 ≡ empty → grants_in (kept ++ one ∷ []) ≡ grants_in kept ++ (if empty then [] else (grant_of one ∷ []))
-one_more empty kept one e = grants_append kept one ∙ ap (λ b. grants_in kept ++ (if b then [] else (grant_of one ∷ []))) e
+one_more : (empty : Bool) (kept : List Grant) (one : Grant) → nat_eq one.number 0 ≡ empty → grants_in (kept ++ one ∷ []) ≡ grants_in kept ++ (if empty then [] else (one ∷ []))
+one_more empty kept one e = grants_append kept one ∙ ap (λ b. grants_in kept ++ (if b then [] else (one ∷ []))) e
 
-by_number : (empty : Bool) (kept : List KeptGrant) (one : KeptGrant) (old new : List Right) → nat_eq one.number 0 ≡ empty → IsTableOf (record { all = false; listed = grants_in kept }) old → HasMore old (grant_of one) new → IsTableOf (record { all = false; listed = grants_in kept ++ (if empty then [] else (grant_of one ∷ [])) }) new
+by_number : (empty : Bool) (kept : List Grant) (one : Grant) (old new : List Right) → nat_eq one.number 0 ≡ empty → IsTableOf (record { all = false; listed = grants_in kept }) old → HasMore old one new → IsTableOf (record { all = false; listed = grants_in kept ++ (if empty then [] else (one ∷ [])) }) new
 by_number true kept one old new e t m = rw (append-nil (grants_in kept)) (no_more kept one old new (grind (arith, nat_tests)) t m)
-by_number false kept one old new e t m = more_table (grants_in kept) (grant_of one) old new t m
+by_number false kept one old new e t m = more_table (grants_in kept) one old new t m
 
 -- the table of those that are kept, and of one more
-pub kept_table : (kept : List KeptGrant) (one : KeptGrant) (old new : List Right) → IsTableOf (record { all = false; listed = grants_in kept }) old → HasMore old (grant_of one) new → IsTableOf (record { all = false; listed = grants_in (kept ++ one ∷ []) }) new
+pub kept_table : (kept : List Grant) (one : Grant) (old new : List Right) → IsTableOf (record { all = false; listed = grants_in kept }) old → HasMore old one new → IsTableOf (record { all = false; listed = grants_in (kept ++ one ∷ []) }) new
 kept_table kept one old new t m = rw (one_more (nat_eq one.number 0) kept one refl) (by_number (nat_eq one.number 0) kept one old new refl t m)
 
 -- the table of the grants one by one, where not all are granted
-pub listed_table : (g : GrantState) (kept : List KeptGrant) (table : List Right) → g.all ≡ false → grants_in kept ≡ g.listed → IsTableOf (record { all = false; listed = grants_in kept }) table → IsTableOf g table
+pub listed_table : (g : GrantState) (kept : List Grant) (table : List Right) → g.all ≡ false → grants_in kept ≡ g.listed → IsTableOf (record { all = false; listed = grants_in kept }) table → IsTableOf g table
 listed_table g kept table a e t n h writes = rw (a, ← e) (t n h writes)

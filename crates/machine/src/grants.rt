@@ -2,7 +2,7 @@
 ghost use Rattle.std.specs.Prelude.{◌≡◌, ◌≤◌, ◌<◌, ◌++◌, ◌∷◌, [], false, length};
 ghost use Rattle.memory.specs.Objects.{object_limit};
 ghost use Rattle.machine.specs.Grants.{GrantState, all_granted, is_writing};
-ghost use Rattle.machine.specs.KeptGrants.{grant_of, grants_in};
+ghost use Rattle.machine.specs.KeptGrants.{grants_in};
 
 use memory::Action;
 use std::marker::Model;
@@ -17,35 +17,44 @@ pub struct Grant {
     pub writes: bool,
 }
 
-/// A grant in half the bytes, since grants are passed on with each command. Number 0 keeps none.
+/// A grant in 16 bits, since grants are passed on with each command. Number 0 keeps none.
 #[derive(Clone, Copy, Drop, Debug)]
 pub(crate) struct KeptGrant {
-    number: u16,
-    writes: bool,
+    // twice the number, and one more if the object may be written
+    word: u16,
 }
 
-const NO_GRANT: KeptGrant = KeptGrant {
-    number: 0,
-    writes: false,
-};
+impl Model for KeptGrant {
+    ghost use Rattle.machine.specs.declared.grants.Grant.{Grant};
+    ghost use Rattle.machine.specs.KeptGrants.{grant_of, word_of, word_of_grant};
+
+    ghost Value = { Grant };
+
+    ghost view = { λ k. grant_of k.word };
+
+    ghost inverse = { λ g. record { word = word_of g } };
+
+    ghost inverse_ok = { λ k h i. record { word = word_of_grant k.word i } };
+}
+
+const NO_GRANT: KeptGrant = KeptGrant { word: 0 };
 
 impl KeptGrant {
     fn of(grant: Grant) -> Self
         requires { grant.number ≤ object_limit }
-        ensures { grant_of result ≡ grant }
+        ensures { result ≡ grant }
     {
         KeptGrant {
-            number: grant.number as u16,
-            writes: grant.writes,
+            word: grant.number as u16 * 2 + u16::from(grant.writes),
         }
     }
 
     pub(crate) fn grant(self) -> Grant
-        ensures { result ≡ grant_of self }
+        ensures { result ≡ self }
     {
         Grant {
-            number: u32::from(self.number),
-            writes: self.writes,
+            number: u32::from(self.word / 2),
+            writes: self.word % 2 == 1,
         }
     }
 }

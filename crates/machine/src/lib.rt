@@ -11,6 +11,7 @@ mod pairs;
 mod registers;
 mod rights;
 mod rows;
+mod runs;
 mod state;
 
 pub use grants::{GRANT_LIMIT, Grant, Grants, is_writing};

@@ -102,11 +102,28 @@ pub struct Done {
     pub closes: bool,
 }
 
-/// What one dispatch of a run did: an instruction, or two that ran, and the slot where the machine is then.
+/// What one dispatch of a run did: one instruction ran and closes no scope, or two, and the slot where the machine is then; or
+/// whatever else one came to.
 #[derive(Clone, Copy, Drop)]
 pub enum Dispatched {
-    One(Done),
+    One(usize),
     Two(usize),
+    Other(Done),
+}
+
+impl Dispatched {
+    ghost use Rattle.machine.specs.Dispatches.{IsOf};
+
+    /// What is kept of an instruction that was done: mostly it ran and closes no scope, and then its slot tells all.
+    #[inline(always)]
+    pub(crate) fn of(done: Done) -> Dispatched
+        ensures { IsOf result done }
+    {
+        match done.answer {
+            Stepped::Ran(_) if !done.closes => Dispatched::One(done.slot),
+            _ => Dispatched::Other(done),
+        }
+    }
 }
 
 /// The fuel that is left after a step: an instruction that ran takes one, and so does EXIT.

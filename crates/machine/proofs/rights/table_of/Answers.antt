@@ -1,8 +1,7 @@
-use Rattle.std.proofs.Common.{◌≡◌, take, get_or, false, sym, ◌∙◌, subst, arith}
+use Rattle.std.proofs.Common.{◌≡◌, take, false, sym, ◌∙◌, subst, arith}
 use Rattle.std.proofs.lemmas.List.{take_all, take_more}
 use Rattle.machine.specs.declared.grants.Grant.{Grant}
-use Rattle.machine.specs.declared.grants.KeptGrant.{KeptGrant}
-use Rattle.machine.specs.KeptGrants.{grant_of, grants_in}
+use Rattle.machine.specs.KeptGrants.{grants_in}
 use Rattle.machine.specs.Rights.{IsTableOf, HasMore}
 use Rattle.machine.proofs.TableOfRights.{all_table, no_table, kept_table, listed_table}
 use Rattle.machine.proofs.rights.table_of.Goals as goal
@@ -17,9 +16,9 @@ pub loop-kept-preserved : goal.loop-kept-preserved
 loop-kept-preserved c =
     let all = c.kept-all.result.now in
     let index = c.loop-kept.kept-index in
-    let one : KeptGrant = get_or all index (record { number = 0; writes = false }) in
-    let more : HasMore c.loop-kept.table (grant_of one) c.add.new.table = subst (λ (g : Grant). HasMore c.loop-kept.table g c.add.new.table) c.grant.ensures c.add.ensures in
-    rw (take_more all index (record { number = 0; writes = false }) c.loop-kept-test.true) (kept_table (take index all) one c.loop-kept.table c.add.new.table c.loop-kept.invariant more)
+    let one : Grant = c.kept-item.result in
+    let more : HasMore c.loop-kept.table one c.add.new.table = subst (λ (g : Grant). HasMore c.loop-kept.table g c.add.new.table) c.grant.ensures c.add.ensures in
+    rw (take_more all index one c.loop-kept-test.true, sym c.kept-item.is) (kept_table (take index all) one c.loop-kept.table c.add.new.table c.loop-kept.invariant more)
 
 pub returns : goal.returns
 returns c =

@@ -12,6 +12,11 @@ bounds-self-inside-count c =
     let e = ap (λ (g : GrantState). length g.listed) c.self.view_is in
     omega (arith, e, kept_count c.self.inside.count c.self.inside.kept c.self.invariant.0, c.requires.room)
 
+pub listed : goal.listed
+listed c =
+    let e = ap (λ (g : GrantState). length g.listed) c.self.view_is in
+    omega (arith, e, kept_count c.self.inside.count c.self.inside.kept c.self.invariant.0, c.requires.room, c.self.invariant.1)
+
 pub invariant_of-self : goal.invariant_of-self
 invariant_of-self c =
     let e = ap (λ (g : GrantState). length g.listed) c.self.view_is in
