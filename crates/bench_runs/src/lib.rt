@@ -2,8 +2,7 @@
 //! calls both `Machine::step` and `Machine::run` has two copies of all that a step does, and calls them.
 #![tactic(auto)]
 
-use bench_start::{Work, memory_of, start};
-use machine::{Ended, Stop};
+use bench_start::{Work, instructions_run, memory_of, start};
 use std::alloc::Global;
 
 /// Runs the code as `start` has it, in one call. Gives R0 as the machine stops, and how many instructions ran; 0 where it doesn't
@@ -14,9 +13,7 @@ pub extern "C" fn bpf_run(alloc: Global, code: &[u8], work: &Work, steps: &mut u
         return 0;
     };
     let mut memory = memory_of(&mut store, *work);
-    let ended = machine.run(u64::MAX, &mut memory);
-    // EXIT takes fuel too, and is no step that ran
-    let last = matches!(ended, Ended::Stopped(Stop::Exit(_))) as u64;
-    *steps = work.fuel.wrapping_sub(machine.fuel()).wrapping_sub(last);
+    let _ = machine.run(u64::MAX, &mut memory);
+    *steps = instructions_run(work, &machine);
     machine.registers()[0]
 }

@@ -6,7 +6,7 @@ ghost use Rattle.std.specs.Prelude.{◌≡◌, ◌≤◌, IfSome};
 use far_store::OwnStore;
 use isa_table::Size;
 use loader::load;
-use machine::{GRANT_LIMIT, Grant, Grants, Machine};
+use machine::{GRANT_LIMIT, Grant, Grants, Machine, Stop};
 use memory::{Action, Op};
 use object_store::{ObjectStore, StoreMemory};
 use scopes::MACHINE_LIMIT;
@@ -73,6 +73,12 @@ pub fn memory_of<'a>(store: &'a mut ObjectStore<OwnStore>, work: Work) -> StoreM
         store,
         who: work.machines,
     }
+}
+
+/// How many instructions the machine ran since it started, by its fuel. EXIT takes fuel too, and is none that ran.
+pub fn instructions_run(work: &Work, machine: &Machine) -> u64 {
+    let exits = matches!(machine.stop(), Some(Stop::Exit(_))) as u64;
+    work.fuel.wrapping_sub(machine.fuel()).wrapping_sub(exits)
 }
 
 /// The first objects, so many, for writing.

@@ -3,24 +3,23 @@
 
 ghost use Rattle.bench_steps.specs.Reached.{RunsTo, IsEnd};
 
-use bench_start::{Work, memory_of, start};
+use bench_start::{Work, instructions_run, memory_of, start};
 use machine::{Machine, Stepped};
 use memory::Memory;
 use std::alloc::Global;
 
-/// Steps the machine until it stops, or waits, and counts the steps that ran.
-fn run_to_end<M: Memory>(machine: &mut Machine, memory: &mut M) -> (Stepped, u64)
+/// Steps the machine until it stops, or waits. Counts nothing, since the fuel tells how many steps ran.
+fn run_to_end<M: Memory>(machine: &mut Machine, memory: &mut M) -> Stepped
     requires ready { M.is_ready memory.old }
     ensures ready { M.is_ready memory.new }
     ensures steps { RunsTo M.acts machine.old memory.old machine.new memory.new }
-    ensures end { IsEnd result.0 }
+    ensures end { IsEnd result }
 {
-    let mut steps = 0u64;
     'run: loop {
         match machine.step(memory) {
-            Stepped::Ran(_) => steps = steps.wrapping_add(1),
-            Stepped::Waiting(number) => return (Stepped::Waiting(number), steps),
-            Stepped::Stopped(stop) => return (Stepped::Stopped(stop), steps),
+            Stepped::Ran(_) => {}
+            Stepped::Waiting(number) => return Stepped::Waiting(number),
+            Stepped::Stopped(stop) => return Stepped::Stopped(stop),
         }
     }
 }
@@ -33,6 +32,7 @@ pub extern "C" fn bpf_run(alloc: Global, code: &[u8], work: &Work, steps: &mut u
         return 0;
     };
     let mut memory = memory_of(&mut store, *work);
-    *steps = run_to_end(&mut machine, &mut memory).1;
+    let _ = run_to_end(&mut machine, &mut memory);
+    *steps = instructions_run(work, &machine);
     machine.registers()[0]
 }
