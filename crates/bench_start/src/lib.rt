@@ -1,12 +1,13 @@
 //! How the programs that are measured start.
 #![tactic(auto)]
 
-ghost use Rattle.std.specs.Prelude.{◌≡◌, ◌≤◌, IfSome};
+ghost use Rattle.std.specs.Prelude.{◌≡◌, ◌≤◌, ◌-◌, None, IfSome};
+ghost use Rattle.machine.specs.Runs.{fuel_of_stop};
 
 use far_store::OwnStore;
 use isa_table::Size;
 use loader::load;
-use machine::{GRANT_LIMIT, Grant, Grants, Machine, Stop};
+use machine::{GRANT_LIMIT, Grant, Grants, Machine};
 use memory::{Action, Op};
 use object_store::{ObjectStore, StoreMemory};
 use scopes::MACHINE_LIMIT;
@@ -76,9 +77,15 @@ pub fn memory_of<'a>(store: &'a mut ObjectStore<OwnStore>, work: Work) -> StoreM
 }
 
 /// How many instructions the machine ran since it started, by its fuel. EXIT takes fuel too, and is none that ran.
-pub fn instructions_run(work: &Work, machine: &Machine) -> u64 {
-    let exits = matches!(machine.stop(), Some(Stop::Exit(_))) as u64;
-    work.fuel.wrapping_sub(machine.fuel()).wrapping_sub(exits)
+pub fn instructions_run(work: &Work, machine: &Machine) -> u64
+    ensures goes { machine.now.stop ≡ None → result ≡ work.now.fuel - machine.now.fuel }
+    ensures stopped { IfSome machine.now.stop (λ s. result ≡ work.now.fuel - machine.now.fuel - fuel_of_stop s) }
+{
+    let taken = work.fuel.saturating_sub(machine.fuel());
+    match machine.stop() {
+        Some(stop) => taken.saturating_sub(stop.cost()),
+        None => taken,
+    }
 }
 
 /// The first objects, so many, for writing.
