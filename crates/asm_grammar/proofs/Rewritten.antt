@@ -6,7 +6,7 @@ use Rattle.std.specs.Fmt.{digits}
 use Rattle.asm_text.specs.Tokens.{Lexeme, tokens, run, is_letter, is_name_byte}
 use Rattle.asm_text.specs.Tokens.Lexeme.{Name, Number, Comma, Open, Close, Plus, Minus}
 use Rattle.asm_text.proofs.Digits.{and_both}
-use Rattle.asm_text.proofs.Spelled.{name_front, number_front, hex_front, comma_front, open_front, close_front, plus_front, minus_front}
+use Rattle.asm_text.proofs.Spelled.{name_front, number_front, hex_front, mark_front}
 use Rattle.isa_table.specs.declared.instr.Instr.{Instr}
 use Rattle.isa_table.specs.declared.instr.Reg.{Reg}
 use Rattle.isa_table.specs.declared.instr.Reg.TheVariants.{R0, R1, R2, R3, R4, R5, R6, R7, R8, R9, R10}
@@ -52,26 +52,26 @@ decimal_front : (n : ℕ) (rest : List ℕ) → n < 2 ^ 64 → run is_name_byte 
 decimal_front n rest h end = let d = decimal_is_IsNumeral n h in number_front (decimal n) rest n d.0 d.1 h end
 
 plus_decimal : (n : ℕ) (rest : List ℕ) → n < 2 ^ 64 → run is_name_byte rest ≡ 0 → tokens (43 ∷ (decimal n ++ rest)) ≡ Plus ∷ Number (Some n) ∷ tokens rest
-plus_decimal n rest h end = plus_front (decimal n ++ rest) ∙ ap (λ l. Plus ∷ l) (decimal_front n rest h end)
+plus_decimal n rest h end = (mark_front (decimal n ++ rest)).plus ∙ ap (λ l. Plus ∷ l) (decimal_front n rest h end)
 
 minus_decimal : (n : ℕ) (rest : List ℕ) → n < 2 ^ 64 → run is_name_byte rest ≡ 0 → tokens (45 ∷ (decimal n ++ rest)) ≡ Minus ∷ Number (Some n) ∷ tokens rest
-minus_decimal n rest h end = minus_front (decimal n ++ rest) ∙ ap (λ l. Minus ∷ l) (decimal_front n rest h end)
+minus_decimal n rest h end = (mark_front (decimal n ++ rest)).minus ∙ ap (λ l. Minus ∷ l) (decimal_front n rest h end)
 
 memory_shape : (r : Reg) (z : ℤ) (rest : List ℕ) → operand_text (operand.Memory r z) ++ rest ≡ 91 ∷ (register_name r ++ (offset_text z ++ 93 ∷ rest))
 memory_shape r z rest = ap (λ l. 91 ∷ l) (append_assoc (register_name r) (offset_text z ++ 93 ∷ []) rest ∙ ap (λ l. register_name r ++ l) (append_assoc (offset_text z) (93 ∷ []) rest))
 
 base_front : (r : Reg) (rest : List ℕ) (ts : List Lexeme) → run is_name_byte rest ≡ 0 → tokens rest ≡ ts → tokens (91 ∷ (register_name r ++ rest)) ≡ Open ∷ Name (register_name r) ∷ ts
-base_front r rest ts end e = open_front (register_name r ++ rest) ∙ ap (λ l. Open ∷ l) (register_front r rest end ∙ ap (λ l. Name (register_name r) ∷ l) e)
+base_front r rest ts end e = (mark_front (register_name r ++ rest)).opening ∙ ap (λ l. Open ∷ l) (register_front r rest end ∙ ap (λ l. Name (register_name r) ∷ l) e)
 
 operand_front : (o : AsmOperand) (rest : List ℕ) → FitsOperand o → run is_name_byte rest ≡ 0 → tokens (operand_text o ++ rest) ≡ lexemes_of (canonical o) ++ tokens rest
 operand_front (operand.Register r) rest f end = register_front r rest end
 operand_front (operand.Imm (pos n)) rest f end = decimal_front n rest (omega arith) end
 operand_front (operand.Imm (negsuc n)) rest f end = minus_decimal (suc n) rest (omega arith) end
-operand_front (operand.Memory r (pos zero)) rest f end = ap tokens (memory_shape r (pos zero) rest) ∙ base_front r (93 ∷ rest) (Close ∷ tokens rest) refl (close_front rest)
+operand_front (operand.Memory r (pos zero)) rest f end = ap tokens (memory_shape r (pos zero) rest) ∙ base_front r (93 ∷ rest) (Close ∷ tokens rest) refl ((mark_front rest).closing)
 operand_front (operand.Memory r (pos (suc n))) rest f end =
-    ap tokens (memory_shape r (pos (suc n)) rest) ∙ base_front r (43 ∷ (decimal (suc n) ++ 93 ∷ rest)) (Plus ∷ Number (Some (suc n)) ∷ Close ∷ tokens rest) refl (plus_decimal (suc n) (93 ∷ rest) (omega arith) refl ∙ ap (λ l. Plus ∷ Number (Some (suc n)) ∷ l) (close_front rest))
+    ap tokens (memory_shape r (pos (suc n)) rest) ∙ base_front r (43 ∷ (decimal (suc n) ++ 93 ∷ rest)) (Plus ∷ Number (Some (suc n)) ∷ Close ∷ tokens rest) refl (plus_decimal (suc n) (93 ∷ rest) (omega arith) refl ∙ ap (λ l. Plus ∷ Number (Some (suc n)) ∷ l) ((mark_front rest).closing))
 operand_front (operand.Memory r (negsuc n)) rest f end =
-    ap tokens (memory_shape r (negsuc n) rest) ∙ base_front r (45 ∷ (decimal (suc n) ++ 93 ∷ rest)) (Minus ∷ Number (Some (suc n)) ∷ Close ∷ tokens rest) refl (minus_decimal (suc n) (93 ∷ rest) (omega arith) refl ∙ ap (λ l. Minus ∷ Number (Some (suc n)) ∷ l) (close_front rest))
+    ap tokens (memory_shape r (negsuc n) rest) ∙ base_front r (45 ∷ (decimal (suc n) ++ 93 ∷ rest)) (Minus ∷ Number (Some (suc n)) ∷ Close ∷ tokens rest) refl (minus_decimal (suc n) (93 ∷ rest) (omega arith) refl ∙ ap (λ l. Minus ∷ Number (Some (suc n)) ∷ l) ((mark_front rest).closing))
 operand_front (operand.Offset (pos n)) rest f end = plus_decimal n rest (omega arith) end
 operand_front (operand.Offset (negsuc n)) rest f end = minus_decimal (suc n) rest (omega arith) end
 operand_front (operand.LongOffset (pos n)) rest f end = plus_decimal n rest (omega arith) end
@@ -87,7 +87,7 @@ more_ends (o ∷ os) = refl
 more_tokens : (os : List AsmOperand) → AllFitOperands os → tokens (more_text os) ≡ more (map canonical os)
 more_tokens [] f = refl
 more_tokens (o ∷ os) f =
-    comma_front (32 ∷ (operand_text o ++ more_text os)) ∙ ap (λ l. Comma ∷ l) (operand_front o (more_text os) f.0 (more_ends os) ∙ ap (λ l. lexemes_of (canonical o) ++ l) (more_tokens os f.1))
+    (mark_front (32 ∷ (operand_text o ++ more_text os))).comma ∙ ap (λ l. Comma ∷ l) (operand_front o (more_text os) f.0 (more_ends os) ∙ ap (λ l. lexemes_of (canonical o) ++ l) (more_tokens os f.1))
 
 operands_ends : (os : List AsmOperand) → run is_name_byte (operands_text os) ≡ 0
 operands_ends [] = refl

@@ -2,7 +2,7 @@
 ghost use Rattle.std.specs.Prelude.{◌≡◌, ◌≤◌, ◌<◌, ◌^◌, ℤ, pos, ◌≤ℤ◌, ◌<ℤ◌, neg_ℤ, IfSome, Some, None};
 ghost use Rattle.asm_grammar.specs.Writing.{written_seen};
 ghost use Rattle.asm_grammar.specs.Writing.Written.{Word, Bare, Signed, Memory, MemoryAt};
-ghost use Rattle.asm_grammar.specs.Sorts.{fitting, imm64_of, operand_taken};
+ghost use Rattle.asm_grammar.specs.Sorts.{counted, fitting, imm64_of, operand_taken};
 ghost use Rattle.asm_grammar.specs.Views.{taken_by};
 
 use crate::written::{Sign, Written};
@@ -65,6 +65,16 @@ fn fit64(sign: Sign, n: Option<u64>) -> Option<u64>
     }
 }
 
+/// Taken with this number, or out of range where there is none.
+fn counted<'a>(number: Option<AsmOperand>) -> Taken<'a>
+    ensures { taken_by result ≡ counted (λ operand. operand) number }
+{
+    match number {
+        Some(operand) => Taken::Is(operand),
+        None => Taken::Out,
+    }
+}
+
 fn take_register<'a>(name: &[u8]) -> Taken<'a>
     ensures { taken_by result ≡ operand_taken Sort.Register (Word name.now) }
 {
@@ -77,20 +87,14 @@ fn take_register<'a>(name: &[u8]) -> Taken<'a>
 fn take_imm<'a>(sign: Sign, n: Option<u64>) -> Taken<'a>
     ensures { taken_by result ≡ operand_taken Sort.Imm (Signed sign n) }
 {
-    match fit32(sign, n) {
-        Some(z) => Taken::Is(AsmOperand::Imm(z)),
-        None => Taken::Out,
-    }
+    counted(fit32(sign, n).map(|z| AsmOperand::Imm(z)))
 }
 
 fn take_memory<'a>(name: &[u8], sign: Sign, n: Option<u64>) -> Taken<'a>
     ensures { taken_by result ≡ operand_taken Sort.Memory (MemoryAt name.now sign n) }
 {
     match register_named(name) {
-        Some(r) => match fit16(sign, n) {
-            Some(z) => Taken::Is(AsmOperand::Memory(r, z)),
-            None => Taken::Out,
-        },
+        Some(r) => counted(fit16(sign, n).map(|z| AsmOperand::Memory(r, z))),
         None => Taken::No,
     }
 }
@@ -107,28 +111,19 @@ fn take_base<'a>(name: &[u8]) -> Taken<'a>
 fn take_imm64<'a>(sign: Sign, n: Option<u64>) -> Taken<'a>
     ensures { taken_by result ≡ operand_taken Sort.Imm64 (Signed sign n) }
 {
-    match fit64(sign, n) {
-        Some(k) => Taken::Is(AsmOperand::Imm64(k)),
-        None => Taken::Out,
-    }
+    counted(fit64(sign, n).map(|k| AsmOperand::Imm64(k)))
 }
 
 fn take_offset<'a>(sign: Sign, n: Option<u64>) -> Taken<'a>
     ensures { taken_by result ≡ operand_taken Sort.Target (Signed sign n) }
 {
-    match fit16(sign, n) {
-        Some(z) => Taken::Is(AsmOperand::Offset(z)),
-        None => Taken::Out,
-    }
+    counted(fit16(sign, n).map(|z| AsmOperand::Offset(z)))
 }
 
 fn take_long_offset<'a>(sign: Sign, n: Option<u64>) -> Taken<'a>
     ensures { taken_by result ≡ operand_taken Sort.LongTarget (Signed sign n) }
 {
-    match fit32(sign, n) {
-        Some(z) => Taken::Is(AsmOperand::LongOffset(z)),
-        None => Taken::Out,
-    }
+    counted(fit32(sign, n).map(|z| AsmOperand::LongOffset(z)))
 }
 
 /// What is taken where this sort is wanted.

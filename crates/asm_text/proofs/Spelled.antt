@@ -5,7 +5,7 @@ use Rattle.std.proofs.lemmas.Int.Digits.{digits_value_is}
 use Rattle.std.specs.Int.Digits.{number_from_digits}
 use Rattle.std.specs.Char.{digit_value, is_ascii_digit, is_ascii_hexdigit}
 use Rattle.std.specs.Str.Parse.{IsNumeral, AllDigits, digits_value}
-use Rattle.asm_text.specs.Tokens.{run, tokens, tokens_past, is_blank, is_letter, is_name_byte, begins_comment, begins_hex, word_length, lexeme_of, bounded}
+use Rattle.asm_text.specs.Tokens.{Lexeme, run, tokens, tokens_past, is_blank, is_letter, is_name_byte, begins_comment, begins_hex, word_length, lexeme_of, bounded}
 use Rattle.asm_text.specs.Tokens.Lexeme.{Name, Number, Comma, Open, Close, Plus, Minus}
 use Rattle.asm_text.proofs.Scanned.{tokens_after}
 
@@ -75,25 +75,13 @@ name_front b bs rest l all end =
 
 -- ---- marks
 
-pub comma_front : (rest : List ℕ) → tokens (44 ∷ rest) ≡ Comma ∷ tokens rest
-unfolding word_length lexeme_of
-comma_front rest = refl
+-- a mark at the front is a token by itself, whatever follows
+abbrev MarkIs : ℕ → Lexeme → List ℕ → Type 0
+MarkIs b mark rest = tokens (b ∷ rest) ≡ mark ∷ tokens rest
 
-pub open_front : (rest : List ℕ) → tokens (91 ∷ rest) ≡ Open ∷ tokens rest
+pub mark_front : (rest : List ℕ) → record { comma : MarkIs 44 Comma rest; opening : MarkIs 91 Open rest; closing : MarkIs 93 Close rest; plus : MarkIs 43 Plus rest; minus : MarkIs 45 Minus rest }
 unfolding word_length lexeme_of
-open_front rest = refl
-
-pub close_front : (rest : List ℕ) → tokens (93 ∷ rest) ≡ Close ∷ tokens rest
-unfolding word_length lexeme_of
-close_front rest = refl
-
-pub plus_front : (rest : List ℕ) → tokens (43 ∷ rest) ≡ Plus ∷ tokens rest
-unfolding word_length lexeme_of
-plus_front rest = refl
-
-pub minus_front : (rest : List ℕ) → tokens (45 ∷ rest) ≡ Minus ∷ tokens rest
-unfolding word_length lexeme_of
-minus_front rest = refl
+mark_front rest = record { comma = refl; opening = refl; closing = refl; plus = refl; minus = refl }
 
 -- ---- numbers
 
