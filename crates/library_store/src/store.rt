@@ -29,26 +29,29 @@ impl Model for LibraryStore {
 }
 
 impl LibraryStore {
+    /// A store that has seen no fault, and keeps what is put or refuses it.
+    fn new(alloc: Global, keeps: bool) -> Self
+        ensures { result ≡ record { keeps = keeps; faults = 0 } }
+    {
+        LibraryStore {
+            alloc,
+            keeps,
+            faults: 0,
+        }
+    }
+
     /// A store that keeps what is put.
     pub fn keeping(alloc: Global) -> Self
         ensures { result ≡ record { keeps = true; faults = 0 } }
     {
-        LibraryStore {
-            alloc,
-            keeps: true,
-            faults: 0,
-        }
+        LibraryStore::new(alloc, true)
     }
 
     /// A store that refuses what is put.
     pub fn handing(alloc: Global) -> Self
         ensures { result ≡ record { keeps = false; faults = 0 } }
     {
-        LibraryStore {
-            alloc,
-            keeps: false,
-            faults: 0,
-        }
+        LibraryStore::new(alloc, false)
     }
 
     /// Counts a fault.
