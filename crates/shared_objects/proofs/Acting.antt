@@ -9,15 +9,20 @@ use Rattle.memory.specs.declared.access.Op.{Op}
 use Rattle.memory.specs.Access.{size_of, count_of, part}
 use Rattle.shared_objects.specs.declared.body.Body.{Body}
 use Rattle.memory.specs.Objects.{bytes_of}
-use Rattle.shared_objects.specs.Kinds.{Sat, shut, looking, marked, recorded, worn_out}
+use Rattle.shared_objects.specs.Kinds.{Sat, shut, looking, marked, holding, recorded, worn_out}
 use Rattle.scopes.specs.Windows.{noted}
-use Rattle.shared_objects.specs.History.{top}
+use Rattle.shared_objects.specs.History.{top, entry}
+use Rattle.memory.specs.declared.deeds.Deed.{Deed}
+use Rattle.memory.specs.declared.deeds.Given.{Given}
 use Rattle.memory.specs.Deeds.{EndsInside, given_by, left_by}
 use Rattle.shared_objects.specs.declared.view.SharedEntry.{SharedEntry}
 use Rattle.shared_objects.specs.declared.view.Mark.TheVariants.{Busy}
 use Rattle.shared_objects.proofs.Logs.{top-snoc}
 use Rattle.shared_objects.specs.Resting.{Rests, AllBelow, HoldsBody}
 use Rattle.shared_objects.proofs.Noted.{below_noted}
+use Rattle.shared_objects.specs.Tables.{table_opening, IsActorOf}
+use Rattle.shared_objects.specs.declared.seats.ActorSeat.{ActorSeat}
+use Rattle.shared_objects.specs.declared.table.SharedTable.{SharedTable}
 use Rattle.shared_objects.specs.declared.view.View.{View}
 
 pub rests_after : (old new : Sat) (w : View) → Rests old → new ≡ (w, []) → w.turn ≡ None → w.live ≡ old.0.live → w.made ≡ old.0.made → w.gathered ≡ old.0.gathered → w.passing ≡ old.0.passing → w.out ≡ old.0.out → Rests new
@@ -38,38 +43,45 @@ none_above [] n h = refl
 none_above (x ∷ xs) zero h = absurd (omega arith)
 none_above (x ∷ xs) (suc n) h = none_above xs n (omega arith)
 
+-- an actor's seat, with its window and its stamp, between two calls
+abbrev ActorFits : Sat → List ℕ → ℕ → Type 0
+ActorFits m window stamp = record { rests : Rests m; opens : m.0.scopes ≡ window; near : AllBelow (length m.0.opening) window; stamped : top 0 m.0.entries ≤ stamp }
+
 -- a seat after a call that noted an object
 noted_seat : (old new : Sat) (w : View) (window after : List ℕ) (n stamp : ℕ) → Rests old → old.0.scopes ≡ window → AllBelow (length old.0.opening) window → new ≡ (w, []) → after ≡ noted n window
     → w.scopes ≡ noted n old.0.scopes → w.turn ≡ None → w.live ≡ old.0.live → w.made ≡ old.0.made → w.gathered ≡ old.0.gathered → w.passing ≡ old.0.passing → w.out ≡ old.0.out → w.opening ≡ old.0.opening
     → n < length old.0.opening → top 0 w.entries ≤ stamp
-    → Rests new × (new.0.scopes ≡ after) × AllBelow (length new.0.opening) after × (top 0 new.0.entries ≤ stamp)
-noted_seat old new w window after n stamp r opens near is then scopes t a b c d e opening lt low = (
-  rests_after old new w r is t a b c d e,
-  ap (λ (m : Sat). m.0.scopes) is ∙ scopes ∙ ap (noted n) opens ∙ sym then,
-  subst (λ (m : Sat). AllBelow (length m.0.opening) after) (sym is) (subst (λ (o : List (List ℕ)). AllBelow (length o) after) (sym opening) (subst (AllBelow (length old.0.opening)) (sym then) (below_noted (length old.0.opening) n window near lt))),
-  subst (λ (m : Sat). top 0 m.0.entries ≤ stamp) (sym is) low,
-)
-
--- an actor's seat, with its window and its stamp, between two calls
-abbrev ActorFits : Sat → List ℕ → ℕ → Type 0
-ActorFits m window stamp = Rests m × (m.0.scopes ≡ window) × AllBelow (length m.0.opening) window × (top 0 m.0.entries ≤ stamp)
-
-module _ (old new : Sat) (window after : List ℕ) (n stamp : ℕ) (fits : ActorFits old window stamp) (lt : n < length old.0.opening) (then : after ≡ noted n window) where
-  -- another had the turn
-  pub busy_seat : new ≡ (marked (Busy n) (looking n old.0), []) → ActorFits new after stamp
-  busy_seat is = noted_seat old new _ window after n stamp fits.0 fits.1 fits.2 is then refl fits.0.1 refl refl refl refl refl refl lt fits.3
-
-  -- the stamps have run out
-  pub worn_seat : (found : ℕ) → new ≡ (worn_out n found (looking n old.0), []) → ActorFits new after stamp
-  worn_seat found is = noted_seat old new _ window after n stamp fits.0 fits.1 fits.2 is then refl refl refl refl refl refl refl refl lt fits.3
-
-  -- there is one entry more
-  pub done_seat : (e : SharedEntry) → new ≡ (recorded e (looking n old.0), []) → ActorFits new after e.stamp
-  done_seat e is = noted_seat old new _ window after n e.stamp fits.0 fits.1 fits.2 is then refl refl refl refl refl refl refl refl lt (omega (arith, top-snoc 0 old.0.entries e))
+    → ActorFits new after stamp
+noted_seat old new w window after n stamp r opens near is then scopes t a b c d e opening lt low = record {
+  rests = rests_after old new w r is t a b c d e;
+  opens = ap (λ (m : Sat). m.0.scopes) is ∙ scopes ∙ ap (noted n) opens ∙ sym then;
+  near = subst (λ (m : Sat). AllBelow (length m.0.opening) after) (sym is) (subst (λ (o : List (List ℕ)). AllBelow (length o) after) (sym opening) (subst (AllBelow (length old.0.opening)) (sym then) (below_noted (length old.0.opening) n window near lt)));
+  stamped = subst (λ (m : Sat). top 0 m.0.entries ≤ stamp) (sym is) low;
+}
 
 -- an object of the table is one of its opening
-pub opened_at : (lengths : List ℕ) (key opening : List (List ℕ)) (n : ℕ) → lengths ≡ map length key → opening ≡ key → n < length lengths → n < length opening
+opened_at : (lengths : List ℕ) (key opening : List (List ℕ)) (n : ℕ) → lengths ≡ map length key → opening ≡ key → n < length lengths → n < length opening
 opened_at lengths key opening n sizes same lt = omega (arith, ap length sizes, length-map key length, ap length same)
+
+-- a call of an actor of the table on one of its objects, which it noted
+module _ (shared : SharedTable) (a : ActorSeat) (of : IsActorOf shared a) (new : Sat) (after : List ℕ) (n : ℕ) (near : n < length shared.lengths.items) (then : after ≡ noted n a.window) where
+  lt : n < length a.seat.me.0.opening
+  lt = opened_at shared.lengths.items (table_opening shared) a.seat.me.0.opening n shared.sizes of.1 near
+
+  -- another had the turn
+  pub busy_seat : new ≡ (marked (Busy n) (looking n a.seat.me.0), []) → ActorFits new after a.stamp
+  busy_seat is = noted_seat a.seat.me new _ a.window after n a.stamp a.rests a.opens a.near is then refl a.rests.1 refl refl refl refl refl refl lt a.stamped
+
+  -- the stamps have run out
+  pub worn_seat : (found : ℕ) → new ≡ (worn_out n found (looking n a.seat.me.0), []) → ActorFits new after a.stamp
+  worn_seat found is = noted_seat a.seat.me new _ a.window after n a.stamp a.rests a.opens a.near is then refl refl refl refl refl refl refl refl lt a.stamped
+
+  -- it had the turn, and there is one entry more
+  pub done_seat : (found stamp : ℕ) (bytes : List ℕ) (v : View) (deed : Deed) (given : Given) → v ≡ holding n found bytes (looking n a.seat.me.0) → new ≡ (recorded (entry v.actor stamp found n deed given) v, []) → ActorFits new after stamp
+  done_seat found stamp bytes v deed given held is =
+      let told = is ∙ ap (λ (u : View). (recorded (entry u.actor stamp found n deed given) u, [])) held in
+      noted_seat a.seat.me new _ a.window after n stamp a.rests a.opens a.near told then refl refl refl refl refl refl refl refl lt
+      (omega (arith, top-snoc 0 a.seat.me.0.entries (entry a.seat.me.0.actor stamp found n deed given)))
 
 -- the body that a seat has is its first
 pub first_held : (m : Sat) (n : ℕ) (P : Body → Type 0) → HoldsBody m n P → (body : Body) × (m.1 ≡ (n, body) ∷ rest m.1)

@@ -1,5 +1,5 @@
 -- Seats are taken in, and the last one knows all.
-use Rattle.std.proofs.Common.{◌≡◌, ℕ, zero, suc, ◌+◌, ◌<◌, ◌≤◌, ◌≢◌, Bool, true, false, List, [], ◌∷◌, ◌++◌, length, set, sym, refl, ap, ◌∙◌, subst, arith, cond, ◌⊎◌, inl, inr, ⊎_elim, length-set, map, take, Some, None}
+use Rattle.std.proofs.Common.{◌≡◌, ℕ, zero, suc, ◌+◌, ◌-◌, ◌<◌, ◌≤◌, ◌≢◌, Bool, true, false, List, [], ◌∷◌, ◌++◌, length, set, sym, refl, ap, ◌∙◌, subst, arith, cond, ◌⊎◌, inl, inr, ⊎_elim, length-set, map, take, Some, None}
 use Rattle.std.specs.Prelude.{slice_index_or}
 use Rattle.std.proofs.lemmas.Bool.{cases_lt}
 use mathlib.Core.Logic.{dite}
@@ -20,7 +20,7 @@ use Rattle.shared_objects.specs.declared.view.View.{View}
 use Rattle.shared_objects.proofs.Sums.{at_end, total-set, terms_le, set_there}
 use Rattle.shared_objects.proofs.Logs.{has_longer, has_last, has_snoc}
 use Rattle.shared_objects.proofs.Moves.{no_live, same_fits, body_in}
-use Rattle.shared_objects.proofs.Keeps.{none_is_not, some_is}
+use Rattle.shared_objects.proofs.Keeps.{none_is_not, some_is, knows_nothing, knows_still}
 use Rattle.shared_objects.specs.Ends.{shown, all_shown, Shows, Closes}
 use Rattle.shared_objects.specs.Phases.{phase_of}
 use Rattle.shared_objects.specs.declared.view.Whereabouts.{Whereabouts}
@@ -80,35 +80,9 @@ joins_ok returns key id v other u maker alive_ here young free shut clean past h
       seats = record {
         few = subst (λ n. n ≤ 57) (sym long) o.seats.few;
         knows = λ j x at. ⊎_elim
-            (λ (t : (j ≡ other) × (spent ≡ x)). subst (λ y. Knows returns key o.logs j y) t.1 (record {
-              actor = λ e. absurd (no_live e);
-              opening_is = λ e. absurd (no_live e);
-              returns_is = λ e. absurd (no_live e);
-              idle = λ _. refl;
-              first = λ z. absurd (not_zero (sym t.0 ∙ z));
-              alone = λ _. refl;
-              opens_once = λ n. omega arith;
-              turn = λ q e. absurd (none_is_not q e);
-              out = λ n b e. absurd (none_is_not b e);
-              entries = λ e h. absurd (some-ne-none e (sym h.1));
-              marks = λ m h. absurd (some-ne-none m (sym h.1));
-              rises = tt;
-            }))
+            (λ (t : (j ≡ other) × (spent ≡ x)). subst (λ y. Knows returns key o.logs j y) t.1 (knows_nothing returns key o.logs j false spent.returns spent.actor spent.opening (λ z. not_zero (sym t.0 ∙ z)) (λ e. absurd (no_live e)) (λ _. refl)))
             (λ t. ⊎_elim
-            (λ (q : (j ≡ id) × (w ≡ x)). subst (λ y. Knows returns key o.logs j y) q.1 (subst (λ i. Knows returns key o.logs i w) (sym q.0) (record {
-              actor = k.actor;
-              opening_is = k.opening_is;
-              returns_is = k.returns_is;
-              idle = λ e. absurd (no_live (sym e ∙ alive_));
-              first = k.first;
-              alone = λ ne. absurd (ne d.0);
-              opens_once = k.opens_once;
-              turn = k.turn;
-              out = k.out;
-              entries = k.entries;
-              marks = k.marks;
-              rises = k.rises;
-            })))
+            (λ (q : (j ≡ id) × (w ≡ x)). subst (λ y. Knows returns key o.logs j y) q.1 (subst (λ i. Knows returns key o.logs i w) (sym q.0) (knows_still returns key o.logs id v v.made (v.alive - 1) (v.gathered ++ new ∷ []) k alive_ maker d.0)))
             (λ (q : (j ≢ id) × (get_elem? s.views j ≡ some x)). o.seats.knows j x q.1) t)
             (which j x at);
         dealer = λ j x at some-made. ⊎_elim

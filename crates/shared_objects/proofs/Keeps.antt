@@ -1,5 +1,5 @@
 -- Each step of an actor keeps the rule.
-use Rattle.std.proofs.Common.{◌≡◌, true, Bool, ℕ, zero, suc, ◌+◌, ◌-◌, ◌*◌, ◌/◌, ◌%◌, ◌^◌, ◌<◌, ◌≤◌, ◌≢◌, List, [], ◌∷◌, ◌++◌, length, set, get_or, sym, refl, ap, ◌∙◌, subst, arith, inl, inr, ⊎_elim, length-set, length-append, map, slice_index, lit<, Some, None, bit_or, bit_and, min}
+use Rattle.std.proofs.Common.{◌≡◌, true, false, Bool, ℕ, zero, suc, ◌+◌, ◌-◌, ◌*◌, ◌/◌, ◌%◌, ◌^◌, ◌<◌, ◌≤◌, ◌≢◌, List, [], ◌∷◌, ◌++◌, length, set, get_or, sym, refl, ap, ◌∙◌, subst, arith, inl, inr, ⊎_elim, length-set, length-append, map, slice_index, lit<, Some, None, bit_or, bit_and, min}
 use Rattle.std.specs.Prelude.{slice_index_or}
 use Rattle.std.proofs.lemmas.List.{length-map}
 use lib.Bits.{and_step, and_mask, or_add_and}
@@ -27,7 +27,7 @@ use Rattle.shared_objects.specs.declared.view.Mark.TheVariants.{Away, Busy, Worn
 use Rattle.shared_objects.proofs.Sums.{at_end, total-set, total-append, term_le, total_few, set_there, is_here, is_else, times-snoc, times-without, times-without_other}
 use Rattle.shared_objects.proofs.Logs.{object_home, length-left_by, has_longer, has_last, has_snoc, Rises-snoc, Chained-snoc, AllInside-snoc, top-snoc, fold-snoc, Answers-snoc}
 use Rattle.shared_objects.proofs.Steps.{keeps_slot, moves_slot, gives_back, is_in}
-use Rattle.shared_objects.proofs.Moves.{St, state, same_fits, grown, grown_here, grown_else, moves, entry_stays, mark_stays, turn_here, no_live, out_weighs, body_in}
+use Rattle.shared_objects.proofs.Moves.{St, state, knows_again, same_fits, grown, grown_here, grown_else, moves, entry_stays, mark_stays, turn_here, no_live, out_weighs, body_in}
 
 -- the marks of a turn and of heat are set
 or_turn : (x : ℕ) → bit_or x 12 + (x / 4 % 2 * 4 + x / 8 % 2 * 8) ≡ x + 12
@@ -106,22 +106,31 @@ opens_ok returns key slots id m n lt shut alive_ young free s o wide me small =
       ((λ q. let q' : x % 4 ≡ 0 = q in absurd (is_away (omega (arith, f.word_is, f.one_out, q')))), λ _. ap (λ j. (with_pass j v, m.1)) (sym (object_home n))),
     ))
 
+module _ (returns : Bool) (key : List (List ℕ)) (s : St) (o : Kept returns key s) where
+  -- the seat has the object open once less, or counted away once less
+  closes : (id n : ℕ) (v : View) → get_elem? s.views id ≡ some v → n < length key → v.live ≡ true → v.made ≡ 0 → (scopes passing : List ℕ)
+      → ((j : ℕ) → j ≢ n → (times j scopes ≡ has_open j v) × (times j passing ≡ has_pass j v))
+      → times n scopes ≤ has_open n v → times n passing ≤ has_pass n v → times n scopes + times n passing + 1 ≡ has_open n v + has_pass n v
+      → ((t : Turn) → v.turn ≡ Some t → TurnFits returns key o.logs scopes t)
+      → Kept returns key (state (set s.words (word_of n) ((slice_index s.words (word_of n) + (2 ^ 64 - 256)) % 2 ^ 64)) s.homes (set s.views id (record v { scopes = scopes; passing = passing })))
+  closes id n v me near alive_ young scopes passing apart opens_less passes_less less turn =
+      let f = o.objects.fits n near in let few = few_open returns key s o n in
+      let k = o.seats.knows id v me in let once = k.opens_once n in
+      keeps_slot returns key s o id v n ((slice_index s.words (word_of n) + (2 ^ 64 - 256)) % 2 ^ 64) f.hot me near alive_ f.one_hot scopes passing v.marks v.coolings
+      apart (omega arith) (λ opens passes a b. (omega (arith, f.word_is, f.one_hot, f.small, f.one_turn, f.one_out), λ out. let h = f.here out in omega arith))
+      (λ z. absurd (not_first returns key s o id v me young z)) turn k.marks
+
 -- close scope, of a number that was open
 pub closes_ok : (returns : Bool) (key : List (List ℕ)) (slots id : ℕ) (m : Sat) (n : ℕ) → n < slots → has_open n m.0 ≡ 1 → m.0.live ≡ true → m.0.made ≡ 0 → m.0.turn ≡ None
     → Allows (Kept returns key) slots id m (word_of n) (λ x. (x + (2 ^ 64 - 256)) % 2 ^ 64) (closes_scope (step slots (word_of n) 256 0 none) m)
 closes_ok returns key slots id m n lt held alive_ young free s o wide me small =
     let v : View = m.0 in
-    let near : n < length key = omega (arith, o.objects.slots) in
-    let f = o.objects.fits n near in let few = few_open returns key s o n in
-    let k = o.seats.knows id v me in let once = k.opens_once n in
-    let less : times n (without n v.scopes) + 1 ≡ has_open n v = times-without n v.scopes (omega arith) in
-    let part = term_le (has_open n) s.views id v me in (
+    let less : times n (without n v.scopes) + 1 ≡ has_open n v = times-without n v.scopes (omega arith) in (
       without_scope n v,
       keeps,
       tt,
-      keeps_slot returns key s o id v n ((slice_index s.words (word_of n) + (2 ^ 64 - 256)) % 2 ^ 64) f.hot me near alive_ f.one_hot (without n v.scopes) v.passing v.marks v.coolings
-          (λ j ne. (times-without_other j n v.scopes ne, refl)) (omega arith) (λ opens passes a b. (omega (arith, f.word_is, f.one_hot, f.small, f.one_turn, f.one_out), λ out. let h = f.here out in omega arith))
-          (λ z. absurd (not_first returns key s o id v me young z)) (turnless _ v free) k.marks,
+      closes returns key s o id n v me (omega (arith, o.objects.slots)) alive_ young (without n v.scopes) v.passing
+          (λ j ne. (times-without_other j n v.scopes ne, refl)) (omega arith) (omega arith) (omega arith) (turnless _ v free),
       ap (λ j. (without_scope j v, m.1)) (sym (object_home n)),
     )
 
@@ -130,17 +139,12 @@ pub leaves_ok : (returns : Bool) (key : List (List ℕ)) (slots id : ℕ) (m : S
     → Allows (Kept returns key) slots id m (word_of n) (λ x. (x + (2 ^ 64 - 256)) % 2 ^ 64) (leaves_pass (step slots (word_of n) 256 0 none) m)
 leaves_ok returns key slots id m n lt held alive_ young s o wide me small =
     let v : View = m.0 in
-    let near : n < length key = omega (arith, o.objects.slots) in
-    let f = o.objects.fits n near in let few = few_open returns key s o n in
-    let k = o.seats.knows id v me in let once = k.opens_once n in
-    let less : times n (without n v.passing) + 1 ≡ has_pass n v = times-without n v.passing (omega arith) in
-    let part = term_le (has_pass n) s.views id v me in (
+    let less : times n (without n v.passing) + 1 ≡ has_pass n v = times-without n v.passing (omega arith) in (
       without_pass n v,
       keeps,
       tt,
-      keeps_slot returns key s o id v n ((slice_index s.words (word_of n) + (2 ^ 64 - 256)) % 2 ^ 64) f.hot me near alive_ f.one_hot v.scopes (without n v.passing) v.marks v.coolings
-          (λ j ne. (refl, times-without_other j n v.passing ne)) (omega arith) (λ opens passes a b. (omega (arith, f.word_is, f.one_hot, f.small, f.one_turn, f.one_out), λ out. let h = f.here out in omega arith))
-          (λ z. absurd (not_first returns key s o id v me young z)) k.turn k.marks,
+      closes returns key s o id n v me (omega (arith, o.objects.slots)) alive_ young v.scopes (without n v.passing)
+          (λ j ne. (refl, times-without_other j n v.passing ne)) (omega arith) (omega arith) (omega arith) (o.seats.knows id v me).turn,
       ap (λ j. (without_pass j v, m.1)) (sym (object_home n)),
     )
 
@@ -291,6 +295,32 @@ sees_ok returns key slots id m n lt alive_ s o wide me small =
     let near : n < length key = omega (arith, o.objects.slots) in
     (m.0, keeps, tt, unmoved returns key s o id m.0 n me alive_ near, (refl, (s, (id, o, me, ap (λ j. slice_index s.words (word_of j)) (object_home n)))))
 
+module _ (returns : Bool) (key : List (List ℕ)) (logs : ℕ → List SharedEntry) (id : ℕ) where
+  -- a seat that has done nothing yet, or whose part was taken in
+  pub knows_nothing : (live sees : Bool) (actor : ℕ) (opening : List (List ℕ)) → id ≢ 0
+      → (live ≡ true → (actor ≡ id) × (opening ≡ key) × (sees ≡ returns)) → (live ≡ false → record spent { live = live; actor = actor; opening = opening; returns = sees } ≡ spent)
+      → Knows returns key logs id (record spent { live = live; actor = actor; opening = opening; returns = sees })
+  knows_nothing live sees actor opening apart same idle = record {
+    actor = λ e. (same e).0;
+    opening_is = λ e. (same e).1;
+    returns_is = λ e. (same e).2;
+    idle = idle;
+    first = λ z. absurd (apart z);
+    alone = λ _. refl;
+    opens_once = λ n. omega arith;
+    turn = λ t e. absurd (none_is_not t e);
+    out = λ n bytes e. absurd (none_is_not bytes e);
+    entries = λ e h. absurd (some-ne-none e (sym h.1));
+    marks = λ m h. absurd (some-ne-none m (sym h.1));
+    rises = tt;
+  }
+
+  -- a seat that makes another, or takes one in, knows what it knew
+  pub knows_still : (v : View) (made alive : ℕ) (gathered : List Part) → Knows returns key logs id v → v.live ≡ true → 0 < made → id ≡ 0
+      → Knows returns key logs id (record v { made = made; alive = alive; gathered = gathered })
+  knows_still v made alive gathered k here maker zeroth =
+      knows_again returns key logs logs id v made alive gathered k (λ no. absurd (no_live (sym no ∙ here))) (λ _. maker) (λ ne. absurd (ne zeroth)) k.turn k.out (λ e has. (k.entries e has).1) k.marks
+
 -- The first seat makes one more
 pub deals_ok : (returns : Bool) (key : List (List ℕ)) (id : ℕ) (v : View) → 0 < v.made → v.made < 57 → v.live ≡ true → Splits (Kept returns key) id v (dealt v) (newcomer v)
 deals_ok returns key id v is_dealer room alive_ s o me =
@@ -320,24 +350,12 @@ deals_ok returns key id v is_dealer room alive_ s o me =
         knows = λ j u at. ⊎_elim
             (λ old. ⊎_elim
             (λ (t : (j ≡ id) × (w ≡ u)). subst (λ y. Knows returns key o.logs j y) t.1 (subst (λ i. Knows returns key o.logs i w) (sym t.0)
-            (record { actor = k.actor; opening_is = k.opening_is; returns_is = k.returns_is; idle = λ no. absurd (no_live (sym no ∙ alive_)); first = λ z. let h = k.first z in (omega (arith, h.0), h.1, h.2); alone = k.alone; opens_once = k.opens_once; turn = k.turn; out = k.out; entries = k.entries; marks = k.marks; rises = k.rises })))
+            (knows_still returns key o.logs id v (v.made + 1) (v.alive + 1) v.gathered k alive_ (omega arith) d.0)))
             (λ t. o.seats.knows j u t.1)
             (at_set s.views id j w u old))
             (λ (t : (j ≡ length vs) × (new ≡ u)). subst (λ y. Knows returns key o.logs j y) t.1
-            (record {
-              actor = λ _. d.1 ∙ sym long ∙ sym t.0;
-              opening_is = λ _. k.opening_is alive_;
-              returns_is = λ _. k.returns_is alive_;
-              idle = λ no. absurd (no_live (sym no));
-              first = λ z. absurd (omega (arith, z, t.0, long, d.1, is_dealer));
-              alone = λ _. refl;
-              opens_once = λ n. omega arith;
-              turn = λ t e. absurd (none_is_not t e);
-              out = λ n bytes e. absurd (none_is_not bytes e);
-              entries = λ e h. absurd (some-ne-none e (sym h.1));
-              marks = λ m h. absurd (some-ne-none m (sym h.1));
-              rises = tt;
-            }))
+            (knows_nothing returns key o.logs j true v.returns v.made v.opening (λ z. absurd (omega (arith, z, t.0, long, d.1, is_dealer)))
+            (λ _. (d.1 ∙ sym long ∙ sym t.0, k.opening_is alive_, k.returns_is alive_)) (λ no. absurd (no_live (sym no)))))
             (at_end vs new u j at);
         dealer = λ j u at some-made. ⊎_elim
             (λ old. ⊎_elim

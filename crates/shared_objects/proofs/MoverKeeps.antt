@@ -1,14 +1,16 @@
 -- Each step of the mover keeps the rule.
-use Rattle.std.proofs.Common.{◌≡◌, true, Bool, ℕ, ◌+◌, ◌-◌, ◌*◌, ◌/◌, ◌%◌, ◌^◌, ◌<◌, ◌≤◌, List, [], ◌∷◌, ◌++◌, length, sym, refl, ap, ◌∙◌, subst, arith, eqb, ◌⊎◌, ⊎_elim, slice_index, bit_and, min}
+use Rattle.std.proofs.Common.{◌≡◌, true, Bool, ℕ, ◌+◌, ◌-◌, ◌*◌, ◌/◌, ◌%◌, ◌^◌, ◌<◌, ◌≤◌, List, [], ◌∷◌, ◌++◌, length, set, sym, refl, ap, ◌∙◌, subst, arith, eqb, ◌⊎◌, ⊎_elim, slice_index, bit_and, min}
 use prog.Atomic.{either}
 use lib.Bits.{and_step, and_mask}
 use Rattle.std.specs.Prelude.{nat_eq}
 use mathlib.Core.Option.{some, none}
+use mathlib.Core.Option as maybe
+use lib.ListN.{get_elem?}
 use Rattle.atomic_table.specs.Table.{State, step, Act, keeps, takes, gives, Allows}
 use Rattle.atomic_table.proofs.Lists.{exchanged}
 use Rattle.shared_objects.specs.History.{top}
 use Rattle.memory.specs.Objects.{bytes_of}
-use Rattle.shared_objects.specs.Rule.{has_moving, has_far, place_of, bytes_taken, is_moving, is_far, Stands, word_of, tally, Kept}
+use Rattle.shared_objects.specs.Rule.{has_moving, has_far, place_of, bytes_taken, is_moving, is_far, Stands, word_of, tally, SlotFits, Kept}
 use Rattle.shared_objects.specs.Kinds.{Sat, placed, sent, called, with_cooling, cooling, begins_leave, ends_leave, begins_return, ends_return, cools}
 use Rattle.shared_objects.specs.Rule.SlotFits.{AtHome, Lent, Idle}
 use Rattle.shared_objects.specs.declared.body.Body.{Body}
@@ -16,7 +18,7 @@ use Rattle.shared_objects.specs.declared.view.Whereabouts.{Whereabouts}
 use Rattle.shared_objects.specs.declared.view.Whereabouts.TheVariants.{Here, Moving, Far}
 use Rattle.shared_objects.specs.declared.view.View.{View}
 use Rattle.shared_objects.proofs.Sums.{term_le}
-use Rattle.shared_objects.proofs.Moves.{body_in, body_far}
+use Rattle.shared_objects.proofs.Moves.{St, state, body_in, body_far}
 use Rattle.shared_objects.proofs.Steps.{keeps_slot, puts, gives_back}
 use Rattle.shared_objects.proofs.Logs.{object_home}
 use Rattle.shared_objects.proofs.Keeps.{few_open, unmoved, none_is_not, some_is}
@@ -65,46 +67,45 @@ called_taken Here = refl
 called_taken (Moving bytes) = refl
 called_taken (Far bytes) = refl
 
+-- an object that is out gets into the other place out, with its bytes, and its word changes by so much
+stays_out : (returns : Bool) (key : List (List ℕ)) (s : St) (o : Kept returns key s) (id n by : ℕ) (v : View) (slot : maybe.Option Body) (p : Whereabouts) → get_elem? s.views id ≡ some v → n < length key → v.live ≡ true
+    → n < length v.out → bytes_taken p ≡ bytes_taken (place_of v n) → has_moving n v + has_far n v ≡ 1 → is_moving p + is_far p ≡ 1 → (by + has_moving n v + 2 * has_far n v) % 2 ^ 64 ≡ is_moving p + 2 * is_far p
+    → ((moving far : ℕ) → moving ≡ is_moving p → far ≡ is_far p → SlotFits returns (bytes_of key n) (record (tally n s.views) { moving = moving; far = far }) (some slot) (o.logs n))
+    → Kept returns key (state (set s.words (word_of n) ((slice_index s.words (word_of n) + by) % 2 ^ 64)) (set s.homes n slot) (set s.views id (placed n p v)))
+stays_out returns key s o id n by v slot p me near alive_ wide same out out' changes fits =
+    let f = o.objects.fits n near in let few = few_open returns key s o n in
+    let moves = term_le (has_moving n) s.views id v me in let fars = term_le (has_far n) s.views id v me in
+    let quiet = f.here (omega arith) in
+    puts returns key s o id v n ((slice_index s.words (word_of n) + by) % 2 ^ 64) f.hot me near alive_ f.one_hot slot p wide
+    (λ moving far a b. (omega (arith, f.word_is, f.one_hot, f.small, f.one_turn, f.one_out), omega (arith, f.one_out), (λ _. quiet), fits moving far (omega (arith, f.one_out)) (omega (arith, f.one_out))))
+    (λ b e. (o.seats.knows id v me).out n b (sym same ∙ e))
+
 -- what is on its way is far, and its slot goes home
 pub sends_ok : (returns : Bool) (key : List (List ℕ)) (slots id : ℕ) (m : Sat) (n : ℕ) (bytes : List ℕ) (body : Body) (more : List (ℕ × Body)) → n < slots → m.1 ≡ (n, body) ∷ more
     → place_of m.0 n ≡ Moving bytes → n < length m.0.out → m.0.live ≡ true
     → Allows (Kept returns key) slots id m (word_of n) (λ x. (x + 1) % 2 ^ 64) (ends_leave (step slots (word_of n) 1 0 none) m)
 sends_ok returns key slots id m n bytes body more lt carried at wide alive_ s o long me small =
-    let v : View = m.0 in
+    let v : View = m.0 in let p : Whereabouts = sent (place_of v n) in
     let near : n < length key = omega (arith, o.objects.slots) in
-    let f = o.objects.fits n near in let few = few_open returns key s o n in
-    let x : ℕ = slice_index s.words (word_of n) in
-    let p : Whereabouts = sent (place_of v n) in
-    let part = term_le (has_moving n) s.views id v me in
     let was : has_moving n v ≡ 1 = ap is_moving at in let was' : has_far n v ≡ 0 = ap is_far at in
     let is : is_moving p ≡ 0 = ap (λ q. is_moving (sent q)) at in let is' : is_far p ≡ 1 = ap (λ q. is_far (sent q)) at in
-    let quiet = f.here (omega arith) in
-    gives_back (Kept returns key) s id (word_of n) ((x + 1) % 2 ^ 64) x m (ends_leave (step slots (word_of n) 1 0 none)) n body more (placed n p v) carried
-    (puts returns key s o id v n ((x + 1) % 2 ^ 64) f.hot me near alive_ f.one_hot (some body) p wide
-    (λ moving far a b. (omega (arith, f.word_is, f.one_hot, f.small, f.one_turn, f.one_out), omega (arith, f.one_out), (λ _. quiet), Idle (omega arith) body refl))
-    (λ b e. (o.seats.knows id v me).out n b (sym (sent_taken (place_of v n)) ∙ e)))
+    gives_back (Kept returns key) s id (word_of n) ((slice_index s.words (word_of n) + 1) % 2 ^ 64) (slice_index s.words (word_of n)) m (ends_leave (step slots (word_of n) 1 0 none)) n body more (placed n p v) carried
+    (stays_out returns key s o id n 1 v (some body) p me near alive_ wide (sent_taken (place_of v n)) (omega arith) (omega arith) (omega arith) (λ moving far a b. Idle (omega arith) body refl))
     (ap (λ j. (placed j (sent (place_of v j)) v, more)) (sym (object_home n)))
 
 -- what is far is on its way, and its slot is with the mover
 pub calls_ok : (returns : Bool) (key : List (List ℕ)) (slots id : ℕ) (m : Sat) (n : ℕ) (bytes : List ℕ) → n < slots → place_of m.0 n ≡ Far bytes → n < length m.0.out → m.0.live ≡ true
     → Allows (Kept returns key) slots id m (word_of n) (λ x. (x + (2 ^ 64 - 1)) % 2 ^ 64) (begins_return (step slots (word_of n) 1 0 none) m)
 calls_ok returns key slots id m n bytes lt at wide alive_ s o long me small =
-    let v : View = m.0 in
+    let v : View = m.0 in let p : Whereabouts = called (place_of v n) in
     let near : n < length key = omega (arith, o.objects.slots) in
-    let f = o.objects.fits n near in let few = few_open returns key s o n in
-    let x : ℕ = slice_index s.words (word_of n) in
-    let p : Whereabouts = called (place_of v n) in
-    let part = term_le (has_far n) s.views id v me in
     let was : has_moving n v ≡ 0 = ap is_moving at in let was' : has_far n v ≡ 1 = ap is_far at in
     let is : is_moving p ≡ 1 = ap (λ q. is_moving (called q)) at in let is' : is_far p ≡ 0 = ap (λ q. is_far (called q)) at in
-    let y = body_far f (omega arith) in let body : Body = y.0 in
-    let quiet = f.here (omega arith) in (
+    let y = body_far (o.objects.fits n near) (omega (arith, term_le (has_far n) s.views id v me)) in let body : Body = y.0 in (
       placed n p v,
       takes n body,
       y.1,
-      puts returns key s o id v n ((x + (2 ^ 64 - 1)) % 2 ^ 64) f.hot me near alive_ f.one_hot none p wide
-          (λ moving far a b. (omega (arith, f.word_is, f.one_hot, f.small, f.one_turn, f.one_out), omega (arith, f.one_out), (λ _. quiet), Lent (omega arith) refl))
-          (λ b e. (o.seats.knows id v me).out n b (sym (called_taken (place_of v n)) ∙ e)),
+      stays_out returns key s o id n (2 ^ 64 - 1) v none p me near alive_ wide (called_taken (place_of v n)) (omega arith) (omega arith) (omega arith) (λ moving far a b. Lent (omega arith) refl),
       (body, ap (λ j. (placed j (called (place_of v j)) v, (j, body) ∷ m.1)) (sym (object_home n))),
     )
 

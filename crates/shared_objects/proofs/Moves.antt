@@ -1,5 +1,5 @@
 -- One seat steps on one object, and the rule stays.
-use Rattle.std.proofs.Common.{◌≡◌, true, false, Bool, ℕ, ◌+◌, ◌<◌, ◌≤◌, ◌≢◌, List, length, set, sym, refl, ap, ◌∙◌, subst, arith, cond, eqb, eq-eqb, ne_eqb, ◌⊎◌, inl, inr, ⊎_elim, length-set, get_or-set_other, get_or-set_same, slice_index, Some, None}
+use Rattle.std.proofs.Common.{◌≡◌, true, false, Bool, ℕ, ◌+◌, ◌<◌, ◌≤◌, ◌≢◌, List, [], length, set, sym, refl, ap, ◌∙◌, subst, arith, cond, eqb, eq-eqb, ne_eqb, ◌⊎◌, inl, inr, ⊎_elim, length-set, get_or-set_other, get_or-set_same, slice_index, Some, None}
 use mathlib.Core.Logic.{dite}
 use native.Mathlib.Decide.{ℕ_discrete}
 use mathlib.Core.Option.{some, none, some-injective, some-ne-none}
@@ -9,7 +9,7 @@ use Rattle.atomic_table.specs.Table.{State}
 use Rattle.atomic_table.proofs.Lists.{at_set, set_else}
 use Rattle.shared_objects.specs.History.{Has, top}
 use Rattle.memory.specs.Objects.{bytes_of}
-use Rattle.shared_objects.specs.Rule.{total, has_turn, has_open, has_pass, has_moving, has_far, place_of, is_moving, is_far, bytes_taken, is_live, spent, HasPart, Written, PartFits, MarkFits, Stands, turns_on, word_of, Tally, tally, SlotFits, Fits, Knows, Kept}
+use Rattle.shared_objects.specs.Rule.{total, has_turn, has_open, has_pass, has_moving, has_far, place_of, is_moving, is_far, bytes_taken, is_live, spent, HasPart, Written, PartFits, TurnFits, MarkFits, Stands, turns_on, word_of, Tally, tally, SlotFits, Fits, Knows, Kept}
 use Rattle.shared_objects.specs.Rule.SlotFits.{AtHome, Lent, Idle}
 use Rattle.shared_objects.specs.declared.body.Body.{Body}
 use Rattle.shared_objects.specs.declared.view.SharedEntry.{SharedEntry}
@@ -103,6 +103,27 @@ no_live e = cc
 abbrev pub SameSeat : View → View → Type 0
 SameSeat v w = (w.made ≡ v.made) × (w.alive ≡ v.alive) × (w.live ≡ v.live) × (w.gathered ≡ v.gathered) × (w.actor ≡ v.actor) × (w.opening ≡ v.opening) × (w.returns ≡ v.returns)
 
+-- a seat knows what it knew, of other entries and with other counts of seats, where these facts hold again
+pub knows_again : (returns : Bool) (opening : List (List ℕ)) (logs logs' : ℕ → List SharedEntry) (id : ℕ) (v : View) (made alive : ℕ) (gathered : List Part) → Knows returns opening logs id v
+    → (v.live ≡ false → record v { made = made; alive = alive; gathered = gathered } ≡ spent) → (id ≡ 0 → 0 < made) → (id ≢ 0 → gathered ≡ [])
+    → ((t : Turn) → v.turn ≡ Some t → TurnFits returns opening logs' v.scopes t) → ((n : ℕ) (bytes : List ℕ) → bytes_taken (place_of v n) ≡ Some bytes → Stands returns (bytes_of opening n) (logs' n) bytes)
+    → ((e : SharedEntry) → Has v.entries e → Has (logs' e.object) e) → ((m : Mark) → Has v.marks m → MarkFits logs' m)
+    → Knows returns opening logs' id (record v { made = made; alive = alive; gathered = gathered })
+knows_again returns opening logs logs' id v made alive gathered k idle maker alone turn out entries marks = record {
+  actor = k.actor;
+  opening_is = k.opening_is;
+  returns_is = k.returns_is;
+  idle = idle;
+  first = λ z. (maker z, (k.first z).1, (k.first z).2);
+  alone = alone;
+  opens_once = k.opens_once;
+  turn = turn;
+  out = out;
+  entries = λ e has. ((k.entries e has).0, entries e has);
+  marks = marks;
+  rises = k.rises;
+}
+
 module _ (returns : Bool) (opening : List (List ℕ)) (s : St) (o : Kept returns opening s) (id : ℕ) (v w : View) (n x : ℕ) (hs : List (maybe.Option Body)) (log : List SharedEntry)
     (me : get_elem? s.views id ≡ some v) (near : n < length opening) (alive_ : v.live ≡ true) where
   abbrev logs' : ℕ → List SharedEntry
@@ -128,37 +149,28 @@ module _ (returns : Bool) (opening : List (List ℕ)) (s : St) (o : Kept returns
   -- what another seat knows
   others : ((e : SharedEntry) → Has (o.logs n) e → Has log e) → top 0 (o.logs n) ≤ top 0 log → (log ≡ o.logs n) ⊎ (has_turn n v ≡ 1)
       → (j : ℕ) (u : View) → j ≢ id → get_elem? s.views j ≡ some u → Knows returns opening logs' j u
-  others keeps higher mine j u ne at = let k = o.seats.knows j u at in record {
-    actor = k.actor;
-    opening_is = k.opening_is;
-    returns_is = k.returns_is;
-    idle = k.idle;
-    first = k.first;
-    alone = k.alone;
-    opens_once = k.opens_once;
-    turn = λ t e. dite (ℕ_discrete t.object n)
-        (λ here. ⊎_elim (λ (same : log ≡ o.logs n).
-        let eq : logs' t.object ≡ o.logs t.object = grown_here o.logs n log t.object here ∙ same ∙ ap o.logs (sym here) in
-        subst (λ l. (t.stamp ≡ top 0 l) × Stands returns (bytes_of opening t.object) l t.bytes × (length u.scopes ≤ 4)) (sym eq) (k.turn t e))
-        (λ (held : has_turn n v ≡ 1). let theirs : has_turn n u ≡ 1 = subst (λ m. has_turn m u ≡ 1) here (turn_here u t e) in
-        let few = (o.objects.fits n near).one_turn in
-        absurd (omega (arith, terms_le (has_turn n) s.views id j v u ne me at)))
-        mine)
-        (λ else. subst (λ l. (t.stamp ≡ top 0 l) × Stands returns (bytes_of opening t.object) l t.bytes × (length u.scopes ≤ 4)) (sym (grown_else o.logs n log t.object else)) (k.turn t e));
-    out = λ m bytes e. dite (ℕ_discrete m n)
-        (λ here. ⊎_elim (λ (same : log ≡ o.logs n).
-        let eq : logs' m ≡ o.logs m = grown_here o.logs n log m here ∙ same ∙ ap o.logs (sym here) in
-        subst (λ l. Stands returns (bytes_of opening m) l bytes) (sym eq) (k.out m bytes e))
-        (λ (held : has_turn n v ≡ 1).
-        let gone = (o.objects.fits n near).here in
-        let theirs : has_moving n u + has_far n u ≡ 1 = subst (λ i. has_moving i u + has_far i u ≡ 1) here (out_weighs u m bytes e) in
-        absurd (omega (arith, gone, term_le (has_turn n) s.views id v me, term_le (has_moving n) s.views j u at, term_le (has_far n) s.views j u at)))
-        mine)
-        (λ else. subst (λ l. Stands returns (bytes_of opening m) l bytes) (sym (grown_else o.logs n log m else)) (k.out m bytes e));
-    entries = λ e has. let old = k.entries e has in (old.0, entry_stays keeps e old.1);
-    marks = λ m has. mark_stays higher m (k.marks m has);
-    rises = k.rises;
-  }
+  others keeps higher mine j u ne at = let k = o.seats.knows j u at in
+      knows_again returns opening o.logs logs' j u u.made u.alive u.gathered k k.idle (λ z. (k.first z).0) k.alone
+      (λ t e. dite (ℕ_discrete t.object n)
+      (λ here. ⊎_elim (λ (same : log ≡ o.logs n).
+      let eq : logs' t.object ≡ o.logs t.object = grown_here o.logs n log t.object here ∙ same ∙ ap o.logs (sym here) in
+      subst (λ l. (t.stamp ≡ top 0 l) × Stands returns (bytes_of opening t.object) l t.bytes × (length u.scopes ≤ 4)) (sym eq) (k.turn t e))
+      (λ (held : has_turn n v ≡ 1). let theirs : has_turn n u ≡ 1 = subst (λ m. has_turn m u ≡ 1) here (turn_here u t e) in
+      let few = (o.objects.fits n near).one_turn in
+      absurd (omega (arith, terms_le (has_turn n) s.views id j v u ne me at)))
+      mine)
+      (λ else. subst (λ l. (t.stamp ≡ top 0 l) × Stands returns (bytes_of opening t.object) l t.bytes × (length u.scopes ≤ 4)) (sym (grown_else o.logs n log t.object else)) (k.turn t e)))
+      (λ m bytes e. dite (ℕ_discrete m n)
+      (λ here. ⊎_elim (λ (same : log ≡ o.logs n).
+      let eq : logs' m ≡ o.logs m = grown_here o.logs n log m here ∙ same ∙ ap o.logs (sym here) in
+      subst (λ l. Stands returns (bytes_of opening m) l bytes) (sym eq) (k.out m bytes e))
+      (λ (held : has_turn n v ≡ 1).
+      let gone = (o.objects.fits n near).here in
+      let theirs : has_moving n u + has_far n u ≡ 1 = subst (λ i. has_moving i u + has_far i u ≡ 1) here (out_weighs u m bytes e) in
+      absurd (omega (arith, gone, term_le (has_turn n) s.views id v me, term_le (has_moving n) s.views j u at, term_le (has_far n) s.views j u at)))
+      mine)
+      (λ else. subst (λ l. Stands returns (bytes_of opening m) l bytes) (sym (grown_else o.logs n log m else)) (k.out m bytes e)))
+      (λ e has. entry_stays keeps e (k.entries e has).1) (λ m has. mark_stays higher m (k.marks m has))
 
   abbrev WrittenIn : List View → SharedEntry → Type 0
   WrittenIn vs e = (j : ℕ) × (u : View) × (get_elem? vs j ≡ some u) × Written u e

@@ -3,29 +3,19 @@ use Rattle.memory.specs.Access.{part}
 use Rattle.memory.specs.Objects.{bytes_of}
 use Rattle.memory.specs.declared.deeds.Deed.TheVariants.{Reads}
 use Rattle.memory.specs.declared.deeds.Given.TheVariants.{Bytes}
-use Rattle.shared_objects.specs.History.{entry}
-use Rattle.shared_objects.specs.Kinds.{recorded}
 use Rattle.shared_objects.specs.declared.body.Body.{Body}
 use Rattle.shared_objects.specs.declared.view.View.{View}
-use Rattle.shared_objects.proofs.Acting.{busy_seat, worn_seat, done_seat, opened_at, same_body}
+use Rattle.shared_objects.proofs.Acting.{busy_seat, worn_seat, done_seat, same_body}
 use Rattle.shared_objects.proofs.table.SharedTable.get.Goals as goal
 
 pub invariant_of-actor-in-Busy : goal.invariant_of-actor-in-Busy
-invariant_of-actor-in-Busy c = let a = c.args.actor.now in let e = c.in-Busy.ensures.begins in
-    let q = busy_seat a.seat.me _ a.window _ c.args.number a.stamp (a.rests, a.opens, a.near, a.stamped) (opened_at _ _ _ _ c.args.self.now.sizes c.requires.1 (c.if-not-has_range.ensures.object refl)) e.1 e.0 in
-    record { rests = q.0; opens = q.1; near = q.2; stamped = q.3 }
+invariant_of-actor-in-Busy c = let b = c.in-Busy.ensures.begins in busy_seat c.args.self.now c.args.actor.now c.requires _ _ c.args.number (c.if-not-has_range.ensures.object refl) b.1 b.0
 
 pub invariant_of-actor-in-Worn : goal.invariant_of-actor-in-Worn
-invariant_of-actor-in-Worn c = let a = c.args.actor.now in let e = c.in-Worn.ensures.begins in
-    let q = worn_seat a.seat.me _ a.window _ c.args.number a.stamp (a.rests, a.opens, a.near, a.stamped) (opened_at _ _ _ _ c.args.self.now.sizes c.requires.1 (c.if-not-has_range.ensures.object refl)) e.1 e.0.0 e.0.2 in
-    record { rests = q.0; opens = q.1; near = q.2; stamped = q.3 }
+invariant_of-actor-in-Worn c = let b = c.in-Worn.ensures.begins in worn_seat c.args.self.now c.args.actor.now c.requires _ _ c.args.number (c.if-not-has_range.ensures.object refl) b.1 b.0.0 b.0.2
 
 pub invariant_of-actor-in-Turn : goal.invariant_of-actor-in-Turn
-invariant_of-actor-in-Turn c = let a = c.args.actor.now in let b = c.in-Turn.ensures.begins in
-    let seen = c.read.ensures.view ∙ b.2.2.0 in
-    let is = c.record_read.ensures.me ∙ ap (λ (u : View). (recorded (entry u.actor c.in-Turn.stamp c.in-Turn.found c.args.number (Reads c.args.offset c.args.count) (Bytes c.read.new.into.items)) u, [])) seen in
-    let q = done_seat a.seat.me _ a.window _ c.args.number a.stamp (a.rests, a.opens, a.near, a.stamped) (opened_at _ _ _ _ c.args.self.now.sizes c.requires.1 (c.if-not-has_range.ensures.object refl)) b.3 _ is in
-    record { rests = q.0; opens = q.1; near = q.2; stamped = q.3 }
+invariant_of-actor-in-Turn c = let b = c.in-Turn.ensures.begins in done_seat c.args.self.now c.args.actor.now c.requires _ _ c.args.number (c.if-not-has_range.ensures.object refl) b.3 c.in-Turn.found c.in-Turn.stamp _ _ (Reads c.args.offset c.args.count) (Bytes c.read.new.into.items) (c.read.ensures.view ∙ b.2.2.0) c.record_read.ensures.me
 
 pub read-requires-clause-held : goal.read-requires-clause-held
 read-requires-clause-held c = let t = c.in-Turn.ensures.begins.2 in let h = c.if-not-has_range.ensures.value.0 refl in

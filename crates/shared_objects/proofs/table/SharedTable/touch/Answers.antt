@@ -1,30 +1,19 @@
-use Rattle.std.proofs.Common.{arith, ap, subst, sym, ◌∙◌, refl, ◌≡◌, ℕ, List, [], length}
+use Rattle.std.proofs.Common.{arith, ap, subst, sym, ◌∙◌, refl, ◌≡◌, ℕ, List, length}
 use Rattle.memory.specs.Access.{IsInside}
 use Rattle.memory.specs.Objects.{bytes_of}
 use Rattle.memory.specs.declared.deeds.Deed.TheVariants.{Accesses}
 use Rattle.memory.specs.declared.deeds.Given.TheVariants.{Number}
-use Rattle.shared_objects.specs.History.{entry}
-use Rattle.shared_objects.specs.Kinds.{recorded}
-use Rattle.shared_objects.specs.declared.view.View.{View}
-use Rattle.shared_objects.proofs.Acting.{busy_seat, worn_seat, done_seat, opened_at, reaches_some}
+use Rattle.shared_objects.proofs.Acting.{busy_seat, worn_seat, done_seat, reaches_some}
 use Rattle.shared_objects.proofs.table.SharedTable.touch.Goals as goal
 
 pub invariant_of-actor-in-Busy : goal.invariant_of-actor-in-Busy
-invariant_of-actor-in-Busy c = let a = c.args.actor.now in let e = c.in-Busy.ensures.begins in
-    let q = busy_seat a.seat.me _ a.window _ c.args.number a.stamp (a.rests, a.opens, a.near, a.stamped) (opened_at _ _ _ _ c.args.self.now.sizes c.requires.1 (c.length.ensures.object (let i : IsInside c.args.op.now c.length.result = c.if-not-is_inside.ensures.inside.0 refl in omega (arith, reaches_some c.args.op.now)))) e.1 e.0 in
-    record { rests = q.0; opens = q.1; near = q.2; stamped = q.3 }
+invariant_of-actor-in-Busy c = let b = c.in-Busy.ensures.begins in busy_seat c.args.self.now c.args.actor.now c.requires _ _ c.args.number (c.length.ensures.object (let i : IsInside c.args.op.now c.length.result = c.if-not-is_inside.ensures.inside.0 refl in omega (arith, reaches_some c.args.op.now))) b.1 b.0
 
 pub invariant_of-actor-in-Worn : goal.invariant_of-actor-in-Worn
-invariant_of-actor-in-Worn c = let a = c.args.actor.now in let e = c.in-Worn.ensures.begins in
-    let q = worn_seat a.seat.me _ a.window _ c.args.number a.stamp (a.rests, a.opens, a.near, a.stamped) (opened_at _ _ _ _ c.args.self.now.sizes c.requires.1 (c.length.ensures.object (let i : IsInside c.args.op.now c.length.result = c.if-not-is_inside.ensures.inside.0 refl in omega (arith, reaches_some c.args.op.now)))) e.1 e.0.0 e.0.2 in
-    record { rests = q.0; opens = q.1; near = q.2; stamped = q.3 }
+invariant_of-actor-in-Worn c = let b = c.in-Worn.ensures.begins in worn_seat c.args.self.now c.args.actor.now c.requires _ _ c.args.number (c.length.ensures.object (let i : IsInside c.args.op.now c.length.result = c.if-not-is_inside.ensures.inside.0 refl in omega (arith, reaches_some c.args.op.now))) b.1 b.0.0 b.0.2
 
 pub invariant_of-actor-in-Turn : goal.invariant_of-actor-in-Turn
-invariant_of-actor-in-Turn c = let a = c.args.actor.now in let b = c.in-Turn.ensures.begins in
-    let seen = c.act-reply.ensures.view ∙ b.2.2.0 in
-    let is = c.record_access.ensures.me ∙ ap (λ (u : View). (recorded (entry u.actor c.in-Turn.stamp c.in-Turn.found c.args.number (Accesses c.args.op.now) (Number c.act-reply.result)) u, [])) seen in
-    let q = done_seat a.seat.me _ a.window _ c.args.number a.stamp (a.rests, a.opens, a.near, a.stamped) (opened_at _ _ _ _ c.args.self.now.sizes c.requires.1 (c.length.ensures.object (let i : IsInside c.args.op.now c.length.result = c.if-not-is_inside.ensures.inside.0 refl in omega (arith, reaches_some c.args.op.now)))) b.3 _ is in
-    record { rests = q.0; opens = q.1; near = q.2; stamped = q.3 }
+invariant_of-actor-in-Turn c = let b = c.in-Turn.ensures.begins in done_seat c.args.self.now c.args.actor.now c.requires _ _ c.args.number (c.length.ensures.object (let i : IsInside c.args.op.now c.length.result = c.if-not-is_inside.ensures.inside.0 refl in omega (arith, reaches_some c.args.op.now))) b.3 c.in-Turn.found c.in-Turn.stamp _ _ (Accesses c.args.op.now) (Number c.act-reply.result) (c.act-reply.ensures.view ∙ b.2.2.0) c.record_access.ensures.me
 
 pub act-reply-requires-clause-held : goal.act-reply-requires-clause-held
 act-reply-requires-clause-held c = let t = c.in-Turn.ensures.begins.2 in
