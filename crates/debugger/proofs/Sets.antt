@@ -1,5 +1,5 @@
 -- What is set after setting and clearing.
-use Rattle.std.proofs.Common.{◌≡◌, ◌≢◌, ℕ, nat_eq, Bool, true, false, not, cond, ◌||◌, ◌&&◌, List, [], ◌∷◌, ◌++◌, inl, inr, refl, subst, ◌∙◌, sym, arith}
+use Rattle.std.proofs.Common.{◌≡◌, ◌≢◌, ℕ, nat_eq, Bool, true, false, not, cond, ◌||◌, ◌&&◌, List, [], ◌∷◌, ◌++◌, inl, inr, refl, ap, subst, ◌∙◌, sym, arith}
 use Rattle.std.specs.List.{list_any, filter}
 use Rattle.std.proofs.lemmas.Bool.{eqb-true}
 use Rattle.std.proofs.lemmas.Bool.Decides.{nat_tests, eqb_tells}
@@ -8,7 +8,7 @@ use Rattle.debugger.specs.declared.watch.Watch.{Watch}
 use Rattle.debugger.specs.declared.commands.DebugCommand.TheVariants.{Break}
 use Rattle.debugger.specs.declared.replies.Debugged.{Debugged}
 use Rattle.debugger.specs.declared.replies.Debugged.TheVariants.{Done, NoSlot, Full}
-use Rattle.debugger.specs.DebugState.{DebugState, has_break, has_watch, is_same_watch}
+use Rattle.debugger.specs.DebugState.{DebugState, is_same_watch}
 use Rattle.debugger.specs.Changes.{Needs, with_break, left_by}
 use Rattle.debugger.specs.Refusals.{Decides}
 use Rattle.loader.specs.ValidCode.{IsAt}
@@ -71,49 +71,46 @@ left_in : {X : Type 0} (same : X → X → Bool) (n m : X) → ((k : X) → same
     → list_any (same m) (filter (λ o. not (same n o)) xs) ≡ list_any (same m) xs
 left_in same n m apart xs = any-filter_same (same m) (λ o. not (same n o)) true (λ k h. affirmed (same n k) (apart k h)) xs
 
+-- ---- elements that a state has, each once
+
+module _ {X : Type 0} (same : X → X → Bool) (exact : (x y : X) → same x y ≡ true → x ≡ y) (itself : (x : X) → same x x ≡ true) (other : (x y : X) → x ≢ y → same x y ≡ false) where
+  module _ (items : DebugState → List X) (with : X → DebugState → DebugState) (is : (x : X) (d : DebugState) → items (with x d) ≡ items d ++ x ∷ []) where
+    -- the state has the element
+    abbrev has : X → DebugState → Bool
+    has x d = list_any (same x) (items d)
+
+    set_here : (b : Bool) (x : X) (d : DebugState) → has x d ≡ b → has x (cond b d (with x d)) ≡ true
+    set_here true x d e = e
+    set_here false x d e = ap (list_any (same x)) (is x d) ∙ added (same x) (items d) x (itself x)
+
+    set_else : (b : Bool) (x y : X) (d : DebugState) → y ≢ x → has y (cond b d (with x d)) ≡ has y d
+    set_else true x y d h = refl
+    set_else false x y d h = ap (list_any (same y)) (is x d) ∙ not_added (same y) (items d) x (other y x h)
+
+    -- an element is set, and the others are as they were
+    set : (x : X) (d : DebugState) → (has x (cond (has x d) d (with x d)) ≡ true) × ((y : X) → y ≢ x → has y (cond (has x d) d (with x d)) ≡ has y d)
+    set x d = (set_here (has x d) x d refl, λ y h. set_else (has x d) x y d h)
+
+  -- an element is taken out, and the others are as they were
+  cleared : (x : X) (xs : List X) → (list_any (same x) (filter (λ o. not (same x o)) xs) ≡ false)
+      × ((y : X) → y ≢ x → list_any (same y) (filter (λ o. not (same x o)) xs) ≡ list_any (same y) xs)
+  cleared x xs = (taken_out same x xs, λ y h. left_in same x y (λ k e. other x k (λ also. h (exact y k e ∙ sym also))) xs)
+
 -- ---- breakpoints
 
-break_set : (b : Bool) (slot : ℕ) (d : DebugState) → has_break slot d ≡ b
-    → has_break slot (cond b d (record d { breakpoints = d.breakpoints ++ slot ∷ [] })) ≡ true
-break_set true slot d e = e
-break_set false slot d e = added (nat_eq slot) d.breakpoints slot (itself slot)
-
-break_kept : (b : Bool) (slot other : ℕ) (d : DebugState) → other ≢ slot
-    → has_break other (cond b d (record d { breakpoints = d.breakpoints ++ slot ∷ [] })) ≡ has_break other d
-break_kept true slot other d h = refl
-break_kept false slot other d h = not_added (nat_eq other) d.breakpoints slot (nat_other other slot h)
-
 pub breaks_set : laws.SetBreaksAreSet
-breaks_set slot d = (break_set (has_break slot d) slot d refl, λ other h. break_kept (has_break slot d) slot other d h)
-
-nat_apart : (slot other k : ℕ) → other ≢ slot → nat_eq other k ≡ true → nat_eq slot k ≡ false
-nat_apart slot other k h e = grind (arith, nat_tests)
+breaks_set = set nat_eq eqb-true itself nat_other (λ d. d.breakpoints) (λ slot d. record d { breakpoints = d.breakpoints ++ slot ∷ [] }) (λ slot d. refl)
 
 pub breaks_cleared : laws.ClearedBreaksAreClear
-breaks_cleared slot d =
-    (taken_out nat_eq slot d.breakpoints, λ other h. left_in nat_eq slot other (λ k e. nat_apart slot other k h e) d.breakpoints)
+breaks_cleared slot d = cleared nat_eq eqb-true itself nat_other slot d.breakpoints
 
 -- ---- watched ranges
 
-watch_set : (b : Bool) (r : Watch) (d : DebugState) → has_watch r d ≡ b
-    → has_watch r (cond b d (record d { watches = d.watches ++ r ∷ [] })) ≡ true
-watch_set true r d e = e
-watch_set false r d e = added (is_same_watch r) d.watches r (same_itself r)
-
-watch_kept : (b : Bool) (r other : Watch) (d : DebugState) → other ≢ r
-    → has_watch other (cond b d (record d { watches = d.watches ++ r ∷ [] })) ≡ has_watch other d
-watch_kept true r other d h = refl
-watch_kept false r other d h = not_added (is_same_watch other) d.watches r (same_other other r h)
-
 pub watches_set : laws.SetWatchesAreSet
-watches_set r d = (watch_set (has_watch r d) r d refl, λ other h. watch_kept (has_watch r d) r other d h)
-
-watch_apart : (r other k : Watch) → other ≢ r → is_same_watch other k ≡ true → is_same_watch r k ≡ false
-watch_apart r other k h e = same_other r k (λ same. h (same_exact other k e ∙ sym same))
+watches_set = set is_same_watch same_exact same_itself same_other (λ d. d.watches) (λ r d. record d { watches = d.watches ++ r ∷ [] }) (λ r d. refl)
 
 pub watches_cleared : laws.ClearedWatchesAreClear
-watches_cleared r d =
-    (taken_out is_same_watch r d.watches, λ other h. left_in is_same_watch r other (λ k e. watch_apart r other k h e) d.watches)
+watches_cleared r d = cleared is_same_watch same_exact same_itself same_other r d.watches
 
 -- ---- breakpoints are at instructions
 

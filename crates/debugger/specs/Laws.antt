@@ -1,5 +1,5 @@
 -- What follows of breakpoints, watched ranges and steps, in their users' words. None of it speaks of the code.
-use Rattle.std.specs.Prelude.{◌≡◌, ◌≢◌, ◌≤◌, ◌<◌, ◌+◌, ℕ, true, false, ◌↔◌, List, [], Option, Some}
+use Rattle.std.specs.Prelude.{◌≡◌, ◌≢◌, ◌≤◌, ◌<◌, ◌+◌, ℕ, Bool, true, false, ◌↔◌, List, [], Option, Some}
 use Rattle.std.specs.List.{Any}
 use Rattle.isa_table.specs.declared.instr.Size.{Size}
 use Rattle.isa_table.specs.declared.instr.Width.{Width}
@@ -23,15 +23,18 @@ use Rattle.debugger.specs.Pausing.{is_to_pause, with_pause, after_run, debugged}
 
 -- ---- breakpoints
 
+-- After the change it is so of this one, and of each other as it was.
+abbrev pub ChangesOne : {X : Type 0} → (X → DebugState → Bool) → (X → DebugState → DebugState) → Bool → Type 0
+ChangesOne {X} has change becomes = (one : X) (d : DebugState)
+    → (has one (change one d) ≡ becomes) × ((other : X) → other ≢ one → has other (change one d) ≡ has other d)
+
 -- After setting, a breakpoint is set there, and each other slot has one where it had one.
 abbrev pub SetBreaksAreSet : Type 0
-SetBreaksAreSet = (slot : ℕ) (d : DebugState)
-    → (has_break slot (with_break slot d) ≡ true) × ((other : ℕ) → other ≢ slot → has_break other (with_break slot d) ≡ has_break other d)
+SetBreaksAreSet = ChangesOne has_break with_break true
 
 -- After clearing, none is set there, each other slot has one where it had one.
 abbrev pub ClearedBreaksAreClear : Type 0
-ClearedBreaksAreClear = (slot : ℕ) (d : DebugState)
-    → (has_break slot (without_break slot d) ≡ false) × ((other : ℕ) → other ≢ slot → has_break other (without_break slot d) ≡ has_break other d)
+ClearedBreaksAreClear = ChangesOne has_break without_break false
 
 -- each breakpoint is at an instruction of the code
 abbrev pub BreaksBegin : List ℕ → DebugState → Type 0
@@ -46,13 +49,11 @@ BreaksStayAtInstructions = (code : List ℕ) (slot : ℕ) (old new : DebugState)
 
 -- After setting, the range is watched, and each other range is where it was.
 abbrev pub SetWatchesAreSet : Type 0
-SetWatchesAreSet = (r : Watch) (d : DebugState)
-    → (has_watch r (with_watch r d) ≡ true) × ((other : Watch) → other ≢ r → has_watch other (with_watch r d) ≡ has_watch other d)
+SetWatchesAreSet = ChangesOne has_watch with_watch true
 
 -- After clearing, the range is not watched, and each other range is where it was.
 abbrev pub ClearedWatchesAreClear : Type 0
-ClearedWatchesAreClear = (r : Watch) (d : DebugState)
-    → (has_watch r (without_watch r d) ≡ false) × ((other : Watch) → other ≢ r → has_watch other (without_watch r d) ≡ has_watch other d)
+ClearedWatchesAreClear = ChangesOne has_watch without_watch false
 
 -- Byte i of object or stack n is written.
 pub record WritesByte (w : Written) (n i : ℕ) : Type 0 where
