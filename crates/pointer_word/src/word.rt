@@ -1,7 +1,7 @@
 //! The word of an object in 64 bits, and its calls. Each is a few shifts and masks, so that a step can afford them.
-ghost use Rattle.std.specs.Prelude.{◌≡◌, ◌+◌, ◌-◌, ◌<◌, None, IfSome};
-ghost use Rattle.pointer_word.specs.Words.{WordRecord, HasFields, word_number, new_word, is_local, opened, closed, turn_taken, turn_given, cooled, leaving, gone_far, returning, home};
-ghost use Rattle.pointer_word.specs.Bits.{cold_bits};
+ghost use Rattle.std.specs.Prelude.{◌≡◌, ◌+◌, ◌-◌, ◌<◌, nat_eq, None, IfSome};
+ghost use Rattle.pointer_word.specs.Words.{WordRecord, HasFields, place_number, where_it_applies, word_number, new_word, is_local, opened, closed, turn_taken, turn_given, cooled, leaving, gone_far, returning, home};
+ghost use Rattle.pointer_word.specs.Bits.{cold_bits, place_at};
 
 use std::marker::Model;
 
@@ -216,43 +216,40 @@ impl Word {
         }
     }
 
-    /// The object that was moving is far.
-    pub fn left(&self) -> Option<Self>
-        ensures { result ≡ gone_far self.now }
+    /// The object is in the place of this number, where it was in that one.
+    #[inline(always)]
+    fn moved(&self, from: u64, to: u64) -> Option<Self>
+        requires { (from < 3) × (to < 3) }
+        ensures { result ≡ where_it_applies (nat_eq (place_number self.now.place) from) (record self.now { place = place_at to }) }
     {
-        if self.bits & PLACE == 1 {
+        if self.bits & PLACE == from {
             Some(Word {
-                bits: self.bits + FARTHER,
+                bits: self.bits - from + to,
             })
         } else {
             None
         }
+    }
+
+    /// The object that was moving is far.
+    pub fn left(&self) -> Option<Self>
+        ensures { result ≡ gone_far self.now }
+    {
+        self.moved(1, 2)
     }
 
     /// The object that was far is moving.
     pub fn returning(&self) -> Option<Self>
         ensures { result ≡ returning self.now }
     {
-        if self.bits & PLACE == 2 {
-            Some(Word {
-                bits: self.bits - FARTHER,
-            })
-        } else {
-            None
-        }
+        self.moved(2, 1)
     }
 
     /// The object that was moving is here.
     pub fn home(&self) -> Option<Self>
         ensures { result ≡ home self.now }
     {
-        if self.bits & PLACE == 1 {
-            Some(Word {
-                bits: self.bits - FARTHER,
-            })
-        } else {
-            None
-        }
+        self.moved(1, 0)
     }
 }
 
