@@ -9,6 +9,7 @@ mod layout;
 mod places;
 mod reading;
 mod slot;
+mod taking;
 mod writing;
 
 pub use checks::may_hold_in;

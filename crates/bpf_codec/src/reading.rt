@@ -1,5 +1,5 @@
 //! Reads instructions.
-ghost use Rattle.std.specs.Prelude.{◌≡◌, ◌*◌, drop, IfOk, IfErr};
+ghost use Rattle.std.specs.Prelude.{◌≡◌, ◌*◌, drop, IfOk, IfErr, IfSome, Ok};
 ghost use Rattle.isa_table.specs.declared.instr.Instr.{Instr};
 ghost use Rattle.isa_table.specs.Slots.{slots};
 ghost use Rattle.bpf_codec.specs.Slots.{Fits, Begins};
@@ -11,6 +11,7 @@ use crate::checks::check;
 use crate::fault::Fault;
 use crate::places::rows_at;
 use crate::slot::slot_at;
+use crate::taking::take_first;
 use isa_table::{Instr, slots_of};
 
 /// The imm field of the second slot, or 0 where the opcode has none.
@@ -39,10 +40,10 @@ fn is_packet_opcode(opcode: u8) -> bool
     matches!(opcode, 0x20 | 0x28 | 0x30 | 0x40 | 0x48 | 0x50)
 }
 
-/// The instruction at the head of the bytes, or the least fault.
+/// The instruction at the head of the bytes, or the least fault, by each of the tests.
 #[tactic(auto, unfolding(crate::specs::Decoding::decoded))]
-#[inline(always)]
-fn read(bytes: &[u8]) -> Result<Instr, Fault>
+#[inline(never)]
+fn read_or_refuse(bytes: &[u8]) -> Result<Instr, Fault>
     ensures { result ≡ decoded bytes.now }
 {
     if bytes.len() < 8 {
@@ -59,6 +60,36 @@ fn read(bytes: &[u8]) -> Result<Instr, Fault>
     match row {
         Some(row) => Ok(build(row, operands_of(f, next_imm))),
         None => Err(Fault::Platform),
+    }
+}
+
+/// The instruction at the head of the bytes, where they begin with one.
+#[inline(always)]
+fn read_valid(bytes: &[u8]) -> Option<Instr>
+    ensures { IfSome result (λ i. decoded bytes.now ≡ Ok i) }
+{
+    if bytes.len() < 8 {
+        return None;
+    }
+    let f = slot_at(bytes);
+    // no row has another number there: tested once, not for each use
+    if f.dst > 10 || f.src > 10 {
+        return None;
+    }
+    let Ok(next_imm) = next_imm_at(f.opcode, &bytes[8..]) else {
+        return None;
+    };
+    take_first(f, rows_at(f.opcode), operands_of(f, next_imm))
+}
+
+/// The instruction at the head of the bytes, or the least fault.
+#[inline(always)]
+fn read(bytes: &[u8]) -> Result<Instr, Fault>
+    ensures { result ≡ decoded bytes.now }
+{
+    match read_valid(bytes) {
+        Some(instr) => Ok(instr),
+        None => read_or_refuse(bytes),
     }
 }
 

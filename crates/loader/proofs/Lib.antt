@@ -4,5 +4,6 @@ pub mod KeptEntries
 pub mod OneReason
 pub mod ReadEntries
 pub mod Complaints
+pub mod Plain
 pub mod CheckedEntries
 pub mod ValidEntries

@@ -8,7 +8,7 @@ ghost use Rattle.loader.specs.Entries.{all_entries};
 ghost use Rattle.loader.specs.Refusals.{IsLeastComplaint, IsFirstWrong};
 
 use crate::loading::{LoadError, Why};
-use crate::program::{CodeEntry, entry_at};
+use crate::program::{CodeEntry, entry_at, plain_at};
 use helpers::Helper;
 use isa_table::{Instr, Reg, slots_of};
 
@@ -108,11 +108,17 @@ pub(crate) fn first_complaint(entries: &[CodeEntry]) -> Option<LoadError>
     ensures { (code : List Instr) → entries.now ≡ all_entries code → MatchOption result (AllSound code code 0) (λ e. IsFirstWrong code code 0 e.slot e.why) }
 {
     let mut slot = 0;
-    'instrs: while let Some(instr) = entry_at(entries, slot) {
+    'instrs: loop {
+        if plain_at(entries, slot) && slot + 1 < entries.len() {
+            slot += 1;
+            continue 'instrs;
+        }
+        let Some(instr) = entry_at(entries, slot) else {
+            return None;
+        };
         if let Some(why) = complaint(entries, slot, instr) {
             return Some(why.at(slot));
         }
         slot += slots_of(&instr);
     }
-    None
 }

@@ -1,8 +1,11 @@
-use Rattle.std.proofs.Common.{◌∙◌, sym, ◌+◌, arith, subst, ℕ}
+use Rattle.std.proofs.Common.{◌∙◌, sym, ◌+◌, arith, subst, ℕ, length}
+use Rattle.std.specs.Prelude.{slice_get}
+use Rattle.std.specs.Option.{option_flatten}
 use Rattle.loader.specs.declared.loading.LoadError.{LoadError}
 use Rattle.loader.specs.Refusals.{IsFirstWrong}
 use Rattle.loader.proofs.Positions.{slots_positive, slots_at_most_two}
 use Rattle.loader.proofs.CheckedEntries.{IsWalked, next_left, walk_on, wrong_here, all_walked, entry_within}
+use Rattle.loader.proofs.Plain.{plain_there, plain_sound}
 use Rattle.loader.proofs.checks.first_complaint.Goals as goal
 
 pub complaint-requires : goal.complaint-requires
@@ -19,7 +22,20 @@ returns-in-Some-complaint c = λ code e.
     subst (λ (r : LoadError). IsFirstWrong code code 0 r.slot r.why) (sym c.at.ensures) here
 
 pub overflow_add-slot : goal.overflow_add-slot
-overflow_add-slot c = omega (arith, c.slots_of-slot.ensures, slots_at_most_two c.in-Some.instr, entry_within c.args.entries.now c.instrs.slot c.in-Some.instr (sym c.in-Some.is ∙ c.entry_at.ensures))
+overflow_add-slot c =
+    let p = plain_there (option_flatten (slice_get c.args.entries.now c.instrs.slot)) (c.plain_at.ensures c.if-plain_at.true) in
+    omega (arith, c.requires, entry_within c.args.entries.now c.instrs.slot p.0 p.1)
+
+pub instrs-preserved-then-slot-entries : goal.instrs-preserved-then-slot-entries
+instrs-preserved-then-slot-entries c = λ code e.
+    let w = c.instrs.invariant code e in
+    let p = plain_there (option_flatten (slice_get c.args.entries.now c.instrs.slot)) (c.plain_at.ensures c.if-plain_at.true) in
+    let n = next_left c.args.entries.now c.instrs.slot p.0 w.left w.entries p.1 in
+    let sound = plain_sound code c.instrs.slot p.0 n.after (length c.args.entries.now) p.2 n.last c.if-slot-entries.true in
+    subst (λ (k : ℕ). IsWalked c.args.entries.now (c.instrs.slot + k) code) p.2.3 (walk_on _ _ _ code w n sound)
+
+pub overflow_add-slot-in-instrs : goal.overflow_add-slot-in-instrs
+overflow_add-slot-in-instrs c = omega (arith, c.slots_of-slot.ensures, slots_at_most_two c.in-Some.instr, entry_within c.args.entries.now c.instrs.slot c.in-Some.instr (sym c.in-Some.is ∙ c.entry_at.ensures))
 
 pub instrs-smaller : goal.instrs-smaller
 instrs-smaller c = omega (arith, c.slots_of-slot.ensures, slots_positive c.in-Some.instr, entry_within c.args.entries.now c.instrs.slot c.in-Some.instr (sym c.in-Some.is ∙ c.entry_at.ensures))
@@ -31,5 +47,5 @@ instrs-preserved c = λ code e.
     let sound = rw c.in_default-complaint.is at (c.complaint.ensures code n.after e n.last) in
     subst (λ (k : ℕ). IsWalked c.args.entries.now (c.instrs.slot + k) code) (sym c.slots_of-slot.ensures) (walk_on _ _ _ code w n sound)
 
-pub returns : goal.returns
-returns c = λ code e. all_walked _ _ code (c.instrs.invariant code e) (sym c.in_default.is ∙ c.entry_at.ensures)
+pub returns-in_default : goal.returns-in_default
+returns-in_default c = λ code e. all_walked _ _ code (c.instrs.invariant code e) (sym c.in_default.is ∙ c.entry_at.ensures)
