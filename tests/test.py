@@ -23,6 +23,8 @@ PROGRAM = "out/bpfagent-unproved"
 # What building and running a crate's tests takes of memory at most, in bytes, and how long it may take, in seconds.
 OF_A_CRATE = 3_000_000_000
 SECONDS = 900
+# How long a test may run, in seconds. The limit of `rt` itself is 60, which the slowest test reaches on a machine that does much else.
+OF_A_TEST = 300
 RESULT = re.compile(r"(?m)^test result: \w+\. (\d+) passed; (\d+) failed;")
 # How many lines of a part that fails are shown, and how much of each.
 SHOWN, WIDTH = 40, 300
@@ -69,6 +71,7 @@ def main() -> None:
         sys.exit(__doc__)
     rt, start = sys.argv[1], time.monotonic()
     need_toolchain(rt)
+    os.environ.setdefault("RT_SECONDS", str(OF_A_TEST))
 
     def scripts(lines: list[str]) -> list[Call]:
         return [lambda line=line: call_script(line, rt, PROGRAM, SECONDS) for line in lines]
