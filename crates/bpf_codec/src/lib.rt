@@ -17,6 +17,6 @@ pub use fault::Fault;
 pub use laws::{no_fault_where_encoded, none_begins_another, none_shared};
 pub use layout::{Field, Layout, layout_of};
 pub use places::rows_at;
-pub use reading::decode_at;
+pub use reading::{decode_at, decode_one};
 pub use slot::{Slot, slot_at};
 pub use writing::encode;

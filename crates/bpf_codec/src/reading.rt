@@ -93,6 +93,15 @@ fn read(bytes: &[u8]) -> Result<Instr, Fault>
     }
 }
 
+/// An instruction that was read, and how many slots it takes.
+#[inline(always)]
+fn with_slots(read: Result<Instr, Fault>) -> Result<(Instr, usize), Fault>
+    ensures { result ≡ with_slots read }
+{
+    let instr = read?;
+    Ok((instr, slots_of(&instr)))
+}
+
 /// As `decode_at`, by what the bytes from the slot on are read as.
 #[tactic(auto, using(crate::proofs::Encodings::past_the_end))]
 #[inline(always)]
@@ -102,8 +111,7 @@ fn read_at(code: &[u8], slot: usize) -> Result<(Instr, usize), Fault>
     if slot > code.len() / 8 {
         return Err(Fault::Short);
     }
-    let instr = read(&code[8 * slot..])?;
-    Ok((instr, slots_of(&instr)))
+    with_slots(read(&code[8 * slot..]))
 }
 
 /// The instruction that stands at the slot, and how many slots it takes (RFC 9669, section 3). A slot has eight bytes.
@@ -122,4 +130,29 @@ pub fn decode_at(code: &[u8], slot: usize) -> Result<(Instr, usize), Fault>
     ensures fault { IfErr result (λ f. IsLeastFault f (drop (8 * slot) code.now)) }
 {
     read_at(code, slot)
+}
+
+/// As `decode_one`, by what the bytes from the slot on are read as.
+#[tactic(auto, using(crate::proofs::Encodings::past_the_end))]
+fn read_one(code: &[u8], slot: usize) -> Result<(Instr, usize), Fault>
+    ensures { result ≡ with_slots (decoded (drop (8 * slot) code.now)) }
+{
+    if slot > code.len() / 8 {
+        return Err(Fault::Short);
+    }
+    with_slots(read_or_refuse(&code[8 * slot..]))
+}
+
+/// What `decode_at` gives, by each of the tests: for a caller that reads an instruction or two. `decode_at` reads many faster, and
+/// is large, so that it is inlined in one place of a program alone.
+///
+/// # Errors
+///
+/// As those of `decode_at`.
+pub fn decode_one(code: &[u8], slot: usize) -> Result<(Instr, usize), Fault>
+    ensures found { IfOk result (λ x. Fits x.0 × Begins (drop (8 * slot) code.now) x.0 × (x.1 ≡ slots x.0)) }
+    ensures only { (i : Instr) → Fits i → Begins (drop (8 * slot) code.now) i → result ≡ Ok (i, slots i) }
+    ensures fault { IfErr result (λ f. IsLeastFault f (drop (8 * slot) code.now)) }
+{
+    read_one(code, slot)
 }

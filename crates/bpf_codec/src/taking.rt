@@ -32,165 +32,43 @@ fn take(f: Slot, row: Instr, o: Operands) -> Option<Instr>
     }
 }
 
+/// A match on an instruction, with an arm for each of these shapes: each shape is a pattern, and the instruction that it fits.
+macro_rules! by_shape {
+    ($row:expr, $take:ident, $slot:expr, $operands:expr; $([$($shape:tt)+])+) => {
+        match $row {
+            $($($shape)+ => $take($slot, $($shape)+, $operands),)+
+        }
+    };
+}
+
 /// The same, by variant. Each arm passes its variant on, so that the compiler knows its layout there.
 #[inline(always)]
 fn take_row(f: Slot, row: Instr, o: Operands) -> Option<Instr>
     ensures { result ≡ taken f row o }
 {
-    match row {
-        Instr::Alu {
-            width,
-            op,
-            dst,
-            src: Operand::Imm(n),
-        } => take(
-            f,
-            Instr::Alu {
-                width,
-                op,
-                dst,
-                src: Operand::Imm(n),
-            },
-            o,
-        ),
-        Instr::Alu {
-            width,
-            op,
-            dst,
-            src: Operand::Register(src),
-        } => take(
-            f,
-            Instr::Alu {
-                width,
-                op,
-                dst,
-                src: Operand::Register(src),
-            },
-            o,
-        ),
-        Instr::Jump {
-            width,
-            cond,
-            dst,
-            src: Operand::Imm(n),
-            offset,
-        } => take(
-            f,
-            Instr::Jump {
-                width,
-                cond,
-                dst,
-                src: Operand::Imm(n),
-                offset,
-            },
-            o,
-        ),
-        Instr::Jump {
-            width,
-            cond,
-            dst,
-            src: Operand::Register(src),
-            offset,
-        } => take(
-            f,
-            Instr::Jump {
-                width,
-                cond,
-                dst,
-                src: Operand::Register(src),
-                offset,
-            },
-            o,
-        ),
-        Instr::Store {
-            size,
-            dst,
-            src: Operand::Imm(n),
-            offset,
-        } => take(
-            f,
-            Instr::Store {
-                size,
-                dst,
-                src: Operand::Imm(n),
-                offset,
-            },
-            o,
-        ),
-        Instr::Store {
-            size,
-            dst,
-            src: Operand::Register(src),
-            offset,
-        } => take(
-            f,
-            Instr::Store {
-                size,
-                dst,
-                src: Operand::Register(src),
-                offset,
-            },
-            o,
-        ),
-        Instr::Load {
-            size,
-            dst,
-            src,
-            offset,
-        } => take(
-            f,
-            Instr::Load {
-                size,
-                dst,
-                src,
-                offset,
-            },
-            o,
-        ),
-        Instr::LoadSigned {
-            size,
-            dst,
-            src,
-            offset,
-        } => take(
-            f,
-            Instr::LoadSigned {
-                size,
-                dst,
-                src,
-                offset,
-            },
-            o,
-        ),
-        Instr::Atomic {
-            width,
-            op,
-            dst,
-            src,
-            offset,
-        } => take(
-            f,
-            Instr::Atomic {
-                width,
-                op,
-                dst,
-                src,
-                offset,
-            },
-            o,
-        ),
-        Instr::Neg { width, dst } => take(f, Instr::Neg { width, dst }, o),
-        Instr::MovSx8 { width, dst, src } => take(f, Instr::MovSx8 { width, dst, src }, o),
-        Instr::MovSx16 { width, dst, src } => take(f, Instr::MovSx16 { width, dst, src }, o),
-        Instr::MovSx32 { dst, src } => take(f, Instr::MovSx32 { dst, src }, o),
-        Instr::End { order, width, dst } => take(f, Instr::End { order, width, dst }, o),
-        Instr::Ja { offset } => take(f, Instr::Ja { offset }, o),
-        Instr::JaLong { offset } => take(f, Instr::JaLong { offset }, o),
-        Instr::CallHelper { id } => take(f, Instr::CallHelper { id }, o),
-        Instr::CallLocal { offset } => take(f, Instr::CallLocal { offset }, o),
-        Instr::Exit => take(f, Instr::Exit, o),
-        Instr::LoadImm64 { dst, value } => take(f, Instr::LoadImm64 { dst, value }, o),
-    }
+    by_shape!(
+        row, take, f, o;
+        [Instr::Alu { width, op, dst, src: Operand::Imm(n) }]
+        [Instr::Alu { width, op, dst, src: Operand::Register(src) }]
+        [Instr::Jump { width, cond, dst, src: Operand::Imm(n), offset }]
+        [Instr::Jump { width, cond, dst, src: Operand::Register(src), offset }]
+        [Instr::Store { size, dst, src: Operand::Imm(n), offset }]
+        [Instr::Store { size, dst, src: Operand::Register(src), offset }]
+        [Instr::Load { size, dst, src, offset }]
+        [Instr::LoadSigned { size, dst, src, offset }]
+        [Instr::Atomic { width, op, dst, src, offset }]
+        [Instr::Neg { width, dst }]
+        [Instr::MovSx8 { width, dst, src }]
+        [Instr::MovSx16 { width, dst, src }]
+        [Instr::MovSx32 { dst, src }]
+        [Instr::End { order, width, dst }]
+        [Instr::Ja { offset }]
+        [Instr::JaLong { offset }]
+        [Instr::CallHelper { id }]
+        [Instr::CallLocal { offset }]
+        [Instr::Exit]
+        [Instr::LoadImm64 { dst, value }]
+    )
 }
 
 /// The same of the first of these rows. The others of an opcode are rare.

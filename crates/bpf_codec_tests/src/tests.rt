@@ -1,5 +1,5 @@
 //! Encodings by the tables of RFC 9669, by hand.
-use bpf_codec::{Fault, decode_at, encode};
+use bpf_codec::{Fault, decode_at, decode_one, encode};
 use isa_table::{
     AtomicOp, Binary, Cond, Instr, Operand, Order, Reg, SignedSize, Size, SwapWidth, Width,
     slots_of,
@@ -191,6 +191,10 @@ fn padded(bytes: [u8; 8]) -> [u8; 16] {
 fn reads_and_writes_the_same_bytes(rt: HostRuntime) {
     for &(bytes, instr) in ENCODINGS {
         assert!(rt; first(bytes) == Ok((instr, 1)), "read {bytes:?}");
+        assert!(rt;
+            decode_one(&bytes, 0) == Ok((instr, 1)),
+            "read alone {bytes:?}"
+        );
         assert!(rt; encode(&instr) == (padded(bytes), 1), "written {bytes:?}");
     }
 }
@@ -485,6 +489,7 @@ const WIDE_FAULTS: &[([u8; 16], Fault)] = &[
 fn answers_the_least_fault_of_two_slots(rt: HostRuntime) {
     for &(bytes, fault) in WIDE_FAULTS {
         assert!(rt; decode_at(&bytes, 0) == Err(fault), "at {bytes:?}");
+        assert!(rt; decode_one(&bytes, 0) == Err(fault), "alone {bytes:?}");
     }
     // The second slot is looked at only where it is there whole.
     let bytes = [0x18, 0, 0, 0, 0, 0, 0, 0, 1, 1, 1, 1, 1, 1, 1];
@@ -497,8 +502,13 @@ fn reads_at_any_slot(rt: HostRuntime) {
         0xb7, 0, 0, 0, 7, 0, 0, 0, 0x95, 0, 0, 0, 0, 0, 0, 0, 0x95, 0,
     ];
     assert!(rt; decode_at(&code, 1) == Ok((Instr::Exit, 1)));
+    assert!(rt; decode_one(&code, 1) == Ok((Instr::Exit, 1)));
     for &slot in &[2, 3, 1 << 61, usize::MAX] {
         assert!(rt; decode_at(&code, slot) == Err(Fault::Short), "at {slot}");
+        assert!(rt;
+            decode_one(&code, slot) == Err(Fault::Short),
+            "alone at {slot}"
+        );
     }
     assert!(rt; decode_at(&[], 0) == Err(Fault::Short));
 }

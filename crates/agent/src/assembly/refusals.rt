@@ -10,7 +10,7 @@ ghost use Rattle.agent.specs.Reports.{Reports};
 use crate::assembly::faults::{Added, put_decimal, put_fault, put_hex};
 use crate::failure::{ExitStatus, Failure};
 use crate::reporting::{report, say};
-use bpf_codec::{Fault, decode_at};
+use bpf_codec::{Fault, decode_one};
 use disassembler::line;
 use isa_table::Instr;
 use loader::{LoadError, Why};
@@ -138,7 +138,7 @@ fn put_bytes(alloc: Global, out: &mut Vec<u8>, bytes: &[u8], fault: Fault) -> Ad
 fn put_place(alloc: Global, out: &mut Vec<u8>, code: &[u8], slot: usize, why: Why) -> Added
     ensures { OnOk result ((text : List ℕ) × SaysAt (drop (8 * slot) code.now) slot why text × (out.new.items ≡ out.old.items ++ text)) }
 {
-    match decode_at(code, slot) {
+    match decode_one(code, slot) {
         Ok((instr, _)) => put_instruction(out, slot, &instr, why),
         Err(fault) => put_bytes(alloc, out, bytes_from(code, slot), fault),
     }
