@@ -464,6 +464,14 @@ class Arguments(unittest.TestCase):
             self.assertEqual((status, output, errors.count("\n")), (1, "", 1), (words, errors))
             self.assertTrue(errors.startswith("bpfagent-debug: "), errors)
 
+    def test_closed_streams(self) -> None:
+        """A standard stream that is closed is taken as the null device, also by the adapter for editors."""
+        code = [str(ROOT / "examples/c/counter.code"), "+8", "3"]
+        for words, greeting in ((code, f"* machine 1: standing, slot 0, fuel 1000000\n{code[0]}: {code[0]} is raw code, which has no lines and no names\n"), (["--dap"], "")):
+            for closed, shown in (("<&-", greeting), ("</dev/null 2>&-", greeting), ("</dev/null >&-", "")):
+                done = subprocess.run(["sh", "-c", f'exec "$@" {closed}', "sh", *DEBUGGER, *words], capture_output=True, text=True, timeout=SECONDS)
+                self.assertEqual((done.returncode, done.stdout, done.stderr), (0, shown, ""), (words, closed))
+
     def test_raw_code(self) -> None:
         """Raw code has no lines, but instructions can be stepped and shown."""
         done = subprocess.run(
