@@ -99,6 +99,7 @@ class Agent:
         pipes = Pipes(process)
 
         def end() -> None:
+            pipes.drain(time.monotonic() + GRACE)
             pipes.close()
             status = wait_or_end(process, PATIENCE)
             if status is None:
