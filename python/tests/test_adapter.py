@@ -267,7 +267,7 @@ class Sessions(unittest.TestCase):
         self.assertEqual((self.text, frames[0]["name"], frames[0]["line"]), ("outside: an access to bytes that aren't all there", "find", 15))
         self.assertEqual(self.variables(frames[0])["key"]["value"], "7")
         self.assertIn(
-            "is outside any object",
+            "there is no object 1, or it ends before offset 40",
             self.ask("evaluate", expression="table", frameId=frames[0]["id"])["result"]
             + self.refused("evaluate", expression="*table", frameId=frames[0]["id"]),
         )

@@ -355,9 +355,12 @@ class Terminal(cmd.Cmd):
     def do_set(self, argument: str) -> None:
         """set EXPRESSION = EXPRESSION: writes a number to a value in an object. The protocol can't write registers and stacks."""
         left, equals, right = argument.partition("=")
+        taken = "set takes a number in an object, as in set table->count = 3"
+        if not equals:
+            raise Impossible(taken)
         place, value = self._value(left.removeprefix("var ")), self._value(right)
-        if not equals or place.address is None or place.is_part or place.type.size > 8:
-            raise Impossible("set takes a number in an object, as in set table->count = 3")
+        if place.address is None or place.is_part or place.type.size > 8:
+            raise Impossible(taken)
         self.engine.write(place.address, (value.number & ((1 << 8 * place.type.size) - 1)).to_bytes(place.type.size, "little"))
 
     def do_tell(self, argument: str) -> None:
