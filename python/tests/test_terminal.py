@@ -12,23 +12,8 @@ import unittest
 import bpfagent
 from bpfagent import Service, patiently
 from bpfagent.debug.main import main
-from support import DEBUGGER, PROGRAM, ROOT, SECONDS, TABLE, Pseudoterminal, changes, needs_debugger, usage_of
+from support import DEBUGGER, ENDLESS, PROGRAM, ROOT, SECONDS, TABLE, Pseudoterminal, changes, endless_service, needs_debugger, usage_of
 
-# Counts for ever, in a function of its own; and stores once, far from where it was asked to.
-ENDLESS = """#include "bpfagent.h"
-CALLED uint64_t more(volatile uint64_t *count)
-{
-    *count += 1;
-    return *count;
-}
-uint64_t program(volatile uint64_t *count)
-{
-    uint64_t last = 0;
-    for (;;)
-        last = more(count);
-    return last;
-}
-"""
 DEEP = """#include "bpfagent.h"
 CALLED uint64_t sum(uint64_t n)
 {
@@ -175,12 +160,8 @@ class Sessions(unittest.TestCase):
 
     def test_attach(self) -> None:
         """A service that runs: its machine is recognized, paused, looked at, and goes on when the debugger has left."""
-        with Service(PROGRAM, "--workers", "4", "--connections", "2", timeout=SECONDS) as service:
-            number = service.setup.make(8)
-            code = pathlib.Path(self.folder.name) / "program.code"
-            subprocess.run([*DEBUGGER[:2], "bpfagent.ship", "--flag=-O0", "--output", str(code), self.source(ENDLESS)], check=True)
-            service.setup.ship(code.read_bytes(), 2**63, number << 32)
-            service.listen()
+        with endless_service(pathlib.Path(self.source(ENDLESS))) as service:
+            number = 1
             other = service.connect(SECONDS)
             with self.debugger("--connect", f"127.0.0.1:{service.port}", self.source(ENDLESS)) as terminal:
                 self.assertRegex(terminal.greeting[0], r"^\* machine 1: running, ")
@@ -199,6 +180,27 @@ class Sessions(unittest.TestCase):
                 self.assertEqual(terminal.close(), 0)
             self.assertTrue(changes(other, number), "the machine doesn't go on")
             self.assertIn(other.tell("one 1").split()[0], ("ran", "waiting"))
+
+    def test_signals(self) -> None:
+        """A signal that ends the debugger, as when its terminal is closed, leaves the machines of a service as `quit` does; also while a
+        command waits."""
+        at_once = ["break more", "continue"]
+        never = ["break more if *count == 0", "continue"]
+        for number in (signal.SIGTERM, signal.SIGHUP):
+            for commands in (at_once, never):
+                with endless_service(pathlib.Path(self.source(ENDLESS))) as service:
+                    other = service.connect(SECONDS)
+                    with self.debugger("--connect", f"127.0.0.1:{service.port}", self.source(ENDLESS)) as terminal:
+                        terminal.ask("pause")
+                        terminal.ask(commands[0])
+                        terminal.press(f"{commands[1]}\n")
+                        if commands is at_once:
+                            terminal.wait("breakpoint 1")
+                            self.assertEqual(other.regs(1).state, "paused")
+                        terminal.process.send_signal(number)
+                        self.assertEqual(terminal.process.wait(SECONDS), 128 + number, commands)
+                    self.assertEqual(other.regs(1).state, "run", commands)
+                    self.assertEqual([other.tell(f"unbreak 1 {slot}") for slot in range(40)], ["noslot"] * 40, commands)
 
     def test_recognition(self) -> None:
         """Machines of two programs, one with other code of the same shape, and one that isn't known."""
