@@ -7,8 +7,10 @@ cluster does, signals, and that an idle gateway sleeps. `bpfagent serve`, whose 
 from __future__ import annotations
 
 import hashlib
+import os
 import pathlib
 import re
+import resource
 import shutil
 import signal
 import socket
@@ -26,6 +28,7 @@ from support import PROGRAM, ROOT, SECONDS
 
 from lib.programs import Client, Listener, Server, Service, ended, free_port, object_line, redis_server
 from product.store import KEPT, frame, talk, unanswered
+from product.waiting import processor_time
 
 GATEWAY = [sys.executable, "-m", "bpfagent.gateway"]
 CLIENT = [sys.executable, "-m", "bpfagent.far"]
@@ -351,6 +354,45 @@ class Gateways(unittest.TestCase):
             gateway.process.send_signal(number)
             self.assertEqual(gateway.process.wait(timeout=SECONDS), 0, f"a gateway that gets {number.name} at once")
             self.assertEqual(gateway.end(), (0, b"", b""), f"what a gateway says that gets {number.name} at once")
+        redis.end()
+
+    def test_unread_errors(self) -> None:
+        """If nobody reads standard error any more, a Redis that goes away costs a client nothing but its answers."""
+        redis = Redis()
+        gateway = Gateway(redis.address)
+        assert gateway.process.stderr
+        gateway.process.stderr.close()
+        gateway.process.stderr = None
+        store = Store(gateway.port)
+        number, digest = kept(store, b"abc")
+        redis.end()
+        self.assertEqual([store.ask(GET, number) for _ in range(3)], [(NO_ROOM, b"")] * 3)
+        back = Redis(redis.server_address[1])
+        back.kept = redis.kept
+        self.assertEqual(store.get(number, digest), b"abc")
+        store.close()
+        self.assertEqual(gateway.end(), (0, b"", None))
+        back.end()
+
+    def test_descriptors(self) -> None:
+        """A gateway without a descriptor for a further client rests between its tries, and serves the client when another has gone."""
+        redis, most = Redis(), 10
+        with Listener(*GATEWAY, "--redis", redis.address, limits={resource.RLIMIT_NOFILE: most}) as gateway:
+            assert gateway.port
+            clients = [socket.socket() for _ in range(most)]
+            for client in clients:
+                client.setblocking(False)
+                client.connect_ex(("127.0.0.1", gateway.port))
+            eventually(lambda: len(os.listdir(f"/proc/{gateway.process.pid}/fd")) == most, "the gateway has descriptors left")
+            before = processor_time(gateway.process.pid)
+            time.sleep(1)
+            self.assertLess(processor_time(gateway.process.pid) - before, 0.1, "what a gateway without descriptors costs in a second")
+            for client in clients:
+                client.close()
+            with Store(gateway.port, timeout=SECONDS) as store:
+                number, digest = kept(store, b"abc")
+                self.assertEqual(store.get(number, digest), b"abc")
+            self.assertEqual(gateway.end()[0], 0)
         redis.end()
 
     def test_idleness(self) -> None:
