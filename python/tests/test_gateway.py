@@ -32,6 +32,47 @@ from product.waiting import processor_time
 
 GATEWAY = [sys.executable, "-m", "bpfagent.gateway"]
 CLIENT = [sys.executable, "-m", "bpfagent.far"]
+CRLF = b"\r\n$-1\r\n\0\xff" * 9
+# One request of each kind, and its answers.
+ASKED = [
+    frame(PUT, 1, b"abc"),
+    frame(PUT, 1, b"x"),
+    frame(GET, 1),
+    frame(GET, 2),
+    frame(PUT, 2**64 - 1, b"z" * LIMIT),
+    frame(GET, 2**64 - 1),
+    frame(FORGET, 1),
+    frame(FORGET, 1),
+    frame(GET, 1),
+    frame(PUT, 3, CRLF),
+    frame(GET, 3),
+]
+ANSWERED = [
+    frame(DONE, 1),
+    frame(REFUSED_ID, 1),
+    frame(DONE, 1, b"abc"),
+    frame(REFUSED_ID, 2),
+    frame(DONE, 2**64 - 1),
+    frame(DONE, 2**64 - 1, b"z" * LIMIT),
+    frame(DONE, 1),
+    frame(REFUSED_ID, 1),
+    frame(REFUSED_ID, 1),
+    frame(DONE, 3),
+    frame(DONE, 3, CRLF),
+]
+# What is no request.
+WRONG = (
+    frame(4, 1),
+    frame(0, 1),
+    frame(PUT, 1),
+    frame(PUT, 1, length=LIMIT + 1),
+    frame(PUT, 1, b"z" * (LIMIT + 1)),
+    frame(GET, 1, b"x"),
+    frame(FORGET, 1, b"x"),
+    frame(PUT, 1, b"abc")[:-1],
+    b"\x01",
+    frame(GET, 1)[:-1],
+)
 
 
 class Talk(socketserver.StreamRequestHandler):
@@ -163,46 +204,8 @@ class Gateways(unittest.TestCase):
         self.assertTrue(
             talk(gateway, bytes.fromhex("01 0000000000000001 00000003 616263")) == bytes.fromhex("00 0000000000000001 00000000"), "the put of the page"
         )
-        crlf = b"\r\n$-1\r\n\0\xff" * 9
-        asked = [
-            frame(PUT, 1, b"abc"),
-            frame(PUT, 1, b"x"),
-            frame(GET, 1),
-            frame(GET, 2),
-            frame(PUT, 2**64 - 1, b"z" * LIMIT),
-            frame(GET, 2**64 - 1),
-            frame(FORGET, 1),
-            frame(FORGET, 1),
-            frame(GET, 1),
-            frame(PUT, 3, crlf),
-            frame(GET, 3),
-        ]
-        answered = [
-            frame(DONE, 1),
-            frame(REFUSED_ID, 1),
-            frame(DONE, 1, b"abc"),
-            frame(REFUSED_ID, 2),
-            frame(DONE, 2**64 - 1),
-            frame(DONE, 2**64 - 1, b"z" * LIMIT),
-            frame(DONE, 1),
-            frame(REFUSED_ID, 1),
-            frame(REFUSED_ID, 1),
-            frame(DONE, 3),
-            frame(DONE, 3, crlf),
-        ]
-        self.assertTrue(talk(gateway, *asked) == b"".join(answered), "a conversation")
-        for wrong in (
-            frame(4, 1),
-            frame(0, 1),
-            frame(PUT, 1),
-            frame(PUT, 1, length=LIMIT + 1),
-            frame(PUT, 1, b"z" * (LIMIT + 1)),
-            frame(GET, 1, b"x"),
-            frame(FORGET, 1, b"x"),
-            frame(PUT, 1, b"abc")[:-1],
-            b"\x01",
-            frame(GET, 1)[:-1],
-        ):
+        self.assertTrue(talk(gateway, *ASKED) == b"".join(ANSWERED), "a conversation")
+        for wrong in WRONG:
             self.assertTrue(unanswered(gateway, wrong), f"{wrong[:16]!r} is answered")
         numbers = range(1, KEPT + 2)
         self.assertTrue(

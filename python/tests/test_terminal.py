@@ -42,6 +42,53 @@ uint64_t program(struct all *all)
     return copy.low + byte;
 }
 """
+# Expressions in a program of TYPES, and their values; those that have none, and why.
+VALUES = {
+    "all->colour": "GREEN",
+    "all->word": "{whole = 67305985, bytes = {1, 2, 3, 4}}",
+    "all->inner[0]": "{small = -2, letter = 97 'a'}",
+    "copy.inner[1].small": "2",
+    "all->name": '"name"',
+    "all->low": "5",
+    "copy.high": "21",
+    "all->minus": "-7",
+    "all->self": "(struct all *) 0x100000000 <object 1>",
+    "all->self->self->minus + 8": "1",
+    "all->end": "(const uint8_t *) 0x100000003 <object 1+3>",
+    "*all->end": "0",
+    "&all->minus": "(int64_t *) 0x100000028 <object 1+40>",
+    "byte": "110",
+    "*(uint32_t *)0x100000004": "67305985",
+    "(uint8_t)0x1ff": "255",
+    "2 + 3 * 4": "14",
+    "-(7 - 9)": "2",
+    "7 / 2 % 2": "1",
+    "(uint64_t)-1 == -1": "1",
+    "(uint64_t)0 > -1": "0",
+    "(int64_t)0 > -1": "1",
+    "byte > -1": "1",
+    "all->end != -1": "1",
+    "-7 / 2": "-3",
+    "7 / -2": "-3",
+    "-7 / -2": "3",
+    "-7 % 2": "-1",
+    "7 % -2": "1",
+    "all->minus / 2": "-3",
+    "$r10": str(0xFFFFFFFF00001000),
+    "copy.name": '"name"',
+}
+VALUELESS = {
+    "nothing": "there is no variable nothing in program",
+    "all->none": "struct all has no member none; it has colour, word, inner, name, low, high, self, minus, end",
+    "1 +": "the expression ends too early",
+    "byte->x": "this is no pointer, but uint8_t: cast it, as in *(uint64_t *)",
+    "&(1 + 2)": "this value is in no memory, so it has no address",
+    "*(uint64_t *)0x900000000": "there is no object 9, or it ends before offset 8",
+    "*(uint64_t *)8": "0x8 is in no object",
+    "1 / 0": "division by zero",
+    "all ; 1": "`; 1` is no expression",
+    "$r11": "$r11 isn't shown by the protocol here: there are $r0 to $r10, $slot and $fuel",
+}
 
 
 @needs_debugger
@@ -118,25 +165,8 @@ class Sessions(unittest.TestCase):
         for version in ("-gdwarf-4", "-gdwarf-5"):
             for level in ("-O0", "-O2"):
                 path = f"{self.folder.name}/table{version}{level}.o"
-                subprocess.run(
-                    [
-                        "clang",
-                        "-target",
-                        "bpf",
-                        "-mcpu=v3",
-                        level,
-                        version,
-                        "-ffreestanding",
-                        "-I",
-                        str(ROOT / "python/bpfagent/include"),
-                        "-c",
-                        "table.c",
-                        "-o",
-                        path,
-                    ],
-                    cwd=ROOT / "examples/debug",
-                    check=True,
-                )
+                flags = ["-target", "bpf", "-mcpu=v3", level, version, "-ffreestanding", f"-I{ROOT / 'python/bpfagent/include'}"]
+                subprocess.run(["clang", *flags, "-c", "table.c", "-o", path], cwd=ROOT / "examples/debug", check=True, timeout=SECONDS)
                 with self.debugger(path, *TABLE[1:]) as terminal:
                     commands = [
                         "break table.c:16",
@@ -210,7 +240,7 @@ class Sessions(unittest.TestCase):
         with Service(PROGRAM, "--workers", "2", "--connections", "1", timeout=SECONDS) as service:
             for path in paths:
                 code = path.with_suffix(".code")
-                subprocess.run([*DEBUGGER[:2], "bpfagent.ship", "--flag=-O0", "--output", str(code), str(path)], check=True)
+                subprocess.run([*DEBUGGER[:2], "bpfagent.ship", "--flag=-O0", "--output", str(code), str(path)], check=True, timeout=SECONDS)
                 service.setup.break_(service.setup.ship(code.read_bytes(), 100, 1), 0)
             service.listen()
             with self.debugger("--connect", f"127.0.0.1:{service.port}", "--with", str(paths[1]), str(paths[0])) as terminal:
@@ -227,7 +257,7 @@ class Sessions(unittest.TestCase):
         """A machine that bpfagent-ship shipped is recognized with its flags, and without them the debugger names them."""
         with Service(PROGRAM, "--workers", "0", "--connections", "2", timeout=SECONDS) as service:
             code = pathlib.Path(self.folder.name) / "optimized.code"
-            subprocess.run([*DEBUGGER[:2], "bpfagent.ship", "--output", str(code), TABLE[0]], check=True)
+            subprocess.run([*DEBUGGER[:2], "bpfagent.ship", "--output", str(code), TABLE[0]], check=True, timeout=SECONDS)
             service.setup.ship(code.read_bytes(), 100)
             at = f"127.0.0.1:{service.listen()}"
             with self.debugger("--connect", at, TABLE[0]) as terminal:
@@ -309,54 +339,9 @@ class Sessions(unittest.TestCase):
         with self.debugger(self.source(TYPES), f"@{data}") as terminal:
             terminal.ask("break program.c:12")
             terminal.ask("continue")
-            values = {
-                "all->colour": "GREEN",
-                "all->word": "{whole = 67305985, bytes = {1, 2, 3, 4}}",
-                "all->inner[0]": "{small = -2, letter = 97 'a'}",
-                "copy.inner[1].small": "2",
-                "all->name": '"name"',
-                "all->low": "5",
-                "copy.high": "21",
-                "all->minus": "-7",
-                "all->self": "(struct all *) 0x100000000 <object 1>",
-                "all->self->self->minus + 8": "1",
-                "all->end": "(const uint8_t *) 0x100000003 <object 1+3>",
-                "*all->end": "0",
-                "&all->minus": "(int64_t *) 0x100000028 <object 1+40>",
-                "byte": "110",
-                "*(uint32_t *)0x100000004": "67305985",
-                "(uint8_t)0x1ff": "255",
-                "2 + 3 * 4": "14",
-                "-(7 - 9)": "2",
-                "7 / 2 % 2": "1",
-                "(uint64_t)-1 == -1": "1",
-                "(uint64_t)0 > -1": "0",
-                "(int64_t)0 > -1": "1",
-                "byte > -1": "1",
-                "all->end != -1": "1",
-                "-7 / 2": "-3",
-                "7 / -2": "-3",
-                "-7 / -2": "3",
-                "-7 % 2": "-1",
-                "7 % -2": "1",
-                "all->minus / 2": "-3",
-                "$r10": str(0xFFFFFFFF00001000),
-                "copy.name": '"name"',
-            }
-            for text, value in values.items():
+            for text, value in VALUES.items():
                 self.assertEqual(terminal.ask(f"print {text}"), [f"{text} = {value}"])
-            for text, why in {
-                "nothing": "there is no variable nothing in program",
-                "all->none": "struct all has no member none; it has colour, word, inner, name, low, high, self, minus, end",
-                "1 +": "the expression ends too early",
-                "byte->x": "this is no pointer, but uint8_t: cast it, as in *(uint64_t *)",
-                "&(1 + 2)": "this value is in no memory, so it has no address",
-                "*(uint64_t *)0x900000000": "there is no object 9, or it ends before offset 8",
-                "*(uint64_t *)8": "0x8 is in no object",
-                "1 / 0": "division by zero",
-                "all ; 1": "`; 1` is no expression",
-                "$r11": "$r11 isn't shown by the protocol here: there are $r0 to $r10, $slot and $fuel",
-            }.items():
+            for text, why in VALUELESS.items():
                 self.assertEqual(terminal.ask(f"print {text}"), [why])
             self.assertEqual(terminal.ask("x/2xw all"), ["0x100000000 <object 1>: 0x00000005 0x04030201"])
             self.assertEqual(terminal.ask("x/4c all->name"), ["0x100000010 <object 1+16>: 110 'n' 97 'a' 109 'm' 101 'e'"])

@@ -52,7 +52,7 @@ def show_uninstalled(prefix: pathlib.Path) -> None:
     (prefix / "lib/other").write_text("another's\n")
     run(*INSTALL, "--uninstall", prefix)
     want_equal([str(path.relative_to(prefix)) for path in sorted(prefix.rglob("*")) if path.is_file()], ["lib/other"], "what is left")
-    again = subprocess.run([*INSTALL, "--uninstall", str(prefix)], stdout=subprocess.PIPE, stderr=subprocess.STDOUT, text=True)
+    again = subprocess.run([*INSTALL, "--uninstall", str(prefix)], stdout=subprocess.PIPE, stderr=subprocess.STDOUT, text=True, timeout=300)
     want(again.returncode == 1 and "Traceback" not in again.stdout, f"a second --uninstall ends with {again.returncode}: {again.stdout}")
 
 

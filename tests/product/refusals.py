@@ -52,7 +52,7 @@ def shim(rt: str, folder: str) -> str:
     clang = os.path.join(os.path.dirname(os.path.dirname(os.path.realpath(rt))), "toolchain/bin/clang")
     made = os.path.join(folder, "fail_allocation.so")
     source = str(ROOT / "tests/product/fail_allocation.c")
-    subprocess.run([clang, "-O1", "-shared", "-fPIC", "-nostdlib", "-fuse-ld=lld", "-o", made, source], check=True)
+    subprocess.run([clang, "-O1", "-shared", "-fPIC", "-nostdlib", "-fuse-ld=lld", "-o", made, source], check=True, timeout=300)
     return made
 
 
