@@ -24,6 +24,7 @@ from bpfagent import Service, Unloadable, address, image, load
 from bpfagent.ship import main
 from support import PROGRAM, ROOT, SECONDS, has_elftools, program_of, usage_of
 
+from lib.far import Far
 from lib.programs import until
 from product.program import has_clang
 
@@ -241,6 +242,20 @@ class Ships(unittest.TestCase):
                 self.want_usage([loads, "--connect", at, "+8"], "argument 1, `+8`: is neither a number nor :N, an object of the service")
                 self.want_usage([loads, "--connect", at, ":1025"], "argument 1, `:1025`: isn't from :1 to :1024, the numbers of objects")
         self.want_said([loads, "--connect", at], 1, "", f"bpfagent-ship: the service at {at} can't be reached: Connection refused\n")
+
+    def test_waiting(self) -> None:
+        """A program that waits for an object which its service doesn't get back says so, and ends by an interrupt."""
+        with Far() as far, Service(PROGRAM, "--connections", "3", "--far", f"127.0.0.1:{far.port}", timeout=SECONDS) as service:
+            service.setup.make(8)
+            at = f"127.0.0.1:{service.listen()}"
+            with service.connect(SECONDS) as other:
+                far.manner = "keeping"
+                until("the object doesn't leave", lambda: other.leave(1) and far.kept)
+                with subprocess.Popen([*SHIP, self.codes["loads"], "--connect", at, ":1"], stdout=subprocess.PIPE, stderr=subprocess.PIPE) as process:
+                    assert process.stderr
+                    self.assertEqual(process.stderr.readline(), b"the program waits for object 1, which isn't here; an interrupt ends the waiting\n")
+                    process.send_signal(signal.SIGINT)
+                    self.assertEqual((process.communicate(timeout=SECONDS), process.returncode), ((b"", b""), 130))
 
     def test_explained(self) -> None:
         """What `check --explain` says of refused code comes below the refusal; with a program that has no such option, nothing does."""
