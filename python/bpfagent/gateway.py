@@ -30,6 +30,8 @@ SECONDS = 10.0
 # How long no client is accepted after one couldn't be, as when no descriptor is left, in seconds.
 PAUSE = 0.1
 STDERR = 2
+# How much is shown of what Redis says, which may be long.
+SHOWN = 200
 # How often a request is sent on to another server of a cluster.
 REDIRECTIONS = 5
 
@@ -82,7 +84,7 @@ class Health:
 def say(text: str) -> None:
     """A line about Redis. If nobody can read it, it is lost, and the clients are served all the same."""
     with contextlib.suppress(OSError):
-        os.write(STDERR, f"redis: {text}\n".encode(errors="backslashreplace"))
+        os.write(STDERR, f"redis: {text[:SHOWN]}\n".encode(errors="backslashreplace"))
 
 
 class Node:
@@ -98,7 +100,7 @@ class Node:
         """The reply to a command."""
         self.stream.write(b"*%d\r\n" % len(words) + b"".join(b"$%d\r\n%b\r\n" % (len(word), word) for word in words))
         self.stream.flush()
-        line = self.stream.readline()
+        line = self.stream.readline(LIMIT)
         if not line:
             raise ConnectionError("the connection was closed")
         kind, text = line[:1], line[1:-2]

@@ -232,7 +232,7 @@ class Gateways(unittest.TestCase):
         """Two clients at once have keys of their own, which are gone when they are; so they are when the gateway ends."""
         redis = Redis()
         gateway = Gateway(redis.address, "--prefix", "far/")
-        one, two = Store(gateway.port), Store(gateway.port)
+        one, two = Store(gateway.port, timeout=SECONDS), Store(gateway.port, timeout=SECONDS)
         first, second = kept(one, b"one"), kept(two, b"two")
         self.assertTrue((first[0], second[0]) == (1, 1) and one.get(*first) == b"one" and two.get(*second) == b"two", "two clients with one id")
         self.assertTrue(
@@ -253,7 +253,7 @@ class Gateways(unittest.TestCase):
         """A Redis that is full or answers nonsense: the request is answered 2, the next is served. One that lies is found out."""
         redis = Redis()
         gateway = Gateway(redis.address)
-        store = Store(gateway.port)
+        store = Store(gateway.port, timeout=SECONDS)
         number, digest = kept(store, b"abc")
         full = b"-OOM command not allowed when used memory > 'maxmemory'.\r\n"
         for reply in (
@@ -270,6 +270,7 @@ class Gateways(unittest.TestCase):
             b"$1000000000000\r\n",
             b"$9223372036854775807\r\n",
             b"$-2\r\n",
+            b"-" + b"x" * LIMIT + b"\r\n",
         ):
             redis.instead.append(reply)
             self.assertTrue(store.ask(GET, number) == (NO_ROOM, b""), f"a get while Redis answers {reply[:20]!r}")
@@ -283,7 +284,7 @@ class Gateways(unittest.TestCase):
         store.close()
         status, _, errors = gateway.end()
         self.assertIn(f"redis: can't be reached: {redis.address}: the connection was closed\n", errors.decode())
-        self.assertTrue(status == 0 and errors.count(b"redis: ") == 28 and errors.count(b" again\n") == 14, f"what was said of faults: {errors!r}")
+        self.assertTrue(status == 0 and errors.count(b"redis: ") == 30 and errors.count(b" again\n") == 15, f"what was said of faults: {errors!r}")
         redis.end()
 
     def test_absence(self) -> None:
@@ -291,7 +292,7 @@ class Gateways(unittest.TestCase):
         meanwhile leaves its keys."""
         redis = Redis()
         gateway = Gateway(redis.address)
-        store = Store(gateway.port)
+        store = Store(gateway.port, timeout=SECONDS)
         number, digest = kept(store, b"abc")
         redis.end()
         self.assertTrue(store.ask(PUT, 2, b"x") == (NO_ROOM, b"") and all(store.ask(GET, number) == (NO_ROOM, b"") for _ in range(100)), "a Redis that is away")
@@ -340,7 +341,7 @@ class Gateways(unittest.TestCase):
         for number in (signal.SIGINT, signal.SIGTERM):
             redis = Redis()
             gateway = Gateway(redis.address)
-            store = Store(gateway.port)
+            store = Store(gateway.port, timeout=SECONDS)
             self.assertTrue(store.put(b"abc")[0] == 1 and len(redis.kept) == 1, "a parcel before the signal")
             gateway.process.send_signal(number)
             self.assertTrue(gateway.process.wait(timeout=SECONDS) == 0, f"a gateway that gets {number.name}")
@@ -366,7 +367,7 @@ class Gateways(unittest.TestCase):
         assert gateway.process.stderr
         gateway.process.stderr.close()
         gateway.process.stderr = None
-        store = Store(gateway.port)
+        store = Store(gateway.port, timeout=SECONDS)
         number, digest = kept(store, b"abc")
         redis.end()
         self.assertEqual([store.ask(GET, number) for _ in range(3)], [(NO_ROOM, b"")] * 3)
@@ -403,7 +404,7 @@ class Gateways(unittest.TestCase):
         redis = Redis()
         gateway = Gateway(redis.address)
         store: Optional[Store] = None
-        for store in (None, Store(gateway.port)):
+        for store in (None, Store(gateway.port, timeout=SECONDS)):
             if store:
                 store.put(b"abc")
             counts = [wakings_in(0.5, gateway.process)]
@@ -420,7 +421,7 @@ class Gateways(unittest.TestCase):
         """A cluster of two: the one sends its clients to the other, for good or while a key is on its way."""
         near, far = Redis(), Redis()
         gateway = Gateway(near.address)
-        store = Store(gateway.port)
+        store = Store(gateway.port, timeout=SECONDS)
         moved, asking = f"-MOVED 3999 {far.address}\r\n".encode(), f"-ASK 3999 :{far.server_address[1]}\r\n".encode()
         near.instead += [moved, asking, moved]
         number, digest = kept(store, b"abc")
