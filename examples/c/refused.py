@@ -95,6 +95,8 @@ def try_it(clang, script, path):
 def main():
     writes = sys.argv[1:2] == ["--write"]
     clang = sys.argv[1 + writes :]
+    if not clang:
+        sys.exit(__doc__)
     OUT.mkdir(parents=True, exist_ok=True)
     script, stored = Script(), HERE / "refused.script"
     sources = sorted((HERE / "refused").glob("*.c"))

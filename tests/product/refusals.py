@@ -293,6 +293,10 @@ def show(failing: Failing) -> None:
 
 
 def main() -> None:
+    if len(sys.argv) not in (2, 3):
+        sys.exit(__doc__)
+    if not os.path.isfile(PROGRAM):
+        sys.exit(f"refusals: there is no {PROGRAM}: make program comes first")
     if has_checks(PROGRAM):
         sys.exit(f"{PROGRAM} is a program of `make try`, which brings an allocator of its own: only a proved program's allocations can be made to fail")
     with tempfile.TemporaryDirectory() as folder:
