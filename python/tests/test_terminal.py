@@ -411,6 +411,8 @@ class Sessions(unittest.TestCase):
                 "print": "there is no expression",
                 "set": "set takes a number in an object, as in set table->count = 3",
                 "set *table": "set takes a number in an object, as in set table->count = 3",
+                "x/2i 4095": "no instruction begins at slot 4095",
+                "x/i 99999999": "no instruction begins at slot 99999999",
                 "x/2xg 0x100000028": "there is no object 1, or it ends before offset 56",
                 "print " + "(" * 900: "the expression is nested too deeply",
                 "print 0x10000000000000000": "0x10000000000000000 has more than 64 bits",
