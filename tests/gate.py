@@ -9,7 +9,6 @@ from __future__ import annotations
 
 import concurrent.futures
 import os
-import pathlib
 import re
 import resource
 import subprocess
@@ -27,6 +26,8 @@ PROVED = re.compile(r"rt: \w+(: its tests are)? proved$")
 # What `rt ci` says once the program is built.
 BUILDS = re.compile(r"rt: bpfagent (proved$|is kept: )")
 LAST = re.compile(r"(\d+) passed, (\d+) failed")
+# How long a script may take, in seconds, also on a slow machine: one that hangs fails.
+SECONDS = 4 * 3600
 # What a check may take of memory, in bytes. A check that spreads over several processors takes up to half as much again.
 OF_A_CHECK = 5_000_000_000
 
@@ -39,7 +40,7 @@ def told(done: Done) -> int:
 
 def failures_of(lines: Iterable[str], rt: str = "") -> int:
     """How many of these scripts fail, over the proved programs."""
-    return sum(told(call_script(line, rt, str(ROOT / program))) for line in lines for program in (BUILT if "BOTH" in line else BUILT[:1]))
+    return sum(told(call_script(line, rt, str(ROOT / program), SECONDS)) for line in lines for program in (BUILT if "BOTH" in line else BUILT[:1]))
 
 
 def spent(start: float) -> str:

@@ -98,10 +98,15 @@ def told_by(program: pathlib.Path, room: str) -> Iterator[tuple[str, pathlib.Pat
 def write(place: pathlib.Path, content: bytes, mode: int) -> None:
     """A whole file or none: written beside its place, and moved there."""
     place.parent.mkdir(parents=True, exist_ok=True)
-    with tempfile.NamedTemporaryFile(dir=place.parent, delete=False) as made:
-        made.write(content)
-    os.chmod(made.name, mode)
-    os.replace(made.name, place)
+    made = tempfile.NamedTemporaryFile(dir=place.parent, delete=False)
+    try:
+        with made:
+            made.write(content)
+        os.chmod(made.name, mode)
+        os.replace(made.name, place)
+    except BaseException:
+        os.unlink(made.name)
+        raise
 
 
 def install(args: argparse.Namespace, below: pathlib.Path) -> int:

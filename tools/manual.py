@@ -232,7 +232,10 @@ def protocol_of(name: str) -> Iterator[str]:
 def date() -> str:
     """The date of the pages: today, or that of SOURCE_DATE_EPOCH."""
     seconds = os.environ.get("SOURCE_DATE_EPOCH")
-    when = datetime.datetime.fromtimestamp(int(seconds), datetime.timezone.utc) if seconds else datetime.datetime.now(datetime.timezone.utc)
+    try:
+        when = datetime.datetime.fromtimestamp(int(seconds), datetime.timezone.utc) if seconds else datetime.datetime.now(datetime.timezone.utc)
+    except (ValueError, OverflowError, OSError):
+        raise Unreadable(f"SOURCE_DATE_EPOCH is {seconds}, which is no time in seconds") from None
     return when.strftime("%Y-%m-%d")
 
 

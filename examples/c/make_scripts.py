@@ -21,7 +21,8 @@ from reference_agent import Agent  # noqa: E402
 
 FUEL = "10000"
 TURNS = (1, 3, 2, 5, 4, 1, 7)
-
+# How long a compiler or the native programs of a case may take.
+SECONDS = 120
 
 MOVES = ("leave", "left", "return", "returned")
 
@@ -40,7 +41,7 @@ def native_commands(line):
 
 
 def native_replies(commands):
-    done = subprocess.run([HERE / "out/native"], input="\n".join(commands) + "\n", stdout=subprocess.PIPE, text=True, cwd=HERE, check=True)
+    done = subprocess.run([HERE / "out/native"], input="\n".join(commands) + "\n", stdout=subprocess.PIPE, text=True, cwd=HERE, check=True, timeout=SECONDS)
     return done.stdout.splitlines()
 
 

@@ -9,7 +9,7 @@ uint64_t program(struct queue *queue, uint64_t first, uint64_t count)
         uint64_t put = queue->put;
         while (put - atomic_read(&queue->taken) == places)
             close_scopes();
-        queue->places[put % places] = first + i;
+        atomic_write(&queue->places[put % places], first + i);
         atomic_write(&queue->put, put + 1);
     }
     return count;

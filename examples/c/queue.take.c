@@ -9,7 +9,7 @@ uint64_t program(struct queue *queue, uint64_t count)
         uint64_t taken = queue->taken;
         while (atomic_read(&queue->put) == taken)
             close_scopes();
-        sum += queue->places[taken % places];
+        sum += atomic_read(&queue->places[taken % places]);
         atomic_write(&queue->taken, taken + 1);
     }
     return sum;

@@ -16,7 +16,7 @@ import re
 import subprocess
 import sys
 
-from make_scripts import HERE, Script  # this has to come first: it says where the interpreter is
+from make_scripts import HERE, SECONDS, Script  # this has to come first: it says where the interpreter is
 from instructions import Fault, load
 from bpfagent.objectfile import ObjectFile, Unlinkable, link
 from bpfagent.ship import ship_line
@@ -34,7 +34,7 @@ def want(is_so, path, found):
 def compile_it(clang, path):
     """Clang's status and errors, and the object file."""
     made = OUT / f"{path.stem}.o"
-    done = subprocess.run([*clang, "-fno-crash-diagnostics", "-c", path, "-o", made], stderr=subprocess.PIPE, text=True)
+    done = subprocess.run([*clang, "-fno-crash-diagnostics", "-c", path, "-o", made], stderr=subprocess.PIPE, text=True, timeout=SECONDS)
     return done.returncode, done.stderr, made
 
 
@@ -95,6 +95,8 @@ def try_it(clang, script, path):
 def main():
     writes = sys.argv[1:2] == ["--write"]
     clang = sys.argv[1 + writes :]
+    if not clang:
+        sys.exit(__doc__)
     OUT.mkdir(parents=True, exist_ok=True)
     script, stored = Script(), HERE / "refused.script"
     sources = sorted((HERE / "refused").glob("*.c"))

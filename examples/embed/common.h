@@ -23,6 +23,14 @@ static inline size_t code_of(const char *path, uint8_t *code, size_t room)
         exit(1);
     }
     size_t length = fread(code, 1, room, file);
+    if (ferror(file)) {
+        perror(path);
+        exit(1);
+    }
+    if (length == room && fgetc(file) != EOF) {
+        fprintf(stderr, "%s: more than %zu bytes\n", path, room);
+        exit(1);
+    }
     fclose(file);
     return length;
 }

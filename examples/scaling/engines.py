@@ -4,6 +4,7 @@ Needs Debian's python3-distributed, redis-server and python3-redis. `require` sa
 """
 from __future__ import annotations
 
+import argparse
 import contextlib
 import importlib.util
 import os
@@ -62,6 +63,21 @@ def guarded(call: Callable[[], object]) -> None:
         call()
     except (OSError, Broken, redis.RedisError, distributed.TimeoutError) as error:
         sys.exit(f"{pathlib.Path(sys.argv[0]).name}: {str(error) or type(error).__name__}")
+
+
+def number_from(least: float, most: float = float("inf"), kind: Callable[[str], float] = int) -> Callable[[str], float]:
+    """A number in a range, as an option."""
+
+    def number(text: str) -> float:
+        try:
+            found = kind(text)
+        except ValueError:
+            found = float("nan")
+        if not least <= found <= most:
+            raise argparse.ArgumentTypeError(f"{text} is no number from {least:g}{'' if most == float('inf') else f' to {most:g}'}")
+        return found
+
+    return number
 
 
 def results(client, futures: list, seconds: float = PATIENCE) -> list:

@@ -67,10 +67,10 @@ def options() -> argparse.ArgumentParser:
     """The options of the command line."""
     made = argparse.ArgumentParser(description="Moves money between accounts by jobs at once.")
     made.add_argument("program")
-    made.add_argument("--accounts", type=int, default=1000)
-    made.add_argument("--jobs", type=int, default=10_000)
-    made.add_argument("--agents", type=int, default=8)
-    made.add_argument("--kill-workers", type=float, default=0, metavar="SECONDS")
+    made.add_argument("--accounts", type=engines.number_from(2), default=1000)
+    made.add_argument("--jobs", type=engines.number_from(1), default=10_000)
+    made.add_argument("--agents", type=engines.number_from(1), default=8)
+    made.add_argument("--kill-workers", type=engines.number_from(0, kind=float), default=0, metavar="SECONDS")
     return made
 
 

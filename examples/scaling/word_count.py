@@ -121,11 +121,11 @@ def options() -> argparse.ArgumentParser:
     """The options of the command line."""
     made = argparse.ArgumentParser(description="Counts words by agents on a Redis Cluster.")
     made.add_argument("program")
-    made.add_argument("--objects", type=int, default=4096)
-    made.add_argument("--length", type=int, default=LENGTH)
-    made.add_argument("--agents", type=int, default=8)
-    made.add_argument("--kill-workers", type=float, default=0, metavar="SECONDS")
-    made.add_argument("--kill-node", type=float, default=0, metavar="SECONDS")
+    made.add_argument("--objects", type=engines.number_from(1), default=4096)
+    made.add_argument("--length", type=engines.number_from(1, LENGTH), default=LENGTH)
+    made.add_argument("--agents", type=engines.number_from(1), default=8)
+    made.add_argument("--kill-workers", type=engines.number_from(0, kind=float), default=0, metavar="SECONDS")
+    made.add_argument("--kill-node", type=engines.number_from(0, kind=float), default=0, metavar="SECONDS")
     made.add_argument("--plain", action="store_true", help="also by plain Python on Dask")
     return made
 

@@ -99,6 +99,7 @@ class Agent:
         pipes = Pipes(process)
 
         def end() -> None:
+            pipes.drain(time.monotonic() + GRACE)
             pipes.close()
             status = wait_or_end(process, PATIENCE)
             if status is None:
@@ -166,7 +167,7 @@ class Agent:
             raise self._broken(f"no reply came within {self.timeout:g} seconds") from None
         except OSError as error:
             raise self._broken(f"the stream failed: {error.strerror or error}") from None
-        except KeyboardInterrupt:
+        except (KeyboardInterrupt, SystemExit):
             # What is still to come would be taken for the reply to a later line.
             self._broken("it was interrupted while a reply was awaited")
             raise

@@ -15,6 +15,7 @@ def guarded(name: str, call: Callable[[], None], *faults: type[BaseException]) -
     If nobody reads standard output any more, the command ends quietly.
     """
     known: tuple[type[BaseException], ...] = (OSError, *faults)
+    open_standard_streams()
     # A file's name, or a line of it, may have bytes that the terminal can't show.
     for stream in (sys.stdout, sys.stderr):
         if hasattr(stream, "reconfigure"):
@@ -30,6 +31,17 @@ def guarded(name: str, call: Callable[[], None], *faults: type[BaseException]) -
         sys.exit(130)
     except known as why:
         sys.exit(f"{name}: {fault_text(why)}")
+
+
+def open_standard_streams() -> None:
+    """Opens the null device for each standard stream that is closed. Otherwise a socket or a pipe would get its number."""
+    for number, name, mode in ((0, "stdin", "r"), (1, "stdout", "w"), (2, "stderr", "w")):
+        try:
+            os.fstat(number)
+        except OSError:
+            os.set_inheritable(os.open(os.devnull, os.O_RDWR), True)
+        if getattr(sys, name) is None:
+            setattr(sys, name, open(number, mode, closefd=False))
 
 
 def fault_text(why: BaseException) -> str:

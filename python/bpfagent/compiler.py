@@ -7,6 +7,8 @@ import re
 import subprocess
 from typing import Sequence
 
+from .objectfile import is_object_file
+
 # The header for programs, bpfagent.h.
 INCLUDE = pathlib.Path(__file__).resolve().parent / "include"
 # `-ffreestanding` keeps clang from the C library's headers, which don't compile for BPF.
@@ -40,17 +42,19 @@ class Uncompiled(Exception):
 
 def compile_c(source: pathlib.Path, target: pathlib.Path, flags: Sequence[str] = ()) -> str:
     """Compiles a program, with further flags, and gives clang's warnings."""
-    clang = os.environ.get("CLANG", "clang")
+    clang = os.environ.get("CLANG") or "clang"
     command = [clang, *FLAGS, "-fno-crash-diagnostics", f"-I{INCLUDE}", *flags, "-c", os.fspath(source), "-o", os.fspath(target)]
     try:
         done = subprocess.run(command, stdin=subprocess.DEVNULL, capture_output=True, text=True, errors="replace", timeout=SECONDS)
     except FileNotFoundError:
         raise Uncompiled(f"{clang} isn't installed: apt-get install clang, or set CLANG to its path") from None
-    except (OSError, subprocess.TimeoutExpired) as why:
-        raise Uncompiled(f"{clang}: {why}") from None
+    except OSError as why:
+        raise Uncompiled(f"{clang} can't be run: {why.strerror}") from None
+    except subprocess.TimeoutExpired:
+        raise Uncompiled(f"{clang} didn't end within {SECONDS} seconds") from None
     if done.returncode:
         raise Uncompiled("\n".join([without_traces(done.stderr), *advice_on(done.stderr)]))
-    if not target.is_file():
+    if not target.is_file() or not is_object_file(target.read_bytes()):
         raise Uncompiled(f"{clang} made no object file of {source}: its flags ask for something else")
     return done.stderr
 

@@ -19,6 +19,7 @@ import socket
 import socketserver
 import sys
 import threading
+import time
 from typing import Any, Iterator, Union
 
 from .commands import add_version, fault_text, guarded, place_of, port_of
@@ -26,6 +27,11 @@ from .far import DONE, FORGET, GET, HEAD, LIMIT, NO_ROOM, PUT, REFUSED_ID
 
 # How long Redis may take to accept a connection, for a write and for a read, in seconds.
 SECONDS = 10.0
+# How long no client is accepted after one couldn't be, as when no descriptor is left, in seconds.
+PAUSE = 0.1
+STDERR = 2
+# How much is shown of what Redis says, which may be long.
+SHOWN = 200
 # How often a request is sent on to another server of a cluster.
 REDIRECTIONS = 5
 
@@ -76,8 +82,9 @@ class Health:
 
 
 def say(text: str) -> None:
-    """A line about Redis."""
-    print(f"redis: {text}", file=sys.stderr, flush=True)
+    """A line about Redis. If nobody can read it, it is lost, and the clients are served all the same."""
+    with contextlib.suppress(OSError):
+        os.write(STDERR, f"redis: {text[:SHOWN]}\n".encode(errors="backslashreplace"))
 
 
 class Node:
@@ -93,7 +100,7 @@ class Node:
         """The reply to a command."""
         self.stream.write(b"*%d\r\n" % len(words) + b"".join(b"$%d\r\n%b\r\n" % (len(word), word) for word in words))
         self.stream.flush()
-        line = self.stream.readline()
+        line = self.stream.readline(LIMIT)
         if not line:
             raise ConnectionError("the connection was closed")
         kind, text = line[:1], line[1:-2]
@@ -230,7 +237,12 @@ class Gateway(socketserver.ThreadingTCPServer):
 
     def get_request(self) -> tuple[socket.socket, tuple[str, int]]:
         """The next client, which is noted."""
-        connection, address = super().get_request()
+        try:
+            connection, address = super().get_request()
+        except OSError:
+            # The client still waits, and would be asked for again at once.
+            time.sleep(PAUSE)
+            raise
         self.connected.add(connection)
         return connection, address
 

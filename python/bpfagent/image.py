@@ -14,6 +14,11 @@ from .agent import PathLike
 from .compiler import Uncompiled, compile_c
 from .objectfile import SLOT, Linked, Unlinkable, is_object_file, link
 
+# No file that can be shipped is longer, in bytes.
+LONGEST = 1 << 26
+# How long bpfagent may take to assemble a text, in seconds.
+SECONDS = 60.0
+
 
 class Unloadable(Exception):
     """Why a file can't be shipped."""
@@ -42,10 +47,7 @@ def load(file: PathLike, entry: Optional[str] = None, flags: Sequence[str] = (),
     that isn't static.
     """
     path = pathlib.Path(file)
-    try:
-        content = path.read_bytes()
-    except OSError as why:
-        raise Unloadable(f"{path}: {why.strerror}") from None
+    content = content_of(path)
     if path.suffix == ".c":
         content = compiled(path, flags)
     elif path.suffix == ".asm":
@@ -61,6 +63,18 @@ def load(file: PathLike, entry: Optional[str] = None, flags: Sequence[str] = (),
     return Image(path, linked.code, linked, content)
 
 
+def content_of(path: pathlib.Path) -> bytes:
+    """The bytes of a file. One more than the most shows that it is too long, also if it never ends."""
+    try:
+        with path.open("rb") as file:
+            content = file.read(LONGEST + 1)
+    except OSError as why:
+        raise Unloadable(f"{path}: {why.strerror}") from None
+    if len(content) > LONGEST:
+        raise Unloadable(f"{path}: has more than {LONGEST} bytes")
+    return content
+
+
 def compiled(path: pathlib.Path, flags: Sequence[str]) -> bytes:
     """The object file of a C file. Clang's warnings are shown."""
     try:
@@ -74,7 +88,10 @@ def compiled(path: pathlib.Path, flags: Sequence[str]) -> bytes:
 
 def assembled(path: pathlib.Path, text: bytes, program: str) -> bytes:
     """The raw code of a text of assembly."""
-    done = subprocess.run([program, "asm", "--explain"], input=text, stdout=subprocess.PIPE, stderr=subprocess.PIPE)
+    try:
+        done = subprocess.run([program, "asm", "--explain"], input=text, capture_output=True, timeout=SECONDS)
+    except subprocess.TimeoutExpired:
+        raise Unloadable(f"{path}: {program} asm didn't end within {SECONDS:g} seconds") from None
     if done.returncode:
         why = done.stderr.decode("ascii", "replace").rstrip()
         raise Unloadable(f"{path}: {why or f'{program} asm ended with status {done.returncode}'}")

@@ -16,7 +16,7 @@ import time
 from typing import Callable, Mapping, Optional, Sequence, TypeVar, Union
 
 from .accesses import OF_MEMORY, access_text
-from .agent import ARGUMENTS, Agent, address
+from .agent import ARGUMENTS, Agent, address, pauses
 from .commands import add_version, address_text, guarded, place_of
 from .image import Image, Unloadable, load, program_path
 from .limits import LONGEST, OBJECTS, SLOTS
@@ -28,8 +28,8 @@ DIGITS = 20
 FUEL = 1_000_000
 # How long the agent may take for a reply, in seconds.
 SECONDS = 60.0
-# How long a program of a service that waits for an object is left alone, in seconds.
-PAUSE = 0.005
+# How long a program of a service may wait for an object before that is said, in seconds.
+LONG = 3.0
 ARGUMENT = "is neither a number nor +N, =TEXT or @FILE"
 JOINED = "is neither a number nor :N, an object of the service"
 ALONE = "isn't a number, and --line takes numbers alone"
@@ -253,10 +253,35 @@ def converse(agent: Agent, image: Image, fuel: int, values: Sequence[Union[int, 
     return show(agent, machine, agent.run_until(machine), image, objects)
 
 
+class Rest:
+    """Gives a service time to bring an object back to a machine: more each time that the machine still waits for it."""
+
+    def __init__(self, agent: Agent, machine: int) -> None:
+        self._agent, self._machine, self._is_told = agent, machine, False
+        self._begin(0)
+
+    def _begin(self, number: int) -> None:
+        """The machine waits for another object, or again after it went on."""
+        self._object, self._fuel = number, self._agent.regs(self._machine).fuel
+        self._turns, self._since = pauses(), time.monotonic()
+
+    def __call__(self, number: int) -> None:
+        """Waits for an object. If the machine does nothing for long, standard error says so once."""
+        if number != self._object:
+            self._begin(number)
+        next(self._turns)
+        if time.monotonic() - self._since > LONG and not self._is_told:
+            if self._agent.regs(self._machine).fuel != self._fuel:
+                self._begin(number)
+                return
+            self._is_told = True
+            print(f"the program waits for object {number}, which isn't here; an interrupt ends the waiting", file=sys.stderr, flush=True)
+
+
 def join(agent: Agent, image: Image, fuel: int, numbers: Sequence[int], bpfagent: Optional[str]) -> bool:
     """The same in a service, whose workers run the program too."""
     machine = shipped(agent, image, fuel, numbers, bpfagent)
-    last = agent.run_until(machine, wait=lambda _: time.sleep(PAUSE)).last
+    last = agent.run_until(machine, wait=Rest(agent, machine)).last
     if not isinstance(last, Stopped):
         raise Unshippable(f"machine {machine} is paused, as another client asked")
     used = fuel - agent.regs(machine).fuel

@@ -4,6 +4,7 @@ A deadline is a time of `time.monotonic`, or None. After it `send` and `receive`
 """
 from __future__ import annotations
 
+import contextlib
 import os
 import select
 import socket
@@ -68,6 +69,14 @@ class Pipes:
     def end_input(self) -> None:
         """Ends the program's input, and leaves its output open."""
         self._input.close()
+
+    def drain(self, until: float) -> None:
+        """Ends the program's input, and reads its output up to its end or the deadline. A program whose output is closed while it
+        writes would say so on standard error."""
+        self.end_input()
+        with contextlib.suppress(OSError):
+            while self.receive(until):
+                pass
 
     def close(self) -> None:
         """Closes both pipes."""

@@ -18,9 +18,9 @@ import termios
 import time
 import unittest
 from types import ModuleType, TracebackType
-from typing import Callable, Optional, Sequence
+from typing import Callable, Iterator, Optional, Sequence
 
-from bpfagent import Agent, patiently
+from bpfagent import Agent, Service, patiently
 
 ROOT = pathlib.Path(__file__).resolve().parents[2]
 # What these tests share with those of the product.
@@ -35,6 +35,22 @@ PROMPT = "(bpfagent) "
 GIVEN_UP = "^C (quit leaves the debugger)"
 # Find 7, which is there with 40, and then 8, when only the first pair counts.
 TABLE = [str(DEBUG / "table.c"), f"@{DEBUG / 'table.object'}", "7"]
+
+# Counts for ever, in a function of its own; and stores once, far from where it was asked to.
+ENDLESS = """#include "bpfagent.h"
+CALLED uint64_t more(volatile uint64_t *count)
+{
+    *count += 1;
+    return *count;
+}
+uint64_t program(volatile uint64_t *count)
+{
+    uint64_t last = 0;
+    for (;;)
+        last = more(count);
+    return last;
+}
+"""
 
 
 def has_elftools() -> bool:
@@ -80,6 +96,17 @@ def changes(client: Agent, number: int) -> bool:
             return False
         time.sleep(0.01)
     return True
+
+
+@contextlib.contextmanager
+def endless_service(source: pathlib.Path) -> Iterator[Service]:
+    """A service of two connections whose workers run this program without end, on object 1."""
+    code = source.with_suffix(".code")
+    subprocess.run([sys.executable, "-m", "bpfagent.ship", "--flag=-O0", "--output", str(code), str(source)], check=True, timeout=SECONDS)
+    with Service(PROGRAM, "--workers", "4", "--connections", "2", timeout=SECONDS) as service:
+        service.setup.ship(code.read_bytes(), 2**63, service.setup.make(8) << 32)
+        service.listen()
+        yield service
 
 
 def take_terminal() -> None:

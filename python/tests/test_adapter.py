@@ -2,21 +2,24 @@
 from __future__ import annotations
 
 import base64
+import os
 import pathlib
+import shutil
+import signal
 import subprocess
-import sys
 import tempfile
 import time
 import unittest
 from typing import Any
 
-from bpfagent import Service, patiently
+from bpfagent import patiently
 from bpfagent.agent import pauses
-from support import DEBUG, DEBUGGER, PROGRAM, SECONDS, TABLE, changes, editor_module, needs_debugger
-from test_terminal import ENDLESS
+from support import DEBUG, DEBUGGER, ENDLESS, PROGRAM, SECONDS, TABLE, changes, editor_module, endless_service, needs_debugger, program_of
 
 Body = dict[str, Any]
 SOURCE = {"path": str(DEBUG / "table.c")}
+# Why the conversation with an agent that has ended is over: whether it is found out by a read or by a write.
+GONE = ("the agent ended the conversation", "the stream failed: Broken pipe")
 
 
 @needs_debugger
@@ -134,12 +137,7 @@ class Sessions(unittest.TestCase):
         """A service that runs: pause, a breakpoint on a function, evaluate, and leave; the machine goes on."""
         path = self.folder / "endless.c"
         path.write_text(ENDLESS)
-        code = self.folder / "endless.code"
-        subprocess.run([sys.executable, "-m", "bpfagent.ship", "--flag=-O0", "--output", str(code), str(path)], check=True)
-        with Service(PROGRAM, "--workers", "4", "--connections", "2", timeout=SECONDS) as service:
-            service.setup.make(8)
-            service.setup.ship(code.read_bytes(), 2**63, 1 << 32)
-            service.listen()
+        with endless_service(path) as service:
             other = service.connect(SECONDS)
             self.ask("initialize")
             self.ask("attach", port=service.port, program=str(path))
@@ -267,17 +265,66 @@ class Sessions(unittest.TestCase):
         self.assertEqual((self.text, frames[0]["name"], frames[0]["line"]), ("outside: an access to bytes that aren't all there", "find", 15))
         self.assertEqual(self.variables(frames[0])["key"]["value"], "7")
         self.assertIn(
-            "is outside any object",
+            "there is no object 1, or it ends before offset 40",
             self.ask("evaluate", expression="table", frameId=frames[0]["id"])["result"]
             + self.refused("evaluate", expression="*table", frameId=frames[0]["id"]),
         )
         self.ask("disconnect")
 
     def test_garbage(self) -> None:
-        """What is no message ends the adapter without a traceback."""
-        for garbage in (b"hello\r\n\r\n", b"Content-Length: 3\r\n\r\nabc", b"Content-Length: x\r\n\r\n", b"Content-Length: 2\r\n\r\n[]", b"x" * 70_000, b""):
+        """What is no message ends the adapter, which says why."""
+        for garbage, why in (
+            (b"hello\r\n\r\n", "a message has no length"),
+            (b"Content-Length: x\r\n\r\n", "a message has no length"),
+            (b"Content-Length: 3\r\n\r\nabc", "a message is no JSON"),
+            (b"Content-Length: 2\r\n\r\n[]", "a message is no object"),
+            (b"x" * 70_000, "this is no message of the Debug Adapter Protocol"),
+        ):
             done = subprocess.run([*DEBUGGER, "--dap"], input=garbage, capture_output=True, timeout=SECONDS)
-            self.assertEqual((done.returncode, done.stdout, done.stderr), (0, b"", b""), garbage[:20])
+            self.assertEqual((done.returncode, done.stdout, done.stderr.decode()), (1, b"", f"bpfagent-debug: {why}\n"), garbage[:20])
+        done = subprocess.run([*DEBUGGER, "--dap"], stdin=subprocess.DEVNULL, capture_output=True, timeout=SECONDS)
+        self.assertEqual((done.returncode, done.stdout, done.stderr), (0, b"", b""), "an editor that goes")
+
+    def test_unanswered(self) -> None:
+        """A bpfagent that ends at once, or in a session, is a refusal and no silence; numbers out of range are refused."""
+        for is_service in (False, True):
+            self.assertIn(self.refused("launch", program=TABLE[0], arguments=TABLE[1:], bpfagent=shutil.which("true"), serve=is_service), GONE)
+        wrong: list[tuple[Body, str]] = [
+            ({"fuel": -1}, f"fuel is a number from 0 to {2**64 - 1}"),
+            ({"fuel": "7"}, f"fuel is a number from 0 to {2**64 - 1}"),
+            ({"workers": 17, "serve": True}, "workers is a number from 0 to 16"),
+            ({"machines": 0}, "machines is a number from 1 to 48"),
+        ]
+        for options, why in wrong:
+            self.assertEqual(self.refused("launch", program=TABLE[0], arguments=TABLE[1:], **options), why)
+        note = self.folder / "number"
+        program = program_of(self.folder / "ends", f"import os\nopen({str(note)!r}, 'w').write(str(os.getpid()))\nos.execv({PROGRAM!r}, [{PROGRAM!r}, *sys.argv[1:]])")
+        self.launch(bpfagent=str(program), stopOnEntry=True)
+        self.ask("configurationDone")
+        self.stopped(1, "entry")
+        os.kill(int(note.read_text()), signal.SIGKILL)
+        self.assertIn(self.refused("next", threadId=1), GONE)
+        self.editor.wait("terminated")
+        self.assertEqual(self.editor.process.wait(SECONDS), 0)
+
+    def test_signals(self) -> None:
+        """A signal that ends the debugger leaves the machines of a service as a disconnection does."""
+        path = self.folder / "endless.c"
+        path.write_text(ENDLESS)
+        for number in (signal.SIGTERM, signal.SIGHUP):
+            with endless_service(path) as service:
+                other = service.connect(SECONDS)
+                editor = editor_module().Editor([*DEBUGGER, "--dap"], is_quiet=True)
+                self.addCleanup(editor.__exit__)
+                editor.ask("initialize")
+                editor.ask("attach", port=service.port, program=str(path))
+                editor.ask("setFunctionBreakpoints", breakpoints=[{"name": "more"}])
+                editor.ask("configurationDone")
+                editor.wait("stopped")
+                self.assertEqual(other.regs(1).state, "paused")
+                editor.process.send_signal(number)
+                self.assertEqual(editor.process.wait(SECONDS), 128 + number)
+                self.assertTrue(changes(other, 1), "the machine doesn't go on")
 
 
 if __name__ == "__main__":

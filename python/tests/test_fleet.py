@@ -126,6 +126,19 @@ class FleetTest(unittest.TestCase):
             wanted = f"{name}.py: skipped, for it needs Debian's python3-distributed, python3-redis\n"
             self.assertEqual((done.returncode, done.stdout), (0, wanted), f"{name}.py without packages")
 
+    def test_options(self) -> None:
+        """A number out of its range gets the usage, before anything is started."""
+        wrong = {
+            "word_count": ["--objects 0", "--length 65537", "--agents x", "--kill-workers -1", "--kill-node nan"],
+            "transfers": ["--accounts 1", "--jobs 0", "--agents 0"],
+            "measure": ["--objects 1025", "--trips 0", "--seconds -1", "--seconds inf_"],
+        }
+        for name, options in wrong.items():
+            for option in options:
+                done = subprocess.run([sys.executable, str(ROOT / f"examples/scaling/{name}.py"), PROGRAM, *option.split()], capture_output=True, text=True, timeout=SECONDS)
+                why = f"error: argument {option.split()[0]}: {option.split()[1]} is no number from "
+                self.assertTrue((done.returncode, done.stdout) == (2, "") and why in done.stderr, f"{name}.py {option}: {done}")
+
     def test_one_owner(self) -> None:
         """Results, objects and stops of one agent, by itself."""
         with setting_of_one() as setting:

@@ -7,8 +7,10 @@ cluster does, signals, and that an idle gateway sleeps. `bpfagent serve`, whose 
 from __future__ import annotations
 
 import hashlib
+import os
 import pathlib
 import re
+import resource
 import shutil
 import signal
 import socket
@@ -26,9 +28,51 @@ from support import PROGRAM, ROOT, SECONDS
 
 from lib.programs import Client, Listener, Server, Service, ended, free_port, object_line, redis_server
 from product.store import KEPT, frame, talk, unanswered
+from product.waiting import processor_time
 
 GATEWAY = [sys.executable, "-m", "bpfagent.gateway"]
 CLIENT = [sys.executable, "-m", "bpfagent.far"]
+CRLF = b"\r\n$-1\r\n\0\xff" * 9
+# One request of each kind, and its answers.
+ASKED = [
+    frame(PUT, 1, b"abc"),
+    frame(PUT, 1, b"x"),
+    frame(GET, 1),
+    frame(GET, 2),
+    frame(PUT, 2**64 - 1, b"z" * LIMIT),
+    frame(GET, 2**64 - 1),
+    frame(FORGET, 1),
+    frame(FORGET, 1),
+    frame(GET, 1),
+    frame(PUT, 3, CRLF),
+    frame(GET, 3),
+]
+ANSWERED = [
+    frame(DONE, 1),
+    frame(REFUSED_ID, 1),
+    frame(DONE, 1, b"abc"),
+    frame(REFUSED_ID, 2),
+    frame(DONE, 2**64 - 1),
+    frame(DONE, 2**64 - 1, b"z" * LIMIT),
+    frame(DONE, 1),
+    frame(REFUSED_ID, 1),
+    frame(REFUSED_ID, 1),
+    frame(DONE, 3),
+    frame(DONE, 3, CRLF),
+]
+# What is no request.
+WRONG = (
+    frame(4, 1),
+    frame(0, 1),
+    frame(PUT, 1),
+    frame(PUT, 1, length=LIMIT + 1),
+    frame(PUT, 1, b"z" * (LIMIT + 1)),
+    frame(GET, 1, b"x"),
+    frame(FORGET, 1, b"x"),
+    frame(PUT, 1, b"abc")[:-1],
+    b"\x01",
+    frame(GET, 1)[:-1],
+)
 
 
 class Talk(socketserver.StreamRequestHandler):
@@ -160,46 +204,8 @@ class Gateways(unittest.TestCase):
         self.assertTrue(
             talk(gateway, bytes.fromhex("01 0000000000000001 00000003 616263")) == bytes.fromhex("00 0000000000000001 00000000"), "the put of the page"
         )
-        crlf = b"\r\n$-1\r\n\0\xff" * 9
-        asked = [
-            frame(PUT, 1, b"abc"),
-            frame(PUT, 1, b"x"),
-            frame(GET, 1),
-            frame(GET, 2),
-            frame(PUT, 2**64 - 1, b"z" * LIMIT),
-            frame(GET, 2**64 - 1),
-            frame(FORGET, 1),
-            frame(FORGET, 1),
-            frame(GET, 1),
-            frame(PUT, 3, crlf),
-            frame(GET, 3),
-        ]
-        answered = [
-            frame(DONE, 1),
-            frame(REFUSED_ID, 1),
-            frame(DONE, 1, b"abc"),
-            frame(REFUSED_ID, 2),
-            frame(DONE, 2**64 - 1),
-            frame(DONE, 2**64 - 1, b"z" * LIMIT),
-            frame(DONE, 1),
-            frame(REFUSED_ID, 1),
-            frame(REFUSED_ID, 1),
-            frame(DONE, 3),
-            frame(DONE, 3, crlf),
-        ]
-        self.assertTrue(talk(gateway, *asked) == b"".join(answered), "a conversation")
-        for wrong in (
-            frame(4, 1),
-            frame(0, 1),
-            frame(PUT, 1),
-            frame(PUT, 1, length=LIMIT + 1),
-            frame(PUT, 1, b"z" * (LIMIT + 1)),
-            frame(GET, 1, b"x"),
-            frame(FORGET, 1, b"x"),
-            frame(PUT, 1, b"abc")[:-1],
-            b"\x01",
-            frame(GET, 1)[:-1],
-        ):
+        self.assertTrue(talk(gateway, *ASKED) == b"".join(ANSWERED), "a conversation")
+        for wrong in WRONG:
             self.assertTrue(unanswered(gateway, wrong), f"{wrong[:16]!r} is answered")
         numbers = range(1, KEPT + 2)
         self.assertTrue(
@@ -226,7 +232,7 @@ class Gateways(unittest.TestCase):
         """Two clients at once have keys of their own, which are gone when they are; so they are when the gateway ends."""
         redis = Redis()
         gateway = Gateway(redis.address, "--prefix", "far/")
-        one, two = Store(gateway.port), Store(gateway.port)
+        one, two = Store(gateway.port, timeout=SECONDS), Store(gateway.port, timeout=SECONDS)
         first, second = kept(one, b"one"), kept(two, b"two")
         self.assertTrue((first[0], second[0]) == (1, 1) and one.get(*first) == b"one" and two.get(*second) == b"two", "two clients with one id")
         self.assertTrue(
@@ -247,7 +253,7 @@ class Gateways(unittest.TestCase):
         """A Redis that is full or answers nonsense: the request is answered 2, the next is served. One that lies is found out."""
         redis = Redis()
         gateway = Gateway(redis.address)
-        store = Store(gateway.port)
+        store = Store(gateway.port, timeout=SECONDS)
         number, digest = kept(store, b"abc")
         full = b"-OOM command not allowed when used memory > 'maxmemory'.\r\n"
         for reply in (
@@ -264,6 +270,7 @@ class Gateways(unittest.TestCase):
             b"$1000000000000\r\n",
             b"$9223372036854775807\r\n",
             b"$-2\r\n",
+            b"-" + b"x" * LIMIT + b"\r\n",
         ):
             redis.instead.append(reply)
             self.assertTrue(store.ask(GET, number) == (NO_ROOM, b""), f"a get while Redis answers {reply[:20]!r}")
@@ -277,7 +284,7 @@ class Gateways(unittest.TestCase):
         store.close()
         status, _, errors = gateway.end()
         self.assertIn(f"redis: can't be reached: {redis.address}: the connection was closed\n", errors.decode())
-        self.assertTrue(status == 0 and errors.count(b"redis: ") == 28 and errors.count(b" again\n") == 14, f"what was said of faults: {errors!r}")
+        self.assertTrue(status == 0 and errors.count(b"redis: ") == 30 and errors.count(b" again\n") == 15, f"what was said of faults: {errors!r}")
         redis.end()
 
     def test_absence(self) -> None:
@@ -285,7 +292,7 @@ class Gateways(unittest.TestCase):
         meanwhile leaves its keys."""
         redis = Redis()
         gateway = Gateway(redis.address)
-        store = Store(gateway.port)
+        store = Store(gateway.port, timeout=SECONDS)
         number, digest = kept(store, b"abc")
         redis.end()
         self.assertTrue(store.ask(PUT, 2, b"x") == (NO_ROOM, b"") and all(store.ask(GET, number) == (NO_ROOM, b"") for _ in range(100)), "a Redis that is away")
@@ -334,7 +341,7 @@ class Gateways(unittest.TestCase):
         for number in (signal.SIGINT, signal.SIGTERM):
             redis = Redis()
             gateway = Gateway(redis.address)
-            store = Store(gateway.port)
+            store = Store(gateway.port, timeout=SECONDS)
             self.assertTrue(store.put(b"abc")[0] == 1 and len(redis.kept) == 1, "a parcel before the signal")
             gateway.process.send_signal(number)
             self.assertTrue(gateway.process.wait(timeout=SECONDS) == 0, f"a gateway that gets {number.name}")
@@ -353,12 +360,51 @@ class Gateways(unittest.TestCase):
             self.assertEqual(gateway.end(), (0, b"", b""), f"what a gateway says that gets {number.name} at once")
         redis.end()
 
+    def test_unread_errors(self) -> None:
+        """If nobody reads standard error any more, a Redis that goes away costs a client nothing but its answers."""
+        redis = Redis()
+        gateway = Gateway(redis.address)
+        assert gateway.process.stderr
+        gateway.process.stderr.close()
+        gateway.process.stderr = None
+        store = Store(gateway.port, timeout=SECONDS)
+        number, digest = kept(store, b"abc")
+        redis.end()
+        self.assertEqual([store.ask(GET, number) for _ in range(3)], [(NO_ROOM, b"")] * 3)
+        back = Redis(redis.server_address[1])
+        back.kept = redis.kept
+        self.assertEqual(store.get(number, digest), b"abc")
+        store.close()
+        self.assertEqual(gateway.end(), (0, b"", None))
+        back.end()
+
+    def test_descriptors(self) -> None:
+        """A gateway without a descriptor for a further client rests between its tries, and serves the client when another has gone."""
+        redis, most = Redis(), 10
+        with Listener(*GATEWAY, "--redis", redis.address, limits={resource.RLIMIT_NOFILE: most}) as gateway:
+            assert gateway.port
+            clients = [socket.socket() for _ in range(most)]
+            for client in clients:
+                client.setblocking(False)
+                client.connect_ex(("127.0.0.1", gateway.port))
+            eventually(lambda: len(os.listdir(f"/proc/{gateway.process.pid}/fd")) == most, "the gateway has descriptors left")
+            before = processor_time(gateway.process.pid)
+            time.sleep(1)
+            self.assertLess(processor_time(gateway.process.pid) - before, 0.1, "what a gateway without descriptors costs in a second")
+            for client in clients:
+                client.close()
+            with Store(gateway.port, timeout=SECONDS) as store:
+                number, digest = kept(store, b"abc")
+                self.assertEqual(store.get(number, digest), b"abc")
+            self.assertEqual(gateway.end()[0], 0)
+        redis.end()
+
     def test_idleness(self) -> None:
         """A gateway that nobody asks sleeps, with a client and without."""
         redis = Redis()
         gateway = Gateway(redis.address)
         store: Optional[Store] = None
-        for store in (None, Store(gateway.port)):
+        for store in (None, Store(gateway.port, timeout=SECONDS)):
             if store:
                 store.put(b"abc")
             counts = [wakings_in(0.5, gateway.process)]
@@ -375,7 +421,7 @@ class Gateways(unittest.TestCase):
         """A cluster of two: the one sends its clients to the other, for good or while a key is on its way."""
         near, far = Redis(), Redis()
         gateway = Gateway(near.address)
-        store = Store(gateway.port)
+        store = Store(gateway.port, timeout=SECONDS)
         moved, asking = f"-MOVED 3999 {far.address}\r\n".encode(), f"-ASK 3999 :{far.server_address[1]}\r\n".encode()
         near.instead += [moved, asking, moved]
         number, digest = kept(store, b"abc")

@@ -9,18 +9,23 @@ from __future__ import annotations
 import os
 import pathlib
 import shutil
+import signal
 import struct
 import subprocess
 import sys
 import tempfile
+import time
 import unittest
 from typing import Optional, Sequence
+from unittest import mock
 
 import bpfagent
-from bpfagent import Service, address
+from bpfagent import Service, Unloadable, address, image, load
 from bpfagent.ship import main
 from support import PROGRAM, ROOT, SECONDS, has_elftools, program_of, usage_of
 
+from lib.far import Far
+from lib.programs import until
 from product.program import has_clang
 
 # What is shown of C files is what clang 14 makes of them.
@@ -41,6 +46,11 @@ def ship(*arguments: str, folder: Optional[pathlib.Path] = None) -> tuple[int, s
     """Status, standard output and standard error."""
     done = subprocess.run([*SHIP, *arguments], capture_output=True, text=True, timeout=SECONDS, cwd=folder)
     return done.returncode, done.stdout, done.stderr
+
+
+def setUpModule() -> None:
+    """Where the tests run in the background, an interrupt is ignored, and would be by the commands too."""
+    signal.signal(signal.SIGINT, signal.default_int_handler)
 
 
 def elf(machine: int) -> bytes:
@@ -233,6 +243,20 @@ class Ships(unittest.TestCase):
                 self.want_usage([loads, "--connect", at, ":1025"], "argument 1, `:1025`: isn't from :1 to :1024, the numbers of objects")
         self.want_said([loads, "--connect", at], 1, "", f"bpfagent-ship: the service at {at} can't be reached: Connection refused\n")
 
+    def test_waiting(self) -> None:
+        """A program that waits for an object which its service doesn't get back says so, and ends by an interrupt."""
+        with Far() as far, Service(PROGRAM, "--connections", "3", "--far", f"127.0.0.1:{far.port}", timeout=SECONDS) as service:
+            service.setup.make(8)
+            at = f"127.0.0.1:{service.listen()}"
+            with service.connect(SECONDS) as other:
+                far.manner = "keeping"
+                until("the object doesn't leave", lambda: other.leave(1) and far.kept)
+                with subprocess.Popen([*SHIP, self.codes["loads"], "--connect", at, ":1"], stdout=subprocess.PIPE, stderr=subprocess.PIPE) as process:
+                    assert process.stderr
+                    self.assertEqual(process.stderr.readline(), b"the program waits for object 1, which isn't here; an interrupt ends the waiting\n")
+                    process.send_signal(signal.SIGINT)
+                    self.assertEqual((process.communicate(timeout=SECONDS), process.returncode), ((b"", b""), 130))
+
     def test_explained(self) -> None:
         """What `check --explain` says of refused code comes below the refusal; with a program that has no such option, nothing does."""
         for status, said, shown in ((1, "slot 0: Opcode\nit is why\n", "\nit is why"), (2, "usage\nmore\n", ""), (0, "", "")):
@@ -265,6 +289,24 @@ class Ships(unittest.TestCase):
         self.assertEqual(ship("--none", "x")[0], 2)
         self.want_said(["--version"], 0, f"bpfagent-ship {bpfagent.__version__}\n", "")
 
+    def test_endless_file(self) -> None:
+        """A file that never ends is refused, before it takes all memory."""
+        self.want_said(["/dev/zero"], 1, "", f"bpfagent-ship: /dev/zero: has more than {1 << 26} bytes\n")
+
+    def test_interrupt(self) -> None:
+        """An interrupt ends a program that runs, and nothing else is said."""
+        begun = self.folder / "begun"
+        text = f"import os\nopen({str(begun)!r}, 'w').close()\nos.execv({PROGRAM!r}, [{PROGRAM!r}, *sys.argv[1:]])"
+        program = program_of(self.folder / "interrupted", text)
+        for _ in range(3):
+            begun.unlink(missing_ok=True)
+            command = [*SHIP, "--bpfagent", str(program), "--fuel", str(2**63), self.codes["endless"]]
+            with subprocess.Popen(command, stdout=subprocess.PIPE, stderr=subprocess.PIPE) as process:
+                until("the program doesn't begin", begun.exists)
+                time.sleep(0.3)
+                process.send_signal(signal.SIGINT)
+                self.assertEqual((process.communicate(timeout=SECONDS), process.returncode), ((b"", b""), 130))
+
     def test_assembly(self) -> None:
         """A text of assembly is assembled; an error is that of the program."""
         folder = self.folder
@@ -276,6 +318,32 @@ class Ships(unittest.TestCase):
         self.assertTrue(
             (status, output) == (1, "") and errors.startswith(f"bpfagent-ship: {path}: line 2: Word"), f"wrong assembly ends with {status}, {output}, {errors}"
         )
+        slow = program_of(folder / "slow", "import time\ntime.sleep(60)")
+        with mock.patch.object(image, "SECONDS", 0.5), self.assertRaisesRegex(Unloadable, "slow asm didn't end within 0.5 seconds$"):
+            load(path, bpfagent=str(slow))
+
+    @needs_clang
+    def test_closed_streams(self) -> None:
+        """A standard stream that is closed changes nothing of what the others get."""
+        source = self.folder / "c.c"
+        source.write_text("unsigned long program(void) { return 7; }\n")
+        output = b"stopped 1 exit 0000000000000007\n2 instructions\n"
+        for closed, shown in (("<&-", output), ("2>&-", output), ("<&- 2>&-", output), (">&-", b"")):
+            done = subprocess.run(["sh", "-c", f'exec "$@" {closed}', "sh", *SHIP, str(source)], capture_output=True, timeout=SECONDS)
+            self.assertEqual((done.returncode, done.stdout, done.stderr), (0, shown, b""), closed)
+
+    @needs_clang
+    def test_clang(self) -> None:
+        """A clang that can't be run is named, and flags that ask for another file are."""
+        source = self.folder / "c.c"
+        source.write_text("unsigned long program(void) { return 7; }\n")
+        for flag in ("-S", "-E", "-fsyntax-only", "-emit-llvm"):
+            self.want_said([f"--flag={flag}", str(source)], 1, "", f"bpfagent-ship: clang made no object file of {source}: its flags ask for something else\n")
+        for clang, why in (("/none", "isn't installed: apt-get install clang, or set CLANG to its path"), ("/", "can't be run: Permission denied")):
+            with mock.patch.dict(os.environ, CLANG=clang):
+                self.want_said([str(source)], 1, "", f"bpfagent-ship: {clang} {why}\n")
+        with mock.patch.dict(os.environ, CLANG=""):
+            self.want_said(["--check", str(source)], 0, "", "")
 
     @needs_clang
     def test_c(self) -> None:

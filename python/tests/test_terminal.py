@@ -12,23 +12,8 @@ import unittest
 import bpfagent
 from bpfagent import Service, patiently
 from bpfagent.debug.main import main
-from support import DEBUGGER, PROGRAM, ROOT, SECONDS, TABLE, Pseudoterminal, changes, needs_debugger, usage_of
+from support import DEBUGGER, ENDLESS, PROGRAM, ROOT, SECONDS, TABLE, Pseudoterminal, changes, endless_service, needs_debugger, usage_of
 
-# Counts for ever, in a function of its own; and stores once, far from where it was asked to.
-ENDLESS = """#include "bpfagent.h"
-CALLED uint64_t more(volatile uint64_t *count)
-{
-    *count += 1;
-    return *count;
-}
-uint64_t program(volatile uint64_t *count)
-{
-    uint64_t last = 0;
-    for (;;)
-        last = more(count);
-    return last;
-}
-"""
 DEEP = """#include "bpfagent.h"
 CALLED uint64_t sum(uint64_t n)
 {
@@ -57,6 +42,53 @@ uint64_t program(struct all *all)
     return copy.low + byte;
 }
 """
+# Expressions in a program of TYPES, and their values; those that have none, and why.
+VALUES = {
+    "all->colour": "GREEN",
+    "all->word": "{whole = 67305985, bytes = {1, 2, 3, 4}}",
+    "all->inner[0]": "{small = -2, letter = 97 'a'}",
+    "copy.inner[1].small": "2",
+    "all->name": '"name"',
+    "all->low": "5",
+    "copy.high": "21",
+    "all->minus": "-7",
+    "all->self": "(struct all *) 0x100000000 <object 1>",
+    "all->self->self->minus + 8": "1",
+    "all->end": "(const uint8_t *) 0x100000003 <object 1+3>",
+    "*all->end": "0",
+    "&all->minus": "(int64_t *) 0x100000028 <object 1+40>",
+    "byte": "110",
+    "*(uint32_t *)0x100000004": "67305985",
+    "(uint8_t)0x1ff": "255",
+    "2 + 3 * 4": "14",
+    "-(7 - 9)": "2",
+    "7 / 2 % 2": "1",
+    "(uint64_t)-1 == -1": "1",
+    "(uint64_t)0 > -1": "0",
+    "(int64_t)0 > -1": "1",
+    "byte > -1": "1",
+    "all->end != -1": "1",
+    "-7 / 2": "-3",
+    "7 / -2": "-3",
+    "-7 / -2": "3",
+    "-7 % 2": "-1",
+    "7 % -2": "1",
+    "all->minus / 2": "-3",
+    "$r10": str(0xFFFFFFFF00001000),
+    "copy.name": '"name"',
+}
+VALUELESS = {
+    "nothing": "there is no variable nothing in program",
+    "all->none": "struct all has no member none; it has colour, word, inner, name, low, high, self, minus, end",
+    "1 +": "the expression ends too early",
+    "byte->x": "this is no pointer, but uint8_t: cast it, as in *(uint64_t *)",
+    "&(1 + 2)": "this value is in no memory, so it has no address",
+    "*(uint64_t *)0x900000000": "there is no object 9, or it ends before offset 8",
+    "*(uint64_t *)8": "0x8 is in no object",
+    "1 / 0": "division by zero",
+    "all ; 1": "`; 1` is no expression",
+    "$r11": "$r11 isn't shown by the protocol here: there are $r0 to $r10, $slot and $fuel",
+}
 
 
 @needs_debugger
@@ -133,25 +165,8 @@ class Sessions(unittest.TestCase):
         for version in ("-gdwarf-4", "-gdwarf-5"):
             for level in ("-O0", "-O2"):
                 path = f"{self.folder.name}/table{version}{level}.o"
-                subprocess.run(
-                    [
-                        "clang",
-                        "-target",
-                        "bpf",
-                        "-mcpu=v3",
-                        level,
-                        version,
-                        "-ffreestanding",
-                        "-I",
-                        str(ROOT / "python/bpfagent/include"),
-                        "-c",
-                        "table.c",
-                        "-o",
-                        path,
-                    ],
-                    cwd=ROOT / "examples/debug",
-                    check=True,
-                )
+                flags = ["-target", "bpf", "-mcpu=v3", level, version, "-ffreestanding", f"-I{ROOT / 'python/bpfagent/include'}"]
+                subprocess.run(["clang", *flags, "-c", "table.c", "-o", path], cwd=ROOT / "examples/debug", check=True, timeout=SECONDS)
                 with self.debugger(path, *TABLE[1:]) as terminal:
                     commands = [
                         "break table.c:16",
@@ -175,12 +190,8 @@ class Sessions(unittest.TestCase):
 
     def test_attach(self) -> None:
         """A service that runs: its machine is recognized, paused, looked at, and goes on when the debugger has left."""
-        with Service(PROGRAM, "--workers", "4", "--connections", "2", timeout=SECONDS) as service:
-            number = service.setup.make(8)
-            code = pathlib.Path(self.folder.name) / "program.code"
-            subprocess.run([*DEBUGGER[:2], "bpfagent.ship", "--flag=-O0", "--output", str(code), self.source(ENDLESS)], check=True)
-            service.setup.ship(code.read_bytes(), 2**63, number << 32)
-            service.listen()
+        with endless_service(pathlib.Path(self.source(ENDLESS))) as service:
+            number = 1
             other = service.connect(SECONDS)
             with self.debugger("--connect", f"127.0.0.1:{service.port}", self.source(ENDLESS)) as terminal:
                 self.assertRegex(terminal.greeting[0], r"^\* machine 1: running, ")
@@ -200,6 +211,27 @@ class Sessions(unittest.TestCase):
             self.assertTrue(changes(other, number), "the machine doesn't go on")
             self.assertIn(other.tell("one 1").split()[0], ("ran", "waiting"))
 
+    def test_signals(self) -> None:
+        """A signal that ends the debugger, as when its terminal is closed, leaves the machines of a service as `quit` does; also while a
+        command waits."""
+        at_once = ["break more", "continue"]
+        never = ["break more if *count == 0", "continue"]
+        for number in (signal.SIGTERM, signal.SIGHUP):
+            for commands in (at_once, never):
+                with endless_service(pathlib.Path(self.source(ENDLESS))) as service:
+                    other = service.connect(SECONDS)
+                    with self.debugger("--connect", f"127.0.0.1:{service.port}", self.source(ENDLESS)) as terminal:
+                        terminal.ask("pause")
+                        terminal.ask(commands[0])
+                        terminal.press(f"{commands[1]}\n")
+                        if commands is at_once:
+                            terminal.wait("breakpoint 1")
+                            self.assertEqual(other.regs(1).state, "paused")
+                        terminal.process.send_signal(number)
+                        self.assertEqual(terminal.process.wait(SECONDS), 128 + number, commands)
+                    self.assertEqual(other.regs(1).state, "run", commands)
+                    self.assertEqual([other.tell(f"unbreak 1 {slot}") for slot in range(40)], ["noslot"] * 40, commands)
+
     def test_recognition(self) -> None:
         """Machines of two programs, one with other code of the same shape, and one that isn't known."""
         paths = [pathlib.Path(self.folder.name) / f"{name}.c" for name in ("seven", "eight", "nine")]
@@ -208,7 +240,7 @@ class Sessions(unittest.TestCase):
         with Service(PROGRAM, "--workers", "2", "--connections", "1", timeout=SECONDS) as service:
             for path in paths:
                 code = path.with_suffix(".code")
-                subprocess.run([*DEBUGGER[:2], "bpfagent.ship", "--flag=-O0", "--output", str(code), str(path)], check=True)
+                subprocess.run([*DEBUGGER[:2], "bpfagent.ship", "--flag=-O0", "--output", str(code), str(path)], check=True, timeout=SECONDS)
                 service.setup.break_(service.setup.ship(code.read_bytes(), 100, 1), 0)
             service.listen()
             with self.debugger("--connect", f"127.0.0.1:{service.port}", "--with", str(paths[1]), str(paths[0])) as terminal:
@@ -225,7 +257,7 @@ class Sessions(unittest.TestCase):
         """A machine that bpfagent-ship shipped is recognized with its flags, and without them the debugger names them."""
         with Service(PROGRAM, "--workers", "0", "--connections", "2", timeout=SECONDS) as service:
             code = pathlib.Path(self.folder.name) / "optimized.code"
-            subprocess.run([*DEBUGGER[:2], "bpfagent.ship", "--output", str(code), TABLE[0]], check=True)
+            subprocess.run([*DEBUGGER[:2], "bpfagent.ship", "--output", str(code), TABLE[0]], check=True, timeout=SECONDS)
             service.setup.ship(code.read_bytes(), 100)
             at = f"127.0.0.1:{service.listen()}"
             with self.debugger("--connect", at, TABLE[0]) as terminal:
@@ -307,43 +339,9 @@ class Sessions(unittest.TestCase):
         with self.debugger(self.source(TYPES), f"@{data}") as terminal:
             terminal.ask("break program.c:12")
             terminal.ask("continue")
-            values = {
-                "all->colour": "GREEN",
-                "all->word": "{whole = 67305985, bytes = {1, 2, 3, 4}}",
-                "all->inner[0]": "{small = -2, letter = 97 'a'}",
-                "copy.inner[1].small": "2",
-                "all->name": '"name"',
-                "all->low": "5",
-                "copy.high": "21",
-                "all->minus": "-7",
-                "all->self": "(struct all *) 0x100000000 <object 1>",
-                "all->self->self->minus + 8": "1",
-                "all->end": "(const uint8_t *) 0x100000003 <object 1+3>",
-                "*all->end": "0",
-                "&all->minus": "(int64_t *) 0x100000028 <object 1+40>",
-                "byte": "110",
-                "*(uint32_t *)0x100000004": "67305985",
-                "(uint8_t)0x1ff": "255",
-                "2 + 3 * 4": "14",
-                "-(7 - 9)": "2",
-                "7 / 2 % 2": "1",
-                "$r10": str(0xFFFFFFFF00001000),
-                "copy.name": '"name"',
-            }
-            for text, value in values.items():
+            for text, value in VALUES.items():
                 self.assertEqual(terminal.ask(f"print {text}"), [f"{text} = {value}"])
-            for text, why in {
-                "nothing": "there is no variable nothing in program",
-                "all->none": "struct all has no member none; it has colour, word, inner, name, low, high, self, minus, end",
-                "1 +": "the expression ends too early",
-                "byte->x": "this is no pointer, but uint8_t: cast it, as in *(uint64_t *)",
-                "&(1 + 2)": "this value is in no memory, so it has no address",
-                "*(uint64_t *)0x900000000": "object 9+0 is outside any object",
-                "*(uint64_t *)8": "0x8 is in no object",
-                "1 / 0": "division by zero",
-                "all ; 1": "`; 1` is no expression",
-                "$r11": "$r11 isn't shown by the protocol here: there are $r0 to $r10, $slot and $fuel",
-            }.items():
+            for text, why in VALUELESS.items():
                 self.assertEqual(terminal.ask(f"print {text}"), [why])
             self.assertEqual(terminal.ask("x/2xw all"), ["0x100000000 <object 1>: 0x00000005 0x04030201"])
             self.assertEqual(terminal.ask("x/4c all->name"), ["0x100000010 <object 1+16>: 110 'n' 97 'a' 109 'm' 101 'e'"])
@@ -411,6 +409,11 @@ class Sessions(unittest.TestCase):
                 "step x": "a repeated step takes a number",
                 "step \u00b2": "a repeated step takes a number",
                 "print": "there is no expression",
+                "set": "set takes a number in an object, as in set table->count = 3",
+                "set *table": "set takes a number in an object, as in set table->count = 3",
+                "x/2i 4095": "no instruction begins at slot 4095",
+                "x/i 99999999": "no instruction begins at slot 99999999",
+                "x/2xg 0x100000028": "there is no object 1, or it ends before offset 56",
                 "print " + "(" * 900: "the expression is nested too deeply",
                 "print 0x10000000000000000": "0x10000000000000000 has more than 64 bits",
                 "print " + "9" * 900: "9999",
@@ -463,6 +466,14 @@ class Arguments(unittest.TestCase):
             status, output, errors = self.said(*words)
             self.assertEqual((status, output, errors.count("\n")), (1, "", 1), (words, errors))
             self.assertTrue(errors.startswith("bpfagent-debug: "), errors)
+
+    def test_closed_streams(self) -> None:
+        """A standard stream that is closed is taken as the null device, also by the adapter for editors."""
+        code = [str(ROOT / "examples/c/counter.code"), "+8", "3"]
+        for words, greeting in ((code, f"* machine 1: standing, slot 0, fuel 1000000\n{code[0]}: {code[0]} is raw code, which has no lines and no names\n"), (["--dap"], "")):
+            for closed, shown in (("<&-", greeting), ("</dev/null 2>&-", greeting), ("</dev/null >&-", "")):
+                done = subprocess.run(["sh", "-c", f'exec "$@" {closed}', "sh", *DEBUGGER, *words], capture_output=True, text=True, timeout=SECONDS)
+                self.assertEqual((done.returncode, done.stdout, done.stderr), (0, shown, ""), (words, closed))
 
     def test_raw_code(self) -> None:
         """Raw code has no lines, but instructions can be stepped and shown."""

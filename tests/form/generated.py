@@ -24,6 +24,8 @@ WRITTEN = {
     f"{ASSEMBLY}/src/form_list.rt": [f"{ASSEMBLY}/make_forms.py"],
 }
 COPIED = "compared.rt"
+# How long a script that makes a list may take.
+SECONDS = 1800
 TABLES = "crates/isa_table_tests"
 PLACES = "crates/bpf_codec/src/places.rt"
 RUNNER = "crates/script_runner"
@@ -31,7 +33,7 @@ VECTORS = {name: f"{RUNNER}/data/{name}.script" for name in ("vectors", "moves_v
 
 
 def output(call: Sequence[str]) -> str:
-    return subprocess.run([sys.executable, *call], cwd=ROOT, check=True, capture_output=True, text=True).stdout
+    return subprocess.run([sys.executable, *call], cwd=ROOT, check=True, capture_output=True, text=True, timeout=SECONDS).stdout
 
 
 def plain(text: str) -> tuple[str, list[str]]:
@@ -81,7 +83,7 @@ def differing_vectors() -> Iterator[str]:
         if (ROOT / script).read_text() != output([f"{RUNNER}/make_{name}.py"]):
             yield f"{script} isn't what {RUNNER}/make_{name}.py writes"
     scripts = [*ROOT.glob(f"{RUNNER}/data/*.script"), *ROOT.glob("examples/*.script"), *ROOT.glob("examples/c/*.script")]
-    done = subprocess.run([sys.executable, f"{RUNNER}/make_vectors.py", "--check", *sorted(map(str, scripts))], cwd=ROOT, capture_output=True, text=True)
+    done = subprocess.run([sys.executable, f"{RUNNER}/make_vectors.py", "--check", *sorted(map(str, scripts))], cwd=ROOT, capture_output=True, text=True, timeout=SECONDS)
     if done.returncode:
         yield f"not all replies are those of the interpreter: {done.stdout}{done.stderr}"
 

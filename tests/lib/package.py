@@ -15,6 +15,8 @@ from lib.sources import ROOT
 
 PACKAGE = ROOT / "python"
 MODULES = {"bpfagent-ship": "bpfagent.ship", "bpfagent-redis": "bpfagent.gateway", "bpfagent-debug": "bpfagent.debug.main"}
+# How long a Python may take to import a module.
+SECONDS = 60
 # Of Debian's own Python, which has what is installed by apt-get.
 DEBIAN = "/usr/bin/python3"
 # pyelftools, Dask and the client of Redis.
@@ -30,7 +32,7 @@ def python() -> str:
 @functools.lru_cache(maxsize=None)
 def has(path: str, module: str) -> bool:
     """Whether a Python has a module."""
-    return bool(shutil.which(path)) and subprocess.run([path, "-c", f"import {module}"], stderr=subprocess.DEVNULL).returncode == 0
+    return bool(shutil.which(path)) and subprocess.run([path, "-c", f"import {module}"], stderr=subprocess.DEVNULL, timeout=SECONDS).returncode == 0
 
 
 def reads_object_files() -> bool:

@@ -52,8 +52,16 @@ def show_uninstalled(prefix: pathlib.Path) -> None:
     (prefix / "lib/other").write_text("another's\n")
     run(*INSTALL, "--uninstall", prefix)
     want_equal([str(path.relative_to(prefix)) for path in sorted(prefix.rglob("*")) if path.is_file()], ["lib/other"], "what is left")
-    again = subprocess.run([*INSTALL, "--uninstall", str(prefix)], stdout=subprocess.PIPE, stderr=subprocess.STDOUT, text=True)
+    again = subprocess.run([*INSTALL, "--uninstall", str(prefix)], stdout=subprocess.PIPE, stderr=subprocess.STDOUT, text=True, timeout=300)
     want(again.returncode == 1 and "Traceback" not in again.stdout, f"a second --uninstall ends with {again.returncode}: {again.stdout}")
+
+
+def show_unwritable(prefix: pathlib.Path, program: str) -> None:
+    """Where a file can't be put in its place, a line says so, and no part of it is left."""
+    (prefix / "bin/bpfagent/another").mkdir(parents=True)
+    done = subprocess.run([*INSTALL, "--program", program, str(prefix)], stdout=subprocess.PIPE, stderr=subprocess.STDOUT, text=True, timeout=300)
+    want(done.returncode == 1 and done.stdout.startswith("install: ") and done.stdout.count("\n") == 1, f"an installation over a folder ends with {done.returncode}: {done.stdout}")
+    want_equal([path.name for path in (prefix / "bin").iterdir()], ["bpfagent"], "what is left of a file that couldn't be put in its place")
 
 
 def show_installed(rt: str, program: str) -> str:
@@ -72,6 +80,7 @@ def show_installed(rt: str, program: str) -> str:
             (prefix.parent / tool).mkdir()
             tools[tool](prefix, prefix.parent / tool)
         show_uninstalled(prefix)
+        show_unwritable(prefix.parent / "unwritable", program)
     return f"skipped {', '.join(skipped)}" if skipped else ""
 
 

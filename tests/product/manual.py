@@ -124,6 +124,10 @@ def show_refusals(program: str, folder: pathlib.Path) -> None:
         done = called([sys.executable, str(SCRIPT), *arguments, "--folder", str(nowhere)])
         is_refused = done.returncode == status and done.stderr.startswith(said) and not done.stdout
         want(is_refused and not nowhere.exists(), f"manual.py {arguments} ended with {done.returncode}, {done.stderr}")
+    for seconds in ("x", "9" * 17, "9" * 30):
+        done = called([sys.executable, str(SCRIPT), program, "--folder", str(nowhere)], SECONDS * patience(program), SOURCE_DATE_EPOCH=seconds)
+        why = f"manual.py: SOURCE_DATE_EPOCH is {seconds}, which is no time in seconds\n"
+        want((done.returncode, done.stderr) == (1, why), f"with SOURCE_DATE_EPOCH {seconds} manual.py ended with {done.returncode}, {done.stderr}")
 
 
 # Each part, and what has to be installed for it.

@@ -280,7 +280,7 @@ def show_examples(program: str) -> str:
 
 def has_clang() -> bool:
     """Whether there is the compiler that the documents name, which is needed for what they show of it."""
-    return bool(shutil.which("clang") and shutil.which("llvm-objdump")) and b" version 14." in subprocess.run(["clang", "--version"], stdout=subprocess.PIPE).stdout
+    return bool(shutil.which("clang") and shutil.which("llvm-objdump")) and b" version 14." in subprocess.run(["clang", "--version"], stdout=subprocess.PIPE, timeout=SECONDS).stdout
 
 
 def is_shown(printed: str, shown: str) -> bool:

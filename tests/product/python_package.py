@@ -33,6 +33,8 @@ def tests_of(module: str, environment: Mapping[str, str]) -> str:
 
 
 if __name__ == "__main__":
+    if len(sys.argv) < 2:
+        sys.exit(__doc__)
     program, *names = sys.argv[1:]
     # The longest first, and so the wheel.
     modules = names or sorted((path.stem for path in TESTS.glob("test_*.py") if path.stem != ALONE), reverse=True)

@@ -52,7 +52,7 @@ def shim(rt: str, folder: str) -> str:
     clang = os.path.join(os.path.dirname(os.path.dirname(os.path.realpath(rt))), "toolchain/bin/clang")
     made = os.path.join(folder, "fail_allocation.so")
     source = str(ROOT / "tests/product/fail_allocation.c")
-    subprocess.run([clang, "-O1", "-shared", "-fPIC", "-nostdlib", "-fuse-ld=lld", "-o", made, source], check=True)
+    subprocess.run([clang, "-O1", "-shared", "-fPIC", "-nostdlib", "-fuse-ld=lld", "-o", made, source], check=True, timeout=300)
     return made
 
 
@@ -293,6 +293,10 @@ def show(failing: Failing) -> None:
 
 
 def main() -> None:
+    if len(sys.argv) not in (2, 3):
+        sys.exit(__doc__)
+    if not os.path.isfile(PROGRAM):
+        sys.exit(f"refusals: there is no {PROGRAM}: make program comes first")
     if has_checks(PROGRAM):
         sys.exit(f"{PROGRAM} is a program of `make try`, which brings an allocator of its own: only a proved program's allocations can be made to fail")
     with tempfile.TemporaryDirectory() as folder:

@@ -298,7 +298,11 @@ def work(task: Task) -> str | None:
 
 
 def main() -> None:
-    program, *parts = [word for word in sys.argv[1:] if word != "--thin"]
+    program, *parts = [word for word in sys.argv[1:] if word != "--thin"] or [""]
+    if not program:
+        sys.exit(__doc__)
+    if not os.path.isfile(program) or not os.access(program, os.X_OK):
+        sys.exit(f"{program} can't be run")
     todo = dict(thinned(tasks()) if "--thin" in sys.argv else tasks())
     if unknown := set(parts) - set(todo):
         sys.exit(f"no part is called {', '.join(sorted(unknown))}")

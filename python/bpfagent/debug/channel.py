@@ -12,7 +12,11 @@ PIECE = 1 << 16
 
 
 class Ended(Exception):
-    """Nothing more comes, or what came is no message."""
+    """The editor has gone: nothing more comes."""
+
+
+class NoMessage(Exception):
+    """Why what came is no message."""
 
 
 class Channel:
@@ -47,7 +51,7 @@ class Channel:
         head, separator, rest = self._rest.partition(b"\r\n\r\n")
         if not separator:
             if len(head) > PIECE:
-                raise Ended("this is no message of the Debug Adapter Protocol")
+                raise NoMessage("this is no message of the Debug Adapter Protocol")
             return None
         length = length_of(head)
         if len(rest) < length:
@@ -56,9 +60,9 @@ class Channel:
         try:
             found = json.loads(rest[:length])
         except ValueError:
-            raise Ended("a message is no JSON") from None
+            raise NoMessage("a message is no JSON") from None
         if not isinstance(found, dict):
-            raise Ended("a message is no object")
+            raise NoMessage("a message is no object")
         return found
 
 
@@ -69,4 +73,4 @@ def length_of(head: bytes) -> int:
         digits = value.strip()
         if name.strip().lower() == b"content-length" and digits.isdigit() and len(digits) <= len(str(LONGEST)) and int(digits) <= LONGEST:
             return int(digits)
-    raise Ended("a message has no length")
+    raise NoMessage("a message has no length")

@@ -14,13 +14,14 @@ from ..image import Unloadable
 from ..replies import PAUSED, RUNNING, Broken, Refused
 from ..ship import FUEL, Unshippable
 from .channel import Channel, Ended
+from .ending import Ending
 from .engine import Engine, Goal, Impossible, Stop
 from .expressions import Invalid, Value, integer
 from .frames import Frame
 from .lines import NoDwarf, SourceLine
 from .program import NoPlace, Place
 from .running import Runner
-from .session import WORKERS, Plan, Session
+from .session import MOST_WORKERS, WORKERS, Plan, Session
 from .types import INTEGER
 from .variables import Tree
 from .views import STOPS
@@ -49,6 +50,8 @@ REASONS = {
     "waiting": "pause",
     "pause": "pause",
 }
+# Arguments that are numbers: what each is if it isn't given, the least and the most.
+NUMBERS = {"fuel": (FUEL, 0, limits.WORD), "workers": (WORKERS, 0, MOST_WORKERS), "machines": (1, 1, limits.MACHINES)}
 # How long nothing is done while a service's machines run, which is doubled up to the second as long as nothing happens, and
 # while nothing runs; in seconds.
 FIRST, LAST, NOTHING = 0.002, 0.05, 0.5
@@ -61,8 +64,8 @@ LEVELS = 1 << 16
 class Adapter:
     """One session with an editor."""
 
-    def __init__(self, channel: Channel) -> None:
-        self._channel, self._tree = channel, Tree()
+    def __init__(self, channel: Channel, ending: Ending) -> None:
+        self._channel, self._ending, self._tree = channel, ending, Tree()
         self._session: Optional[Session] = None
         self._by_source: dict[str, list[int]] = {}
         self._by_name: list[int] = []
@@ -80,7 +83,9 @@ class Adapter:
         """Answers requests until the editor disconnects."""
         try:
             while not self._is_over:
-                message = self._channel.receive(self._patience())
+                patience = self._patience()
+                with self._ending.awaiting():
+                    message = self._channel.receive(patience)
                 self._pause = min(2 * self._pause, LAST) if message is None else FIRST
                 if message is not None and message.get("type") == "request":
                     self._answer(message)
@@ -110,8 +115,11 @@ class Adapter:
         """Does a request, and responds to it. Then the events come that the request had."""
         command = str(message.get("command"))
         self._is_answering = True
+        broken: Optional[Broken] = None
         try:
             body, why = self._done(command, message.get("arguments") or {}), ""
+        except Broken as fault:
+            body, why, broken = None, str(fault), fault
         except FAULTS as fault:
             body, why = None, fault_text(fault)
         except WRONG as fault:
@@ -127,6 +135,9 @@ class Adapter:
         later, self._later = self._later, []
         for name, held in later:
             self._event(name, **held)
+        # One that couldn't begin leaves nothing behind, and another may.
+        if broken and self._session:
+            raise broken
         if not why:
             self._after(command)
 
@@ -173,8 +184,9 @@ class Adapter:
     def _open(self, given: Body, port: Optional[int]) -> None:
         if self._session:
             raise Impossible("something is debugged already")
-        names = {"bpfagent": None, "fuel": FUEL, "entry": None, "serve": False, "workers": WORKERS, "machines": 1, "host": "127.0.0.1"}
+        names = {"bpfagent": None, "entry": None, "serve": False, "host": "127.0.0.1"}
         rest = {name: given.get(name, default) for name, default in names.items()}
+        rest.update({name: number_of(given, name, *numbers) for name, numbers in NUMBERS.items()})
         plan = Plan(
             given.get("program"), [str(word) for word in given.get("arguments", [])], flags=[str(flag) for flag in given.get("flags", [])], port=port, **rest
         )
@@ -474,6 +486,14 @@ class Adapter:
         return body
 
 
+def number_of(given: Body, name: str, otherwise: int, least: int, most: int) -> int:
+    """An argument that is a number in this range."""
+    found = given.get(name, otherwise)
+    if not isinstance(found, int) or not least <= found <= most:
+        raise Impossible(f"{name} is a number from {least} to {most}")
+    return found
+
+
 def registered(value: Optional[int]) -> Value:
     """A register, or that it isn't shown."""
     return Value(INTEGER, why="not shown by the protocol") if value is None else integer(value)
@@ -494,9 +514,9 @@ def line_of(place: Place) -> Body:
     return {"line": place.at.line, "source": source_of(place.at)} if place.at else {}
 
 
-def serve() -> None:
+def serve(ending: Ending) -> None:
     """Speaks with an editor on standard input and output. Whatever else is printed goes to standard error."""
     reads, writes = os.dup(sys.stdin.fileno()), os.dup(sys.stdout.fileno())
     os.dup2(sys.stderr.fileno(), sys.stdout.fileno())
     with contextlib.suppress(Ended):
-        Adapter(Channel(reads, writes)).serve()
+        Adapter(Channel(reads, writes), ending).serve()

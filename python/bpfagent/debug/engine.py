@@ -188,7 +188,7 @@ class Engine:
         try:
             return self._pieces(lambda at, size: self._get(number, at, size), offset, length)
         except Refused as why:
-            raise Unreadable(unreadable(why, number, offset)) from None
+            raise Unreadable(unreadable(why, number, offset, length)) from None
 
     def _get(self, number: int, offset: int, length: int) -> bytes:
         """Bytes of an object; a service is asked again while it brings the object back."""
@@ -208,7 +208,7 @@ class Engine:
         try:
             self.agent.write(number, content, address & 0xFFFF_FFFF)
         except Refused as why:
-            raise Impossible(unreadable(why, number, address & 0xFFFF_FFFF)) from None
+            raise Impossible(unreadable(why, number, address & 0xFFFF_FFFF, len(content))) from None
 
     def length_of(self, number: int) -> Optional[int]:
         """The length of an object, found by asking for its bytes; None if there is none, or it is away in a service."""
@@ -434,10 +434,10 @@ class Engine:
         return program.line_at(self.registers(number).slot) if program else None
 
 
-def unreadable(why: Refused, number: int, offset: int) -> str:
+def unreadable(why: Refused, number: int, offset: int, length: int) -> str:
     """Why bytes of an object can't be had, in words."""
     if why.word == "outside":
-        return f"object {number}+{offset} is outside any object"
+        return f"there is no object {number}, or it ends before offset {offset + length}"
     if why.word == "away":
         return f"object {number} is away: a machine that reaches it brings it back"
     return f"object {number}: {why}"

@@ -121,7 +121,7 @@ class Parser:
         found = self._sum()
         while self._next() in COMPARISONS:
             compare, other = COMPARISONS[self._take()], self._sum()
-            found = integer(int(compare(found.number, other.number)))
+            found = integer(int(compare(*compared(found, other))))
         return found
 
     def _next(self) -> str:
@@ -154,9 +154,11 @@ class Parser:
         while self._next() in ("*", "/", "%"):
             sign, other = self._take(), self._unary()
             first, second = found.number, other.number
-            if sign != "*" and second == 0:
-                raise Invalid("division by zero")
-            found = integer(first * second if sign == "*" else first // second if sign == "/" else first % second)
+            if sign == "*":
+                found = integer(first * second)
+            else:
+                whole = quotient(first, second)
+                found = integer(whole if sign == "/" else first - second * whole)
         return found
 
     def _unary(self) -> Value:
@@ -259,6 +261,22 @@ def address_of(value: Value) -> int:
             raise Invalid("this array is in no memory")
         return value.address
     return value.number
+
+
+def compared(first: Value, second: Value) -> tuple[int, int]:
+    """The numbers that C compares: a negative one is converted if the other is unsigned and has 64 bits."""
+    numbers = first.number, second.number
+    if any(value.type.size == 8 and not value.type.is_signed for value in (first, second)):
+        return numbers[0] & WORD, numbers[1] & WORD
+    return numbers
+
+
+def quotient(first: int, second: int) -> int:
+    """The whole part of a quotient, which C rounds towards 0."""
+    if second == 0:
+        raise Invalid("division by zero")
+    whole = abs(first) // abs(second)
+    return whole if (first < 0) == (second < 0) else -whole
 
 
 def added(first: Value, second: Value, sign: int) -> Value:

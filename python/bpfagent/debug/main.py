@@ -9,9 +9,11 @@ from ..image import Unloadable
 from ..limits import MACHINES
 from ..replies import Broken, Refused
 from ..ship import Unshippable, WrongArgument, checked, program_parser
+from .channel import NoMessage
+from .ending import Ending
 from .engine import Impossible
 from .lines import NoDwarf
-from .session import WORKERS, Plan, Session
+from .session import MOST_WORKERS, WORKERS, Plan, Session
 
 USAGE = """%(prog)s [OPTION ..] FILE [ARGUMENT ..]
        %(prog)s [OPTION ..] --connect HOST:PORT [FILE]
@@ -39,7 +41,7 @@ def parser() -> argparse.ArgumentParser:
     where.add_argument("--serve", action="store_true", help="start `bpfagent serve`, whose workers run the machines")
     where.add_argument("--connect", type=place_of, metavar="HOST:PORT", help="attach to a service")
     where.add_argument("--dap", action="store_true", help="speak the Debug Adapter Protocol on standard input and output, for editors")
-    options.add_argument("--workers", type=count_of(0, 16), metavar="W", help=f"the workers of --serve ({WORKERS})")
+    options.add_argument("--workers", type=count_of(0, MOST_WORKERS), metavar="W", help=f"the workers of --serve ({WORKERS})")
     options.add_argument("--machines", type=count_of(1, MACHINES), default=1, metavar="N", help="how many machines run the program (1)")
     options.add_argument("--with", dest="others", action="append", default=[], metavar="FILE", help="another program, with the same arguments; may be repeated")
     options.add_argument(
@@ -71,8 +73,10 @@ def debug(given: argparse.Namespace) -> None:
     """Does what the options say."""
     from . import dap, terminal
 
+    ending = Ending()
+    ending.listen()
     if given.dap:
-        dap.serve()
+        dap.serve(ending)
         return
     host, port = given.connect or ("127.0.0.1", None)
     workers = WORKERS if given.workers is None else given.workers
@@ -80,7 +84,7 @@ def debug(given: argparse.Namespace) -> None:
         given.file, given.arguments, given.bpfagent, given.fuel, given.entry, given.flag, given.serve, workers, given.machines, host, port, given.others
     )
     with Session(plan) as session:
-        terminal.run(session.engine, given.execute)
+        terminal.run(session.engine, given.execute, ending)
 
 
 def main(words: Optional[Sequence[str]] = None) -> None:
@@ -89,7 +93,7 @@ def main(words: Optional[Sequence[str]] = None) -> None:
     given = options.parse_intermixed_args(words)
     if why := wrong(given):
         options.error(why)
-    guarded("bpfagent-debug", lambda: debug(given), Impossible, Unshippable, Unloadable, NoDwarf, Broken, Refused)
+    guarded("bpfagent-debug", lambda: debug(given), Impossible, Unshippable, Unloadable, NoDwarf, NoMessage, Broken, Refused)
 
 
 if __name__ == "__main__":

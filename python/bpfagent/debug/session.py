@@ -18,8 +18,8 @@ from .program import Program
 
 # By default C is compiled so that all variables are there; a flag that is given comes later, and wins.
 DEBUG_FLAGS = ("-O0",)
-# The workers of a service, if nothing else is said.
-WORKERS = 2
+# The workers of a service: how many if nothing else is said, and the most.
+WORKERS, MOST_WORKERS = 2, 16
 # How long an agent may take for a reply, in seconds.
 TIMEOUT = 30.0
 

@@ -15,6 +15,7 @@ from ..agent import pauses
 from ..commands import fault_text
 from ..replies import Broken, Refused
 from . import views
+from .ending import Ending
 from .engine import Engine, Goal, Impossible, Stop
 from .expressions import Invalid, Value, evaluate
 from .frames import Frame
@@ -71,9 +72,9 @@ class Terminal(cmd.Cmd):
     prompt = PROMPT
     doc_header = "Commands (help COMMAND tells more):"
 
-    def __init__(self, engine: Engine) -> None:
+    def __init__(self, engine: Engine, ending: Ending) -> None:
         super().__init__()
-        self.engine = engine
+        self.engine, self.ending = engine, ending
         self.selected = min(engine.machines, default=0)
         self.level = 0
         self.listed: Optional[SourceLine] = None
@@ -122,7 +123,7 @@ class Terminal(cmd.Cmd):
         if word == "EOF" and self.is_asked:
             print()
         try:
-            with self.interrupts.kept():
+            with self.interrupts.kept(), self.ending.awaiting(False):
                 return bool(super().onecmd(f"{SHORT.get(word, word)} {rest}".strip()))
         except FAULTS as why:
             print(fault_text(why))
@@ -185,6 +186,7 @@ class Terminal(cmd.Cmd):
         """Waits for a machine. An interrupt pauses it."""
         turns = pauses()
         while self.engine.is_running(number):
+            self.ending.check()
             # The workers of a service run it meanwhile; in `run` the debugger steps it.
             if self.engine.is_service:
                 next(turns)
@@ -355,9 +357,12 @@ class Terminal(cmd.Cmd):
     def do_set(self, argument: str) -> None:
         """set EXPRESSION = EXPRESSION: writes a number to a value in an object. The protocol can't write registers and stacks."""
         left, equals, right = argument.partition("=")
+        taken = "set takes a number in an object, as in set table->count = 3"
+        if not equals:
+            raise Impossible(taken)
         place, value = self._value(left.removeprefix("var ")), self._value(right)
-        if not equals or place.address is None or place.is_part or place.type.size > 8:
-            raise Impossible("set takes a number in an object, as in set table->count = 3")
+        if place.address is None or place.is_part or place.type.size > 8:
+            raise Impossible(taken)
         self.engine.write(place.address, (value.number & ((1 << 8 * place.type.size) - 1)).to_bytes(place.type.size, "little"))
 
     def do_tell(self, argument: str) -> None:
@@ -385,7 +390,7 @@ class Terminal(cmd.Cmd):
     # The stubs of `cmd` have it give a list.
     def complete(self, text: str, state: int) -> Any:
         """A completion. An interrupt doesn't come between a line to the agent and its reply."""
-        with self.interrupts.kept():
+        with self.interrupts.kept(), self.ending.awaiting(False):
             return super().complete(text, state)
 
     def completenames(self, text: str, *ignored: object) -> list[str]:
@@ -423,9 +428,9 @@ for short, command in SHORT.items():
         setattr(Terminal, f"complete_{short}", getattr(Terminal, f"complete_{command}"))
 
 
-def run(engine: Engine, commands: list[str]) -> None:
+def run(engine: Engine, commands: list[str], ending: Ending) -> None:
     """Does these commands, and then those that are typed, until the debugger is left."""
-    terminal = Terminal(engine)
+    terminal = Terminal(engine, ending)
     terminal.greet()
     for line in commands:
         print(f"{PROMPT}{line}")
@@ -434,7 +439,8 @@ def run(engine: Engine, commands: list[str]) -> None:
         terminal.lastcmd = line
     while True:
         try:
-            terminal.cmdloop()
+            with ending.awaiting():
+                terminal.cmdloop()
             return
         except KeyboardInterrupt:
             print("^C (quit leaves the debugger)")

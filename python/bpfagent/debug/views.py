@@ -123,10 +123,7 @@ def disassembly(engine: Engine, number: int, slot: int) -> Iterator[str]:
 def memory_lines(engine: Engine, number: int, address: int, count: int, kind: str, size: int) -> Iterator[str]:
     """Memory from an address on, in a form of `x`."""
     if kind == "i":
-        for slot in range(address, min(address + count, SLOTS)):
-            reply = engine.agent.tell(f"line {number} {slot}")
-            if reply.startswith("line "):
-                yield f"{slot:5}: {reply.split(' ', 3)[3]}"
+        yield from or_else(instruction_lines(engine, number, range(address, min(address + count, SLOTS))), f"no instruction begins at slot {address}")
         return
     if kind == "s":
         content = engine.memory(number, address, count)
@@ -136,6 +133,14 @@ def memory_lines(engine: Engine, number: int, address: int, count: int, kind: st
     for begin in range(0, len(content), ROW):
         row = content[begin : begin + ROW]
         yield f"0x{address + begin:x} <{place_text(address + begin)}>: " + " ".join(unit(row[at : at + size], kind) for at in range(0, len(row), size))
+
+
+def instruction_lines(engine: Engine, number: int, slots: Iterable[int]) -> Iterator[str]:
+    """The instructions that begin at slots of a machine."""
+    for slot in slots:
+        reply = engine.agent.tell(f"line {number} {slot}")
+        if reply.startswith("line "):
+            yield f"{slot:5}: {reply.split(' ', 3)[3]}"
 
 
 def unit(content: bytes, kind: str) -> str:
