@@ -7,6 +7,7 @@ is run too.
 from __future__ import annotations
 
 import doctest
+import keyword
 import pathlib
 import re
 import shutil
@@ -24,6 +25,7 @@ import stand_in
 from bpfagent import Agent, Broken, Hit, Move, Paused, Ran, Refused, Registers, Run, Step, Stopped, Waiting, address
 from support import PROGRAM, ROOT, SECONDS, program_of
 
+from form.protocol import commands
 from lib.scripts import Talk, conversations
 
 PAGE = ROOT / "python/README.md"
@@ -68,32 +70,24 @@ def regs_text(shown: Registers) -> str:
     return f"regs {shown.machine} {shown.slot} {shown.fuel} {shown.state}{hexes(shown.values)}"
 
 
-def done(nothing: object) -> str:
-    """The reply to a command without a value."""
-    assert nothing is None, nothing
-    return "ok"
-
-
+# How a reply reads whose value doesn't say it whole.
 CALLS: dict[str, Callable[..., str]] = {
     "make": lambda agent, length: f"made {agent.make(length)}",
     "get": lambda agent, *numbers: f"bytes {agent.get(*numbers).hex()}",
     "free": lambda agent, number: f"freed {number}" if agent.free(number) is None else "",
-    "leave": lambda agent, number: f"{agent.leave(number).value} {number}",
-    "left": lambda agent, number: f"{agent.left(number).value} {number}",
-    "return": lambda agent, number: f"{agent.return_(number).value} {number}",
-    "returned": lambda agent, number: f"{agent.returned(number).value} {number}",
-    "step": lambda agent, machine: step_text(agent.step(machine)),
-    "one": lambda agent, machine: step_text(agent.one(machine)),
     "out": lambda agent, machine: f"out {machine}{hexes(agent.out(machine))}",
     "stack": lambda agent, *numbers: f"bytes {agent.stack(*numbers).hex()}",
     "line": lambda agent, *numbers: f"line {numbers[0]} {numbers[1]} {agent.line(*numbers)}",
-    "regs": lambda agent, machine: regs_text(agent.regs(machine)),
-    "resume": lambda agent, *numbers: done(agent.resume(*numbers)),
-    "break": lambda agent, *numbers: done(agent.break_(*numbers)),
-    "unbreak": lambda agent, *numbers: done(agent.unbreak(*numbers)),
-    "watch": lambda agent, *numbers: done(agent.watch(*numbers)),
-    "unwatch": lambda agent, *numbers: done(agent.unwatch(*numbers)),
 }
+
+
+def value_text(value: Step | Registers | Move | None, number: int) -> str:
+    """The reply of this value to a command on the object or the machine of this number."""
+    if isinstance(value, Move):
+        return f"{value.value} {number}"
+    if isinstance(value, Registers):
+        return regs_text(value)
+    return "ok" if value is None else step_text(value)
 
 
 def called(agent: Agent, command: str) -> str:
@@ -107,7 +101,10 @@ def called(agent: Agent, command: str) -> str:
             return f"shipped {agent.ship(content, *numbers)}"
         if word == "ship2":
             return f"shipped {agent.ship2(content, numbers[0], {int(grant[1:]): grant[0] for grant in rest}, *numbers[1:])}"
-        return CALLS[word](agent, *numbers)
+        if word in CALLS:
+            return CALLS[word](agent, *numbers)
+        method = getattr(agent, f"{word}_" if keyword.iskeyword(word) else word)
+        return value_text(method(*numbers), numbers[0])
     except Refused as refusal:
         return str(refusal)
 
@@ -359,7 +356,7 @@ class Conversations(Case):
                 self.over_tcp(
                     [(command if reply == "bad" else canonical(command), reply) for command, reply in talk], lambda agent: self.converse(agent, talk, used)
                 )
-        self.assertEqual(used, {"put", "ship", "ship2", *CALLS}, "commands of the conversations")
+        self.assertEqual(used, {command.name for command in commands()}, "commands of the conversations")
 
     def test_service_replies(self) -> None:
         """What only a service answers."""

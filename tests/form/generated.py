@@ -22,6 +22,7 @@ WRITTEN = {
     f"{ASSEMBLY}/src/page_list.rt": [f"{ASSEMBLY}/make_page.py", "docs/ASSEMBLY.md"],
     f"{ASSEMBLY}/src/example_list.rt": [f"{ASSEMBLY}/make_examples.py", "examples"],
     f"{ASSEMBLY}/src/form_list.rt": [f"{ASSEMBLY}/make_forms.py"],
+    "crates/agent_tests/src/help_list.rt": ["crates/agent_tests/make_helps.py", "crates/agent/src/arguments/help_texts.rt"],
 }
 COPIED = "compared.rt"
 # How long a script that makes a list may take.

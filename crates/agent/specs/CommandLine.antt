@@ -1,5 +1,5 @@
 -- What the arguments of the command line ask for, as `clap` reads them.
-use Rattle.std.specs.Prelude.{◌≡◌, ℕ, Bool, false, true, if◌then◌else◌, List, [], ◌∷◌, Option, Some, None, codes, option_map, option_and_then}
+use Rattle.std.specs.Prelude.{◌≡◌, ℕ, Bool, false, true, if◌then◌else◌, ⊤, List, [], ◌∷◌, Option, Some, None, codes, option_map, option_and_then}
 use Rattle.std.specs.Option.{option_map_or}
 use Rattle.std.specs.Str.{bytes_eq}
 use Rattle.std.specs.Str.Parse.{digits_value, without_leading_plus}
@@ -12,6 +12,8 @@ use Rattle.agent.specs.OptionNumbers.{HasNumber, NumberOption, number_rule}
 use Rattle.agent.specs.declared.arguments.Task.{Task}
 use Rattle.agent.specs.declared.arguments.Task.TheVariants.{Run, Check, Assemble, Disassemble, Store, Serve}
 use Rattle.agent.specs.declared.arguments.Serving.{Serving}
+use Rattle.agent.specs.declared.arguments.Server.{Server}
+use Rattle.agent.specs.declared.arguments.Server.TheVariants as server
 
 -- the greatest budget: 64 MiB
 abbrev pub budget_limit : ℕ
@@ -140,3 +142,15 @@ task_of arguments = option_and_then (λ p. task_named p.0 p.1) (subcommand_of co
 -- the text of `--far`, where right arguments have one
 abbrev pub far_of : List Text → Option Text
 far_of arguments = option_and_then (λ p. first_of (codes "far") p.1) (subcommand_of command_line arguments)
+
+-- ---- servers
+
+-- the task of a server
+abbrev pub server_task : Server → Task
+server_task (server.Store port verbose) = Store port verbose
+server_task (server.Serve serving far) = Serve serving
+
+-- The server keeps its far objects where these arguments say.
+abbrev pub IsFarAs : List Text → Server → Type 0
+IsFarAs arguments (server.Store port verbose) = ⊤
+IsFarAs arguments (server.Serve serving far) = option_map (λ text. text.now) far ≡ far_of arguments

@@ -14,5 +14,4 @@ pub mod Explained
 pub mod Laws
 pub mod StoreLeaves
 pub mod ServeLeaves
-pub mod Servers
 pub mod Theorems

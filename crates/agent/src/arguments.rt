@@ -1,13 +1,14 @@
 //! The arguments of the command line.
-ghost use Rattle.std.specs.Prelude.{◌≡◌, ℕ, List, Result, [], Some, map, codes, option_map, IfOk, IfErr};
-ghost use Rattle.clap.specs.Words.{app_of, found_of, new_app, new_rule, rows_of, rule_of, subcommand_of, subcommand_rows_of, HasKind};
-ghost use Rattle.agent.specs.CommandLine.{HasServing, IsLocal, asm_shape, bare, budget_option, check_shape, command_line, connections_option, dis_shape, far_of, far_rule, far_timeout_option, faults_of, flag_rule, flagged_shape, is_set, number_in, port_option, run_shape, serve_shape, serving_in, store_shape, task_named, task_of, verbose_rule, workers_option};
+ghost use Rattle.std.specs.Prelude.{◌≡◌, ◌≢◌, ℕ, List, Result, [], None, Some, map, codes, option_map, IfOk, IfErr, IfSome};
+ghost use Rattle.clap.specs.Words.{app_of, found_of, new_app, new_rule, rows_of, rule_of, subcommand_of, subcommand_rows_of, with_subcommand, HasKind};
+ghost use Rattle.agent.specs.CommandLine.{HasServing, IsFarAs, IsLocal, asm_shape, bare, budget_option, check_shape, command_line, connections_option, dis_shape, far_of, far_rule, far_timeout_option, faults_of, flag_rule, flagged_shape, is_set, number_in, port_option, run_shape, serve_shape, server_task, serving_in, store_shape, task_named, task_of, verbose_rule, workers_option};
 ghost use Rattle.agent.specs.OptionNumbers.{HasNumber, ParsesAs, number_rule, parses_as};
+ghost use Rattle.agent.specs.declared.arguments.Server.{Server};
 
 mod help_texts;
 mod laws;
-mod network;
 
+use clap::error::ErrorKind;
 use clap::{Arg, ArgAction, ArgMatches, Command, Error, value_parser};
 use help_texts::{
     ABOUT, ASM_HELP, CHECK_HELP, DIS_HELP, RUN_HELP, SERVE_HELP, STORE_HELP, TOP_HELP,
@@ -16,7 +17,6 @@ pub use laws::{
     invalid_arguments, invalid_budgets, right_arguments, right_arguments_name_a_task,
     right_budgets, right_flags, right_ports, right_services,
 };
-pub use network::{Server, asked_server};
 use std::alloc::{AllocError, Global};
 use std::convert::AsStr;
 use std::str::FromStr;
@@ -60,6 +60,23 @@ pub struct Serving {
     pub far_timeout: u32,
     /// Whether what happens is written down.
     pub verbose: bool,
+}
+
+/// A server that the program can be asked to be.
+#[derive(Clone, Copy, Drop, Debug, PartialEq, Eq)]
+pub enum Server<'a> {
+    /// One that keeps what clients send away, listening on this port, or on any free one where it is 0.
+    /// What happens is written down where that is asked for.
+    Store {
+        port: u16,
+        verbose: bool,
+    },
+    /// One that shares objects and machines with clients. Its far objects are kept at the server of this address, `HOST:PORT`,
+    /// where one is given.
+    Serve {
+        serving: Serving,
+        far: Option<&'a str>,
+    },
 }
 
 /// `--NAME VALUE`, where VALUE is any text.
@@ -282,17 +299,26 @@ fn make_top<'a>(alloc: Global) -> Result<Command<'a>, AllocError>
     )
 }
 
+/// A command line with this subcommand too.
+fn add<'a>(line: Command<'a>, sub: Command<'a>) -> Result<Command<'a>, AllocError>
+    requires { IsLocal sub }
+    ensures { IfOk result (λ c. app_of c ≡ with_subcommand (app_of line.entry) (app_of sub.entry).top) }
+{
+    line.subcommand(sub)
+}
+
 /// The command line of the program.
 fn make_command<'a>(alloc: Global) -> Result<Command<'a>, AllocError>
     ensures { IfOk result (λ c. app_of c ≡ command_line) }
 {
-    make_top(alloc)?
-        .subcommand(make_run(alloc)?)?
-        .subcommand(make_check(alloc)?)?
-        .subcommand(make_asm(alloc)?)?
-        .subcommand(make_dis(alloc)?)?
-        .subcommand(make_store(alloc)?)?
-        .subcommand(make_serve(alloc)?)
+    let line = make_top(alloc)?;
+    let line = add(line, make_run(alloc)?)?;
+    let line = add(line, make_check(alloc)?)?;
+    let line = add(line, make_asm(alloc)?)?;
+    let line = add(line, make_dis(alloc)?)?;
+    let line = add(line, make_store(alloc)?)?;
+    let line = add(line, make_serve(alloc)?)?;
+    Ok(line)
 }
 
 /// A type of numbers that an option may have.
@@ -441,4 +467,28 @@ pub(crate) fn read_arguments<'a, S: AsStr>(alloc: Global, arguments: &'a [S]) ->
 {
     let asked = read_asked(alloc, arguments)?;
     Ok(asked.task)
+}
+
+/// The server that the arguments ask for, if they ask for one. Out of memory is an error.
+pub fn asked_server<'a, S: AsStr>(
+    alloc: Global,
+    arguments: &'a [S],
+) -> Result<Option<Server<'a>>, AllocError>
+    ensures some { IfOk result (λ asked. IfSome asked (λ server. (faults_of (map S.text arguments.entry.now) ≡ [])
+        × (task_of (map S.text arguments.entry.now) ≡ Some (server_task server)))) }
+    ensures far { IfOk result (λ asked. IfSome asked (IsFarAs (map S.text arguments.entry.now))) }
+    ensures none { IfOk result (λ asked. asked ≡ None → (server : Server) → faults_of (map S.text arguments.entry.now) ≡ []
+        → task_of (map S.text arguments.entry.now) ≢ Some (server_task server)) }
+{
+    let asked = match read_asked(alloc, arguments) {
+        Ok(asked) => asked,
+        Err(error) if error.kind() == ErrorKind::OutOfMemory => return Err(AllocError),
+        Err(_) => return Ok(None),
+    };
+    let far = asked.far;
+    match asked.task {
+        Task::Store { port, verbose } => Ok(Some(Server::Store { port, verbose })),
+        Task::Serve(serving) => Ok(Some(Server::Serve { serving, far })),
+        _ => Ok(None),
+    }
 }

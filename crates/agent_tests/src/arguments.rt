@@ -1,12 +1,19 @@
 //! The arguments of the command line, and help.
 
 use crate::compared::same;
+use crate::help_list::{
+    ASM_HELP, CHECK_HELP, DIS_HELP, RUN_HELP, SERVE_HELP, STORE_HELP, TOP_HELP,
+};
 use crate::outcome::{ended, leaves};
 use agent::refuse_arguments;
+use std::alloc::{AllocError, Global};
 use std::io::{Error, ErrorKind};
+use std::test::Fail;
 use test_devices::Narrow;
 
-const HELP: &str =
+// What help says first, and of the options.
+
+const TOP_HEAD: &str =
     "Runs small BPF programs (RFC 9669) beside objects in memory, while the objects move to a far store and back
 
 Usage: bpfagent <COMMAND>
@@ -23,48 +30,9 @@ Options:
   -h, --help     Print help
   -V, --version  Print version
 
-'bpfagent run' answers commands, 'bpfagent serve' those of many clients at the
-same time. 'check', 'asm' and 'dis' are for those who write programs. 'store'
-keeps what leaves a service. 'bpfagent COMMAND --help' says more of each.
-
-Each command reads standard input. Status 0: done. Status 1: the input is
-refused. Status 2: invalid arguments. Status 3: a stream failed, or out of
-memory. Unless the status is 0, standard error says what is wrong.
 ";
 
-const CHECK_HELP: &str = "Check the raw code of standard input
-
-Usage: bpfagent check [OPTIONS]
-
-Options:
-      --explain  Name the instruction, and the rule that it breaks, in a second line
-  -h, --help     Print help
-
-Reads raw code (bytes, not hex) from standard input. If the code is valid, it
-writes 'ok N' to standard output: the code has N slots of eight bytes.
-Otherwise it writes 'slot S: WHY' to standard error.
-
-WHY is one of these:
-  Empty       there is no code
-  TooLong     more than 32768 bytes
-  Short       fewer than eight bytes are left
-  Opcode      no instruction has this opcode
-  Register    a register above R10
-  Field       an unused field isn't zero, or a field has a value it can't have
-  HalfWide    a 64-bit load of a constant without its second slot
-  Packet      legacy packet access
-  Platform    a map, a variable or a function of a platform
-  JumpOut     a jump or call leads outside the code
-  JumpInside  a jump or call leads to the second slot of an instruction
-  WritesR10   the frame pointer is written
-  Helper      no helper has this number, they are 1 to 4
-  FallsOff    the last instruction is neither EXIT nor an unconditional jump
-
-Status 0: the code is valid. Status 1: it isn't. Status 3: a stream failed, or
-out of memory. Standard error says which.
-";
-
-const RUN_HELP: &str = "Do the commands of standard input, one a line
+const RUN_HEAD: &str = "Do the commands of standard input, one a line
 
 Usage: bpfagent run [OPTIONS]
 
@@ -72,49 +40,39 @@ Options:
       --budget <N>  The most bytes of objects that are not far, 0 to 67108864 [default: 67108864]
   -h, --help        Print help
 
-Reads commands from standard input, one a line. For each it writes a line to
-standard output, the reply, before it does the next.
-
-Objects are arrays of bytes, numbered n = 1, 2, 3 and so on:
-  make LENGTH                          made n
-  put n OFFSET BYTES                   ok
-  get n OFFSET LENGTH                  bytes BYTES
-  free n                               freed n
-
-Machines are BPF programs, numbered m = 1, 2, 3, stepped by instructions:
-  ship FUEL A1 A2 A3 A4 A5 CODE        shipped m
-  ship2 FUEL A1 A2 A3 A4 A5 CODE G ..  shipped m, for objects granted by G ..
-  step m                               ran m SLOT, stopped m exit V and others
-  regs m                               regs m SLOT FUEL STATE R0 .. R10
-  out m                                out m V ..
-  stack m OFFSET LENGTH                bytes BYTES
-  line m SLOT                          line m SLOT TEXT
-
-An object leaves for the far store in two commands, and comes back in two:
-  leave n, left n                      leaving n, left n
-  return n, returned n                 returning n, home n
-
-Debugging:
-  break m SLOT, unbreak m SLOT         ok
-  watch m ADDRESS LENGTH, unwatch ..   ok
-  one m, resume m                      ran m SLOT, ok
-
-FUEL is how many instructions a machine may do. A1 to A5 are its registers R1
-to R5. The address of a byte of object n is n * 2^32 + OFFSET. BYTES and CODE
-are hex digits. Numbers are decimal, or 0x and hex digits.
-
-A line that is no command is answered 'bad', and an unfinished last line 'cut'.
-A command that is refused has another reply, such as 'none', 'outside' or
-'full', and changes nothing.
-
-Example:
-  printf 'make 8\\nput 1 0 616263\\nget 1 0 3\\n' | bpfagent run
-
-Status 0: the input has ended. Status 3: a stream failed, or out of memory at
-the start. Standard error says which.
 ";
 
-const STORE_HELP: &str = "Keep the objects of other agents
+const CHECK_HEAD: &str = "Check the raw code of standard input
+
+Usage: bpfagent check [OPTIONS]
+
+Options:
+      --explain  Name the instruction, and the rule that it breaks, in a second line
+  -h, --help     Print help
+
+";
+
+const ASM_HEAD: &str = "Turn the assembly of standard input into raw code
+
+Usage: bpfagent asm [OPTIONS]
+
+Options:
+      --explain  Quote the line of an error, and name the token, in a second line
+  -h, --help     Print help
+
+";
+
+const DIS_HEAD: &str = "Show the raw code of standard input as assembly
+
+Usage: bpfagent dis [OPTIONS]
+
+Options:
+      --slots  Show the number of its slot before each instruction
+  -h, --help   Print help
+
+";
+
+const STORE_HEAD: &str = "Keep the objects of other agents
 
 Usage: bpfagent store [OPTIONS]
 
@@ -123,15 +81,23 @@ Options:
   -v, --verbose   Write what happens to standard error, a line each with the time
   -h, --help      Print help
 
-Listens on 127.0.0.1, and writes 'listening P' to standard output, where P is
-the port. It serves up to 64 clients at the same time, each from an empty store
-of its own, until standard input ends. One more finds its socket closed.
-'bpfagent serve --far 127.0.0.1:P' is such a client. A client that breaks the
-protocol is given up: standard error has 'client N: WHY', and the others are
-served.
+";
 
-Status 0: standard input has ended. Status 3: the port can't be had, a stream
-failed, or out of memory. Standard error says which.
+const SERVE_HEAD: &str = "Share objects and machines with clients
+
+Usage: bpfagent serve [OPTIONS]
+
+Options:
+      --port <P>          The port to listen on, 0 to 65535, where 0 is any free one [default: 0]
+      --connections <N>   How many connections are taken in all, 1 to 8 [default: 1]
+      --workers <W>       How many workers step machines, 0 to 16 [default: 2]
+      --budget <N>        The most bytes of objects that are not far, 0 to 67108864 [default: 67108864]
+      --sweep             Send away objects that nobody has used for a while
+      --far <HOST:PORT>   The server that keeps far objects, HOST an IP address; without it they stay in this process
+      --far-timeout <MS>  The most milliseconds that connecting to the far server, a read or a write may take, 1 to 600000 [default: 5000]
+  -v, --verbose           Write what happens to standard error, a line each with the time
+  -h, --help              Print help
+
 ";
 
 const NO_SUBCOMMAND: &str = "error: 'bpfagent' requires a subcommand but one was not provided
@@ -221,22 +187,35 @@ fn invalid_arguments_are_named(rt: HostRuntime) {
     }
 }
 
-/// Arguments that ask for help, and the help.
-const HELPS: &[(&[&str], &str)] = &[
-    (&["--help"], HELP),
-    (&["store", "--help"], STORE_HELP),
-    (&["-h"], HELP),
-    (&["check", "--help"], CHECK_HELP),
-    (&["run", "--help"], RUN_HELP),
-    (&["run", "--budget", "8", "-h"], RUN_HELP),
+/// Arguments that ask for help, and both parts of the help.
+const HELPS: &[(&[&str], &str, &str)] = &[
+    (&["--help"], TOP_HEAD, TOP_HELP),
+    (&["store", "--help"], STORE_HEAD, STORE_HELP),
+    (&["-h"], TOP_HEAD, TOP_HELP),
+    (&["check", "--help"], CHECK_HEAD, CHECK_HELP),
+    (&["asm", "--help"], ASM_HEAD, ASM_HELP),
+    (&["dis", "-h"], DIS_HEAD, DIS_HELP),
+    (&["serve", "--help"], SERVE_HEAD, SERVE_HELP),
+    (&["run", "--help"], RUN_HEAD, RUN_HELP),
+    (&["run", "--budget", "8", "-h"], RUN_HEAD, RUN_HELP),
 ];
 
+/// Both parts, as one text.
+fn help_of(alloc: Global, head: &str, rest: &str) -> Result<Vec<u8>, AllocError> {
+    let mut text = head.as_bytes().to_vec(alloc)?;
+    text.extend_from_slice(rest.as_bytes())?;
+    text.push(b'\n')?;
+    Ok(text)
+}
+
 #[test]
-fn help_goes_to_the_output(rt: HostRuntime) {
-    for &(arguments, text) in HELPS {
-        let wanted: (u8, &[u8], &[u8]) = (0, text.as_bytes(), b"");
+fn help_goes_to_the_output(rt: HostRuntime) -> Result<(), Fail> {
+    for &(arguments, head, rest) in HELPS {
+        let text = help_of(rt.alloc(), head, rest)?;
+        let wanted: (u8, &[u8], &[u8]) = (0, text.as_slice(), b"");
         leaves(&rt, rt.alloc(), arguments, b"step 1\n", wanted);
     }
+    Ok(())
 }
 
 #[test]

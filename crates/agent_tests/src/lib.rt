@@ -12,6 +12,8 @@ mod checking;
 #[cfg(test)]
 mod compared;
 #[cfg(test)]
+mod help_list;
+#[cfg(test)]
 mod moving;
 #[cfg(test)]
 mod outcome;

@@ -12,7 +12,7 @@ ghost use Rattle.placement.specs.declared.places.Moved.TheVariants as moved;
 ghost use Rattle.placement.specs.declared.places.Place.TheVariants as place;
 ghost use Rattle.world.specs.declared.events.Event.{Event};
 ghost use Rattle.world.specs.declared.events.ObjectCommand.{ObjectCommand};
-ghost use Rattle.world.specs.declared.events.Move.{Move};
+ghost use Rattle.world.specs.declared.world.moving.Move.{Move};
 ghost use Rattle.world.specs.declared.replies.Reply.{Reply};
 ghost use Rattle.bpfagent_c.specs.Codes.{code_of, code_of_reply};
 ghost use Rattle.bpfagent_c.specs.Told.{Commanded, HasNone};

@@ -3,7 +3,7 @@ ghost use Rattle.std.specs.Prelude.{◌≡◌, ◌≢◌, ◌≤◌, min, length
 ghost use Rattle.memory.specs.Objects.{object_bytes};
 ghost use Rattle.world.specs.declared.events.Event.{Event};
 ghost use Rattle.world.specs.declared.events.ObjectCommand.{ObjectCommand};
-ghost use Rattle.world.specs.declared.events.Move.{Move};
+ghost use Rattle.world.specs.declared.world.moving.Move.{Move};
 ghost use Rattle.world.specs.declared.replies.Reply.{Reply};
 ghost use Rattle.bpfagent_c.specs.Codes.{code_of};
 ghost use Rattle.bpfagent_c.specs.Told.{Commanded, Told};

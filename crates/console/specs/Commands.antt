@@ -13,7 +13,7 @@ use Rattle.debugger.specs.declared.commands.DebugCommand.TheVariants.{Break, Unb
 use Rattle.world.specs.declared.events.Event.{Event}
 use Rattle.world.specs.declared.events.Event.TheVariants.{Make, Ship, Object, Machine}
 use Rattle.world.specs.declared.events.ObjectCommand.TheVariants.{Free, Put, Get, Move}
-use Rattle.world.specs.declared.events.Move.TheVariants as move
+use Rattle.world.specs.declared.world.moving.Move.TheVariants as move
 use Rattle.console.specs.Lines.{line_limit}
 use Rattle.console.specs.Tokens.{tokens_of, within, AreNumbers, AreBytes}
 use Rattle.console.specs.Granting.{object_number, AreGrants}

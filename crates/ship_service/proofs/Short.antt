@@ -16,7 +16,7 @@ use Rattle.world.specs.declared.events.Event.{Event}
 use Rattle.world.specs.declared.events.Event.TheVariants as event
 use Rattle.world.specs.declared.events.ObjectCommand.{ObjectCommand}
 use Rattle.world.specs.declared.events.ObjectCommand.TheVariants as object
-use Rattle.world.specs.declared.events.Move.TheVariants as move
+use Rattle.world.specs.declared.world.moving.Move.{Move}
 use Rattle.world.specs.declared.replies.Reply.{Reply}
 use Rattle.world.specs.declared.replies.Reply.TheVariants as reply
 use Rattle.console.specs.Replies.{IsShort}
@@ -25,9 +25,9 @@ use Rattle.console.proofs.CommandReading.{AsksShort, step_short, show_short, deb
 use Rattle.ship_service.specs.declared.replies.ServiceReply.{ServiceReply}
 use Rattle.ship_service.specs.declared.replies.ServiceReply.TheVariants.{Plain}
 use Rattle.ship_service.specs.Replies.{IsShortReply}
-use Rattle.ship_service.specs.Ranges.{reply_to_put, reply_to_get, GetsOnce, AsksMover}
+use Rattle.ship_service.specs.Ranges.{reply_to_put, reply_to_get, GetsOnce}
 use Rattle.ship_service.specs.Lent.{AnswersCell, AnswersLent, ShipsCell, informed}
-use Rattle.ship_service.specs.Served.{Serves, ServesObject, ServesMachine, ServesShip}
+use Rattle.ship_service.specs.Served.{Serves, ServesMove, ServesObject, ServesMachine, ServesShip}
 use Rattle.debugger.specs.declared.start.Start.{Start}
 
 put_short : (n : ℕ) (r : Reach) → IsShortReply (reply_to_put n r)
@@ -52,18 +52,18 @@ get_tells_short : (old new : SeatState) (n offset size : ℕ) (told : ServiceRep
 get_tells_short old new n offset size told (inl h) short = subst IsShortReply (sym h.told_is) tt
 get_tells_short old new n offset size told (inr h) short = subst IsShortReply (sym h.told_is) (get_short old new n offset size h.outcome h.gets short)
 
-asked_short : (opening : List (List ℕ)) (n : ℕ) (told : ServiceReply) → AsksMover opening n told → IsShortReply told
-asked_short opening n (Plain (reply.Bytes b)) h = absurd h
-asked_short opening n _ h = tt
+no_bytes : (opening : List (List ℕ)) (n : ℕ) (m : Move) (b : List ℕ) → ServesMove opening n m (Plain (reply.Bytes b)) → ⊥
+no_bytes opening n m b h = grind arith
+
+move_short : (opening : List (List ℕ)) (n : ℕ) (m : Move) (told : ServiceReply) → ServesMove opening n m told → IsShortReply told
+move_short opening n m (Plain (reply.Bytes b)) h = absurd (no_bytes opening n m b h)
+move_short opening n m _ h = tt
 
 object_short : (old new : SeatState) (n : ℕ) (c : ObjectCommand) (told : ServiceReply) → ServesObject old n c told new → AsksShort (event.Object n c) → IsShortReply told
 object_short old new n (object.Put offset bytes) told h short = subst IsShortReply (sym h.last.told_is) (put_short n h.last.outcome)
 object_short old new n (object.Get offset size) told h short = get_tells_short h.mid new n offset size told h.last short
 object_short old new n object.Free told h short = subst IsShortReply (sym h.0) tt
-object_short old new n (object.Move move.Leave) told h short = asked_short old.view.opening n told h.0
-object_short old new n (object.Move move.Return) told h short = asked_short old.view.opening n told h.0
-object_short old new n (object.Move move.Left) told h short = subst IsShortReply (sym h.0) tt
-object_short old new n (object.Move move.Returned) told h short = subst IsShortReply (sym h.0) tt
+object_short old new n (object.Move m) told h short = move_short old.view.opening n m told h.0
 
 cell_short : (before after : CellState) (m : ℕ) (c : MachineCommand) (told : Reply) → AnswersCell c before m told after → AsksShort (event.Machine m c) → IsShort told
 cell_short before after m (Step way) told h short = subst IsShort (sym h.1) (step_short m h.0)

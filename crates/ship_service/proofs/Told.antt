@@ -24,7 +24,6 @@ use Rattle.world.specs.declared.events.Event.{Event}
 use Rattle.world.specs.declared.events.Event.TheVariants as event
 use Rattle.world.specs.declared.events.ObjectCommand.{ObjectCommand}
 use Rattle.world.specs.declared.events.ObjectCommand.TheVariants as object
-use Rattle.world.specs.declared.events.Move.TheVariants as move
 use Rattle.console.specs.Conversations.{turn_commands, turn_replies}
 use Rattle.ship_service.specs.declared.replies.ServiceReply.{ServiceReply}
 use Rattle.ship_service.specs.declared.replies.ServiceReply.TheVariants.{Busy}
@@ -134,10 +133,7 @@ object_tells : (old new : SeatState) (n : ℕ) (c : ObjectCommand) (told : Servi
 object_tells old new n (object.Put offset bytes) told h = put_tells old new n offset bytes told h
 object_tells old new n (object.Get offset size) told h = get_tells old new n offset size told h
 object_tells old new n object.Free told h = same old new h.1
-object_tells old new n (object.Move move.Leave) told h = same old new h.1
-object_tells old new n (object.Move move.Return) told h = same old new h.1
-object_tells old new n (object.Move move.Left) told h = same old new h.1
-object_tells old new n (object.Move move.Returned) told h = same old new h.1
+object_tells old new n (object.Move m) told h = same old new h.1
 
 machine_tells : (opening : List (List ℕ)) (starts : List MachineState) (old new : SeatState) (m : ℕ) (c : MachineCommand) (told : ServiceReply)
     → ServesMachine opening starts old m c told new → Tells old [] new

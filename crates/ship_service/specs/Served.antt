@@ -16,7 +16,8 @@ use Rattle.world.specs.declared.events.Event.{Event}
 use Rattle.world.specs.declared.events.Event.TheVariants as event
 use Rattle.world.specs.declared.events.ObjectCommand.{ObjectCommand}
 use Rattle.world.specs.declared.events.ObjectCommand.TheVariants as object
-use Rattle.world.specs.declared.events.Move.TheVariants as move
+use Rattle.world.specs.declared.world.moving.Move.{Move}
+use Rattle.world.specs.declared.world.moving.Move.TheVariants as move
 use Rattle.console.specs.Conversations.{Protocol}
 use Rattle.ship_service.specs.declared.replies.ServiceReply.{ServiceReply}
 use Rattle.ship_service.specs.declared.replies.ServiceReply.TheVariants.{Plain, Unserved}
@@ -86,15 +87,18 @@ ServesShip opening starts lent start code told = NoRoom lent told ⊎ IntoCell o
 abbrev pub IsUnserved : SeatState → ServiceReply → SeatState → Type 0
 IsUnserved old told new = (told ≡ Unserved) × (new ≡ old)
 
+-- The mover is asked for a move that begins. It ends moves by itself.
+abbrev pub ServesMove : List (List ℕ) → ℕ → Move → ServiceReply → Type 0
+ServesMove opening n move.Leave told = AsksMover opening n told
+ServesMove opening n move.Return told = AsksMover opening n told
+ServesMove opening n _ told = told ≡ Unserved
+
 -- a command on object n
 abbrev pub ServesObject : SeatState → ℕ → ObjectCommand → ServiceReply → SeatState → Type 0
 ServesObject old n object.Free told new = IsUnserved old told new
 ServesObject old n (object.Put offset bytes) told new = ServesPut old n offset bytes told new
 ServesObject old n (object.Get offset size) told new = ServesGet old n offset size told new
-ServesObject old n (object.Move move.Leave) told new = AsksMover old.view.opening n told × (new ≡ old)
-ServesObject old n (object.Move move.Return) told new = AsksMover old.view.opening n told × (new ≡ old)
-ServesObject old n (object.Move move.Left) told new = IsUnserved old told new
-ServesObject old n (object.Move move.Returned) told new = IsUnserved old told new
+ServesObject old n (object.Move m) told new = ServesMove old.view.opening n m told × (new ≡ old)
 
 -- what a command is answered, and what it does to the seat
 abbrev pub Serves : List (List ℕ) → List MachineState → (ℕ → Bool) → SeatState → Event → ServiceReply → SeatState → Type 0

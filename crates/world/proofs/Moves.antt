@@ -1,14 +1,13 @@
 -- What is so of each move.
-use Rattle.std.proofs.Common.{◌≡◌, ℕ, true, false, ap, arith}
+use Rattle.std.proofs.Common.{◌≡◌, ℕ, false, ap, arith}
 use Rattle.placement.specs.declared.places.Place.{Place}
 use Rattle.placement.specs.declared.places.Place.TheVariants as place
 use Rattle.placement.specs.declared.places.Moved.{Moved}
 use Rattle.placement.specs.declared.places.Moved.TheVariants as moved
 use Rattle.object_store.specs.Stores.{StoreState}
-use Rattle.object_store.specs.Calls.{RefusesMove, BeginsLeave, EndsLeave, BeginsReturn, EndsReturn}
-use Rattle.world.specs.declared.events.Move.{Move as MoveKind}
-use Rattle.world.specs.declared.events.Move.TheVariants as move
-use Rattle.world.specs.Answers.{Moves, moved_reply}
+use Rattle.object_store.specs.Calls.{RefusesMove, EndsLeave}
+use Rattle.world.specs.declared.world.moving.Move.{Move as MoveKind}
+use Rattle.world.specs.Moves.{Moves, moved_reply}
 use Rattle.world.specs.Undebugged.{undebugged_reply, is_pause}
 
 -- ---- bytes
@@ -18,32 +17,14 @@ refuses_stay from old new n moved.NoObject h = ap (λ (s : StoreState). s.object
 refuses_stay from old new n (moved.Misplaced p) h = ap (λ (s : StoreState). s.objects) h.2
 refuses_stay from old new n _ h = absurd h
 
-begins_leave : (old new : StoreState) (n : ℕ) (m : Moved) → BeginsLeave old n m new → new.objects ≡ old.objects
-begins_leave old new n moved.Scoped h = ap (λ (s : StoreState). s.objects) h.2
-begins_leave old new n moved.Done h = ap (λ (s : StoreState). s.objects) h.2
-begins_leave old new n m h = refuses_stay place.Here old new n m h
-
 pub ends_leave : (old new : StoreState) (n : ℕ) (m : Moved) → EndsLeave old n m new → new.objects ≡ old.objects
 ends_leave old new n (moved.Fault f) h = ap (λ (s : StoreState). s.objects) h.2
 ends_leave old new n moved.Done h = ap (λ (s : StoreState). s.objects) h.2
 ends_leave old new n m h = refuses_stay place.Leaving old new n m h
 
-begins_return : (old new : StoreState) (n : ℕ) (m : Moved) → BeginsReturn old n m new → new.objects ≡ old.objects
-begins_return old new n moved.NoRoom h = ap (λ (s : StoreState). s.objects) h.2
-begins_return old new n moved.Done h = ap (λ (s : StoreState). s.objects) h.2
-begins_return old new n m h = refuses_stay place.Far old new n m h
-
-ends_return : (old new : StoreState) (n : ℕ) (m : Moved) → EndsReturn true old n m new → new.objects ≡ old.objects
-ends_return old new n (moved.Fault f) h = ap (λ (s : StoreState). s.objects) h.2
-ends_return old new n moved.Done h = ap (λ (s : StoreState). s.objects) h.1
-ends_return old new n m h = refuses_stay place.Returning old new n m h
-
 -- a move changes no object's bytes
 pub moves_stay : (m : MoveKind) (old new : StoreState) (n : ℕ) (d : Moved) → Moves m old n d new → new.objects ≡ old.objects
-moves_stay move.Leave old new n d h = begins_leave old new n d h
-moves_stay move.Left old new n d h = ends_leave old new n d h
-moves_stay move.Return old new n d h = begins_return old new n d h
-moves_stay move.Returned old new n d h = ends_return old new n d h
+moves_stay m old new n d h = grind arith
 
 -- ---- replies
 

@@ -19,7 +19,8 @@ use Rattle.world.specs.declared.events.ObjectCommand.{ObjectCommand}
 use Rattle.world.specs.declared.events.ObjectCommand.TheVariants.{Free, Put, Get, Move}
 use Rattle.world.specs.Run.{Runs}
 use Rattle.world.specs.WorldState.{WorldState, AreAllShipped}
-use Rattle.world.specs.Answers.{AnswersMake, AnswersPut, AnswersGet, AnswersMove, AnswersObject, AnswersShip, Moves, moved_reply, place_before, reply_to_move, Answers}
+use Rattle.world.specs.Answers.{AnswersMake, AnswersPut, AnswersGet, AnswersMove, AnswersObject, AnswersShip, reply_to_move, Answers}
+use Rattle.world.specs.Moves.{Moves, moved_reply, place_before}
 use Rattle.world.specs.Kept.{commands_kept, replies_kept}
 use Rattle.world.specs.Undebugged.{undebugged, undebugged_machine, undebugged_command, undebugged_reply, undebugged_commands, undebugged_replies, is_pause, is_undebugged}
 use Rattle.world.specs.Unseen.{DebuggingChangesNothing, NeitherChangesAnything}

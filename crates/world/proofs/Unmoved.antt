@@ -37,7 +37,8 @@ use Rattle.world.specs.declared.events.ObjectCommand.TheVariants.{Free, Put, Get
 use Rattle.world.specs.Run.{Runs}
 use Rattle.world.specs.WorldState.{WorldState, with_machine}
 use Rattle.world.specs.Machines.{AnswersCommand, AnswersMachine, reply_to_step, reply_to_debug}
-use Rattle.world.specs.Answers.{AnswersMove, AnswersObject, Moves, moved_reply, place_before, reply_to_move, Answers}
+use Rattle.world.specs.Answers.{AnswersMove, AnswersObject, reply_to_move, Answers}
+use Rattle.world.specs.Moves.{Moves, moved_reply, place_before}
 use Rattle.world.specs.Plain.{PlainState, plain_of, FreesPlain, ObjectPlain, PlainAnswers, is_absence, is_unmoved, unmoved_commands, unmoved_replies}
 use Rattle.world.specs.Unseen.{MovingChangesNothing}
 use Rattle.world.proofs.Joined.{kept_first}

@@ -1,10 +1,10 @@
 -- What the commands do: which reply each may have, and to which state it leads. Refusals change nothing, and are tested in the order written.
-use Rattle.std.specs.Prelude.{◌≡◌, ◌≢◌, ℕ, ◌+◌, List, [], ◌∷◌, ◌++◌, length, true, Ok, Err}
+use Rattle.std.specs.Prelude.{◌≡◌, ◌≢◌, ℕ, ◌+◌, List, [], ◌∷◌, ◌++◌, length, Ok, Err}
 use Rattle.loader.specs.ValidCode.{ValidCode}
 use Rattle.loader.specs.Refusals.{HasCodeSize, Refuses}
 use Rattle.loader.specs.declared.loading.Why.TheVariants as why
 use Rattle.object_store.specs.Stores.{StoreState, store_memory}
-use Rattle.object_store.specs.Calls.{Makes, Gets, Puts, Frees, BeginsLeave, EndsLeave, BeginsReturn, EndsReturn}
+use Rattle.object_store.specs.Calls.{Makes, Gets, Puts, Frees}
 use Rattle.placement.specs.declared.places.Place.{Place}
 use Rattle.placement.specs.declared.places.Place.TheVariants as place
 use Rattle.placement.specs.declared.places.Moved.{Moved}
@@ -17,16 +17,14 @@ use Rattle.debugger.specs.declared.start.Start.{Start}
 use Rattle.debugger.specs.declared.debuggee.Debuggee.{Debuggee}
 use Rattle.debugger.specs.Debuggees.{debuggee_start}
 use Rattle.world.specs.declared.replies.Reply.{Reply}
-use Rattle.world.specs.declared.replies.Reply.TheVariants.{Made, Freed, Leaving, Returning, Home, Done, Bytes, Shipped, NoMemory, Full, NoRoom, Outside, Away, Misplaced, Scoped, Faulted, Refused, Missing}
-use Rattle.world.specs.declared.replies.Reply.TheVariants as answer
+use Rattle.world.specs.declared.replies.Reply.TheVariants.{Made, Freed, Done, Bytes, Shipped, NoMemory, Full, NoRoom, Outside, Away, Misplaced, Scoped, Faulted, Refused, Missing}
 use Rattle.world.specs.declared.events.Event.{Event}
 use Rattle.world.specs.declared.events.Event.TheVariants as event
 use Rattle.world.specs.declared.events.ObjectCommand.{ObjectCommand}
 use Rattle.world.specs.declared.events.ObjectCommand.TheVariants as object
-use Rattle.world.specs.declared.events.Move.{Move}
-use Rattle.world.specs.declared.events.Move.TheVariants as move
 use Rattle.world.specs.WorldState.{WorldState, AreAllShipped}
 use Rattle.world.specs.Machines.{AnswersMachine}
+use Rattle.world.specs.Moves.{Moves, moved_reply, place_before}
 
 -- ---- objects
 
@@ -80,27 +78,6 @@ pub record AnswersMove (moves : StoreState → ℕ → Moved → StoreState → 
   pub move : moves old.store n moved new.store
   pub told : reply ≡ reply_to_move done back n moved
   pub changed : new ≡ record old { store = new.store }
-
--- what each move is in the store
-abbrev pub Moves : Move → StoreState → ℕ → Moved → StoreState → Type 0
-Moves move.Leave old n done new = BeginsLeave old n done new
-Moves move.Left old n done new = EndsLeave old n done new
-Moves move.Return old n done new = BeginsReturn old n done new
-Moves move.Returned old n done new = EndsReturn true old n done new
-
--- its reply where it is done
-abbrev pub moved_reply : Move → ℕ → Reply
-moved_reply move.Leave n = Leaving n
-moved_reply move.Left n = answer.Left n
-moved_reply move.Return n = Returning n
-moved_reply move.Returned n = Home n
-
--- where the object was before it began to move, and is again where the far store fails
-abbrev pub place_before : Move → Place
-place_before move.Leave = place.Here
-place_before move.Left = place.Here
-place_before move.Return = place.Far
-place_before move.Returned = place.Far
 
 -- ---- machines
 

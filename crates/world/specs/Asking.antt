@@ -1,22 +1,21 @@
 -- What the commands ask of the far store, call by call and in order, and what it has of each object then.
-use Rattle.std.specs.Prelude.{◌≡◌, ℕ, true, false, [], ◌∷◌, ◌++◌, set}
+use Rattle.std.specs.Prelude.{◌≡◌, ℕ, false, [], ◌∷◌, ◌++◌, set}
 use Rattle.far_store.specs.Calls.{Call}
 use Rattle.placement.specs.declared.places.Place.{Place}
 use Rattle.placement.specs.declared.places.Place.TheVariants as place
 use Rattle.placement.specs.declared.places.Moved.{Moved}
-use Rattle.object_store.specs.Asking.{AsksNothing, AsksToFree, AsksToLeave, AsksToReturn}
+use Rattle.object_store.specs.Asking.{AsksNothing, AsksToFree}
 use Rattle.object_store.specs.Lending.{within_memory}
 use Rattle.object_store.specs.Stores.{StoreWithin, sent_of, unsent}
 use Rattle.world.specs.declared.events.Event.{Event}
 use Rattle.world.specs.declared.events.Event.TheVariants as event
-use Rattle.world.specs.declared.events.Move.{Move}
-use Rattle.world.specs.declared.events.Move.TheVariants as move
 use Rattle.world.specs.declared.events.ObjectCommand.{ObjectCommand}
 use Rattle.world.specs.declared.events.ObjectCommand.TheVariants as object
 use Rattle.world.specs.declared.replies.Reply.{Reply}
 use Rattle.world.specs.declared.replies.Reply.TheVariants.{Made, Freed, Done}
-use Rattle.world.specs.Answers.{Answers, moved_reply, place_before, reply_to_move}
+use Rattle.world.specs.Answers.{Answers, reply_to_move}
 use Rattle.world.specs.Machines.{AnswersMachine}
+use Rattle.world.specs.Moves.{MoveAsks, moved_reply, place_before}
 use Rattle.world.specs.WorldState.{WorldWithin, state_of}
 
 -- Nothing is asked. Of an object that is made the far store has nothing.
@@ -28,13 +27,6 @@ AsksToMake old _ new = AsksNothing old new
 abbrev pub AsksToPut : {X : Type 0} → StoreWithin X → ℕ → Reply → StoreWithin X → Type 0
 AsksToPut old n Done new = (new.far ≡ old.far) × (new.sent ≡ set old.sent n (record (sent_of old.sent n) { clean = false }))
 AsksToPut old n _ new = AsksNothing old new
-
--- What each move asks, by what it came to: one that begins asks nothing.
-abbrev pub MoveAsks : {X : Type 0} → (X → Call → X → Type 0) → Move → StoreWithin X → ℕ → Moved → StoreWithin X → Type 0
-MoveAsks called move.Leave old n moved new = AsksNothing old new
-MoveAsks called move.Left old n moved new = AsksToLeave called old n moved new
-MoveAsks called move.Return old n moved new = AsksNothing old new
-MoveAsks called move.Returned old n moved new = AsksToReturn true called old n moved new
 
 -- a move of object n, or its end, or its freeing, which is answered so
 pub record AsksMove {X : Type 0} (asks : StoreWithin X → ℕ → Moved → StoreWithin X → Type 0) (done : Reply) (back : Place) (old : StoreWithin X) (n : ℕ) (reply : Reply) (new : StoreWithin X) : Type 0 where

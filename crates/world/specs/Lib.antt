@@ -1,6 +1,7 @@
 pub mod Run
 pub mod WorldState
 pub mod Machines
+pub mod Moves
 pub mod Answers
 pub mod Places
 pub mod Kept

@@ -3,6 +3,7 @@
 ghost use Rattle.std.specs.Prelude.{◌≡◌, ◌≤◌, IfSome, IfNone};
 ghost use Rattle.memory.specs.Objects.{object_bytes};
 
+use crate::world::Move;
 use debugger::{MachineCommand, Start};
 use memory::{Bytes, OBJECT_BYTES};
 use std::marker::Model;
@@ -85,17 +86,4 @@ pub enum ObjectCommand {
     Get { offset: u32, length: u32 },
     /// Moves it, or ends its move.
     Move(Move),
-}
-
-/// A move of an object, or its end.
-#[derive(Clone, Copy, Drop, Debug)]
-pub enum Move {
-    /// An object that is here begins to leave.
-    Leave,
-    /// An object that is leaving is put in the far store.
-    Left,
-    /// An object that is far begins to return.
-    Return,
-    /// An object that is returning is got from the far store.
-    Returned,
 }

@@ -13,11 +13,11 @@ pub use debugger::{
     DebugCommand, Debuggee, LineText, MachineCommand, MachineRun, ShowCommand, Shown, Start, State,
     StepReply, Values, Way,
 };
-pub use events::{Event, Move, ObjectCommand, ObjectLength};
+pub use events::{Event, ObjectCommand, ObjectLength};
 pub use laws::{debugging_changes_nothing, moving_changes_nothing, neither_changes_anything};
 pub use memory::Bytes;
 pub use object_store::{Moved, PartsError, Place};
 pub use replies::Reply;
 pub use scopes::MACHINE_LIMIT;
 pub use stack::StackError;
-pub use world::{World, WorldParts};
+pub use world::{Move, World, WorldParts};

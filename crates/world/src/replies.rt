@@ -1,10 +1,9 @@
 //! Replies.
 
 ghost use Rattle.std.specs.Prelude.{◌≡◌};
-ghost use Rattle.world.specs.Answers.{moved_reply, place_before, refused_get, reply_to_move};
+ghost use Rattle.world.specs.Answers.{refused_get, reply_to_move};
 ghost use Rattle.world.specs.Machines.{reply_to_debug, reply_to_show, reply_to_step};
 
-use crate::events::Move;
 use debugger::{Debugged, LineText, ShowReply, Shown, StepReply, Values};
 use loader::LoadError;
 use machine::Stop;
@@ -198,30 +197,6 @@ impl Reply {
                 object,
                 place: back,
             },
-        }
-    }
-}
-
-impl Move {
-    /// The reply where the move is done.
-    pub(crate) fn reply(self, object: u32) -> Reply
-        ensures { result ≡ moved_reply self object }
-    {
-        match self {
-            Move::Leave => Reply::Leaving { object },
-            Move::Left => Reply::Left { object },
-            Move::Return => Reply::Returning { object },
-            Move::Returned => Reply::Home { object },
-        }
-    }
-
-    /// Where the object is again where the far store fails.
-    pub(crate) fn back(self) -> Place
-        ensures { result ≡ place_before self }
-    {
-        match self {
-            Move::Leave | Move::Left => Place::Here,
-            Move::Return | Move::Returned => Place::Far,
         }
     }
 }

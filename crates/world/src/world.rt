@@ -13,18 +13,19 @@ ghost use Rattle.world.specs.declared.replies.Reply.{Reply};
 ghost use Rattle.world.specs.declared.events.Event.{Event};
 ghost use Rattle.world.specs.Run.{Runs};
 ghost use Rattle.world.specs.WorldState.{opened_world, state_of};
-ghost use Rattle.world.specs.Asking.{AsksToMake, AsksToPut, AsksMove, AsksObject, Asks, AnswersWithin, MoveAsks};
+ghost use Rattle.world.specs.Asking.{AsksToMake, AsksToPut, AsksMove, AsksObject, Asks, AnswersWithin};
 ghost use Rattle.debugger.specs.declared.commands.ShowCommand.{ShowCommand};
 ghost use Rattle.world.specs.Machines.{AnswersMachine, reply_of, refused_stack};
 ghost use Rattle.world.specs.Running.{RunsMachine, RunAsks};
 ghost use Rattle.world.specs.Unseen.{IsPlainRun};
 ghost use Rattle.object_store.specs.declared.errors.GetError.{GetError};
-ghost use Rattle.world.specs.Answers.{Answers, AnswersMake, AnswersPut, AnswersGet, refused_get, AnswersMove, AnswersObject, AnswersShip, Moves, moved_reply};
-ghost use Rattle.world.specs.Answers.{place_before};
+ghost use Rattle.world.specs.Answers.{Answers, AnswersMake, AnswersPut, AnswersGet, refused_get, AnswersMove, AnswersObject, AnswersShip};
+ghost use Rattle.world.specs.Moves.{MoveAsks, Moves, moved_reply, place_before};
 
 mod handing;
+mod moving;
 
-use crate::events::{Event, Move, ObjectCommand, ObjectLength};
+use crate::events::{Event, ObjectCommand, ObjectLength};
 use crate::machines::{answer_machine, run_machine, step_machine};
 use crate::replies::Reply;
 use crate::stack::{StackError, read_stack};
@@ -32,7 +33,8 @@ use debugger::{Debuggee, MachineCommand, MachineRun, Start, StepReply, Way};
 use far_store::FarStore;
 use loader::{Why, load};
 use memory::Bytes;
-use object_store::{GetError, MakeError, Moved, ObjectStore, PartsError, Place, PutError};
+pub use moving::Move;
+use object_store::{GetError, MakeError, ObjectStore, PartsError, Place, PutError};
 use scopes::MACHINE_LIMIT;
 use std::alloc::{AllocError, Global};
 use std::marker::Model;
@@ -219,20 +221,6 @@ impl<F: FarStore> World<F> {
     {
         let moved = self.moved(object, kind);
         Reply::to_move(kind.reply(object), kind.back(), object, moved)
-    }
-
-    /// What the store does at a move.
-    fn moved(&mut self, object: u32, kind: Move) -> Moved
-        ensures store { Moves kind self.old.store.state object result self.new.store.state }
-        ensures asks { MoveAsks F.called kind self.old.store object result self.new.store }
-        ensures machines { self.new.machines ≡ self.old.machines }
-    {
-        match kind {
-            Move::Leave => self.store.leave(object),
-            Move::Left => self.store.left(object),
-            Move::Return => self.store.return_(object),
-            Move::Returned => self.store.returned(object),
-        }
     }
 
     // ---- machines

@@ -1,8 +1,9 @@
 -- What is proved of each move, and of freeing: what it does to the store, its replies as the first need that isn't met, and
--- that it doesn't look at the count of faults.
-use Rattle.std.proofs.Common.{◌≡◌, ℕ, Bool, true, false, List, [], ◌∷◌, length, inl, inr, refl, ap, sym, ◌∙◌, arith}
+-- that it looks neither at the count of faults nor at the bytes of another object.
+use Rattle.std.proofs.Common.{◌≡◌, ◌≢◌, ℕ, ◌<◌, Bool, true, false, List, [], ◌∷◌, length, inl, inr, refl, ap, sym, ◌∙◌, subst, arith}
 use Rattle.memory.specs.Objects.{IsLive, bytes_of, with_bytes}
-use Rattle.object_store.specs.Stores.{StoreState, HasRoom, IsScoped, place_of, with_place}
+use Rattle.memory.proofs.Accesses.{set_commutes}
+use Rattle.object_store.specs.Stores.{StoreState, HasRoom, IsScoped, StandsAt, place_of, with_place}
 use Rattle.object_store.specs.Calls.{RefusesMove, Frees, BeginsLeave, EndsLeave, BeginsReturn, EndsReturn}
 use Rattle.placement.specs.declared.places.Place.{Place}
 use Rattle.placement.specs.declared.places.Place.TheVariants as place
@@ -11,11 +12,12 @@ use Rattle.placement.specs.declared.places.Moved.TheVariants as moved
 use Rattle.debugger.specs.Refusals.{Decides}
 use Rattle.world.specs.declared.replies.Reply.{Reply}
 use Rattle.world.specs.declared.replies.Reply.TheVariants as reply
-use Rattle.world.specs.declared.events.Move.{Move as MoveKind}
-use Rattle.world.specs.declared.events.Move.TheVariants as move
-use Rattle.world.specs.Answers as answers
-use Rattle.world.specs.Answers.{moved_reply, place_before, reply_to_move}
+use Rattle.world.specs.declared.world.moving.Move.{Move as MoveKind}
+use Rattle.world.specs.declared.world.moving.Move.TheVariants as move
+use Rattle.world.specs.Answers.{reply_to_move}
+use Rattle.world.specs.Moves.{Moves as MovesSo, moved_reply, place_before}
 use Rattle.world_laws.specs.Replies.{is_settled}
+use Rattle.world_laws.proofs.Blinded.{Leaves, Suits, blind, leaves_objects, leaves_same, leaves_set, near_same, other}
 use Rattle.world_laws.proofs.StoreCalls.{Move, Refused, Moves}
 
 -- ---- what it does to the store
@@ -51,7 +53,7 @@ ended_return old new n (moved.Fault f) h = Moves place.Returning place.Far new.f
     (record { stands = h.0; fits = λ g. omega (arith, g); unscoped = λ e. absurd (cc); done = refl; told = λ k p. refl; is_unmade = refl; fault = λ k p e. (h.1, cc, cc) }) h.2
 ended_return old new n m h = refused place.Returning old new n m (reply.Home n) place.Far h
 
-pub store_move : (k : MoveKind) (old new : StoreState) (n : ℕ) (m : Moved) → answers.Moves k old n m new → Move old n (reply_to_move (moved_reply k n) (place_before k) n m) new
+pub store_move : (k : MoveKind) (old new : StoreState) (n : ℕ) (m : Moved) → MovesSo k old n m new → Move old n (reply_to_move (moved_reply k n) (place_before k) n m) new
 store_move move.Leave old new n m h = begun_leave old new n m h
 store_move move.Left old new n m h = ended_leave old new n m h
 store_move move.Return old new n m h = begun_return old new n m h
@@ -155,8 +157,8 @@ returned_leads old s t n m g h f p = refused_leads place.Returning old s t n m g
 pub record DecidedSo (k : MoveKind) : Type 0 where
   pub start : Place
   pub more : List Moved
-  pub first : MoveFirsts (answers.Moves k) start more
-  pub leads : MoveLeads (answers.Moves k)
+  pub first : MoveFirsts (MovesSo k) start more
+  pub leads : MoveLeads (MovesSo k)
 
 pub decided_so : (k : MoveKind) → DecidedSo k
 decided_so move.Leave = record { start = place.Here; more = moved.Scoped ∷ []; first = leave_first; leads = leave_leads }
@@ -176,20 +178,56 @@ Clears moves = (old new : StoreState) (n : ℕ) (told : Reply) (back : Place) (m
 pub frees_clears : Clears Frees
 frees_clears old new n told back m h t = grind arith
 
-begins_leave : Clears BeginsLeave
-begins_leave old new n told back m h t = grind arith
+pub clears : (k : MoveKind) → Clears (MovesSo k)
+clears k old new n told back m h t = grind arith
 
-ends_leave : Clears EndsLeave
-ends_leave old new n told back m h t = grind arith
+-- ---- the bytes of another object
 
-begins_return : Clears BeginsReturn
-begins_return old new n told back m h t = grind arith
+module _ (n : ℕ) (b : List ℕ) (k : ℕ) (h : k ≢ n) where
+  stands : (s : StoreState) (p : Place) → StandsAt p s k → StandsAt p (blind n b s) k
+  stands s p g = (subst (λ (y : List ℕ). 0 < length y) (sym (other s.objects n k b h)) g.0, g.1)
 
-ends_return : Clears (EndsReturn true)
-ends_return old new n told back m h t = grind arith
+  refused_blind : (p : Place) (old new : StoreState) (m : Moved) → RefusesMove p old k m new → RefusesMove p (blind n b old) k m (blind n b new) × Leaves n old new
+  refused_blind p old new moved.NoObject g = (((λ l. g.0 (subst (λ (y : List ℕ). 0 < length y) (other old.objects n k b h) l)), ap (blind n b) g.1), leaves_same n old new g.1)
+  refused_blind p old new (moved.Misplaced q) g = ((stands old q g.0, g.1, ap (blind n b) g.2), leaves_same n old new g.2)
+  refused_blind p old new _ g = absurd g
 
-pub clears : (k : MoveKind) → Clears (answers.Moves k)
-clears move.Leave = begins_leave
-clears move.Left = ends_leave
-clears move.Return = begins_return
-clears move.Returned = ends_return
+  pub frees_blind : (old new : StoreState) (m : Moved) → Suits n b old → Frees old k m new → Frees (blind n b old) k m (blind n b new) × Leaves n old new
+  frees_blind old new moved.Scoped f g = ((stands old place.Here g.0, g.1, ap (blind n b) g.2), leaves_same n old new g.2)
+  frees_blind old new moved.Done f g = (
+    (stands old place.Here g.0, g.1, g.2, ap (blind n b) g.3 ∙ ap (λ (os : List (List ℕ)). record old { objects = os; faults = new.faults }) (set_commutes old.objects k n [] b h)),
+    leaves_set n old new k [] h (ap (λ (s : StoreState). s.objects) g.3),
+  )
+  frees_blind old new m f g = refused_blind place.Here old new m g
+
+  leave_blind : (old new : StoreState) (m : Moved) → Suits n b old → BeginsLeave old k m new → BeginsLeave (blind n b old) k m (blind n b new) × Leaves n old new
+  leave_blind old new moved.Scoped f g = ((stands old place.Here g.0, g.1, ap (blind n b) g.2), leaves_same n old new g.2)
+  leave_blind old new moved.Done f g = ((stands old place.Here g.0, g.1, ap (blind n b) g.2), leaves_objects n old new (ap (λ (s : StoreState). s.objects) g.2))
+  leave_blind old new m f g = refused_blind place.Here old new m g
+
+  left_blind : (old new : StoreState) (m : Moved) → Suits n b old → EndsLeave old k m new → EndsLeave (blind n b old) k m (blind n b new) × Leaves n old new
+  left_blind old new (moved.Fault e) f g = ((stands old place.Leaving g.0, g.1, ap (blind n b) g.2), leaves_objects n old new (ap (λ (s : StoreState). s.objects) g.2))
+  left_blind old new moved.Done f g = ((stands old place.Leaving g.0, g.1, ap (blind n b) g.2), leaves_objects n old new (ap (λ (s : StoreState). s.objects) g.2))
+  left_blind old new m f g = refused_blind place.Leaving old new m g
+
+  return_blind : (old new : StoreState) (m : Moved) → Suits n b old → BeginsReturn old k m new → BeginsReturn (blind n b old) k m (blind n b new) × Leaves n old new
+  return_blind old new moved.NoRoom f g =
+      let x = near_same old.objects old.places n b f.long in
+      let y = ap length (other old.objects n k b h) in
+      ((stands old place.Far g.0, (λ r. g.1 (omega (arith, x, y, r))), ap (blind n b) g.2), leaves_same n old new g.2)
+  return_blind old new moved.Done f g =
+      let x = near_same old.objects old.places n b f.long in
+      let y = ap length (other old.objects n k b h) in
+      ((stands old place.Far g.0, omega (arith, x, y, g.1), ap (blind n b) g.2), leaves_objects n old new (ap (λ (s : StoreState). s.objects) g.2))
+  return_blind old new m f g = refused_blind place.Far old new m g
+
+  returned_blind : (old new : StoreState) (m : Moved) → Suits n b old → EndsReturn true old k m new → EndsReturn true (blind n b old) k m (blind n b new) × Leaves n old new
+  returned_blind old new (moved.Fault e) f g = ((stands old place.Returning g.0, g.1, ap (blind n b) g.2), leaves_objects n old new (ap (λ (s : StoreState). s.objects) g.2))
+  returned_blind old new moved.Done f g = ((stands old place.Returning g.0, ap (blind n b) g.1), leaves_objects n old new (ap (λ (s : StoreState). s.objects) g.1))
+  returned_blind old new m f g = refused_blind place.Returning old new m g
+
+  pub moves_blind : (kind : MoveKind) (old new : StoreState) (m : Moved) → Suits n b old → MovesSo kind old k m new → MovesSo kind (blind n b old) k m (blind n b new) × Leaves n old new
+  moves_blind move.Leave old new m f g = leave_blind old new m f g
+  moves_blind move.Left old new m f g = left_blind old new m f g
+  moves_blind move.Return old new m f g = return_blind old new m f g
+  moves_blind move.Returned old new m f g = returned_blind old new m f g

@@ -2,6 +2,7 @@ pub mod Machines
 pub mod Replying
 pub mod Answered
 pub mod StoreCalls
+pub mod Blinded
 pub mod EachMove
 pub mod Sorts
 pub mod Refusals

@@ -12,9 +12,10 @@ use Rattle.world.specs.declared.replies.Reply.{Reply}
 use Rattle.world.specs.declared.replies.Reply.TheVariants.{Made, Freed, Done, Bytes, NoMemory, Full, NoRoom, Outside, Away}
 use Rattle.world.specs.declared.events.ObjectCommand.{ObjectCommand}
 use Rattle.world.specs.declared.events.ObjectCommand.TheVariants.{Free, Put, Get, Move}
-use Rattle.world.specs.declared.events.Move.{Move as MoveKind}
+use Rattle.world.specs.declared.world.moving.Move.{Move as MoveKind}
 use Rattle.world.specs.WorldState.{WorldState}
-use Rattle.world.specs.Answers.{AnswersMake, AnswersPut, AnswersGet, AnswersMove, AnswersObject, Moves, moved_reply, place_before, reply_to_move}
+use Rattle.world.specs.Answers.{AnswersMake, AnswersPut, AnswersGet, AnswersMove, AnswersObject, reply_to_move}
+use Rattle.world.specs.Moves.{Moves, moved_reply, place_before}
 use Rattle.world_laws.specs.Replies.{is_settled}
 use Rattle.world_laws.proofs.Deciding.{decides_once}
 use Rattle.world_laws.proofs.EachMove.{StoreMoves, MoveNeeds, MoveFirsts, MoveLeads, move_refusals, settles, frees_first, frees_leads, decided_so}

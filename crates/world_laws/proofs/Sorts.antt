@@ -32,10 +32,11 @@ use Rattle.world.specs.declared.events.Event.{Event}
 use Rattle.world.specs.declared.events.Event.TheVariants.{Make, Ship, Object, Machine}
 use Rattle.world.specs.declared.events.ObjectCommand.{ObjectCommand}
 use Rattle.world.specs.declared.events.ObjectCommand.TheVariants.{Free, Put, Get, Move as Moving}
-use Rattle.world.specs.declared.events.Move.{Move as MoveKind}
+use Rattle.world.specs.declared.world.moving.Move.{Move as MoveKind}
 use Rattle.world.specs.WorldState.{WorldState, machine_at, with_machine}
 use Rattle.world.specs.Machines.{AnswersMachine, Misses, Finds, reply_to_step, reply_to_show, reply_to_debug}
-use Rattle.world.specs.Answers.{Answers, AnswersMove, Moves as MovesSo, moved_reply, place_before, reply_to_move}
+use Rattle.world.specs.Answers.{Answers, AnswersMove, reply_to_move}
+use Rattle.world.specs.Moves.{Moves as MovesSo, moved_reply, place_before}
 use Rattle.world_laws.specs.Replies.{is_refusal, shipped_codes, code_of}
 use Rattle.world.proofs.Numbered.{with_same}
 use Rattle.world_laws.proofs.Replying.{step_replies}

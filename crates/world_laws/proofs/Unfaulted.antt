@@ -25,7 +25,8 @@ use Rattle.world.specs.declared.events.ObjectCommand.{ObjectCommand}
 use Rattle.world.specs.declared.events.ObjectCommand.TheVariants.{Free, Put, Get, Move}
 use Rattle.world.specs.WorldState.{WorldState}
 use Rattle.world.specs.Machines.{AnswersCommand, AnswersMachine}
-use Rattle.world.specs.Answers.{Answers, AnswersMake, AnswersObject, AnswersMove, AnswersGet, Moves, moved_reply, place_before}
+use Rattle.world.specs.Answers.{Answers, AnswersMake, AnswersObject, AnswersMove, AnswersGet}
+use Rattle.world.specs.Moves.{Moves, moved_reply, place_before}
 use Rattle.world_laws.specs.Replies.{is_settled, without_faults}
 use Rattle.world_laws.proofs.EachMove.{Clears, cleared, frees_clears, clears}
 

@@ -1,8 +1,8 @@
 -- Commands on other objects, and on machines without a grant, don't look at the bytes of an object.
-use Rattle.std.proofs.Common.{◌≡◌, ◌≢◌, ℕ, zero, suc, ◌+◌, ◌<◌, ◌≤◌, Bool, true, false, nat_eq, List, [], ◌∷◌, ◌++◌, length, replicate, set, All, Some, ◌⊎◌, inl, inr, refl, ap, sym, ◌∙◌, subst, length-append, arith}
+use Rattle.std.proofs.Common.{◌≡◌, ◌≢◌, ℕ, zero, suc, ◌<◌, Bool, true, false, nat_eq, List, [], ◌∷◌, ◌++◌, length, replicate, set, All, Some, ◌⊎◌, inl, inr, refl, ap, sym, ◌∙◌, subst, arith}
 use Rattle.std.specs.Prelude.{slice_get}
 use Rattle.std.proofs.Math.ListN.{length-set}
-use Rattle.std.proofs.lemmas.List.{set-append_left, get_or-set_other}
+use Rattle.std.proofs.lemmas.List.{set-append_left}
 use Rattle.std.proofs.lemmas.List.Elements.{All-head, All-tail}
 use Rattle.std.proofs.lemmas.Bool.Decides.{nat_tests}
 use Rattle.memory.specs.declared.access.Op.{Op}
@@ -11,15 +11,11 @@ use Rattle.memory.specs.declared.access.Reach.TheVariants as reach
 use Rattle.memory.specs.declared.deeds.Deed.TheVariants.{Reads, Writes}
 use Rattle.memory.specs.Access.{IsInside, answer, after, part}
 use Rattle.memory.specs.Deeds.{EndsInside, left_by}
-use Rattle.memory.specs.Objects.{bytes_of, with_bytes}
+use Rattle.memory.specs.Objects.{bytes_of}
 use Rattle.memory.proofs.Accesses.{set_commutes}
 use Rattle.scopes.specs.Windows.{noted}
-use Rattle.object_store.specs.Stores.{StoreState, store_memory, Touches, StandsAt, near_bytes, near_length, window_of}
-use Rattle.object_store.specs.Calls.{RefusesMove, Frees, BeginsLeave, EndsLeave, BeginsReturn, EndsReturn}
-use Rattle.placement.specs.declared.places.Place.{Place}
+use Rattle.object_store.specs.Stores.{StoreState, store_memory, Touches, window_of}
 use Rattle.placement.specs.declared.places.Place.TheVariants as place
-use Rattle.placement.specs.declared.places.Moved.{Moved}
-use Rattle.placement.specs.declared.places.Moved.TheVariants as moved
 use Rattle.machine.specs.Grants.{GrantState, is_granted}
 use Rattle.machine.specs.MachineState.{MachineState}
 use Rattle.machine.specs.Rows.{Request, MemoryAnswer, Outcome, asks}
@@ -43,81 +39,19 @@ use Rattle.world.specs.declared.events.Event.{Event}
 use Rattle.world.specs.declared.events.Event.TheVariants.{Make, Ship, Object, Machine}
 use Rattle.world.specs.declared.events.ObjectCommand.{ObjectCommand}
 use Rattle.world.specs.declared.events.ObjectCommand.TheVariants.{Free, Put, Get, Move}
-use Rattle.world.specs.declared.events.Move.{Move as MoveKind}
-use Rattle.world.specs.declared.events.Move.TheVariants as move
 use Rattle.world.specs.Run.{Runs}
 use Rattle.world.specs.WorldState.{WorldState, machine_at, with_machine}
 use Rattle.world.specs.Machines.{AnswersCommand, AnswersMachine}
-use Rattle.world.specs.Answers.{Answers, AnswersMake, AnswersShip, AnswersObject, AnswersPut, AnswersGet, Moves}
+use Rattle.world.specs.Answers.{Answers, AnswersMake, AnswersShip, AnswersObject, AnswersPut, AnswersGet}
 use Rattle.world_laws.specs.Confinement.{with_other, LacksGrant, KeepsOff, RunsAreConfined}
+use Rattle.world_laws.proofs.Blinded.{Leaves, Suits, blind, leaves_both, leaves_more, leaves_objects, leaves_same, leaves_set, near_same, other, suits_on}
+use Rattle.world_laws.proofs.EachMove.{frees_blind, moves_blind}
 use Rattle.world_laws.proofs.Machines.{found_once, found_set, other_machine}
-
--- ---- the bytes of one number
-
-abbrev blind : ℕ → List ℕ → StoreState → StoreState
-blind n b s = record s { objects = with_bytes s.objects n b }
-
--- as many bytes as the object has
-record Suits (n : ℕ) (b : List ℕ) (s : StoreState) : Type 0 where
-  there : n < length s.objects
-  long : length b ≡ length (bytes_of s.objects n)
-
-other : (os : List (List ℕ)) (n k : ℕ) (b : List ℕ) → k ≢ n → bytes_of (set os n b) k ≡ bytes_of os k
-other os n k b h = get_or-set_other os n k b [] h
 
 is_there : (os : List (List ℕ)) (n : ℕ) → 0 < length (bytes_of os n) → n < length os
 is_there [] n h = absurd (omega (arith, h))
 is_there (x ∷ xs) zero h = omega arith
 is_there (x ∷ xs) (suc n) h = let i = is_there xs n h in omega (arith, i)
-
-left_alone : (os : List (List ℕ)) (x : List ℕ) (n : ℕ) → n < length os → bytes_of (os ++ x ∷ []) n ≡ bytes_of os n
-left_alone [] x n h = absurd (omega (arith, h))
-left_alone (y ∷ ys) x zero h = refl
-left_alone (y ∷ ys) x (suc n) h = left_alone ys x n (omega (arith, h))
-
-near_alike : (p : Place) (a b : List ℕ) → length a ≡ length b → near_length p a ≡ near_length p b
-near_alike place.Far a b h = refl
-near_alike place.Here a b h = h
-near_alike place.Leaving a b h = h
-near_alike place.Returning a b h = h
-
-near_same : (os : List (List ℕ)) (ps : List Place) (n : ℕ) (b : List ℕ) → length b ≡ length (bytes_of os n) → near_bytes (set os n b) ps ≡ near_bytes os ps
-near_same [] ps n b h = refl
-near_same (o ∷ os) [] zero b h = refl
-near_same (o ∷ os) [] (suc n) b h = refl
-near_same (o ∷ os) (p ∷ ps) zero b h = ap (λ x. x + near_bytes os ps) (near_alike p b o h)
-near_same (o ∷ os) (p ∷ ps) (suc n) b h = ap (λ x. near_length p o + x) (near_same os ps n b h)
-
--- the object is left as it was, and no number is taken away
-record Leaves (n : ℕ) (old new : StoreState) : Type 0 where
-  bytes : bytes_of new.objects n ≡ bytes_of old.objects n
-  count : length old.objects ≤ length new.objects
-
-module _ (n : ℕ) (b : List ℕ) (old new : StoreState) where
-  suits_on : Suits n b old → Leaves n old new → Suits n b new
-  suits_on f l = record { there = omega (arith, f.there, l.count); long = f.long ∙ ap length (sym l.bytes) }
-
-module _ (n : ℕ) (old new : StoreState) where
-  leaves_objects : new.objects ≡ old.objects → Leaves n old new
-  leaves_objects e = record { bytes = ap (λ (x : List (List ℕ)). bytes_of x n) e; count = let l = ap length e in omega (arith, l) }
-
-  leaves_same : new ≡ old → Leaves n old new
-  leaves_same e = leaves_objects (ap (λ (s : StoreState). s.objects) e)
-
-  leaves_set : (k : ℕ) (c : List ℕ) → k ≢ n → new.objects ≡ set old.objects k c → Leaves n old new
-  leaves_set k c h e = record {
-    bytes = ap (λ (x : List (List ℕ)). bytes_of x n) e ∙ other old.objects k n c (λ t. h (sym t));
-    count = let l = ap length e in let m = length-set old.objects k c in omega (arith, l, m);
-  }
-
-  leaves_more : (x : List ℕ) → n < length old.objects → new.objects ≡ old.objects ++ x ∷ [] → Leaves n old new
-  leaves_more x h e = record {
-    bytes = ap (λ (y : List (List ℕ)). bytes_of y n) e ∙ left_alone old.objects x n h;
-    count = let l = ap length e in let m = length-append old.objects (x ∷ []) in omega (arith, l, m);
-  }
-
-leaves_both : (n : ℕ) (a b c : StoreState) → Leaves n a b → Leaves n b c → Leaves n a c
-leaves_both n a b c p q = record { bytes = q.bytes ∙ p.bytes; count = omega (arith, p.count, q.count) }
 
 -- ---- steps
 
@@ -270,54 +204,6 @@ shipped n is_ours old new start code _ l all h = absurd h
 -- ---- objects
 
 module _ (n : ℕ) (b : List ℕ) (k : ℕ) (h : k ≢ n) where
-  stands : (s : StoreState) (p : Place) → StandsAt p s k → StandsAt p (blind n b s) k
-  stands s p g = (subst (λ (y : List ℕ). 0 < length y) (sym (other s.objects n k b h)) g.0, g.1)
-
-  refused : (p : Place) (old new : StoreState) (m : Moved) → RefusesMove p old k m new → RefusesMove p (blind n b old) k m (blind n b new) × Leaves n old new
-  refused p old new moved.NoObject g = (((λ l. g.0 (subst (λ (y : List ℕ). 0 < length y) (other old.objects n k b h) l)), ap (blind n b) g.1), leaves_same n old new g.1)
-  refused p old new (moved.Misplaced q) g = ((stands old q g.0, g.1, ap (blind n b) g.2), leaves_same n old new g.2)
-  refused p old new _ g = absurd g
-
-  frees : (old new : StoreState) (m : Moved) → Suits n b old → Frees old k m new → Frees (blind n b old) k m (blind n b new) × Leaves n old new
-  frees old new moved.Scoped f g = ((stands old place.Here g.0, g.1, ap (blind n b) g.2), leaves_same n old new g.2)
-  frees old new moved.Done f g = (
-    (stands old place.Here g.0, g.1, g.2, ap (blind n b) g.3 ∙ ap (λ (os : List (List ℕ)). record old { objects = os; faults = new.faults }) (set_commutes old.objects k n [] b h)),
-    leaves_set n old new k [] h (ap (λ (s : StoreState). s.objects) g.3),
-  )
-  frees old new m f g = refused place.Here old new m g
-
-  begins_leave : (old new : StoreState) (m : Moved) → Suits n b old → BeginsLeave old k m new → BeginsLeave (blind n b old) k m (blind n b new) × Leaves n old new
-  begins_leave old new moved.Scoped f g = ((stands old place.Here g.0, g.1, ap (blind n b) g.2), leaves_same n old new g.2)
-  begins_leave old new moved.Done f g = ((stands old place.Here g.0, g.1, ap (blind n b) g.2), leaves_objects n old new (ap (λ (s : StoreState). s.objects) g.2))
-  begins_leave old new m f g = refused place.Here old new m g
-
-  ends_leave : (old new : StoreState) (m : Moved) → Suits n b old → EndsLeave old k m new → EndsLeave (blind n b old) k m (blind n b new) × Leaves n old new
-  ends_leave old new (moved.Fault e) f g = ((stands old place.Leaving g.0, g.1, ap (blind n b) g.2), leaves_objects n old new (ap (λ (s : StoreState). s.objects) g.2))
-  ends_leave old new moved.Done f g = ((stands old place.Leaving g.0, g.1, ap (blind n b) g.2), leaves_objects n old new (ap (λ (s : StoreState). s.objects) g.2))
-  ends_leave old new m f g = refused place.Leaving old new m g
-
-  begins_return : (old new : StoreState) (m : Moved) → Suits n b old → BeginsReturn old k m new → BeginsReturn (blind n b old) k m (blind n b new) × Leaves n old new
-  begins_return old new moved.NoRoom f g =
-      let x = near_same old.objects old.places n b f.long in
-      let y = ap length (other old.objects n k b h) in
-      ((stands old place.Far g.0, (λ r. g.1 (omega (arith, x, y, r))), ap (blind n b) g.2), leaves_same n old new g.2)
-  begins_return old new moved.Done f g =
-      let x = near_same old.objects old.places n b f.long in
-      let y = ap length (other old.objects n k b h) in
-      ((stands old place.Far g.0, omega (arith, x, y, g.1), ap (blind n b) g.2), leaves_objects n old new (ap (λ (s : StoreState). s.objects) g.2))
-  begins_return old new m f g = refused place.Far old new m g
-
-  ends_return : (old new : StoreState) (m : Moved) → Suits n b old → EndsReturn true old k m new → EndsReturn true (blind n b old) k m (blind n b new) × Leaves n old new
-  ends_return old new (moved.Fault e) f g = ((stands old place.Returning g.0, g.1, ap (blind n b) g.2), leaves_objects n old new (ap (λ (s : StoreState). s.objects) g.2))
-  ends_return old new moved.Done f g = ((stands old place.Returning g.0, ap (blind n b) g.1), leaves_objects n old new (ap (λ (s : StoreState). s.objects) g.1))
-  ends_return old new m f g = refused place.Returning old new m g
-
-  moves : (kind : MoveKind) (old new : StoreState) (m : Moved) → Suits n b old → Moves kind old k m new → Moves kind (blind n b old) k m (blind n b new) × Leaves n old new
-  moves move.Leave old new m f g = begins_leave old new m f g
-  moves move.Left old new m f g = ends_leave old new m f g
-  moves move.Return old new m f g = begins_return old new m f g
-  moves move.Returned old new m f g = ends_return old new m f g
-
   put : (o : ℕ) (c : List ℕ) (old new : WorldState) (r : Reply) → AnswersPut old k o c r new → AnswersPut (with_other n b old) k o c r (with_other n b new) × Leaves n old.store new.store
   put o c old new Outside g = (
     (((λ i. g.0.0 (subst (λ (y : List ℕ). EndsInside (Reads o (length c)) (length y)) (other old.store.objects n k b h) i)), ap (blind n b) g.0.1), ap (with_other n b) g.1),
@@ -350,10 +236,10 @@ module _ (n : ℕ) (b : List ℕ) (k : ℕ) (h : k ≢ n) where
   object : (c : ObjectCommand) (old new : WorldState) (r : Reply) → Suits n b old.store → AnswersObject old k c r new
       → AnswersObject (with_other n b old) k c r (with_other n b new) × Leaves n old.store new.store × (new.machines ≡ old.machines)
   object Free old new r f g =
-      let d = frees old.store new.store g.moved f g.move in
+      let d = frees_blind n b k h old.store new.store g.moved f g.move in
       (record { moved = g.moved; move = d.0; told = g.told; changed = ap (with_other n b) g.changed }, d.1, ap (λ (w : WorldState). w.machines) g.changed)
   object (Move kind) old new r f g =
-      let d = moves kind old.store new.store g.moved f g.move in
+      let d = moves_blind n b k h kind old.store new.store g.moved f g.move in
       (record { moved = g.moved; move = d.0; told = g.told; changed = ap (with_other n b) g.changed }, d.1, ap (λ (w : WorldState). w.machines) g.changed)
   object (Put o c) old new r f g = let d = put o c old new r g in (d.0, d.1, put_machines r g)
     where

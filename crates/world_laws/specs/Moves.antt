@@ -7,7 +7,7 @@ use Rattle.world.specs.Run.{Runs}
 use Rattle.world.specs.declared.events.Event.{Event}
 use Rattle.world.specs.declared.events.Event.TheVariants.{Object}
 use Rattle.world.specs.declared.events.ObjectCommand.TheVariants as object
-use Rattle.world.specs.declared.events.Move.{Move}
+use Rattle.world.specs.declared.world.moving.Move.{Move}
 use Rattle.world.specs.WorldState.{WorldState, world_start}
 use Rattle.world.specs.Answers.{Answers}
 use Rattle.world.specs.Places.{place_after}

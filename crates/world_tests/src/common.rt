@@ -40,14 +40,8 @@ pub enum Say {
     Put(u32, u32, &'static [u8]),
     /// So many bytes of an object, the last number, from an offset on.
     Get(u32, u32, u32),
-    /// An object begins to leave.
-    Leave(u32),
-    /// An object is put in the far store.
-    Left(u32),
-    /// An object begins to return.
-    Return(u32),
-    /// An object is got from the far store.
-    Home(u32),
+    /// An object moves, or its move ends.
+    Move(u32, Move),
     /// One step.
     Step(usize),
     /// One step, paused or not.
@@ -140,10 +134,7 @@ fn event(alloc: Global, say: Say) -> Result<Event, AllocError> {
         Say::Get(number, offset, length) => {
             Ok(object(number, ObjectCommand::Get { offset, length }))
         }
-        Say::Leave(number) => Ok(object(number, ObjectCommand::Move(Move::Leave))),
-        Say::Left(number) => Ok(object(number, ObjectCommand::Move(Move::Left))),
-        Say::Return(number) => Ok(object(number, ObjectCommand::Move(Move::Return))),
-        Say::Home(number) => Ok(object(number, ObjectCommand::Move(Move::Returned))),
+        Say::Move(number, kind) => Ok(object(number, ObjectCommand::Move(kind))),
         Say::Step(number) => Ok(machine(number, MachineCommand::Step(Way::Step))),
         Say::One(number) => Ok(machine(number, MachineCommand::Step(Way::One))),
         Say::Show(number, command) => Ok(machine(number, MachineCommand::Show(command))),

@@ -10,7 +10,7 @@ use std::cell::Cell;
 use std::process::Abort;
 use std::rc::Rc;
 use std::test::Fail;
-use world::{Place, World};
+use world::{Move, Place, World};
 
 /// `acmpxchg [r1], r2`, which finds no 0 where R0 is 1.
 const EXCHANGE: u64 = 0xdb21_0000_f100_0000;
@@ -24,10 +24,10 @@ fn failing(alloc: Global, call: u64) -> Result<World<Failing<OwnStore>>, AllocEr
 
 const NOT_SENT: &[(Say, Told)] = &[
     (Say::Make(1), Told::Made(1)),
-    (Say::Leave(1), Told::Leaving(1)),
-    (Say::Left(1), Told::Faulted(1, Place::Here)),
-    (Say::Leave(1), Told::Leaving(1)),
-    (Say::Left(1), Told::Left(1)),
+    (Say::Move(1, Move::Leave), Told::Leaving(1)),
+    (Say::Move(1, Move::Left), Told::Faulted(1, Place::Here)),
+    (Say::Move(1, Move::Leave), Told::Leaving(1)),
+    (Say::Move(1, Move::Left), Told::Left(1)),
 ];
 
 #[test]
@@ -39,12 +39,12 @@ fn an_object_that_cannot_leave_is_here(rt: HostRuntime) -> Result<(), Fail> {
 const NOT_FETCHED: &[(Say, Told)] = &[
     (Say::Make(2), Told::Made(1)),
     (Say::Put(1, 0, &[8, 9]), Told::Done),
-    (Say::Leave(1), Told::Leaving(1)),
-    (Say::Left(1), Told::Left(1)),
-    (Say::Return(1), Told::Returning(1)),
-    (Say::Home(1), Told::Faulted(1, Place::Far)),
-    (Say::Return(1), Told::Returning(1)),
-    (Say::Home(1), Told::Home(1)),
+    (Say::Move(1, Move::Leave), Told::Leaving(1)),
+    (Say::Move(1, Move::Left), Told::Left(1)),
+    (Say::Move(1, Move::Return), Told::Returning(1)),
+    (Say::Move(1, Move::Returned), Told::Faulted(1, Place::Far)),
+    (Say::Move(1, Move::Return), Told::Returning(1)),
+    (Say::Move(1, Move::Returned), Told::Home(1)),
     (Say::Get(1, 0, 2), Told::Bytes(&[8, 9])),
 ];
 
@@ -61,18 +61,18 @@ const TRAVELLED: &[(Say, Told)] = &[
         Say::Ship(10, [FIRST, 5, 0, 0, 0], &[ONE, EXCHANGE, EXIT]),
         Told::Shipped(1),
     ),
-    (Say::Leave(1), Told::Leaving(1)),
-    (Say::Left(1), Told::Left(1)),
-    (Say::Return(1), Told::Returning(1)),
-    (Say::Home(1), Told::Home(1)),
+    (Say::Move(1, Move::Leave), Told::Leaving(1)),
+    (Say::Move(1, Move::Left), Told::Left(1)),
+    (Say::Move(1, Move::Return), Told::Returning(1)),
+    (Say::Move(1, Move::Returned), Told::Home(1)),
 ];
 
 /// It is once more.
 const AGAIN: &[(Say, Told)] = &[
-    (Say::Leave(1), Told::Leaving(1)),
-    (Say::Left(1), Told::Left(1)),
-    (Say::Return(1), Told::Returning(1)),
-    (Say::Home(1), Told::Home(1)),
+    (Say::Move(1, Move::Leave), Told::Leaving(1)),
+    (Say::Move(1, Move::Left), Told::Left(1)),
+    (Say::Move(1, Move::Return), Told::Returning(1)),
+    (Say::Move(1, Move::Returned), Told::Home(1)),
 ];
 
 /// How often an object was put in the far store that was away, met this, and was away again.

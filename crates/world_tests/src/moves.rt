@@ -3,7 +3,7 @@
 use crate::common::{EXIT, FIRST, Say, Told, new_tells, tells, world_within};
 use machine::Stop;
 use std::test::Fail;
-use world::Place;
+use world::{Move, Place};
 
 /// `aadd [r1], r2`
 const ADD: u64 = 0xdb21_0000_0000_0000;
@@ -25,19 +25,19 @@ const HELD: &[(Say, Told)] = &[
         Told::Shipped(2),
     ),
     (Say::Step(1), Told::Ran(1, 1)),
-    (Say::Leave(1), Told::Scoped(1)),
-    (Say::Left(1), Told::Misplaced(1, Place::Here)),
+    (Say::Move(1, Move::Leave), Told::Scoped(1)),
+    (Say::Move(1, Move::Left), Told::Misplaced(1, Place::Here)),
     (Say::Step(2), Told::Ran(2, 1)),
     (Say::Step(2), Told::Ran(2, 2)),
     (Say::Step(1), Told::Ran(1, 2)),
     (Say::Step(1), Told::Stopped(1, Stop::Exit(0))),
-    (Say::Leave(1), Told::Scoped(1)),
+    (Say::Move(1, Move::Leave), Told::Scoped(1)),
     (Say::Step(2), Told::Stopped(2, Stop::Exit(0))),
-    (Say::Leave(1), Told::Leaving(1)),
+    (Say::Move(1, Move::Leave), Told::Leaving(1)),
     (Say::Get(1, 0, 8), Told::Away(1)),
-    (Say::Left(1), Told::Left(1)),
-    (Say::Return(1), Told::Returning(1)),
-    (Say::Home(1), Told::Home(1)),
+    (Say::Move(1, Move::Left), Told::Left(1)),
+    (Say::Move(1, Move::Return), Told::Returning(1)),
+    (Say::Move(1, Move::Returned), Told::Home(1)),
     (Say::Get(1, 0, 8), Told::Bytes(&[4, 0, 0, 0, 0, 0, 0, 0])),
 ];
 
@@ -54,14 +54,14 @@ const WAITING: &[(Say, Told)] = &[
         Told::Shipped(1),
     ),
     (Say::Step(1), Told::Ran(1, 1)),
-    (Say::Leave(1), Told::Scoped(1)),
+    (Say::Move(1, Move::Leave), Told::Scoped(1)),
     (Say::Step(1), Told::Ran(1, 2)),
-    (Say::Leave(1), Told::Leaving(1)),
+    (Say::Move(1, Move::Leave), Told::Leaving(1)),
     (Say::Step(1), Told::Waiting(1, 1)),
-    (Say::Left(1), Told::Left(1)),
+    (Say::Move(1, Move::Left), Told::Left(1)),
     (Say::Step(1), Told::Waiting(1, 1)),
-    (Say::Return(1), Told::Returning(1)),
-    (Say::Home(1), Told::Home(1)),
+    (Say::Move(1, Move::Return), Told::Returning(1)),
+    (Say::Move(1, Move::Returned), Told::Home(1)),
     (Say::Step(1), Told::Ran(1, 3)),
 ];
 
@@ -98,15 +98,15 @@ const FIVE: &[(Say, Told)] = &[
     (Say::Step(1), Told::Ran(1, 3)),
     (Say::Step(1), Told::Ran(1, 4)),
     (Say::Step(1), Told::Ran(1, 5)),
-    (Say::Leave(1), Told::Leaving(1)),
-    (Say::Leave(2), Told::Scoped(2)),
+    (Say::Move(1, Move::Leave), Told::Leaving(1)),
+    (Say::Move(2, Move::Leave), Told::Scoped(2)),
     (Say::Step(1), Told::Stopped(1, Stop::Exit(0))),
-    (Say::Leave(2), Told::Leaving(2)),
-    (Say::Return(3), Told::Misplaced(3, Place::Here)),
+    (Say::Move(2, Move::Leave), Told::Leaving(2)),
+    (Say::Move(3, Move::Return), Told::Misplaced(3, Place::Here)),
     (Say::Free(1), Told::Misplaced(1, Place::Leaving)),
     (Say::Free(3), Told::Freed(3)),
     (Say::Get(3, 0, 1), Told::Outside),
-    (Say::Leave(3), Told::Missing),
+    (Say::Move(3, Move::Leave), Told::Missing),
 ];
 
 #[test]
@@ -119,15 +119,18 @@ fn a_fifth_object_pushes_out_the_first(rt: HostRuntime) -> Result<(), Fail> {
 const ROOM: &[(Say, Told)] = &[
     (Say::Make(8), Told::Made(1)),
     (Say::Make(1), Told::NoRoom),
-    (Say::Leave(1), Told::Leaving(1)),
+    (Say::Move(1, Move::Leave), Told::Leaving(1)),
     (Say::Make(1), Told::NoRoom),
-    (Say::Left(1), Told::Left(1)),
+    (Say::Move(1, Move::Left), Told::Left(1)),
     (Say::Make(1), Told::Made(2)),
-    (Say::Return(1), Told::NoRoom),
+    (Say::Move(1, Move::Return), Told::NoRoom),
     (Say::Free(2), Told::Freed(2)),
-    (Say::Return(1), Told::Returning(1)),
+    (Say::Move(1, Move::Return), Told::Returning(1)),
     (Say::Make(1), Told::NoRoom),
-    (Say::Leave(1), Told::Misplaced(1, Place::Returning)),
+    (
+        Say::Move(1, Move::Leave),
+        Told::Misplaced(1, Place::Returning),
+    ),
 ];
 
 #[test]
@@ -138,11 +141,14 @@ fn an_object_returns_where_there_is_room(rt: HostRuntime) -> Result<(), Fail> {
 
 const AWAY: &[(Say, Told)] = &[
     (Say::Make(2), Told::Made(1)),
-    (Say::Leave(1), Told::Leaving(1)),
+    (Say::Move(1, Move::Leave), Told::Leaving(1)),
     (Say::Put(1, 1, &[7]), Told::Away(1)),
     (Say::Put(1, 1, &[7, 7]), Told::Outside),
     (Say::Get(1, 0, 3), Told::Outside),
-    (Say::Home(1), Told::Misplaced(1, Place::Leaving)),
+    (
+        Say::Move(1, Move::Returned),
+        Told::Misplaced(1, Place::Leaving),
+    ),
 ];
 
 #[test]

@@ -5,7 +5,7 @@ use crate::compared::same;
 use far_store::FarStore;
 use machine::Stop;
 use std::test::Fail;
-use world::{PartsError, World, WorldParts};
+use world::{Move, PartsError, World, WorldParts};
 
 /// What a world left.
 #[derive(Clone, Copy, Drop, Debug, PartialEq, Eq)]
@@ -78,7 +78,7 @@ fn machines_and_bytes_stay(rt: HostRuntime) -> Result<(), Fail> {
 
 const LEAVING: &[(Say, Told)] = &[
     (Say::Make(2), Told::Made(1)),
-    (Say::Leave(1), Told::Leaving(1)),
+    (Say::Move(1, Move::Leave), Told::Leaving(1)),
 ];
 
 #[test]

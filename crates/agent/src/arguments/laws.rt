@@ -1,4 +1,6 @@
 //! What the command line takes, apart from any call.
+#![tactic(auto, unfolding(clap::proofs::OnLiterals::clap_on_literals))]
+
 ghost use Rattle.std.specs.Prelude.{◌≡◌, ◌≢◌, [], ◌∷◌, None, Some, codes, true, false};
 ghost use Rattle.agent.specs.CommandLine.{budget_limit, budget_limit_text, far_of, faults_of, port_limit, task_of};
 ghost use Rattle.agent.specs.Laws.{RightArgumentsNameATask, all_of_serve, far_serving, plain_serving};
