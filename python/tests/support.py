@@ -33,6 +33,8 @@ SECONDS = 180.0
 PROMPT = "(bpfagent) "
 # What the debugger shows when an interrupt gives up the line that was typed.
 GIVEN_UP = "^C (quit leaves the debugger)"
+# What ends the debugger.
+SIGNALS = (signal.SIGTERM, signal.SIGHUP)
 # Find 7, which is there with 40, and then 8, when only the first pair counts.
 TABLE = [str(DEBUG / "table.c"), f"@{DEBUG / 'table.object'}", "7"]
 
@@ -51,6 +53,12 @@ uint64_t program(volatile uint64_t *count)
     return last;
 }
 """
+
+
+def with_signals(case: unittest.TestCase) -> None:
+    """What the test starts hears these signals, also where the test itself ignores them, as under nohup."""
+    for number in SIGNALS:
+        case.addCleanup(signal.signal, number, signal.signal(number, signal.SIG_DFL))
 
 
 def has_elftools() -> bool:

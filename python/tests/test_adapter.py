@@ -14,7 +14,7 @@ from typing import Any
 
 from bpfagent import patiently
 from bpfagent.agent import pauses
-from support import DEBUG, DEBUGGER, ENDLESS, PROGRAM, SECONDS, TABLE, changes, editor_module, endless_service, needs_debugger, program_of
+from support import DEBUG, DEBUGGER, ENDLESS, PROGRAM, SECONDS, SIGNALS, TABLE, changes, editor_module, endless_service, needs_debugger, program_of, with_signals
 
 Body = dict[str, Any]
 SOURCE = {"path": str(DEBUG / "table.c")}
@@ -311,7 +311,8 @@ class Sessions(unittest.TestCase):
         """A signal that ends the debugger leaves the machines of a service as a disconnection does."""
         path = self.folder / "endless.c"
         path.write_text(ENDLESS)
-        for number in (signal.SIGTERM, signal.SIGHUP):
+        with_signals(self)
+        for number in SIGNALS:
             with endless_service(path) as service:
                 other = service.connect(SECONDS)
                 editor = editor_module().Editor([*DEBUGGER, "--dap"], is_quiet=True)

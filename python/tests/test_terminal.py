@@ -12,7 +12,7 @@ import unittest
 import bpfagent
 from bpfagent import Service, patiently
 from bpfagent.debug.main import main
-from support import DEBUGGER, ENDLESS, PROGRAM, ROOT, SECONDS, TABLE, Pseudoterminal, changes, endless_service, needs_debugger, usage_of
+from support import DEBUGGER, ENDLESS, PROGRAM, ROOT, SECONDS, SIGNALS, TABLE, Pseudoterminal, changes, endless_service, needs_debugger, usage_of, with_signals
 
 DEEP = """#include "bpfagent.h"
 CALLED uint64_t sum(uint64_t n)
@@ -216,7 +216,8 @@ class Sessions(unittest.TestCase):
         command waits."""
         at_once = ["break more", "continue"]
         never = ["break more if *count == 0", "continue"]
-        for number in (signal.SIGTERM, signal.SIGHUP):
+        with_signals(self)
+        for number in SIGNALS:
             for commands in (at_once, never):
                 with endless_service(pathlib.Path(self.source(ENDLESS))) as service:
                     other = service.connect(SECONDS)
