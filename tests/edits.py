@@ -21,6 +21,10 @@ from lib.sources import ROOT, crates
 # Outside the repository, since `rt ci` refuses a second crates.txt below it. What its checks have kept stays there.
 COPY = pathlib.Path(tempfile.gettempdir()) / f"bpfagent-edits-{os.getuid()}-{hashlib.sha256(bytes(ROOT)).hexdigest()[:8]}"
 TRIED = "TRIED"
+COMMENT = re.compile(r"^\s*(?:--|//).*\n", re.MULTILINE)
+IMPORT = re.compile(r"^(.*\buse [^{\n]*)\{([^{}]*)\};?$", re.MULTILINE)
+TEXT = re.compile(r'("(?:[^"\\\n]|\\.)*")')
+LAST = re.compile(r"[,;]([)}\]])")
 SAID = re.compile(r"rt: must-fail (\w+)/(\S+\.edit): (refused|NOT REFUSED|BAD EDIT|NOT TRIED)")
 
 
@@ -32,6 +36,14 @@ def with_edits() -> list[str]:
     return [crate for crate in crates() if edits_of(crate)]
 
 
+def meaning(source: str) -> str:
+    """A source without what says nothing: comments, layout, the comma behind the last of a list, and whether imports stand in one line or in several."""
+    said = COMMENT.sub("", source)
+    apart = IMPORT.sub(lambda line: "".join(f"{line[1]}{name.strip()}\n" for name in line[2].split(",")), said)
+    joined = "".join(part if part.startswith('"') else re.sub(r"\s+", "", part) for part in TEXT.split(apart))
+    return LAST.sub(r"\1", joined)
+
+
 def checksum(folder: pathlib.Path, edits: str) -> str:
     """A sum of a crate's sources, and of the edits in this folder of it."""
     known = hashlib.sha256()
@@ -39,7 +51,7 @@ def checksum(folder: pathlib.Path, edits: str) -> str:
         for path in sorted((folder / part).rglob("*")):
             if path.suffix in (".rt", ".antt", ".edit"):
                 named = path.relative_to(folder / part).as_posix()
-                known.update(f"{'edits' if part == edits else part}/{named}\n".encode() + hashlib.sha256(path.read_bytes()).digest())
+                known.update(f"{'edits' if part == edits else part}/{named}\n".encode() + hashlib.sha256(meaning(path.read_text()).encode()).digest())
     return known.hexdigest()
 
 

@@ -32,7 +32,8 @@ not_true false h = refl
 -- a simple argument is not global
 pub not_global : (a : Arg) (rule : Rule) → rule.is_simple ≡ true → rule_of a ≡ rule → a.global ≡ false
 not_global a rule simple is = not_true a.global (is_last (is_empty a.overrides.items) (is_empty a.default_vals_ifs.items) (is_empty a.groups.items)
-    (not (is_some a.val_delim)) (not (is_some a.terminator)) (not a.allow_hyphen_values) (not a.allow_negative_numbers) (not a.require_equals) (not a.last) (not a.global)
+    (not (is_some a.val_delim)) (not (is_some a.terminator)) (not a.allow_hyphen_values) (not a.allow_negative_numbers)
+    (not a.require_equals) (not a.last) (not a.global)
     (ap (λ (r : Rule). r.is_simple) is ∙ simple))
 
 -- a command with one simple argument more
@@ -43,5 +44,6 @@ module _ (c : Command) (a : Arg) (app : App) (rule : Rule) (simple : rule.is_sim
       (adds.shape local ∙ ap₂ with_rule made.0 is, adds.globals ∙ ap₂ (λ x y. x || y) made.1 local)
 
   -- the last one
-  pub with_last : {E : Type 0} (r : Result Command E) → IfOk r (λ new. AddsArg c a new) → IfOk r (λ new. ((app_of new).top ≡ (with_rule app rule).top) × IsLocal new)
+  pub with_last : {E : Type 0} (r : Result Command E) → IfOk r (λ new. AddsArg c a new)
+      → IfOk r (λ new. ((app_of new).top ≡ (with_rule app rule).top) × IsLocal new)
   with_last r adds = IfOk-weaker r _ _ (λ new added. let made = with_arg new added in (ap (λ (a : App). a.top) made.0, made.1)) adds

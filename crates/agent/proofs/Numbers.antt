@@ -1,5 +1,6 @@
 -- Right arguments of a subcommand with options have, of each option that is a number and has a default, one that its parser takes.
-use Rattle.std.proofs.Common.{◌≡◌, ℕ, ◌<◌, ◌^◌, ◌==◌, Bool, true, false, not, ◌&&◌, ◌||◌, cond, List, [], ◌∷◌, ◌++◌, length, zero, suc, take, drop, Option, None, Some, is_some, subst, refl, sym, ap, ◌∙◌, codes, arith}
+use Rattle.std.proofs.Common.{◌≡◌, ℕ, ◌<◌, ◌^◌, ◌==◌, Bool, true, false, not, ◌&&◌, ◌||◌, cond, List, [], ◌∷◌, ◌++◌, length, zero, suc, take, drop, Option}
+use Rattle.std.proofs.Common.{None, Some, is_some, subst, refl, sym, ap, ◌∙◌, codes, arith}
 use Rattle.std.specs.Prelude.{find, fold, encode_utf8, nat_lt, option_and_then, slice_get}
 use Rattle.std.specs.Option.{option_map_or}
 use Rattle.std.specs.Str.{bytes_eq, chars}
@@ -9,9 +10,14 @@ use Rattle.clap.specs.Lexer.{long_of, short_of, without_minus}
 use Rattle.clap.specs.Kinds.{Kinds, or_else, range_kinds}
 use Rattle.clap.specs.Values.{Accepts}
 use Rattle.clap.specs.ValueTests.{accepts}
-use Rattle.clap.specs.Faults.{bundle_fault, bundle_step_fault, flag_word_fault, flags_fault, level_fault, long_fault, option_fault, react_fault, set_fault, short_fault, step_fault, use_fault, walk_fault, word_fault}
+use Rattle.clap.specs.Faults.{bundle_fault, bundle_step_fault, flag_word_fault, flags_fault, level_fault, long_fault, option_fault, react_fault, set_fault}
+use Rattle.clap.specs.Faults.{short_fault, step_fault, use_fault, walk_fault, word_fault}
 use Rattle.clap.specs.Simple.{Shape, filled, help_rule, new_shape}
-use Rattle.clap.specs.Walk.{Held, Outcome, Row, bundle, default_rows, flag_met, reading_by, takes_values, values_or_missing, with_values, has_long, has_short, long_or_other, more_values, row_text, Rule, Step, Text, Waiting, Walk, after_flag, after_step, arg_by_id, arg_by_index, arg_by_long, arg_by_short, attached_value, bundle_met, bundle_step, has_row, at_row, long_met, nothing_held, one_of, option_met, option_word, plain_word, reacted, rows_after, settled, settled_rows, to_positional, short_met, short_or_plain, used, used_by_id, walk, walk_from, walked, walked_from, with_default, without, word_met}
+use Rattle.clap.specs.Walk.{Held, Outcome, Row, bundle, default_rows, flag_met, reading_by, takes_values, values_or_missing, with_values, has_long, has_short}
+use Rattle.clap.specs.Walk.{long_or_other, more_values, row_text, Rule, Step, Text, Waiting, Walk, after_flag, after_step, arg_by_id, arg_by_index, arg_by_long}
+use Rattle.clap.specs.Walk.{arg_by_short, attached_value, bundle_met, bundle_step, has_row, at_row, long_met, nothing_held, one_of, option_met, option_word}
+use Rattle.clap.specs.Walk.{plain_word, reacted, rows_after, settled, settled_rows, to_positional, short_met, short_or_plain, used, used_by_id, walk, walk_from}
+use Rattle.clap.specs.Walk.{walked, walked_from, with_default, without, word_met}
 use Rattle.clap.specs.Walk.Outcome.{done, waits, plain, refused}
 use Rattle.clap.specs.Walk.Step.{next, trailing, subcommand, value}
 use Rattle.clap.specs.Walk.Waiting.{idle, option, positional}
@@ -97,7 +103,8 @@ module _ (opt : NumberOption) (own : bytes_eq opt.name opt.name ≡ true) (fine 
   is_accepted true k e = refl
   is_accepted false k e = absurd (cc)
 
-  one_wanted : (none one : Bool) (other others : Kinds) → or_else (cond (true && none) (kind.InvalidValue ∷ []) (cond true (cond one [] (kind.WrongNumberOfValues ∷ [])) other)) others ≡ [] → one ≡ true
+  one_wanted : (none one : Bool) (other others : Kinds)
+      → or_else (cond (true && none) (kind.InvalidValue ∷ []) (cond true (cond one [] (kind.WrongNumberOfValues ∷ [])) other)) others ≡ [] → one ≡ true
   one_wanted true one other others e = absurd (cc)
   one_wanted false true other others e = refl
   one_wanted false false other others e = absurd (cc)
@@ -118,7 +125,13 @@ module _ (opt : NumberOption) (own : bytes_eq opt.name opt.name ≡ true) (fine 
   sound_number (v ∷ []) rows g f =
       let none = not_repeated (has_row opt.name rows) (first_empty _ _ f) in
       let a = is_accepted (accepts false (number_parser opt.least opt.limit) v) _ (rest_empty _ _ f) in
-      rw (kept_without rows none, appended _ (new_row CommandLine v) own rows none) (record { text = v; others = []; values = refl; reading = refl; accepted = a })
+      rw (kept_without rows none, appended _ (new_row CommandLine v) own rows none) (record {
+        text = v;
+        others = [];
+        values = refl;
+        reading = refl;
+        accepted = a;
+      })
   sound_number (v ∷ w ∷ rest) rows g f =
       let one = one_value (length (v ∷ w ∷ rest)) (set_fault false number (v ∷ w ∷ rest) rows) f in
       absurd (omega (arith, one))
@@ -137,20 +150,26 @@ module _ (opt : NumberOption) (own : bytes_eq opt.name opt.name ≡ true) (fine 
     not_own : (r : Row) → bytes_eq r.id id ≡ true → is_number r ≡ false
     not_own r same = subst (λ t. bytes_eq t opt.name ≡ false) (sym ((bytes_eq-Decides r.id id).0 same)) other
 
-    kept_at : (b : Bool) (r : Row) (rows changed rest : List Row) → (b ≡ true → find is_number changed ≡ find is_number (r ∷ rows)) → find is_number rest ≡ find is_number rows
+    kept_at : (b : Bool) (r : Row) (rows changed rest : List Row) → (b ≡ true → find is_number changed ≡ find is_number (r ∷ rows))
+        → find is_number rest ≡ find is_number rows
         → find is_number (cond b changed (r ∷ rest)) ≡ find is_number (r ∷ rows)
     kept_at true r rows changed rest same more = same refl
     kept_at false r rows changed rest same more = ap (λ o. cond (is_number r) (Some r) o) more
 
     -- what changes the other's row leaves the number's
-    kept_over : (change : Row → List Row) (missing : List Row) → ((r : Row) (rows : List Row) → is_number r ≡ false → find is_number (change r ++ rows) ≡ find is_number (r ∷ rows))
+    kept_over : (change : Row → List Row) (missing : List Row)
+        → ((r : Row) (rows : List Row) → is_number r ≡ false → find is_number (change r ++ rows) ≡ find is_number (r ∷ rows))
         → find is_number missing ≡ None → (rows : List Row) → find is_number (at_row id change missing rows) ≡ find is_number rows
     kept_over change missing changes none [] = none
     kept_over change missing changes none (r ∷ rows) =
-        kept_at (bytes_eq r.id id) r rows (change r ++ rows) (at_row id change missing rows) (λ e. changes r rows (not_own r e)) (kept_over change missing changes none rows)
+        kept_at (bytes_eq r.id id) r rows (change r
+        ++ rows) (at_row id change missing rows) (λ e. changes r rows (not_own r e)) (kept_over change missing changes none rows)
 
-    kept_valued : (how : Reading) (s : ValueSource) (values : List Text) (rows : List Row) → find is_number (with_values id how s values rows) ≡ find is_number rows
-    kept_valued how s values rows = kept_over (more_values s values) (record { id = id; values = values; count = None; source = Some s; reading = how } ∷ []) (λ r rows no. missed (is_number r) _ (find is_number rows) no ∙ sym (missed (is_number r) (Some r) (find is_number rows) no)) (missed (bytes_eq id opt.name) _ None other) rows
+    kept_valued : (how : Reading) (s : ValueSource) (values : List Text) (rows : List Row)
+        → find is_number (with_values id how s values rows) ≡ find is_number rows
+    kept_valued how s values rows = kept_over (more_values s values) (record { id = id; values = values; count = None; source = Some s; reading = how }
+        ∷ []) (λ r rows no. missed (is_number r) _ (find is_number rows) no
+        ∙ sym (missed (is_number r) (Some r) (find is_number rows) no)) (missed (bytes_eq id opt.name) _ None other) rows
 
     kept_less : (rows : List Row) → find is_number (without id rows) ≡ find is_number rows
     kept_less rows = kept_over (λ _. []) [] (λ r rows no. sym (missed (is_number r) (Some r) (find is_number rows) no)) refl rows
@@ -173,12 +192,14 @@ module _ (opt : NumberOption) (own : bytes_eq opt.name opt.name ≡ true) (fine 
 
   -- another argument, which has the values of its last use
   pub fits_other : (a : Rule) → bytes_eq a.id opt.name ≡ false → a.index ≡ None
-      → ((values : List Text) (rows : List Row) → used a values rows ≡ with_values a.id (reading_by a) CommandLine (values_or_missing a values) (without a.id rows)) → Fits a
+      → ((values : List Text) (rows : List Row)
+      → used a values rows ≡ with_values a.id (reading_by a) CommandLine (values_or_missing a values) (without a.id rows)) → Fits a
   fits_other a other index last = record {
     sound = λ values rows g f. found_good _ _ (ap (λ rs. find is_number rs) (last values rows)
         ∙ (kept_valued a.id other (reading_by a) CommandLine (values_or_missing a values) (without a.id rows) ∙ kept_less a.id other rows)) g;
     index = index;
-    kept = λ rows. kept_either (has_row a.id rows) rows (default_rows a.id (reading_by a) a.defaults rows) (kept_default a.id other (reading_by a) a.defaults rows);
+    kept = λ rows. kept_either (has_row a.id rows) rows (default_rows a.id (reading_by a) a.defaults rows)
+        (kept_default a.id other (reading_by a) a.defaults rows);
   }
 
   pub fits_help : Fits help
@@ -210,7 +231,8 @@ module _ (opt : NumberOption) (own : bytes_eq opt.name opt.name ≡ true) (fine 
   among_at true P a o this others = this
   among_at false P a o this others = others
 
-  among_all : (P : Option Rule → Type 0) → P None → ((a : Rule) → Sound a → P (Some a)) → (test : Rule → Bool) (rules : List Rule) → AllFine rules → P (find test rules)
+  among_all : (P : Option Rule → Type 0) → P None → ((a : Rule) → Sound a → P (Some a)) → (test : Rule → Bool) (rules : List Rule)
+      → AllFine rules → P (find test rules)
   among_all P none some test [] fine = none
   among_all P none some test (a ∷ rules) fine = among_at (test a) P a (find test rules) (some a fine.0.0) (among_all P none some test rules fine.1)
 
@@ -225,11 +247,13 @@ module _ (opt : NumberOption) (own : bytes_eq opt.name opt.name ≡ true) (fine 
   -- none is known by its place
   no_positional : (i : ℕ) (rules : List Rule) → AllFine rules → find (λ (a : Rule). option_map_or (λ k. k == i) a.index false) rules ≡ None
   no_positional i [] fine = refl
-  no_positional i (a ∷ rules) fine = left_out (option_map_or (λ k. k == i) a.index false) a (find (λ (r : Rule). option_map_or (λ k. k == i) r.index false) rules) (no_index i a.index fine.0.1) (no_positional i rules fine.1)
+  no_positional i (a ∷ rules) fine = left_out (option_map_or (λ k. k == i) a.index false) a
+      (find (λ (r : Rule). option_map_or (λ k. k == i) r.index false) rules) (no_index i a.index fine.0.1) (no_positional i rules fine.1)
 
   -- ---- the defaults
 
-  found_first : (b : Bool) (r : Row) (o : Option Row) (others : Bool) → (others ≡ true → is_some o ≡ true) → (b || others) ≡ true → is_some (cond b (Some r) o) ≡ true
+  found_first : (b : Bool) (r : Row) (o : Option Row) (others : Bool) → (others ≡ true → is_some o ≡ true) → (b || others) ≡ true
+      → is_some (cond b (Some r) o) ≡ true
   found_first true r o others more e = refl
   found_first false r o others more e = more e
 
@@ -237,29 +261,34 @@ module _ (opt : NumberOption) (own : bytes_eq opt.name opt.name ≡ true) (fine 
   has_found [] has = absurd (cc)
   has_found (r ∷ rows) has = found_first (is_number r) r (find is_number rows) (has_row opt.name rows) (has_found rows) has
 
-  found_text : (o : Option Row) → IsGood o → is_some o ≡ true → (text : Text) × Accepts false (number_parser opt.least opt.limit) text × (option_and_then row_text o ≡ Some (without_minus text))
+  found_text : (o : Option Row) → IsGood o → is_some o ≡ true
+      → (text : Text) × Accepts false (number_parser opt.least opt.limit) text × (option_and_then row_text o ≡ Some (without_minus text))
   found_text None g some = absurd (cc)
   found_text (Some r) g some = (g.text, accepts-Accepts false (number_parser opt.least opt.limit) g.text g.accepted, rw (g.reading, g.values) refl)
 
   abbrev HasOwn : List Row → Type 0
   HasOwn rows = (text : Text) × Accepts false (number_parser opt.least opt.limit) text × (one_of opt.name rows ≡ Some (without_minus text))
 
-  own_good : (o p : Option Row) → o ≡ p → ((text : Text) × Accepts false (number_parser opt.least opt.limit) text × (option_and_then row_text p ≡ Some (without_minus text)))
+  own_good : (o p : Option Row) → o ≡ p → ((text : Text) × Accepts false (number_parser opt.least opt.limit) text
+      × (option_and_then row_text p ≡ Some (without_minus text)))
       → ((text : Text) × Accepts false (number_parser opt.least opt.limit) text × (option_and_then row_text o ≡ Some (without_minus text)))
-  own_good o p same has = subst (λ q. (text : Text) × Accepts false (number_parser opt.least opt.limit) text × (option_and_then row_text q ≡ Some (without_minus text))) (sym same) has
+  own_good o p same has = subst (λ q. (text : Text) × Accepts false (number_parser opt.least opt.limit) text
+      × (option_and_then row_text q ≡ Some (without_minus text))) (sym same) has
 
   -- the defaults of other arguments leave it
   has_still : (rules : List Rule) → AllFit rules → (rows : List Row) → HasOwn rows → HasOwn (fold with_default rows rules)
   has_still [] fit rows has = has
   has_still (a ∷ rules) fit rows has = has_still rules fit.1 (with_default rows a) (own_good _ _ (fit.0.kept rows) has)
 
-  number_there : (b : Bool) (rows : List Row) → has_row opt.name rows ≡ b → Good rows → HasOwn (cond b rows (default_rows opt.name WithoutMinus (opt.default ∷ []) rows))
+  number_there : (b : Bool) (rows : List Row) → has_row opt.name rows ≡ b → Good rows
+      → HasOwn (cond b rows (default_rows opt.name WithoutMinus (opt.default ∷ []) rows))
   number_there true rows has g = found_text _ g (has_found rows has)
   number_there false rows none g =
       let e = appended (more_values DefaultValue (opt.default ∷ [])) (new_row DefaultValue opt.default) own rows none in
       (opt.default, accepts-Accepts false (number_parser opt.least opt.limit) opt.default fine, rw e refl)
 
-  has_after : (before after : List Rule) → AllFit before → AllFit after → (rows : List Row) → Good rows → HasOwn (fold with_default rows (before ++ number ∷ after))
+  has_after : (before after : List Rule) → AllFit before → AllFit after → (rows : List Row) → Good rows
+      → HasOwn (fold with_default rows (before ++ number ∷ after))
   has_after [] after first others rows g = has_still after others (with_default rows number) (number_there (has_row opt.name rows) rows refl g)
   has_after (a ∷ before) after first others rows g = has_after before after first.1 others (with_default rows a) (found_good _ _ (first.0.kept rows) g)
 
@@ -281,7 +310,8 @@ module _ (opt : NumberOption) (own : bytes_eq opt.name opt.name ≡ true) (fine 
         among (λ a. bytes_eq a.id q.0) (λ o. option_map_or (λ a. use_fault false a q.1 rows) o [] ≡ [] → Good (used_by_id o q.1 rows))
         (λ _. g) (λ a sound. sound q.1 rows g) f
 
-    react_good : (a : Rule) → Sound a → (values : List Text) (h : Held) → Good h.rows → react_fault rules false a values h ≡ [] → Good (reacted rules a values h).rows
+    react_good : (a : Rule) → Sound a → (values : List Text) (h : Held) → Good h.rows → react_fault rules false a values h ≡ []
+        → Good (reacted rules a values h).rows
     react_good a sound values h g f = sound values (settled rules h).rows (settle_good h.pending h.rows g (first_empty _ _ f)) (rest_empty _ _ f)
 
     option_good : (a : Rule) → Sound a → (v : Option Text) (h : Held) → Good h.rows → option_fault rules false a v h ≡ [] → Good (option_met rules a v h).0.rows
@@ -297,7 +327,8 @@ module _ (opt : NumberOption) (own : bytes_eq opt.name opt.name ≡ true) (fine 
     long_at false a sound None h g f = react_good a sound [] h g f
     long_at false a sound (Some v) h g f = g
 
-    long_good : (name : Text) (v : Option Text) (h : Held) → Good h.rows → long_fault rules false (arg_by_long rules name) v h ≡ [] → Good (long_met rules (arg_by_long rules name) v h).0.rows
+    long_good : (name : Text) (v : Option Text) (h : Held) → Good h.rows → long_fault rules false (arg_by_long rules name) v h ≡ []
+        → Good (long_met rules (arg_by_long rules name) v h).0.rows
     long_good name v h g f =
         among (λ a. not (is_some a.index) && has_long a name) (λ o. long_fault rules false o v h ≡ [] → Good (long_met rules o v h).0.rows)
         (λ _. g) (λ a sound. long_at (takes_values a) a sound v h g) f
@@ -316,7 +347,8 @@ module _ (opt : NumberOption) (own : bytes_eq opt.name opt.name ≡ true) (fine 
         among (λ a. not (is_some a.index) && has_short a x) (λ o. short_fault rules false o rest h fault ≡ [] → Good (short_met rules o rest h met).0.rows)
         (λ _. g) (λ a sound. short_at (takes_values a) a sound (attached_value rest) h met fault more g) f
 
-    flag_step_good : (o : Option ℕ) (flags : Text) (skip : ℕ) (so_far : Outcome) (h : Held) (met : Text → ℕ → Outcome → Held → Held × Outcome) (fault : Text → ℕ → Held → Kinds)
+    flag_step_good : (o : Option ℕ) (flags : Text) (skip : ℕ) (so_far : Outcome) (h : Held) (met : Text → ℕ → Outcome → Held
+        → Held × Outcome) (fault : Text → ℕ → Held → Kinds)
         → ((rest : Text) (n : ℕ) (so : Outcome) (k : Held) → Good k.rows → fault rest n k ≡ [] → Good (met rest n so k).0.rows)
         → Good h.rows → bundle_step_fault rules false o flags skip h fault ≡ [] → Good (bundle_step rules o flags skip so_far h met).0.rows
     flag_step_good None flags skip so_far h met fault more g f = g
@@ -325,7 +357,8 @@ module _ (opt : NumberOption) (own : bytes_eq opt.name opt.name ≡ true) (fine 
         short_good x rest h (met rest 0 done) (fault rest 0) (more rest 0 done) g f
     flag_step_good (Some x) flags (suc skip) so_far h met fault more g f = more (drop (length (encode_utf8 x)) flags) skip so_far h g f
 
-    flags_good : (k : ℕ) (flags : Text) (skip : ℕ) (so_far : Outcome) (h : Held) → Good h.rows → flags_fault rules false k flags skip h ≡ [] → Good (bundle_met rules k flags skip so_far h).0.rows
+    flags_good : (k : ℕ) (flags : Text) (skip : ℕ) (so_far : Outcome) (h : Held) → Good h.rows → flags_fault rules false k flags skip h ≡ []
+        → Good (bundle_met rules k flags skip so_far h).0.rows
     unfolding bundle_met flags_fault
     flags_good zero flags skip so_far h g f = g
     flags_good (suc k) flags skip so_far h g f =
@@ -390,19 +423,23 @@ module _ (opt : NumberOption) (own : bytes_eq opt.name opt.name ≡ true) (fine 
 
     turn_good : (o : Option (Text × List Text)) (w : Walk) (word : Text) → Good w.held.rows
         → cond (is_some o) [] (or_else (word_fault (options_built title rules) [] w.is_trailing w.waiting word w.held)
-        (step_fault (options_built title rules) w.position (word_met rules [] w.is_trailing w.waiting w.position word w.held).0 (word_met rules [] w.is_trailing w.waiting w.position word w.held).1)) ≡ []
+        (step_fault (options_built title rules) w.position (word_met rules [] w.is_trailing w.waiting w.position word w.held).0
+        (word_met rules [] w.is_trailing w.waiting w.position word w.held).1)) ≡ []
         → Good (walked_from rules [] o w word).held.rows
     turn_good (Some p) w word g f = g
     turn_good None w word g f =
         let met = word_met rules [] w.is_trailing w.waiting w.position word w.held in
-        kept_good _ _ (ap (λ (h : Held). h.rows) (step_kept word w met.0 met.1)) (word_good w.is_trailing w.waiting w.position word w.held g (first_empty _ _ f))
+        kept_good _ _ (ap (λ (h : Held). h.rows) (step_kept word w met.0 met.1))
+        (word_good w.is_trailing w.waiting w.position word w.held g (first_empty _ _ f))
 
-    walk_good : (w : Walk) (words : List Text) → Good w.held.rows → walk_fault (options_built title rules) [] w words ≡ [] → Good (fold (walked rules []) w words).held.rows
+    walk_good : (w : Walk) (words : List Text) → Good w.held.rows → walk_fault (options_built title rules) [] w words ≡ []
+        → Good (fold (walked rules []) w words).held.rows
     unfolding walk_fault walked
     walk_good w [] g f = g
     walk_good w (word ∷ words) g f = walk_good (walked rules [] w word) words (turn_good w.stopped w word g (first_empty _ _ f)) (rest_empty _ _ f)
 
-    pub has_number : (bits : ℕ) → opt.limit < 2 ^ bits → (words : List Text) → level_fault (options_built title rules) [] nothing_held words false [] ≡ [] → HasNumber bits opt.name (rows_after rules [] words)
+    pub has_number : (bits : ℕ) → opt.limit < 2 ^ bits → (words : List Text) → level_fault (options_built title rules) [] nothing_held words false [] ≡ []
+        → HasNumber bits opt.name (rows_after rules [] words)
     has_number bits fits words f =
         let end = (walk rules [] nothing_held words).held in
         let g = walk_good (walk_from nothing_held) words tt (first_empty _ _ f) in
@@ -414,7 +451,8 @@ module _ (opt : NumberOption) (own : bytes_eq opt.name opt.name ≡ true) (fine 
 -- It has the values of its last use, and isn't known by its place.
 pub record IsPlain (a : Rule) : Type 0 where
   pub index : a.index ≡ None
-  pub last : (values : List Text) (rows : List Row) → used a values rows ≡ with_values a.id (reading_by a) CommandLine (values_or_missing a values) (without a.id rows)
+  pub last : (values : List Text) (rows : List Row)
+      → used a values rows ≡ with_values a.id (reading_by a) CommandLine (values_or_missing a values) (without a.id rows)
 
 abbrev pub ArePlain : List Rule → Type 0
 ArePlain [] = Unit {0}
@@ -454,8 +492,12 @@ module _ (opt : NumberOption) (own : bytes_eq opt.name opt.name ≡ true) (fine 
 
   -- right arguments of a subcommand with these options have the one at place k
   pub number_at : (bits : ℕ) → opt.limit < 2 ^ bits → (title : Text) (rules : List Rule) → ArePlain rules
-      → (k : ℕ) → none_named opt.name (take k rules) ≡ true → none_named opt.name (drop (suc k) rules) ≡ true → take k rules ++ filled (number_rule opt) ∷ (drop (suc k) rules ++ help ∷ []) ≡ rules ++ help ∷ []
-      → (words : List Text) → level_fault (options_built title (rules ++ help ∷ [])) [] nothing_held words false [] ≡ [] → HasNumber bits opt.name (rows_after (rules ++ help ∷ []) [] words)
+      → (k : ℕ) → none_named opt.name (take k rules) ≡ true → none_named opt.name (drop (suc k) rules) ≡ true
+      → take k rules ++ filled (number_rule opt) ∷ (drop (suc k) rules ++ help ∷ []) ≡ rules ++ help ∷ []
+      → (words : List Text) → level_fault (options_built title (rules ++ help ∷ [])) [] nothing_held words false [] ≡ []
+      → HasNumber bits opt.name (rows_after (rules ++ help ∷ []) [] words)
   number_at bits fits title rules are k before after same words f =
-      subst (λ (all : List Rule). level_fault (options_built title all) [] nothing_held words false [] ≡ [] → HasNumber bits opt.name (rows_after all [] words)) same
-      (has_number opt own fine title (take k rules) (drop (suc k) rules ++ help ∷ []) (fit _ (first_plain k rules are) before) (with_help _ (fit _ (last_plain (suc k) rules are) after)) bits fits words) f
+      subst (λ (all : List Rule). level_fault (options_built title all) [] nothing_held words false [] ≡ []
+      → HasNumber bits opt.name (rows_after all [] words)) same
+      (has_number opt own fine title (take k rules) (drop (suc k) rules
+      ++ help ∷ []) (fit _ (first_plain k rules are) before) (with_help _ (fit _ (last_plain (suc k) rules are) after)) bits fits words) f

@@ -19,7 +19,8 @@ only_memory [] error right (inr among) = absurd among
 only_memory (k ∷ kinds) error right has = absurd (cc)
 
 -- there was no memory, whatever the input is: `work` says what is left, and `reports` what is told
-pub reported_over : (given : Option (List ℕ)) (kinds : Kinds) (error : Error) (out_before out_after before after : Option (List ℕ)) (status : ExitStatus) (number : ℕ)
+pub reported_over : (given : Option (List ℕ)) (kinds : Kinds) (error : Error) (out_before out_after before after : Option (List ℕ))
+    (status : ExitStatus) (number : ℕ)
     → kinds ≡ [] → HasKind kinds error → Shows (kind_of error) out_before out_after before after status → number ≡ status_number status
     → (work : List ℕ → Result ⊤ Failure → Type 0) (reports : List ℕ → Result ⊤ Failure → ExitStatus → Type 0)
     → ((input : List ℕ) → Keeps (Some input) given → Keeps out_before out_after → work input (Err NoMemory))

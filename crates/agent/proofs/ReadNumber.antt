@@ -7,7 +7,8 @@ use Rattle.clap.proofs.CallerReads.{signed_reads}
 use Rattle.agent.specs.CommandLine.{number_in}
 use Rattle.agent.specs.OptionNumbers.{HasNumber, ParsesAs}
 
-module _ {N E : Type 0} (gives : List ℕ → Result N E → Type 0) (value : N → ℕ) (bits : ℕ) (parses : (text : List ℕ) (r : Result N E) → gives text r → ParsesAs bits value text r) where
+module _ {N E : Type 0} (gives : List ℕ → Result N E → Type 0) (value : N → ℕ) (bits : ℕ) (parses : (text : List ℕ) (r : Result N E) → gives text r
+    → ParsesAs bits value text r) where
   -- the same of the number's value
   abbrev Parses : List ℕ → Result ℕ E → Type 0
   Parses text r = ParsesUnsigned bits 10 text r
@@ -20,7 +21,8 @@ module _ {N E : Type 0} (gives : List ℕ → Result N E → Type 0) (value : N 
   of_value (Some n) v e = (n, refl, cc)
   of_value None v e = absurd (cc)
 
-  pub number_read : (name : List ℕ) (rows : List Row) → HasNumber bits name rows → (r : Option N) → ((text : List ℕ) → one_of name rows ≡ Some text → ReadsOne gives text r)
+  pub number_read : (name : List ℕ) (rows : List Row) → HasNumber bits name rows → (r : Option N)
+      → ((text : List ℕ) → one_of name rows ≡ Some text → ReadsOne gives text r)
       → (n : N) × (r ≡ Some n) × (number_in name rows ≡ Some (value n))
   number_read name rows has r reads =
       let read = value_read (without_minus has.text) r (reads (without_minus has.text) has.found) in

@@ -17,11 +17,13 @@ use Rattle.agent.proofs.RunOutputs.{is_run}
 no : {A : Type 0} → false ≡ true → A
 no e = absurd (cc)
 
-legal_one : (returns : Bool) (opening : List (List ℕ)) (parts : List Part) (ends : List (List ℕ)) → OneListsAreLegal → (l : OneList returns opening parts ends) → returns ≡ true → Legal opening l.one
+legal_one : (returns : Bool) (opening : List (List ℕ)) (parts : List Part) (ends : List (List ℕ)) → OneListsAreLegal
+    → (l : OneList returns opening parts ends) → returns ≡ true → Legal opening l.one
 legal_one true opening parts ends f l r = f opening parts ends l
 legal_one false opening parts ends f l r = no r
 
-closing : (X : Type 0) (returns : Bool) (world : WorldState) (text : List ℕ) → SortedEntriesRun → OneListsAreLegal → TellsClosingOf X returns world text → IsClosingOf X returns world text
+closing : (X : Type 0) (returns : Bool) (world : WorldState) (text : List ℕ) → SortedEntriesRun → OneListsAreLegal → TellsClosingOf X returns world text
+    → IsClosingOf X returns world text
 closing X returns world text sorts legal h =
     let s = h.1.3 in
     let parts = parts_of s.seats h.1.1 in record {

@@ -10,11 +10,14 @@ module _ (P : WorldState → List ℕ → Type 0) (old start : WorldState) (held
   started None h = tt
   started (Some input) h = subst (λ (k : Held). P start (held_bytes k ++ input)) none (subst (λ (s : WorldState). P s (held_bytes held ++ input)) same h)
 
-module _ (old start end : WorldState) (before after : Option (List ℕ)) (held : Held) (same : old ≡ start) (none : held ≡ nothing_held) (o : Option (List ℕ)) where
-  pub answered : IfSome o (λ input. AnswersAll agent old (held_bytes held ++ input) before after end) → IfSome o (λ input. AnswersAll agent start input before after end)
+module _ (old start end : WorldState) (before after : Option (List ℕ)) (held : Held) (same : old ≡ start)
+    (none : held ≡ nothing_held) (o : Option (List ℕ)) where
+  pub answered : IfSome o (λ input. AnswersAll agent old (held_bytes held ++ input) before after end)
+      → IfSome o (λ input. AnswersAll agent start input before after end)
   answered h = started (λ s input. AnswersAll agent s input before after end) old start held same none o h
 
-  pub stops_reading : (kept : Held) (unread : Option (List ℕ)) → IfSome o (λ input. StopsReading agent old (held_bytes held ++ input) before after end kept unread)
+  pub stops_reading : (kept : Held) (unread : Option (List ℕ))
+      → IfSome o (λ input. StopsReading agent old (held_bytes held ++ input) before after end kept unread)
       → IfSome o (λ input. (e : WorldState) × (k : Held) × StopsReading agent start input before after e k unread)
   stops_reading kept unread h = ending o (started (λ s input. StopsReading agent s input before after end kept unread) old start held same none o h)
     where
@@ -27,7 +30,8 @@ module _ (old start end : WorldState) (before after : Option (List ℕ)) (held :
       → IfSome o (λ input. (e : WorldState) × StopsWriting agent start input before after e unread)
   stops_writing unread h = ending o (started (λ s input. StopsWriting agent s input before after end unread) old start held same none o h)
     where
-      ending : (p : Option (List ℕ)) → IfSome p (λ input. StopsWriting agent start input before after end unread) → IfSome p (λ input. (e : WorldState) × StopsWriting agent start input before after e unread)
+      ending : (p : Option (List ℕ)) → IfSome p (λ input. StopsWriting agent start input before after end unread)
+          → IfSome p (λ input. (e : WorldState) × StopsWriting agent start input before after e unread)
       ending None h = tt
       ending (Some input) h = (end, h)
 

@@ -1,5 +1,6 @@
 -- Right arguments name a subcommand, since one is required.
-use Rattle.std.proofs.Common.{◌≡◌, Bool, true, false, not, ◌&&◌, List, [], ◌∷◌, ◌++◌, Option, None, Some, is_some, IsSome, map, refl, subst, option_map, cond, codes, arith}
+use Rattle.std.proofs.Common.{◌≡◌, Bool, true, false, not, ◌&&◌, List, [], ◌∷◌, ◌++◌, Option, None, Some, is_some, IsSome, map, refl, subst, option_map, cond}
+use Rattle.std.proofs.Common.{codes, arith}
 use Rattle.std.specs.Prelude.{option_and_then}
 use Rattle.std.specs.List.{list_any}
 use Rattle.std.specs.Option.{option_map_or}
@@ -11,7 +12,9 @@ use Rattle.clap.specs.Simple.{App, Shape, built, entered, filled, names_of, rows
 use Rattle.clap.specs.Takes.{is_given}
 use Rattle.clap.specs.Walk.{Held, Row, Rule, Text, answers_to, finished, nothing_held, settled, walk, walk_from}
 use Rattle.clap.proofs.OnLiterals.{clap_on_literals}
-use Rattle.agent.specs.CommandLine.{HasServing, asm_shape, budget_option, check_shape, command_line, connections_option, dis_shape, far_rule, far_timeout_option, faults_of, flag_rule, port_option, run_shape, serve_shape, store_shape, task_named, task_of, verbose_rule, workers_option}
+use Rattle.agent.specs.CommandLine.{HasServing, asm_shape, budget_option, check_shape, command_line, connections_option, dis_shape, far_rule}
+use Rattle.agent.specs.CommandLine.{far_timeout_option, faults_of, flag_rule, port_option, run_shape, serve_shape, store_shape, task_named, task_of}
+use Rattle.agent.specs.CommandLine.{verbose_rule, workers_option}
 use Rattle.agent.specs.OptionNumbers.{HasNumber, NumberOption, number_rule}
 use Rattle.agent.proofs.Numbers.{ArePlain, IsPlain, first_empty, rest_empty, help, options_built, number_at}
 
@@ -83,8 +86,11 @@ serve_plain = (
 )
 
 module _ (P : Option Shape → Type 0) where
-  among_at : (x y z w v u : Bool) → P None → P (Some (with_help run_shape)) → P (Some (with_help check_shape)) → P (Some (with_help asm_shape)) → P (Some (with_help dis_shape)) → P (Some (with_help store_shape)) → P (Some (with_help serve_shape))
-      → P (cond x (Some (with_help run_shape)) (cond y (Some (with_help check_shape)) (cond z (Some (with_help asm_shape)) (cond w (Some (with_help dis_shape)) (cond v (Some (with_help store_shape)) (cond u (Some (with_help serve_shape)) None))))))
+  among_at : (x y z w v u : Bool) → P None → P (Some (with_help run_shape)) → P (Some (with_help check_shape)) → P (Some (with_help asm_shape))
+      → P (Some (with_help dis_shape)) → P (Some (with_help store_shape)) → P (Some (with_help serve_shape))
+      → P (cond x (Some (with_help run_shape))
+      (cond y (Some (with_help check_shape)) (cond z (Some (with_help asm_shape))
+      (cond w (Some (with_help dis_shape)) (cond v (Some (with_help store_shape)) (cond u (Some (with_help serve_shape)) None))))))
   among_at true y z w v u none run check asm dis store serve = run
   among_at false true z w v u none run check asm dis store serve = check
   among_at false false true w v u none run check asm dis store serve = asm
@@ -107,7 +113,8 @@ HasNumbers name rows = Either (bytes_eq name (codes "run")) (HasNumber 32 (codes
 
 -- the same by its name
 pub needed : (name : Text) (rows : List Row) → HasNumbers name rows
-    → (name ≡ codes "run" → HasNumber 32 (codes "budget") rows) × (name ≡ codes "store" → HasNumber 16 (codes "port") rows) × (name ≡ codes "serve" → HasServing rows)
+    → (name ≡ codes "run" → HasNumber 32 (codes "budget") rows) × (name ≡ codes "store" → HasNumber 16 (codes "port") rows)
+    × (name ≡ codes "serve" → HasServing rows)
 needed name rows has = (λ e. subst (λ n. HasNumbers n rows) e has, λ e. subst (λ n. HasNumbers n rows) e has, λ e. subst (λ n. HasNumbers n rows) e has)
 
 abbrev pub IsEntered : Option (Text × List Row) → Type 0
@@ -123,13 +130,20 @@ store_named rows b = (rw b.found refl, b)
 serve_named : (rows : List Row) → HasServing rows → IsEntered (Some (codes "serve", rows))
 serve_named rows b = (rw (b.port.found, b.connections.found, b.workers.found, b.budget.found, b.far_timeout.found) refl, b)
 
-run_entered : (words : List Text) → level_fault (with_help run_shape) [] nothing_held words false [] ≡ [] → IsEntered (Some (rows_at (with_help run_shape) words))
-run_entered words f = run_named _ (number_at budget_option refl refl 32 (omega arith) (codes "run") (built_rules run_shape) (number_plain budget_option, tt) 0 refl refl refl words f)
+run_entered : (words : List Text) → level_fault (with_help run_shape) [] nothing_held words false [] ≡ []
+    → IsEntered (Some (rows_at (with_help run_shape) words))
+run_entered words f = run_named _ (number_at budget_option refl refl 32 (omega arith) (codes "run") (built_rules run_shape) (
+  number_plain budget_option,
+  tt,
+) 0 refl refl refl words f)
 
-store_entered : (words : List Text) → level_fault (with_help store_shape) [] nothing_held words false [] ≡ [] → IsEntered (Some (rows_at (with_help store_shape) words))
-store_entered words f = store_named _ (number_at port_option refl refl 16 (omega arith) (codes "store") (built_rules store_shape) store_plain 0 refl refl refl words f)
+store_entered : (words : List Text) → level_fault (with_help store_shape) [] nothing_held words false [] ≡ []
+    → IsEntered (Some (rows_at (with_help store_shape) words))
+store_entered words f = store_named _ (number_at port_option refl refl 16 (omega arith) (codes "store") (built_rules store_shape)
+    store_plain 0 refl refl refl words f)
 
-serve_entered : (words : List Text) → level_fault (with_help serve_shape) [] nothing_held words false [] ≡ [] → IsEntered (Some (rows_at (with_help serve_shape) words))
+serve_entered : (words : List Text) → level_fault (with_help serve_shape) [] nothing_held words false [] ≡ []
+    → IsEntered (Some (rows_at (with_help serve_shape) words))
 serve_entered words f = serve_named _ (record {
   port = number_at port_option refl refl 16 (omega arith) (codes "serve") (built_rules serve_shape) serve_plain 0 refl refl refl words f;
   connections = number_at connections_option refl refl 8 (omega arith) (codes "serve") (built_rules serve_shape) serve_plain 1 refl refl refl words f;
@@ -143,11 +157,15 @@ unfolding clap_on_literals
 entered_good None f = tt
 entered_good (Some p) f =
     among_at (λ o. option_map_or (λ s. level_fault s [] nothing_held p.1 false []) o [] ≡ [] → IsEntered (option_map (λ s. rows_at s p.1) o))
-    (answers_to p.0 (codes "run", [])) (answers_to p.0 (codes "check", [])) (answers_to p.0 (codes "asm", [])) (answers_to p.0 (codes "dis", [])) (answers_to p.0 (codes "store", [])) (answers_to p.0 (codes "serve", []))
+    (answers_to p.0 (codes "run", [])) (answers_to p.0 (codes "check", [])) (answers_to p.0 (codes "asm", [])) (answers_to p.0 (
+      codes "dis",
+      [],
+    )) (answers_to p.0 (codes "store", [])) (answers_to p.0 (codes "serve", []))
     (λ _. tt) (run_entered p.1) (λ _. (refl, tt)) (λ _. (refl, tt)) (λ _. (refl, tt)) (store_entered p.1) (serve_entered p.1) f
 
 -- right arguments enter a subcommand
-pub right_enters : (arguments : List Text) → faults_of arguments ≡ [] → (is_some (subcommand_of command_line arguments) ≡ true) × IsEntered (subcommand_of command_line arguments)
+pub right_enters : (arguments : List Text) → faults_of arguments ≡ []
+    → (is_some (subcommand_of command_line arguments) ≡ true) × IsEntered (subcommand_of command_line arguments)
 unfolding clap_on_literals
 right_enters arguments right = (
   subcommand_entered (built command_line) nothing_held arguments refl right,

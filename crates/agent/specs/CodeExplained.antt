@@ -73,7 +73,8 @@ bytes_text bytes f = encode_lower (take 8 bytes) ++ codes ": " ++ fault_text f b
 
 -- what is said of the bytes from slot n on
 abbrev pub SaysAt : List ℕ → ℕ → Why → List ℕ → Type 0
-SaysAt bytes n w text = ((i : Instr) × Fits i × Begins bytes i × (text ≡ instruction_text n i w)) ⊎ ((f : Fault) × IsLeastFault f bytes × (text ≡ bytes_text bytes f))
+SaysAt bytes n w text = ((i : Instr) × Fits i × Begins bytes i × (text ≡ instruction_text n i w))
+    ⊎ ((f : Fault) × IsLeastFault f bytes × (text ≡ bytes_text bytes f))
 
 -- what is said of an object file, of code as a whole, or else of what stands at slot n
 abbrev pub Says : Bool → Bool → List ℕ → ℕ → Why → List ℕ → Type 0
@@ -85,9 +86,11 @@ Says false true code n w text = SaysAt (drop (8 * n) code) n w text
 abbrev pub SaysOfCode : List ℕ → ℕ → Why → List ℕ → Type 0
 SaysOfCode code n w text = Says (is_elf code) (is_about_slot w) code n w text
 
--- Standard error, which was as before, and the status of code that is refused: the line of the refusal and the one that explains it, as much of them as that stream takes.
+-- Standard error, which was as before, and the status of code that is refused: the line of the refusal and the one that
+-- explains it, as much of them as that stream takes.
 abbrev pub ReportsRefusal : List ℕ → LoadError → Option (List ℕ) → Option (List ℕ) → ExitStatus → Type 0
-ReportsRefusal code error before after s = (text : List ℕ) × SaysOfCode code error.slot error.why text × AppendsSome before after (failure_line (Refused error) ++ text) × (s ≡ status.Refused)
+ReportsRefusal code error before after s = (text : List ℕ) × SaysOfCode code error.slot error.why text
+    × AppendsSome before after (failure_line (Refused error) ++ text) × (s ≡ status.Refused)
 
 -- the same of any outcome: what is no refusal is reported without an explanation
 abbrev pub ReportsExplainedCode : List ℕ → Option (List ℕ) → Option (List ℕ) → Result ⊤ Failure → ExitStatus → Type 0
@@ -101,4 +104,5 @@ ReportsCheck true code before after outcome s = ReportsExplainedCode code before
 
 -- The work has such an outcome over this code, and standard error and the exit status report it, with an explanation or without.
 abbrev pub ReportsCheckOutcome : Bool → List ℕ → (Result ⊤ Failure → Type 0) → Option (List ℕ) → Option (List ℕ) → ℕ → Type 0
-ReportsCheckOutcome explains code work before after number = (outcome : Result ⊤ Failure) × (s : ExitStatus) × work outcome × ReportsCheck explains code before after outcome s × (number ≡ status_number s)
+ReportsCheckOutcome explains code work before after number = (outcome : Result ⊤ Failure) × (s : ExitStatus) × work outcome
+    × ReportsCheck explains code before after outcome s × (number ≡ status_number s)

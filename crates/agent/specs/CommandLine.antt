@@ -85,7 +85,10 @@ far_timeout_option = record { name = codes "far-timeout"; least = 1; limit = 600
 
 -- `serve`, with its options
 abbrev pub serve_shape : Shape
-serve_shape = record (new_shape (codes "serve")) { rules = number_rule port_option ∷ number_rule connections_option ∷ number_rule workers_option ∷ number_rule budget_option ∷ flag_rule (codes "sweep") ∷ far_rule ∷ number_rule far_timeout_option ∷ verbose_rule ∷ [] }
+serve_shape = record (new_shape (codes "serve")) {
+  rules = number_rule port_option ∷ number_rule connections_option ∷ number_rule workers_option
+      ∷ number_rule budget_option ∷ flag_rule (codes "sweep") ∷ far_rule ∷ number_rule far_timeout_option ∷ verbose_rule ∷ [];
+}
 
 -- a command that passes no argument on to its subcommands
 abbrev pub IsLocal : Command → Type 0
@@ -93,11 +96,20 @@ IsLocal c = (out-Command c).has_globals ≡ false
 
 -- `bpfagent` with no subcommand yet: it has a version, the arguments are those after the program's name, one of the subcommands is wanted, and none is `help`
 abbrev pub bare : App
-bare = record { top = record (new_shape (codes "bpfagent")) { has_version = true; no_binary_name = true; disable_help_subcommand = true; subcommand_required = true }; subs = [] }
+bare = record {
+  top = record (new_shape (codes "bpfagent")) {
+    has_version = true;
+    no_binary_name = true;
+    disable_help_subcommand = true;
+    subcommand_required = true;
+  };
+  subs = [];
+}
 
 -- the command line, as `clap` reads it
 abbrev pub command_line : App
-command_line = with_subcommand (with_subcommand (with_subcommand (with_subcommand (with_subcommand (with_subcommand bare run_shape) check_shape) asm_shape) dis_shape) store_shape) serve_shape
+command_line = with_subcommand (with_subcommand
+    (with_subcommand (with_subcommand (with_subcommand (with_subcommand bare run_shape) check_shape) asm_shape) dis_shape) store_shape) serve_shape
 
 -- the kinds of error that these arguments may give: none, where they are right
 abbrev pub faults_of : List Text → Kinds
@@ -127,13 +139,17 @@ serving_of sweep verbose _ _ _ _ _ = None
 
 -- how these matches ask to serve
 abbrev pub serving_in : List Row → Option Serving
-serving_in rows = serving_of (is_set (codes "sweep") rows) (is_set (codes "verbose") rows) (number_in (codes "port") rows) (number_in (codes "connections") rows) (number_in (codes "workers") rows) (number_in (codes "budget") rows) (number_in (codes "far-timeout") rows)
+serving_in rows = serving_of (is_set (codes "sweep") rows) (is_set (codes "verbose") rows) (number_in (codes "port") rows)
+    (number_in (codes "connections") rows) (number_in (codes "workers") rows) (number_in (codes "budget") rows) (number_in (codes "far-timeout") rows)
 
 -- the task of this name, with these matches
 abbrev pub task_named : Text → List Row → Option Task
-task_named name rows = if bytes_eq name (codes "run") then option_map Run (number_in (codes "budget") rows) else (if bytes_eq name (codes "check") then Some (Check (is_set (codes "explain") rows))
-    else (if bytes_eq name (codes "asm") then Some (Assemble (is_set (codes "explain") rows)) else (if bytes_eq name (codes "dis") then Some (Disassemble (is_set (codes "slots") rows))
-    else (if bytes_eq name (codes "store") then option_map (λ port. Store port (is_set (codes "verbose") rows)) (number_in (codes "port") rows) else (if bytes_eq name (codes "serve") then option_map Serve (serving_in rows) else None)))))
+task_named name rows = if bytes_eq name (codes "run") then option_map Run (number_in (codes "budget") rows)
+    else (if bytes_eq name (codes "check") then Some (Check (is_set (codes "explain") rows))
+    else (if bytes_eq name (codes "asm") then Some (Assemble (is_set (codes "explain") rows))
+    else (if bytes_eq name (codes "dis") then Some (Disassemble (is_set (codes "slots") rows))
+    else (if bytes_eq name (codes "store") then option_map (λ port. Store port (is_set (codes "verbose") rows)) (number_in (codes "port") rows)
+    else (if bytes_eq name (codes "serve") then option_map Serve (serving_in rows) else None)))))
 
 -- what right arguments ask for: the subcommand that they name
 abbrev pub task_of : List Text → Option Task

@@ -31,7 +31,8 @@ ShowsVersion out_before out_after before after status = (Appends out_before out_
 -- help, which is not empty, goes to the output
 abbrev pub ShowsHelp : Option (List ℕ) → Option (List ℕ) → Option (List ℕ) → Option (List ℕ) → ExitStatus → Type 0
 ShowsHelp out_before out_after before after status = (text : List ℕ) × (text ≢ [])
-    × ((Appends out_before out_after text × Reports before after (Ok tt) status) ⊎ (AppendsPart out_before out_after text × Reports before after (Err Write) status))
+    × ((Appends out_before out_after text × Reports before after (Ok tt) status)
+    ⊎ (AppendsPart out_before out_after text × Reports before after (Err Write) status))
 
 -- what is wrong with the arguments, which is not empty, goes to standard error, as much of it as that stream takes
 abbrev pub ShowsError : Option (List ℕ) → Option (List ℕ) → ExitStatus → Type 0
@@ -40,9 +41,11 @@ ShowsError before after status = (text : List ℕ) × (text ≢ []) × AppendsSo
 -- What is done about arguments that give this kind of error. For each text but the version there may be no memory.
 abbrev pub Shows : ErrorKind → Option (List ℕ) → Option (List ℕ) → Option (List ℕ) → Option (List ℕ) → ExitStatus → Type 0
 Shows kind.OutOfMemory out_before out_after before after status = ReportsNoMemory out_before out_after before after status
-Shows kind.DisplayHelp out_before out_after before after status = ShowsHelp out_before out_after before after status ⊎ ReportsNoMemory out_before out_after before after status
+Shows kind.DisplayHelp out_before out_after before after status = ShowsHelp out_before out_after before after status
+    ⊎ ReportsNoMemory out_before out_after before after status
 Shows kind.DisplayVersion out_before out_after before after status = ShowsVersion out_before out_after before after status
-Shows _ out_before out_after before after status = (Keeps out_before out_after × ShowsError before after status) ⊎ ReportsNoMemory out_before out_after before after status
+Shows _ out_before out_after before after status = (Keeps out_before out_after × ShowsError before after status)
+    ⊎ ReportsNoMemory out_before out_after before after status
 
 -- arguments that may give these kinds of error are answered by one of them, or by out of memory
 abbrev pub ShowsOneOf : Kinds → Option (List ℕ) → Option (List ℕ) → Option (List ℕ) → Option (List ℕ) → ℕ → Type 0

@@ -1,5 +1,6 @@
 -- What `asm --explain` says beside the line of an error: the token that it is about, the line that it stands in, and what would fit there.
-use Rattle.std.specs.Prelude.{◌≡◌, ℕ, ◌+◌, ◌-◌, ◌==◌, nat_le, ◌&&◌, if◌then◌else◌, Bool, true, false, ⊤, List, [], ◌∷◌, ◌++◌, map, take, slice_range, codes, decimal, Option, Some, None, Result, Ok, Err}
+use Rattle.std.specs.Prelude.{◌≡◌, ℕ, ◌+◌, ◌-◌, ◌==◌, nat_le, ◌&&◌, if◌then◌else◌, Bool, true, false, ⊤, List, [], ◌∷◌, ◌++◌, map, take, slice_range, codes}
+use Rattle.std.specs.Prelude.{decimal, Option, Some, None, Result, Ok, Err}
 use Rattle.std.specs.Str.Lines.{lines}
 use Rattle.asm_text.specs.Tokens.{Lexeme, tokens, IsFirstOf}
 use Rattle.asm_grammar.specs.declared.why.Why.{Why}
@@ -96,10 +97,12 @@ abbrev pub Explains : List ℕ → Failure → List ℕ → Type 0
 Explains input (WrongLine error) text = SaysOfLine (numbered (error.line - 1) (lines input)) error.why text
 Explains input _ text = text ≡ []
 
--- Standard error, which was as before, and the status: nothing more and Done, or the failure's line and its explanation, as much of it as that stream takes, and its status.
+-- Standard error, which was as before, and the status: nothing more and Done, or the failure's line and its explanation, as
+-- much of it as that stream takes, and its status.
 abbrev pub ReportsExplained : List ℕ → Option (List ℕ) → Option (List ℕ) → Result ⊤ Failure → ExitStatus → Type 0
 ReportsExplained input before after (Ok done) status = Reports before after (Ok done) status
-ReportsExplained input before after (Err failure) status = (text : List ℕ) × Explains input failure text × AppendsSome before after (failure_line failure ++ text) × (status ≡ status_of failure)
+ReportsExplained input before after (Err failure) status = (text : List ℕ) × Explains input failure text
+    × AppendsSome before after (failure_line failure ++ text) × (status ≡ status_of failure)
 
 -- the same with an explanation, or without
 abbrev pub ReportsAsm : Bool → List ℕ → Option (List ℕ) → Option (List ℕ) → Result ⊤ Failure → ExitStatus → Type 0
@@ -108,4 +111,5 @@ ReportsAsm true input before after outcome status = ReportsExplained input befor
 
 -- The work has such an outcome over this input, and standard error and the exit status report it, with an explanation or without.
 abbrev pub ReportsAsmOutcome : Bool → List ℕ → (Result ⊤ Failure → Type 0) → Option (List ℕ) → Option (List ℕ) → ℕ → Type 0
-ReportsAsmOutcome explains input work before after number = (outcome : Result ⊤ Failure) × (status : ExitStatus) × work outcome × ReportsAsm explains input before after outcome status × (number ≡ status_number status)
+ReportsAsmOutcome explains input work before after number = (outcome : Result ⊤ Failure) × (status : ExitStatus) × work outcome
+    × ReportsAsm explains input before after outcome status × (number ≡ status_number status)

@@ -1,5 +1,6 @@
 -- What `check --explain` says of bytes that begin with no instruction: which field is wrong, what it holds, and what the instructions of the opcode have there.
-use Rattle.std.specs.Prelude.{ℕ, ◌-◌, ◌==◌, ◌&&◌, ◌||◌, not, ℤ, pos, if◌then◌else◌, Bool, false, List, [], ◌++◌, length, take, drop, codes, decimal, Option, Some, None, find, flat_map}
+use Rattle.std.specs.Prelude.{ℕ, ◌-◌, ◌==◌, ◌&&◌, ◌||◌, not, ℤ, pos, if◌then◌else◌, Bool, false, List, [], ◌++◌, length, take, drop, codes, decimal, Option}
+use Rattle.std.specs.Prelude.{Some, None, find, flat_map}
 use Rattle.std.specs.List.{list_any}
 use Rattle.std.specs.Int.{w16, w32, cast_signed}
 use Rattle.std.specs.Fmt.{signed_decimal}
@@ -115,7 +116,8 @@ field_text p f first rows = if some_fits_in p f rows then [] else wrong_text p f
 
 -- what is said of each field of the slot
 abbrev pub fields_text : Slot → Instr → List Instr → List ℕ
-fields_text f first rows = field_text place.Dst f first rows ++ field_text place.Src f first rows ++ field_text place.Offset f first rows ++ field_text place.Imm f first rows
+fields_text f first rows = field_text place.Dst f first rows ++ field_text place.Src f first rows ++ field_text place.Offset f first rows
+    ++ field_text place.Imm f first rows
 
 -- the same where an instruction is meant, otherwise a general rule
 abbrev pub slot_text : Option Instr → Slot → List Instr → List ℕ
@@ -136,7 +138,8 @@ second_text bytes = if sets_reserved_bits bytes then reserved_text bytes else []
 
 -- what is said of an instruction's slots in which a field is wrong
 abbrev pub encoding_text : List ℕ → List ℕ
-encoding_text bytes = slot_text (meant (fields bytes) (rows_of (opcode bytes)) (rows_of (opcode bytes))) (fields bytes) (rows_of (opcode bytes)) ++ second_text bytes ++ codes "see RFC 9669, sections 3 to 5"
+encoding_text bytes = slot_text (meant (fields bytes) (rows_of (opcode bytes)) (rows_of (opcode bytes))) (fields bytes) (rows_of (opcode bytes))
+    ++ second_text bytes ++ codes "see RFC 9669, sections 3 to 5"
 
 -- ---- what is said of the other faults
 
@@ -156,7 +159,8 @@ loaded_text n =
 -- what is asked of a platform: by lddw, or else by a call with source 2 (section 4.3.1)
 abbrev pub platform_text : Slot → List ℕ
 platform_text f =
-    if f.opcode == 0x18 then codes "src is " ++ decimal f.src ++ codes ", so lddw loads " ++ loaded_text f.src ++ codes "; there is no platform here to supply it (RFC 9669, section 5.4)" else
+    if f.opcode == 0x18 then codes "src is " ++ decimal f.src ++ codes ", so lddw loads " ++ loaded_text f.src
+    ++ codes "; there is no platform here to supply it (RFC 9669, section 5.4)" else
     codes "src is 2, so call calls a function by its BTF ID; there is no platform here to supply it (RFC 9669, section 4.3.1)"
 
 -- what is said of an opcode that no instruction has

@@ -14,7 +14,8 @@ plain_serving = record { port = 0; connections = 1; workers = 2; budget = budget
 
 -- `serve` with all its options
 abbrev pub all_of_serve : List Text
-all_of_serve = codes "serve" ∷ codes "--workers" ∷ codes "0" ∷ codes "--port=7070" ∷ codes "--sweep" ∷ codes "--budget" ∷ codes "64" ∷ codes "--connections" ∷ codes "8" ∷ codes "--far-timeout" ∷ codes "250" ∷ codes "-v" ∷ []
+all_of_serve = codes "serve" ∷ codes "--workers" ∷ codes "0" ∷ codes "--port=7070" ∷ codes "--sweep" ∷ codes "--budget" ∷ codes "64" ∷ codes "--connections"
+    ∷ codes "8" ∷ codes "--far-timeout" ∷ codes "250" ∷ codes "-v" ∷ []
 
 -- `serve` with a far server
 abbrev pub far_serving : List Text

@@ -14,4 +14,5 @@ Reports before after (Err failure) status = AppendsSome before after (failure_li
 
 -- The work has such an outcome, and standard error and the exit status report it.
 abbrev pub ReportsOutcome : (Result ⊤ Failure → Type 0) → Option (List ℕ) → Option (List ℕ) → ℕ → Type 0
-ReportsOutcome work before after number = (outcome : Result ⊤ Failure) × (status : ExitStatus) × work outcome × Reports before after outcome status × (number ≡ status_number status)
+ReportsOutcome work before after number = (outcome : Result ⊤ Failure) × (status : ExitStatus) × work outcome × Reports before after outcome status
+    × (number ≡ status_number status)

@@ -8,10 +8,13 @@ use Rattle.console.specs.Conversations.{AnswersAll, StopsReading, StopsWriting}
 use Rattle.agent.specs.declared.failure.Failure.{Failure}
 use Rattle.agent.specs.declared.failure.Failure.TheVariants.{Refused, WrongLine, InputTooLong, Read, Write, NoMemory}
 
--- Over this input, in the output, which was as before, and unread: all replies from a world with this budget and no machine and no object, over a store without faults, or those up to where a stream failed. Out of memory before the first line leaves both streams as they were.
+-- Over this input, in the output, which was as before, and unread: all replies from a world with this budget and no machine and
+-- no object, over a store without faults, or those up to where a stream failed. Out of memory before the first line leaves both
+-- streams as they were.
 abbrev pub RunLeaves : ℕ → List ℕ → Option (List ℕ) → Option (List ℕ) → Option (List ℕ) → Result ⊤ Failure → Type 0
 RunLeaves budget input before after unread (Ok done) = (end : WorldState) × AnswersAll agent (world_start budget 0) input before after end
-RunLeaves budget input before after unread (Err Read) = (end : WorldState) × (held : Held) × StopsReading agent (world_start budget 0) input before after end held unread
+RunLeaves budget input before after unread (Err Read) = (end : WorldState) × (held : Held)
+    × StopsReading agent (world_start budget 0) input before after end held unread
 RunLeaves budget input before after unread (Err Write) = (end : WorldState) × StopsWriting agent (world_start budget 0) input before after end unread
 RunLeaves budget input before after unread (Err NoMemory) = Keeps before after × Keeps (Some input) unread
 RunLeaves budget input before after unread (Err (Refused error)) = ⊥

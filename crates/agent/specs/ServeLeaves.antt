@@ -70,8 +70,10 @@ ServesOver X returns budget input before after unread (Err Address) = ⊥
 ServesOver X returns budget input before after unread (Err Unreachable) = ⊥
 ServesOver X returns budget input before after unread (Err (Setup failure)) = RunLeaves budget input before after unread (Err failure)
 ServesOver X returns budget input before after unread (Err Bind) = (world : WorldState) × SetsUp budget input before after world
-ServesOver X returns budget input before after unread (Err (Listen fault)) = (world : WorldState) × (mid : Option (List ℕ)) × SetsUp budget input before mid world × ListensFrom X returns world mid after (Err fault)
-ServesOver X returns budget input before after unread (Ok done) = (world : WorldState) × (mid : Option (List ℕ)) × SetsUp budget input before mid world × ListensFrom X returns world mid after (Ok done)
+ServesOver X returns budget input before after unread (Err (Listen fault)) = (world : WorldState) × (mid : Option (List ℕ))
+    × SetsUp budget input before mid world × ListensFrom X returns world mid after (Err fault)
+ServesOver X returns budget input before after unread (Ok done) = (world : WorldState) × (mid : Option (List ℕ)) × SetsUp budget input before mid world
+    × ListensFrom X returns world mid after (Ok done)
 
 -- the text is an IP address and a port
 abbrev pub IsAddress : List ℕ → Type 0

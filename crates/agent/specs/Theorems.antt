@@ -17,7 +17,8 @@ use Rattle.machine.specs.declared.state.Stepped.{Stepped}
 use Rattle.machine.specs.MachineState.{MachineState}
 use Rattle.machine.specs.Rows.{MemoryAnswer, Outcome, asks, told, stops}
 use Rattle.machine.specs.TableStep.{TableStep, Attempts, AnswersRequest, Closes}
-use Rattle.machine.specs.Laws.{StartsWhole, StaysWhole, MapAlwaysSteps, MapStepsOneWay, FuelBounds, FuelCounts, WaitsInPlace, WaitingDoesNothing, StoppedStays, StopsInPlace, ChangesOne}
+use Rattle.machine.specs.Laws.{StartsWhole, StaysWhole, MapAlwaysSteps, MapStepsOneWay, FuelBounds, FuelCounts, WaitsInPlace, WaitingDoesNothing, StoppedStays}
+use Rattle.machine.specs.Laws.{StopsInPlace, ChangesOne}
 use Rattle.shared_objects.specs.History.{Has}
 use Rattle.shared_objects.specs.Laws.{TablesHaveHistories, WordsShowSeats, LegalHistoriesRun, OneListsAreLegal, SortedEntriesRun}
 use Rattle.shared_objects.specs.Legal.{Legal}
@@ -89,12 +90,14 @@ pub record OnlyStops {M : Type 0} (old : MachineState) (before : M) (outcome : O
 pub record IsRowOrStop {M : Type 0} (mem : Memories M) (old : MachineState) (before : M) (answer : Stepped) (new : MachineState) (after : M) : Type 0 where
   pub closes : Bool
   pub mid : M
-  pub does : DoesItsRow mem old before (record { machine = new; answer = answer; closes = closes }) mid ⊎ OnlyStops old before (record { machine = new; answer = answer; closes = closes }) mid
+  pub does : DoesItsRow mem old before (record { machine = new; answer = answer; closes = closes }) mid
+      ⊎ OnlyStops old before (record { machine = new; answer = answer; closes = closes }) mid
   pub closed : Closes closes mem mid after
 
 -- Each step is so. `Machine::step` has `TableStep` as its clause.
 abbrev pub StepsAreRows : {M : Type 0} → Memories M → Type 0
-StepsAreRows {M} mem = (old new : MachineState) (before after : M) (answer : Stepped) → old.stop ≡ None → TableStep mem old before answer new after → IsRowOrStop mem old before answer new after
+StepsAreRows {M} mem = (old new : MachineState) (before after : M) (answer : Stepped) → old.stop ≡ None → TableStep mem old before answer new after
+    → IsRowOrStop mem old before answer new after
 
 -- Over any memory:
 pub record EachStepIsItsRow {M : Type 0} (mem : Memories M) : Type 0 where
@@ -221,5 +224,6 @@ pub record IsServiceOf (budget : ℕ) (far : Option (List ℕ)) (input : List �
 
 -- Where `serve` ends well, it wrote that. (`ServeLeaves` says what it wrote where it ended otherwise.)
 abbrev pub ClosingTheorem : Type 0
-ClosingTheorem = (budget : ℕ) (far : Option (List ℕ)) (input : List ℕ) (before after unread : Option (List ℕ)) (done : ⊤) → ServeLeaves budget far input before after unread (Ok done)
+ClosingTheorem = (budget : ℕ) (far : Option (List ℕ)) (input : List ℕ) (before after unread : Option (List ℕ)) (done : ⊤)
+    → ServeLeaves budget far input before after unread (Ok done)
     → IsServiceOf budget far input before after

@@ -1,7 +1,9 @@
 //! The arguments of the command line.
 ghost use Rattle.std.specs.Prelude.{◌≡◌, ◌≢◌, ℕ, List, Result, [], None, Some, map, codes, option_map, IfOk, IfErr, IfSome};
 ghost use Rattle.clap.specs.Words.{app_of, found_of, new_app, new_rule, rows_of, rule_of, subcommand_of, subcommand_rows_of, with_subcommand, HasKind};
-ghost use Rattle.agent.specs.CommandLine.{HasServing, IsFarAs, IsLocal, asm_shape, bare, budget_option, check_shape, command_line, connections_option, dis_shape, far_of, far_rule, far_timeout_option, faults_of, flag_rule, flagged_shape, is_set, number_in, port_option, run_shape, serve_shape, server_task, serving_in, store_shape, task_named, task_of, verbose_rule, workers_option};
+ghost use Rattle.agent.specs.CommandLine.{HasServing, IsFarAs, IsLocal, asm_shape, bare, budget_option, check_shape, command_line, connections_option};
+ghost use Rattle.agent.specs.CommandLine.{dis_shape, far_of, far_rule, far_timeout_option, faults_of, flag_rule, flagged_shape, is_set, number_in, port_option};
+ghost use Rattle.agent.specs.CommandLine.{run_shape, serve_shape, server_task, serving_in, store_shape, task_named, task_of, verbose_rule, workers_option};
 ghost use Rattle.agent.specs.OptionNumbers.{HasNumber, ParsesAs, number_rule, parses_as};
 ghost use Rattle.agent.specs.declared.arguments.Server.{Server};
 

@@ -112,7 +112,8 @@ pub fn tool<'a, S: AsStr, R: Read, W: Write, E: Write>(
     errors: &mut E,
 ) -> u8
     ensures run { (budget : ℕ) → faults_of (map S.text arguments.entry.now) ≡ [] → task_of (map S.text arguments.entry.now) ≡ Some (Task.Run budget)
-        → IfSome (R.remaining reader.old) (λ input. ReportsOutcome (RunLeaves budget input (W.contents writer.old) (W.contents writer.new) (R.remaining reader.new))
+        → IfSome (R.remaining reader.old) (λ input. ReportsOutcome
+        (RunLeaves budget input (W.contents writer.old) (W.contents writer.new) (R.remaining reader.new))
         (E.contents errors.old) (E.contents errors.new) result) }
     ensures check { (explains : Bool) → faults_of (map S.text arguments.entry.now) ≡ [] → task_of (map S.text arguments.entry.now) ≡ Some (Task.Check explains)
         → IfSome (R.remaining reader.old) (λ input. ReportsCheckOutcome explains input (CheckLeaves input (W.contents writer.old) (W.contents writer.new))

@@ -25,7 +25,8 @@ pub(crate) fn do_commands<R: Read, W: Write>(
     reader: &mut R,
     writer: &mut W,
 ) -> Result<World<OwnStore>, Failure>
-    ensures { IfSome (R.remaining reader.old) (λ input. CommandsLeave budget input (W.contents writer.old) (W.contents writer.new) (R.remaining reader.new) result) }
+    ensures { IfSome (R.remaining reader.old)
+        (λ input. CommandsLeave budget input (W.contents writer.old) (W.contents writer.new) (R.remaining reader.new) result) }
 {
     let mut world = make_world(alloc, budget)?;
     let mut console = Console::new(alloc)?;
@@ -45,7 +46,8 @@ pub fn run<R: Read, W: Write>(
     reader: &mut R,
     writer: &mut W,
 ) -> Result<(), Failure>
-    ensures { IfSome (R.remaining reader.old) (λ input. RunLeaves budget input (W.contents writer.old) (W.contents writer.new) (R.remaining reader.new) result) }
+    ensures { IfSome (R.remaining reader.old)
+        (λ input. RunLeaves budget input (W.contents writer.old) (W.contents writer.new) (R.remaining reader.new) result) }
 {
     let _world = match do_commands(alloc, budget, reader, writer) {
         Ok(world) => world,

@@ -1,5 +1,6 @@
 -- What is wrong with a line, but for labels that stand nowhere, doesn't depend on the labels.
-use Rattle.std.proofs.Common.{◌≡◌, ℕ, ◌&&◌, Bool, true, false, cond, List, [], ◌∷◌, ◌++◌, refl, sym, ap, ◌∙◌, Option, Some, None, is_some, option_and_then, Err, ℤ, pos}
+use Rattle.std.proofs.Common.{◌≡◌, ℕ, ◌&&◌, Bool, true, false, cond, List, [], ◌∷◌, ◌++◌, refl, sym, ap, ◌∙◌, Option, Some, None, is_some, option_and_then, Err}
+use Rattle.std.proofs.Common.{ℤ, pos}
 use Rattle.asm_text.specs.Tokens.{Lexeme}
 use Rattle.isa_table.specs.declared.instr.Instr.{Instr}
 use Rattle.asm_table.specs.declared.mnemonic.Mnemonic.{Mnemonic}
@@ -14,7 +15,8 @@ use Rattle.asm_grammar.specs.Writing.{Written}
 use Rattle.asm_grammar.specs.Sorts.{Taken, operand_taken, distance}
 use Rattle.asm_grammar.specs.Sorts.Taken.{No, Out, Is, To, LongTo}
 use Rattle.asm_grammar.specs.Grammar.{Look, has_stray, after_label}
-use Rattle.asm_grammar.specs.Reading.{Gathered, nothing, gather_operands, step, added, aimed, next_operand, mnemonic_at, finished, judged, said, body, by_mnemonic, line_says, fault_of}
+use Rattle.asm_grammar.specs.Reading.{Gathered, nothing, gather_operands, step, added, aimed, next_operand, mnemonic_at, finished, judged, said, body}
+use Rattle.asm_grammar.specs.Reading.{by_mnemonic, line_says, fault_of}
 use Rattle.asm_grammar.proofs.Formed.{any_offset, any_long_offset}
 
 -- an operand with no regard to where a label stands
@@ -59,9 +61,11 @@ AreAlike _ _ = ⊥
 
 one_more : (g h : Gathered) (o p : AsmOperand) → Alike g h → kind o ≡ kind p → kinds (g.operands ++ o ∷ []) ≡ kinds (h.operands ++ p ∷ [])
 unfolding kinds
-one_more g h o p a e = kinds-append g.operands (o ∷ []) ∙ ap (λ l. l ++ kinds (o ∷ [])) a.operands ∙ ap (λ x. kinds h.operands ++ x ∷ []) e ∙ sym (kinds-append h.operands (p ∷ []))
+one_more g h o p a e = kinds-append g.operands (o ∷ []) ∙ ap (λ l. l ++ kinds (o ∷ [])) a.operands ∙ ap (λ x. kinds h.operands ++ x ∷ []) e
+    ∙ sym (kinds-append h.operands (p ∷ []))
 
-aimed_alike : (f : ℤ → AsmOperand) → ((y z : ℤ) → kind (f y) ≡ kind (f z)) → (m n : ℕ) (g h : Gathered) (a b : Option ℕ) → Alike g h → Alike (aimed f m g a) (aimed f n h b)
+aimed_alike : (f : ℤ → AsmOperand) → ((y z : ℤ) → kind (f y) ≡ kind (f z)) → (m n : ℕ) (g h : Gathered) (a b : Option ℕ) → Alike g h
+    → Alike (aimed f m g a) (aimed f n h b)
 aimed_alike f k m n g h None None e = record { out = e.out; operands = one_more g h (f (pos 0)) (f (pos 0)) e refl }
 aimed_alike f k m n g h None (Some t) e = record { out = e.out; operands = one_more g h (f (pos 0)) (f (distance t n)) e (k _ _) }
 aimed_alike f k m n g h (Some s) None e = record { out = e.out; operands = one_more g h (f (distance s m)) (f (pos 0)) e (k _ _) }
@@ -84,8 +88,10 @@ module _ (look look2 : Look) (m n : ℕ) where
   added_alike g h (To w) a = aimed_alike (λ z. operand.Offset z) offsets_alike m n g h (look w) (look2 w) a
   added_alike g h (LongTo w) a = aimed_alike (λ z. operand.LongOffset z) long_offsets_alike m n g h (look w) (look2 w) a
 
-  then_alike : (x y : Option Gathered) (ss : List Sort) (rest : List Lexeme) → AreAlike x y → ((g h : Gathered) → Alike g h → AreAlike (gather_operands look m false g ss rest) (gather_operands look2 n false h ss rest))
-      → AreAlike (option_and_then (λ (p : Gathered × List Lexeme). gather_operands look m false p.0 ss p.1) (option_and_then (λ (g : Gathered). Some (g, rest)) x))
+  then_alike : (x y : Option Gathered) (ss : List Sort) (rest : List Lexeme) → AreAlike x y
+      → ((g h : Gathered) → Alike g h → AreAlike (gather_operands look m false g ss rest) (gather_operands look2 n false h ss rest))
+      → AreAlike (option_and_then (λ (p : Gathered
+      × List Lexeme). gather_operands look m false p.0 ss p.1) (option_and_then (λ (g : Gathered). Some (g, rest)) x))
       (option_and_then (λ (p : Gathered × List Lexeme). gather_operands look2 n false p.0 ss p.1) (option_and_then (λ (g : Gathered). Some (g, rest)) y))
   unfolding AreAlike
   then_alike None None ss rest a f = tt
@@ -93,20 +99,27 @@ module _ (look look2 : Look) (m n : ℕ) where
   then_alike None (Some h) ss rest a f = absurd a
   then_alike (Some g) None ss rest a f = absurd a
 
-  operand_alike : (g h : Gathered) (s : Sort) (ss : List Sort) (o : Option (Written × List Lexeme)) → Alike g h → ((rest : List Lexeme) (g h : Gathered) → Alike g h → AreAlike (gather_operands look m false g ss rest) (gather_operands look2 n false h ss rest))
-      → AreAlike (option_and_then (λ (p : Gathered × List Lexeme). gather_operands look m false p.0 ss p.1) (option_and_then (λ (x : Written × List Lexeme). option_and_then (λ (k : Gathered). Some (k, x.1)) (added look m g (operand_taken s x.0))) o))
-      (option_and_then (λ (p : Gathered × List Lexeme). gather_operands look2 n false p.0 ss p.1) (option_and_then (λ (x : Written × List Lexeme). option_and_then (λ (k : Gathered). Some (k, x.1)) (added look2 n h (operand_taken s x.0))) o))
+  operand_alike : (g h : Gathered) (s : Sort) (ss : List Sort) (o : Option (Written × List Lexeme)) → Alike g h
+      → ((rest : List Lexeme) (g h : Gathered) → Alike g h → AreAlike (gather_operands look m false g ss rest) (gather_operands look2 n false h ss rest))
+      → AreAlike (option_and_then (λ (p : Gathered
+      × List Lexeme). gather_operands look m false p.0 ss p.1)
+      (option_and_then (λ (x : Written × List Lexeme). option_and_then (λ (k : Gathered). Some (k, x.1)) (added look m g (operand_taken s x.0))) o))
+      (option_and_then (λ (p : Gathered × List Lexeme). gather_operands look2 n false p.0 ss p.1)
+      (option_and_then (λ (x : Written × List Lexeme). option_and_then (λ (k : Gathered). Some (k, x.1)) (added look2 n h (operand_taken s x.0))) o))
   unfolding AreAlike
   operand_alike g h s ss None a f = tt
-  operand_alike g h s ss (Some p) a f = then_alike (added look m g (operand_taken s p.0)) (added look2 n h (operand_taken s p.0)) ss p.1 (added_alike g h (operand_taken s p.0) a) (λ g h a. f p.1 g h a)
+  operand_alike g h s ss (Some p) a f = then_alike (added look m g (operand_taken s p.0)) (added look2 n h (operand_taken s p.0)) ss p.1
+      (added_alike g h (operand_taken s p.0) a) (λ g h a. f p.1 g h a)
 
-  gathered_alike : (first : Bool) (g h : Gathered) (ss : List Sort) (ts : List Lexeme) → Alike g h → AreAlike (gather_operands look m first g ss ts) (gather_operands look2 n first h ss ts)
+  gathered_alike : (first : Bool) (g h : Gathered) (ss : List Sort) (ts : List Lexeme) → Alike g h
+      → AreAlike (gather_operands look m first g ss ts) (gather_operands look2 n first h ss ts)
   unfolding AreAlike step
   gathered_alike first g h [] [] a = a
   gathered_alike first g h [] (t ∷ ts) a = tt
   gathered_alike first g h (s ∷ ss) ts a = operand_alike g h s ss (next_operand first ts) a (λ rest g h a. gathered_alike false g h ss rest a)
 
-  judged_alike : (t u v : Bool) (a b : Option Instr) → is_some a ≡ is_some b → fault_of (said (cond t (Err why.Range) (judged u a))) ≡ fault_of (said (cond t (Err why.Range) (judged v b)))
+  judged_alike : (t u v : Bool) (a b : Option Instr) → is_some a ≡ is_some b
+      → fault_of (said (cond t (Err why.Range) (judged u a))) ≡ fault_of (said (cond t (Err why.Range) (judged v b)))
   judged_alike true u v a b e = refl
   judged_alike false u v None None e = refl
   judged_alike false u v None (Some j) e = absurd (cc e)
@@ -121,7 +134,8 @@ module _ (look look2 : Look) (m n : ℕ) where
   finished_alike k None None a = refl
   finished_alike k (Some g) (Some h) a =
       ap (λ t. fault_of (said (cond t (Err why.Range) (judged g.unknown (instr_of_parts k g.operands))))) a.out
-      ∙ judged_alike h.out g.unknown h.unknown (instr_of_parts k g.operands) (instr_of_parts k h.operands) (sym (built_kinds k g.operands) ∙ ap (λ os. is_some (instr_of_parts k os)) a.operands ∙ built_kinds k h.operands)
+      ∙ judged_alike h.out g.unknown h.unknown (instr_of_parts k g.operands) (instr_of_parts k h.operands) (sym (built_kinds k g.operands)
+      ∙ ap (λ os. is_some (instr_of_parts k os)) a.operands ∙ built_kinds k h.operands)
   finished_alike k None (Some h) a = absurd a
   finished_alike k (Some g) None a = absurd a
 

@@ -1,5 +1,6 @@
 -- Operands that have the sorts of a mnemonic are those of an instruction.
-use Rattle.std.proofs.Common.{◌≡◌, ℕ, ℤ, pos, ◌&&◌, ◌^◌, Bool, true, false, List, [], ◌∷◌, ◌++◌, append_assoc, append-nil, refl, sym, ap, ◌∙◌, Option, Some, None, is_some}
+use Rattle.std.proofs.Common.{◌≡◌, ℕ, ℤ, pos, ◌&&◌, ◌^◌, Bool, true, false, List, [], ◌∷◌, ◌++◌, append_assoc, append-nil, refl, sym, ap, ◌∙◌, Option, Some}
+use Rattle.std.proofs.Common.{None, is_some}
 use Rattle.asm_text.specs.Tokens.{Lexeme}
 use Rattle.isa_table.specs.declared.instr.Reg.{Reg}
 use Rattle.asm_table.specs.declared.mnemonic.Mnemonic.{Mnemonic}
@@ -82,9 +83,21 @@ record More (g h : Gathered) (s : Sort) : Type 0 where
   sorted : of_sort s o ≡ true
   in_range : g.out ≡ false
 
-aimed_more : (f : ℤ → AsmOperand) (n : ℕ) (g h : Gathered) (s : Sort) (x : Option ℕ) → ((z : ℤ) → of_sort s (f z) ≡ true) → aimed f n g x ≡ h → h.out ≡ false → More g h s
-aimed_more f n g h s None k e q = record { o = f (pos 0); operands = sym (ap (λ (x : Gathered). x.operands) e); sorted = k (pos 0); in_range = ap (λ (x : Gathered). x.out) e ∙ q }
-aimed_more f n g h s (Some slot) k e q = record { o = f (distance slot n); operands = sym (ap (λ (x : Gathered). x.operands) e); sorted = k (distance slot n); in_range = ap (λ (x : Gathered). x.out) e ∙ q }
+aimed_more : (f : ℤ → AsmOperand) (n : ℕ) (g h : Gathered) (s : Sort) (x : Option ℕ) → ((z : ℤ) → of_sort s (f z) ≡ true)
+    → aimed f n g x ≡ h → h.out ≡ false → More g h s
+aimed_more f n g h s None k e q = record {
+  o = f (pos 0);
+  operands = sym (ap (λ (x : Gathered). x.operands) e);
+  sorted = k (pos 0);
+  in_range = ap (λ (x : Gathered). x.out) e ∙ q;
+}
+aimed_more f n g h s (Some slot) k e q =
+    record {
+      o = f (distance slot n);
+      operands = sym (ap (λ (x : Gathered). x.operands) e);
+      sorted = k (distance slot n);
+      in_range = ap (λ (x : Gathered). x.out) e ∙ q;
+    }
 
 module _ (look : Look) (n : ℕ) where
   added_more : (g h : Gathered) (s : Sort) (t : Taken) → fits s t ≡ true → added look n g t ≡ Some h → h.out ≡ false → More g h s
@@ -110,11 +123,17 @@ module _ (look : Look) (n : ℕ) where
   both : (a b : Bool) → a ≡ true → b ≡ true → (a && b) ≡ true
   both a b e f = rw (e, f) refl
 
-  gathered_sorts : (first : Bool) (g h : Gathered) (ss : List Sort) (ts : List Lexeme) → gather_operands look n first g ss ts ≡ Some h → h.out ≡ false → Sorted g h ss
+  gathered_sorts : (first : Bool) (g h : Gathered) (ss : List Sort) (ts : List Lexeme) → gather_operands look n first g ss ts ≡ Some h
+      → h.out ≡ false → Sorted g h ss
   unfolding of_sorts
   gathered_sorts first g h [] [] e q =
       let j : g ≡ h = cc e in
-      record { os = []; operands = sym (ap (λ (x : Gathered). x.operands) j) ∙ sym (append-nil g.operands); sorted = refl; in_range = ap (λ (x : Gathered). x.out) j ∙ q }
+      record {
+        os = [];
+        operands = sym (ap (λ (x : Gathered). x.operands) j) ∙ sym (append-nil g.operands);
+        sorted = refl;
+        in_range = ap (λ (x : Gathered). x.out) j ∙ q;
+      }
   gathered_sorts first g h [] (t ∷ ts) e q = absurd (cc e)
   gathered_sorts first g h (s ∷ ss) ts e q =
       let a = and_then_some _ (step look n first g s ts) h e in
@@ -129,7 +148,8 @@ module _ (look : Look) (n : ℕ) where
       }
 
   -- operands that were gathered, with no number out of its range, are those of an instruction
-  pub built_gathered : (m : Mnemonic) (ts : List Lexeme) (g : Gathered) → gather_operands look n true nothing (sorts m) ts ≡ Some g → g.out ≡ false → is_some (instr_of_parts m g.operands) ≡ true
+  pub built_gathered : (m : Mnemonic) (ts : List Lexeme) (g : Gathered) → gather_operands look n true nothing (sorts m) ts ≡ Some g → g.out ≡ false
+      → is_some (instr_of_parts m g.operands) ≡ true
   built_gathered m ts g e q =
       let r = gathered_sorts true nothing g (sorts m) ts e q in
       ap (λ os. is_some (instr_of_parts m os)) r.operands ∙ built_exactly m r.os ∙ r.sorted

@@ -1,5 +1,6 @@
 -- What was read was there.
-use Rattle.std.proofs.Common.{◌≡◌, ℕ, Bool, true, false, cond, List, [], ◌∷◌, ◌++◌, refl, sym, ap, ◌∙◌, subst, append_assoc, append-nil, codes, Option, Some, None, option_and_then, Ok, Err, ℤ}
+use Rattle.std.proofs.Common.{◌≡◌, ℕ, Bool, true, false, cond, List, [], ◌∷◌, ◌++◌, refl, sym, ap, ◌∙◌, subst, append_assoc, append-nil, codes, Option, Some}
+use Rattle.std.proofs.Common.{None, option_and_then, Ok, Err, ℤ}
 use Rattle.std.proofs.lemmas.Slice.Eq.{bytes_eq-Decides}
 use Rattle.std.specs.Str.{bytes_eq}
 use Rattle.asm_text.specs.Tokens.{Lexeme}
@@ -20,7 +21,8 @@ use Rattle.asm_grammar.specs.Writing.{Written, lexemes_of, joined, more}
 use Rattle.asm_grammar.specs.Sorts.{Taken, operand_taken, distance}
 use Rattle.asm_grammar.specs.Sorts.Taken.{No, Out, Is, To, LongTo}
 use Rattle.asm_grammar.specs.Grammar.{Look, StandsFor, Stand, Means, head}
-use Rattle.asm_grammar.specs.Reading.{Gathered, nothing, gather_operands, step, added, aimed, next_operand, after_call, headed, mnemonic_at, finished, judged, said, body, by_mnemonic}
+use Rattle.asm_grammar.specs.Reading.{Gathered, nothing, gather_operands, step, added, aimed, next_operand, after_call, headed, mnemonic_at, finished, judged}
+use Rattle.asm_grammar.specs.Reading.{said, body, by_mnemonic}
 use Rattle.asm_grammar.proofs.Meant.{having, operand_found, same_pair, head_one}
 
 pub and_then_some : {A B : Type 0} (f : A → Option B) (o : Option A) (y : B) → option_and_then f o ≡ Some y → (x : A) × (o ≡ Some x) × (f x ≡ Some y)
@@ -34,15 +36,19 @@ judged_is false (Some j) i e = let k : j ≡ i = cc e in (refl, ap (λ x. Some x
 
 -- ---- the mnemonic that was found
 
-local_found : (w : List ℕ) (ts : List Lexeme) (m : Mnemonic) (rest : List Lexeme) (b : Bool) → bytes_eq w (codes "local") ≡ b → ◌≡◌ {A = Mnemonic × List Lexeme} (cond b (mnemonic.CallLocal, ts) (mnemonic.CallHelper, Name w ∷ ts)) (m, rest) → Name (codes "call") ∷ Name w ∷ ts ≡ head m ++ rest
+local_found : (w : List ℕ) (ts : List Lexeme) (m : Mnemonic) (rest : List Lexeme) (b : Bool) → bytes_eq w (codes "local") ≡ b
+    → ◌≡◌ {A = Mnemonic × List Lexeme} (cond b (mnemonic.CallLocal, ts) (mnemonic.CallHelper, Name w ∷ ts)) (m, rest)
+    → Name (codes "call") ∷ Name w ∷ ts ≡ head m ++ rest
 local_found w ts m rest true b e =
     let k = same_pair mnemonic.CallLocal m ts rest (ap (λ (x : Mnemonic × List Lexeme). Some x) e) in
-    ap (λ v. Name (codes "call") ∷ Name v ∷ ts) ((bytes_eq-Decides w (codes "local")).0 b) ∙ ap (λ r. Name (codes "call") ∷ Name (codes "local") ∷ r) k.1 ∙ ap (λ x. head x ++ rest) k.0
+    ap (λ v. Name (codes "call") ∷ Name v ∷ ts) ((bytes_eq-Decides w (codes "local")).0 b) ∙ ap (λ r. Name (codes "call") ∷ Name (codes "local") ∷ r) k.1
+    ∙ ap (λ x. head x ++ rest) k.0
 local_found w ts m rest false b e =
     let k = same_pair mnemonic.CallHelper m (Name w ∷ ts) rest (ap (λ (x : Mnemonic × List Lexeme). Some x) e) in
     ap (λ r. Name (codes "call") ∷ r) k.1 ∙ ap (λ x. head x ++ rest) k.0
 
-helper_found : (ts : List Lexeme) (m : Mnemonic) (rest : List Lexeme) → ◌≡◌ {A = Mnemonic × List Lexeme} (mnemonic.CallHelper, ts) (m, rest) → Name (codes "call") ∷ ts ≡ head m ++ rest
+helper_found : (ts : List Lexeme) (m : Mnemonic) (rest : List Lexeme) → ◌≡◌ {A = Mnemonic × List Lexeme} (mnemonic.CallHelper, ts) (m, rest)
+    → Name (codes "call") ∷ ts ≡ head m ++ rest
 helper_found ts m rest e =
     let k = same_pair mnemonic.CallHelper m ts rest (ap (λ (x : Mnemonic × List Lexeme). Some x) e) in
     ap (λ r. Name (codes "call") ∷ r) k.1 ∙ ap (λ x. head x ++ rest) k.0
@@ -52,17 +58,20 @@ called_found (Name w ∷ ts) m rest e = local_found w ts m rest (bytes_eq w (cod
 called_found [] m rest e = helper_found [] m rest e
 called_found (t ∷ ts) m rest e = helper_found (t ∷ ts) m rest e
 
-other_found : (k : Mnemonic) (ts : List Lexeme) (m : Mnemonic) (rest : List Lexeme) → head k ≡ Name (name k) ∷ [] → ◌≡◌ {A = Option (Mnemonic × List Lexeme)} (Some (k, ts)) (Some (m, rest)) → Name (name k) ∷ ts ≡ head m ++ rest
+other_found : (k : Mnemonic) (ts : List Lexeme) (m : Mnemonic) (rest : List Lexeme) → head k ≡ Name (name k) ∷ []
+    → ◌≡◌ {A = Option (Mnemonic × List Lexeme)} (Some (k, ts)) (Some (m, rest)) → Name (name k) ∷ ts ≡ head m ++ rest
 other_found k ts m rest h e =
     let p = same_pair k m ts rest e in
     ap (λ x. x ++ ts) (sym h) ∙ ap (λ r. head k ++ r) p.1 ∙ ap (λ x. head x ++ rest) p.0
 
-headed_found : (k : Mnemonic) (ts : List Lexeme) (m : Mnemonic) (rest : List Lexeme) → has_two_words k ≡ false → headed (Some k) ts ≡ Some (m, rest) → Name (name k) ∷ ts ≡ head m ++ rest
+headed_found : (k : Mnemonic) (ts : List Lexeme) (m : Mnemonic) (rest : List Lexeme) → has_two_words k ≡ false → headed (Some k) ts ≡ Some (m, rest)
+    → Name (name k) ∷ ts ≡ head m ++ rest
 headed_found mnemonic.CallLocal ts m rest l e = absurd (cc l)
 headed_found mnemonic.CallHelper ts m rest l e = let k : ◌≡◌ {A = Mnemonic × List Lexeme} (after_call ts) (m, rest) = cc e in called_found ts m rest k
 headed_found k ts m rest l e = other_found k ts m rest (head_one k l) e
 
-named_found : (w : List ℕ) (ts : List Lexeme) (m : Mnemonic) (rest : List Lexeme) (o : Option Mnemonic) → named w ≡ o → headed o ts ≡ Some (m, rest) → Name w ∷ ts ≡ head m ++ rest
+named_found : (w : List ℕ) (ts : List Lexeme) (m : Mnemonic) (rest : List Lexeme) (o : Option Mnemonic) → named w ≡ o → headed o ts ≡ Some (m, rest)
+    → Name w ∷ ts ≡ head m ++ rest
 named_found w ts m rest None f e = absurd (cc e)
 named_found w ts m rest (Some k) f e = ap (λ x. Name x ∷ ts) (named_is w k f) ∙ headed_found k ts m rest (named_local w k f) e
 
@@ -79,7 +88,8 @@ pub from_none : (first : Bool) → from first [] ≡ []
 from_none true = refl
 from_none false = refl
 
-pub from_next : (first : Bool) (ts : List Lexeme) (w : Written) (rest : List Lexeme) (ws : List Written) → next_operand first ts ≡ Some (w, rest) → rest ≡ more ws → ts ≡ from first (w ∷ ws)
+pub from_next : (first : Bool) (ts : List Lexeme) (w : Written) (rest : List Lexeme) (ws : List Written) → next_operand first ts ≡ Some (w, rest)
+    → rest ≡ more ws → ts ≡ from first (w ∷ ws)
 from_next true ts w rest ws e f = operand_found ts w rest e ∙ ap (λ x. lexemes_of w ++ x) f
 from_next false (Comma ∷ ts) w rest ws e f = ap (λ x. Comma ∷ x) (operand_found ts w rest e ∙ ap (λ x. lexemes_of w ++ x) f)
 from_next false _ w rest ws e f = absurd (cc e)
@@ -96,7 +106,8 @@ module _ (look : Look) (n : ℕ) where
   aimed_none : (f : ℤ → AsmOperand) (g h : Gathered) (t : Taken) → aimed f n g None ≡ h → h.unknown ≡ false → Added g h t
   aimed_none f g h t e u = let k : true ≡ false = ap (λ (x : Gathered). x.unknown) e ∙ u in absurd (cc k)
 
-  aimed_some : (f : ℤ → AsmOperand) (g h : Gathered) (t : Taken) (slot : ℕ) → StandsFor look n t (f (distance slot n)) → aimed f n g (Some slot) ≡ h → h.out ≡ false → h.unknown ≡ false → Added g h t
+  aimed_some : (f : ℤ → AsmOperand) (g h : Gathered) (t : Taken) (slot : ℕ) → StandsFor look n t (f (distance slot n)) → aimed f n g (Some slot) ≡ h
+      → h.out ≡ false → h.unknown ≡ false → Added g h t
   aimed_some f g h t slot s e o u = record {
     o = f (distance slot n);
     stands = s;
@@ -105,11 +116,13 @@ module _ (look : Look) (n : ℕ) where
     known = ap (λ (x : Gathered). x.unknown) e ∙ u;
   }
 
-  to_is : (g h : Gathered) (w : List ℕ) (o : Option ℕ) → look w ≡ o → aimed (λ z. operand.Offset z) n g o ≡ h → h.out ≡ false → h.unknown ≡ false → Added g h (To w)
+  to_is : (g h : Gathered) (w : List ℕ) (o : Option ℕ) → look w ≡ o → aimed (λ z. operand.Offset z) n g o ≡ h → h.out ≡ false
+      → h.unknown ≡ false → Added g h (To w)
   to_is g h w None l e f u = aimed_none (λ z. operand.Offset z) g h (To w) e u
   to_is g h w (Some slot) l e f u = aimed_some (λ z. operand.Offset z) g h (To w) slot (slot, l, refl) e f u
 
-  long_to_is : (g h : Gathered) (w : List ℕ) (o : Option ℕ) → look w ≡ o → aimed (λ z. operand.LongOffset z) n g o ≡ h → h.out ≡ false → h.unknown ≡ false → Added g h (LongTo w)
+  long_to_is : (g h : Gathered) (w : List ℕ) (o : Option ℕ) → look w ≡ o → aimed (λ z. operand.LongOffset z) n g o ≡ h → h.out ≡ false
+      → h.unknown ≡ false → Added g h (LongTo w)
   long_to_is g h w None l e f u = aimed_none (λ z. operand.LongOffset z) g h (LongTo w) e u
   long_to_is g h w (Some slot) l e f u = aimed_some (λ z. operand.LongOffset z) g h (LongTo w) slot (slot, l, refl) e f u
 
@@ -118,7 +131,13 @@ module _ (look : Look) (n : ℕ) where
   added_is g h Out e f u = let j : having g.operands true g.unknown ≡ h = cc e in let k : true ≡ false = ap (λ (x : Gathered). x.out) j ∙ f in absurd (cc k)
   added_is g h (Is o) e f u =
       let j : having (g.operands ++ o ∷ []) g.out g.unknown ≡ h = cc e in
-      record { o = o; stands = refl; operands = sym (ap (λ (x : Gathered). x.operands) j); in_range = ap (λ (x : Gathered). x.out) j ∙ f; known = ap (λ (x : Gathered). x.unknown) j ∙ u }
+      record {
+        o = o;
+        stands = refl;
+        operands = sym (ap (λ (x : Gathered). x.operands) j);
+        in_range = ap (λ (x : Gathered). x.out) j ∙ f;
+        known = ap (λ (x : Gathered). x.unknown) j ∙ u;
+      }
   added_is g h (To w) e f u = let j : aimed (λ z. operand.Offset z) n g (look w) ≡ h = cc e in to_is g h w (look w) refl j f u
   added_is g h (LongTo w) e f u = let j : aimed (λ z. operand.LongOffset z) n g (look w) ≡ h = cc e in long_to_is g h w (look w) refl j f u
 
@@ -132,7 +151,8 @@ module _ (look : Look) (n : ℕ) where
     pub in_range : g.out ≡ false
     pub known : g.unknown ≡ false
 
-  pub step_is : (first : Bool) (g : Gathered) (s : Sort) (ts : List Lexeme) (x : Gathered × List Lexeme) → step look n first g s ts ≡ Some x → (w : Written) × (next_operand first ts ≡ Some (w, x.1)) × (added look n g (operand_taken s w) ≡ Some x.0)
+  pub step_is : (first : Bool) (g : Gathered) (s : Sort) (ts : List Lexeme) (x : Gathered × List Lexeme) → step look n first g s ts ≡ Some x
+      → (w : Written) × (next_operand first ts ≡ Some (w, x.1)) × (added look n g (operand_taken s w) ≡ Some x.0)
   unfolding step
   step_is first g s ts x e =
       let a = and_then_some _ (next_operand first ts) x e in
@@ -143,10 +163,19 @@ module _ (look : Look) (n : ℕ) where
         b.1 ∙ ap (λ (r : Gathered). Some r) (ap (λ (y : Gathered × List Lexeme). y.0) p),
       )
 
-  pub gathered_is : (first : Bool) (g h : Gathered) (ss : List Sort) (ts : List Lexeme) → gather_operands look n first g ss ts ≡ Some h → h.out ≡ false → h.unknown ≡ false → Read first g h ss ts
+  pub gathered_is : (first : Bool) (g h : Gathered) (ss : List Sort) (ts : List Lexeme) → gather_operands look n first g ss ts ≡ Some h → h.out ≡ false
+      → h.unknown ≡ false → Read first g h ss ts
   gathered_is first g h [] [] e f u =
       let j : g ≡ h = cc e in
-      record { ws = []; os = []; tokens = sym (from_none first); stand = tt; operands = sym (ap (λ (x : Gathered). x.operands) j) ∙ sym (append-nil g.operands); in_range = ap (λ (x : Gathered). x.out) j ∙ f; known = ap (λ (x : Gathered). x.unknown) j ∙ u }
+      record {
+        ws = [];
+        os = [];
+        tokens = sym (from_none first);
+        stand = tt;
+        operands = sym (ap (λ (x : Gathered). x.operands) j) ∙ sym (append-nil g.operands);
+        in_range = ap (λ (x : Gathered). x.out) j ∙ f;
+        known = ap (λ (x : Gathered). x.unknown) j ∙ u;
+      }
   gathered_is first g h [] (t ∷ ts) e f u = absurd (cc e)
   gathered_is first g h (s ∷ ss) ts e f u =
       let a = and_then_some _ (step look n first g s ts) h e in
@@ -163,13 +192,17 @@ module _ (look : Look) (n : ℕ) where
         known = d.known;
       }
 
-  finished_is : (m : Mnemonic) (g : Gathered) (i : Instr) (o : Bool) → g.out ≡ o → said (finished m (Some g)) ≡ Ok (Some i) → (g.out ≡ false) × (g.unknown ≡ false) × (instr_of_parts m g.operands ≡ Some i)
-  finished_is m g i true a e = absurd (let k : Err why.Range ≡ Ok (Some i) = sym (ap (λ t. said (cond t (Err why.Range) (judged g.unknown (instr_of_parts m g.operands)))) a) ∙ e in cc k)
+  finished_is : (m : Mnemonic) (g : Gathered) (i : Instr) (o : Bool) → g.out ≡ o → said (finished m (Some g)) ≡ Ok (Some i)
+      → (g.out ≡ false) × (g.unknown ≡ false) × (instr_of_parts m g.operands ≡ Some i)
+  finished_is m g i true a e = absurd (let k : Err why.Range ≡ Ok (Some i) =
+      sym (ap (λ t. said (cond t (Err why.Range) (judged g.unknown (instr_of_parts m g.operands)))) a) ∙ e in cc k)
   finished_is m g i false a e =
-      let k = judged_is g.unknown (instr_of_parts m g.operands) i (sym (ap (λ t. said (cond t (Err why.Range) (judged g.unknown (instr_of_parts m g.operands)))) a) ∙ e) in
+      let k = judged_is g.unknown (instr_of_parts m g.operands) i
+      (sym (ap (λ t. said (cond t (Err why.Range) (judged g.unknown (instr_of_parts m g.operands)))) a) ∙ e) in
       (a, k.0, k.1)
 
-  means_at : (ts rest : List Lexeme) (i : Instr) (m : Mnemonic) (og : Option Gathered) → ts ≡ head m ++ rest → gather_operands look n true nothing (sorts m) rest ≡ og → said (finished m og) ≡ Ok (Some i) → Means look n ts i
+  means_at : (ts rest : List Lexeme) (i : Instr) (m : Mnemonic) (og : Option Gathered) → ts ≡ head m ++ rest
+      → gather_operands look n true nothing (sorts m) rest ≡ og → said (finished m og) ≡ Ok (Some i) → Means look n ts i
   means_at ts rest i m None e f h = absurd (cc h)
   means_at ts rest i m (Some g) e f h =
       let k = finished_is m g i g.out refl h in
@@ -181,7 +214,8 @@ module _ (look : Look) (n : ℕ) where
         subst (λ os. Stand look n (sorts (mnemonic_of i)) r.ws os) q (subst (λ x. Stand look n (sorts x) r.ws r.os) (sym b.0) r.stand),
       )
 
-  means_named : (ts : List Lexeme) (i : Instr) (o : Option (Mnemonic × List Lexeme)) → mnemonic_at ts ≡ o → by_mnemonic look n o ≡ Ok (Some i) → Means look n ts i
+  means_named : (ts : List Lexeme) (i : Instr) (o : Option (Mnemonic × List Lexeme)) → mnemonic_at ts ≡ o
+      → by_mnemonic look n o ≡ Ok (Some i) → Means look n ts i
   means_named ts i None e h = absurd (cc h)
   means_named ts i (Some x) e h = means_at ts x.1 i x.0 (gather_operands look n true nothing (sorts x.0) x.1) (mnemonic_found ts x.0 x.1 e) refl h
 

@@ -1,5 +1,6 @@
 -- What is read is what the tokens mean.
-use Rattle.std.proofs.Common.{◌≡◌, ◌^◌, inl, inr, ℕ, Bool, true, false, List, [], ◌∷◌, ◌++◌, refl, sym, ap, ◌∙◌, append_assoc, append-nil, codes, Option, Some, None, option_and_then, Ok}
+use Rattle.std.proofs.Common.{◌≡◌, ◌^◌, inl, inr, ℕ, Bool, true, false, List, [], ◌∷◌, ◌++◌, refl, sym, ap, ◌∙◌, append_assoc, append-nil, codes, Option, Some}
+use Rattle.std.proofs.Common.{None, option_and_then, Ok}
 use Rattle.asm_text.specs.Tokens.{Lexeme}
 use Rattle.asm_text.specs.Tokens.Lexeme.{Name, Number, Comma, Open, Close, Plus, Minus}
 use Rattle.isa_table.specs.declared.instr.Instr.{Instr}
@@ -20,7 +21,8 @@ use Rattle.asm_grammar.specs.Writing.Written.{Word, Bare, Signed, Memory, Memory
 use Rattle.asm_grammar.specs.Sorts.{Taken, operand_taken, counted, fitting}
 use Rattle.asm_grammar.specs.Sorts.Taken.{No, Out, Is, To, LongTo}
 use Rattle.asm_grammar.specs.Grammar.{Look, StandsFor, Stand, Means, head, AimsNowhere, OneAimsNowhere}
-use Rattle.asm_grammar.specs.Reading.{Gathered, nothing, gather_operands, added, aimed, after_call, headed, mnemonic_at, finished, judged, said, body, by_mnemonic, mnemonic_slots, body_slots}
+use Rattle.asm_grammar.specs.Reading.{Gathered, nothing, gather_operands, added, aimed, after_call, headed, mnemonic_at, finished, judged, said, body}
+use Rattle.asm_grammar.specs.Reading.{by_mnemonic, mnemonic_slots, body_slots}
 use Rattle.asm_grammar.proofs.Gathers.{step_some}
 
 -- ---- one operand, both ways
@@ -38,22 +40,26 @@ pub same_pair : {A B : Type 0} (a c : A) (b d : B) → ◌≡◌ {A = Option (A 
 same_pair {A} {B} a c b d e = let k : ◌≡◌ {A = A × B} (a, b) (c, d) = cc e in (ap (λ (x : A × B). x.0) k, ap (λ (x : A × B). x.1) k)
 
 -- what was read, in the place of what was found
-put : (v w : Written) (ts rest : List Lexeme) → ◌≡◌ {A = Option (Written × List Lexeme)} (Some (v, ts)) (Some (w, rest)) → lexemes_of v ++ ts ≡ lexemes_of w ++ rest
+put : (v w : Written) (ts rest : List Lexeme) → ◌≡◌ {A = Option (Written × List Lexeme)} (Some (v, ts)) (Some (w, rest))
+    → lexemes_of v ++ ts ≡ lexemes_of w ++ rest
 put v w ts rest e = let k = same_pair v w ts rest e in ap (λ x. lexemes_of v ++ x) k.1 ∙ ap (λ x. lexemes_of x ++ rest) k.0
 
 signed_found : (s : Sign) (ts : List Lexeme) (w : Written) (rest : List Lexeme) → signed_at s ts ≡ Some (w, rest) → sign_token s ∷ ts ≡ lexemes_of w ++ rest
 signed_found s (Number n ∷ ts) w rest e = put (Signed s n) w ts rest e
 signed_found s _ w rest e = absurd (cc e)
 
-close_found : (v : Written) (front ts : List Lexeme) (w : Written) (rest : List Lexeme) → ((xs : List Lexeme) → front ++ Close ∷ xs ≡ lexemes_of v ++ xs) → close_at v ts ≡ Some (w, rest) → front ++ ts ≡ lexemes_of w ++ rest
+close_found : (v : Written) (front ts : List Lexeme) (w : Written) (rest : List Lexeme) → ((xs : List Lexeme) → front ++ Close ∷ xs ≡ lexemes_of v ++ xs)
+    → close_at v ts ≡ Some (w, rest) → front ++ ts ≡ lexemes_of w ++ rest
 close_found v front (Close ∷ ts) w rest h e = h ts ∙ put v w ts rest e
 close_found v front _ w rest h e = absurd (cc e)
 
-offset_found : (name : List ℕ) (s : Sign) (ts : List Lexeme) (w : Written) (rest : List Lexeme) → offset_at name s ts ≡ Some (w, rest) → Open ∷ Name name ∷ sign_token s ∷ ts ≡ lexemes_of w ++ rest
+offset_found : (name : List ℕ) (s : Sign) (ts : List Lexeme) (w : Written) (rest : List Lexeme) → offset_at name s ts ≡ Some (w, rest)
+    → Open ∷ Name name ∷ sign_token s ∷ ts ≡ lexemes_of w ++ rest
 offset_found name s (Number n ∷ ts) w rest e = close_found (MemoryAt name s n) (Open ∷ Name name ∷ sign_token s ∷ Number n ∷ []) ts w rest (λ xs. refl) e
 offset_found name s _ w rest e = absurd (cc e)
 
-base_found : (name : List ℕ) (ts : List Lexeme) (w : Written) (rest : List Lexeme) → base_at name ts ≡ Some (w, rest) → Open ∷ Name name ∷ ts ≡ lexemes_of w ++ rest
+base_found : (name : List ℕ) (ts : List Lexeme) (w : Written) (rest : List Lexeme) → base_at name ts ≡ Some (w, rest)
+    → Open ∷ Name name ∷ ts ≡ lexemes_of w ++ rest
 base_found name (Close ∷ ts) w rest e = put (Memory name) w ts rest e
 base_found name (Plus ∷ ts) w rest e = offset_found name sign.Plus ts w rest e
 base_found name (Minus ∷ ts) w rest e = offset_found name sign.Minus ts w rest e
@@ -96,7 +102,8 @@ pub head_one : (m : Mnemonic) → has_two_words m ≡ false → head m ≡ Name 
 head_one mnemonic.CallLocal h = absurd (cc h)
 head_one _ h = refl
 
-headed_named : (m : Mnemonic) (ts : List Lexeme) → has_two_words m ≡ false → (is_helper m ≡ true → NoName ts) → (b : Bool) → is_helper m ≡ b → headed (Some m) ts ≡ Some (m, ts)
+headed_named : (m : Mnemonic) (ts : List Lexeme) → has_two_words m ≡ false → (is_helper m ≡ true → NoName ts) → (b : Bool) → is_helper m ≡ b
+    → headed (Some m) ts ≡ Some (m, ts)
 unfolding is_helper
 headed_named mnemonic.CallHelper ts l h b e = ap (λ (x : Mnemonic × List Lexeme). Some x) (called_none ts (h refl))
 headed_named m ts l h false e = headed_other m ts e
@@ -106,7 +113,8 @@ mnemonic_named : (m : Mnemonic) (ts : List Lexeme) → has_two_words m ≡ false
 mnemonic_named m ts l h =
     ap (λ x. mnemonic_at (x ++ ts)) (head_one m l) ∙ ap (λ o. headed o ts) (named_name m l) ∙ headed_named m ts l h (is_helper m) refl
 
-mnemonic_again_at : (m : Mnemonic) (ts : List Lexeme) (b : Bool) → has_two_words m ≡ b → (is_helper m ≡ true → NoName ts) → mnemonic_at (head m ++ ts) ≡ Some (m, ts)
+mnemonic_again_at : (m : Mnemonic) (ts : List Lexeme) (b : Bool) → has_two_words m ≡ b → (is_helper m ≡ true → NoName ts)
+    → mnemonic_at (head m ++ ts) ≡ Some (m, ts)
 mnemonic_again_at mnemonic.CallLocal ts b e h = ap (λ o. headed o (Name (codes "local") ∷ ts)) (named_name mnemonic.CallHelper refl)
 mnemonic_again_at m ts false e h = mnemonic_named m ts e h
 mnemonic_again_at m ts true e h = absurd (cc e)
@@ -125,24 +133,30 @@ module _ (look : Look) (n : ℕ) where
   added_stands g Out o h = absurd h
   added_stands g (Is p) o h = ap (λ x. Some (having (g.operands ++ x ∷ []) g.out g.unknown)) h
   added_stands g (To w) o h = ap (λ x. Some (aimed (λ z. operand.Offset z) n g x)) h.1 ∙ ap (λ x. Some (having (g.operands ++ x ∷ []) g.out g.unknown)) h.2
-  added_stands g (LongTo w) o h = ap (λ x. Some (aimed (λ z. operand.LongOffset z) n g x)) h.1 ∙ ap (λ x. Some (having (g.operands ++ x ∷ []) g.out g.unknown)) h.2
+  added_stands g (LongTo w) o h = ap (λ x. Some (aimed (λ z. operand.LongOffset z) n g x)) h.1
+      ∙ ap (λ x. Some (having (g.operands ++ x ∷ []) g.out g.unknown)) h.2
 
-  regrouped : (g : Gathered) (o : AsmOperand) (os : List AsmOperand) → Some (having ((g.operands ++ o ∷ []) ++ os) g.out g.unknown) ≡ Some (having (g.operands ++ (o ∷ os)) g.out g.unknown)
+  regrouped : (g : Gathered) (o : AsmOperand) (os : List AsmOperand)
+      → Some (having ((g.operands ++ o ∷ []) ++ os) g.out g.unknown) ≡ Some (having (g.operands ++ (o ∷ os)) g.out g.unknown)
   regrouped g o os = ap (λ x. Some (having (x) g.out g.unknown)) (append_assoc g.operands (o ∷ []) os)
 
-  more_stand : (g : Gathered) (ss : List Sort) (ws : List Written) (os : List AsmOperand) → Stand look n ss ws os → gather_operands look n false g ss (more ws) ≡ Some (having (g.operands ++ os) g.out g.unknown)
+  more_stand : (g : Gathered) (ss : List Sort) (ws : List Written) (os : List AsmOperand) → Stand look n ss ws os
+      → gather_operands look n false g ss (more ws) ≡ Some (having (g.operands ++ os) g.out g.unknown)
   more_stand g [] [] [] h = ap (λ x. Some (having (x) g.out g.unknown)) (sym (append-nil g.operands))
   more_stand g (s ∷ ss) (w ∷ ws) (o ∷ os) h =
       let g2 = having (g.operands ++ o ∷ []) g.out g.unknown in
-      ap (option_and_then (λ (x : Gathered × List Lexeme). gather_operands look n false x.0 ss x.1)) (step_some look n false g g2 s w (Comma ∷ (lexemes_of w ++ more ws)) (more ws) (operand_again w (more ws)) (added_stands g (operand_taken s w) o h.0))
+      ap (option_and_then (λ (x : Gathered × List Lexeme). gather_operands look n false x.0 ss x.1))
+      (step_some look n false g g2 s w (Comma ∷ (lexemes_of w ++ more ws)) (more ws) (operand_again w (more ws)) (added_stands g (operand_taken s w) o h.0))
       ∙ more_stand g2 ss ws os h.1 ∙ regrouped g o os
   more_stand g _ _ _ h = absurd h
 
-  pub joined_stand : (ss : List Sort) (ws : List Written) (os : List AsmOperand) → Stand look n ss ws os → gather_operands look n true nothing ss (joined ws) ≡ Some (having (os) false false)
+  pub joined_stand : (ss : List Sort) (ws : List Written) (os : List AsmOperand) → Stand look n ss ws os
+      → gather_operands look n true nothing ss (joined ws) ≡ Some (having (os) false false)
   joined_stand [] [] [] h = refl
   joined_stand (s ∷ ss) (w ∷ ws) (o ∷ os) h =
       let g2 = having (o ∷ []) false false in
-      ap (option_and_then (λ (x : Gathered × List Lexeme). gather_operands look n false x.0 ss x.1)) (step_some look n true nothing g2 s w (lexemes_of w ++ more ws) (more ws) (operand_again w (more ws)) (added_stands nothing (operand_taken s w) o h.0))
+      ap (option_and_then (λ (x : Gathered × List Lexeme). gather_operands look n false x.0 ss x.1))
+      (step_some look n true nothing g2 s w (lexemes_of w ++ more ws) (more ws) (operand_again w (more ws)) (added_stands nothing (operand_taken s w) o h.0))
       ∙ more_stand g2 ss ws os h.1
   joined_stand _ _ _ h = absurd h
 
@@ -206,5 +220,6 @@ module _ (look : Look) (n : ℕ) where
   helper_aimless _ ws h e = absurd (cc e)
 
   -- what uses a label that stands nowhere is read by its mnemonic
-  pub used_body : (ts : List Lexeme) (m : Mnemonic) (ws : List Written) → ts ≡ head m ++ joined ws → OneAimsNowhere look (sorts m) ws → body look n ts ≡ said (finished m (gather_operands look n true nothing (sorts m) (joined ws)))
+  pub used_body : (ts : List Lexeme) (m : Mnemonic) (ws : List Written) → ts ≡ head m ++ joined ws → OneAimsNowhere look (sorts m) ws
+      → body look n ts ≡ said (finished m (gather_operands look n true nothing (sorts m) (joined ws)))
   used_body ts m ws e h = body_named ts (m, joined ws) (ap mnemonic_at e ∙ mnemonic_again m (joined ws) (helper_aimless m ws h))

@@ -1,5 +1,6 @@
 -- The numbers of an instruction that is meant are those of its fields.
-use Rattle.std.proofs.Common.{◌≡◌, ℕ, ◌+◌, ◌-◌, ◌%◌, ◌<◌, ◌≤◌, ◌^◌, nat_lt, nat_le, zero, suc, ℤ, pos, negsuc, Bool, true, false, cond, List, [], ◌∷◌, refl, sym, subst, arith, Option, Some, None}
+use Rattle.std.proofs.Common.{◌≡◌, ℕ, ◌+◌, ◌-◌, ◌%◌, ◌<◌, ◌≤◌, ◌^◌, nat_lt, nat_le, zero, suc, ℤ, pos, negsuc, Bool, true, false, cond, List, [], ◌∷◌, refl}
+use Rattle.std.proofs.Common.{sym, subst, arith, Option, Some, None}
 use Rattle.std.specs.Prelude.{neg_ℤ, ◌-ℤ◌}
 use Rattle.std.proofs.lemmas.Bool.Decides.{nat_tests}
 use Rattle.asm_text.specs.Tokens.{Lexeme}
@@ -34,7 +35,8 @@ negated_within limit zero p h = p
 negated_within limit (suc k) p h = h
 
 fitting_minus : (limit k : ℕ) (b : Bool) (z : ℤ) → 0 < limit → nat_le k limit ≡ b → cond b (Some (neg_ℤ (pos k))) None ≡ Some z → IsSignedWithin limit z
-fitting_minus limit k true z p e h = let s : neg_ℤ (pos k) ≡ z = cc h in let l : k ≤ limit = grind (arith, nat_tests) in subst (IsSignedWithin limit) s (negated_within limit k p l)
+fitting_minus limit k true z p e h = let s : neg_ℤ (pos k) ≡ z = cc h in let l : k ≤ limit = grind (arith, nat_tests) in
+    subst (IsSignedWithin limit) s (negated_within limit k p l)
 fitting_minus limit k false z p e h = absurd (cc h)
 
 fitting_within : (limit : ℕ) (s : Sign) (n : Option ℕ) (z : ℤ) → 0 < limit → fitting limit s n ≡ Some z → IsSignedWithin limit z

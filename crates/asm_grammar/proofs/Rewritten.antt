@@ -1,5 +1,6 @@
 -- The canonical line means its instruction.
-use Rattle.std.proofs.Common.{◌≡◌, ℕ, ◌<◌, ◌≤◌, ◌^◌, ◌==◌, ◌&&◌, nat_lt, nat_le, zero, suc, ℤ, pos, negsuc, Bool, true, false, cond, List, [], ◌∷◌, ◌++◌, map, length, codes, refl, sym, ap, ◌∙◌, subst, arith, append_assoc, Option, Some, None, decimal}
+use Rattle.std.proofs.Common.{◌≡◌, ℕ, ◌<◌, ◌≤◌, ◌^◌, ◌==◌, ◌&&◌, nat_lt, nat_le, zero, suc, ℤ, pos, negsuc, Bool, true, false, cond, List, [], ◌∷◌, ◌++◌, map}
+use Rattle.std.proofs.Common.{length, codes, refl, sym, ap, ◌∙◌, subst, arith, append_assoc, Option, Some, None, decimal}
 use Rattle.std.proofs.lemmas.Bool.Decides.{nat_tests}
 use Rattle.std.proofs.lemmas.Fmt.{decimal_is_IsNumeral, digits_is_IsNumeral}
 use Rattle.std.specs.Fmt.{digits}
@@ -58,20 +59,29 @@ minus_decimal : (n : ℕ) (rest : List ℕ) → n < 2 ^ 64 → run is_name_byte 
 minus_decimal n rest h end = (mark_front (decimal n ++ rest)).minus ∙ ap (λ l. Minus ∷ l) (decimal_front n rest h end)
 
 memory_shape : (r : Reg) (z : ℤ) (rest : List ℕ) → operand_text (operand.Memory r z) ++ rest ≡ 91 ∷ (register_name r ++ (offset_text z ++ 93 ∷ rest))
-memory_shape r z rest = ap (λ l. 91 ∷ l) (append_assoc (register_name r) (offset_text z ++ 93 ∷ []) rest ∙ ap (λ l. register_name r ++ l) (append_assoc (offset_text z) (93 ∷ []) rest))
+memory_shape r z rest = ap (λ l. 91 ∷ l) (append_assoc (register_name r) (offset_text z ++ 93 ∷ []) rest
+    ∙ ap (λ l. register_name r ++ l) (append_assoc (offset_text z) (93 ∷ []) rest))
 
-base_front : (r : Reg) (rest : List ℕ) (ts : List Lexeme) → run is_name_byte rest ≡ 0 → tokens rest ≡ ts → tokens (91 ∷ (register_name r ++ rest)) ≡ Open ∷ Name (register_name r) ∷ ts
-base_front r rest ts end e = (mark_front (register_name r ++ rest)).opening ∙ ap (λ l. Open ∷ l) (register_front r rest end ∙ ap (λ l. Name (register_name r) ∷ l) e)
+base_front : (r : Reg) (rest : List ℕ) (ts : List Lexeme) → run is_name_byte rest ≡ 0 → tokens rest ≡ ts
+    → tokens (91 ∷ (register_name r ++ rest)) ≡ Open ∷ Name (register_name r) ∷ ts
+base_front r rest ts end e = (mark_front (register_name r ++ rest)).opening
+    ∙ ap (λ l. Open ∷ l) (register_front r rest end ∙ ap (λ l. Name (register_name r) ∷ l) e)
 
-operand_front : (o : AsmOperand) (rest : List ℕ) → FitsOperand o → run is_name_byte rest ≡ 0 → tokens (operand_text o ++ rest) ≡ lexemes_of (canonical o) ++ tokens rest
+operand_front : (o : AsmOperand) (rest : List ℕ) → FitsOperand o → run is_name_byte rest ≡ 0
+    → tokens (operand_text o ++ rest) ≡ lexemes_of (canonical o) ++ tokens rest
 operand_front (operand.Register r) rest f end = register_front r rest end
 operand_front (operand.Imm (pos n)) rest f end = decimal_front n rest (omega arith) end
 operand_front (operand.Imm (negsuc n)) rest f end = minus_decimal (suc n) rest (omega arith) end
-operand_front (operand.Memory r (pos zero)) rest f end = ap tokens (memory_shape r (pos zero) rest) ∙ base_front r (93 ∷ rest) (Close ∷ tokens rest) refl ((mark_front rest).closing)
+operand_front (operand.Memory r (pos zero)) rest f end =
+    ap tokens (memory_shape r (pos zero) rest) ∙ base_front r (93 ∷ rest) (Close ∷ tokens rest) refl ((mark_front rest).closing)
 operand_front (operand.Memory r (pos (suc n))) rest f end =
-    ap tokens (memory_shape r (pos (suc n)) rest) ∙ base_front r (43 ∷ (decimal (suc n) ++ 93 ∷ rest)) (Plus ∷ Number (Some (suc n)) ∷ Close ∷ tokens rest) refl (plus_decimal (suc n) (93 ∷ rest) (omega arith) refl ∙ ap (λ l. Plus ∷ Number (Some (suc n)) ∷ l) ((mark_front rest).closing))
+    ap tokens (memory_shape r (pos (suc n)) rest)
+    ∙ base_front r (43 ∷ (decimal (suc n) ++ 93 ∷ rest)) (Plus ∷ Number (Some (suc n)) ∷ Close
+    ∷ tokens rest) refl (plus_decimal (suc n) (93 ∷ rest) (omega arith) refl ∙ ap (λ l. Plus ∷ Number (Some (suc n)) ∷ l) ((mark_front rest).closing))
 operand_front (operand.Memory r (negsuc n)) rest f end =
-    ap tokens (memory_shape r (negsuc n) rest) ∙ base_front r (45 ∷ (decimal (suc n) ++ 93 ∷ rest)) (Minus ∷ Number (Some (suc n)) ∷ Close ∷ tokens rest) refl (minus_decimal (suc n) (93 ∷ rest) (omega arith) refl ∙ ap (λ l. Minus ∷ Number (Some (suc n)) ∷ l) ((mark_front rest).closing))
+    ap tokens (memory_shape r (negsuc n) rest)
+    ∙ base_front r (45 ∷ (decimal (suc n) ++ 93 ∷ rest)) (Minus ∷ Number (Some (suc n)) ∷ Close
+    ∷ tokens rest) refl (minus_decimal (suc n) (93 ∷ rest) (omega arith) refl ∙ ap (λ l. Minus ∷ Number (Some (suc n)) ∷ l) ((mark_front rest).closing))
 operand_front (operand.Offset (pos n)) rest f end = plus_decimal n rest (omega arith) end
 operand_front (operand.Offset (negsuc n)) rest f end = minus_decimal (suc n) rest (omega arith) end
 operand_front (operand.LongOffset (pos n)) rest f end = plus_decimal n rest (omega arith) end
@@ -87,7 +97,8 @@ more_ends (o ∷ os) = refl
 more_tokens : (os : List AsmOperand) → AllFitOperands os → tokens (more_text os) ≡ more (map canonical os)
 more_tokens [] f = refl
 more_tokens (o ∷ os) f =
-    (mark_front (32 ∷ (operand_text o ++ more_text os))).comma ∙ ap (λ l. Comma ∷ l) (operand_front o (more_text os) f.0 (more_ends os) ∙ ap (λ l. lexemes_of (canonical o) ++ l) (more_tokens os f.1))
+    (mark_front (32 ∷ (operand_text o ++ more_text os))).comma
+    ∙ ap (λ l. Comma ∷ l) (operand_front o (more_text os) f.0 (more_ends os) ∙ ap (λ l. lexemes_of (canonical o) ++ l) (more_tokens os f.1))
 
 operands_ends : (os : List AsmOperand) → run is_name_byte (operands_text os) ≡ 0
 operands_ends [] = refl
@@ -125,7 +136,8 @@ name_is_word m h = passing has_word m all_words h
 
 head_at : (m : Mnemonic) (rest : List ℕ) (b : Bool) → has_two_words m ≡ b → run is_name_byte rest ≡ 0 → tokens (name m ++ rest) ≡ head m ++ tokens rest
 head_at mnemonic.CallLocal rest b e end =
-    name_front 99 (97 ∷ 108 ∷ 108 ∷ []) (32 ∷ 108 ∷ 111 ∷ 99 ∷ 97 ∷ 108 ∷ rest) refl refl refl ∙ ap (λ l. Name (codes "call") ∷ l) (name_front 108 (111 ∷ 99 ∷ 97 ∷ 108 ∷ []) rest refl refl end)
+    name_front 99 (97 ∷ 108 ∷ 108 ∷ []) (32 ∷ 108 ∷ 111 ∷ 99 ∷ 97 ∷ 108 ∷ rest) refl refl refl
+    ∙ ap (λ l. Name (codes "call") ∷ l) (name_front 108 (111 ∷ 99 ∷ 97 ∷ 108 ∷ []) rest refl refl end)
 head_at m rest false e end = word_front (name m) rest (name_is_word m e) end ∙ ap (λ l. l ++ tokens rest) (sym (head_one m e))
 head_at m rest true e end = absurd (cc e)
 
@@ -135,7 +147,8 @@ head_front m rest end = head_at m rest (has_two_words m) refl end
 -- the canonical line, token by token
 pub line_tokens : (i : Instr) → FitsParts i → tokens (line_text i) ≡ head (mnemonic_of i) ++ joined (map canonical (operands_of i))
 line_tokens i f =
-    head_front (mnemonic_of i) (operands_text (operands_of i)) (operands_ends (operands_of i)) ∙ ap (λ l. head (mnemonic_of i) ++ l) (operands_tokens (operands_of i) f)
+    head_front (mnemonic_of i) (operands_text (operands_of i)) (operands_ends (operands_of i))
+    ∙ ap (λ l. head (mnemonic_of i) ++ l) (operands_tokens (operands_of i) f)
 
 -- ---- what it stands for
 
@@ -158,7 +171,8 @@ taken_imm : (z : ℤ) → IsSignedWithin (2 ^ 31) z → operand_taken sort.Imm (
 taken_imm (pos n) f = ap (counted (λ z. operand.Imm z)) (fit_pos (2 ^ 31) n f)
 taken_imm (negsuc n) f = ap (counted (λ z. operand.Imm z)) (fit_neg (2 ^ 31) n f)
 
-taken_at : (r : Reg) (s : Sign) (n : Option ℕ) (z : ℤ) → fitting (2 ^ 15) s n ≡ Some z → operand_taken sort.Memory (MemoryAt (register_name r) s n) ≡ Is (operand.Memory r z)
+taken_at : (r : Reg) (s : Sign) (n : Option ℕ) (z : ℤ) → fitting (2 ^ 15) s n ≡ Some z
+    → operand_taken sort.Memory (MemoryAt (register_name r) s n) ≡ Is (operand.Memory r z)
 taken_at r s n z e =
     ap (registered (λ r. counted (λ z. operand.Memory r z) (fitting (2 ^ 15) s n))) (register_again r) ∙ ap (counted (λ z. operand.Memory r z)) e
 
@@ -187,7 +201,8 @@ module _ (look : Look) (n : ℕ) where
   register_stands : (d : Reg) → StandsFor look n (operand_taken sort.Register (canonical (operand.Register d))) (operand.Register d)
   register_stands d = is_stands look n _ _ (taken_register d)
 
-  memory_stands : (r : Reg) (z : ℤ) → IsSignedWithin (2 ^ 15) z → StandsFor look n (operand_taken sort.Memory (canonical (operand.Memory r z))) (operand.Memory r z)
+  memory_stands : (r : Reg) (z : ℤ) → IsSignedWithin (2 ^ 15) z
+      → StandsFor look n (operand_taken sort.Memory (canonical (operand.Memory r z))) (operand.Memory r z)
   memory_stands r z f = is_stands look n _ _ (taken_memory r z f)
 
   imm_stands : (z : ℤ) → IsSignedWithin (2 ^ 31) z → StandsFor look n (operand_taken sort.Imm (canonical (operand.Imm z))) (operand.Imm z)
@@ -199,7 +214,8 @@ module _ (look : Look) (n : ℕ) where
   offset_stands : (z : ℤ) → IsSignedWithin (2 ^ 15) z → StandsFor look n (operand_taken sort.Target (canonical (operand.Offset z))) (operand.Offset z)
   offset_stands z f = is_stands look n _ _ (taken_offset z f)
 
-  long_offset_stands : (z : ℤ) → IsSignedWithin (2 ^ 31) z → StandsFor look n (operand_taken sort.LongTarget (canonical (operand.LongOffset z))) (operand.LongOffset z)
+  long_offset_stands : (z : ℤ) → IsSignedWithin (2 ^ 31) z
+      → StandsFor look n (operand_taken sort.LongTarget (canonical (operand.LongOffset z))) (operand.LongOffset z)
   long_offset_stands z f = is_stands look n _ _ (taken_long_offset z f)
 
   operand_stands : (s : Sort) (o : AsmOperand) → of_sort s o ≡ true → FitsOperand o → StandsFor look n (operand_taken s (canonical o)) o

@@ -14,7 +14,8 @@ use Rattle.asm_grammar.specs.Writing.{Written, more}
 use Rattle.asm_grammar.specs.Sorts.{Taken, operand_taken}
 use Rattle.asm_grammar.specs.Sorts.Taken.{No, Out, Is, To, LongTo}
 use Rattle.asm_grammar.specs.Grammar.{Look, AimsNowhere, OneAimsNowhere, UsesUnknown, head}
-use Rattle.asm_grammar.specs.Reading.{Gathered, nothing, gather_operands, step, added, aimed, next_operand, mnemonic_at, finished, judged, said, body, by_mnemonic, fault_of}
+use Rattle.asm_grammar.specs.Reading.{Gathered, nothing, gather_operands, step, added, aimed, next_operand, mnemonic_at, finished, judged, said, body}
+use Rattle.asm_grammar.specs.Reading.{by_mnemonic, fault_of}
 use Rattle.asm_grammar.proofs.Meant.{having, operand_again, same_pair, used_body}
 use Rattle.asm_grammar.proofs.Found.{and_then_some, step_is, from, from_none, from_next, mnemonic_found}
 
@@ -24,7 +25,8 @@ judged_unknown false u None e = absurd (cc e)
 judged_unknown false true (Some i) e = refl
 judged_unknown false false (Some i) e = absurd (cc e)
 
-judged_used : (t u : Bool) (o : Option Instr) → u ≡ true → fault_of (said (cond t (Err why.Range) (judged u o))) ≡ None → said (cond t (Err why.Range) (judged u o)) ≡ Err why.Label
+judged_used : (t u : Bool) (o : Option Instr) → u ≡ true → fault_of (said (cond t (Err why.Range) (judged u o))) ≡ None
+    → said (cond t (Err why.Range) (judged u o)) ≡ Err why.Label
 judged_used true u o h e = absurd (cc e)
 judged_used false true None h e = absurd (cc e)
 judged_used false true (Some i) h e = refl
@@ -46,19 +48,24 @@ module _ (look : Look) (n : ℕ) where
   added_unknown g h Out e u = let j : having g.operands true g.unknown ≡ h = cc e in inl (ap (λ (x : Gathered). x.unknown) j ∙ u)
   added_unknown g h (Is o) e u = let j : having (g.operands ++ o ∷ []) g.out g.unknown ≡ h = cc e in inl (ap (λ (x : Gathered). x.unknown) j ∙ u)
   added_unknown g h (To w) e u = let j : aimed (λ z. operand.Offset z) n g (look w) ≡ h = cc e in aimed_unknown (λ z. operand.Offset z) g h (look w) j u
-  added_unknown g h (LongTo w) e u = let j : aimed (λ z. operand.LongOffset z) n g (look w) ≡ h = cc e in aimed_unknown (λ z. operand.LongOffset z) g h (look w) j u
+  added_unknown g h (LongTo w) e u = let j : aimed (λ z. operand.LongOffset z) n g (look w) ≡ h = cc e in
+      aimed_unknown (λ z. operand.LongOffset z) g h (look w) j u
 
   record Used (first : Bool) (g : Gathered) (ss : List Sort) (ts : List Lexeme) : Type 0 where
     ws : List Written
     tokens : ts ≡ from first ws
     aims : (g.unknown ≡ true) ⊎ OneAimsNowhere look ss ws
 
-  used_first : (g h : Gathered) (s : Sort) (ss : List Sort) (w : Written) (ws : List Written) → ((h.unknown ≡ true) → (g.unknown ≡ true) ⊎ AimsNowhere look (operand_taken s w)) → (h.unknown ≡ true) ⊎ OneAimsNowhere look ss ws → (g.unknown ≡ true) ⊎ OneAimsNowhere look (s ∷ ss) (w ∷ ws)
+  used_first : (g h : Gathered) (s : Sort) (ss : List Sort) (w : Written) (ws : List Written)
+      → ((h.unknown ≡ true) → (g.unknown ≡ true) ⊎ AimsNowhere look (operand_taken s w)) → (h.unknown ≡ true) ⊎ OneAimsNowhere look ss ws
+      → (g.unknown ≡ true) ⊎ OneAimsNowhere look (s ∷ ss) (w ∷ ws)
   used_first g h s ss w ws f (inr a) = inr (inr a)
   used_first g h s ss w ws f (inl u) = elim (f u) as (λ _. (g.unknown ≡ true) ⊎ OneAimsNowhere look (s ∷ ss) (w ∷ ws)) [ inl k ↦ inl k | inr k ↦ inr (inl k) ]
 
-  gathered_unknown : (first : Bool) (g h : Gathered) (ss : List Sort) (ts : List Lexeme) → gather_operands look n first g ss ts ≡ Some h → h.unknown ≡ true → Used first g ss ts
-  gathered_unknown first g h [] [] e u = let j : g ≡ h = cc e in record { ws = []; tokens = sym (from_none first); aims = inl (ap (λ (x : Gathered). x.unknown) j ∙ u) }
+  gathered_unknown : (first : Bool) (g h : Gathered) (ss : List Sort) (ts : List Lexeme) → gather_operands look n first g ss ts ≡ Some h
+      → h.unknown ≡ true → Used first g ss ts
+  gathered_unknown first g h [] [] e u = let j : g ≡ h = cc e in
+      record { ws = []; tokens = sym (from_none first); aims = inl (ap (λ (x : Gathered). x.unknown) j ∙ u) }
   gathered_unknown first g h [] (t ∷ ts) e u = absurd (cc e)
   gathered_unknown first g h (s ∷ ss) ts e u =
       let a = and_then_some _ (step look n first g s ts) h e in
@@ -74,7 +81,8 @@ module _ (look : Look) (n : ℕ) where
   first_aims ss ws (inl u) = absurd (let k : false ≡ true = u in cc k)
   first_aims ss ws (inr a) = a
 
-  finished_unknown : (ts rest : List Lexeme) (m : Mnemonic) (o : Option Gathered) → ts ≡ head m ++ rest → gather_operands look n true nothing (sorts m) rest ≡ o → said (finished m o) ≡ Err why.Label → UsesUnknown look ts
+  finished_unknown : (ts rest : List Lexeme) (m : Mnemonic) (o : Option Gathered) → ts ≡ head m ++ rest
+      → gather_operands look n true nothing (sorts m) rest ≡ o → said (finished m o) ≡ Err why.Label → UsesUnknown look ts
   finished_unknown ts rest m None e f h = absurd (cc h)
   finished_unknown ts rest m (Some g) e f h =
       let r = gathered_unknown true nothing g (sorts m) rest f (judged_unknown g.out g.unknown (instr_of_parts m g.operands) h) in
@@ -102,7 +110,8 @@ module _ (look : Look) (n : ℕ) where
   added_stays g h (To w) e u = let j : aimed (λ z. operand.Offset z) n g (look w) ≡ h = cc e in aimed_stays (λ z. operand.Offset z) g h (look w) j u
   added_stays g h (LongTo w) e u = let j : aimed (λ z. operand.LongOffset z) n g (look w) ≡ h = cc e in aimed_stays (λ z. operand.LongOffset z) g h (look w) j u
 
-  unknown_stays : (first : Bool) (g h : Gathered) (ss : List Sort) (ts : List Lexeme) → gather_operands look n first g ss ts ≡ Some h → g.unknown ≡ true → h.unknown ≡ true
+  unknown_stays : (first : Bool) (g h : Gathered) (ss : List Sort) (ts : List Lexeme) → gather_operands look n first g ss ts ≡ Some h
+      → g.unknown ≡ true → h.unknown ≡ true
   unknown_stays first g h [] [] e u = let j : g ≡ h = cc e in sym (ap (λ (x : Gathered). x.unknown) j) ∙ u
   unknown_stays first g h [] (t ∷ ts) e u = absurd (cc e)
   unknown_stays first g h (s ∷ ss) ts e u =
@@ -114,10 +123,13 @@ module _ (look : Look) (n : ℕ) where
   added_aims g h No e a = absurd a
   added_aims g h Out e a = absurd a
   added_aims g h (Is o) e a = absurd a
-  added_aims g h (To w) e a = let j : aimed (λ z. operand.Offset z) n g (look w) ≡ h = cc e in sym (ap (λ (x : Gathered). x.unknown) j) ∙ ap (λ o. (aimed (λ z. operand.Offset z) n g o).unknown) a
-  added_aims g h (LongTo w) e a = let j : aimed (λ z. operand.LongOffset z) n g (look w) ≡ h = cc e in sym (ap (λ (x : Gathered). x.unknown) j) ∙ ap (λ o. (aimed (λ z. operand.LongOffset z) n g o).unknown) a
+  added_aims g h (To w) e a = let j : aimed (λ z. operand.Offset z) n g (look w) ≡ h = cc e in
+      sym (ap (λ (x : Gathered). x.unknown) j) ∙ ap (λ o. (aimed (λ z. operand.Offset z) n g o).unknown) a
+  added_aims g h (LongTo w) e a = let j : aimed (λ z. operand.LongOffset z) n g (look w) ≡ h = cc e in
+      sym (ap (λ (x : Gathered). x.unknown) j) ∙ ap (λ o. (aimed (λ z. operand.LongOffset z) n g o).unknown) a
 
-  gathered_aims : (first : Bool) (g h : Gathered) (ss : List Sort) (ws : List Written) (ts : List Lexeme) → ts ≡ from first ws → gather_operands look n first g ss ts ≡ Some h → OneAimsNowhere look ss ws → h.unknown ≡ true
+  gathered_aims : (first : Bool) (g h : Gathered) (ss : List Sort) (ws : List Written) (ts : List Lexeme) → ts ≡ from first ws
+      → gather_operands look n first g ss ts ≡ Some h → OneAimsNowhere look ss ws → h.unknown ≡ true
   gathered_aims first g h [] ws ts t e o = absurd o
   gathered_aims first g h (s ∷ ss) [] ts t e o = absurd o
   gathered_aims first g h (s ∷ ss) (w ∷ ws) ts t e o =
@@ -125,13 +137,16 @@ module _ (look : Look) (n : ℕ) where
       let k = step_is look n first g s ts a.0 a.1 in
       let p = same_pair k.0 w a.0.1 (more ws) (sym k.1 ∙ ap (next_operand first) t ∙ next_again first w ws) in
       elim o as (λ _. h.unknown ≡ true) [
-        | inl b ↦ unknown_stays false a.0.0 h ss a.0.1 a.2 (added_aims g a.0.0 (operand_taken s k.0) k.2 (subst (λ v. AimsNowhere look (operand_taken s v)) (sym p.0) b))
+        | inl b ↦ unknown_stays false a.0.0 h ss a.0.1 a.2
+            (added_aims g a.0.0 (operand_taken s k.0) k.2 (subst (λ v. AimsNowhere look (operand_taken s v)) (sym p.0) b))
         | inr b ↦ gathered_aims false a.0.0 h ss ws a.0.1 p.1 a.2 b
       ]
 
-  finished_used : (m : Mnemonic) (ws : List Written) (o : Option Gathered) → gather_operands look n true nothing (sorts m) (from true ws) ≡ o → OneAimsNowhere look (sorts m) ws → fault_of (said (finished m o)) ≡ None → said (finished m o) ≡ Err why.Label
+  finished_used : (m : Mnemonic) (ws : List Written) (o : Option Gathered) → gather_operands look n true nothing (sorts m) (from true ws) ≡ o
+      → OneAimsNowhere look (sorts m) ws → fault_of (said (finished m o)) ≡ None → said (finished m o) ≡ Err why.Label
   finished_used m ws None f a e = absurd (cc e)
-  finished_used m ws (Some g) f a e = judged_used g.out g.unknown (instr_of_parts m g.operands) (gathered_aims true nothing g (sorts m) ws (from true ws) refl f a) e
+  finished_used m ws (Some g) f a e = judged_used g.out g.unknown (instr_of_parts m g.operands)
+      (gathered_aims true nothing g (sorts m) ws (from true ws) refl f a) e
 
   -- what uses a label that stands nowhere is refused for it, unless something else is wrong
   pub used_label : (ts : List Lexeme) → UsesUnknown look ts → fault_of (body look n ts) ≡ None → body look n ts ≡ Err why.Label

@@ -52,14 +52,16 @@ next_operand false _ = None
 
 -- what was read, with the operand at the front, and the tokens after it; nothing where it isn't one of the sort
 unfoldable pub step : Look → ℕ → Bool → Gathered → Sort → List Lexeme → Option (Gathered × List Lexeme)
-step look n first g s ts = option_and_then (λ (x : Written × List Lexeme). option_and_then (λ (h : Gathered). Some (h, x.1)) (added look n g (operand_taken s x.0))) (next_operand first ts)
+step look n first g s ts = option_and_then (λ (x : Written
+    × List Lexeme). option_and_then (λ (h : Gathered). Some (h, x.1)) (added look n g (operand_taken s x.0))) (next_operand first ts)
 
 -- What was read once operands of these sorts are read, up to the last token; nothing where one is missing or isn't of
 -- its sort, or where something stands after them.
 abbrev pub gather_operands : Look → ℕ → Bool → Gathered → List Sort → List Lexeme → Option Gathered
 gather_operands look n first g [] [] = Some g
 gather_operands look n first g [] (t ∷ ts) = None
-gather_operands look n first g (s ∷ ss) ts = option_and_then (λ (x : Gathered × List Lexeme). gather_operands look n false x.0 ss x.1) (step look n first g s ts)
+gather_operands look n first g (s ∷ ss) ts =
+    option_and_then (λ (x : Gathered × List Lexeme). gather_operands look n false x.0 ss x.1) (step look n first g s ts)
 
 -- the instruction; Operand where there is none, and Label where a label stands nowhere
 abbrev pub judged : Bool → Option Instr → Result Instr Why

@@ -43,7 +43,8 @@ all_parts_fit (i ∷ is) f = (parts_fit i f.0, all_parts_fit is f.1)
 
 -- ---- code that is shown
 
-same_code : (bytes : List ℕ) (code : List Instr) → IsCode bytes code → (text shown : List ℕ) (spelled : List Instr) → Spells text spelled → bytes ≡ encodings spelled → shown ≡ text_of code → shown ≡ text_of spelled
+same_code : (bytes : List ℕ) (code : List Instr) → IsCode bytes code → (text shown : List ℕ) (spelled : List Instr) → Spells text spelled
+    → bytes ≡ encodings spelled → shown ≡ text_of code → shown ≡ text_of spelled
 same_code bytes code k text shown spelled s b e =
     e ∙ ap text_of (code_same code spelled k.fits (all_parts_fit spelled (spelled_fits text spelled s)) (sym k.encoded ∙ b))
 
@@ -57,7 +58,8 @@ ascii_line i f = all_ascii (line_text i) (printable_line i f)
 
 ascii_lines : (code : List Instr) → AllFitParts code → All (λ b. b < 128) (text_of code)
 ascii_lines [] f = All-nil (λ b. b < 128)
-ascii_lines (i ∷ is) f = All-append (λ b. b < 128) (line_text i) (10 ∷ text_of is) (ascii_line i f.0) (All-cons (λ b. b < 128) 10 (text_of is) (omega arith) (ascii_lines is f.1))
+ascii_lines (i ∷ is) f = All-append (λ b. b < 128) (line_text i) (10
+    ∷ text_of is) (ascii_line i f.0) (All-cons (λ b. b < 128) 10 (text_of is) (omega arith) (ascii_lines is f.1))
 
 -- how many slots valid code takes
 pub few_slots : (bytes : List ℕ) (code : List Instr) → IsCode bytes code → parts_slot_count code ≤ 4096
@@ -66,7 +68,8 @@ few_slots bytes code k =
     let s = same_count code in
     omega (arith, e, s, k.short)
 
-fits_at : (text : List ℕ) (code : List Instr) → text ≡ text_of code → AllFitParts code → parts_slot_count code ≤ 4096 → (length text ≤ 2 ^ 20) × All (λ b. b < 128) text
+fits_at : (text : List ℕ) (code : List Instr) → text ≡ text_of code → AllFitParts code → parts_slot_count code ≤ 4096
+    → (length text ≤ 2 ^ 20) × All (λ b. b < 128) text
 fits_at text code e f s = rw e (text_short code f s, ascii_lines code f)
 
 pub text_fits : (bytes text : List ℕ) → IsTextOf bytes text → (length text ≤ 2 ^ 20) × All (λ b. b < 128) text

@@ -47,7 +47,8 @@ module _ (bytes text : List ℕ) (t : IsTextOf bytes text) where
 
 -- ---- what is shown of what was assembled
 
-pub shown_of : (input code shown : List ℕ) → Assembles input (Ok code) → IsTextOf code shown → (instrs : List Instr) × Spells (text_of_bytes input) instrs × (shown ≡ text_of instrs)
+pub shown_of : (input code shown : List ℕ) → Assembles input (Ok code) → IsTextOf code shown
+    → (instrs : List Instr) × Spells (text_of_bytes input) instrs × (shown ≡ text_of instrs)
 shown_of input code shown a t =
     let s = spelled (text_of_bytes input) a.1 a.2 in
     (a.1, s, is_shown (text_of_bytes input) shown a.1 s (subst (λ bytes. IsTextOf bytes shown) a.3 t))

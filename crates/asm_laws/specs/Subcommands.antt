@@ -22,4 +22,5 @@ TextIsAssembled = (bytes text : List ℕ) → IsTextOf bytes text → IsAssemble
 
 -- `dis` makes of what `asm` makes of an input the canonical spelling of what the input spells, where that is valid code.
 abbrev pub AssembledIsShown : Type 0
-AssembledIsShown = (input code shown : List ℕ) → Assembles input (Ok code) → Disassembles false code (Ok shown) → (instrs : List Instr) × Spells (text_of_bytes input) instrs × (shown ≡ text_of instrs)
+AssembledIsShown = (input code shown : List ℕ) → Assembles input (Ok code) → Disassembles false code (Ok shown)
+    → (instrs : List Instr) × Spells (text_of_bytes input) instrs × (shown ≡ text_of instrs)

@@ -68,7 +68,8 @@ built_exactly _ _ = refl
 
 -- ---- what is built has the parts that it is built of
 
-built_from : (m : Mnemonic) (os : List AsmOperand) (i j : Instr) → Some j ≡ Some i → (mnemonic_of j ≡ m) × (operands_of j ≡ os) → (mnemonic_of i ≡ m) × (operands_of i ≡ os)
+built_from : (m : Mnemonic) (os : List AsmOperand) (i j : Instr) → Some j ≡ Some i → (mnemonic_of j ≡ m) × (operands_of j ≡ os)
+    → (mnemonic_of i ≡ m) × (operands_of i ≡ os)
 built_from m os i j e h = let k : j ≡ i = cc e in subst (λ (x : Instr). (mnemonic_of x ≡ m) × (operands_of x ≡ os)) k h
 
 pub built_is : (m : Mnemonic) (os : List AsmOperand) (i : Instr) → instr_of_parts m os ≡ Some i → (mnemonic_of i ≡ m) × (operands_of i ≡ os)
@@ -79,8 +80,10 @@ built_is (mnemonic.MovSx8 w) (operand.Register d ∷ operand.Register s ∷ []) 
 built_is (mnemonic.MovSx16 w) (operand.Register d ∷ operand.Register s ∷ []) i e = built_from _ _ i (instr.MovSx16 w d s) e (refl, refl)
 built_is mnemonic.MovSx32 (operand.Register d ∷ operand.Register s ∷ []) i e = built_from _ _ i (instr.MovSx32 d s) e (refl, refl)
 built_is (mnemonic.End o w) (operand.Register d ∷ []) i e = built_from _ _ i (instr.End o w d) e (refl, refl)
-built_is (mnemonic.Jump w c) (operand.Register d ∷ operand.Register s ∷ operand.Offset o ∷ []) i e = built_from _ _ i (instr.Jump w c d (source.Register s) o) e (refl, refl)
-built_is (mnemonic.Jump w c) (operand.Register d ∷ operand.Imm z ∷ operand.Offset o ∷ []) i e = built_from _ _ i (instr.Jump w c d (source.Imm z) o) e (refl, refl)
+built_is (mnemonic.Jump w c) (operand.Register d ∷ operand.Register s ∷ operand.Offset o ∷ []) i e =
+    built_from _ _ i (instr.Jump w c d (source.Register s) o) e (refl, refl)
+built_is (mnemonic.Jump w c) (operand.Register d ∷ operand.Imm z ∷ operand.Offset o ∷ []) i e =
+    built_from _ _ i (instr.Jump w c d (source.Imm z) o) e (refl, refl)
 built_is mnemonic.Ja (operand.Offset o ∷ []) i e = built_from _ _ i (instr.Ja o) e (refl, refl)
 built_is mnemonic.JaLong (operand.LongOffset o ∷ []) i e = built_from _ _ i (instr.JaLong o) e (refl, refl)
 built_is mnemonic.CallHelper (operand.Imm k ∷ []) i e = built_from _ _ i (instr.CallHelper k) e (refl, refl)

@@ -1,5 +1,6 @@
 -- How long the canonical spelling is.
-use Rattle.std.proofs.Common.{◌≡◌, ℕ, ◌+◌, ◌*◌, ◌/◌, ◌%◌, ◌<◌, ◌≤◌, ◌==◌, ◌^◌, nat_le, zero, suc, ℤ, pos, negsuc, Bool, true, false, cond, List, [], ◌∷◌, ◌++◌, length, refl, arith, decimal, length-append}
+use Rattle.std.proofs.Common.{◌≡◌, ℕ, ◌+◌, ◌*◌, ◌/◌, ◌%◌, ◌<◌, ◌≤◌, ◌==◌, ◌^◌, nat_le, zero, suc, ℤ, pos, negsuc, Bool, true, false, cond, List, [], ◌∷◌, ◌++◌}
+use Rattle.std.proofs.Common.{length, refl, arith, decimal, length-append}
 use Rattle.std.proofs.lemmas.Bool.Decides.{nat_tests}
 use Rattle.std.proofs.lemmas.Fmt.{length-decimal-le}
 use Rattle.std.specs.Fmt.{digits, digits_onto, digit_glyph}
@@ -15,7 +16,8 @@ use Rattle.asm_table.specs.declared.operands.AsmOperand.TheVariants as operand
 use Rattle.asm_table.specs.Mnemonics.{name, slots_of}
 use Rattle.asm_table.specs.Names.{has_two_words, register_name}
 use Rattle.asm_table.specs.Parts.{mnemonic_of, operands_of}
-use Rattle.asm_table.specs.Canonical.{offset_text, operand_text, more_text, operands_text, line_text, text_of, FitsOperand, AllFitOperands, FitsParts, AllFitParts, parts_slot_count}
+use Rattle.asm_table.specs.Canonical.{offset_text, operand_text, more_text, operands_text, line_text, text_of, FitsOperand, AllFitOperands, FitsParts}
+use Rattle.asm_table.specs.Canonical.{AllFitParts, parts_slot_count}
 use Rattle.asm_table.proofs.Lookups.{all_pass, passing}
 
 -- ---- digits
@@ -29,7 +31,8 @@ onto_at false f d acc rest h = omega arith
 
 onto_short : (f n : ℕ) (acc : List ℕ) → length (digits_onto f 16 false n acc) ≤ f + length acc
 onto_short zero n acc = omega arith
-onto_short (suc f) n acc = let d = digit_glyph false (n % 16) in onto_at (n / 16 == 0) f d acc (digits_onto f 16 false (n / 16) (d ∷ acc)) (onto_short f (n / 16) (d ∷ acc))
+onto_short (suc f) n acc = let d = digit_glyph false (n % 16) in
+    onto_at (n / 16 == 0) f d acc (digits_onto f 16 false (n / 16) (d ∷ acc)) (onto_short f (n / 16) (d ∷ acc))
 
 hex_short : (k : ℕ) → length (digits 16 false k) ≤ 64
 unfolding digits

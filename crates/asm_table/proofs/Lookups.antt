@@ -12,7 +12,8 @@ use Rattle.asm_table.proofs.Each.{named_name}
 
 -- what is found has this name
 
-named_at : (ms : List Mnemonic) (w : List ℕ) (m k : Mnemonic) (b : Bool) → bytes_eq (name k) w ≡ b → (named_in ms w ≡ Some m → w ≡ name m) → cond b (Some k) (named_in ms w) ≡ Some m → w ≡ name m
+named_at : (ms : List Mnemonic) (w : List ℕ) (m k : Mnemonic) (b : Bool) → bytes_eq (name k) w ≡ b → (named_in ms w ≡ Some m → w ≡ name m)
+    → cond b (Some k) (named_in ms w) ≡ Some m → w ≡ name m
 named_at ms w m k true e h f = let i : k ≡ m = cc f in sym ((bytes_eq-Decides (name k) w).0 e) ∙ ap name i
 named_at ms w m k false e h f = h f
 
@@ -29,7 +30,8 @@ unfoldable pub all_pass : (Mnemonic → Bool) → List Mnemonic → Bool
 all_pass p [] = true
 all_pass p (m ∷ ms) = cond (p m) (all_pass p ms) false
 
-passes_at : (p : Mnemonic → Bool) (ms : List Mnemonic) (w : List ℕ) (m k : Mnemonic) (b c : Bool) → p k ≡ c → cond c (all_pass p ms) false ≡ true → (all_pass p ms ≡ true → named_in ms w ≡ Some m → p m ≡ true) → cond b (Some k) (named_in ms w) ≡ Some m → p m ≡ true
+passes_at : (p : Mnemonic → Bool) (ms : List Mnemonic) (w : List ℕ) (m k : Mnemonic) (b c : Bool) → p k ≡ c → cond c (all_pass p ms) false ≡ true
+    → (all_pass p ms ≡ true → named_in ms w ≡ Some m → p m ≡ true) → cond b (Some k) (named_in ms w) ≡ Some m → p m ≡ true
 passes_at p ms w m k b false e a h f = absurd (cc a)
 passes_at p ms w m k true true e a h f = let i : k ≡ m = cc f in sym (ap p i) ∙ e
 passes_at p ms w m k false true e a h f = h a f
@@ -73,7 +75,8 @@ register_again R8 = refl
 register_again R9 = refl
 register_again R10 = refl
 
-register_at : (rs : List Reg) (w : List ℕ) (r k : Reg) (b : Bool) → bytes_eq (register_name k) w ≡ b → (register_in rs w ≡ Some r → w ≡ register_name r) → cond b (Some k) (register_in rs w) ≡ Some r → w ≡ register_name r
+register_at : (rs : List Reg) (w : List ℕ) (r k : Reg) (b : Bool) → bytes_eq (register_name k) w ≡ b → (register_in rs w ≡ Some r → w ≡ register_name r)
+    → cond b (Some k) (register_in rs w) ≡ Some r → w ≡ register_name r
 register_at rs w r k true e h f = let i : k ≡ r = cc f in sym ((bytes_eq-Decides (register_name k) w).0 e) ∙ ap register_name i
 register_at rs w r k false e h f = h f
 

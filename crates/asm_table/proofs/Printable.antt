@@ -74,12 +74,15 @@ unfolding printable is_plain
 printable_operand (operand.Register r) f = printable_register r
 printable_operand (operand.Imm (pos n)) f = printable_decimal n (omega arith)
 printable_operand (operand.Imm (negsuc n)) f = printable_decimal (suc n) (omega arith)
-printable_operand (operand.Memory r z) f = printable_append (register_name r) (offset_text z ++ 93 ∷ []) (printable_register r) (printable_append (offset_text z) (93 ∷ []) (printable_offset z f) refl)
+printable_operand (operand.Memory r z) f =
+    printable_append (register_name r) (offset_text z
+    ++ 93 ∷ []) (printable_register r) (printable_append (offset_text z) (93 ∷ []) (printable_offset z f) refl)
 printable_operand (operand.Offset (pos n)) f = printable_decimal n (omega arith)
 printable_operand (operand.Offset (negsuc n)) f = printable_decimal (suc n) (omega arith)
 printable_operand (operand.LongOffset (pos n)) f = printable_decimal n (omega arith)
 printable_operand (operand.LongOffset (negsuc n)) f = printable_decimal (suc n) (omega arith)
-printable_operand (operand.Imm64 k) f = printable_digits 16 (digits 16 false k) (omega arith) (digits_is_IsNumeral 16 false (omega arith) (omega arith) k (omega arith)).0.1
+printable_operand (operand.Imm64 k) f =
+    printable_digits 16 (digits 16 false k) (omega arith) (digits_is_IsNumeral 16 false (omega arith) (omega arith) k (omega arith)).0.1
 
 printable_more : (os : List AsmOperand) → AllFitOperands os → printable (more_text os) ≡ true
 unfolding printable is_plain
@@ -108,4 +111,5 @@ printable_name : (m : Mnemonic) → printable (name m) ≡ true
 printable_name m = name_at m (has_two_words m) refl
 
 pub printable_line : (i : Instr) → FitsParts i → printable (line_text i) ≡ true
-printable_line i f = printable_append (name (mnemonic_of i)) (operands_text (operands_of i)) (printable_name (mnemonic_of i)) (printable_operands (operands_of i) f)
+printable_line i f = printable_append (name (mnemonic_of i)) (operands_text (operands_of i)) (printable_name (mnemonic_of i))
+    (printable_operands (operands_of i) f)

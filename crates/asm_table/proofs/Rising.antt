@@ -31,7 +31,8 @@ pub record Narrowed (w : List ℕ) (low high : ℕ) : Type 0 where
 pub all_of_them : (w : List ℕ) (n : ℕ) → n ≡ count → Narrowed w 0 n
 all_of_them w n e = record { below = λ k h. absurd (omega arith); above = λ k h l. absurd (omega arith); ordered = omega arith; bound = omega arith }
 
-pub narrowed_above : (w : List ℕ) (low high middle : ℕ) → Narrowed w low high → low ≤ middle → middle < high → compared w middle ≡ Less → Narrowed w (middle + 1) high
+pub narrowed_above : (w : List ℕ) (low high middle : ℕ) → Narrowed w low high → low ≤ middle → middle < high → compared w middle ≡ Less
+    → Narrowed w (middle + 1) high
 unfolding nth
 narrowed_above w low high middle n le lt e = record {
   below = λ k h. below_middle BY_NAME.now w names_rise k middle Exit (omega arith) (omega (arith, n.bound)) e;
@@ -40,7 +41,8 @@ narrowed_above w low high middle n le lt e = record {
   bound = n.bound;
 }
 
-pub narrowed_below : (w : List ℕ) (low high middle : ℕ) → Narrowed w low high → low ≤ middle → middle < high → compared w middle ≡ Greater → Narrowed w low middle
+pub narrowed_below : (w : List ℕ) (low high middle : ℕ) → Narrowed w low high → low ≤ middle → middle < high
+    → compared w middle ≡ Greater → Narrowed w low middle
 unfolding nth
 narrowed_below w low high middle n le lt e = record {
   below = n.below;
@@ -55,7 +57,8 @@ found w i h e = sym (named_found BY_NAME.now w i Exit names_rise h e)
 
 pub not_found : (w : List ℕ) (low high : ℕ) → Narrowed w low high → high ≤ low → None ≡ named w
 unfolding named nth
-not_found w low high n le = sym (named_none BY_NAME.now w Exit (λ k h. unequal BY_NAME.now w Exit low k (nat_lt k low) refl (λ l. n.below k l) (λ l. n.above k (omega arith) h)))
+not_found w low high n le = sym (named_none BY_NAME.now w Exit
+    (λ k h. unequal BY_NAME.now w Exit low k (nat_lt k low) refl (λ l. n.below k l) (λ l. n.above k (omega arith) h)))
 
 -- what the code compared
 pub compared_is : (w n : List ℕ) (m : Mnemonic) (k : ℕ) (o : Ordering) → m ≡ nth k → n ≡ name m → o ≡ slice_cmp nat_cmp n w → compared w k ≡ o

@@ -1,8 +1,10 @@
 -- Where no word goes on, the tokens of a line part.
-use Rattle.std.proofs.Common.{◌≡◌, ℕ, ◌-◌, ◌≤◌, ◌==◌, ◌&&◌, zero, suc, Bool, true, false, cond, List, [], ◌∷◌, ◌++◌, length, take, drop, append-nil, refl, ap, ◌∙◌, arith}
+use Rattle.std.proofs.Common.{◌≡◌, ℕ, ◌-◌, ◌≤◌, ◌==◌, ◌&&◌, zero, suc, Bool, true, false, cond, List, [], ◌∷◌, ◌++◌, length, take, drop, append-nil, refl, ap}
+use Rattle.std.proofs.Common.{◌∙◌, arith}
 use Rattle.std.proofs.lemmas.Bool.Decides.{nat_tests}
 use Rattle.std.specs.Char.{is_ascii_digit, is_ascii_hexdigit}
-use Rattle.asm_text.specs.Tokens.{run, tokens, tokens_past, is_blank, is_letter, is_name_byte, begins_comment, begins_hex, word_length, lexeme_of, is_clean, comment_of, mark_of}
+use Rattle.asm_text.specs.Tokens.{run, tokens, tokens_past, is_blank, is_letter, is_name_byte, begins_comment, begins_hex, word_length, lexeme_of, is_clean}
+use Rattle.asm_text.specs.Tokens.{comment_of, mark_of}
 use Rattle.asm_text.specs.Tokens.Lexeme.{Stray}
 use Rattle.asm_text.specs.Laws.{no_comment}
 use Rattle.asm_text.proofs.Spelled.{word_front, begins_no_hex, and_right, name_byte_ends, name_byte_ends_hex}
@@ -28,7 +30,8 @@ both : (a b : Bool) → (a && b) ≡ true → b ≡ true
 both true b e = e
 both false b e = absurd (cc e)
 
-word_bound : (x : ℕ) (xs : List ℕ) (l h d : Bool) → is_letter x ≡ l → (x == 48 && begins_hex xs) ≡ h → is_ascii_digit x ≡ d → word_length (x ∷ xs) ≤ suc (length xs)
+word_bound : (x : ℕ) (xs : List ℕ) (l h d : Bool) → is_letter x ≡ l → (x == 48 && begins_hex xs) ≡ h → is_ascii_digit x ≡ d
+    → word_length (x ∷ xs) ≤ suc (length xs)
 unfolding word_length
 word_bound x xs true h d e f g = let k = run_bound is_name_byte xs in rw e (omega (arith, k))
 word_bound x xs false true d e f g = rw (e, f) (hex_bound x xs (both (x == 48) (begins_hex xs) f))
@@ -59,7 +62,8 @@ module _ (b : ℕ) (ys : List ℕ) (ends : is_name_byte b ≡ false) where
   digits_apart [] e = absurd (cc e)
   digits_apart (x ∷ xs) e = stops is_ascii_hexdigit (name_byte_ends_hex b ends) xs
 
-  word_apart : (x : ℕ) (xs : List ℕ) (l h d : Bool) → is_letter x ≡ l → (x == 48 && begins_hex xs) ≡ h → is_ascii_digit x ≡ d → word_length (x ∷ (xs ++ b ∷ ys)) ≡ word_length (x ∷ xs)
+  word_apart : (x : ℕ) (xs : List ℕ) (l h d : Bool) → is_letter x ≡ l → (x == 48 && begins_hex xs) ≡ h → is_ascii_digit x ≡ d
+      → word_length (x ∷ (xs ++ b ∷ ys)) ≡ word_length (x ∷ xs)
   unfolding word_length
   word_apart x xs true h d e f g = rw e (ap suc (stops is_name_byte ends xs))
   word_apart x xs false true d e f g =
@@ -127,6 +131,7 @@ mark_is : (b : ℕ) → is_name_byte b ≡ false → lexeme_of (b ∷ []) ≡ ma
 unfolding lexeme_of
 mark_is b h = let p = mark_plain b h in rw (p.0, p.1) refl
 
-pub mark_apart : (xs ys : List ℕ) (b : ℕ) → is_name_byte b ≡ false → is_blank b ≡ false → begins_comment b ≡ false → no_comment xs ≡ true → tokens (xs ++ b ∷ ys) ≡ tokens xs ++ mark_of b ∷ tokens ys
+pub mark_apart : (xs ys : List ℕ) (b : ℕ) → is_name_byte b ≡ false → is_blank b ≡ false → begins_comment b ≡ false → no_comment xs ≡ true
+    → tokens (xs ++ b ∷ ys) ≡ tokens xs ++ mark_of b ∷ tokens ys
 mark_apart xs ys b e blank comment h =
     tokens_part b ys e xs h ∙ ap (λ l. tokens xs ++ l) (word_front b [] ys blank comment (mark_length b ys e) ∙ ap (λ t. t ∷ tokens ys) (mark_is b e))

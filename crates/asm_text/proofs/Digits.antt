@@ -1,5 +1,6 @@
 -- Digits, and the bytes of a token.
-use Rattle.std.proofs.Common.{◌≡◌, ℕ, ◌<◌, ◌≤◌, ◌==◌, ◌&&◌, zero, suc, Bool, true, false, List, [], ◌∷◌, length, take, drop, get_or, refl, sym, ◌∙◌, arith, IsAscii, lit<}
+use Rattle.std.proofs.Common.{◌≡◌, ℕ, ◌<◌, ◌≤◌, ◌==◌, ◌&&◌, zero, suc, Bool, true, false, List, [], ◌∷◌, length, take, drop, get_or, refl, sym, ◌∙◌, arith}
+use Rattle.std.proofs.Common.{IsAscii, lit<}
 use Rattle.std.specs.Str.Parse.{AllDigits}
 use Rattle.std.specs.Char.{digit_value, is_ascii_digit, is_ascii_hexdigit}
 use Rattle.asm_text.specs.Tokens.{run, IsToken, word_length, is_letter, begins_hex}
@@ -37,7 +38,13 @@ second [] = refl
 second (b ∷ bs) = second_at b bs (is_ascii_digit b) refl
 
 decimal_word : (b : ℕ) (bs : List ℕ) → is_ascii_digit b ≡ true → IsToken (b ∷ take (run is_ascii_digit bs) bs)
-decimal_word b bs d = (omega arith, λ _. (λ x. absurd (let f : true ≡ false = sym x ∙ second bs in cc f), λ _. (omega arith, (decimal_digit b d, run_digits 10 is_ascii_digit decimal_digit bs))))
+decimal_word b bs d = (
+  omega arith,
+  λ _. (
+    λ x. absurd (let f : true ≡ false = sym x ∙ second bs in cc f),
+    λ _. (omega arith, (decimal_digit b d, run_digits 10 is_ascii_digit decimal_digit bs)),
+  ),
+)
 
 pub and_both : (a b : Bool) → (a && b) ≡ true → (a ≡ true) × (b ≡ true)
 and_both true b e = (refl, e)
@@ -58,7 +65,8 @@ letter_no_digit : (b : ℕ) → is_letter b ≡ true → is_ascii_digit b ≡ tr
 letter_no_digit b l d = grind (arith, nat_tests)
 
 -- the bytes of the token at the front
-word_of : (b : ℕ) (bs : List ℕ) (l h d : Bool) → is_letter b ≡ l → (b == 48 && begins_hex bs) ≡ h → is_ascii_digit b ≡ d → IsToken (take (word_length (b ∷ bs)) (b ∷ bs))
+word_of : (b : ℕ) (bs : List ℕ) (l h d : Bool) → is_letter b ≡ l → (b == 48 && begins_hex bs) ≡ h → is_ascii_digit b ≡ d
+    → IsToken (take (word_length (b ∷ bs)) (b ∷ bs))
 unfolding word_length
 word_of b bs true h d e f g = rw e (omega arith, λ k. absurd (letter_no_digit b e k))
 word_of b bs false true d e f g = rw (e, f) (hex_word b bs (and_both (b == 48) (begins_hex bs) f).1)

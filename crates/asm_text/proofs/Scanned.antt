@@ -1,5 +1,6 @@
 -- Tokens at the front of what is left of a line.
-use Rattle.std.proofs.Common.{◌≡◌, ℕ, ◌+◌, ◌-◌, ◌<◌, ◌≤◌, zero, suc, Bool, true, false, cond, List, [], ◌∷◌, length, take, drop, get_or, refl, sym, ap, ◌∙◌, subst, length-drop, arith}
+use Rattle.std.proofs.Common.{◌≡◌, ℕ, ◌+◌, ◌-◌, ◌<◌, ◌≤◌, zero, suc, Bool, true, false, cond, List, [], ◌∷◌, length, take, drop, get_or, refl, sym, ap, ◌∙◌}
+use Rattle.std.proofs.Common.{subst, length-drop, arith}
 use Rattle.std.proofs.Math.Logic.{∥∥₁_map}
 use Rattle.std.proofs.lemmas.List.{at_drop_more, at_drop_all, take_rest, drop-drop, nil_from_length}
 use Rattle.asm_text.specs.Places.{IsPlace, next_end, part_length}
@@ -22,7 +23,8 @@ tokens_after (suc n) [] = refl
 tokens_after (suc n) (x ∷ xs) = tokens_after n xs
 
 -- blanks are passed over
-blank_at : (x : ℕ) (xs : List ℕ) (b : Bool) → is_blank x ≡ b → tokens xs ≡ tokens (drop (run is_blank xs) xs) → tokens (x ∷ xs) ≡ tokens (drop (run is_blank (x ∷ xs)) (x ∷ xs))
+blank_at : (x : ℕ) (xs : List ℕ) (b : Bool) → is_blank x ≡ b → tokens xs ≡ tokens (drop (run is_blank xs) xs)
+    → tokens (x ∷ xs) ≡ tokens (drop (run is_blank (x ∷ xs)) (x ∷ xs))
 blank_at x xs true e h = rw e h
 blank_at x xs false e h = ap (λ b. tokens (drop (cond b (suc (run is_blank xs)) 0) (x ∷ xs))) (sym e)
 
@@ -31,7 +33,8 @@ tokens_blank [] = refl
 tokens_blank (x ∷ xs) = blank_at x xs (is_blank x) refl (tokens_blank xs)
 
 -- what stands after blanks is no blank
-after_run_at : (p : ℕ → Bool) (y : ℕ) (xs : List ℕ) (b : Bool) → p y ≡ b → ((x : ℕ) (ys : List ℕ) → drop (run p xs) xs ≡ x ∷ ys → p x ≡ false) → (x : ℕ) (ys : List ℕ) → drop (run p (y ∷ xs)) (y ∷ xs) ≡ x ∷ ys → p x ≡ false
+after_run_at : (p : ℕ → Bool) (y : ℕ) (xs : List ℕ) (b : Bool) → p y ≡ b → ((x : ℕ) (ys : List ℕ) → drop (run p xs) xs ≡ x ∷ ys → p x ≡ false)
+    → (x : ℕ) (ys : List ℕ) → drop (run p (y ∷ xs)) (y ∷ xs) ≡ x ∷ ys → p x ≡ false
 after_run_at p y xs true e h x ys d = h x ys (rw e at d)
 after_run_at p y xs false e h x ys d = let k : y ∷ xs ≡ x ∷ ys = (rw e at d) in let s : y ≡ x = cc k in rw (← s) e
 
@@ -40,7 +43,8 @@ after_run p [] x ys d = absurd (let k : [] ≡ x ∷ ys = d in cc)
 after_run p (y ∷ xs) x ys d = after_run_at p y xs (p y) refl (λ x ys h. after_run p xs x ys h) x ys d
 
 -- a token at the front
-pub tokens_next : (xs rest : List ℕ) (x : ℕ) (ys : List ℕ) (n : ℕ) → rest ≡ drop (run is_blank xs) xs → rest ≡ x ∷ ys → begins_comment x ≡ false → n ≡ word_length rest → 0 < n
+pub tokens_next : (xs rest : List ℕ) (x : ℕ) (ys : List ℕ) (n : ℕ) → rest ≡ drop (run is_blank xs) xs → rest ≡ x ∷ ys → begins_comment x ≡ false
+    → n ≡ word_length rest → 0 < n
     → tokens xs ≡ lexeme_of (take n rest) ∷ tokens (drop n rest)
 tokens_next xs rest x ys n d e c w p =
     let b : is_blank x ≡ false = after_run is_blank xs x ys (sym d ∙ e) in
@@ -53,7 +57,8 @@ tokens_next xs rest x ys n d e c w p =
     ∙ ap (λ l. lexeme_of (take n l) ∷ tokens (drop n l)) (sym e)
 
 -- a comment at the front
-pub tokens_comment : (xs rest : List ℕ) (x : ℕ) (ys : List ℕ) → rest ≡ drop (run is_blank xs) xs → rest ≡ x ∷ ys → begins_comment x ≡ true → tokens xs ≡ comment_of ys
+pub tokens_comment : (xs rest : List ℕ) (x : ℕ) (ys : List ℕ) → rest ≡ drop (run is_blank xs) xs → rest ≡ x ∷ ys
+    → begins_comment x ≡ true → tokens xs ≡ comment_of ys
 tokens_comment xs rest x ys d e c =
     let b : is_blank x ≡ false = after_run is_blank xs x ys (sym d ∙ e) in
     let t : tokens (x ∷ ys) ≡ comment_of ys = rw (b, c) refl in
@@ -92,18 +97,24 @@ module _ (line : List ℕ) (at spaces : ℕ) (blank : spaces ≡ run is_blank (t
   pub left_none : length (take (length line - (at + spaces)) (drop (at + spaces) line)) ≡ 0 → tokens (drop at line) ≡ []
   left_none e = tokens_none (drop at line) _ rest_is (nil_from_length _ e)
 
-  pub left_comment : 0 < length (take (length line - (at + spaces)) (drop (at + spaces) line)) → begins_comment (get_or (take (length line - (at + spaces)) (drop (at + spaces) line)) 0 0) ≡ true
-      → tokens (drop at line) ≡ comment_of (take (length (take (length line - (at + spaces)) (drop (at + spaces) line)) - 1) (drop 1 (take (length line - (at + spaces)) (drop (at + spaces) line))))
-  left_comment h e = tokens_comment (drop at line) _ _ _ rest_is (first_of_list _ h) e ∙ ap comment_of (sym (take_rest (take (length line - (at + spaces)) (drop (at + spaces) line)) 1))
+  pub left_comment : 0 < length (take (length line - (at + spaces)) (drop (at + spaces) line))
+      → begins_comment (get_or (take (length line - (at + spaces)) (drop (at + spaces) line)) 0 0) ≡ true
+      → tokens (drop at line) ≡ comment_of (take (length (take (length line - (at + spaces)) (drop (at + spaces) line)) - 1)
+      (drop 1 (take (length line - (at + spaces)) (drop (at + spaces) line))))
+  left_comment h e = tokens_comment (drop at line) _ _ _ rest_is (first_of_list _ h) e
+      ∙ ap comment_of (sym (take_rest (take (length line - (at + spaces)) (drop (at + spaces) line)) 1))
 
-  pub left_next : (n : ℕ) → 0 < length (take (length line - (at + spaces)) (drop (at + spaces) line)) → begins_comment (get_or (take (length line - (at + spaces)) (drop (at + spaces) line)) 0 0) ≡ false
+  pub left_next : (n : ℕ) → 0 < length (take (length line - (at + spaces)) (drop (at + spaces) line))
+      → begins_comment (get_or (take (length line - (at + spaces)) (drop (at + spaces) line)) 0 0) ≡ false
       → n ≡ word_length (take (length line - (at + spaces)) (drop (at + spaces) line)) → 0 < n
       → tokens (drop at line) ≡ lexeme_of (take n (take (length line - (at + spaces)) (drop (at + spaces) line))) ∷ tokens (drop (at + spaces + n) line)
   left_next n h e w p =
       tokens_next (drop at line) _ _ _ n rest_is (first_of_list _ h) e w p
-      ∙ ap (λ l. lexeme_of (take n (take (length line - (at + spaces)) (drop (at + spaces) line))) ∷ tokens l) (ap (drop n) (take_rest line (at + spaces)) ∙ drop-drop n (at + spaces) line)
+      ∙ ap (λ l. lexeme_of (take n (take (length line - (at + spaces)) (drop (at + spaces) line))) ∷ tokens l) (ap (drop n) (take_rest line (at + spaces))
+      ∙ drop-drop n (at + spaces) line)
 
-  pub ends_comment : 0 < length (take (length line - (at + spaces)) (drop (at + spaces) line)) → begins_comment (get_or (take (length line - (at + spaces)) (drop (at + spaces) line)) 0 0) ≡ true → length line ≡ next_end at line
+  pub ends_comment : 0 < length (take (length line - (at + spaces)) (drop (at + spaces) line))
+      → begins_comment (get_or (take (length line - (at + spaces)) (drop (at + spaces) line)) 0 0) ≡ true → length line ≡ next_end at line
   ends_comment h e =
       let r = take_rest line (at + spaces) in
       let p = part_comment (drop (at + spaces) line) (subst (λ l. begins_comment (get_or l 0 0) ≡ true) r e) in
@@ -111,7 +122,8 @@ module _ (line : List ℕ) (at spaces : ℕ) (blank : spaces ≡ run is_blank (t
       let all : length line ≡ at + spaces + part_length (drop (at + spaces) line) = omega (arith, p, some, length-drop (at + spaces) line) in
       all ∙ ap (λ k. k + part_length (drop k line)) (start_is line at spaces blank)
 
-  pub ends_next : (n : ℕ) → 0 < length (take (length line - (at + spaces)) (drop (at + spaces) line)) → begins_comment (get_or (take (length line - (at + spaces)) (drop (at + spaces) line)) 0 0) ≡ false
+  pub ends_next : (n : ℕ) → 0 < length (take (length line - (at + spaces)) (drop (at + spaces) line))
+      → begins_comment (get_or (take (length line - (at + spaces)) (drop (at + spaces) line)) 0 0) ≡ false
       → n ≡ word_length (take (length line - (at + spaces)) (drop (at + spaces) line)) → at + spaces + n ≡ next_end at line
   ends_next n h e w =
       let r = take_rest line (at + spaces) in

@@ -1,9 +1,11 @@
 -- The numbers of tokens are below 2^64.
-use Rattle.std.proofs.Common.{◌≡◌, ℕ, ◌-◌, ◌<◌, ◌^◌, ◌==◌, nat_lt, zero, suc, Bool, true, false, cond, List, [], ◌∷◌, ◌++◌, take, drop, get_or, refl, arith, Some, None}
+use Rattle.std.proofs.Common.{◌≡◌, ℕ, ◌-◌, ◌<◌, ◌^◌, ◌==◌, nat_lt, zero, suc, Bool, true, false, cond, List, [], ◌∷◌, ◌++◌, take, drop, get_or, refl, arith}
+use Rattle.std.proofs.Common.{Some, None}
 use Rattle.std.proofs.lemmas.Bool.Decides.{nat_tests}
 use Rattle.std.specs.Char.{is_ascii_digit}
 use Rattle.std.specs.Str.Parse.{digits_value}
-use Rattle.asm_text.specs.Tokens.{Lexeme, tokens, tokens_past, is_blank, is_letter, begins_comment, is_clean, comment_of, word_length, lexeme_of, mark_of, bounded, numeral_value}
+use Rattle.asm_text.specs.Tokens.{Lexeme, tokens, tokens_past, is_blank, is_letter, begins_comment, is_clean, comment_of, word_length, lexeme_of, mark_of}
+use Rattle.asm_text.specs.Tokens.{bounded, numeral_value}
 use Rattle.asm_text.specs.Tokens.Lexeme.{Name, Number, Stray}
 
 -- a number, if it is one, is below 2^64
@@ -24,7 +26,8 @@ numeral_at : (b : Bool) (m n : ℕ) → IsSmall (Number (cond b (bounded m) (bou
 numeral_at true m n = bounded_at (nat_lt m (2 ^ 64)) m refl
 numeral_at false m n = bounded_at (nat_lt n (2 ^ 64)) n refl
 
-mark_small : (a b c d e f : Bool) → IsSmall (cond a Lexeme.Colon (cond b Lexeme.Comma (cond c Lexeme.Open (cond d Lexeme.Close (cond e Lexeme.Plus (cond f Lexeme.Minus Stray))))))
+mark_small : (a b c d e f : Bool) → IsSmall
+    (cond a Lexeme.Colon (cond b Lexeme.Comma (cond c Lexeme.Open (cond d Lexeme.Close (cond e Lexeme.Plus (cond f Lexeme.Minus Stray))))))
 unfolding IsSmall
 mark_small true b c d e f = tt
 mark_small false true c d e f = tt
@@ -50,7 +53,9 @@ unfolding AllSmall IsSmall
 comment_small true = tt
 comment_small false = (tt, tt)
 
-past_at : (blank comment : Bool) (x : ℕ) (xs : List ℕ) → ((n : ℕ) → AllSmall (tokens_past n xs)) → AllSmall (cond blank (tokens_past 0 xs) (cond comment (comment_of xs) (lexeme_of (take (word_length (x ∷ xs)) (x ∷ xs)) ∷ tokens_past (word_length (x ∷ xs) - 1) xs)))
+past_at : (blank comment : Bool) (x : ℕ) (xs : List ℕ) → ((n : ℕ) → AllSmall (tokens_past n xs))
+    → AllSmall (cond blank (tokens_past 0 xs)
+    (cond comment (comment_of xs) (lexeme_of (take (word_length (x ∷ xs)) (x ∷ xs)) ∷ tokens_past (word_length (x ∷ xs) - 1) xs)))
 unfolding AllSmall
 past_at true comment x xs h = h 0
 past_at false true x xs h = comment_small (is_clean xs)

@@ -1,6 +1,7 @@
 -- The tokens of a line of assembly. Text is ASCII; tokens are names, numbers and `: , [ ] + -`, each the longest that fits.
 -- Blanks may stand between any two; `#` and `;` begin a comment to the line's end. All of it is this project's choice.
-use Rattle.std.specs.Prelude.{◌≡◌, ◌<◌, ℕ, zero, suc, ◌+◌, ◌-◌, ◌^◌, ◌==◌, ◌&&◌, ◌||◌, nat_lt, Bool, true, false, if◌then◌else◌, List, [], ◌∷◌, length, take, drop, get_or, Option, Some, None}
+use Rattle.std.specs.Prelude.{◌≡◌, ◌<◌, ℕ, zero, suc, ◌+◌, ◌-◌, ◌^◌, ◌==◌, ◌&&◌, ◌||◌, nat_lt, Bool, true, false, if◌then◌else◌, List, [], ◌∷◌, length, take}
+use Rattle.std.specs.Prelude.{drop, get_or, Option, Some, None}
 use Rattle.std.specs.Char.{is_ascii_alphabetic, is_ascii_digit, is_ascii_hexdigit}
 use Rattle.std.specs.Str.Parse.{digits_value, IsNumeral}
 pub use Rattle.asm_text.specs.Places.{is_blank, is_letter, is_name_byte, begins_comment, is_ascii, run, begins_hex, next_start, next_end, IsPlace}

@@ -1,5 +1,6 @@
 -- The canonical text is read again.
-use Rattle.std.proofs.Common.{◌≡◌, ◌≢◌, ℕ, ◌+◌, ◌-◌, ◌<◌, ◌≤◌, ◌==◌, nat_lt, zero, suc, Bool, true, false, cond, List, [], ◌∷◌, ◌++◌, map, length, get_or, All, refl, sym, ap, ◌∙◌, arith, Option, Some, None, Result, Ok, Err}
+use Rattle.std.proofs.Common.{◌≡◌, ◌≢◌, ℕ, ◌+◌, ◌-◌, ◌<◌, ◌≤◌, ◌==◌, nat_lt, zero, suc, Bool, true, false, cond, List, [], ◌∷◌, ◌++◌, map, length, get_or, All}
+use Rattle.std.proofs.Common.{refl, sym, ap, ◌∙◌, arith, Option, Some, None, Result, Ok, Err}
 use Rattle.std.proofs.lemmas.Bool.Decides.{nat_tests}
 use Rattle.std.proofs.lemmas.List.Elements.{All-cons, All-nil}
 use Rattle.std.specs.Str.Lines.{lines, strip_carriage_return}
@@ -54,7 +55,8 @@ canonical_lines : (code : List Instr) → AllFitParts code → lines (text_of co
 canonical_lines [] f = refl
 canonical_lines (i ∷ is) f =
     let p = printable_line i f.0 in
-    lines_at (text_of (i ∷ is)) (line_text i) (text_of is) refl (whole (line_text i) p) ∙ ap (λ l. l ∷ lines (text_of is)) (unstripped (line_text i) p) ∙ ap (λ l. line_text i ∷ l) (canonical_lines is f.1)
+    lines_at (text_of (i ∷ is)) (line_text i) (text_of is) refl (whole (line_text i) p) ∙ ap (λ l. l ∷ lines (text_of is)) (unstripped (line_text i) p)
+    ∙ ap (λ l. line_text i ∷ l) (canonical_lines is f.1)
 
 -- ---- the tokens of a canonical line have no label and nothing stray
 
@@ -67,10 +69,12 @@ no_label w (Signed sign.Minus n ∷ ws) = (refl, refl)
 no_label w (Memory x ∷ ws) = (refl, refl)
 no_label w (MemoryAt x s n ∷ ws) = (refl, refl)
 
-no_label_one : (h : List Lexeme) (w : List ℕ) (ws : List Written) → h ≡ Name w ∷ [] → (label_of (h ++ joined ws) ≡ None) × (after_label (h ++ joined ws) ≡ h ++ joined ws)
+no_label_one : (h : List Lexeme) (w : List ℕ) (ws : List Written) → h ≡ Name w ∷ []
+    → (label_of (h ++ joined ws) ≡ None) × (after_label (h ++ joined ws) ≡ h ++ joined ws)
 no_label_one h w ws e = rw e (no_label w ws)
 
-no_label_at : (m : Mnemonic) (ws : List Written) (b : Bool) → has_two_words m ≡ b → (label_of (head m ++ joined ws) ≡ None) × (after_label (head m ++ joined ws) ≡ head m ++ joined ws)
+no_label_at : (m : Mnemonic) (ws : List Written) (b : Bool) → has_two_words m ≡ b
+    → (label_of (head m ++ joined ws) ≡ None) × (after_label (head m ++ joined ws) ≡ head m ++ joined ws)
 no_label_at mnemonic.CallLocal ws b e = (refl, refl)
 no_label_at m ws false e = no_label_one (head m) (name m) ws (head_one m e)
 no_label_at m ws true e = absurd (cc e)
@@ -131,13 +135,15 @@ module _ (i : Instr) (f : FitsParts i) where
 
   pub nothing_wrong : (look : Look) (n : ℕ) → n + slots_of (mnemonic_of i) ≤ 4096 → wrong look n (tokens (line_text i)) ≡ None
   nothing_wrong look n h =
-      ap (λ r. or_else (fault_of r) (cond (is_twice look (label_of (tokens (line_text i)))) (Some why.TwiceLabel) (cond (nat_lt 4096 (n + slots_in (tokens (line_text i)))) (Some why.TooLong) None))) (line_again look n)
+      ap (λ r. or_else (fault_of r) (cond (is_twice look (label_of (tokens (line_text i)))) (Some why.TwiceLabel)
+      (cond (nat_lt 4096 (n + slots_in (tokens (line_text i)))) (Some why.TooLong) None))) (line_again look n)
       ∙ ap (λ l. cond (is_twice look l) (Some why.TwiceLabel) (cond (nat_lt 4096 (n + slots_in (tokens (line_text i)))) (Some why.TooLong) None)) label_none
       ∙ ap (λ b. cond b (Some why.TooLong) None) (short n (slots_in (tokens (line_text i))) slots_again h)
 
 -- ---- both passes
 
-outlined_again : (k : ℕ) (look : Look) (n : ℕ) (code : List Instr) → AllFitParts code → n + parts_slot_count code ≤ 4096 → outlined k look n (map line_text code) ≡ Ok look
+outlined_again : (k : ℕ) (look : Look) (n : ℕ) (code : List Instr) → AllFitParts code → n + parts_slot_count code ≤ 4096
+    → outlined k look n (map line_text code) ≡ Ok look
 outlined_again k look n [] f h = refl
 outlined_again k look n (i ∷ is) f h =
     let rest = map line_text is in
@@ -163,5 +169,6 @@ canonical_spells code f h =
 
 pub one_spelling : (i j : Instr) → FitsParts i → FitsParts j → line_text i ≡ line_text j → i ≡ j
 one_spelling i j f g e =
-    let k : ◌≡◌ {A = Result (Option Instr) Why} (Ok (Some i)) (Ok (Some j)) = sym (line_again i f nowhere 0) ∙ ap (λ l. line_says nowhere 0 (tokens l)) e ∙ line_again j g nowhere 0 in
+    let k : ◌≡◌ {A = Result (Option Instr) Why} (Ok (Some i)) (Ok (Some j)) =
+    sym (line_again i f nowhere 0) ∙ ap (λ l. line_says nowhere 0 (tokens l)) e ∙ line_again j g nowhere 0 in
     cc k

@@ -1,5 +1,6 @@
 -- Ok is answered for what is spelled, and for nothing else.
-use Rattle.std.proofs.Common.{◌≡◌, ◌≤◌, ◌+◌, inl, inr, ℕ, nat_lt, Bool, true, false, cond, List, [], ◌∷◌, refl, sym, ap, ◌∙◌, arith, Option, Some, None, Result, Ok, Err}
+use Rattle.std.proofs.Common.{◌≡◌, ◌≤◌, ◌+◌, inl, inr, ℕ, nat_lt, Bool, true, false, cond, List, [], ◌∷◌, refl, sym, ap, ◌∙◌, arith, Option, Some, None, Result}
+use Rattle.std.proofs.Common.{Ok, Err}
 use Rattle.std.proofs.lemmas.Bool.Decides.{nat_tests}
 use Rattle.std.specs.Str.Lines.{lines}
 use Rattle.asm_text.specs.Tokens.{Lexeme, tokens}
@@ -40,7 +41,8 @@ pub none_wrong : (w : Why) → fault_of (Err w) ≡ None → w ≡ why.Label
 none_wrong why.Label e = refl
 none_wrong _ e = absurd (cc e)
 
-onto_ok : (i : Instr) (r : Result (List Instr) AsmError) (code : List Instr) → onto (λ is. i ∷ is) r ≡ Ok code → (is : List Instr) × (r ≡ Ok is) × (code ≡ i ∷ is)
+onto_ok : (i : Instr) (r : Result (List Instr) AsmError) (code : List Instr) → onto (λ is. i ∷ is) r ≡ Ok code
+    → (is : List Instr) × (r ≡ Ok is) × (code ≡ i ∷ is)
 onto_ok i (Ok is) code e = let k : i ∷ is ≡ code = cc e in (is, refl, sym k)
 onto_ok i (Err f) code e = absurd (cc e)
 
@@ -54,17 +56,21 @@ pub record Next (k : ℕ) (look before : Look) (n : ℕ) (line : List ℕ) (rest
   pub outlined : outlined (k + 1) (with_label before (label_of (tokens line)) n) (n + slots_in (tokens line)) rest ≡ Ok look
 
 next_at : (k : ℕ) (look before : Look) (n : ℕ) (line : List ℕ) (rest : List (List ℕ)) (o : Option Why) → wrong before n (tokens line) ≡ o
-    → unless_wrong o k (outlined (k + 1) (with_label before (label_of (tokens line)) n) (n + slots_in (tokens line)) rest) ≡ Ok look → Next k look before n line rest
+    → unless_wrong o k (outlined (k + 1) (with_label before (label_of (tokens line)) n) (n + slots_in (tokens line)) rest) ≡ Ok look
+    → Next k look before n line rest
 next_at k look before n line rest None w h = record { right = right before n (tokens line) w; outlined = h }
 next_at k look before n line rest (Some v) w h = absurd (cc h)
 
-pub next : (k : ℕ) (look before : Look) (n : ℕ) (line : List ℕ) (rest : List (List ℕ)) → outlined k before n (line ∷ rest) ≡ Ok look → Next k look before n line rest
+pub next : (k : ℕ) (look before : Look) (n : ℕ) (line : List ℕ) (rest : List (List ℕ)) → outlined k before n (line ∷ rest) ≡ Ok look
+    → Next k look before n line rest
 next k look before n line rest h = next_at k look before n line rest (wrong before n (tokens line)) refl h
 
 -- ---- what is answered is spelled
 
-says_at : (j : ℕ) (look : Look) (n : ℕ) (line : List ℕ) (rest : List (List ℕ)) (code : List Instr) (goes : List Instr → Type 0) (r : Result (Option Instr) Why) → line_says look n (tokens line) ≡ r
-    → with_said r j (assembled (j + 1) look (n + slots_in (tokens line)) rest) ≡ Ok code → ((is : List Instr) → assembled (j + 1) look (n + slots_in (tokens line)) rest ≡ Ok is → goes is)
+says_at : (j : ℕ) (look : Look) (n : ℕ) (line : List ℕ) (rest : List (List ℕ)) (code : List Instr) (goes : List Instr
+    → Type 0) (r : Result (Option Instr) Why) → line_says look n (tokens line) ≡ r
+    → with_said r j (assembled (j + 1) look (n + slots_in (tokens line)) rest) ≡ Ok code
+    → ((is : List Instr) → assembled (j + 1) look (n + slots_in (tokens line)) rest ≡ Ok is → goes is)
     → (has_stray (tokens line) ≡ false) × SaysThen look n (tokens line) code goes
 says_at j look n line rest code goes (Ok None) e h f =
     let k = stray_ok (has_stray (tokens line)) None (body look n (after_label (tokens line))) e in
@@ -75,17 +81,20 @@ says_at j look n line rest code goes (Ok (Some i)) e h f =
     (k.0, inr (i, o.0, o.2, says_means look n (after_label (tokens line)) i k.1, f o.0 o.1))
 says_at j look n line rest code goes (Err w) e h f = absurd (cc h)
 
-lines_say : (k j : ℕ) (look before : Look) (n : ℕ) (lines : List (List ℕ)) (code : List Instr) → outlined k before n lines ≡ Ok look → assembled j look n lines ≡ Ok code → LinesSay look before n lines code
+lines_say : (k j : ℕ) (look before : Look) (n : ℕ) (lines : List (List ℕ)) (code : List Instr) → outlined k before n lines ≡ Ok look
+    → assembled j look n lines ≡ Ok code → LinesSay look before n lines code
 lines_say k j look before n [] code e h = let a : before ≡ look = cc e in let b : [] ≡ code = cc h in (a, sym b)
 lines_say k j look before n (line ∷ rest) code e h =
     let x = next k look before n line rest e in
-    let y = says_at j look n line rest code (λ is. LinesSay look (with_label before (label_of (tokens line)) n) (n + slots_in (tokens line)) rest is) (line_says look n (tokens line)) refl h
+    let y = says_at j look n line rest code (λ is. LinesSay look (with_label before (label_of (tokens line)) n) (n + slots_in (tokens line)) rest is)
+    (line_says look n (tokens line)) refl h
     (λ is g. lines_say (k + 1) (j + 1) look (with_label before (label_of (tokens line)) n) (n + slots_in (tokens line)) rest is x.outlined g) in
     (y.0, x.right.once, x.right.short, y.1)
 
 -- ---- what is spelled is answered
 
-nothing_wrong : (before look : Look) (n : ℕ) (ts : List Lexeme) (x : Option Instr) → line_says look n ts ≡ Ok x → is_twice before (label_of ts) ≡ false → n + slots_in ts ≤ 4096 → wrong before n ts ≡ None
+nothing_wrong : (before look : Look) (n : ℕ) (ts : List Lexeme) (x : Option Instr) → line_says look n ts ≡ Ok x → is_twice before (label_of ts) ≡ false
+    → n + slots_in ts ≤ 4096 → wrong before n ts ≡ None
 nothing_wrong before look n ts x e t s =
     let f : fault_of (line_says before n ts) ≡ None = line_alike before look n n ts ∙ ap fault_of e in
     let l : nat_lt 4096 (n + slots_in ts) ≡ false = grind (arith, nat_tests) in
@@ -101,7 +110,8 @@ record Said (look : Look) (n : ℕ) (ts : List Lexeme) (code : List Instr) (goes
   further : goes is
   joined : (j : ℕ) (r : Result (List Instr) AsmError) → r ≡ Ok is → with_said (Ok said) j r ≡ Ok code
 
-says : (look : Look) (n : ℕ) (ts : List Lexeme) (code : List Instr) (goes : List Instr → Type 0) → has_stray ts ≡ false → SaysThen look n ts code goes → Said look n ts code goes
+says : (look : Look) (n : ℕ) (ts : List Lexeme) (code : List Instr) (goes : List Instr → Type 0) → has_stray ts ≡ false
+    → SaysThen look n ts code goes → Said look n ts code goes
 says look n ts code goes c (inl h) = record {
   said = None;
   is = code;
@@ -117,17 +127,20 @@ says look n ts code goes c (inr h) = record {
   joined = λ j r e. ap (onto (λ is. h.0 ∷ is)) e ∙ ap (λ l. Ok l) (sym h.2);
 }
 
-lines_read : (k j : ℕ) (look before : Look) (n : ℕ) (lines : List (List ℕ)) (code : List Instr) → LinesSay look before n lines code → (outlined k before n lines ≡ Ok look) × (assembled j look n lines ≡ Ok code)
+lines_read : (k j : ℕ) (look before : Look) (n : ℕ) (lines : List (List ℕ)) (code : List Instr) → LinesSay look before n lines code
+    → (outlined k before n lines ≡ Ok look) × (assembled j look n lines ≡ Ok code)
 lines_read k j look before n [] code h = (ap (λ (l : Look). Ok l) h.0, ap (λ l. Ok l) (sym h.1))
 lines_read k j look before n (line ∷ rest) code h =
     let ts = tokens line in
     let s = says look n ts code (λ is. LinesSay look (with_label before (label_of ts) n) (n + slots_in ts) rest is) h.0 h.3 in
     let r = lines_read (k + 1) (j + 1) look (with_label before (label_of ts) n) (n + slots_in ts) rest s.is s.further in (
-      ap (λ o. unless_wrong o k (outlined (k + 1) (with_label before (label_of ts) n) (n + slots_in ts) rest)) (nothing_wrong before look n ts s.said s.reads h.1 h.2) ∙ r.0,
+      ap (λ o. unless_wrong o k (outlined (k + 1) (with_label before (label_of ts) n) (n + slots_in ts) rest))
+          (nothing_wrong before look n ts s.said s.reads h.1 h.2) ∙ r.0,
       ap (λ x. with_said x j (assembled (j + 1) look (n + slots_in ts) rest)) s.reads ∙ s.joined j (assembled (j + 1) look (n + slots_in ts) rest) r.1,
     )
 
-under_ok : (o : Result Look AsmError) (lines : List (List ℕ)) (code : List Instr) → under o lines ≡ Ok code → (look : Look) × (o ≡ Ok look) × (assembled 1 look 0 lines ≡ Ok code)
+under_ok : (o : Result Look AsmError) (lines : List (List ℕ)) (code : List Instr) → under o lines ≡ Ok code
+    → (look : Look) × (o ≡ Ok look) × (assembled 1 look 0 lines ≡ Ok code)
 under_ok (Ok look) lines code e = (look, refl, e)
 under_ok (Err f) lines code e = absurd (cc e)
 

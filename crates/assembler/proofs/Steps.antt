@@ -1,5 +1,6 @@
 -- One line of each pass.
-use Rattle.std.proofs.Common.{◌≡◌, ◌≤◌, ◌+◌, ℕ, nat_lt, Bool, true, false, cond, List, [], ◌∷◌, ◌++◌, refl, sym, ap, ◌∙◌, arith, append_assoc, Option, Some, None, Result, Ok, Err}
+use Rattle.std.proofs.Common.{◌≡◌, ◌≤◌, ◌+◌, ℕ, nat_lt, Bool, true, false, cond, List, [], ◌∷◌, ◌++◌, refl, sym, ap, ◌∙◌, arith, append_assoc, Option, Some}
+use Rattle.std.proofs.Common.{None, Result, Ok, Err}
 use mathlib.Core.Path.{fun_ext}
 use Rattle.std.proofs.lemmas.Bool.Decides.{nat_tests}
 use Rattle.std.proofs.lemmas.Map.Text.{btree_map_updates_str}
@@ -21,18 +22,21 @@ use Rattle.assembler.specs.Passes.{with_label, slots_in, is_twice, or_else, wron
 
 -- ---- labels
 
-pub entered : (w : List ℕ) (m n : BTreeMap (Bor (List ℕ)) ℕ) (slot : ℕ) → tree.UpdatesBy (λ x y. slice_cmp nat_cmp x.now y.now) (λ k. slice_cmp nat_cmp w k.now) m n (Some slot) → look_in n ≡ with_label (look_in m) (Some w) slot
+pub entered : (w : List ℕ) (m n : BTreeMap (Bor (List ℕ)) ℕ) (slot : ℕ)
+    → tree.UpdatesBy (λ x y. slice_cmp nat_cmp x.now y.now) (λ k. slice_cmp nat_cmp w k.now) m n (Some slot) → look_in n ≡ with_label (look_in m) (Some w) slot
 entered w m n slot u = fun_ext (λ cs. btree_map_updates_str w m n (Some slot) u cs)
 
 below_at : (b : Bool) (n s : ℕ) (o : Option ℕ) → n ≤ 4096 → (o ≡ Some s → s ≤ 4096) → cond b (Some n) o ≡ Some s → s ≤ 4096
 below_at true n s o l h e = let k : n ≡ s = cc e in omega arith
 below_at false n s o l h e = h e
 
-below : (f : Look) (label : Option (List ℕ)) (n : ℕ) → n ≤ 4096 → ((q : List ℕ) (s : ℕ) → f q ≡ Some s → s ≤ 4096) → (q : List ℕ) (s : ℕ) → with_label f label n q ≡ Some s → s ≤ 4096
+below : (f : Look) (label : Option (List ℕ)) (n : ℕ) → n ≤ 4096 → ((q : List ℕ) (s : ℕ) → f q ≡ Some s → s ≤ 4096) → (q : List ℕ) (s : ℕ)
+    → with_label f label n q ≡ Some s → s ≤ 4096
 below f None n l h q s e = h q s e
 below f (Some w) n l h q s e = below_at (bytes_eq w q) n s (f q) l (h q s) e
 
-pub below_after : (f g : Look) (label : Option (List ℕ)) (n : ℕ) → g ≡ with_label f label n → n ≤ 4096 → ((q : List ℕ) (s : ℕ) → f q ≡ Some s → s ≤ 4096) → (q : List ℕ) (s : ℕ) → g q ≡ Some s → s ≤ 4096
+pub below_after : (f g : Look) (label : Option (List ℕ)) (n : ℕ) → g ≡ with_label f label n → n ≤ 4096 → ((q : List ℕ) (s : ℕ) → f q ≡ Some s → s ≤ 4096)
+    → (q : List ℕ) (s : ℕ) → g q ≡ Some s → s ≤ 4096
 below_after f g label n e l h q s k = below f label n l h q s (sym (ap (λ (x : Look). x q) e) ∙ k)
 
 -- ---- what isn't wrong
@@ -60,10 +64,12 @@ right look n ts e =
 
 -- ---- the first pass
 
-pub outlined_next : (k : ℕ) (look new : Look) (n s : ℕ) (all rest : List (List ℕ)) (line : List ℕ) (label : Option (List ℕ)) → all ≡ line ∷ rest → None ≡ wrong look n (tokens line) → label ≡ label_of (tokens line) → s ≡ slots_in (tokens line)
+pub outlined_next : (k : ℕ) (look new : Look) (n s : ℕ) (all rest : List (List ℕ)) (line : List ℕ) (label : Option (List ℕ)) → all ≡ line ∷ rest
+    → None ≡ wrong look n (tokens line) → label ≡ label_of (tokens line) → s ≡ slots_in (tokens line)
     → new ≡ with_label look label n → outlined (k + 1) new (n + s) rest ≡ outlined k look n all
 outlined_next k look new n s all rest line label e w l f g =
-    rw (g, l, f) (ap (λ o. unless_wrong o k (outlined (k + 1) (with_label look (label_of (tokens line)) n) (n + slots_in (tokens line)) rest)) w ∙ ap (outlined k look n) (sym e))
+    rw (g, l, f) (ap (λ o. unless_wrong o k (outlined (k + 1) (with_label look (label_of (tokens line)) n) (n + slots_in (tokens line)) rest)) w
+    ∙ ap (outlined k look n) (sym e))
 
 -- ---- the second pass
 
@@ -74,27 +80,37 @@ pub record GoesOn (look : Look) (k n s : ℕ) (rest : List (List ℕ)) : Type 0 
   pub short : n + s ≤ 4096
 
 goes_at : (look before : Look) (k n : ℕ) (rest : List (List ℕ)) (line : List ℕ) (o : Option Why) → wrong before n (tokens line) ≡ o
-    → unless_wrong o k (outlined (k + 1) (with_label before (label_of (tokens line)) n) (n + slots_in (tokens line)) rest) ≡ Ok look → GoesOn look k n (slots_in (tokens line)) rest
-goes_at look before k n rest line None w h = record { before = with_label before (label_of (tokens line)) n; outlined = h; short = (right before n (tokens line) w).short }
+    → unless_wrong o k (outlined (k + 1) (with_label before (label_of (tokens line)) n) (n + slots_in (tokens line)) rest) ≡ Ok look
+    → GoesOn look k n (slots_in (tokens line)) rest
+goes_at look before k n rest line None w h =
+    record { before = with_label before (label_of (tokens line)) n; outlined = h; short = (right before n (tokens line) w).short }
 goes_at look before k n rest line (Some v) w h = absurd (cc h)
 
-pub goes_on : (look before : Look) (k n s : ℕ) (all rest : List (List ℕ)) (line : List ℕ) → all ≡ line ∷ rest → s ≡ slots_in (tokens line) → outlined k before n all ≡ Ok look → GoesOn look k n s rest
-goes_on look before k n s all rest line e f h = rw f (goes_at look before k n rest line (wrong before n (tokens line)) refl (sym (ap (outlined k before n) e) ∙ h))
+pub goes_on : (look before : Look) (k n s : ℕ) (all rest : List (List ℕ)) (line : List ℕ) → all ≡ line ∷ rest → s ≡ slots_in (tokens line)
+    → outlined k before n all ≡ Ok look → GoesOn look k n s rest
+goes_on look before k n s all rest line e f h =
+    rw f (goes_at look before k n rest line (wrong before n (tokens line)) refl (sym (ap (outlined k before n) e) ∙ h))
 
-onto_more : (front : List Instr) (i : Instr) (r : Result (List Instr) AsmError) → onto (λ is. (front ++ i ∷ []) ++ is) r ≡ onto (λ is. front ++ is) (onto (λ is. i ∷ is) r)
+onto_more : (front : List Instr) (i : Instr) (r : Result (List Instr) AsmError)
+    → onto (λ is. (front ++ i ∷ []) ++ is) r ≡ onto (λ is. front ++ is) (onto (λ is. i ∷ is) r)
 onto_more front i (Ok is) = ap Ok (append_assoc front (i ∷ []) is)
 onto_more front i (Err e) = refl
 
 module _ (k : ℕ) (look : Look) (n s : ℕ) (all rest : List (List ℕ)) (line : List ℕ) (front : List Instr) (e : all ≡ line ∷ rest) where
-  pub assembled_none : Ok None ≡ line_says look n (tokens line) → s ≡ slots_in (tokens line) → onto (λ is. front ++ is) (assembled (k + 1) look (n + s) rest) ≡ onto (λ is. front ++ is) (assembled k look n all)
+  pub assembled_none : Ok None ≡ line_says look n (tokens line) → s ≡ slots_in (tokens line)
+      → onto (λ is. front ++ is) (assembled (k + 1) look (n + s) rest) ≡ onto (λ is. front ++ is) (assembled k look n all)
   assembled_none h f =
-      rw f (ap (λ x. onto (λ is. front ++ is) (with_said x k (assembled (k + 1) look (n + slots_in (tokens line)) rest))) h ∙ ap (λ l. onto (λ is. front ++ is) (assembled k look n l)) (sym e))
+      rw f (ap (λ x. onto (λ is. front ++ is) (with_said x k (assembled (k + 1) look (n + slots_in (tokens line)) rest))) h
+      ∙ ap (λ l. onto (λ is. front ++ is) (assembled k look n l)) (sym e))
 
-  pub assembled_some : (i : Instr) → Ok (Some i) ≡ line_says look n (tokens line) → s ≡ slots_in (tokens line) → onto (λ is. (front ++ i ∷ []) ++ is) (assembled (k + 1) look (n + s) rest) ≡ onto (λ is. front ++ is) (assembled k look n all)
+  pub assembled_some : (i : Instr) → Ok (Some i) ≡ line_says look n (tokens line) → s ≡ slots_in (tokens line)
+      → onto (λ is. (front ++ i ∷ []) ++ is) (assembled (k + 1) look (n + s) rest) ≡ onto (λ is. front ++ is) (assembled k look n all)
   assembled_some i h f =
       onto_more front i (assembled (k + 1) look (n + s) rest)
-      ∙ rw f (ap (λ x. onto (λ is. front ++ is) (with_said x k (assembled (k + 1) look (n + slots_in (tokens line)) rest))) h ∙ ap (λ l. onto (λ is. front ++ is) (assembled k look n l)) (sym e))
+      ∙ rw f (ap (λ x. onto (λ is. front ++ is) (with_said x k (assembled (k + 1) look (n + slots_in (tokens line)) rest))) h
+      ∙ ap (λ l. onto (λ is. front ++ is) (assembled k look n l)) (sym e))
 
-  pub assembled_said : (said : Option Instr) → Ok said ≡ line_says look n (tokens line) → s ≡ slots_in (tokens line) → onto (λ is. with_instr said front ++ is) (assembled (k + 1) look (n + s) rest) ≡ onto (λ is. front ++ is) (assembled k look n all)
+  pub assembled_said : (said : Option Instr) → Ok said ≡ line_says look n (tokens line) → s ≡ slots_in (tokens line)
+      → onto (λ is. with_instr said front ++ is) (assembled (k + 1) look (n + s) rest) ≡ onto (λ is. front ++ is) (assembled k look n all)
   assembled_said None h f = assembled_none h f
   assembled_said (Some i) h f = assembled_some i h f

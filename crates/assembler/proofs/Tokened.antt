@@ -22,7 +22,8 @@ assembled_by k look n (ts ∷ rest) = with_said (line_says look n ts) k (assembl
 outlined_is : (k : ℕ) (look : Look) (n : ℕ) (ls : List (List ℕ)) → outlined k look n ls ≡ outlined_by k look n (map tokens ls)
 unfolding outlined_by
 outlined_is k look n [] = refl
-outlined_is k look n (l ∷ ls) = ap (unless_wrong (wrong look n (tokens l)) k) (outlined_is (k + 1) (with_label look (label_of (tokens l)) n) (n + slots_in (tokens l)) ls)
+outlined_is k look n (l ∷ ls) = ap (unless_wrong (wrong look n (tokens l)) k)
+    (outlined_is (k + 1) (with_label look (label_of (tokens l)) n) (n + slots_in (tokens l)) ls)
 
 assembled_is : (k : ℕ) (look : Look) (n : ℕ) (ls : List (List ℕ)) → assembled k look n ls ≡ assembled_by k look n (map tokens ls)
 unfolding assembled_by

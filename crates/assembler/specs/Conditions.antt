@@ -58,7 +58,8 @@ abbrev pub IsFirstWrongLine : ℕ → Look → ℕ → List (List ℕ) → AsmEr
 IsFirstWrongLine k before n [] e = ⊥
 IsFirstWrongLine k before n (line ∷ lines) e =
     ((e.line ≡ k) × (first_that (reason_holds before n (tokens line)) reasons ≡ Some e.why)) ⊎
-    ((first_that (reason_holds before n (tokens line)) reasons ≡ None) × IsFirstWrongLine (k + 1) (with_label before (label_of (tokens line)) n) (n + slots_in (tokens line)) lines e)
+    ((first_that (reason_holds before n (tokens line)) reasons ≡ None)
+    × IsFirstWrongLine (k + 1) (with_label before (label_of (tokens line)) n) (n + slots_in (tokens line)) lines e)
 
 -- The first pass refuses the first wrong line, for the least reason.
 abbrev pub LeastFirst : Type 0

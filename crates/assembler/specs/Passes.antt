@@ -37,7 +37,8 @@ or_else (Some v) w = Some v
 
 -- the least of what is wrong with a line at slot n, before which these labels stand
 abbrev pub wrong : Look → ℕ → List Lexeme → Option Why
-wrong look n ts = or_else (fault_of (line_says look n ts)) (if is_twice look (label_of ts) then Some why.TwiceLabel else (if nat_lt 4096 (n + slots_in ts) then Some why.TooLong else None))
+wrong look n ts = or_else (fault_of (line_says look n ts)) (if is_twice look (label_of ts) then Some why.TwiceLabel
+    else (if nat_lt 4096 (n + slots_in ts) then Some why.TooLong else None))
 
 -- ---- the two passes
 
@@ -54,7 +55,8 @@ unless_wrong (Some w) k r = Err (refused k w)
 -- number k and stands at slot n; `look` has the labels before it.
 abbrev pub outlined : ℕ → Look → ℕ → List (List ℕ) → Result Look AsmError
 outlined k look n [] = Ok look
-outlined k look n (line ∷ lines) = unless_wrong (wrong look n (tokens line)) k (outlined (k + 1) (with_label look (label_of (tokens line)) n) (n + slots_in (tokens line)) lines)
+outlined k look n (line ∷ lines) = unless_wrong (wrong look n (tokens line)) k
+    (outlined (k + 1) (with_label look (label_of (tokens line)) n) (n + slots_in (tokens line)) lines)
 
 -- the function of a result; what is wrong stays
 abbrev pub onto : {A B : Type 0} → (A → B) → Result A AsmError → Result B AsmError

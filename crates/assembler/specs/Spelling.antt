@@ -42,4 +42,6 @@ IsFirstUnknown k look (line ∷ lines) at =
 -- A label that stands nowhere is told only where nothing else is wrong in any line, and then of the first line that uses
 -- one.
 abbrev pub LabelLast : Type 0
-LabelLast = (text : List ℕ) (e : AsmError) → (meaning text ≡ Err e) ↔ ((outlined 1 nowhere 0 (lines text) ≡ Err e) ⊎ ((look : Look) × (outlined 1 nowhere 0 (lines text) ≡ Ok look) × (e.why ≡ why.Label) × IsFirstUnknown 1 look (lines text) e.line))
+LabelLast = (text : List ℕ) (e : AsmError)
+    → (meaning text ≡ Err e) ↔ ((outlined 1 nowhere 0 (lines text) ≡ Err e)
+    ⊎ ((look : Look) × (outlined 1 nowhere 0 (lines text) ≡ Ok look) × (e.why ≡ why.Label) × IsFirstUnknown 1 look (lines text) e.line))

@@ -13,7 +13,8 @@ use Rattle.bpf_codec.specs.declared.slot.Slot.{Slot}
 use Rattle.bpf_codec.specs.declared.building.Operands.{Operands}
 use Rattle.bpf_codec.specs.Slots.{row, layout, slot, filled, first, second, next_word, Fits}
 use Rattle.bpf_codec.specs.Decoding.{operands, built}
-use Rattle.bpf_codec.proofs.Fields.{is_wide_imm, with_register, with_offset, with_imm, register_given, offset_given, imm_given, offset_fits, imm_fits, register_in, offset_in, imm_in, next_in, value_in, register_is, offset_is, imm_is, value_is}
+use Rattle.bpf_codec.proofs.Fields.{is_wide_imm, with_register, with_offset, with_imm, register_given, offset_given, imm_given, offset_fits, imm_fits}
+use Rattle.bpf_codec.proofs.Fields.{register_in, offset_in, imm_in, next_in, value_in, register_is, offset_is, imm_is, value_is}
 use Rattle.bpf_codec.proofs.Rows.{IsPlaced, IsOf}
 
 -- ---- by variant
@@ -84,16 +85,21 @@ unfolding operands
 first_built i f next p o r =
     let l = layout i in
     ap filled (layout_built i (operands f next))
-    ∙ slot_same f _ _ _ _ _ (sym o.opcode) (register_given l.dst f.dst p.dst o.dst) (register_given l.src f.src p.src o.src) (offset_given l.offset f.offset p.offset o.offset r.offset) (imm_given l.imm f.imm next p.imm o.imm r.imm)
+    ∙ slot_same f _ _ _ _ _ (sym o.opcode) (register_given l.dst f.dst p.dst o.dst) (register_given l.src f.src p.src o.src)
+    (offset_given l.offset f.offset p.offset o.offset r.offset) (imm_given l.imm f.imm next p.imm o.imm r.imm)
 
 pub fits_built : (i : Instr) (f : Slot) (next : ℕ) → IsPlaced (layout i) → InRange f → next < 2 ^ 32 → Fits (built i (operands f next))
 unfolding operands
-fits_built i f next p r n = rw (layout_built i (operands f next)) (offset_fits (layout i).offset f.offset p.offset r.offset, imm_fits (layout i).imm f.imm next p.imm r.imm n)
+fits_built i f next p r n = rw (layout_built i (operands f next)) (
+  offset_fits (layout i).offset f.offset p.offset r.offset,
+  imm_fits (layout i).imm f.imm next p.imm r.imm n,
+)
 
 high_half : (n next : ℕ) → n < 2 ^ 32 → (n + 2 ^ 32 * next) / 2 ^ 32 ≡ next
 high_half n next h = omega arith
 
-second_given : (x : Field) (z : ℤ) (n next : ℕ) → n < 2 ^ 32 → is_wide_imm x ≡ true → second_in (with_imm x z (n + 2 ^ 32 * next)) ≡ 0 ∷ 0 ∷ 0 ∷ 0 ∷ low_bytes 4 next
+second_given : (x : Field) (z : ℤ) (n next : ℕ) → n < 2 ^ 32 → is_wide_imm x ≡ true
+    → second_in (with_imm x z (n + 2 ^ 32 * next)) ≡ 0 ∷ 0 ∷ 0 ∷ 0 ∷ low_bytes 4 next
 second_given (Wide v) z n next h w = ap (λ (m : ℕ). 0 ∷ 0 ∷ 0 ∷ 0 ∷ low_bytes 4 m) (high_half n next h)
 second_given _ z n next h w = absurd (cc)
 
@@ -101,9 +107,12 @@ none_given : (x : Field) (z : ℤ) (v : ℕ) → is_wide_imm x ≡ false → sec
 none_given (Wide w) z v h = absurd (cc)
 none_given _ z v h = refl
 
-pub second_built : (i : Instr) (f : Slot) (next : ℕ) → InRange f → is_wide_imm (layout i).imm ≡ true → second (built i (operands f next)) ≡ 0 ∷ 0 ∷ 0 ∷ 0 ∷ low_bytes 4 next
+pub second_built : (i : Instr) (f : Slot) (next : ℕ) → InRange f → is_wide_imm (layout i).imm ≡ true
+    → second (built i (operands f next)) ≡ 0 ∷ 0 ∷ 0 ∷ 0 ∷ low_bytes 4 next
 unfolding operands
-second_built i f next r w = (second_is (built i (operands f next))).0 ∙ ap (λ (l : Layout). second_in l.imm) (layout_built i (operands f next)) ∙ second_given (layout i).imm _ f.imm next r.imm w
+second_built i f next r w = (second_is (built i (operands f next))).0 ∙ ap (λ (l : Layout). second_in l.imm) (layout_built i (operands f next))
+    ∙ second_given (layout i).imm _ f.imm next r.imm w
 
 pub none_built : (i : Instr) (f : Slot) (next : ℕ) → is_wide_imm (layout i).imm ≡ false → second (built i (operands f next)) ≡ []
-none_built i f next w = (second_is (built i (operands f next))).0 ∙ ap (λ (l : Layout). second_in l.imm) (layout_built i (operands f next)) ∙ none_given (layout i).imm _ _ w
+none_built i f next w = (second_is (built i (operands f next))).0 ∙ ap (λ (l : Layout). second_in l.imm) (layout_built i (operands f next))
+    ∙ none_given (layout i).imm _ _ w

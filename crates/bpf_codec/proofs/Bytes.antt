@@ -1,5 +1,6 @@
 -- The fields of a slot and its eight bytes.
-use Rattle.std.proofs.Common.{◌≡◌, ℕ, ◌+◌, ◌*◌, ◌/◌, ◌%◌, ◌<◌, ◌≤◌, ◌^◌, true, false, List, ◌∷◌, ◌++◌, length, get_or, drop, ◌==◌, not, refl, ap, ◌∙◌, arith, append_assoc}
+use Rattle.std.proofs.Common.{◌≡◌, ℕ, ◌+◌, ◌*◌, ◌/◌, ◌%◌, ◌<◌, ◌≤◌, ◌^◌, true, false, List, ◌∷◌, ◌++◌, length, get_or, drop, ◌==◌, not, refl, ap, ◌∙◌, arith}
+use Rattle.std.proofs.Common.{append_assoc}
 use Rattle.std.specs.Prelude.{slice_index, nat_lt}
 use Rattle.std.proofs.lemmas.Bool.{eqb-true}
 use Rattle.std.proofs.lemmas.Bool.Decides.{nat_tests}
@@ -63,7 +64,9 @@ two_nibbles b = omega arith
 two_bytes : (c d : ℕ) → c < 256 → d < 256 → ((c + 256 * d) % 256 ≡ c) × ((c + 256 * d) / 256 % 256 ≡ d)
 two_bytes c d p q = (omega arith, omega arith)
 
-four_bytes : (e f g h : ℕ) → e < 256 → f < 256 → g < 256 → h < 256 → ((e + 256 * (f + 256 * (g + 256 * h))) % 256 ≡ e) × ((e + 256 * (f + 256 * (g + 256 * h))) / 256 % 256 ≡ f) × ((e + 256 * (f + 256 * (g + 256 * h))) / 65536 % 256 ≡ g) × ((e + 256 * (f + 256 * (g + 256 * h))) / 16777216 % 256 ≡ h)
+four_bytes : (e f g h : ℕ) → e < 256 → f < 256 → g < 256 → h < 256
+    → ((e + 256 * (f + 256 * (g + 256 * h))) % 256 ≡ e) × ((e + 256 * (f + 256 * (g + 256 * h))) / 256 % 256 ≡ f)
+    × ((e + 256 * (f + 256 * (g + 256 * h))) / 65536 % 256 ≡ g) × ((e + 256 * (f + 256 * (g + 256 * h))) / 16777216 % 256 ≡ h)
 four_bytes e f g h p q r s = (omega arith, omega arith, omega arith, omega arith)
 
 -- eight bytes and the rest are the bytes of their fields and the rest
@@ -98,7 +101,8 @@ reserved_is xs =
     let d : slice_index (drop 8 xs) 3 ≡ slice_index xs 11 = rw get_or-drop refl in
     rw (a, b, c, d) refl
 
-zero_slot : (xs : List ℕ) → slice_index xs 0 ≡ 0 → slice_index xs 1 ≡ 0 → slice_index xs 2 ≡ 0 → slice_index xs 3 ≡ 0 → slot_bytes (fields xs) ≡ 0 ∷ 0 ∷ 0 ∷ 0 ∷ low_bytes 4 (fields xs).imm
+zero_slot : (xs : List ℕ) → slice_index xs 0 ≡ 0 → slice_index xs 1 ≡ 0 → slice_index xs 2 ≡ 0 → slice_index xs 3 ≡ 0
+    → slot_bytes (fields xs) ≡ 0 ∷ 0 ∷ 0 ∷ 0 ∷ low_bytes 4 (fields xs).imm
 zero_slot xs a b c d = rw (a, b, c, d) refl
 
 -- a second slot whose reserved bits are zero, by its imm field

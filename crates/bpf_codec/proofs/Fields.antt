@@ -166,7 +166,8 @@ offset_given (Offset z) n s h r = low_of_signed_16 n r
 offset_given (Only m) n s h r = sym (eqb-true _ _ h)
 offset_given _ n s h r = absurd (cc)
 
-pub imm_given : (x : Field) (n next : ℕ) → is_imm x ≡ true → may_hold x n ≡ true → n < 2 ^ 32 → number_in (with_imm x (cast_signed w32 n) (n + 2 ^ 32 * next)) ≡ n
+pub imm_given : (x : Field) (n next : ℕ) → is_imm x ≡ true → may_hold x n ≡ true → n < 2 ^ 32
+    → number_in (with_imm x (cast_signed w32 n) (n + 2 ^ 32 * next)) ≡ n
 imm_given (Imm z) n next s h r = low_of_signed_32 n r
 imm_given (Wide v) n next s h r = omega arith
 imm_given (Only m) n next s h r = sym (eqb-true _ _ h)

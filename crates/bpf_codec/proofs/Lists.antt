@@ -1,5 +1,6 @@
 -- Tests and searches over a list.
-use Rattle.std.proofs.Common.{◌≡◌, ℕ, zero, suc, ◌+◌, ◌<◌, Bool, true, false, cond, List, [], ◌∷◌, length, get_or, Option, Some, None, ◌&&◌, ◌||◌, refl, sym, arith, inl, inr, ◌⊎◌}
+use Rattle.std.proofs.Common.{◌≡◌, ℕ, zero, suc, ◌+◌, ◌<◌, Bool, true, false, cond, List, [], ◌∷◌, length, get_or, Option, Some, None, ◌&&◌, ◌||◌, refl, sym}
+use Rattle.std.proofs.Common.{arith, inl, inr, ◌⊎◌}
 use Rattle.std.specs.Prelude.{Contains}
 use Rattle.std.specs.List.{list_any, list_all, filter, find}
 use Rattle.isa_table.proofs.Listed.{and_true}
@@ -41,7 +42,8 @@ pub filtered : {A : Type 0} (p : A → Bool) (xs : List A) (x : A) → Has (filt
 filtered p [] x h = absurd h
 filtered {A} p (y ∷ ys) x h = go (p y) refl h (filtered p ys x)
   where
-    go : (b : Bool) → p y ≡ b → Has (cond b (y ∷ filter p ys) (filter p ys)) x → (Has (filter p ys) x → Has ys x × (p x ≡ true)) → ((y ≡ x) ⊎ Has ys x) × (p x ≡ true)
+    go : (b : Bool) → p y ≡ b → Has (cond b (y ∷ filter p ys) (filter p ys)) x → (Has (filter p ys) x → Has ys x × (p x ≡ true))
+        → ((y ≡ x) ⊎ Has ys x) × (p x ≡ true)
     go true e (inl g) r = (inl g, rw (sym g) e)
     go true e (inr g) r = (inr (r g).0, (r g).1)
     go false e g r = (inr (r g).0, (r g).1)
@@ -51,7 +53,8 @@ pub any_filtered : {A : Type 0} (q p : A → Bool) (xs : List A) → ((x : A) �
 any_filtered q p [] h = refl
 any_filtered {A} q p (x ∷ xs) h = go (q x) (p x) refl refl (any_filtered q p xs h)
   where
-    go : (a b : Bool) → q x ≡ a → p x ≡ b → list_any q (filter p xs) ≡ list_any q xs → list_any q (cond b (x ∷ filter p xs) (filter p xs)) ≡ (a || list_any q xs)
+    go : (a b : Bool) → q x ≡ a → p x ≡ b → list_any q (filter p xs) ≡ list_any q xs
+        → list_any q (cond b (x ∷ filter p xs) (filter p xs)) ≡ (a || list_any q xs)
     go true true e g r = rw e refl
     go true false e g r = absurd (let k : p x ≡ true = h x e in cc)
     go false true e g r = rw e r
@@ -94,7 +97,8 @@ pub any_found : {A : Type 0} (p : A → Bool) (xs : List A) → list_any p xs �
 any_found p [] e = absurd (cc)
 any_found {A} p (y ∷ ys) e = go (p y) refl e (any_found p ys)
   where
-    go : (b : Bool) → p y ≡ b → (b || list_any p ys) ≡ true → (list_any p ys ≡ true → (x : A) × Has ys x × (p x ≡ true)) → (x : A) × ((y ≡ x) ⊎ Has ys x) × (p x ≡ true)
+    go : (b : Bool) → p y ≡ b → (b || list_any p ys) ≡ true → (list_any p ys ≡ true → (x : A) × Has ys x × (p x ≡ true))
+        → (x : A) × ((y ≡ x) ⊎ Has ys x) × (p x ≡ true)
     go true t h r = (y, inl refl, t)
     go false t h r = let k = r h in (k.0, inr k.1, k.2)
 
@@ -103,7 +107,8 @@ abbrev pub each_place : {A : Type 0} → (ℕ → A → Bool) → ℕ → List A
 each_place t i [] = true
 each_place t i (x ∷ xs) = t i x && each_place t (suc i) xs
 
-pub at_place : {A : Type 0} (t : ℕ → A → Bool) (i : ℕ) (xs : List A) → each_place t i xs ≡ true → (k : ℕ) (d : A) → k < length xs → t (i + k) (get_or xs k d) ≡ true
+pub at_place : {A : Type 0} (t : ℕ → A → Bool) (i : ℕ) (xs : List A) → each_place t i xs ≡ true → (k : ℕ) (d : A) → k < length xs
+    → t (i + k) (get_or xs k d) ≡ true
 at_place t i [] h k d p = absurd (omega arith)
 at_place t i (x ∷ xs) h zero d p = let e : i + 0 ≡ i = omega arith in rw e ((and_true _ _ h).0)
 at_place t i (x ∷ xs) h (suc k) d p =

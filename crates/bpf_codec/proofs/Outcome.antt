@@ -1,5 +1,6 @@
 -- What is decoded from bytes: an instruction with which they begin, and then they have no fault, or their least fault.
-use Rattle.std.proofs.Common.{◌≡◌, ℕ, suc, ◌<◌, ◌≤◌, ◌^◌, Bool, true, false, cond, not, List, [], ◌∷◌, ◌++◌, length, drop, Option, Some, None, Result, Ok, Err, ◌&&◌, ◌==◌, refl, ap, subst, sym, ◌∙◌, arith, append_assoc, inl, inr, ◌⊎◌}
+use Rattle.std.proofs.Common.{◌≡◌, ℕ, suc, ◌<◌, ◌≤◌, ◌^◌, Bool, true, false, cond, not, List, [], ◌∷◌, ◌++◌, length, drop, Option, Some, None, Result, Ok, Err}
+use Rattle.std.proofs.Common.{◌&&◌, ◌==◌, refl, ap, subst, sym, ◌∙◌, arith, append_assoc, inl, inr, ◌⊎◌}
 use Rattle.std.specs.Prelude.{nat_lt}
 use Rattle.std.proofs.lemmas.Bool.{cases_lt}
 use Rattle.std.proofs.lemmas.Bool.Decides.{nat_tests}
@@ -8,8 +9,10 @@ use Rattle.bpf_codec.specs.declared.fault.Fault.{Fault}
 use Rattle.bpf_codec.specs.declared.fault.Fault.TheVariants as fault
 use Rattle.bpf_codec.specs.declared.slot.Slot.{Slot}
 use Rattle.bpf_codec.specs.Slots.{layout, first, fields, slot_bytes, second, Fits, Begins}
-use Rattle.bpf_codec.specs.Faults.{fault_number, has_registers_of, is_of, some_row, is_row, is_of_platform, is_packet, opcode, has_first, is_wide, has_second, has_reserved_bits, has_fault, IsLeastFault}
-use Rattle.bpf_codec.specs.Decoding.{◌>>=◌, rows_of, row_for, have_registers, checked_as, checked, reserved_are_zero, next_imm, operands, built, built_as, decoded_as, decoded}
+use Rattle.bpf_codec.specs.Faults.{fault_number, has_registers_of, is_of, some_row, is_row, is_of_platform, is_packet, opcode, has_first, is_wide, has_second}
+use Rattle.bpf_codec.specs.Faults.{has_reserved_bits, has_fault, IsLeastFault}
+use Rattle.bpf_codec.specs.Decoding.{◌>>=◌, rows_of, row_for, have_registers, checked_as, checked, reserved_are_zero, next_imm, operands, built, built_as}
+use Rattle.bpf_codec.specs.Decoding.{decoded_as, decoded}
 use Rattle.bpf_codec.proofs.Lists.{Has}
 use Rattle.bpf_codec.proofs.Fields.{is_wide_imm}
 use Rattle.bpf_codec.proofs.Rows.{row_placed, no_rows, some_rows, registers_of_table, none_of_table, no_packet, platform_registers, IsRowOf, row_is}
@@ -126,7 +129,8 @@ register_outcome : (xs : List ℕ) → IsTableSlot xs → some_row (has_register
 unfolding has_fault
 register_outcome xs t r = least xs fault.Register (below_register xs t) (rw (t.whole, t.row, r) refl)
 
-field_outcome : (xs : List ℕ) → IsTableSlot xs → some_row (has_registers_of (fields xs)) ≡ true → some_row (is_of (fields xs)) ≡ false → is_of_platform (fields xs) ≡ false → IsLeastFault fault.Field xs
+field_outcome : (xs : List ℕ) → IsTableSlot xs → some_row (has_registers_of (fields xs)) ≡ true → some_row (is_of (fields xs)) ≡ false
+    → is_of_platform (fields xs) ≡ false → IsLeastFault fault.Field xs
 unfolding has_fault
 field_outcome xs t r s p = least xs fault.Field (below_field xs t r) (rw (t.whole, t.row, s, p) refl)
 
@@ -158,7 +162,8 @@ no_fault xs r p g = below_platform xs r g (omega arith)
 
 half_outcome : (xs : List ℕ) → IsGoodSlot xs → is_wide xs ≡ true → has_second xs ≡ false → IsLeastFault fault.HalfWide xs
 unfolding has_fault
-half_outcome xs g w s = least xs fault.HalfWide (next xs fault.Field (below_field xs g.table g.registers) (rw (g.table.whole, g.table.row, g.field, w, s) refl)) (rw (g.table.whole, w, s) refl)
+half_outcome xs g w s = least xs fault.HalfWide
+    (next xs fault.Field (below_field xs g.table g.registers) (rw (g.table.whole, g.table.row, g.field, w, s) refl)) (rw (g.table.whole, w, s) refl)
 
 reserved_outcome : (xs : List ℕ) → IsGoodSlot xs → is_wide xs ≡ true → has_second xs ≡ true → has_reserved_bits xs ≡ true → IsLeastFault fault.Field xs
 unfolding has_fault
@@ -174,8 +179,13 @@ read_wide xs g s r = record { good = g; field = rw (g.table.whole, g.table.row, 
 
 -- ---- the instruction
 
-begins_from : (xs : List ℕ) (i : Instr) (rest : List ℕ) → xs ≡ slot_bytes (fields xs) ++ drop 8 xs → first i ≡ fields xs → drop 8 xs ≡ second i ++ rest → Begins xs i
-begins_from xs i rest h f e = (rest, h ∙ ap (λ (s : Slot). slot_bytes s ++ drop 8 xs) (sym f) ∙ ap (λ (t : List ℕ). slot_bytes (first i) ++ t) e ∙ sym (append_assoc (slot_bytes (first i)) (second i) rest))
+begins_from : (xs : List ℕ) (i : Instr) (rest : List ℕ) → xs ≡ slot_bytes (fields xs) ++ drop 8 xs → first i ≡ fields xs
+    → drop 8 xs ≡ second i ++ rest → Begins xs i
+begins_from xs i rest h f e = (
+  rest,
+  h ∙ ap (λ (s : Slot). slot_bytes s ++ drop 8 xs) (sym f) ∙ ap (λ (t : List ℕ). slot_bytes (first i) ++ t) e
+      ∙ sym (append_assoc (slot_bytes (first i)) (second i) rest),
+)
 
 -- the row that the slot is of, or none where it is the platform's
 abbrev AboutRow : Slot → Option Instr → Type 0
@@ -188,7 +198,8 @@ record IsNext (xs : List ℕ) (n : ℕ) : Type 0 where
   rest : List ℕ
   second : (i : Instr) → IsRowOf (fields xs) i → drop 8 xs ≡ second (built i (operands (fields xs) n)) ++ rest
 
-finish : (xs : List ℕ) (row : Option Instr) (n : ℕ) → IsBytes xs → 8 ≤ length xs → IsRead xs → AboutRow (fields xs) row → IsNext xs n → Outcome xs (built_as row (operands (fields xs) n))
+finish : (xs : List ℕ) (row : Option Instr) (n : ℕ) → IsBytes xs → 8 ≤ length xs → IsRead xs → AboutRow (fields xs) row → IsNext xs n
+    → Outcome xs (built_as row (operands (fields xs) n))
 finish xs None n b l r a k = platform_outcome xs r a
 finish xs (Some i) n b l r a k =
     let range = in_range xs b in
@@ -209,29 +220,38 @@ next_narrow xs w = record {
   second = λ i a. ap (λ (t : List ℕ). t ++ drop 8 xs) (sym (none_built i (fields xs) 0 (wide_imm xs i false w a)));
 }
 
-next_wide : (xs : List ℕ) → IsBytes xs → is_wide xs ≡ true → nat_lt (length (drop 8 xs)) 8 ≡ false → reserved_are_zero (drop 8 xs) ≡ true → IsNext xs (fields (drop 8 xs)).imm
+next_wide : (xs : List ℕ) → IsBytes xs → is_wide xs ≡ true → nat_lt (length (drop 8 xs)) 8 ≡ false → reserved_are_zero (drop 8 xs) ≡ true
+    → IsNext xs (fields (drop 8 xs)).imm
 next_wide xs b w l z =
     let more = bytes_from xs 8 b in
     let long : 8 ≤ length (drop 8 xs) = grind (arith, nat_tests, l) in
     record {
       small = (in_range (drop 8 xs) more).imm;
       rest = drop 8 (drop 8 xs);
-      second = λ i a. second_bytes (drop 8 xs) more long z ∙ ap (λ (t : List ℕ). t ++ drop 8 (drop 8 xs)) (sym (second_built i (fields xs) (fields (drop 8 xs)).imm (in_range xs b) (wide_imm xs i true w a)));
+      second = λ i a. second_bytes (drop 8 xs) more long z
+          ∙ ap (λ (t : List ℕ). t ++ drop 8 (drop 8 xs)) (sym (second_built i (fields xs) (fields (drop 8 xs)).imm (in_range xs b) (wide_imm xs i true w a)));
     }
 
-after_first : (xs : List ℕ) (row : Option Instr) → IsBytes xs → 8 ≤ length xs → IsGoodSlot xs → AboutRow (fields xs) row → Outcome xs (next_imm (opcode xs) (drop 8 xs) >>= λ n. built_as row (operands (fields xs) n))
+after_first : (xs : List ℕ) (row : Option Instr) → IsBytes xs → 8 ≤ length xs → IsGoodSlot xs → AboutRow (fields xs) row
+    → Outcome xs (next_imm (opcode xs) (drop 8 xs) >>= λ n. built_as row (operands (fields xs) n))
 unfolding next_imm is_wide
 after_first xs row b l g a = wide (opcode xs == 0x18) refl
   where
-    bits : (z : Bool) → reserved_are_zero (drop 8 xs) ≡ z → is_wide xs ≡ true → nat_lt (length (drop 8 xs)) 8 ≡ false → Outcome xs (cond z (Ok (fields (drop 8 xs)).imm) (Err fault.Field) >>= λ n. built_as row (operands (fields xs) n))
-    bits true z w s = finish xs row (fields (drop 8 xs)).imm b l (read_wide xs g (second_there xs ∙ ap not s) (reserved_is xs ∙ ap not z)) a (next_wide xs b w s z)
+    bits : (z : Bool) → reserved_are_zero (drop 8 xs) ≡ z → is_wide xs ≡ true → nat_lt (length (drop 8 xs)) 8 ≡ false
+        → Outcome xs (cond z (Ok (fields (drop 8 xs)).imm) (Err fault.Field) >>= λ n. built_as row (operands (fields xs) n))
+    bits true z w s = finish xs row (fields (drop 8 xs)).imm b l (read_wide xs g (second_there xs ∙ ap not s) (reserved_is xs
+        ∙ ap not z)) a (next_wide xs b w s z)
     bits false z w s = reserved_outcome xs g w (second_there xs ∙ ap not s) (reserved_is xs ∙ ap not z)
 
-    there : (h : Bool) → nat_lt (length (drop 8 xs)) 8 ≡ h → is_wide xs ≡ true → Outcome xs (cond h (Err fault.HalfWide) (cond (reserved_are_zero (drop 8 xs)) (Ok (fields (drop 8 xs)).imm) (Err fault.Field)) >>= λ n. built_as row (operands (fields xs) n))
+    there : (h : Bool) → nat_lt (length (drop 8 xs)) 8 ≡ h → is_wide xs ≡ true
+        → Outcome xs (cond h (Err fault.HalfWide) (cond (reserved_are_zero (drop 8 xs)) (Ok (fields (drop 8 xs)).imm) (Err fault.Field)) >>= λ n.
+        built_as row (operands (fields xs) n))
     there true s w = half_outcome xs g w (second_there xs ∙ ap not s)
     there false s w = bits (reserved_are_zero (drop 8 xs)) refl w s
 
-    wide : (h : Bool) → (opcode xs == 0x18) ≡ h → Outcome xs (cond h (cond (nat_lt (length (drop 8 xs)) 8) (Err fault.HalfWide) (cond (reserved_are_zero (drop 8 xs)) (Ok (fields (drop 8 xs)).imm) (Err fault.Field))) (Ok 0) >>= λ n. built_as row (operands (fields xs) n))
+    wide : (h : Bool) → (opcode xs == 0x18) ≡ h
+        → Outcome xs (cond h (cond (nat_lt (length (drop 8 xs)) 8) (Err fault.HalfWide)
+        (cond (reserved_are_zero (drop 8 xs)) (Ok (fields (drop 8 xs)).imm) (Err fault.Field))) (Ok 0) >>= λ n. built_as row (operands (fields xs) n))
     wide true w = there (nat_lt (length (drop 8 xs)) 8) refl w
     wide false w = finish xs row 0 b l (read_narrow xs g w) a (next_narrow xs w)
 
@@ -248,7 +268,8 @@ platform_field : (a b : Bool) → b ≡ true → (not a && not b) ≡ false
 platform_field a true h = and_false (not a)
 platform_field a false h = absurd (cc)
 
-by_row : (xs : List ℕ) (r : Option Instr) (p q : Bool) → IsBytes xs → 8 ≤ length xs → IsTableSlot xs → row_for (fields xs) (rows_of (opcode xs)) ≡ r → is_of_platform (fields xs) ≡ p → have_registers (fields xs) (rows_of (opcode xs)) ≡ q → Outcome xs (go_on xs (checked_as r p q))
+by_row : (xs : List ℕ) (r : Option Instr) (p q : Bool) → IsBytes xs → 8 ≤ length xs → IsTableSlot xs → row_for (fields xs) (rows_of (opcode xs)) ≡ r
+    → is_of_platform (fields xs) ≡ p → have_registers (fields xs) (rows_of (opcode xs)) ≡ q → Outcome xs (go_on xs (checked_as r p q))
 by_row xs (Some i) p q b l t e f h =
     let a = row_is (fields xs) i e in
     after_first xs (Some i) b l (record { table = t; registers = a.registers; field = some_field _ _ a.some }) a

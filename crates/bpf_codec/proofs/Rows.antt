@@ -18,7 +18,8 @@ use Rattle.bpf_codec.specs.Slots.{row, layout, first}
 use Rattle.bpf_codec.specs.Faults.{is_register, may_hold, has_registers_of, is_of, some_row, is_row, platform_layouts, is_of_platform, is_packet}
 use Rattle.bpf_codec.specs.Decoding.{rows_of, row_for, have_registers}
 use Rattle.bpf_codec.proofs.Lists.{both, Has, has_contained, passes, has_filtered, filtered, any_filtered, any_has, any_found, found, not_found, some_found}
-use Rattle.bpf_codec.proofs.Fields.{kind, kind_may_hold, holds_own, holds_register, is_small, is_offset, is_imm, is_wide_imm, kind_small, kind_offset, kind_imm, kind_wide}
+use Rattle.bpf_codec.proofs.Fields.{kind, kind_may_hold, holds_own, holds_register, is_small, is_offset, is_imm, is_wide_imm, kind_small, kind_offset, kind_imm}
+use Rattle.bpf_codec.proofs.Fields.{kind_wide}
 
 -- ---- an instruction's row
 
@@ -79,7 +80,8 @@ clashes f l k a b =
     let q = parts_of f k b in
     let same : l.opcode ≡ k.opcode = sym p.opcode ∙ q.opcode in
     let e : (l.opcode == k.opcode) ≡ true = grind (arith, nat_tests, same) in
-    both _ _ (both _ _ (both _ _ (both _ _ e (meets l.dst k.dst f.dst p.dst q.dst)) (meets l.src k.src f.src p.src q.src)) (meets l.offset k.offset f.offset p.offset q.offset)) (meets l.imm k.imm f.imm p.imm q.imm)
+    both _ _ (both _ _ (both _ _ (both _ _ e (meets l.dst k.dst f.dst p.dst q.dst)) (meets l.src k.src f.src p.src q.src))
+    (meets l.offset k.offset f.offset p.offset q.offset)) (meets l.imm k.imm f.imm p.imm q.imm)
 
 abbrev apart : List Instr → Bool
 apart [] = true
@@ -89,11 +91,16 @@ none_of : {P : Type 0} (b : Bool) → not b ≡ true → b ≡ true → P
 none_of true h k = absurd (cc)
 none_of false h k = absurd (cc)
 
-one_of : (f : Slot) (rows : List Instr) (i j : Instr) → apart rows ≡ true → Has rows i → Has rows j → is_of f (layout i) ≡ true → is_of f (layout j) ≡ true → i ≡ j
+one_of : (f : Slot) (rows : List Instr) (i j : Instr) → apart rows ≡ true → Has rows i → Has rows j → is_of f (layout i) ≡ true
+    → is_of f (layout j) ≡ true → i ≡ j
 one_of f [] i j t h k a b = absurd h
 one_of f (r ∷ rs) i j t (inl h) (inl k) a b = sym h ∙ k
-one_of f (r ∷ rs) i j t (inl h) (inr k) a b = none_of (clash (layout r) (layout j)) (passes (λ x. not (clash (layout r) (layout x))) rs j ((and_true _ _ t).0) k) (clashes f (layout r) (layout j) (rw h a) b)
-one_of f (r ∷ rs) i j t (inr h) (inl k) a b = none_of (clash (layout r) (layout i)) (passes (λ x. not (clash (layout r) (layout x))) rs i ((and_true _ _ t).0) h) (clashes f (layout r) (layout i) (rw k b) a)
+one_of f (r ∷ rs) i j t (inl h) (inr k) a b =
+    none_of (clash (layout r) (layout j)) (passes (λ x. not (clash (layout r) (layout x))) rs j ((and_true _ _ t).0) k)
+    (clashes f (layout r) (layout j) (rw h a) b)
+one_of f (r ∷ rs) i j t (inr h) (inl k) a b =
+    none_of (clash (layout r) (layout i)) (passes (λ x. not (clash (layout r) (layout x))) rs i ((and_true _ _ t).0) h)
+    (clashes f (layout r) (layout i) (rw k b) a)
 one_of f (r ∷ rs) i j t (inr h) (inr k) a b = one_of f rs i j ((and_true _ _ t).1) h k a b
 
 all_apart : apart all_rows ≡ true
@@ -207,12 +214,14 @@ some_rows n i h = let k = in_rows n i h in any_has (λ j. n == (layout j).opcode
 
 pub registers_of_table : (f : Slot) → have_registers f (rows_of f.opcode) ≡ some_row (has_registers_of f)
 unfolding rows_of some_row has_registers_of
-registers_of_table f = any_filtered (λ j. has_registers_of f (layout j)) (λ j. f.opcode == (layout j).opcode) all_rows (λ x h. (and_true _ _ ((and_true _ _ h).0)).0)
+registers_of_table f = any_filtered (λ j. has_registers_of f (layout j)) (λ j. f.opcode == (layout j).opcode) all_rows
+    (λ x h. (and_true _ _ ((and_true _ _ h).0)).0)
 
 pub none_of_table : (f : Slot) → row_for f (rows_of f.opcode) ≡ None → some_row (is_of f) ≡ false
 unfolding rows_of some_row is_of
 none_of_table f e =
-    sym (any_filtered (λ j. is_of f (layout j)) (λ j. f.opcode == (layout j).opcode) all_rows (λ x h. (and_true _ _ ((and_true _ _ ((and_true _ _ ((and_true _ _ h).0)).0)).0)).0))
+    sym (any_filtered (λ j. is_of f (layout j)) (λ j. f.opcode == (layout j).opcode) all_rows
+    (λ x h. (and_true _ _ ((and_true _ _ ((and_true _ _ ((and_true _ _ h).0)).0)).0)).0))
     ∙ not_found (λ j. is_of f (layout j)) (filter (λ j. f.opcode == (layout j).opcode) all_rows) e
 
 -- ---- packet access and the platform
@@ -243,7 +252,8 @@ no_platform f i h o = go (is_of_platform f) refl
     go false e = e
     go true e =
         let k = any_found (is_of f) platform_layouts e in
-        none_of (clash (layout i) k.0) (passes (λ l. not (clash (layout i) l)) platform_layouts k.0 (passes (λ j. list_all (λ l. not (clash (layout j) l)) platform_layouts) all_rows i rows_no_platform h) k.1) (clashes f (layout i) k.0 o k.2)
+        none_of (clash (layout i) k.0) (passes (λ l. not (clash (layout i) l)) platform_layouts k.0
+        (passes (λ j. list_all (λ l. not (clash (layout j) l)) platform_layouts) all_rows i rows_no_platform h) k.1) (clashes f (layout i) k.0 o k.2)
 
 -- a number that the second may hold is a register's where the first is read as one
 abbrev covers : Field → Field → Bool
@@ -277,7 +287,8 @@ pub platform_registers : (f : Slot) → is_of_platform f ≡ true → some_row (
 unfolding some_row
 platform_registers f e =
     let k = any_found (is_of f) platform_layouts e in
-    let r = any_found (λ j. reads_alike k.0 (layout j)) all_rows (passes (λ l. list_any (λ j. reads_alike l (layout j)) all_rows) platform_layouts k.0 platform_reads k.1) in
+    let r = any_found (λ j. reads_alike k.0 (layout j)) all_rows
+    (passes (λ l. list_any (λ j. reads_alike l (layout j)) all_rows) platform_layouts k.0 platform_reads k.1) in
     any_has (λ j. has_registers_of f (layout j)) all_rows r.0 r.1 (registers_alike f k.0 (layout r.0) r.2 k.2)
 
 -- ---- what a slot's row says of the tests

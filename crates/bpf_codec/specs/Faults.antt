@@ -1,5 +1,6 @@
 -- Why the bytes at a slot encode no instruction (RFC 9669, sections 3 to 5), by the bytes and the rows of the table.
-use Rattle.std.specs.Prelude.{ℕ, ◌<◌, ◌==◌, nat_lt, nat_le, ◌&&◌, ◌||◌, not, Bool, true, List, [], ◌∷◌, length, slice_index, IsTrue, IsFalse, All, codes, ◌↔◌, pos, ◌++◌, map}
+use Rattle.std.specs.Prelude.{ℕ, ◌<◌, ◌==◌, nat_lt, nat_le, ◌&&◌, ◌||◌, not, Bool, true, List, [], ◌∷◌, length, slice_index, IsTrue, IsFalse, All, codes, ◌↔◌}
+use Rattle.std.specs.Prelude.{pos, ◌++◌, map}
 use Rattle.std.specs.List.{list_any}
 use Rattle.isa_table.specs.Rows.{all_rows}
 use Rattle.isa_table.specs.declared.instr.Instr.{Instr}

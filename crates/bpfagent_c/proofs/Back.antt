@@ -9,12 +9,14 @@ use Rattle.world.specs.Answers.{reply_to_move}
 use Rattle.world.specs.declared.replies.Reply.TheVariants as reply
 use Rattle.bpfagent_c.specs.Codes.{code_of_back, code_of_reply}
 
-back_told : (n : ℕ) (m : Moved) → (code_of_back n m ≡ code_of_reply (reply_to_move (reply.Home n) place.Far n m)) ⊎ ((code_of_back n m ≡ 27) × (code_of_reply (reply_to_move (reply.Home n) place.Far n m) ≡ 21))
+back_told : (n : ℕ) (m : Moved) → (code_of_back n m ≡ code_of_reply (reply_to_move (reply.Home n) place.Far n m))
+    ⊎ ((code_of_back n m ≡ 27) × (code_of_reply (reply_to_move (reply.Home n) place.Far n m) ≡ 21))
 back_told n m = grind arith
 
 -- it is the number of the reply, or that the bytes are others
 pub told_back : (n : ℕ) (m : Moved) (number : ℕ) → number ≡ code_of_back n m
-    → (number ≡ code_of_reply (reply_to_move (reply.Home n) place.Far n m)) ⊎ ((number ≡ 27) × (code_of_reply (reply_to_move (reply.Home n) place.Far n m) ≡ 21))
+    → (number ≡ code_of_reply (reply_to_move (reply.Home n) place.Far n m))
+    ⊎ ((number ≡ 27) × (code_of_reply (reply_to_move (reply.Home n) place.Far n m) ≡ 21))
 told_back n m number e = rw e (back_told n m)
 
 pub back_damaged : (n : ℕ) (m : Moved) → code_of_back n m ≡ 27 → m ≡ moved.Fault Damaged

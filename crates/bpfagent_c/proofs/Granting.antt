@@ -7,7 +7,8 @@ use Rattle.machine.specs.declared.grants.Grant.{Grant}
 use Rattle.bpfagent_c.specs.declared.shown.Granted.{Granted}
 use Rattle.bpfagent_c.specs.Shown.{grant_of}
 
-pub granted_more : (gs : List Granted) (i : ℕ) (d : Granted) (listed : List Grant) (g : Grant) → i < length gs → listed ≡ map grant_of (take i gs) → g ≡ grant_of (get_or gs i d)
+pub granted_more : (gs : List Granted) (i : ℕ) (d : Granted) (listed : List Grant) (g : Grant) → i < length gs → listed ≡ map grant_of (take i gs)
+    → g ≡ grant_of (get_or gs i d)
     → listed ++ g ∷ [] ≡ map grant_of (take (i + 1) gs)
 granted_more gs i d listed g h e k =
     let n : i + 1 ≡ suc i = omega arith in

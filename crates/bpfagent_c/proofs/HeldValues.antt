@@ -77,13 +77,21 @@ module _ {M : Type 1} {𝓤 : Ura M} {𝓛 : Logic 𝓤} {K : Type 0} {Γ : List
       → ((b o : ℕ) → d.at ≡ block_ptr b o → vs ≡ both (vptr b o) heap_word ∷ [] → Seq K 𝓛 (‵ (holds (block_ptr b o) d.value) ∷ Γ) G)
       → Seq K 𝓛 (‵ (Loose.own_val d vs) ∷ Γ) G
   loose_out t d vs k =
-      fsplit t $ fpick t (λ vss. fsplit t $ feq_l t (λ ev. fsplit t $ feq_l t (λ ep. fsplit t $ peeks t Heap _ (shows 𝓛 Heap) d.alloc vss.1.0 (λ is. drop t $ drop t $
-      in_a_block t d.at (λ p. holds p d.value) (fst∗ 𝓤 (never 𝓤) (sem 𝓛 (heap.ghosts.dealloc_token the_heap (bare (lone world_row.mir)) null_ptr))) (λ b o e. k b o e
+      fsplit t $ fpick t (λ vss. fsplit t $ feq_l t (λ ev. fsplit t
+      $ feq_l t (λ ep. fsplit t $ peeks t Heap _ (shows 𝓛 Heap) d.alloc vss.1.0 (λ is. drop t $ drop t $
+      in_a_block t d.at (λ p. holds p d.value)
+      (fst∗ 𝓤 (never 𝓤) (sem 𝓛 (heap.ghosts.dealloc_token the_heap (bare (lone world_row.mir)) null_ptr))) (λ b o e. k b o e
       (subst (λ (p : Ptr). vs ≡ vstruct (of_list (ptr_val p ∷ heap_word ∷ [])) ∷ []) e
-      (subst (λ (ws : List Val). vs ≡ vstruct (of_list (ptr_val d.at ∷ (ws ++ []))) ∷ []) (global_laws.lowers.val_is d.alloc vss.1.0 is) (subst (λ (ps : List Val). vs ≡ vstruct (of_list (ps ++ (vss.1.0 ++ []))) ∷ []) ep ev))))))))
+      (subst (λ (ws : List Val). vs ≡ vstruct (of_list (ptr_val d.at ∷ (ws ++ [])))
+      ∷ []) (global_laws.lowers.val_is d.alloc vss.1.0 is) (subst (λ (ps : List Val). vs ≡ vstruct (of_list (ps ++ (vss.1.0 ++ []))) ∷ []) ep ev))))))))
 
   pub loose_in : K → (b o : ℕ) (a : Heap.Denot) (x : WorldWithin LibraryState)
-      → Step K 𝓛 (‵ (Loose.own_val (record { at = block_ptr b o; alloc = a; value = x }) (both (vptr b o) heap_word ∷ [])) ∷ Γ) G (‵ (holds (block_ptr b o) x) ∷ ‵ (Heap.own_val a (heap_word ∷ [])) ∷ Γ) G
+      → Step K 𝓛 (‵ (Loose.own_val (record { at = block_ptr b o; alloc = a; value = x }) (both (vptr b o) heap_word ∷ []))
+      ∷ Γ) G (‵ (holds (block_ptr b o) x) ∷ ‵ (Heap.own_val a (heap_word ∷ [])) ∷ Γ) G
   loose_in t b o a x = step (λ s. let v : Val = both (vptr b o) heap_word in
-      nothing t $ move t (2 ∷ 0 ∷ []) $ fjoin t $ feq_i t (List Val) (vptr b o ∷ []) (vptr b o ∷ []) refl $ fjoin t $ feq_i t (List Val) (v ∷ []) (v ∷ []) refl $ fjoin t $
-      fpack t (Valss (RawPtr ∷ Heap ∷ [])) (within (shape (loose.the_type world_row Heap heap.ghosts)) (block_ptr b o, (a, tt)) (v ∷ [])) (vptr b o ∷ [], (heap_word ∷ [], tt)) $ fjoin t $ s)
+      nothing t $ move t (2 ∷ 0 ∷ []) $ fjoin t $ feq_i t (List Val) (vptr b o ∷ []) (vptr b o ∷ []) refl $ fjoin t
+      $ feq_i t (List Val) (v ∷ []) (v ∷ []) refl $ fjoin t $
+      fpack t (Valss (RawPtr ∷ Heap ∷ [])) (within (shape (loose.the_type world_row Heap heap.ghosts)) (block_ptr b o, (a, tt)) (v ∷ [])) (
+        vptr b o ∷ [],
+        (heap_word ∷ [], tt),
+      ) $ fjoin t $ s)

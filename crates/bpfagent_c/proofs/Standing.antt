@@ -11,7 +11,8 @@ standing_more p s k =
     let n : k + 1 ≡ suc k = omega arith in
     subst (λ (m : ℕ). standing p s m ≡ standing p s k ++ cond (is_at p s m) (m ∷ []) []) (sym n) refl
 
-pub standing_in : (p : Place) (s : StoreState) (k : ℕ) (found : List ℕ) → found ≡ standing p s k → is_at p s (k + 1) ≡ true → found ++ (k + 1) ∷ [] ≡ standing p s (k + 1)
+pub standing_in : (p : Place) (s : StoreState) (k : ℕ) (found : List ℕ) → found ≡ standing p s k → is_at p s (k + 1) ≡ true
+    → found ++ (k + 1) ∷ [] ≡ standing p s (k + 1)
 standing_in p s k found e there =
     ap (λ (l : List ℕ). l ++ (k + 1) ∷ []) e ∙ sym (standing_more p s k ∙ ap (λ (b : Bool). standing p s k ++ cond b ((k + 1) ∷ []) []) there)
 

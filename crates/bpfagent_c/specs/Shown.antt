@@ -74,7 +74,8 @@ text_count_of _ old = old
 
 -- a machine's registers, with slot, fuel and state
 abbrev pub registers_of : Option Reply → Registers → Registers
-registers_of (Some (reply.Registers m shown)) old = record { registers = shown.registers; slot = shown.slot; fuel = shown.fuel; state = code_of_state shown.state; stop = stop_of_state shown.state }
+registers_of (Some (reply.Registers m shown)) old =
+    record { registers = shown.registers; slot = shown.slot; fuel = shown.fuel; state = code_of_state shown.state; stop = stop_of_state shown.state }
 registers_of _ old = old
 
 -- ---- grants

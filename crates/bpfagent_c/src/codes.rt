@@ -4,7 +4,8 @@ ghost use Rattle.object_store.specs.declared.errors.GetError.{GetError};
 ghost use Rattle.world.specs.Answers.{refused_get, reply_to_move};
 ghost use Rattle.world.specs.Machines.{refused_stack};
 ghost use Rattle.world.specs.declared.replies.Reply.{Reply};
-ghost use Rattle.bpfagent_c.specs.Codes.{code_of, code_of_back, code_of_end, code_of_fault, code_of_place, code_of_reply, code_of_state, code_of_step, code_of_stop, code_of_text, code_of_why, number_of_place, place_numbered, stop_of_state, value_of_stop};
+ghost use Rattle.bpfagent_c.specs.Codes.{code_of, code_of_back, code_of_end, code_of_fault, code_of_place, code_of_reply, code_of_state, code_of_step};
+ghost use Rattle.bpfagent_c.specs.Codes.{code_of_stop, code_of_text, code_of_why, number_of_place, place_numbered, stop_of_state, value_of_stop};
 
 use asm_grammar::Why as WrongText;
 use debugger::{State, StepReply};

@@ -24,7 +24,8 @@ pub extern "C" fn bpfagent_regs(
     machine: usize,
     registers: &mut Registers,
 ) -> u32
-    ensures { (given : Option Reply) × Commanded agent.old (Event.Machine machine (MachineCommand.Show ShowCommand.Regs)) given agent.new × (result ≡ code_of given) × (registers.new ≡ registers_of given registers.old) }
+    ensures { (given : Option Reply) × Commanded agent.old (Event.Machine machine (MachineCommand.Show ShowCommand.Regs)) given agent.new
+        × (result ≡ code_of given) × (registers.new ≡ registers_of given registers.old) }
 {
     let given = show(agent, alloc, machine, ShowCommand::Regs);
     if let Some(Reply::Registers { shown, .. }) = &given {
@@ -42,7 +43,8 @@ pub extern "C" fn bpfagent_out(
     values: &mut [u64],
     count: &mut usize,
 ) -> u32
-    ensures { (given : Option Reply) × Commanded agent.old (Event.Machine machine (MachineCommand.Show ShowCommand.Out)) given agent.new × (result ≡ code_of given) × (values.new ≡ values_of given values.old) × (count.new ≡ value_count_of given count.old) }
+    ensures { (given : Option Reply) × Commanded agent.old (Event.Machine machine (MachineCommand.Show ShowCommand.Out)) given agent.new
+        × (result ≡ code_of given) × (values.new ≡ values_of given values.old) × (count.new ≡ value_count_of given count.old) }
 {
     let given = show(agent, alloc, machine, ShowCommand::Out);
     if let Some(Reply::Emitted { values: shown, .. }) = &given {
@@ -61,7 +63,8 @@ pub extern "C" fn bpfagent_stack(
     offset: u32,
     bytes: &mut [u8],
 ) -> u32
-    ensures told { (given : Option Reply) × Commanded agent.old (Event.Machine machine (MachineCommand.Show (ShowCommand.Stack offset (length bytes.old)))) given agent.new × (result ≡ code_of given) × (bytes.new ≡ bytes_of given bytes.old) }
+    ensures told { (given : Option Reply) × Commanded agent.old (Event.Machine machine (MachineCommand.Show (ShowCommand.Stack offset (length bytes.old))))
+        given agent.new × (result ≡ code_of given) × (bytes.new ≡ bytes_of given bytes.old) }
     ensures memory { result ≢ 10 }
 {
     let Some(world) = take(agent, alloc) else {
@@ -85,7 +88,8 @@ pub extern "C" fn bpfagent_line(
     text: &mut [u8],
     count: &mut usize,
 ) -> u32
-    ensures { (given : Option Reply) × Commanded agent.old (Event.Machine machine (MachineCommand.Show (ShowCommand.Line slot))) given agent.new × (result ≡ code_of given) × (text.new ≡ text_of given text.old) × (count.new ≡ text_count_of given count.old) }
+    ensures { (given : Option Reply) × Commanded agent.old (Event.Machine machine (MachineCommand.Show (ShowCommand.Line slot))) given agent.new
+        × (result ≡ code_of given) × (text.new ≡ text_of given text.old) × (count.new ≡ text_count_of given count.old) }
 {
     let given = show(agent, alloc, machine, ShowCommand::Line { slot });
     if let Some(Reply::Disassembled { text: shown, .. }) = &given {

@@ -46,8 +46,10 @@ fn leave_into(
     parcel: &mut Parcel,
 ) -> u32
     requires room { length (bytes_of world.old.store.state.objects object) ≤ length buffer.old }
-    ensures told { (told : Reply) × Answers (state_of world.old) (Event.Object object (ObjectCommand.Move Move.Left)) told (state_of world.new) × (result ≡ code_of_reply told)
-        × (buffer.new ≡ left_over told (bytes_of world.old.store.state.objects object) buffer.old) × (size.new ≡ left_count told (bytes_of world.old.store.state.objects object) size.old)
+    ensures told { (told : Reply) × Answers (state_of world.old) (Event.Object object (ObjectCommand.Move Move.Left)) told (state_of world.new)
+        × (result ≡ code_of_reply told)
+        × (buffer.new ≡ left_over told (bytes_of world.old.store.state.objects object) buffer.old)
+        × (size.new ≡ left_count told (bytes_of world.old.store.state.objects object) size.old)
         × (parcel.new.digest ≡ left_digest told (bytes_of world.old.store.state.objects object) parcel.old.digest) }
     ensures works { result ≢ 20 }
 {
@@ -71,10 +73,14 @@ pub extern "C" fn bpfagent_left_into(
     size: &mut usize,
     parcel: &mut Parcel,
 ) -> u32
-    ensures told { agent.old.live ≡ true → length (bytes_at agent.old object) ≤ length buffer.old → (told : Reply) × Commanded agent.old (Event.Object object (ObjectCommand.Move Move.Left)) (Some told) agent.new × (result ≡ code_of_reply told)
-        × (buffer.new ≡ left_over told (bytes_at agent.old object) buffer.old) × (size.new ≡ left_count told (bytes_at agent.old object) size.old) × (parcel.new.digest ≡ left_digest told (bytes_at agent.old object) parcel.old.digest) }
-    ensures short { agent.old.live ≡ true → length buffer.old < length (bytes_at agent.old object) → (result ≡ 28) × IsCalm agent.old agent.new × (buffer.new ≡ buffer.old) × (size.new ≡ length (bytes_at agent.old object)) × (parcel.new ≡ parcel.old) }
-    ensures none { agent.old.live ≡ false → (result ≡ 30) × HasNone agent.old agent.new × (buffer.new ≡ buffer.old) × (size.new ≡ size.old) × (parcel.new ≡ parcel.old) }
+    ensures told { agent.old.live ≡ true → length (bytes_at agent.old object) ≤ length buffer.old
+        → (told : Reply) × Commanded agent.old (Event.Object object (ObjectCommand.Move Move.Left)) (Some told) agent.new × (result ≡ code_of_reply told)
+        × (buffer.new ≡ left_over told (bytes_at agent.old object) buffer.old) × (size.new ≡ left_count told (bytes_at agent.old object) size.old)
+        × (parcel.new.digest ≡ left_digest told (bytes_at agent.old object) parcel.old.digest) }
+    ensures short { agent.old.live ≡ true → length buffer.old < length (bytes_at agent.old object)
+        → (result ≡ 28) × IsCalm agent.old agent.new × (buffer.new ≡ buffer.old) × (size.new ≡ length (bytes_at agent.old object)) × (parcel.new ≡ parcel.old) }
+    ensures none { agent.old.live ≡ false → (result ≡ 30) × HasNone agent.old agent.new × (buffer.new ≡ buffer.old)
+        × (size.new ≡ size.old) × (parcel.new ≡ parcel.old) }
     ensures works { result ≢ 20 }
 {
     let Some(mut world) = take(agent, alloc) else {
@@ -94,7 +100,8 @@ pub extern "C" fn bpfagent_left_into(
 /// The command `returned`, with the bytes that the caller kept: what came of it, if there is an agent.
 fn take_back(agent: &mut Agent, alloc: Global, object: u32, bytes: &[u8]) -> Option<Moved>
     requires premise { agent.old.live ≡ true → Alike (bytes_at agent.old object) bytes.now → bytes.now ≡ bytes_at agent.old object }
-    ensures some { IfSome result (λ m. Commanded agent.old (Event.Object object (ObjectCommand.Move Move.Returned)) (Some (reply_to_move (Reply.Home object) place.Far object m)) agent.new) }
+    ensures some { IfSome result (λ m. Commanded agent.old (Event.Object object (ObjectCommand.Move Move.Returned))
+        (Some (reply_to_move (Reply.Home object) place.Far object m)) agent.new) }
     ensures none { IfNone result (HasNone agent.old agent.new) }
     ensures back { IfSome result (λ m. m ≡ moved.Done → bytes.now ≡ bytes_at agent.old object) }
     ensures damaged { IfSome result (λ m. m ≡ moved.Fault Damaged → bytes.now ≢ bytes_at agent.old object) }
@@ -115,7 +122,8 @@ pub extern "C" fn bpfagent_returned_from(
     bytes: &[u8],
 ) -> u32
     requires premise { agent.old.live ≡ true → Alike (bytes_at agent.old object) bytes.now → bytes.now ≡ bytes_at agent.old object }
-    ensures told { (given : Option Reply) × Commanded agent.old (Event.Object object (ObjectCommand.Move Move.Returned)) given agent.new × ((result ≡ code_of given) ⊎ ((result ≡ 27) × (code_of given ≡ 21))) }
+    ensures told { (given : Option Reply) × Commanded agent.old (Event.Object object (ObjectCommand.Move Move.Returned)) given agent.new
+        × ((result ≡ code_of given) ⊎ ((result ≡ 27) × (code_of given ≡ 21))) }
     ensures back { result ≡ 0 → bytes.now ≡ bytes_at agent.old object }
     ensures damaged { result ≡ 27 → bytes.now ≢ bytes_at agent.old object }
     ensures others { result ≡ 21 → bytes.now ≢ bytes_at agent.old object → ⊥ }

@@ -53,7 +53,9 @@ pub extern "C" fn bpfagent_ship(
     machine: &mut usize,
     refusal: &mut Refusal,
 ) -> u32
-    ensures { (given : Option Reply) × Commanded agent.old (Event.Ship (record { fuel = fuel; arguments = r1 ∷ r2 ∷ r3 ∷ r4 ∷ r5 ∷ []; grants = all_granted }) code.now) given agent.new × (result ≡ code_of given) × (machine.new ≡ shipped_of given machine.old) × (refusal.new ≡ refusal_of given refusal.old) }
+    ensures { (given : Option Reply) × Commanded agent.old
+        (Event.Ship (record { fuel = fuel; arguments = r1 ∷ r2 ∷ r3 ∷ r4 ∷ r5 ∷ []; grants = all_granted }) code.now) given agent.new
+        × (result ≡ code_of given) × (machine.new ≡ shipped_of given machine.old) × (refusal.new ≡ refusal_of given refusal.old) }
 {
     let start = Start::new(fuel, [r1, r2, r3, r4, r5]);
     let given = ship(agent, alloc, start, code);
@@ -76,7 +78,9 @@ pub extern "C" fn bpfagent_ship_granted(
     machine: &mut usize,
     refusal: &mut Refusal,
 ) -> u32
-    ensures told { AreGrants granted.now → (given : Option Reply) × Commanded agent.old (Event.Ship (record { fuel = fuel; arguments = r1 ∷ r2 ∷ r3 ∷ r4 ∷ r5 ∷ []; grants = grants_of granted.now }) code.now) given agent.new × (result ≡ code_of given) × (machine.new ≡ shipped_of given machine.old) × (refusal.new ≡ refusal_of given refusal.old) }
+    ensures told { AreGrants granted.now → (given : Option Reply)
+        × Commanded agent.old (Event.Ship (record { fuel = fuel; arguments = r1 ∷ r2 ∷ r3 ∷ r4 ∷ r5 ∷ []; grants = grants_of granted.now }) code.now) given
+        agent.new × (result ≡ code_of given) × (machine.new ≡ shipped_of given machine.old) × (refusal.new ≡ refusal_of given refusal.old) }
     ensures bad { (AreGrants granted.now → ⊥) → (result ≡ 31) × (agent.new ≡ agent.old) × (machine.new ≡ machine.old) × (refusal.new ≡ refusal.old) }
 {
     let Some(grants) = grants_of(granted) else {

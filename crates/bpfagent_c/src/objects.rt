@@ -26,7 +26,9 @@ pub extern "C" fn bpfagent_make(
     length: u64,
     object: &mut u32,
 ) -> u32
-    ensures told { (1 ≤ length) × (length ≤ object_bytes) → (given : Option Reply) × Commanded agent.old (Event.Make length) given agent.new × (result ≡ code_of given) × (object.new ≡ made_of given object.old) }
+    ensures told { (1 ≤ length) × (length ≤ object_bytes)
+        → (given : Option Reply) × Commanded agent.old (Event.Make length) given agent.new × (result ≡ code_of given)
+        × (object.new ≡ made_of given object.old) }
     ensures bad { ((1 ≤ length) × (length ≤ object_bytes) → ⊥) → (result ≡ 31) × (agent.new ≡ agent.old) × (object.new ≡ object.old) }
 {
     let Some(length) = ObjectLength::new(length) else {
@@ -106,7 +108,8 @@ pub extern "C" fn bpfagent_put(
 
 /// Copies bytes of an object over these, as many as they are, and tells the number of the reply.
 fn get(agent: &mut Agent, alloc: Global, object: u32, offset: u32, bytes: &mut [u8]) -> u32
-    ensures told { (given : Option Reply) × Commanded agent.old (Event.Object object (ObjectCommand.Get offset (length bytes.old))) given agent.new × (result ≡ code_of given) × (bytes.new ≡ bytes_of given bytes.old) }
+    ensures told { (given : Option Reply) × Commanded agent.old (Event.Object object (ObjectCommand.Get offset (length bytes.old))) given agent.new
+        × (result ≡ code_of given) × (bytes.new ≡ bytes_of given bytes.old) }
     ensures memory { result ≢ 10 }
 {
     let Some(world) = take(agent, alloc) else {
@@ -129,7 +132,8 @@ pub extern "C" fn bpfagent_get(
     offset: u32,
     bytes: &mut [u8],
 ) -> u32
-    ensures told { (given : Option Reply) × Commanded agent.old (Event.Object object (ObjectCommand.Get offset (min (length bytes.old) 65537))) given agent.new × (result ≡ code_of given) × (bytes.new ≡ bytes_of given bytes.old) }
+    ensures told { (given : Option Reply) × Commanded agent.old (Event.Object object (ObjectCommand.Get offset (min (length bytes.old) 65537))) given
+        agent.new × (result ≡ code_of given) × (bytes.new ≡ bytes_of given bytes.old) }
     ensures memory { result ≢ 10 }
 {
     let count = bytes.len().min(TOO_MANY);

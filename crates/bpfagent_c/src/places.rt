@@ -25,7 +25,8 @@ pub extern "C" fn bpfagent_place_of(
     place: &mut u32,
     size: &mut usize,
 ) -> u32
-    ensures found { result ≡ 0 → (found : Place) × IsIn agent.old object (Some found) × IsCalm agent.old agent.new × (place.new ≡ number_of_place found) × (size.new ≡ length (bytes_at agent.old object)) }
+    ensures found { result ≡ 0 → (found : Place) × IsIn agent.old object (Some found) × IsCalm agent.old agent.new × (place.new ≡ number_of_place found)
+        × (size.new ≡ length (bytes_at agent.old object)) }
     ensures missing { result ≡ 26 → IsIn agent.old object None × IsCalm agent.old agent.new × (place.new ≡ place.old) × (size.new ≡ size.old) }
     ensures none { result ≡ 30 → HasNone agent.old agent.new × (place.new ≡ place.old) × (size.new ≡ size.old) }
     ensures each { (result ≡ 0) ⊎ ((result ≡ 26) ⊎ (result ≡ 30)) }
@@ -78,9 +79,12 @@ pub extern "C" fn bpfagent_objects(
     objects: &mut [u32],
     count: &mut usize,
 ) -> u32
-    ensures told { (p : Place) → place_numbered place ≡ Some p → agent.old.live ≡ true → (result ≡ 0) × IsCalm agent.old agent.new × (objects.new ≡ over (standing p agent.old.held.state.store.state 1024) objects.old) × (count.new ≡ length (standing p agent.old.held.state.store.state 1024)) }
+    ensures told { (p : Place) → place_numbered place ≡ Some p → agent.old.live ≡ true
+        → (result ≡ 0) × IsCalm agent.old agent.new × (objects.new ≡ over (standing p agent.old.held.state.store.state 1024) objects.old)
+        × (count.new ≡ length (standing p agent.old.held.state.store.state 1024)) }
     ensures bad { place_numbered place ≡ None → (result ≡ 31) × (agent.new ≡ agent.old) × (objects.new ≡ objects.old) × (count.new ≡ count.old) }
-    ensures none { (p : Place) → place_numbered place ≡ Some p → agent.old.live ≡ false → (result ≡ 30) × HasNone agent.old agent.new × (objects.new ≡ objects.old) × (count.new ≡ count.old) }
+    ensures none { (p : Place) → place_numbered place ≡ Some p → agent.old.live ≡ false
+        → (result ≡ 30) × HasNone agent.old agent.new × (objects.new ≡ objects.old) × (count.new ≡ count.old) }
 {
     let Some(place) = place_numbered(place) else {
         return Code::Bad as u32;

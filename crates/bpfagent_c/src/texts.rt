@@ -5,7 +5,8 @@ ghost use Rattle.assembler.specs.declared.error.AsmError.{AsmError};
 ghost use Rattle.loader.specs.declared.loading.LoadError.{LoadError};
 ghost use Rattle.bpfagent_c.specs.declared.texts.LineError.{LineError};
 ghost use Rattle.bpfagent_c.specs.Codes.{code_of_text};
-ghost use Rattle.bpfagent_c.specs.Texts.{Assembles, Checks, Lines, code_of_assembly, code_of_check, code_of_line, found_count, found_over, refusal_of_check, wrong_by, wrong_of};
+ghost use Rattle.bpfagent_c.specs.Texts.{Assembles, Checks, Lines, code_of_assembly, code_of_check, code_of_line, found_count, found_over, refusal_of_check};
+ghost use Rattle.bpfagent_c.specs.Texts.{wrong_by, wrong_of};
 
 use crate::codes::{Code, code_of_text, code_of_why};
 use crate::shown::{Refusal, write_bytes};
@@ -118,7 +119,8 @@ pub extern "C" fn bpfagent_assemble(
     count: &mut usize,
     wrong: &mut WrongLine,
 ) -> u32
-    ensures { (found : Result (List ℕ) AsmError) × Assembles text.now found × (result ≡ code_of_assembly found) × (code.new ≡ found_over found code.old) × (count.new ≡ found_count found count.old) × (wrong.new ≡ wrong_of found wrong.old) }
+    ensures { (found : Result (List ℕ) AsmError) × Assembles text.now found × (result ≡ code_of_assembly found) × (code.new ≡ found_over found code.old)
+        × (count.new ≡ found_count found count.old) × (wrong.new ≡ wrong_of found wrong.old) }
 {
     match assembled(alloc, text) {
         Ok(found) => {
@@ -172,7 +174,8 @@ pub extern "C" fn bpfagent_text(
     text: &mut [u8],
     count: &mut usize,
 ) -> u32
-    ensures { (found : Result (List ℕ) LineError) × Lines code.now slot found × (result ≡ code_of_line found) × (text.new ≡ found_over found text.old) × (count.new ≡ found_count found count.old) }
+    ensures { (found : Result (List ℕ) LineError) × Lines code.now slot found × (result ≡ code_of_line found) × (text.new ≡ found_over found text.old)
+        × (count.new ≡ found_count found count.old) }
 {
     match line_at(alloc, code, slot) {
         Ok(found) => {

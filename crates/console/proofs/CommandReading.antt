@@ -1,5 +1,6 @@
 -- What is read from tokens.
-use Rattle.std.proofs.Common.{◌≡◌, ℕ, ◌<◌, ◌≤◌, List, [], ◌∷◌, drop, length, get_or, slice_index, take, Option, Bool, Some, None, Result, Ok, Err, refl, subst, sym, ◌∙◌, ap, arith}
+use Rattle.std.proofs.Common.{◌≡◌, ℕ, ◌<◌, ◌≤◌, List, [], ◌∷◌, drop, length, get_or, slice_index, take, Option, Bool, Some, None, Result, Ok, Err, refl, subst}
+use Rattle.std.proofs.Common.{sym, ◌∙◌, ap, arith}
 use Rattle.std.proofs.lemmas.List.{length-take}
 use Rattle.hex.specs.Hex.{decode_of}
 use Rattle.machine.specs.Grants.{GrantState}
@@ -21,7 +22,8 @@ use Rattle.world.specs.Machines.{reply_to_step, reply_to_show, reply_to_debug}
 use Rattle.console.specs.Tokens.{tokens_of, within, IsWithin, AreNumbers, AreBytes}
 use Rattle.console.specs.Granting.{AreGrants}
 use Rattle.console.specs.Replies.{IsShort}
-use Rattle.console.specs.Commands.{Reads, Says, SaysOfKind, SpellsCommand, kind_named, number_limits, most_bytes, takes_grants, event_with, range_limit, CarriesBytes}
+use Rattle.console.specs.Commands.{Reads, Says, SaysOfKind, SpellsCommand, kind_named, number_limits, most_bytes, takes_grants, event_with, range_limit}
+use Rattle.console.specs.Commands.{CarriesBytes}
 use Rattle.console.specs.declared.fault.LineFault.{LineFault}
 use Rattle.console.specs.declared.fault.LineFault.TheVariants.{Bad, NoMemory}
 use Rattle.console.specs.declared.kind.Kind.{Kind}
@@ -30,15 +32,18 @@ use Rattle.console.specs.declared.kind.Kind.TheVariants as kind
 use Rattle.console.proofs.LineTokens.{numbers_one, numbers_within, bytes_one, hex_length}
 
 -- no command is said
-reads_bad : (IsSaid : Event → Type 0) (r : Result Event LineFault) (x y : LineFault) → r ≡ Err x → x ≡ y → y ≡ Bad → ((command : Event) → IsSaid command → ⊥) → Reads IsSaid r
+reads_bad : (IsSaid : Event → Type 0) (r : Result Event LineFault) (x y : LineFault) → r ≡ Err x → x ≡ y → y ≡ Bad
+    → ((command : Event) → IsSaid command → ⊥) → Reads IsSaid r
 reads_bad IsSaid r x y e f g none = subst (Reads IsSaid) (sym (e ∙ ap (λ (v : LineFault). Err v) (f ∙ g))) none
 
 -- a command is said, and there is no memory for its bytes
-reads_no_memory : (IsSaid : Event → Type 0) (r : Result Event LineFault) (x y : LineFault) → r ≡ Err x → x ≡ y → y ≡ NoMemory → (command : Event) → IsSaid command → CarriesBytes command → Reads IsSaid r
+reads_no_memory : (IsSaid : Event → Type 0) (r : Result Event LineFault) (x y : LineFault) → r ≡ Err x → x ≡ y → y ≡ NoMemory → (command : Event)
+    → IsSaid command → CarriesBytes command → Reads IsSaid r
 reads_no_memory IsSaid r x y e f g command s b = subst (Reads IsSaid) (sym (e ∙ ap (λ (v : LineFault). Err v) (f ∙ g))) (command, s, b)
 
 -- the kind of the name decides
-pub reads_named : (tokens left : List (List ℕ)) (name : List ℕ) (k : Kind) (r : Result Event LineFault) → tokens ≡ name ∷ left → Some k ≡ kind_named name → Reads (SaysOfKind k left) r → Reads (Says tokens) r
+pub reads_named : (tokens left : List (List ℕ)) (name : List ℕ) (k : Kind) (r : Result Event LineFault) → tokens ≡ name ∷ left → Some k ≡ kind_named name
+    → Reads (SaysOfKind k left) r → Reads (Says tokens) r
 reads_named tokens left name k (Ok event) e f h = subst (λ t. Says t event) (sym e) (k, sym f, h)
 reads_named tokens left name k (Err NoMemory) e f h = (h.0, subst (λ t. Says t h.0) (sym e) (k, sym f, h.1), h.2)
 reads_named tokens left name k (Err Bad) e f h = λ command s.
@@ -51,16 +56,19 @@ reads_named tokens left name k (Err Bad) e f h = λ command s.
 
 module _ (kind : Kind) (tokens : List (List ℕ)) (numbers : List ℕ) (left : List (List ℕ)) (first : AreNumbers (number_limits kind) tokens numbers left) where
   -- what comes after the numbers isn't as it has to be
-  none_without_bytes : ((bytes : List ℕ) (words : List (List ℕ)) → AreBytes (most_bytes kind) left bytes words → ⊥) → (command : Event) → SaysOfKind kind tokens command → ⊥
+  none_without_bytes : ((bytes : List ℕ) (words : List (List ℕ)) → AreBytes (most_bytes kind) left bytes words → ⊥) → (command : Event)
+      → SaysOfKind kind tokens command → ⊥
   none_without_bytes none command s =
-      none s.bytes s.words (subst (λ l. AreBytes (most_bytes kind) l s.bytes s.words) (numbers_one (number_limits kind) tokens s.numbers numbers s.rest left s.numbers_first first).1 s.bytes_next)
+      none s.bytes s.words (subst (λ l. AreBytes (most_bytes kind) l s.bytes s.words)
+      (numbers_one (number_limits kind) tokens s.numbers numbers s.rest left s.numbers_first first).1 s.bytes_next)
 
   -- what comes after the bytes isn't as it has to be
   none_without_grants : (bytes : List ℕ) (words : List (List ℕ)) → AreBytes (most_bytes kind) left bytes words
       → ((grants : GrantState) → AreGrants (takes_grants kind) words grants → ⊥) → (command : Event) → SaysOfKind kind tokens command → ⊥
   none_without_grants bytes words next none command s =
       let l = (numbers_one (number_limits kind) tokens s.numbers numbers s.rest left s.numbers_first first).1 in
-      let w = (bytes_one (most_bytes kind) left s.bytes bytes s.words words (subst (λ l. AreBytes (most_bytes kind) l s.bytes s.words) l s.bytes_next) next).1 in
+      let w = (bytes_one (most_bytes kind) left s.bytes bytes s.words words
+      (subst (λ l. AreBytes (most_bytes kind) l s.bytes s.words) l s.bytes_next) next).1 in
       none s.grants (subst (λ t. AreGrants (takes_grants kind) t s.grants) w s.grants_last)
 
 -- ---- the table of commands
@@ -78,7 +86,8 @@ carries _ numbers bytes grants left words a some = absurd (none_carried left wor
 
 -- ---- what the calls have read
 
-module _ (kind : Kind) (limits : List Limits) (tokens left : List (List ℕ)) (numbers : List ℕ) (limits_are : limits ≡ number_limits kind) (read : AreNumbers limits tokens (take (length limits) numbers) left) where
+module _ (kind : Kind) (limits : List Limits) (tokens left : List (List ℕ)) (numbers : List ℕ) (limits_are : limits ≡ number_limits kind)
+    (read : AreNumbers limits tokens (take (length limits) numbers) left) where
   -- they are the numbers of the kind
   pub numbers_read : AreNumbers (number_limits kind) tokens (take (length (number_limits kind)) numbers) left
   numbers_read = subst (λ ls. AreNumbers ls tokens (take (length ls) numbers) left) limits_are read
@@ -89,14 +98,16 @@ module _ (kind : Kind) (limits : List Limits) (tokens left : List (List ℕ)) (n
     without_bytes h = reads_bad _ r x y is same h.0
         (none_without_bytes kind tokens _ left numbers_read (λ bytes words a. h.1 bytes words (subst (λ m. AreBytes m left bytes words) (sym most_is) a)))
 
-    module _ (words : List (List ℕ)) (takes : Bool) (takes_is : takes ≡ takes_grants kind) (text : List ℕ) (b : (bytes : List ℕ) × AreBytes most left bytes words × (decode_of text ≡ Ok bytes)) where
+    module _ (words : List (List ℕ)) (takes : Bool) (takes_is : takes ≡ takes_grants kind) (text : List ℕ) (b : (bytes : List ℕ)
+        × AreBytes most left bytes words × (decode_of text ≡ Ok bytes)) where
       next : AreBytes (most_bytes kind) left b.0 words
       next = subst (λ m. AreBytes m left b.0 words) most_is b.1
 
       -- there are no such grants
       pub without_grants : (y ≡ Bad) × ((grants : GrantState) → AreGrants takes words grants → ⊥) → Reads (SaysOfKind kind tokens) r
       without_grants h = reads_bad _ r x y is same h.0
-          (none_without_grants kind tokens _ left numbers_read b.0 words next (λ grants a. h.1 grants (subst (λ some. AreGrants some words grants) (sym takes_is) a)))
+          (none_without_grants kind tokens _ left numbers_read b.0 words next
+          (λ grants a. h.1 grants (subst (λ some. AreGrants some words grants) (sym takes_is) a)))
 
       -- all is as it has to be, and there is no memory for the bytes
       pub without_memory : (grants : GrantState) → AreGrants takes words grants → (y ≡ NoMemory) × (0 < length text) → Reads (SaysOfKind kind tokens) r
@@ -104,7 +115,17 @@ module _ (kind : Kind) (limits : List Limits) (tokens left : List (List ℕ)) (n
           let all : List ℕ = take (length (number_limits kind)) numbers in
           let some = hex_length text b.0 b.2 in
           reads_no_memory (SaysOfKind kind tokens) r x y is same h.0 (event_with kind all b.0 grants)
-          record { numbers = all; bytes = b.0; grants = grants; rest = left; words = words; numbers_first = numbers_read; bytes_next = next; grants_last = subst (λ some. AreGrants some words grants) takes_is last; is_command = refl }
+          record {
+            numbers = all;
+            bytes = b.0;
+            grants = grants;
+            rest = left;
+            words = words;
+            numbers_first = numbers_read;
+            bytes_next = next;
+            grants_last = subst (λ some. AreGrants some words grants) takes_is last;
+            is_command = refl;
+          }
           (carries kind all b.0 grants left words next (omega (arith, some, h.1)))
 
 -- a command that asks for so few bytes that they can be shown
@@ -113,7 +134,8 @@ AsksShort (Object n (Get offset size)) = size ≤ range_limit
 AsksShort (Machine m (Show (Stack offset size))) = size ≤ range_limit
 AsksShort _ = Unit {0}
 
-kind_asks_short : (k : Kind) (numbers bytes : List ℕ) (grants : GrantState) → ((i : ℕ) → i < length (number_limits k) → IsWithin (get_or (number_limits k) i (within 0 0)) (slice_index numbers i))
+kind_asks_short : (k : Kind) (numbers bytes : List ℕ) (grants : GrantState)
+    → ((i : ℕ) → i < length (number_limits k) → IsWithin (get_or (number_limits k) i (within 0 0)) (slice_index numbers i))
     → AsksShort (event_with k numbers bytes grants)
 kind_asks_short kind.Get numbers bytes grants w = (w 2 (omega arith)).1
 kind_asks_short kind.Stack numbers bytes grants w = (w 2 (omega arith)).1
@@ -123,7 +145,8 @@ said_short : (tokens : List (List ℕ)) (command : Event) → Says tokens comman
 said_short [] command s = absurd s
 said_short (name ∷ tokens) command s =
     let t = s.2 in
-    subst AsksShort (sym t.is_command) (kind_asks_short s.0 t.numbers t.bytes t.grants (numbers_within (number_limits s.0) tokens t.numbers t.rest t.numbers_first))
+    subst AsksShort (sym t.is_command) (kind_asks_short s.0 t.numbers t.bytes t.grants
+    (numbers_within (number_limits s.0) tokens t.numbers t.rest t.numbers_first))
 
 pub asks_short : (line : List ℕ) (command : Event) → SpellsCommand line command → AsksShort command
 asks_short line command s = said_short (tokens_of line) command s.1
@@ -138,7 +161,9 @@ pub debug_short : (told : Debugged) → IsShort (reply_to_debug told)
 debug_short debugged.Done = tt
 debug_short _ = tt
 
-pub show_short : (m : ℕ) (command : ShowCommand) (d : Debuggee) (told : ShowReply) → Shows command d told → AsksShort (Machine m (Show command)) → IsShort (reply_to_show m told)
-show_short m (Stack offset size) d (show_reply.Bytes shown) s short = let e = ap length s.1 in let l = length-take size (drop offset d.machine.stack) in omega (arith, e, l, short)
+pub show_short : (m : ℕ) (command : ShowCommand) (d : Debuggee) (told : ShowReply) → Shows command d told → AsksShort (Machine m (Show command))
+    → IsShort (reply_to_show m told)
+show_short m (Stack offset size) d (show_reply.Bytes shown) s short = let e = ap length s.1 in
+    let l = length-take size (drop offset d.machine.stack) in omega (arith, e, l, short)
 show_short m _ d (show_reply.Bytes shown) s short = absurd s
 show_short m command d _ s short = tt

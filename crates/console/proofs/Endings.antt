@@ -1,5 +1,6 @@
 -- How a drive ends.
-use Rattle.std.proofs.Common.{◌≡◌, ℕ, ◌<◌, List, [], ◌∷◌, ◌++◌, length, refl, sym, ap, ◌∙◌, append_assoc, append-nil, Option, Some, None, subst, arith, take, IfSome, inl, inr, codes}
+use Rattle.std.proofs.Common.{◌≡◌, ℕ, ◌<◌, List, [], ◌∷◌, ◌++◌, length, refl, sym, ap, ◌∙◌, append_assoc, append-nil, Option, Some, None, subst, arith, take}
+use Rattle.std.proofs.Common.{IfSome, inl, inr, codes}
 use Rattle.std.proofs.KnownBytes.{Appends-trans}
 use Rattle.std.specs.Io.KnownBytes.{Appends, Consumes, IsAtEnd}
 use Rattle.console.specs.Lines.{ended, cut_of}
@@ -25,7 +26,8 @@ clip_some [] h = absurd (omega arith)
 clip_some (b ∷ line) h = (omega arith, refl)
 
 module _ (p : Protocol) (s t : p.State) (h seen : List ℕ) where
-  pub stops_reading : (a b u v : Option (List ℕ)) (k : Held) → Consumes a b seen → AnswersSoFar p s (h ++ seen) u v t k → IfSome a (λ input. StopsReading p s (h ++ input) u v t k b)
+  pub stops_reading : (a b u v : Option (List ℕ)) (k : Held) → Consumes a b seen → AnswersSoFar p s (h ++ seen) u v t k
+      → IfSome a (λ input. StopsReading p s (h ++ input) u v t k b)
   stops_reading None b u v k c x = tt
   stops_reading (Some input) None u v k c x = absurd c
   stops_reading (Some input) (Some more) u v k c x = record {
@@ -49,7 +51,8 @@ module _ (p : Protocol) (s t : p.State) (h seen : List ℕ) where
   }
 
   -- a write of `cut` failed, for what was heard since the last line end
-  pub breaks_cut : (a b u v w : Option (List ℕ)) (k : Held) (part missing : List ℕ) → Consumes a b seen → IsAtEnd b → AnswersSoFar p s (h ++ seen) u v t k → 0 < length k.line
+  pub breaks_cut : (a b u v w : Option (List ℕ)) (k : Held) (part missing : List ℕ) → Consumes a b seen → IsAtEnd b
+      → AnswersSoFar p s (h ++ seen) u v t k → 0 < length k.line
       → ended (codes "cut") ≡ part ++ missing → 0 < length missing → Appends v w part → IfSome a (λ input. StopsWriting p s (h ++ input) u w t b)
   breaks_cut None b u v w k part missing c e x n d m y = tt
   breaks_cut (Some input) None u v w k part missing c e x n d m y = absurd c

@@ -1,5 +1,6 @@
 -- Exchanges, joined.
-use Rattle.std.proofs.Common.{◌≡◌, ◌≢◌, ℕ, ◌+◌, ◌<◌, List, [], ◌∷◌, ◌++◌, length, take, refl, sym, ap, ◌∙◌, append_assoc, append-nil, Option, Bool, IsTrue, IsFalse, false, inl, inr, subst, arith, flat_map}
+use Rattle.std.proofs.Common.{◌≡◌, ◌≢◌, ℕ, ◌+◌, ◌<◌, List, [], ◌∷◌, ◌++◌, length, take, refl, sym, ap, ◌∙◌, append_assoc, append-nil, Option, Bool, IsTrue}
+use Rattle.std.proofs.Common.{IsFalse, false, inl, inr, subst, arith, flat_map}
 use Rattle.std.proofs.lemmas.List.{take_all}
 use Rattle.std.proofs.lemmas.List.Concat.{flat_map-append}
 use Rattle.std.proofs.lemmas.List.Elements.{All-append, All-nil, All-cons}
@@ -9,7 +10,8 @@ use Rattle.std.specs.Io.KnownBytes.{Appends}
 use Rattle.world.proofs.Joined.{Runs-append}
 use Rattle.console.specs.Lines.{IsLine, ended}
 use Rattle.console.specs.Held.{Held, clip, nothing_held, bytes_so_far, TakesBytes}
-use Rattle.console.specs.Conversations.{Protocol, IsTurn, turn_line, turn_text, turn_commands, turn_replies, heard_of, written_of, Answered, Exchange, AnswersSoFar, FailsInReply}
+use Rattle.console.specs.Conversations.{Protocol, IsTurn, turn_line, turn_text, turn_commands, turn_replies, heard_of, written_of, Answered, Exchange}
+use Rattle.console.specs.Conversations.{AnswersSoFar, FailsInReply}
 use Rattle.console.proofs.Clips.{clip-append}
 
 module _ (p : Protocol) where
@@ -32,10 +34,13 @@ module _ (p : Protocol) where
     turns = x.turns ++ y.turns;
     each = All-append (IsTurn p) x.turns y.turns x.each y.each;
     heard = ap (λ l. l ++ j) x.heard ∙ append_assoc (heard_of p x.turns) r j ∙ ap (λ l. heard_of p x.turns ++ l) y.heard
-        ∙ sym (append_assoc (heard_of p x.turns) (heard_of p y.turns) t) ∙ ap (λ l. l ++ t) (sym (flat_map-append (λ turn. ended (turn_line p turn)) x.turns y.turns));
-    written = ap (λ l. l ++ q) x.written ∙ ap (λ l. written_of p x.turns ++ l) y.written ∙ sym (flat_map-append (λ turn. ended (turn_text p turn)) x.turns y.turns);
+        ∙ sym (append_assoc (heard_of p x.turns) (heard_of p y.turns) t)
+        ∙ ap (λ l. l ++ t) (sym (flat_map-append (λ turn. ended (turn_line p turn)) x.turns y.turns));
+    written = ap (λ l. l ++ q) x.written ∙ ap (λ l. written_of p x.turns ++ l) y.written
+        ∙ sym (flat_map-append (λ turn. ended (turn_text p turn)) x.turns y.turns);
     run = rw (flat_map-append (turn_commands p) x.turns y.turns, flat_map-append (turn_replies p) x.turns y.turns)
-        (Runs-append p.step a b c (flat_map (turn_commands p) x.turns) (flat_map (turn_replies p) x.turns) (flat_map (turn_commands p) y.turns) (flat_map (turn_replies p) y.turns) x.run y.run);
+        (Runs-append p.step a b c (flat_map (turn_commands p) x.turns) (flat_map (turn_replies p) x.turns) (flat_map (turn_commands p) y.turns)
+        (flat_map (turn_replies p) y.turns) x.run y.run);
   }
 
   -- more input may follow
@@ -48,7 +53,8 @@ module _ (p : Protocol) where
     run = x.run;
   }
 
-  pub answers_join : (a b c : p.State) (i j : List ℕ) (u v w : Option (List ℕ)) (h k : Held) (x : AnswersSoFar p a i u v b h) → AnswersSoFar p b (x.rest ++ j) v w c k → AnswersSoFar p a (i ++ j) u w c k
+  pub answers_join : (a b c : p.State) (i j : List ℕ) (u v w : Option (List ℕ)) (h k : Held) (x : AnswersSoFar p a i u v b h)
+      → AnswersSoFar p b (x.rest ++ j) v w c k → AnswersSoFar p a (i ++ j) u w c k
   answers_join a b c i j u v w h k x y = record {
     output = x.output ++ y.output;
     rest = y.rest;
@@ -58,7 +64,8 @@ module _ (p : Protocol) where
     holds = y.holds;
   }
 
-  pub fails_join : (ahead : List ℕ) (a b c : p.State) (i j : List ℕ) (u v w : Option (List ℕ)) (h : Held) (x : AnswersSoFar p a i u v b h) → FailsInReply p ahead b (x.rest ++ j) v w c
+  pub fails_join : (ahead : List ℕ) (a b c : p.State) (i j : List ℕ) (u v w : Option (List ℕ)) (h : Held) (x : AnswersSoFar p a i u v b h)
+      → FailsInReply p ahead b (x.rest ++ j) v w c
       → FailsInReply p ahead a (i ++ j) u w c
   fails_join ahead a b c i j u v w h x y =
       let z = y.2 in (
@@ -80,7 +87,8 @@ module _ (p : Protocol) where
       )
 
   -- more was read when a write failed
-  pub fails_more : (ahead : List ℕ) (a b : p.State) (i j : List ℕ) (u v : Option (List ℕ)) → FailsInReply p ahead a i u v b → FailsInReply p (ahead ++ j) a (i ++ j) u v b
+  pub fails_more : (ahead : List ℕ) (a b : p.State) (i j : List ℕ) (u v : Option (List ℕ)) → FailsInReply p ahead a i u v b
+      → FailsInReply p (ahead ++ j) a (i ++ j) u v b
   fails_more ahead a b i j u v y =
       let z = y.2 in
       let n = z.next in (
@@ -114,7 +122,8 @@ held_is h line e f = rw (← e, ← f) refl
 
 module _ (p : Protocol) where
   -- nothing is answered of a line that is still coming
-  pub answers_none : (s : p.State) (line : List ℕ) (u : Option (List ℕ)) (h : Held) → IsLine line → h.line ≡ clip line → IsFalse h.waits → AnswersSoFar p s line u u s h
+  pub answers_none : (s : p.State) (line : List ℕ) (u : Option (List ℕ)) (h : Held) → IsLine line → h.line ≡ clip line → IsFalse h.waits
+      → AnswersSoFar p s line u u s h
   answers_none s line u h l e f = record {
     output = [];
     rest = line;
@@ -178,19 +187,22 @@ fed old rest bytes n h l e (inl f) = record {
 fed old rest bytes n h l e (inr f) = record {
   line = rest ++ f.0;
   is_line = All-append (λ b. b ≢ 10) rest f.0 l f.3;
-  bytes = rw f.2 (rw (take_through_end f.0 f.1 n f.4) (sym (append_assoc rest f.0 (10 ∷ [])))) ∙ sym (so_far_waits (rest ++ f.0) h.waits (ap (λ (x : Held). x.waits) f.5));
+  bytes = rw f.2 (rw (take_through_end f.0 f.1 n f.4) (sym (append_assoc rest f.0 (10 ∷ []))))
+      ∙ sym (so_far_waits (rest ++ f.0) h.waits (ap (λ (x : Held). x.waits) f.5));
   clipped = ap (λ (x : Held). x.line) f.5 ∙ ap (λ x. clip (x ++ f.0)) e ∙ clip-append 70001 rest f.0;
 }
 
 -- bytes are taken, and the line that then waits, if one does, is answered
 module _ (p : Protocol) (a b c : p.State) (i bytes : List ℕ) (u v w : Option (List ℕ)) (h k : Held) (n : ℕ) where
   pub answers_fed : (new : Held) → AnswersSoFar p a i u v b h → TakesBytes h.line bytes n k
-      → ((line : List ℕ) → IsLine line → k.line ≡ clip line → AnswersSoFar p b (bytes_so_far line k.waits) v w c new) → AnswersSoFar p a (i ++ take n bytes) u w c new
+      → ((line : List ℕ) → IsLine line → k.line ≡ clip line → AnswersSoFar p b (bytes_so_far line k.waits) v w c new)
+      → AnswersSoFar p a (i ++ take n bytes) u w c new
   answers_fed new x f answer =
       let l = fed h.line x.rest bytes n k x.is_open (ap (λ (y : Held). y.line) x.holds) f in
       answers_join p a b c i (take n bytes) u v w h new x (subst (λ j. AnswersSoFar p b j v w c new) (sym l.bytes) (answer l.line l.is_line l.clipped))
 
-  pub fails_fed : AnswersSoFar p a i u v b h → TakesBytes h.line bytes n k → ((line : List ℕ) → IsLine line → k.line ≡ clip line → FailsInReply p [] b (bytes_so_far line k.waits) v w c)
+  pub fails_fed : AnswersSoFar p a i u v b h → TakesBytes h.line bytes n k
+      → ((line : List ℕ) → IsLine line → k.line ≡ clip line → FailsInReply p [] b (bytes_so_far line k.waits) v w c)
       → FailsInReply p [] a (i ++ take n bytes) u w c
   fails_fed x f answer =
       let l = fed h.line x.rest bytes n k x.is_open (ap (λ (y : Held). y.line) x.holds) f in

@@ -1,5 +1,6 @@
 -- Where a byte stands first.
-use Rattle.std.proofs.Common.{◌≡◌, ◌≢◌, ℕ, ◌<◌, ◌+◌, ◌==◌, true, List, ◌∷◌, ◌++◌, Option, Some, None, IfSome, IfNone, length, take, drop, All, arith, get_or, slice_index, sym, subst, ap, ◌∙◌}
+use Rattle.std.proofs.Common.{◌≡◌, ◌≢◌, ℕ, ◌<◌, ◌+◌, ◌==◌, true, List, ◌∷◌, ◌++◌, Option, Some, None, IfSome, IfNone, length, take, drop, All, arith, get_or}
+use Rattle.std.proofs.Common.{slice_index, sym, subst, ap, ◌∙◌}
 use Rattle.std.proofs.lemmas.List.{take-append-drop, drop_more, get_or-take, length-take}
 use Rattle.std.proofs.lemmas.List.Elements.{All-from_get_or}
 use Rattle.std.proofs.lemmas.Bool.Decides.{nat_tests}

@@ -1,5 +1,6 @@
 -- Words that grant objects.
-use Rattle.std.proofs.Common.{◌≡◌, ◌≢◌, ℕ, ◌<◌, ◌≤◌, Bool, true, false, List, [], ◌∷◌, ◌++◌, length, drop, refl, sym, ap, ◌∙◌, subst, arith, append-nil, append_assoc, length-append}
+use Rattle.std.proofs.Common.{◌≡◌, ◌≢◌, ℕ, ◌<◌, ◌≤◌, Bool, true, false, List, [], ◌∷◌, ◌++◌, length, drop, refl, sym, ap, ◌∙◌, subst, arith, append-nil}
+use Rattle.std.proofs.Common.{append_assoc, length-append}
 use Rattle.machine.specs.declared.grants.Grant.{Grant}
 use Rattle.machine.specs.Grants.{GrantState}
 use Rattle.console.specs.Tokens.{IsNumber, IsNumberWithin}
@@ -30,7 +31,8 @@ grant_digits word g i = subst (λ w. IsNumberWithin object_number (drop 1 w) g.n
 -- ---- words one after the other
 
 -- what the first words grant is the beginning of all that is granted
-words_split : (words rest : List (List ℕ)) (listed all : List Grant) → WordsAre words listed → WordsAre (words ++ rest) all → (more : List Grant) × (all ≡ listed ++ more) × WordsAre rest more
+words_split : (words rest : List (List ℕ)) (listed all : List Grant) → WordsAre words listed → WordsAre (words ++ rest) all
+    → (more : List Grant) × (all ≡ listed ++ more) × WordsAre rest more
 words_split [] rest [] all a b = (all, refl, b)
 words_split [] rest (g ∷ listed) all a b = absurd a
 words_split (w ∷ words) rest [] all a b = absurd a
@@ -40,7 +42,8 @@ words_split (w ∷ words) rest (g ∷ listed) (h ∷ all) a b =
     (m.0, ap (λ x. x ∷ all) (grant_one w h g b.0 a.0) ∙ ap (λ l. g ∷ l) m.1, m.2)
 
 -- one more word
-words_more : (words : List (List ℕ)) (listed : List Grant) (word : List ℕ) (g : Grant) → WordsAre words listed → IsGrant word g → WordsAre (words ++ word ∷ []) (listed ++ g ∷ [])
+words_more : (words : List (List ℕ)) (listed : List Grant) (word : List ℕ) (g : Grant) → WordsAre words listed → IsGrant word g
+    → WordsAre (words ++ word ∷ []) (listed ++ g ∷ [])
 words_more [] [] word g a i = (i, tt)
 words_more [] (h ∷ listed) word g a i = absurd a
 words_more (w ∷ words) [] word g a i = absurd a
@@ -115,7 +118,8 @@ module _ (all left : List (List ℕ)) (g : GrantState) (last : ℕ) (s : ReadSoF
       let r = rise_after 0 g.listed m.0 (subst (λ l. RiseFrom 0 l) m.1 a.2) in
       (m.0, m.1, m.2, subst (λ k. RiseFrom k m.0) (sym s.last_is) r)
 
-first_wrong : (word : List ℕ) (rest : List (List ℕ)) (last : ℕ) (more : List Grant) → ((x : Grant) → IsGrant word x → last < x.number → ⊥) → WordsAre (word ∷ rest) more → RiseFrom last more → ⊥
+first_wrong : (word : List ℕ) (rest : List (List ℕ)) (last : ℕ) (more : List Grant) → ((x : Grant) → IsGrant word x → last < x.number → ⊥)
+    → WordsAre (word ∷ rest) more → RiseFrom last more → ⊥
 first_wrong word rest last [] none w r = w
 first_wrong word rest last (x ∷ more) none w r = none x w.0 r.0
 

@@ -1,5 +1,6 @@
 -- Hex text, pair by pair.
-use Rattle.std.proofs.Common.{◌≡◌, ℕ, zero, suc, ◌+◌, ◌*◌, ◌/◌, ◌%◌, ◌<◌, List, [], ◌∷◌, ◌++◌, length, take, get_or, slice_index, Option, Some, None, Result, Ok, Err, refl, sym, ap, ◌∙◌, append_assoc, subst, arith}
+use Rattle.std.proofs.Common.{◌≡◌, ℕ, zero, suc, ◌+◌, ◌*◌, ◌/◌, ◌%◌, ◌<◌, List, [], ◌∷◌, ◌++◌, length, take, get_or, slice_index, Option, Some, None, Result}
+use Rattle.std.proofs.Common.{Ok, Err, refl, sym, ap, ◌∙◌, append_assoc, subst, arith}
 use Rattle.std.proofs.Math.ListN.{set, length-set}
 use Rattle.std.proofs.lemmas.List.{take_more, take_more_set}
 use Rattle.hex.specs.Hex.{decode_of, decode_pairs, digit_or_error, encode_lower, encode_with, hex_digit_value, lower_digits, pair_value, ◌>>=◌}
@@ -12,7 +13,8 @@ bind_ok : {A B : Type 0} (r : Result A FromHexError) (f : A → Result B FromHex
 bind_ok (Ok x) f y h = (x, refl, h)
 bind_ok (Err e) f y h = cc h
 
-pair_of : (a b k h l : ℕ) (o p : Option ℕ) → o ≡ Some h → p ≡ Some l → (digit_or_error a k o >>= (λ x. digit_or_error b (k + 1) p >>= (λ y. Ok (x * 16 + y)))) ≡ Ok (h * 16 + l)
+pair_of : (a b k h l : ℕ) (o p : Option ℕ) → o ≡ Some h → p ≡ Some l
+    → (digit_or_error a k o >>= (λ x. digit_or_error b (k + 1) p >>= (λ y. Ok (x * 16 + y)))) ≡ Ok (h * 16 + l)
 pair_of a b k h l (Some x) (Some y) e f = let m : x ≡ h = cc in let n : y ≡ l = cc in rw (m, n) refl
 pair_of a b k h l None p e f = cc
 pair_of a b k h l (Some x) None e f = cc
@@ -27,7 +29,8 @@ pairs_split k a b rest value e =
     let same : value ≡ p.0 ∷ q.0 = cc (q.2) in
     (p.0, q.0, p.1, q.1, same)
 
-pairs_at : (k : ℕ) (text value : List ℕ) (i high low : ℕ) → decode_pairs k text ≡ Ok value → i < length value → hex_digit_value (slice_index text (2 * i)) ≡ Some high
+pairs_at : (k : ℕ) (text value : List ℕ) (i high low : ℕ) → decode_pairs k text ≡ Ok value → i < length value
+    → hex_digit_value (slice_index text (2 * i)) ≡ Some high
     → hex_digit_value (slice_index text (2 * i + 1)) ≡ Some low → get_or value i 0 ≡ high * 16 + low
 unfolding decode_pairs
 pairs_at k [] value i high low e h x y = absurd (let n : [] ≡ value = cc in let m = ap length n in omega (arith, m, h))
@@ -64,7 +67,8 @@ encode_one : (b : ℕ) → encode_lower (b ∷ []) ≡ slice_index lower_digits 
 unfolding encode_with
 encode_one b = refl
 
-pair_more : (text done : List ℕ) (i a b : ℕ) → 2 * i + 1 < length text → take (2 * i) text ≡ done → take (2 * (i + 1)) (set (set text (2 * i) a) (2 * i + 1) b) ≡ (done ++ a ∷ []) ++ b ∷ []
+pair_more : (text done : List ℕ) (i a b : ℕ) → 2 * i + 1 < length text → take (2 * i) text ≡ done
+    → take (2 * (i + 1)) (set (set text (2 * i) a) (2 * i + 1) b) ≡ (done ++ a ∷ []) ++ b ∷ []
 pair_more text done i a b h e =
     let n : 2 * (i + 1) ≡ (2 * i + 1) + 1 = omega arith in
     let first = take_more_set text (2 * i) a (omega (arith, h)) in
@@ -80,7 +84,8 @@ digits_more text bytes i a b h k x y e =
     let byte = get_or bytes i 0 in
     let more : encode_lower (take (i + 1) bytes) ≡ encode_lower (take i bytes) ++ (a ∷ b ∷ []) =
     ap (λ l. encode_lower l) (take_more bytes i 0 k) ∙ encode_append (take i bytes) (byte ∷ []) ∙ ap (λ l. encode_lower (take i bytes) ++ l) (encode_one byte)
-    ∙ ap (λ c. encode_lower (take i bytes) ++ (c ∷ slice_index lower_digits (byte % 16) ∷ [])) (sym x) ∙ ap (λ c. encode_lower (take i bytes) ++ (a ∷ c ∷ [])) (sym y) in
+    ∙ ap (λ c. encode_lower (take i bytes) ++ (c ∷ slice_index lower_digits (byte % 16) ∷ [])) (sym x)
+    ∙ ap (λ c. encode_lower (take i bytes) ++ (a ∷ c ∷ [])) (sym y) in
     pair_more text (encode_lower (take i bytes)) i a b h e ∙ append_assoc (encode_lower (take i bytes)) (a ∷ []) (b ∷ []) ∙ sym more
 
 -- no bytes, no digits
@@ -89,6 +94,7 @@ unfolding encode_with
 no_digits = refl
 
 -- the digits of the first bytes, and then those of the others
-pub digits_join : (start done new part more : List ℕ) → done ≡ start ++ encode_lower part → new ≡ done ++ encode_lower more → new ≡ start ++ encode_lower (part ++ more)
+pub digits_join : (start done new part more : List ℕ) → done ≡ start ++ encode_lower part → new ≡ done ++ encode_lower more
+    → new ≡ start ++ encode_lower (part ++ more)
 digits_join start done new part more e f =
     f ∙ ap (λ l. l ++ encode_lower more) e ∙ append_assoc start (encode_lower part) (encode_lower more) ∙ ap (λ l. start ++ l) (sym (encode_append part more))

@@ -1,5 +1,6 @@
 -- Tokens, numbers and hex text.
-use Rattle.std.proofs.Common.{◌≡◌, ◌≢◌, ℕ, ◌%◌, ◌*◌, ◌∙◌, ap, inl, inr, codes, Option, Some, None, ◌<◌, ◌≤◌, List, [], ◌∷◌, ◌++◌, length, ◌==◌, All, arith, IsAscii, true, false, refl, lit<, get_or, slice_index, zero, suc, subst, sym, Ok}
+use Rattle.std.proofs.Common.{◌≡◌, ◌≢◌, ℕ, ◌%◌, ◌*◌, ◌∙◌, ap, inl, inr, codes, Option, Some, None, ◌<◌, ◌≤◌, List, [], ◌∷◌, ◌++◌, length, ◌==◌, All, arith}
+use Rattle.std.proofs.Common.{IsAscii, true, false, refl, lit<, get_or, slice_index, zero, suc, subst, sym, Ok}
 use Rattle.std.specs.List.{AllPass}
 use Rattle.std.specs.Str.Parse.{AllDigits, digits_value}
 use Rattle.std.proofs.lemmas.List.{append_cancel_left}
@@ -93,7 +94,8 @@ numbers_within (l ∷ ls) (t ∷ tokens) (n ∷ ns) left a zero h = a.0.1
 numbers_within (l ∷ ls) (t ∷ tokens) (n ∷ ns) left a (suc i) h = numbers_within ls tokens ns left a.1 i (omega (arith, h))
 
 -- numbers are read in one way
-pub numbers_one : (ls : List Limits) (tokens : List (List ℕ)) (ns ms : List ℕ) (left other : List (List ℕ)) → AreNumbers ls tokens ns left → AreNumbers ls tokens ms other → (ns ≡ ms) × (left ≡ other)
+pub numbers_one : (ls : List Limits) (tokens : List (List ℕ)) (ns ms : List ℕ) (left other : List (List ℕ)) → AreNumbers ls tokens ns left
+    → AreNumbers ls tokens ms other → (ns ≡ ms) × (left ≡ other)
 numbers_one [] tokens [] [] left other a b = (refl, a ∙ sym b)
 numbers_one [] tokens [] (m ∷ ms) left other a b = absurd b
 numbers_one [] tokens (n ∷ ns) ms left other a b = absurd a
@@ -108,7 +110,8 @@ numbers_one (l ∷ ls) (t ∷ tokens) (n ∷ ns) (m ∷ ms) left other a b =
 -- ---- bytes
 
 -- bytes are read in one way
-pub bytes_one : (most : Option ℕ) (tokens : List (List ℕ)) (xs ys : List ℕ) (left other : List (List ℕ)) → AreBytes most tokens xs left → AreBytes most tokens ys other → (xs ≡ ys) × (left ≡ other)
+pub bytes_one : (most : Option ℕ) (tokens : List (List ℕ)) (xs ys : List ℕ) (left other : List (List ℕ)) → AreBytes most tokens xs left
+    → AreBytes most tokens ys other → (xs ≡ ys) × (left ≡ other)
 bytes_one None tokens xs ys left other a b = (a.1 ∙ sym b.1, a.0 ∙ sym b.0)
 bytes_one (Some most) tokens xs ys left other a b =
     let x : a.0 ∷ left ≡ b.0 ∷ other = sym a.1 ∙ b.1 in
@@ -134,7 +137,8 @@ pub bytes_given : (most : ℕ) (tokens left : List (List ℕ)) (text bytes : Lis
 bytes_given most tokens left text bytes e h s = (bytes, (text, e, h, s), h.1)
 
 -- the next token is no such text
-pub bytes_wrong : (most : ℕ) (tokens left : List (List ℕ)) (text : List ℕ) → tokens ≡ text ∷ left → ((bytes : List ℕ) → IsHex text bytes → length bytes ≤ most → ⊥)
+pub bytes_wrong : (most : ℕ) (tokens left : List (List ℕ)) (text : List ℕ) → tokens ≡ text ∷ left
+    → ((bytes : List ℕ) → IsHex text bytes → length bytes ≤ most → ⊥)
     → (bytes : List ℕ) (other : List (List ℕ)) → AreBytes (Some most) tokens bytes other → ⊥
 bytes_wrong most tokens left text e none bytes other a =
     let x : text ∷ left ≡ a.0 ∷ other = sym e ∙ a.1 in

@@ -1,5 +1,6 @@
 -- Which line spells which command. Names, parameters and limits are this project's choice.
-use Rattle.std.specs.Prelude.{◌≡◌, ℕ, ◌≤◌, ◌-◌, ◌/◌, ◌^◌, Bool, true, false, List, [], ◌∷◌, length, slice_index, codes, find, Option, Some, None, Result, Ok, Err}
+use Rattle.std.specs.Prelude.{◌≡◌, ℕ, ◌≤◌, ◌-◌, ◌/◌, ◌^◌, Bool, true, false, List, [], ◌∷◌, length, slice_index, codes, find, Option, Some, None, Result, Ok}
+use Rattle.std.specs.Prelude.{Err}
 use Rattle.std.specs.Str.{bytes_eq}
 use Rattle.loader.specs.ValidCode.{code_limit}
 use Rattle.memory.specs.Objects.{object_bytes}
@@ -59,7 +60,8 @@ start_numbers = any_number ∷ any_number ∷ any_number ∷ any_number ∷ any_
 
 -- ---- the table of commands
 
--- What a line of a command has: its name, the limits of the numbers after it, how many bytes may come then, in hex, where some have to, and whether words that grant objects may come last.
+-- What a line of a command has: its name, the limits of the numbers after it, how many bytes may come then, in hex, where some
+-- have to, and whether words that grant objects may come last.
 pub record LineForm : Type 0 where
   pub name : List ℕ
   pub numbers : List Limits
@@ -99,7 +101,8 @@ form_of kind.Resume = numbered (codes "resume") (machine_number ∷ [])
 
 -- all kinds
 abbrev pub all_kinds : List Kind
-all_kinds = kind.Make ∷ kind.Free ∷ kind.Put ∷ kind.Get ∷ kind.Ship ∷ kind.Ship2 ∷ kind.Leave ∷ kind.Left ∷ kind.Return ∷ kind.Returned ∷ kind.Step ∷ kind.One ∷ kind.Regs ∷ kind.Out ∷ kind.Stack ∷ kind.Line ∷ kind.Break ∷ kind.Unbreak ∷ kind.Watch ∷ kind.Unwatch ∷ kind.Resume ∷ []
+all_kinds = kind.Make ∷ kind.Free ∷ kind.Put ∷ kind.Get ∷ kind.Ship ∷ kind.Ship2 ∷ kind.Leave ∷ kind.Left ∷ kind.Return ∷ kind.Returned ∷ kind.Step
+    ∷ kind.One ∷ kind.Regs ∷ kind.Out ∷ kind.Stack ∷ kind.Line ∷ kind.Break ∷ kind.Unbreak ∷ kind.Watch ∷ kind.Unwatch ∷ kind.Resume ∷ []
 
 -- the first of these kinds that has this name
 abbrev pub first_named : List ℕ → List Kind → Option Kind

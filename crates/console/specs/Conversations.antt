@@ -76,7 +76,8 @@ Converses p old input output new = (written rest : List ℕ) × Exchange p old i
 
 -- The line is answered by these bytes.
 abbrev pub Answered : (p : Protocol) → p.State → List ℕ → List ℕ → p.State → Type 0
-Answered p old line bytes new = (turn : Turn p) × (turn_line p turn ≡ line) × IsTurn p turn × RunsTurns p old (turn ∷ []) new × (bytes ≡ ended (turn_text p turn))
+Answered p old line bytes new = (turn : Turn p) × (turn_line p turn ≡ line) × IsTurn p turn × RunsTurns p old (turn ∷ []) new
+    × (bytes ≡ ended (turn_text p turn))
 
 -- the next ended line, its reply, and what it does; only the bytes ahead are read of what follows it
 abbrev pub DueReply : (p : Protocol) → List ℕ → p.State → List ℕ → List ℕ → p.State → Type 0
@@ -87,7 +88,8 @@ abbrev pub DueCut : (p : Protocol) → p.State → List ℕ → List ℕ → p.S
 DueCut p old rest due new = IsLine rest × (0 < length rest) × (due ≡ cut_of rest) × (new ≡ old)
 
 -- After replies that are whole come the first bytes of the one that is due next, and not all of it. That one's command is done, and no later one.
-pub record Breaks (p : Protocol) (due_next : p.State → List ℕ → List ℕ → p.State → Type 0) (old : p.State) (input output : List ℕ) (new : p.State) : Type 0 where
+pub record Breaks (p : Protocol) (due_next : p.State → List ℕ → List ℕ → p.State
+    → Type 0) (old : p.State) (input output : List ℕ) (new : p.State) : Type 0 where
   pub written : List ℕ
   pub rest : List ℕ
   pub mid : p.State
@@ -122,7 +124,8 @@ abbrev pub AnswersAll : (p : Protocol) → p.State → List ℕ → Option (List
 AnswersAll p old input before after new = (output : List ℕ) × Appends before after output × Converses p old input output new
 
 -- A read failed: all replies to what was heard are written, the console holds what was heard of the next line, and the reader still has the rest of the input.
-pub record StopsReading (p : Protocol) (old : p.State) (input : List ℕ) (before after : Option (List ℕ)) (new : p.State) (held : Held) (unread : Option (List ℕ)) : Type 0 where
+pub record StopsReading (p : Protocol) (old : p.State) (input : List ℕ) (before after : Option (List ℕ)) (new : p.State) (held : Held)
+    (unread : Option (List ℕ)) : Type 0 where
   pub heard : List ℕ
   pub more : List ℕ
   pub parts : input ≡ heard ++ more
@@ -134,7 +137,8 @@ abbrev pub piece_limit : ℕ
 piece_limit = 4096
 
 -- A write failed, within a reply or within `cut`. The reader still has all that comes after the piece in which the line ended that was being answered.
-pub record StopsWriting (p : Protocol) (old : p.State) (input : List ℕ) (before after : Option (List ℕ)) (new : p.State) (unread : Option (List ℕ)) : Type 0 where
+pub record StopsWriting (p : Protocol) (old : p.State) (input : List ℕ) (before after : Option (List ℕ)) (new : p.State)
+    (unread : Option (List ℕ)) : Type 0 where
   pub heard : List ℕ
   pub more : List ℕ
   pub parts : input ≡ heard ++ more

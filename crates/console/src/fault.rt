@@ -1,4 +1,4 @@
-//! What can go wrong.
+//! Faults of a line and of a conversation. Out of memory is apart from what spells no command, as its reply is.
 ghost use Rattle.std.specs.Prelude.{◌≡◌};
 ghost use Rattle.console.specs.Faults.{line_fault_number, drive_fault_number};
 ghost use Rattle.console.specs.declared.fault.DriveFault.TheVariants.{Write as WriteFailed};

@@ -32,7 +32,8 @@ pub distinct_filter : {X : Type 0} (same : X → X → Bool) (q : X → Bool) (x
 distinct_filter same q [] ys d e = rw e tt
 distinct_filter same q (x ∷ xs) ys d e = rw e (by_test (q x) (kept_out (same x) q xs d.0) (distinct_filter same q xs (filter q xs) d.1 refl))
   where
-    by_test : (b : Bool) → list_any (same x) (filter q xs) ≡ false → AreDistinctBy same (filter q xs) → AreDistinctBy same (cond b (x ∷ filter q xs) (filter q xs))
+    by_test : (b : Bool) → list_any (same x) (filter q xs) ≡ false → AreDistinctBy same (filter q xs)
+        → AreDistinctBy same (cond b (x ∷ filter q xs) (filter q xs))
     by_test true one rest = (one, rest)
     by_test false one rest = rest
 

@@ -73,7 +73,8 @@ left_in same n m apart xs = any-filter_same (same m) (λ o. not (same n o)) true
 
 -- ---- elements that a state has, each once
 
-module _ {X : Type 0} (same : X → X → Bool) (exact : (x y : X) → same x y ≡ true → x ≡ y) (itself : (x : X) → same x x ≡ true) (other : (x y : X) → x ≢ y → same x y ≡ false) where
+module _ {X : Type 0} (same : X → X → Bool) (exact : (x y : X) → same x y ≡ true → x ≡ y) (itself : (x : X) → same x x ≡ true) (other : (x y : X)
+    → x ≢ y → same x y ≡ false) where
   module _ (items : DebugState → List X) (with : X → DebugState → DebugState) (is : (x : X) (d : DebugState) → items (with x d) ≡ items d ++ x ∷ []) where
     -- the state has the element
     abbrev has : X → DebugState → Bool
@@ -121,7 +122,8 @@ begins_with code slot d at begins = λ other e.
       | inr apart ↦ begins other (sym ((breaks_set slot d).1 other apart.1) ∙ e)
     ]
 
-kept_by : (code : List ℕ) (slot : ℕ) (d : DebugState) (outcome : Debugged) → laws.BreaksBegin code d → Decides (Needs (Break slot) code d) (NoSlot ∷ Full ∷ []) Done outcome
+kept_by : (code : List ℕ) (slot : ℕ) (d : DebugState) (outcome : Debugged) → laws.BreaksBegin code d
+    → Decides (Needs (Break slot) code d) (NoSlot ∷ Full ∷ []) Done outcome
     → laws.BreaksBegin code (left_by outcome d (with_break slot d))
 kept_by code slot d Done begins (inl p) = absurd (cc)
 kept_by code slot d Done begins (inr p) = begins_with code slot d p.0 begins

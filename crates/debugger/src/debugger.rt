@@ -3,7 +3,8 @@ ghost use Rattle.std.specs.Prelude.{◌≡◌, ◌≤◌, ℕ, nat_eq, true, fal
 ghost use Rattle.std.specs.List.{list_any, filter};
 ghost use Rattle.loader.specs.ValidCode.{IsAt};
 ghost use Rattle.debugger.specs.declared.commands.DebugCommand.{DebugCommand};
-ghost use Rattle.debugger.specs.DebugState.{debug_start, AreDistinctBy, has_break, has_watch, is_same_watch, watch_at, overlaps, hits, break_limit, watch_limit};
+ghost use Rattle.debugger.specs.DebugState.{debug_start, AreDistinctBy, has_break, has_watch, is_same_watch, watch_at, overlaps, hits, break_limit};
+ghost use Rattle.debugger.specs.DebugState.{watch_limit};
 ghost use Rattle.debugger.specs.Changes.{Debugs};
 ghost use Rattle.debugger.specs.Pausing.{is_to_pause, with_pause, after_run, after_stop};
 

@@ -1,5 +1,7 @@
 //! What the definitions say of breakpoints, watched ranges and steps, apart from any call.
-ghost use Rattle.debugger.specs.Laws.{SetBreaksAreSet, ClearedBreaksAreClear, BreaksStayAtInstructions, SetWatchesAreSet, ClearedWatchesAreClear, HitsShareAByte, ReadsNeverHit, FailedExchangesNeverHit, PausingStays, ResumingGoesOn, PassingEnds, WaitingChangesNothing, StopsEndPauses, OnesPause, NothingSetNothingPauses};
+ghost use Rattle.debugger.specs.Laws.{SetBreaksAreSet, ClearedBreaksAreClear, BreaksStayAtInstructions, SetWatchesAreSet, ClearedWatchesAreClear};
+ghost use Rattle.debugger.specs.Laws.{HitsShareAByte, ReadsNeverHit, FailedExchangesNeverHit, PausingStays, ResumingGoesOn, PassingEnds, WaitingChangesNothing};
+ghost use Rattle.debugger.specs.Laws.{StopsEndPauses, OnesPause, NothingSetNothingPauses};
 
 /// A breakpoint that was set is set, and no other with it.
 pub fn set_breaks_are_set()

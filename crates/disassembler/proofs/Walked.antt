@@ -1,5 +1,6 @@
 -- A program is read instruction by instruction.
-use Rattle.std.proofs.Common.{◌≡◌, ℕ, ◌+◌, ◌<◌, ◌≤◌, Bool, true, false, inl, inr, List, [], ◌∷◌, ◌++◌, length, refl, sym, ap, ◌∙◌, subst, arith, append_assoc, append-nil}
+use Rattle.std.proofs.Common.{◌≡◌, ℕ, ◌+◌, ◌<◌, ◌≤◌, Bool, true, false, inl, inr, List, [], ◌∷◌, ◌++◌, length, refl, sym, ap, ◌∙◌, subst, arith, append_assoc}
+use Rattle.std.proofs.Common.{append-nil}
 use Rattle.isa_table.specs.declared.instr.Instr.{Instr}
 use Rattle.isa_table.specs.Slots.{slots}
 use Rattle.loader.specs.Instructions.{slot_count, StandsIn}
@@ -28,7 +29,8 @@ first_stands (j ∷ js) from i (inl h) = (js, ap (λ x. x ∷ js) (sym h.1))
 first_stands (j ∷ js) from i (inr h) = absurd (stands_past js j i from h)
 
 -- and so after others
-next_stands : (done left : List Instr) (from n : ℕ) (i : Instr) → n ≡ from + slot_count done → StandsIn (done ++ left) from n i → (rest : List Instr) × (left ≡ i ∷ rest)
+next_stands : (done left : List Instr) (from n : ℕ) (i : Instr) → n ≡ from + slot_count done → StandsIn (done ++ left) from n i
+    → (rest : List Instr) × (left ≡ i ∷ rest)
 next_stands [] left from n i e h = first_stands left from i (subst (λ k. StandsIn left from k i) (let f : n ≡ from = omega (arith, e) in f) h)
 next_stands (d ∷ ds) left from n i e (inl h) = let p = slots_positive d in absurd (omega (arith, e, h.0, p))
 next_stands (d ∷ ds) left from n i e (inr h) = next_stands ds left (from + slots d) n i (omega (arith, e)) h
@@ -88,7 +90,8 @@ pub record Next (has_slots : Bool) (bytes : List ℕ) (slot : ℕ) (text : List 
   pub bound : slot + slots i ≤ 4096
   pub more : slot < slot + slots i
 
-next_at : (has_slots : Bool) (bytes : List ℕ) (slot : ℕ) (text : List ℕ) (i : Instr) (w : Walked has_slots bytes slot text) (rest : List Instr) → w.left ≡ i ∷ rest → Next has_slots bytes slot text i
+next_at : (has_slots : Bool) (bytes : List ℕ) (slot : ℕ) (text : List ℕ) (i : Instr) (w : Walked has_slots bytes slot text) (rest : List Instr)
+    → w.left ≡ i ∷ rest → Next has_slots bytes slot text i
 next_at has_slots bytes slot text i w rest e =
     let c : IsCode bytes (w.done ++ i ∷ rest) = subst (λ l. IsCode bytes (w.done ++ l)) e w.is_code in
     let n = count_more w.done i rest in
@@ -107,16 +110,19 @@ next_at has_slots bytes slot text i w rest e =
       more = omega (arith, p);
     }
 
-pub next_walked : (has_slots : Bool) (bytes : List ℕ) (slot : ℕ) (text : List ℕ) (i : Instr) → Walked has_slots bytes slot text → IsRowAt bytes slot i → Next has_slots bytes slot text i
+pub next_walked : (has_slots : Bool) (bytes : List ℕ) (slot : ℕ) (text : List ℕ) (i : Instr) → Walked has_slots bytes slot text → IsRowAt bytes slot i
+    → Next has_slots bytes slot text i
 next_walked has_slots bytes slot text i w r =
     let same : r.code ≡ w.done ++ w.left = one_code bytes r.code (w.done ++ w.left) r.is_code w.is_code in
     let n = next_stands w.done w.left 0 slot i (omega (arith, w.place)) (subst (λ l. StandsIn l 0 slot i) same r.stands) in
     next_at has_slots bytes slot text i w n.0 n.1
 
-all_at : (has_slots : Bool) (bytes : List ℕ) (slot : ℕ) (text : List ℕ) (done left : List Instr) → IsCode bytes (done ++ left) → slot ≡ slot_count done → text ≡ lines_from has_slots 0 done → (IsAt bytes slot → ⊥)
+all_at : (has_slots : Bool) (bytes : List ℕ) (slot : ℕ) (text : List ℕ) (done left : List Instr) → IsCode bytes (done ++ left) → slot ≡ slot_count done
+    → text ≡ lines_from has_slots 0 done → (IsAt bytes slot → ⊥)
     → HasLines has_slots bytes text
 all_at has_slots bytes slot text done [] c s t h = (done, subst (λ l. IsCode bytes l) (append-nil done) c, t)
 all_at has_slots bytes slot text done (i ∷ rest) c s t h = absurd (h (done ++ i ∷ rest, c, (i, stands_there done rest 0 slot i (omega (arith, s)))))
 
-pub all_walked : (has_slots : Bool) (bytes : List ℕ) (slot : ℕ) (text : List ℕ) → Walked has_slots bytes slot text → (IsAt bytes slot → ⊥) → HasLines has_slots bytes text
+pub all_walked : (has_slots : Bool) (bytes : List ℕ) (slot : ℕ) (text : List ℕ) → Walked has_slots bytes slot text → (IsAt bytes slot → ⊥)
+    → HasLines has_slots bytes text
 all_walked has_slots bytes slot text w h = all_at has_slots bytes slot text w.done w.left w.is_code w.place w.written h

@@ -1,4 +1,4 @@
-//! What can go wrong.
+//! Faults that end a server. Those of one client's stream end its thread alone.
 ghost use Rattle.std.specs.Prelude.{◌≡◌, ◌≤◌, length};
 ghost use Rattle.far_server.specs.Texts.{server_fault_name};
 

@@ -15,7 +15,14 @@ use Rattle.far_stream.specs.declared.fault.PayloadFault.TheVariants.{CutOff}
 pub filled : (start len k : ℕ) (xs front after buffer : List ℕ) → start ≤ length xs → len ≡ start + length buffer → take start xs ≡ front
     → take len (put_mid start k xs buffer ++ after) ≡ front ++ buffer
 filled start len k xs front after buffer within is same =
-    let room : len ≤ length (put_mid start k xs buffer) = omega (arith, length-append (take start xs) (buffer ++ post_of start k xs), length-append buffer (post_of start k xs), length-take-le start xs within, is) in
+    let room : len ≤ length (put_mid start k xs buffer) =
+    omega (
+      arith,
+      length-append (take start xs) (buffer ++ post_of start k xs),
+      length-append buffer (post_of start k xs),
+      length-take-le start xs within,
+      is,
+    ) in
     take-append-le len (put_mid start k xs buffer) after room ∙ take-put_mid start k xs buffer len is within ∙ ap (λ l. l ++ buffer) same
 
 -- what a vector held before it grew
@@ -28,5 +35,6 @@ pub cut_short : (cut : Cut) (due : ℕ) (before after : Option (List ℕ)) → C
 cut_short Failed due before after c = c
 cut_short Ended due before after c = c.0
 
-pub lost_short : (fault : PayloadFault) (cut : Cut) (due : ℕ) (before after : Option (List ℕ)) → fault ≡ CutOff cut → LosesPayload fault due before after → ConsumesFewer due before after
+pub lost_short : (fault : PayloadFault) (cut : Cut) (due : ℕ) (before after : Option (List ℕ)) → fault ≡ CutOff cut → LosesPayload fault due before after
+    → ConsumesFewer due before after
 lost_short fault cut due before after is lost = cut_short cut due before after (subst (λ f. LosesPayload f due before after) is lost)

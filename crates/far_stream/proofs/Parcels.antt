@@ -1,5 +1,6 @@
 -- Parcels by their ids.
-use Rattle.std.proofs.Common.{◌≡◌, ◌<◌, ℕ, suc, List, [], ◌∷◌, ◌++◌, length, drop, get_or, ap, ◌∙◌, sym, refl, None, Some, Option, IfSome, IsSome, is_some, true, false, nat_eq, if◌then◌else◌}
+use Rattle.std.proofs.Common.{◌≡◌, ◌<◌, ℕ, suc, List, [], ◌∷◌, ◌++◌, length, drop, get_or, ap, ◌∙◌, sym, refl, None, Some, Option, IfSome, IsSome, is_some}
+use Rattle.std.proofs.Common.{true, false, nat_eq, if◌then◌else◌}
 use Rattle.std.proofs.Math.Seq.{drop-cons}
 use Rattle.std.proofs.lemmas.List.{drop_at}
 use Rattle.far_stream.specs.Frames.{frame, head, done}
@@ -11,7 +12,8 @@ use Rattle.far_stream.proofs.Bytes.{length-head}
 pub payload_of_answer : (answer payload : List ℕ) (id count : ℕ) → answer ≡ head done id count ++ payload → drop 13 answer ≡ payload
 payload_of_answer answer payload id count is = ap (drop 13) is ∙ drop_at (head done id count) payload 13 (length-head done id count)
 
-pub answer_is_frame : (answer payload : List ℕ) (id count : ℕ) → answer ≡ head done id count ++ payload → length payload ≡ count → answer ≡ frame done id (drop 13 answer)
+pub answer_is_frame : (answer payload : List ℕ) (id count : ℕ) → answer ≡ head done id count ++ payload → length payload ≡ count
+    → answer ≡ frame done id (drop 13 answer)
 answer_is_frame answer payload id count is len =
     is ∙ ap (λ n. head done id n ++ payload) (sym len) ∙ ap (λ p. frame done id p) (sym (payload_of_answer answer payload id count is))
 

@@ -1,5 +1,6 @@
 -- One request: what came of it, and how it was answered.
-use Rattle.std.proofs.Common.{◌≡◌, ◌≢◌, ℕ, ◌^◌, ◌<◌, ◌≤◌, List, [], ◌∷◌, ◌++◌, length, refl, sym, ap, subst, arith, inl, inr, append-nil, length-append, Option, None, Some, Ok, Err, Result, OnOk, IfErr}
+use Rattle.std.proofs.Common.{◌≡◌, ◌≢◌, ℕ, ◌^◌, ◌<◌, ◌≤◌, List, [], ◌∷◌, ◌++◌, length, refl, sym, ap, subst, arith, inl, inr, append-nil, length-append, Option}
+use Rattle.std.proofs.Common.{None, Some, Ok, Err, Result, OnOk, IfErr}
 use Rattle.std.specs.Prelude.{⊤}
 use Rattle.std.specs.Io.KnownBytes.{Appends, Consumes}
 use Rattle.std.proofs.KnownBytes.{Consumes-trans}
@@ -24,13 +25,18 @@ use Rattle.far_stream.proofs.Bytes.{length-head}
 -- one more turn
 pub turns_on : {S : Type 0} (remaining contents : S → Option (List ℕ)) (a b c : S) (k l m : List Sent) (turns : List Turn) (turn : Turn)
     → TakesTurns remaining contents a k turns l b → Takes remaining contents Appends b l turn m c → TakesTurns remaining contents a k (turns ++ turn ∷ []) m c
-turns_on remaining contents a b c k l m [] turn none one =
-    (m, c, subst (λ s. Takes remaining contents Appends s k turn m c) none.1 (subst (λ x. Takes remaining contents Appends b x turn m c) none.0 one), (refl, refl))
+turns_on remaining contents a b c k l m [] turn none one = (
+  m,
+  c,
+  subst (λ s. Takes remaining contents Appends s k turn m c) none.1 (subst (λ x. Takes remaining contents Appends b x turn m c) none.0 one),
+  (refl, refl),
+)
 turns_on remaining contents a b c k l m (first ∷ turns) turn some one =
     (some.0, some.1, some.2, turns_on remaining contents some.1 b c some.0 l m turns turn some.3 one)
 
 -- the first bytes of a request came, and then the rest
-pub takes_from : {S : Type 0} (remaining contents : S → Option (List ℕ)) (told : Option (List ℕ) → Option (List ℕ) → List ℕ → Type 0) (o m n : S) (came : List ℕ) (kept after : List Sent)
+pub takes_from : {S : Type 0} (remaining contents : S → Option (List ℕ)) (told : Option (List ℕ) → Option (List ℕ) → List ℕ
+    → Type 0) (o m n : S) (came : List ℕ) (kept after : List Sent)
     → Consumes (remaining o) (remaining m) came → TakesOn remaining contents told came m kept after n → TakesOn remaining contents told [] o kept after n
 takes_from remaining contents told o m n came kept after ate t =
     (t.0, came ++ t.1, t.2, t.3, t.4, Consumes-trans _ _ _ came t.1 ate t.5, t.6, t.7)
@@ -50,7 +56,8 @@ answer_of_status id status.RefusedId = refl
 answer_of_status id status.NoRoom = refl
 
 -- the bytes of a put came, and its status is written
-pub put_takes : {S : Type 0} (remaining contents : S → Option (List ℕ)) (told : Option (List ℕ) → Option (List ℕ) → List ℕ → Type 0) (o m n : S) (kept after : List Sent) (id count : ℕ) (s : Status)
+pub put_takes : {S : Type 0} (remaining contents : S → Option (List ℕ)) (told : Option (List ℕ) → Option (List ℕ) → List ℕ
+    → Type 0) (o m n : S) (kept after : List Sent) (id count : ℕ) (s : Status)
     → id < 2 ^ 64 → 0 < count → count ≤ payload_limit → PutTaken (remaining o) (remaining m) kept id count s after
     → told (contents m) (contents n) (head (status_number s) id 0) → TakesOn remaining contents told (head put_kind id count) o kept after n
 put_takes remaining contents told o m n kept after id count s fits some most taken wrote =
@@ -73,21 +80,46 @@ pub put_cut : {S : Type 0} (remaining contents : S → Option (List ℕ)) (o n :
     → 0 < count → count ≤ payload_limit → CutsOff cut count (remaining o) (remaining n)
     → ServesOn remaining contents (head put_kind id count) o kept (Err (of_cut cut)) after n
 put_cut remaining contents o n kept after id count Failed some most c = inl (c.0, c.2, unfinished_put id count c.0 some most c.1)
-put_cut remaining contents o n kept after id count Ended some most c =
-    (c.0.0, c.0.2, inr (omega (arith, length-append (head put_kind id count) c.0.0, length-head put_kind id count), unfinished_put id count c.0.0 some most c.0.1, c.1))
+put_cut remaining contents o n kept after id count Ended some most c = (
+  c.0.0,
+  c.0.2,
+  inr (
+    omega (arith, length-append (head put_kind id count) c.0.0, length-head put_kind id count),
+    unfinished_put id count c.0.0 some most c.0.1,
+    c.1,
+  ),
+)
 
 -- an id that is kept is got
-pub get_takes : {S : Type 0} (remaining contents : S → Option (List ℕ)) (told : Option (List ℕ) → Option (List ℕ) → List ℕ → Type 0) (o n : S) (kept : List Sent) (id : ℕ) (answer : Answer) (text : List ℕ)
+pub get_takes : {S : Type 0} (remaining contents : S → Option (List ℕ)) (told : Option (List ℕ) → Option (List ℕ) → List ℕ
+    → Type 0) (o n : S) (kept : List Sent) (id : ℕ) (answer : Answer) (text : List ℕ)
     → id < 2 ^ 64 → Serves kept (Get id) answer kept → text ≡ answer_frame id answer
     → Consumes (remaining o) (remaining o) [] → told (contents o) (contents n) text → TakesOn remaining contents told (head get_kind id 0) o kept kept n
-get_takes remaining contents told o n kept id answer text fits serves same none wrote =
-    (record { request = Get id; answer = answer }, [], o, fits, sym (append-nil (head get_kind id 0)), none, serves, subst (λ f. told (contents o) (contents n) f) same wrote)
+get_takes remaining contents told o n kept id answer text fits serves same none wrote = (
+  record { request = Get id; answer = answer },
+  [],
+  o,
+  fits,
+  sym (append-nil (head get_kind id 0)),
+  none,
+  serves,
+  subst (λ f. told (contents o) (contents n) f) same wrote,
+)
 
-pub forget_takes : {S : Type 0} (remaining contents : S → Option (List ℕ)) (told : Option (List ℕ) → Option (List ℕ) → List ℕ → Type 0) (o n : S) (kept after : List Sent) (id : ℕ) (answer : Answer) (text : List ℕ)
+pub forget_takes : {S : Type 0} (remaining contents : S → Option (List ℕ)) (told : Option (List ℕ) → Option (List ℕ) → List ℕ
+    → Type 0) (o n : S) (kept after : List Sent) (id : ℕ) (answer : Answer) (text : List ℕ)
     → id < 2 ^ 64 → Serves kept (Forget id) answer after → text ≡ answer_frame id answer
     → Consumes (remaining o) (remaining o) [] → told (contents o) (contents n) text → TakesOn remaining contents told (head forget_kind id 0) o kept after n
-forget_takes remaining contents told o n kept after id answer text fits serves same none wrote =
-    (record { request = Forget id; answer = answer }, [], o, fits, sym (append-nil (head forget_kind id 0)), none, serves, subst (λ f. told (contents o) (contents n) f) same wrote)
+forget_takes remaining contents told o n kept after id answer text fits serves same none wrote = (
+  record { request = Forget id; answer = answer },
+  [],
+  o,
+  fits,
+  sym (append-nil (head forget_kind id 0)),
+  none,
+  serves,
+  subst (λ f. told (contents o) (contents n) f) same wrote,
+)
 
 pub consumes_nothing : (known : Option (List ℕ)) → Consumes known known []
 consumes_nothing None = tt
@@ -100,7 +132,8 @@ malformed remaining contents o kept after kind id count is wrong =
     ([], consumes_nothing (remaining o), inl (kind, id, count, is, wrong, append-nil (head kind id count)))
 
 -- a request that came, whole
-pub takes_whole : {S : Type 0} (remaining contents : S → Option (List ℕ)) (told : Option (List ℕ) → Option (List ℕ) → List ℕ → Type 0) (o n : S) (kept after : List Sent)
+pub takes_whole : {S : Type 0} (remaining contents : S → Option (List ℕ)) (told : Option (List ℕ) → Option (List ℕ) → List ℕ
+    → Type 0) (o n : S) (kept after : List Sent)
     → TakesOn remaining contents told [] o kept after n → (turn : Turn) × Takes remaining contents told o kept turn after n
 takes_whole remaining contents told o n kept after t =
     (t.0, (t.2, t.3, subst (λ f. Consumes (remaining o) (remaining t.2) f) (sym t.4) t.5, t.6, t.7))
@@ -115,32 +148,43 @@ ends_unanswered remaining contents turns o n kept after Io (inr t) =
 ends_unanswered remaining contents turns o n kept after Damaged t = absurd t
 
 -- an answer was written, or a part of it
-pub put_served : {S : Type 0} (remaining contents : S → Option (List ℕ)) (o m n : S) (kept after : List Sent) (id count : ℕ) (s : Status) (text : List ℕ) (result : Result ⊤ StreamFault)
+pub put_served : {S : Type 0} (remaining contents : S
+    → Option (List ℕ)) (o m n : S) (kept after : List Sent) (id count : ℕ) (s : Status) (text : List ℕ) (result : Result ⊤ StreamFault)
     → id < 2 ^ 64 → 0 < count → count ≤ payload_limit → PutTaken (remaining o) (remaining m) kept id count s after → text ≡ head (status_number s) id 0
     → OnOk result (Appends (contents m) (contents n) text) → IfErr result (λ fault. (fault ≡ Io) × AppendsPart (contents m) (contents n) text)
     → ServesOn remaining contents (head put_kind id count) o kept result after n
 put_served remaining contents o m n kept after id count s text (Ok done) fits some most taken is ok err =
     put_takes remaining contents Appends o m n kept after id count s fits some most taken (subst (λ f. Appends (contents m) (contents n) f) is ok)
 put_served remaining contents o m n kept after id count s text (Err Io) fits some most taken is ok err =
-    inr (after, put_takes remaining contents AppendsPart o m n kept after id count s fits some most taken (subst (λ f. AppendsPart (contents m) (contents n) f) is err.1))
+    inr (
+      after,
+      put_takes remaining contents AppendsPart o m n kept after id count s fits some most taken
+          (subst (λ f. AppendsPart (contents m) (contents n) f) is err.1),
+    )
 put_served remaining contents o m n kept after id count s text (Err Damaged) fits some most taken is ok err = absurd (let e : Damaged ≡ Io = err.0 in cc)
 put_served remaining contents o m n kept after id count s text (Err Protocol) fits some most taken is ok err = absurd (let e : Protocol ≡ Io = err.0 in cc)
 
-pub get_served : {S : Type 0} (remaining contents : S → Option (List ℕ)) (o n : S) (kept : List Sent) (id : ℕ) (answer : Answer) (text : List ℕ) (result : Result ⊤ StreamFault)
+pub get_served : {S : Type 0} (remaining contents : S
+    → Option (List ℕ)) (o n : S) (kept : List Sent) (id : ℕ) (answer : Answer) (text : List ℕ) (result : Result ⊤ StreamFault)
     → id < 2 ^ 64 → Serves kept (Get id) answer kept → text ≡ answer_frame id answer
     → OnOk result (Appends (contents o) (contents n) text) → IfErr result (λ fault. (fault ≡ Io) × AppendsPart (contents o) (contents n) text)
     → ServesOn remaining contents (head get_kind id 0) o kept result kept n
-get_served remaining contents o n kept id answer text (Ok done) fits serves is ok err = get_takes remaining contents Appends o n kept id answer text fits serves is (consumes_nothing (remaining o)) ok
-get_served remaining contents o n kept id answer text (Err Io) fits serves is ok err = inr (kept, get_takes remaining contents AppendsPart o n kept id answer text fits serves is (consumes_nothing (remaining o)) err.1)
+get_served remaining contents o n kept id answer text (Ok done) fits serves is ok err =
+    get_takes remaining contents Appends o n kept id answer text fits serves is (consumes_nothing (remaining o)) ok
+get_served remaining contents o n kept id answer text (Err Io) fits serves is ok err =
+    inr (kept, get_takes remaining contents AppendsPart o n kept id answer text fits serves is (consumes_nothing (remaining o)) err.1)
 get_served remaining contents o n kept id answer text (Err Damaged) fits serves is ok err = absurd (let e : Damaged ≡ Io = err.0 in cc)
 get_served remaining contents o n kept id answer text (Err Protocol) fits serves is ok err = absurd (let e : Protocol ≡ Io = err.0 in cc)
 
-pub forget_served : {S : Type 0} (remaining contents : S → Option (List ℕ)) (o n : S) (kept after : List Sent) (id : ℕ) (answer : Answer) (text : List ℕ) (result : Result ⊤ StreamFault)
+pub forget_served : {S : Type 0} (remaining contents : S
+    → Option (List ℕ)) (o n : S) (kept after : List Sent) (id : ℕ) (answer : Answer) (text : List ℕ) (result : Result ⊤ StreamFault)
     → id < 2 ^ 64 → Serves kept (Forget id) answer after → text ≡ answer_frame id answer
     → OnOk result (Appends (contents o) (contents n) text) → IfErr result (λ fault. (fault ≡ Io) × AppendsPart (contents o) (contents n) text)
     → ServesOn remaining contents (head forget_kind id 0) o kept result after n
-forget_served remaining contents o n kept after id answer text (Ok done) fits serves is ok err = forget_takes remaining contents Appends o n kept after id answer text fits serves is (consumes_nothing (remaining o)) ok
-forget_served remaining contents o n kept after id answer text (Err Io) fits serves is ok err = inr (after, forget_takes remaining contents AppendsPart o n kept after id answer text fits serves is (consumes_nothing (remaining o)) err.1)
+forget_served remaining contents o n kept after id answer text (Ok done) fits serves is ok err =
+    forget_takes remaining contents Appends o n kept after id answer text fits serves is (consumes_nothing (remaining o)) ok
+forget_served remaining contents o n kept after id answer text (Err Io) fits serves is ok err =
+    inr (after, forget_takes remaining contents AppendsPart o n kept after id answer text fits serves is (consumes_nothing (remaining o)) err.1)
 forget_served remaining contents o n kept after id answer text (Err Damaged) fits serves is ok err = absurd (let e : Damaged ≡ Io = err.0 in cc)
 forget_served remaining contents o n kept after id answer text (Err Protocol) fits serves is ok err = absurd (let e : Protocol ≡ Io = err.0 in cc)
 

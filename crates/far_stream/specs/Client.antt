@@ -38,7 +38,8 @@ Counts old (Ok answer) new = (new.broken ≡ old.broken) × (new.faults ≡ old.
 Counts old (Err fault) new = (new.broken ≡ broken_by old.broken fault) × (new.faults ≡ capped (old.faults + 1))
 
 -- The request was written, all of it, and then this was heard; or the writer took the first of it and failed.
-abbrev pub Talks : {S : Type 0} → (S → Option (List ℕ)) → (S → Option (List ℕ)) → S → List ℕ → (Option (List ℕ) → Option (List ℕ) → Type 0) → Type 0 → S → Type 0
+abbrev pub Talks : {S : Type 0} → (S → Option (List ℕ)) → (S → Option (List ℕ)) → S → List ℕ
+    → (Option (List ℕ) → Option (List ℕ) → Type 0) → Type 0 → S → Type 0
 Talks {S} remaining contents old request heard failed new =
     ((mid : S) × Appends (contents old) (contents mid) request × heard (remaining mid) (remaining new))
     ⊎ (failed × AppendsPart (contents old) (contents new) request)

@@ -14,8 +14,10 @@ pub record Turn : Type 0 where
   pub answer : Answer
 
 -- The request came, whole, and had this answer; how the answer was written is `told`, over what the stream held before and holds after.
-abbrev pub Takes : {S : Type 0} → (S → Option (List ℕ)) → (S → Option (List ℕ)) → (Option (List ℕ) → Option (List ℕ) → List ℕ → Type 0) → S → List Sent → Turn → List Sent → S → Type 0
-Takes {S} remaining contents told old kept turn after new = (asked : S) × IsRequest turn.request × Consumes (remaining old) (remaining asked) (request_frame turn.request)
+abbrev pub Takes : {S : Type 0} → (S → Option (List ℕ)) → (S → Option (List ℕ)) → (Option (List ℕ) → Option (List ℕ) → List ℕ → Type 0) → S → List Sent
+    → Turn → List Sent → S → Type 0
+Takes {S} remaining contents told old kept turn after new = (asked : S) × IsRequest turn.request
+    × Consumes (remaining old) (remaining asked) (request_frame turn.request)
     × Serves kept turn.request turn.answer after × told (contents asked) (contents new) (answer_frame (id_of turn.request) turn.answer)
 
 -- these turns, one after the other, each request answered before the next was read

@@ -23,7 +23,8 @@ HearsRefusal id before after = Consumes before after (head refused_id id 0) ⊎ 
 
 -- a head came that no answer to this request may have
 abbrev pub HearsOther : ℕ → ℕ → Option (List ℕ) → Option (List ℕ) → Type 0
-HearsOther id most before after = (status other count : ℕ) × IsHead status other count × (IsProper id most status other count → ⊥) × Consumes before after (head status other count)
+HearsOther id most before after = (status other count : ℕ) × IsHead status other count × (IsProper id most status other count → ⊥)
+    × Consumes before after (head status other count)
 
 -- what the head of an answer says, where so many bytes may come with it: how many do
 abbrev pub HearsHead : ℕ → ℕ → Option (List ℕ) → Option (List ℕ) → Result ℕ StoreFault → Type 0
@@ -56,10 +57,13 @@ ForgetHears id before after (Err Memory) = ⊥
 abbrev pub IsDamaged : List ℕ → List ℕ → Type 0
 IsDamaged sent bytes = (length bytes ≢ length sent) ⊎ (sha256 bytes ≢ sha256 sent)
 
--- What a get may answer: bytes of the length and the SHA-256 of those that were put; else why not. An answer is read to its end, also where its bytes are dropped, unless the reader fails or ends before.
+-- What a get may answer: bytes of the length and the SHA-256 of those that were put; else why not. An answer is read to its
+-- end, also where its bytes are dropped, unless the reader fails or ends before.
 abbrev pub GetHears : Sent → Option (List ℕ) → Option (List ℕ) → Result (List ℕ) StoreFault → Type 0
-GetHears sent before after (Ok bytes) = Consumes before after (frame done sent.id bytes) × (length bytes ≡ length sent.bytes) × (sha256 bytes ≡ sha256 sent.bytes)
-GetHears sent before after (Err Damaged) = (bytes : List ℕ) × Consumes before after (frame done sent.id bytes) × (length bytes ≤ payload_limit) × IsDamaged sent.bytes bytes
+GetHears sent before after (Ok bytes) = Consumes before after (frame done sent.id bytes) × (length bytes ≡ length sent.bytes)
+    × (sha256 bytes ≡ sha256 sent.bytes)
+GetHears sent before after (Err Damaged) = (bytes : List ℕ) × Consumes before after (frame done sent.id bytes)
+    × (length bytes ≤ payload_limit) × IsDamaged sent.bytes bytes
 GetHears sent before after (Err Memory) = (bytes : List ℕ) × Consumes before after (frame done sent.id bytes) × (length bytes ≡ length sent.bytes)
 GetHears sent before after (Err Refused) = HearsRefusal sent.id before after
 GetHears sent before after (Err Protocol) = HearsOther sent.id payload_limit before after

@@ -19,9 +19,12 @@ status_answer status.RefusedId = RefusedId
 status_answer status.NoRoom = NoRoom
 
 -- the rest of the request comes, and it is answered
-abbrev pub TakesOn : {S : Type 0} → (S → Option (List ℕ)) → (S → Option (List ℕ)) → (Option (List ℕ) → Option (List ℕ) → List ℕ → Type 0) → List ℕ → S → List Sent → List Sent → S → Type 0
-TakesOn {S} remaining contents told came old kept after new = (turn : Turn) × (rest : List ℕ) × (asked : S) × IsRequest turn.request × (request_frame turn.request ≡ came ++ rest)
-    × Consumes (remaining old) (remaining asked) rest × Serves kept turn.request turn.answer after × told (contents asked) (contents new) (answer_frame (id_of turn.request) turn.answer)
+abbrev pub TakesOn : {S : Type 0} → (S → Option (List ℕ)) → (S → Option (List ℕ)) → (Option (List ℕ) → Option (List ℕ) → List ℕ → Type 0) → List ℕ → S
+    → List Sent → List Sent → S → Type 0
+TakesOn {S} remaining contents told came old kept after new = (turn : Turn) × (rest : List ℕ) × (asked : S) × IsRequest turn.request
+    × (request_frame turn.request ≡ came ++ rest)
+    × Consumes (remaining old) (remaining asked) rest × Serves kept turn.request turn.answer after
+    × told (contents asked) (contents new) (answer_frame (id_of turn.request) turn.answer)
 
 -- the rest is no request, or the input ends within it
 abbrev pub EndsWrongOn : {S : Type 0} → (S → Option (List ℕ)) → List ℕ → S → S → Type 0
@@ -42,7 +45,8 @@ ServesOn remaining contents came old kept (Err Damaged) after new = ⊥
 
 -- the bytes of a put came, and this became of them
 abbrev pub PutTaken : Option (List ℕ) → Option (List ℕ) → List Sent → ℕ → ℕ → Status → List Sent → Type 0
-PutTaken before after kept id count status left = (bytes : List ℕ) × (length bytes ≡ count) × Consumes before after bytes × Serves kept (Put id bytes) (status_answer status) left
+PutTaken before after kept id count status left = (bytes : List ℕ) × (length bytes ≡ count) × Consumes before after bytes
+    × Serves kept (Put id bytes) (status_answer status) left
 
 -- an id is kept no more
 abbrev pub Forgotten : List Sent → ℕ → Status → List Sent → Type 0

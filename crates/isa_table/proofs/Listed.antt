@@ -1,10 +1,12 @@
 -- The list of rows has each row once.
-use Rattle.std.proofs.Common.{◌≡◌, ◌≢◌, ℕ, zero, suc, ◌+◌, ◌*◌, ◌<◌, Bool, true, false, if◌then◌else◌, List, [], ◌∷◌, length, get_or, map, ◌&&◌, ◌==◌, refl, ap, sym, ◌∙◌, arith, pos}
+use Rattle.std.proofs.Common.{◌≡◌, ◌≢◌, ℕ, zero, suc, ◌+◌, ◌*◌, ◌<◌, Bool, true, false, if◌then◌else◌, List, [], ◌∷◌, length, get_or, map, ◌&&◌, ◌==◌, refl, ap}
+use Rattle.std.proofs.Common.{sym, ◌∙◌, arith, pos}
 use Rattle.std.specs.Prelude.{All, AllPairs, Contains, nat_lt, slice_index_or}
 use Rattle.std.proofs.lemmas.Bool.{eqb-true, ltb-true}
 use Rattle.std.proofs.lemmas.List.{get_or-map}
 use Rattle.isa_table.specs.declared.instr.Instr.{Instr}
-use Rattle.isa_table.specs.declared.instr.Instr.TheVariants.{Alu, Neg, MovSx8, MovSx16, MovSx32, End, Jump, Ja, JaLong, CallHelper, CallLocal, Exit, Load, LoadSigned, Store, Atomic, LoadImm64}
+use Rattle.isa_table.specs.declared.instr.Instr.TheVariants.{Alu, Neg, MovSx8, MovSx16, MovSx32, End, Jump, Ja, JaLong, CallHelper, CallLocal, Exit, Load}
+use Rattle.isa_table.specs.declared.instr.Instr.TheVariants.{LoadSigned, Store, Atomic, LoadImm64}
 use Rattle.isa_table.specs.declared.instr.Binary.{Binary}
 use Rattle.isa_table.specs.declared.instr.Binary.TheVariants.{Add, Sub, Mul, Div, SDiv, Or, And, Lsh, Rsh, Mod, SMod, Xor, Mov, Arsh}
 use Rattle.isa_table.specs.declared.instr.Cond.{Cond}

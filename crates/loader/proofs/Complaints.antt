@@ -32,13 +32,16 @@ none_below_10 code n i after why.Helper lt c = absurd (omega (arith, lt))
 none_below_10 code n i after why.FallsOff lt c = absurd (omega (arith, lt))
 none_below_10 code n i after _ lt c = c
 
-pub leads_out : (code : List Instr) (n : ℕ) (i : Instr) (after : List Instr) (z : ℤ) → target n i ≡ Some z → (IsSlot code z → ⊥) → IsLeastComplaint code n i after why.JumpOut
+pub leads_out : (code : List Instr) (n : ℕ) (i : Instr) (after : List Instr) (z : ℤ) → target n i ≡ Some z → (IsSlot code z → ⊥)
+    → IsLeastComplaint code n i after why.JumpOut
 leads_out code n i after z e h = ((z, e, h), none_below_10 code n i after)
 
-no_jump_out : (code : List Instr) (n : ℕ) (i : Instr) (after : List Instr) (z : ℤ) → target n i ≡ Some z → IsSlot code z → Complains code n i after why.JumpOut → ⊥
+no_jump_out : (code : List Instr) (n : ℕ) (i : Instr) (after : List Instr) (z : ℤ) → target n i ≡ Some z → IsSlot code z
+    → Complains code n i after why.JumpOut → ⊥
 no_jump_out code n i after z e s c = c.2 (subst (λ (y : ℤ). IsSlot code y) (same_target (target n i) z c.0 e c.1) s)
 
-pub leads_inside : (code : List Instr) (n : ℕ) (i : Instr) (after : List Instr) (m : ℕ) → target n i ≡ Some (pos m) → m < slot_count code → (StartsIn code 0 m → ⊥) → IsLeastComplaint code n i after why.JumpInside
+pub leads_inside : (code : List Instr) (n : ℕ) (i : Instr) (after : List Instr) (m : ℕ) → target n i ≡ Some (pos m) → m < slot_count code
+    → (StartsIn code 0 m → ⊥) → IsLeastComplaint code n i after why.JumpInside
 leads_inside code n i after m e lt h = ((m, e, lt, h), none)
   where
     none : (v : Why) → why_number v < 11 → Complains code n i after v → ⊥
@@ -51,7 +54,8 @@ leads_inside code n i after m e lt h = ((m, e, lt, h), none)
 
 -- an instruction that leads to first slots has none of these two complaints
 
-leads_go : (code : List Instr) (n : ℕ) (i : Instr) (after : List Instr) (z : ℤ) → target n i ≡ Some z → LeadsInside code n i → (m : ℕ) × (z ≡ pos m) × StartsIn code 0 m
+leads_go : (code : List Instr) (n : ℕ) (i : Instr) (after : List Instr) (z : ℤ) → target n i ≡ Some z → LeadsInside code n i
+    → (m : ℕ) × (z ≡ pos m) × StartsIn code 0 m
 leads_go code n i after z e l = rw e at l
 
 sound_out : (code : List Instr) (n : ℕ) (i : Instr) (after : List Instr) → LeadsInside code n i → Complains code n i after why.JumpOut → ⊥
@@ -72,7 +76,8 @@ sound_has_none code n i after why.Helper s c = let e : calls_unknown_helper i �
 sound_has_none code n i after why.FallsOff s c = let e : ends_code i ≡ true = s.ends c.0 in let d : ends_code i ≡ false = c.1 in cc
 sound_has_none code n i after _ s c = c
 
-pub writes_it : (code : List Instr) (n : ℕ) (i : Instr) (after : List Instr) → LeadsInside code n i → writes_r10 i ≡ true → IsLeastComplaint code n i after why.WritesR10
+pub writes_it : (code : List Instr) (n : ℕ) (i : Instr) (after : List Instr) → LeadsInside code n i → writes_r10 i ≡ true
+    → IsLeastComplaint code n i after why.WritesR10
 writes_it code n i after l w = (w, none)
   where
     none : (v : Why) → why_number v < 12 → Complains code n i after v → ⊥
@@ -83,7 +88,8 @@ writes_it code n i after l w = (w, none)
     none why.FallsOff b c = absurd (omega (arith, b))
     none _ b c = c
 
-pub calls_missing : (code : List Instr) (n : ℕ) (i : Instr) (after : List Instr) → LeadsInside code n i → writes_r10 i ≡ false → calls_unknown_helper i ≡ true → IsLeastComplaint code n i after why.Helper
+pub calls_missing : (code : List Instr) (n : ℕ) (i : Instr) (after : List Instr) → LeadsInside code n i → writes_r10 i ≡ false
+    → calls_unknown_helper i ≡ true → IsLeastComplaint code n i after why.Helper
 calls_missing code n i after l w h = (h, none)
   where
     none : (v : Why) → why_number v < 13 → Complains code n i after v → ⊥
@@ -94,7 +100,8 @@ calls_missing code n i after l w h = (h, none)
     none why.FallsOff b c = absurd (omega (arith, b))
     none _ b c = c
 
-pub falls_off : (code : List Instr) (n : ℕ) (i : Instr) (after : List Instr) → LeadsInside code n i → writes_r10 i ≡ false → calls_unknown_helper i ≡ false → after ≡ [] → ends_code i ≡ false → IsLeastComplaint code n i after why.FallsOff
+pub falls_off : (code : List Instr) (n : ℕ) (i : Instr) (after : List Instr) → LeadsInside code n i → writes_r10 i ≡ false → calls_unknown_helper i ≡ false
+    → after ≡ [] → ends_code i ≡ false → IsLeastComplaint code n i after why.FallsOff
 falls_off code n i after l w h last goes_on = ((last, goes_on), none)
   where
     none : (v : Why) → why_number v < 14 → Complains code n i after v → ⊥

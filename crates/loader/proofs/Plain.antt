@@ -5,7 +5,8 @@ use Rattle.isa_table.specs.Slots.{slots}
 use Rattle.loader.specs.Instructions.{IsPlain, IsPlainSome}
 use Rattle.loader.specs.ValidCode.{IsSound}
 
-pub plain_sound : (code : List Instr) (n : ℕ) (i : Instr) (after : List Instr) (count : ℕ) → IsPlain i → (after ≡ [] ↔ (n + slots i ≡ count)) → n + 1 < count → IsSound code n i after
+pub plain_sound : (code : List Instr) (n : ℕ) (i : Instr) (after : List Instr) (count : ℕ) → IsPlain i → (after ≡ [] ↔ (n + slots i ≡ count))
+    → n + 1 < count → IsSound code n i after
 plain_sound code n i after count p last lt = record {
   leads = rw (p.0 n) tt;
   keeps_r10 = p.1;

@@ -67,7 +67,8 @@ fn slot_of(number: i64, count: usize) -> Option<usize>
 fn jump_complaint(entries: &[CodeEntry], slot: usize, instr: Instr) -> Option<Why>
     requires short { 8 * length entries.now ≤ code_limit }
     requires room { 8 * slot < code_limit }
-    ensures { (code after : List Instr) → entries.now ≡ all_entries code → MatchOption result (LeadsInside code slot instr) (λ why. IsLeastComplaint code slot instr after why) }
+    ensures { (code after : List Instr) → entries.now ≡ all_entries code
+        → MatchOption result (LeadsInside code slot instr) (λ why. IsLeastComplaint code slot instr after why) }
 {
     let Some(to) = target_of(slot, instr) else {
         return None;
@@ -85,7 +86,8 @@ fn jump_complaint(entries: &[CodeEntry], slot: usize, instr: Instr) -> Option<Wh
 fn complaint(entries: &[CodeEntry], slot: usize, instr: Instr) -> Option<Why>
     requires short { 8 * length entries.now ≤ code_limit }
     requires room { 8 * slot < code_limit }
-    ensures { (code after : List Instr) → entries.now ≡ all_entries code → (after ≡ []) ↔ (slot + slots instr ≡ length entries.now) → MatchOption result (IsSound code slot instr after) (λ why. IsLeastComplaint code slot instr after why) }
+    ensures { (code after : List Instr) → entries.now ≡ all_entries code → (after ≡ []) ↔ (slot + slots instr ≡ length entries.now)
+        → MatchOption result (IsSound code slot instr after) (λ why. IsLeastComplaint code slot instr after why) }
 {
     if let Some(why) = jump_complaint(entries, slot, instr) {
         return Some(why);

@@ -1,5 +1,6 @@
 -- A machine is told of nothing, and writes nothing, but what it was granted.
-use Rattle.std.proofs.Common.{◌≡◌, ◌≢◌, ℕ, Bool, true, false, cond, nat_eq, not, ◌||◌, ◌&&◌, List, [], ◌∷◌, length, Option, Some, None, refl, ap, sym, ◌∙◌, subst, inl, inr, arith}
+use Rattle.std.proofs.Common.{◌≡◌, ◌≢◌, ℕ, Bool, true, false, cond, nat_eq, not, ◌||◌, ◌&&◌, List, [], ◌∷◌, length, Option, Some, None, refl, ap, sym, ◌∙◌}
+use Rattle.std.proofs.Common.{subst, inl, inr, arith}
 use Rattle.std.specs.List.{list_any}
 use Rattle.std.proofs.lemmas.Bool.Decides.{nat_tests}
 use Rattle.isa_table.specs.declared.instr.Reg.TheVariants.{R1}
@@ -27,7 +28,8 @@ use Rattle.machine.specs.Rows.{Work}
 use Rattle.machine.specs.Rows.Work.{Computes, AccessesStack, Accesses, Measures}
 use Rattle.machine.specs.Grants.{GrantState, is_granted, is_listed, is_object_number, is_writing}
 use Rattle.machine.specs.MachineState.{MachineState, stack_size}
-use Rattle.machine.specs.Rows.{Request, MemoryAnswer, Outcome, read, asks, asks_for, told_for, told_own, told_call, exits, work_of, call_work, stop_before, is_aligned, is_too_deep, is_granted_work}
+use Rattle.machine.specs.Rows.{Request, MemoryAnswer, Outcome, read, asks, asks_for, told_for, told_own, told_call, exits, work_of, call_work, stop_before}
+use Rattle.machine.specs.Rows.{is_aligned, is_too_deep, is_granted_work}
 use Rattle.machine.specs.Rows.Request.{Nothing, Touch, Measure}
 use Rattle.machine.specs.Rows.MemoryAnswer.{NoAnswer, Reached, Measured}
 use Rattle.machine.specs.TableStep.{TableStep, AnswersRequest, Closes, StepsFrom}
@@ -56,7 +58,8 @@ call_allowed : (h : Option Helper) (m : MachineState) → Allowed m.grants (asks
 call_allowed (Some Length) m = measured m.grants (read m.registers R1) _ refl
 call_allowed _ m = tt
 
-access_allowed : (g : GrantState) (own : Bool) (x : Accessing) → is_granted_work g (cond own (AccessesStack x) (Accesses x)) ≡ true → Allowed g (asks_for (cond own (AccessesStack x) (Accesses x)))
+access_allowed : (g : GrantState) (own : Bool) (x : Accessing) → is_granted_work g (cond own (AccessesStack x) (Accesses x)) ≡ true
+    → Allowed g (asks_for (cond own (AccessesStack x) (Accesses x)))
 access_allowed g true x e = tt
 access_allowed g false x e = e
 
@@ -98,12 +101,14 @@ either_number {P} k n f g = elim (nat_eq k n) as (λ b. nat_eq k n ≡ b → P) 
   | false ↦ λ e. g (grind (arith, nat_tests))
 ] refl
 
-touched : (a b mid nid : List (List ℕ)) (n k : ℕ) (op : Op) (r s : Reach) → bytes_of a n ≡ bytes_of b n → IsInside op (length (bytes_of a n)) → IsInside op (length (bytes_of b n))
+touched : (a b mid nid : List (List ℕ)) (n k : ℕ) (op : Op) (r s : Reach) → bytes_of a n ≡ bytes_of b n → IsInside op (length (bytes_of a n))
+    → IsInside op (length (bytes_of b n))
     → mid ≡ with_bytes a n (after op (bytes_of a n)) → nid ≡ with_bytes b n (after op (bytes_of b n))
     → map_memory.reaches a n op r mid → map_memory.reaches b n op s nid → (k ≢ n → bytes_of a k ≡ bytes_of b k) → bytes_of mid k ≡ bytes_of nid k
 touched a b mid nid n k op r s e i j f h p q o = either_number k n
     (λ (t : k ≡ n). subst (λ l. bytes_of mid l ≡ bytes_of nid l) (sym t)
-    (ap (λ (x : List (List ℕ)). bytes_of x n) f ∙ accesses.bytes_accessed a n op i ∙ ap (after op) e ∙ sym (ap (λ (x : List (List ℕ)). bytes_of x n) h ∙ accesses.bytes_accessed b n op j)))
+    (ap (λ (x : List (List ℕ)). bytes_of x n) f ∙ accesses.bytes_accessed a n op i ∙ ap (after op) e
+    ∙ sym (ap (λ (x : List (List ℕ)). bytes_of x n) h ∙ accesses.bytes_accessed b n op j)))
     (λ t. accesses.others a mid n k op r p t ∙ o t ∙ sym (accesses.others b nid n k op s q t))
 
 abbrev Confined : GrantState → Request → List (List ℕ) → List (List ℕ) → MemoryAnswer → Type 0
@@ -137,14 +142,26 @@ answer_confined g (Touch n op) before other mid _ l agree h = absurd h
 abbrev ConfinedFrom : MachineState → Outcome → List (List ℕ) → List (List ℕ) → Type 0
 ConfinedFrom old o other mid = (nid : List (List ℕ)) × StepsFrom old.stop map_memory old other o nid × Agree old.grants mid nid
 
-case_confined : (old : MachineState) (before other mid : List (List ℕ)) (o : Outcome) → Agree old.grants before other → StepCase map_memory old before o mid → ConfinedFrom old o other mid
-case_confined old before other mid o agree (inl d) =
-    (other, subst (λ (p : Outcome). StepsFrom old.stop map_memory old other p other) (sym d.becomes) (steps_stayed map_memory old.stop d.stop old other d.stopped), unchanged old.grants before other mid agree d.same)
-case_confined old before other mid o agree (inr (inl d)) =
-    (other, subst (λ (p : Outcome). StepsFrom old.stop map_memory old other p other) (sym d.becomes) (d.again other), unchanged old.grants before other mid agree d.same)
+case_confined : (old : MachineState) (before other mid : List (List ℕ)) (o : Outcome) → Agree old.grants before other → StepCase map_memory old before o mid
+    → ConfinedFrom old o other mid
+case_confined old before other mid o agree (inl d) = (
+  other,
+  subst (λ (p : Outcome). StepsFrom old.stop map_memory old other p other) (sym d.becomes)
+      (steps_stayed map_memory old.stop d.stop old other d.stopped),
+  unchanged old.grants before other mid agree d.same,
+)
+case_confined old before other mid o agree (inr (inl d)) = (
+  other,
+  subst (λ (p : Outcome). StepsFrom old.stop map_memory old other p other) (sym d.becomes) (d.again other),
+  unchanged old.grants before other mid agree d.same,
+)
 case_confined old before other mid o agree (inr (inr d)) =
-    let a = answer_confined old.grants (asks d.instr old) before other mid d.said (allowed d.instr old d.attempts.free) agree d.answers in
-    (a.0, subst (λ (p : Outcome). StepsFrom old.stop map_memory old other p a.0) (sym d.becomes) (steps_told map_memory d.instr old other a.0 d.said d.attempts a.1), a.2)
+    let a = answer_confined old.grants (asks d.instr old) before other mid d.said (allowed d.instr old d.attempts.free) agree d.answers in (
+      a.0,
+      subst (λ (p : Outcome). StepsFrom old.stop map_memory old other p a.0) (sym d.becomes)
+          (steps_told map_memory d.instr old other a.0 d.said d.attempts a.1),
+      a.2,
+    )
 
 closed_map : (b : Bool) (x : List (List ℕ)) → Closes b map_memory x x
 closed_map true x = refl
@@ -183,7 +200,8 @@ case_keeps mem old before mid o (inl d) = ap (λ (x : Outcome). x.machine.grants
 case_keeps mem old before mid o (inr (inl d)) = ap (λ (x : Outcome). x.machine.grants) d.becomes
 case_keeps mem old before mid o (inr (inr d)) = ap (λ (x : Outcome). x.machine.grants) d.becomes ∙ told_keeps (work_of d.instr old) d.instr old d.said
 
-pub keeps : {M : Type 0} (mem : Memories M) (old new : MachineState) (before after : M) (a : Stepped) → TableStep mem old before a new after → new.grants ≡ old.grants
+pub keeps : {M : Type 0} (mem : Memories M) (old new : MachineState) (before after : M) (a : Stepped)
+    → TableStep mem old before a new after → new.grants ≡ old.grants
 keeps mem old new before after a t = case_keeps mem old before t.mid _ (step_case mem old.stop old before _ t.mid refl t.steps)
 
 pub step_is_confined : StepIsConfined
@@ -212,7 +230,8 @@ kept_bytes (action.Atomic width op src r0) offset bytes e = absurd (cc)
 not_both : {P : Type 0} (b : Bool) → b ≡ true → b ≡ false → P
 not_both b e f = let k : true ≡ false = sym e ∙ f in absurd (cc)
 
-touch_protects : (g : GrantState) (n k : ℕ) (op : Op) (r : Reach) (before mid : List (List ℕ)) (w : Bool) → is_writing op.action ≡ w → is_granted g w n ≡ true → is_granted g true k ≡ false
+touch_protects : (g : GrantState) (n k : ℕ) (op : Op) (r : Reach) (before mid : List (List ℕ)) (w : Bool) → is_writing op.action ≡ w
+    → is_granted g w n ≡ true → is_granted g true k ≡ false
     → map_memory.reaches before n op r mid → bytes_of mid k ≡ bytes_of before k
 touch_protects g n k op reach.Outside before mid w e l p h = ap (λ (x : List (List ℕ)). bytes_of x k) h.1
 touch_protects g n k op (reach.Done v) before mid true e l p h =
@@ -232,12 +251,15 @@ answer_protects g Nothing k before mid _ l p h = absurd h
 answer_protects g (Measure n) k before mid _ l p h = absurd h
 answer_protects g (Touch n op) k before mid _ l p h = absurd h
 
-case_protects : (old : MachineState) (k : ℕ) (before mid : List (List ℕ)) (o : Outcome) → is_granted old.grants true k ≡ false → StepCase map_memory old before o mid → bytes_of mid k ≡ bytes_of before k
+case_protects : (old : MachineState) (k : ℕ) (before mid : List (List ℕ)) (o : Outcome) → is_granted old.grants true k ≡ false
+    → StepCase map_memory old before o mid → bytes_of mid k ≡ bytes_of before k
 case_protects old k before mid o p (inl d) = ap (λ (x : List (List ℕ)). bytes_of x k) d.same
 case_protects old k before mid o p (inr (inl d)) = ap (λ (x : List (List ℕ)). bytes_of x k) d.same
-case_protects old k before mid o p (inr (inr d)) = answer_protects old.grants (asks d.instr old) k before mid d.said (allowed d.instr old d.attempts.free) p d.answers
+case_protects old k before mid o p (inr (inr d)) =
+    answer_protects old.grants (asks d.instr old) k before mid d.said (allowed d.instr old d.attempts.free) p d.answers
 
-step_protects : (old new : MachineState) (before after : List (List ℕ)) (a : Stepped) (k : ℕ) → is_granted old.grants true k ≡ false → TableStep map_memory old before a new after → bytes_of after k ≡ bytes_of before k
+step_protects : (old new : MachineState) (before after : List (List ℕ)) (a : Stepped) (k : ℕ) → is_granted old.grants true k ≡ false
+    → TableStep map_memory old before a new after → bytes_of after k ≡ bytes_of before k
 step_protects old new before after a k p t =
     ap (λ (x : List (List ℕ)). bytes_of x k) (map_closes t.closes t.mid after t.closed)
     ∙ case_protects old k before t.mid _ p (step_case map_memory old.stop old before _ t.mid refl t.steps)

@@ -7,7 +7,8 @@ use Rattle.machine.specs.Grants.{GrantState, is_granted, is_writing}
 use Rattle.machine.specs.Rows.{access_work, is_granted_work}
 use Rattle.machine.specs.Rows.Work.{AccessesStack, Accesses}
 
-by_number : (own : Bool) (g : GrantState) (x : Accessing) → nat_eq x.number own_stack ≡ own → is_granted g (is_writing x.op.action) x.number ≡ is_granted_work g (cond own (AccessesStack x) (Accesses x))
+by_number : (own : Bool) (g : GrantState) (x : Accessing) → nat_eq x.number own_stack ≡ own
+    → is_granted g (is_writing x.op.action) x.number ≡ is_granted_work g (cond own (AccessesStack x) (Accesses x))
 by_number true g x e = let same : x.number ≡ own_stack = grind (arith, nat_tests) in subst (λ n. is_granted g (is_writing x.op.action) n ≡ true) (sym same) refl
 by_number false g x e = refl
 

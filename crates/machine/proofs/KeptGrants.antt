@@ -20,13 +20,15 @@ none_in [] k = refl
 none_in (more ∷ kept) k = rw k.0 (none_in kept k.1)
 
 -- one grant more is kept behind the others
-pub one_kept : (count : ℕ) (kept : List Grant) (more : Grant) → AreKept count kept → count < length kept → nat_eq more.number 0 ≡ false → AreKept (suc count) (slice_set kept count more)
+pub one_kept : (count : ℕ) (kept : List Grant) (more : Grant) → AreKept count kept → count < length kept → nat_eq more.number 0 ≡ false
+    → AreKept (suc count) (slice_set kept count more)
 one_kept zero [] more k l n = absurd (omega (arith, l))
 one_kept (suc count) [] more k l n = absurd k
 one_kept zero (first ∷ kept) more k l n = (n, k.1)
 one_kept (suc count) (first ∷ kept) more k l n = (k.0, one_kept count kept more k.1 (omega (arith, l)) n)
 
-pub one_more : (count : ℕ) (kept : List Grant) (more : Grant) → AreKept count kept → count < length kept → nat_eq more.number 0 ≡ false → grants_in (slice_set kept count more) ≡ grants_in kept ++ more ∷ []
+pub one_more : (count : ℕ) (kept : List Grant) (more : Grant) → AreKept count kept → count < length kept → nat_eq more.number 0 ≡ false
+    → grants_in (slice_set kept count more) ≡ grants_in kept ++ more ∷ []
 one_more zero [] more k l n = absurd (omega (arith, l))
 one_more (suc count) [] more k l n = absurd k
 one_more zero (first ∷ kept) more k l n = rw (n, k.0, none_in kept k.1) refl

@@ -64,7 +64,8 @@ closed_map false x = refl
 touch_leaves : (n k : ℕ) (op : Op) (r : Reach) (before mid : List (List ℕ)) → k ≢ n → map_memory.reaches before n op r mid → bytes_of mid k ≡ bytes_of before k
 touch_leaves n k op r before mid d h = accesses.others before mid n k op r h d
 
-answer_leaves : (q : Request) (k : ℕ) (before mid : List (List ℕ)) (a : MemoryAnswer) → ((n : ℕ) (op : Op) → q ≡ Touch n op → k ≢ n) → AnswersRequest map_memory q before a mid → bytes_of mid k ≡ bytes_of before k
+answer_leaves : (q : Request) (k : ℕ) (before mid : List (List ℕ)) (a : MemoryAnswer) → ((n : ℕ) (op : Op) → q ≡ Touch n op → k ≢ n)
+    → AnswersRequest map_memory q before a mid → bytes_of mid k ≡ bytes_of before k
 answer_leaves Nothing k before mid NoAnswer d h = ap (λ (o : List (List ℕ)). bytes_of o k) h
 answer_leaves (Touch n op) k before mid (Reached r) d h = touch_leaves n k op r before mid (d n op refl) h
 answer_leaves (Measure n) k before mid (Measured l) d h = ap (λ (o : List (List ℕ)). bytes_of o k) h.1
@@ -72,7 +73,8 @@ answer_leaves Nothing k before mid _ d h = absurd h
 answer_leaves (Touch n op) k before mid _ d h = absurd h
 answer_leaves (Measure n) k before mid _ d h = absurd h
 
-step_leaves : (n : ℕ) (old new : MachineState) (before after : List (List ℕ)) (a : Stepped) → (AccessesNext old n → ⊥) → TableStep map_memory old before a new after → bytes_of after n ≡ bytes_of before n
+step_leaves : (n : ℕ) (old new : MachineState) (before after : List (List ℕ)) (a : Stepped) → (AccessesNext old n → ⊥)
+    → TableStep map_memory old before a new after → bytes_of after n ≡ bytes_of before n
 step_leaves n old new before after a d t =
     let s = asked old (record { machine = new; answer = a; closes = t.closes }) before t.mid t.steps in
     let same = map_closes t.closes t.mid after t.closed in
@@ -91,7 +93,8 @@ record Turned (q r : Request) (a b : MemoryAnswer) (before after : List (List �
   first : AnswersRequest map_memory r before b other
   then : AnswersRequest map_memory q other a after
 
-measured_after : (q : Request) (k l : ℕ) (before mid : List (List ℕ)) (a : MemoryAnswer) → AnswersRequest map_memory q before a mid → l ≡ length (bytes_of mid k) → l ≡ length (bytes_of before k)
+measured_after : (q : Request) (k l : ℕ) (before mid : List (List ℕ)) (a : MemoryAnswer) → AnswersRequest map_memory q before a mid
+    → l ≡ length (bytes_of mid k) → l ≡ length (bytes_of before k)
 measured_after Nothing k l before mid NoAnswer h e = e ∙ ap (λ (o : List (List ℕ)). length (bytes_of o k)) h
 measured_after (Touch n op) k l before mid (Reached r) h e = e ∙ accesses.lengths before mid n k op r h
 measured_after (Measure n) k l before mid (Measured m) h e = e ∙ ap (λ (o : List (List ℕ)). length (bytes_of o k)) h.1
@@ -101,9 +104,14 @@ measured_after (Measure n) k l before mid _ h e = absurd h
 
 turned : (q r : Request) (a b : MemoryAnswer) (before mid after : List (List ℕ)) → ((n m : ℕ) (op other : Op) → q ≡ Touch n op → r ≡ Touch m other → n ≢ m)
     → AnswersRequest map_memory q before a mid → AnswersRequest map_memory r mid b after → Turned q r a b before after
-turned q Nothing a NoAnswer before mid after d h k = record { other = before; first = refl; then = subst (λ (o : List (List ℕ)). AnswersRequest map_memory q before a o) (sym k) h }
+turned q Nothing a NoAnswer before mid after d h k =
+    record { other = before; first = refl; then = subst (λ (o : List (List ℕ)). AnswersRequest map_memory q before a o) (sym k) h }
 turned q (Measure n) a (Measured l) before mid after d h k =
-    record { other = before; first = (measured_after q n l before mid a h k.0, refl); then = subst (λ (o : List (List ℕ)). AnswersRequest map_memory q before a o) (sym k.1) h }
+    record {
+      other = before;
+      first = (measured_after q n l before mid a h k.0, refl);
+      then = subst (λ (o : List (List ℕ)). AnswersRequest map_memory q before a o) (sym k.1) h;
+    }
 turned Nothing (Touch m op) NoAnswer (Reached r) before mid after d h k =
     record { other = after; first = subst (λ (o : List (List ℕ)). map_memory.reaches o m op r after) h k; then = refl }
 turned (Measure n) (Touch m op) (Measured l) (Reached r) before mid after d h k =
@@ -126,8 +134,14 @@ steps_commute p q r s before mid after a b d t u =
     let here = map_closes t.closes t.mid mid t.closed in
     let there = map_closes u.closes u.mid after u.closed in
     let begun = subst (λ (o : List (List ℕ)). AnswersRequest map_memory y.request o y.said u.mid) here y.answers in
-    let c = turned x.request y.request x.said y.said before t.mid u.mid (λ n m op other e f k. d n (x.touches n op e) (subst (λ j. AccessesNext q j) (sym k) (y.touches m other f))) x.answers begun in (
+    let c = turned x.request y.request x.said y.said before t.mid u.mid
+    (λ n m op other e f k. d n (x.touches n op e) (subst (λ j. AccessesNext q j) (sym k) (y.touches m other f))) x.answers begun in (
       c.other,
       record { closes = u.closes; mid = c.other; steps = y.again before c.other c.first; closed = closed_map u.closes c.other },
-      record { closes = t.closes; mid = after; steps = x.again c.other after (subst (λ (o : List (List ℕ)). AnswersRequest map_memory x.request c.other x.said o) (sym there) c.then); closed = closed_map t.closes after },
+      record {
+        closes = t.closes;
+        mid = after;
+        steps = x.again c.other after (subst (λ (o : List (List ℕ)). AnswersRequest map_memory x.request c.other x.said o) (sym there) c.then);
+        closed = closed_map t.closes after;
+      },
     )

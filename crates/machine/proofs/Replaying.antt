@@ -35,7 +35,8 @@ starts_as_replay lengths worn start = record { reached = start; steps = 0; fuel 
 
 -- A request that was answered so did this to the memory, and is answered so by the entries too, which these are added to. A
 -- stop adds none.
-record Recorded {M : Type 0} (mem : Memories M) (lengths : ℕ → ℕ) (worn : ℕ → Bool) (q : Request) (answer : Stepped) (es : List Entry) (before : M) (said : MemoryAnswer) (mid : M) : Type 0 where
+record Recorded {M : Type 0} (mem : Memories M) (lengths : ℕ → ℕ) (worn : ℕ
+    → Bool) (q : Request) (answer : Stepped) (es : List Entry) (before : M) (said : MemoryAnswer) (mid : M) : Type 0 where
   more : List Entry
   did : Did mem before more mid
   answers : AnswersRequest (recorded_memory lengths worn) q es said (es ++ more)
@@ -57,8 +58,10 @@ record_nothing : {M : Type 0} (mem : Memories M) (lengths : ℕ → ℕ) (worn :
     → Recorded mem lengths worn Nothing answer es before NoAnswer mid
 record_nothing mem lengths worn answer es before mid h = record { more = []; did = did_same mem before mid h; answers = append-nil es; none = λ s e. refl }
 
-record_reach : {M : Type 0} (mem : Memories M) (lengths : ℕ → ℕ) (worn : ℕ → Bool) (i : Instr) (x : Accessing) (old : MachineState) (es : List Entry) (before mid : M) (r : Reach)
-    → KeepsPromises mem → HasLengths mem before lengths → IsMarked mem mid worn → goes (told_access i x old (Reached r)).answer ≡ true → mem.reaches before x.number x.op r mid
+record_reach : {M : Type 0} (mem : Memories M) (lengths : ℕ → ℕ) (worn : ℕ
+    → Bool) (i : Instr) (x : Accessing) (old : MachineState) (es : List Entry) (before mid : M) (r : Reach)
+    → KeepsPromises mem → HasLengths mem before lengths → IsMarked mem mid worn → goes (told_access i x old (Reached r)).answer ≡ true
+    → mem.reaches before x.number x.op r mid
     → Recorded mem lengths worn (Touch x.number x.op) (told_access i x old (Reached r)).answer es before (Reached r) mid
 record_reach mem lengths worn i x old es before mid (reach.Done v) p l k g h = record {
   more = entries_added x.number x.op (reach.Done v);
@@ -81,8 +84,10 @@ record_reach mem lengths worn i x old es before mid reach.Worn p l k g h = recor
 record_reach mem lengths worn i x old es before mid reach.Away p l k g h = absurd (cc)
 record_reach mem lengths worn i x old es before mid reach.Busy p l k g h = absurd (cc)
 
-record_request : {M : Type 0} (mem : Memories M) (lengths : ℕ → ℕ) (worn : ℕ → Bool) (w : Work) (i : Instr) (old : MachineState) (es : List Entry) (before mid : M) (said : MemoryAnswer)
-    → KeepsPromises mem → HasLengths mem before lengths → IsMarked mem mid worn → goes (told_for w i old said).answer ≡ true → AnswersRequest mem (asks_for w) before said mid
+record_request : {M : Type 0} (mem : Memories M) (lengths : ℕ → ℕ) (worn : ℕ
+    → Bool) (w : Work) (i : Instr) (old : MachineState) (es : List Entry) (before mid : M) (said : MemoryAnswer)
+    → KeepsPromises mem → HasLengths mem before lengths → IsMarked mem mid worn → goes (told_for w i old said).answer ≡ true
+    → AnswersRequest mem (asks_for w) before said mid
     → Recorded mem lengths worn (asks_for w) (told_for w i old said).answer es before said mid
 record_request mem lengths worn Computes i old es before mid NoAnswer p l k g h = record_nothing mem lengths worn _ es before mid h
 record_request mem lengths worn Computes i old es before mid _ p l k g h = absurd h
@@ -108,16 +113,20 @@ closed_recorded false lengths worn es = refl
 some_none : {P : Type 0} (s : Stop) (u : Option Stop) → u ≡ Some s → u ≡ None → P
 some_none s u e f = let k : Some s ≡ None = sym e ∙ f in absurd (cc)
 
-running : (lengths : ℕ → ℕ) (worn : ℕ → Bool) (start : MachineState) (es : List Entry) (m : MachineState) (r : IsReplay lengths worn start es m) → m.stop ≡ None → Replays lengths worn r.steps start es m
+running : (lengths : ℕ → ℕ) (worn : ℕ → Bool) (start : MachineState) (es : List Entry) (m : MachineState) (r : IsReplay lengths worn start es m)
+    → m.stop ≡ None → Replays lengths worn r.steps start es m
 running lengths worn start es m r e = from r.stops
   where
     from : (m ≡ r.reached) ⊎ StopsThere lengths worn r.reached es m → Replays lengths worn r.steps start es m
     from (inl h) = subst (λ (x : MachineState). Replays lengths worn r.steps start es x) (sym h) r.replays
-    from (inr h) = some_none h.stop m.stop (ap (λ (x : MachineState). x.stop) (stops_in_place (recorded_memory lengths worn) r.reached m es es h.stop h.other h.step)) e
+    from (inr h) = some_none h.stop m.stop (ap (λ (x : MachineState). x.stop)
+        (stops_in_place (recorded_memory lengths worn) r.reached m es es h.stop h.other h.step)) e
 
 -- by a step of the same instruction over the entries
-on_step : (lengths : ℕ → ℕ) (worn : ℕ → Bool) (start old new : MachineState) (es more : List Entry) (a : Stepped) → goes a ≡ true → ((s : Stop) → a ≡ Stopped s → more ≡ [])
-    → old.stop ≡ None → IsReplay lengths worn start es old → FuelPaid a old new → TableStep (recorded_memory lengths worn) old es a new (es ++ more) → IsReplay lengths worn start (es ++ more) new
+on_step : (lengths : ℕ → ℕ) (worn : ℕ → Bool) (start old new : MachineState) (es more : List Entry) (a : Stepped) → goes a ≡ true
+    → ((s : Stop) → a ≡ Stopped s → more ≡ [])
+    → old.stop ≡ None → IsReplay lengths worn start es old → FuelPaid a old new → TableStep (recorded_memory lengths worn) old es a new (es ++ more)
+    → IsReplay lengths worn start (es ++ more) new
 on_step lengths worn start old new es more (Waiting n) g none e r f t = absurd (cc)
 on_step lengths worn start old new es more (Ran w) g none e r f t = record {
   reached = new;
@@ -143,46 +152,59 @@ on_step lengths worn start old new es more (Stopped s) g none e r f t = on_stop 
           steps = r.steps;
           fuel = omega (arith, r.fuel, k);
           replays = running lengths worn start es old r e;
-          stops = inr (record { stop = s; other = refl; step = subst (λ (l : List Entry). TableStep (recorded_memory lengths worn) old es (Stopped s) new l) same t });
+          stops = inr (record {
+            stop = s;
+            other = refl;
+            step = subst (λ (l : List Entry). TableStep (recorded_memory lengths worn) old es (Stopped s) new l) same t;
+          });
         })
 
 did_closed : {M : Type 0} (mem : Memories M) (b : Bool) (mid after : M) → KeepsPromises mem → Closes b mem mid after → Did mem mid [] after
 did_closed mem true mid after p h = p.closes mid after h
 did_closed mem false mid after p h = did_same mem mid after h
 
-unmoved : {M : Type 0} (mem : Memories M) (lengths : ℕ → ℕ) (worn : ℕ → Bool) (start old new : MachineState) (es : List Entry) (before after : M) → new ≡ old → Did mem before [] after
+unmoved : {M : Type 0} (mem : Memories M) (lengths : ℕ → ℕ) (worn : ℕ → Bool) (start old new : MachineState) (es : List Entry) (before after : M)
+    → new ≡ old → Did mem before [] after
     → IsReplay lengths worn start es old → ReplaysOn mem lengths worn start es before new after
 unmoved mem lengths worn start old new es before after e d r = record {
   more = [];
   did = d;
-  replay = subst (λ (l : List Entry). IsReplay lengths worn start l new) (sym (append-nil es)) (subst (λ (m : MachineState). IsReplay lengths worn start es m) (sym e) r);
+  replay = subst (λ (l : List Entry). IsReplay lengths worn start l new) (sym (append-nil es))
+      (subst (λ (m : MachineState). IsReplay lengths worn start es m) (sym e) r);
 }
 
 joined : {M : Type 0} (mem : Memories M) (before mid after : M) (more : List Entry) → Did mem before more mid → Did mem mid [] after → Did mem before more after
 joined mem before mid after more p q = subst (λ (l : List Entry). Did mem before l after) (append-nil more) (did_then mem before mid after more [] p q)
 
-waiting_did : {M : Type 0} (mem : Memories M) (before after : M) (n : ℕ) (op : Op) (r : Reach) → KeepsPromises mem → IsWaiting r → mem.reaches before n op r after → Did mem before [] after
+waiting_did : {M : Type 0} (mem : Memories M) (before after : M) (n : ℕ) (op : Op) (r : Reach) → KeepsPromises mem → IsWaiting r
+    → mem.reaches before n op r after → Did mem before [] after
 waiting_did mem before after n op reach.Away p w h = p.reaches before after n op reach.Away h
 waiting_did mem before after n op reach.Busy p w h = p.reaches before after n op reach.Busy h
 waiting_did mem before after n op _ p w h = absurd w
 
-pub waited_did : {M : Type 0} (mem : Memories M) → KeepsPromises mem → (old new : MachineState) (before after : M) (n : ℕ) → TableStep mem old before (Waiting n) new after → Did mem before [] after
+pub waited_did : {M : Type 0} (mem : Memories M) → KeepsPromises mem → (old new : MachineState) (before after : M) (n : ℕ)
+    → TableStep mem old before (Waiting n) new after → Did mem before [] after
 waited_did mem p old new before after n t =
     let w = waits_in_place mem old new before after n t in
     waiting_did mem before after n w.1.1 w.1.2 p w.1.6 w.1.5
 
-case_replay : {M : Type 0} (mem : Memories M) (lengths : ℕ → ℕ) (worn : ℕ → Bool) (start old new : MachineState) (es : List Entry) (before mid after : M) (a : Stepped) (closes : Bool)
-    → KeepsPromises mem → HasLengths mem before lengths → IsMarked mem mid worn → goes a ≡ true → Closes closes mem mid after → old.stop ≡ None → IsReplay lengths worn start es old → FuelPaid a old new
+case_replay : {M : Type 0} (mem : Memories M) (lengths : ℕ → ℕ) (worn : ℕ
+    → Bool) (start old new : MachineState) (es : List Entry) (before mid after : M) (a : Stepped) (closes : Bool)
+    → KeepsPromises mem → HasLengths mem before lengths → IsMarked mem mid worn → goes a ≡ true → Closes closes mem mid after → old.stop ≡ None
+    → IsReplay lengths worn start es old → FuelPaid a old new
     → StepCase mem old before (record { machine = new; answer = a; closes = closes }) mid → ReplaysOn mem lengths worn start es before new after
 case_replay mem lengths worn start old new es before mid after a closes p l k g c e r f (inl d) = some_none d.stop old.stop d.stopped e
 case_replay mem lengths worn start old new es before mid after a closes p l k g c e r f (inr (inl d)) =
     let o : Outcome = record { machine = new; answer = a; closes = closes } in
-    let steps = subst (λ (x : Outcome). StepsFrom old.stop (recorded_memory lengths worn) old es x es) (sym d.becomes) (steps_stopped (recorded_memory lengths worn) d.stop old es e d.cause) in
-    let t : TableStep (recorded_memory lengths worn) old es a new es = record { closes = closes; mid = es; steps = steps; closed = closed_recorded closes lengths worn es } in
+    let steps = subst (λ (x : Outcome). StepsFrom old.stop (recorded_memory lengths worn) old es x es) (sym d.becomes)
+    (steps_stopped (recorded_memory lengths worn) d.stop old es e d.cause) in
+    let t : TableStep (recorded_memory lengths worn) old es a new es =
+    record { closes = closes; mid = es; steps = steps; closed = closed_recorded closes lengths worn es } in
     record {
       more = [];
       did = joined mem before mid after [] (did_same mem before mid d.same) (did_closed mem closes mid after p c);
-      replay = on_step lengths worn start old new es [] a g (λ s h. refl) e r f (subst (λ (x : List Entry). TableStep (recorded_memory lengths worn) old es a new x) (sym (append-nil es)) t);
+      replay = on_step lengths worn start old new es [] a g (λ s h. refl) e r f
+          (subst (λ (x : List Entry). TableStep (recorded_memory lengths worn) old es a new x) (sym (append-nil es)) t);
     }
 case_replay mem lengths worn start old new es before mid after a closes p l k g c e r f (inr (inr d)) =
     let o : Outcome = record { machine = new; answer = a; closes = closes } in
@@ -193,21 +215,30 @@ case_replay mem lengths worn start old new es before mid after a closes p l k g 
     record {
       more = w.more;
       did = joined mem before mid after w.more w.did (did_closed mem closes mid after p c);
-      replay = on_step lengths worn start old new es w.more a g (λ s h. w.none s (same ∙ h)) e r f (record { closes = closes; mid = es ++ w.more; steps = steps; closed = closed_recorded closes lengths worn (es ++ w.more) });
+      replay = on_step lengths worn start old new es w.more a g (λ s h. w.none s (same ∙ h)) e r f (record {
+        closes = closes;
+        mid = es ++ w.more;
+        steps = steps;
+        closed = closed_recorded closes lengths worn (es ++ w.more);
+      });
     }
 
-stepped : {M : Type 0} (mem : Memories M) (lengths : ℕ → ℕ) (worn : ℕ → Bool) (start old new : MachineState) (es : List Entry) (before after : M) (a : Stepped) (u : Option Stop)
-    → KeepsPromises mem → HasLengths mem before lengths → IsMarked mem after worn → IsReplay lengths worn start es old → old.stop ≡ u → TableStep mem old before a new after → ReplaysOn mem lengths worn start es before new after
+stepped : {M : Type 0} (mem : Memories M) (lengths : ℕ → ℕ) (worn : ℕ
+    → Bool) (start old new : MachineState) (es : List Entry) (before after : M) (a : Stepped) (u : Option Stop)
+    → KeepsPromises mem → HasLengths mem before lengths → IsMarked mem after worn → IsReplay lengths worn start es old → old.stop ≡ u
+    → TableStep mem old before a new after → ReplaysOn mem lengths worn start es before new after
 stepped mem lengths worn start old new es before after a (Some s) p l k r e t =
     let h = stopped_stays mem old new before after a s e t in
     unmoved mem lengths worn start old new es before after h.1 (did_same mem before after h.2) r
 stepped mem lengths worn start old new es before after (Waiting n) None p l k r e t =
     unmoved mem lengths worn start old new es before after (waits_in_place mem old new before after n t).0 (waited_did mem p old new before after n t) r
 stepped mem lengths worn start old new es before after (Ran w) None p l k r e t =
-    case_replay mem lengths worn start old new es before t.mid after (Ran w) t.closes p l (λ n m. k n ((did_closed mem t.closes t.mid after p t.closed).worn n m)) refl t.closed e r
+    case_replay mem lengths worn start old new es before t.mid after (Ran w) t.closes p l
+    (λ n m. k n ((did_closed mem t.closes t.mid after p t.closed).worn n m)) refl t.closed e r
     (fuel_counts mem old new before after (Ran w) e t) (step_case mem old.stop old before _ t.mid refl t.steps)
 stepped mem lengths worn start old new es before after (Stopped s) None p l k r e t =
-    case_replay mem lengths worn start old new es before t.mid after (Stopped s) t.closes p l (λ n m. k n ((did_closed mem t.closes t.mid after p t.closed).worn n m)) refl t.closed e r
+    case_replay mem lengths worn start old new es before t.mid after (Stopped s) t.closes p l
+    (λ n m. k n ((did_closed mem t.closes t.mid after p t.closed).worn n m)) refl t.closed e r
     (fuel_counts mem old new before after (Stopped s) e t) (step_case mem old.stop old before _ t.mid refl t.steps)
 
 pub stays_replay : {M : Type 0} (mem : Memories M) → KeepsPromises mem → StaysReplay mem

@@ -38,7 +38,8 @@ unchanged es fs e = e ∙ sym (append_nil es)
     append_nil [] = refl
     append_nil (x ∷ l) = ap (λ (r : List Entry). x ∷ r) (append_nil l)
 
-grown_reach : (lengths : ℕ → ℕ) (worn : ℕ → Bool) (i : Instr) (x : Accessing) (old : MachineState) (es fs : List Entry) (r : Reach) → (told_access i x old (Reached r)).machine.fuel + 1 ≡ old.fuel
+grown_reach : (lengths : ℕ → ℕ) (worn : ℕ → Bool) (i : Instr) (x : Accessing) (old : MachineState) (es fs : List Entry) (r : Reach)
+    → (told_access i x old (Reached r)).machine.fuel + 1 ≡ old.fuel
     → (recorded_memory lengths worn).reaches es x.number x.op r fs → Grown lengths (Touch x.number x.op) (Reached r) es fs
 grown_reach lengths worn i x old es fs (reach.Done v) f h = record { more = entries_added x.number x.op (reach.Done v); fed = refl; grown = h.1 }
 grown_reach lengths worn i x old es fs reach.Outside f h = absurd (omega arith)
@@ -46,7 +47,8 @@ grown_reach lengths worn i x old es fs reach.Worn f h = absurd (omega arith)
 grown_reach lengths worn i x old es fs reach.Away f h = absurd h
 grown_reach lengths worn i x old es fs reach.Busy f h = absurd h
 
-grown_by : (lengths : ℕ → ℕ) (worn : ℕ → Bool) (w : Work) (i : Instr) (old : MachineState) (es fs : List Entry) (said : MemoryAnswer) → (told_for w i old said).machine.fuel + 1 ≡ old.fuel
+grown_by : (lengths : ℕ → ℕ) (worn : ℕ → Bool) (w : Work) (i : Instr) (old : MachineState) (es fs : List Entry) (said : MemoryAnswer)
+    → (told_for w i old said).machine.fuel + 1 ≡ old.fuel
     → AnswersRequest (recorded_memory lengths worn) (asks_for w) es said fs → Grown lengths (asks_for w) said es fs
 grown_by lengths worn Computes i old es fs NoAnswer f h = record { more = []; fed = refl; grown = unchanged es fs h }
 grown_by lengths worn Computes i old es fs _ f h = absurd h
@@ -70,7 +72,8 @@ closes_same : (lengths : ℕ → ℕ) (worn : ℕ → Bool) (b : Bool) (es fs : 
 closes_same lengths worn true es fs h = h
 closes_same lengths worn false es fs h = h
 
-case_advanced : (lengths : ℕ → ℕ) (worn : ℕ → Bool) (old : MachineState) (es fs : List Entry) (o : Outcome) → o.machine.fuel + 1 ≡ old.fuel → StepCase (recorded_memory lengths worn) old es o fs → Advanced lengths old es o.machine fs
+case_advanced : (lengths : ℕ → ℕ) (worn : ℕ → Bool) (old : MachineState) (es fs : List Entry) (o : Outcome) → o.machine.fuel + 1 ≡ old.fuel
+    → StepCase (recorded_memory lengths worn) old es o fs → Advanced lengths old es o.machine fs
 case_advanced lengths worn old es fs o f (inl d) = let k = ap (λ (x : Outcome). x.machine.fuel) d.becomes in absurd (omega arith)
 case_advanced lengths worn old es fs o f (inr (inl d)) = let k = ap (λ (x : Outcome). x.machine.fuel) d.becomes in absurd (omega arith)
 case_advanced lengths worn old es fs o f (inr (inr d)) =
@@ -83,7 +86,8 @@ case_advanced lengths worn old es fs o f (inr (inr d)) =
       becomes = ap (λ (x : Outcome). x.machine) d.becomes;
     }
 
-advanced : (lengths : ℕ → ℕ) (worn : ℕ → Bool) (old : MachineState) (es : List Entry) (new : MachineState) (fs : List Entry) → Advances lengths worn old es new fs → Advanced lengths old es new fs
+advanced : (lengths : ℕ → ℕ) (worn : ℕ → Bool) (old : MachineState) (es : List Entry) (new : MachineState) (fs : List Entry)
+    → Advances lengths worn old es new fs → Advanced lengths old es new fs
 advanced lengths worn old es new fs a =
     let c = case_advanced lengths worn old es a.step.mid _ a.paid (step_case (recorded_memory lengths worn) old.stop old es _ a.step.mid refl a.step.steps) in
     subst (λ (l : List Entry). Advanced lengths old es new l) (sym (closes_same lengths worn a.step.closes a.step.mid fs a.step.closed)) c
@@ -103,7 +107,8 @@ next_is : (es : List Entry) (a b : Entry) (xs ys : List Entry) → (es ++ a ∷ 
 next_is [] a b xs ys e = head_is a b xs ys e
 next_is (z ∷ es) a b xs ys e = next_is es a b xs ys (tail_is z z _ _ e)
 
-same_told : (lengths : ℕ → ℕ) (q : Request) (es more other xs ys : List Entry) (said heard : MemoryAnswer) → Fed lengths q more said → Fed lengths q other heard → (es ++ more) ++ xs ≡ (es ++ other) ++ ys
+same_told : (lengths : ℕ → ℕ) (q : Request) (es more other xs ys : List Entry) (said heard : MemoryAnswer) → Fed lengths q more said
+    → Fed lengths q other heard → (es ++ more) ++ xs ≡ (es ++ other) ++ ys
     → (said ≡ heard) × (more ≡ other)
 same_told lengths Nothing es more other xs ys NoAnswer NoAnswer f g e = (refl, f ∙ sym g)
 same_told lengths Nothing es more other xs ys NoAnswer _ f g e = absurd g
@@ -118,7 +123,8 @@ same_told lengths (Touch n op) es more other xs ys (Reached (reach.Done v)) (Rea
 same_told lengths (Touch n op) es more other xs ys (Reached (reach.Done v)) _ f g e = absurd g
 same_told lengths (Touch n op) es more other xs ys _ heard f g e = absurd f
 
-same_step : (lengths : ℕ → ℕ) (old new other : MachineState) (es fs gs xs ys : List Entry) → Advanced lengths old es new fs → Advanced lengths old es other gs → fs ++ xs ≡ gs ++ ys → (new ≡ other) × (fs ≡ gs)
+same_step : (lengths : ℕ → ℕ) (old new other : MachineState) (es fs gs xs ys : List Entry) → Advanced lengths old es new fs
+    → Advanced lengths old es other gs → fs ++ xs ≡ gs ++ ys → (new ≡ other) × (fs ≡ gs)
 same_step lengths old new other es fs gs xs ys p q e =
     let instr : q.instr ≡ p.instr = same_next old q.instr p.instr q.attempts.next p.attempts.next in
     let fed = subst (λ (i : Instr). Fed lengths (asks i old) q.added.more q.said) instr q.added.fed in
@@ -128,7 +134,8 @@ same_step lengths old new other es fs gs xs ys p q e =
       p.added.grown ∙ ap (λ (l : List Entry). es ++ l) same.1 ∙ sym q.added.grown,
     )
 
-same_replay : (lengths : ℕ → ℕ) (worn : ℕ → Bool) (k : ℕ) (start new other : MachineState) (es fs xs ys : List Entry) → Replays lengths worn k start es new → Replays lengths worn k start fs other
+same_replay : (lengths : ℕ → ℕ) (worn : ℕ → Bool) (k : ℕ) (start new other : MachineState) (es fs xs ys : List Entry) → Replays lengths worn k start es new
+    → Replays lengths worn k start fs other
     → es ++ xs ≡ fs ++ ys → (new ≡ other) × (es ≡ fs)
 same_replay lengths worn zero start new other es fs xs ys p q e = (p.1 ∙ sym q.1, p.0 ∙ sym q.0)
 same_replay lengths worn (suc k) start new other es fs xs ys p q e =
@@ -137,7 +144,8 @@ same_replay lengths worn (suc k) start new other es fs xs ys p q e =
     let one = ap (λ (l : List Entry). l ++ xs) a.added.grown ∙ append_assoc p.1 a.added.more xs in
     let two = ap (λ (l : List Entry). l ++ ys) b.added.grown ∙ append_assoc q.1 b.added.more ys in
     let before = same_replay lengths worn k start p.0 q.0 p.1 q.1 (a.added.more ++ xs) (b.added.more ++ ys) p.2 q.2 (sym one ∙ e ∙ two) in
-    let c = subst (λ (m : MachineState). Advanced lengths m p.1 other fs) (sym before.0) (subst (λ (l : List Entry). Advanced lengths q.0 l other fs) (sym before.1) b) in
+    let c = subst (λ (m : MachineState). Advanced lengths m p.1 other fs) (sym before.0)
+    (subst (λ (l : List Entry). Advanced lengths q.0 l other fs) (sym before.1) b) in
     same_step lengths p.0 new other p.1 es fs xs ys a c e
 
 pub replays_one_way : ReplaysOneWay

@@ -1,5 +1,6 @@
 -- The table of rights holds what grants say.
-use Rattle.std.proofs.Common.{◌≡◌, ℕ, zero, suc, ◌<◌, ◌≤◌, nat_eq, nat_le, Bool, true, false, not, if◌then◌else◌, ◌||◌, ◌&&◌, List, [], ◌∷◌, ◌++◌, length, get_or, set, refl, ap, sym, ◌∙◌, append-nil, arith}
+use Rattle.std.proofs.Common.{◌≡◌, ℕ, zero, suc, ◌<◌, ◌≤◌, nat_eq, nat_le, Bool, true, false, not, if◌then◌else◌, ◌||◌, ◌&&◌, List, [], ◌∷◌, ◌++◌, length}
+use Rattle.std.proofs.Common.{get_or, set, refl, ap, sym, ◌∙◌, append-nil, arith}
 use Rattle.std.specs.List.{list_any}
 use Rattle.std.proofs.lemmas.Bool.Decides.{nat_tests}
 use Rattle.std.proofs.lemmas.List.{get_or-replicate, get_or-set_same, get_or-set_other, length-replicate}
@@ -48,7 +49,8 @@ by_any false true any = refl
 by_any false false true = refl
 by_any false false false = refl
 
-pub more_table : (gs : List Grant) (g : Grant) (old new : List Right) → IsTableOf (record { all = false; listed = gs }) old → HasMore old g new → IsTableOf (record { all = false; listed = gs ++ g ∷ [] }) new
+pub more_table : (gs : List Grant) (g : Grant) (old new : List Right) → IsTableOf (record { all = false; listed = gs }) old → HasMore old g new
+    → IsTableOf (record { all = false; listed = gs ++ g ∷ [] }) new
 more_table gs g old new t m n h writes =
     m n h writes
     ∙ ap (λ b. is_listed writes n g || b) (t n h writes)
@@ -66,15 +68,18 @@ joined_suffices Writes false true = refl
 joined_suffices Writes false false = refl
 
 joined_at : (same : Bool) (old : List Right) (g : Grant) (n : ℕ) (writes : Bool) → nat_eq g.number n ≡ same → length old ≡ 1025 → g.number < 1025
-    → suffices (get_or (set old g.number (joined (get_or old g.number Nothing) g.writes)) n Nothing) writes ≡ ((same && (g.writes || not writes)) || suffices (get_or old n Nothing) writes)
+    → suffices (get_or (set old g.number (joined (get_or old g.number Nothing) g.writes)) n Nothing) writes ≡ ((same && (g.writes || not writes))
+    || suffices (get_or old n Nothing) writes)
 joined_at true old g n writes e long l =
     let number : n ≡ g.number = grind (arith, nat_tests) in
-    rw (number, get_or-set_same old g.number (joined (get_or old g.number Nothing) g.writes) Nothing (omega (arith, long, l))) (joined_suffices (get_or old g.number Nothing) g.writes writes)
+    rw (number, get_or-set_same old g.number (joined (get_or old g.number Nothing) g.writes) Nothing (omega (arith, long, l)))
+    (joined_suffices (get_or old g.number Nothing) g.writes writes)
 joined_at false old g n writes e long l =
     rw (get_or-set_other old g.number n (joined (get_or old g.number Nothing) g.writes) Nothing (grind (arith, nat_tests))) refl
 
 -- the table where one right is joined with a grant
-pub joined_more : (old : List Right) (g : Grant) → length old ≡ 1025 → g.number < 1025 → HasMore old g (set old g.number (joined (get_or old g.number Nothing) g.writes))
+pub joined_more : (old : List Right) (g : Grant) → length old ≡ 1025 → g.number < 1025
+    → HasMore old g (set old g.number (joined (get_or old g.number Nothing) g.writes))
 joined_more old g long l n h writes = joined_at (nat_eq g.number n) old g n writes refl long l
 
 -- a grant of another number than an object's adds nothing
@@ -91,27 +96,35 @@ joins false g gs hs tail e = ap (λ (l : List Grant). g ∷ l) e
 
 grants_append : (kept : List Grant) (one : Grant) → grants_in (kept ++ one ∷ []) ≡ grants_in kept ++ grants_in (one ∷ [])
 grants_append [] one = refl
-grants_append (first ∷ kept) one = joins (nat_eq first.number 0) first (grants_in (kept ++ one ∷ [])) (grants_in kept) (grants_in (one ∷ [])) (grants_append kept one)
+grants_append (first ∷ kept) one = joins (nat_eq first.number 0) first (grants_in (kept ++ one ∷ [])) (grants_in kept)
+    (grants_in (one ∷ [])) (grants_append kept one)
 
 -- number 0 keeps no grant
-no_more : (kept : List Grant) (one : Grant) (old new : List Right) → one.number ≡ 0 → IsTableOf (record { all = false; listed = grants_in kept }) old → HasMore old one new → IsTableOf (record { all = false; listed = grants_in kept }) new
-no_more kept one old new e t m zero h writes = m zero h writes ∙ ap (λ b. is_listed writes zero one || b) (t zero h writes) ∙ sym (or_true (is_listed writes zero one))
+no_more : (kept : List Grant) (one : Grant) (old new : List Right) → one.number ≡ 0 → IsTableOf (record { all = false; listed = grants_in kept }) old
+    → HasMore old one new → IsTableOf (record { all = false; listed = grants_in kept }) new
+no_more kept one old new e t m zero h writes =
+    m zero h writes ∙ ap (λ b. is_listed writes zero one || b) (t zero h writes) ∙ sym (or_true (is_listed writes zero one))
 no_more kept one old new e t m (suc n) h writes =
     let other : nat_eq 0 (suc n) ≡ false = grind (arith, nat_tests) in
     let none : is_listed writes (suc n) one ≡ false = rw (e, other) refl in
     m (suc n) h writes ∙ rw none (t (suc n) h writes)
 
-one_more : (empty : Bool) (kept : List Grant) (one : Grant) → nat_eq one.number 0 ≡ empty → grants_in (kept ++ one ∷ []) ≡ grants_in kept ++ (if empty then [] else (one ∷ []))
+one_more : (empty : Bool) (kept : List Grant) (one : Grant) → nat_eq one.number 0 ≡ empty
+    → grants_in (kept ++ one ∷ []) ≡ grants_in kept ++ (if empty then [] else (one ∷ []))
 one_more empty kept one e = grants_append kept one ∙ ap (λ b. grants_in kept ++ (if b then [] else (one ∷ []))) e
 
-by_number : (empty : Bool) (kept : List Grant) (one : Grant) (old new : List Right) → nat_eq one.number 0 ≡ empty → IsTableOf (record { all = false; listed = grants_in kept }) old → HasMore old one new → IsTableOf (record { all = false; listed = grants_in kept ++ (if empty then [] else (one ∷ [])) }) new
+by_number : (empty : Bool) (kept : List Grant) (one : Grant) (old new : List Right) → nat_eq one.number 0 ≡ empty
+    → IsTableOf (record { all = false; listed = grants_in kept }) old → HasMore old one new
+    → IsTableOf (record { all = false; listed = grants_in kept ++ (if empty then [] else (one ∷ [])) }) new
 by_number true kept one old new e t m = rw (append-nil (grants_in kept)) (no_more kept one old new (grind (arith, nat_tests)) t m)
 by_number false kept one old new e t m = more_table (grants_in kept) one old new t m
 
 -- the table of those that are kept, and of one more
-pub kept_table : (kept : List Grant) (one : Grant) (old new : List Right) → IsTableOf (record { all = false; listed = grants_in kept }) old → HasMore old one new → IsTableOf (record { all = false; listed = grants_in (kept ++ one ∷ []) }) new
+pub kept_table : (kept : List Grant) (one : Grant) (old new : List Right) → IsTableOf (record { all = false; listed = grants_in kept }) old
+    → HasMore old one new → IsTableOf (record { all = false; listed = grants_in (kept ++ one ∷ []) }) new
 kept_table kept one old new t m = rw (one_more (nat_eq one.number 0) kept one refl) (by_number (nat_eq one.number 0) kept one old new refl t m)
 
 -- the table of the grants one by one, where not all are granted
-pub listed_table : (g : GrantState) (kept : List Grant) (table : List Right) → g.all ≡ false → grants_in kept ≡ g.listed → IsTableOf (record { all = false; listed = grants_in kept }) table → IsTableOf g table
+pub listed_table : (g : GrantState) (kept : List Grant) (table : List Right) → g.all ≡ false → grants_in kept ≡ g.listed
+    → IsTableOf (record { all = false; listed = grants_in kept }) table → IsTableOf g table
 listed_table g kept table a e t n h writes = rw (a, ← e) (t n h writes)

@@ -23,7 +23,8 @@ goes _ = true
 -- What one memory does is what the other does, as it is seen there, and what holds of it stays: for every answer, where
 -- `waiting_too` is true; where it is false, for those alone on which no machine waits.
 pub record Carries {M N : Type 0} (waiting_too : Bool) (mem : Memories M) (nem : Memories N) (seen : M → N) (Holds : M → Type 0) : Type 0 where
-  pub reached : (before after : M) (n : ℕ) (op : Op) (r : Reach) → Holds before → (waiting_too || is_done r) ≡ true → mem.reaches before n op r after → nem.reaches (seen before) n op r (seen after) × Holds after
+  pub reached : (before after : M) (n : ℕ) (op : Op) (r : Reach) → Holds before → (waiting_too || is_done r) ≡ true → mem.reaches before n op r after
+      → nem.reaches (seen before) n op r (seen after) × Holds after
   pub closed : (before after : M) → Holds before → mem.closes before after → nem.closes (seen before) (seen after) × Holds after
   pub measured : (before : M) (n : ℕ) → mem.length_of before n ≡ nem.length_of (seen before) n
 
@@ -34,4 +35,5 @@ StepCarries {M} waiting_too mem nem seen Holds = (old new : MachineState) (befor
 
 -- It is a law for every view of a memory.
 abbrev pub StepsCarry : {M N : Type 0} → Memories M → Memories N → Type 0
-StepsCarry {M} {N} mem nem = (waiting_too : Bool) (seen : M → N) → Carries waiting_too mem nem seen (λ (m : M). Unit {0}) → StepCarries waiting_too mem nem seen (λ (m : M). Unit {0})
+StepsCarry {M} {N} mem nem = (waiting_too : Bool) (seen : M → N) → Carries waiting_too mem nem seen (λ (m : M). Unit {0})
+    → StepCarries waiting_too mem nem seen (λ (m : M). Unit {0})

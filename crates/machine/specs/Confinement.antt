@@ -20,7 +20,8 @@ StepIsConfined = (old new : MachineState) (before other after : List (List ℕ))
 -- steps one after the other, with these answers
 abbrev pub StepsSo : List Stepped → MachineState → List (List ℕ) → MachineState → List (List ℕ) → Type 0
 StepsSo [] old before new after = (new ≡ old) × (after ≡ before)
-StepsSo (a ∷ answers) old before new after = (next : MachineState) × (mid : List (List ℕ)) × TableStep map_memory old before a next mid × StepsSo answers next mid new after
+StepsSo (a ∷ answers) old before new after = (next : MachineState) × (mid : List (List ℕ)) × TableStep map_memory old before a next mid
+    × StepsSo answers next mid new after
 
 -- So do any number of steps.
 abbrev pub StepsAreConfined : Type 0

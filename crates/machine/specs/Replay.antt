@@ -45,7 +45,8 @@ pub record Advances (lengths : ℕ → ℕ) (worn : ℕ → Bool) (old : Machine
 -- So many instructions from the start, one after the other, make this state and these entries, and no others.
 abbrev pub Replays : (ℕ → ℕ) → (ℕ → Bool) → ℕ → MachineState → List Entry → MachineState → Type 0
 Replays lengths worn zero start es m = (es ≡ []) × (m ≡ start)
-Replays lengths worn (suc k) start es m = (mid : MachineState) × (earlier : List Entry) × Replays lengths worn k start earlier mid × Advances lengths worn mid earlier m es
+Replays lengths worn (suc k) start es m = (mid : MachineState) × (earlier : List Entry) × Replays lengths worn k start earlier mid
+    × Advances lengths worn mid earlier m es
 
 -- The stop, other than exit, that a table step names there.
 pub record StopsThere (lengths : ℕ → ℕ) (worn : ℕ → Bool) (reached : MachineState) (es : List Entry) (m : MachineState) : Type 0 where
@@ -75,7 +76,8 @@ abbrev pub StartsAsReplay : Type 0
 StartsAsReplay = (lengths : ℕ → ℕ) (worn : ℕ → Bool) (start : MachineState) → IsReplay lengths worn start [] start
 
 -- what a step over a memory did to the objects, and the machine as the replay of that too
-pub record ReplaysOn {M : Type 0} (mem : Memories M) (lengths : ℕ → ℕ) (worn : ℕ → Bool) (start : MachineState) (es : List Entry) (before : M) (new : MachineState) (after : M) : Type 0 where
+pub record ReplaysOn {M : Type 0} (mem : Memories M) (lengths : ℕ → ℕ) (worn : ℕ
+    → Bool) (start : MachineState) (es : List Entry) (before : M) (new : MachineState) (after : M) : Type 0 where
   pub more : List Entry
   pub did : Did mem before more after
   pub replay : IsReplay lengths worn start (es ++ more) new

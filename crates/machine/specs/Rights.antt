@@ -29,4 +29,5 @@ IsTableOf g table = (n : ℕ) → n ≤ object_limit → (writes : Bool) → suf
 
 -- The new table allows what the old one allowed, and what the grant allows, and no more.
 abbrev pub HasMore : List Right → Grant → List Right → Type 0
-HasMore old g new = (n : ℕ) → n ≤ object_limit → (writes : Bool) → suffices (get_or new n Nothing) writes ≡ is_listed writes n g || suffices (get_or old n Nothing) writes
+HasMore old g new = (n : ℕ) → n ≤ object_limit → (writes : Bool)
+    → suffices (get_or new n Nothing) writes ≡ is_listed writes n g || suffices (get_or old n Nothing) writes

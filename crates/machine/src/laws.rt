@@ -1,5 +1,6 @@
 //! What the table step promises, whatever the program. Each function has the law as its clause, and does nothing.
-ghost use Rattle.machine.specs.Laws.{StepsOneWay, MapStepsOneWay, AlwaysSteps, MapAlwaysSteps, StoppedStays, StopsInPlace, WaitsInPlace, WaitingDoesNothing, FuelCounts, FuelBounds, StartsWhole, StaysWhole, StaysSized, ChangesOne, LeavesOthers, StepsCommute};
+ghost use Rattle.machine.specs.Laws.{StepsOneWay, MapStepsOneWay, AlwaysSteps, MapAlwaysSteps, StoppedStays, StopsInPlace, WaitsInPlace, WaitingDoesNothing};
+ghost use Rattle.machine.specs.Laws.{FuelCounts, FuelBounds, StartsWhole, StaysWhole, StaysSized, ChangesOne, LeavesOthers, StepsCommute};
 ghost use Rattle.machine.specs.FramePointer.{StartsAtTop, StaysAtDepth};
 ghost use Rattle.machine.specs.Replay.{ReplaysOneWay, StartsAsReplay, StaysReplay};
 ghost use Rattle.machine.specs.Carrying.{StepsCarry};

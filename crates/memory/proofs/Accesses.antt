@@ -1,5 +1,6 @@
 -- What accesses leave alone.
-use Rattle.std.proofs.Common.{◌≡◌, ◌≢◌, ℕ, ◌+◌, ◌-◌, ◌*◌, ◌/◌, ◌%◌, ◌^◌, ◌<◌, ◌≤◌, zero, suc, true, false, nat_lt, IsTrue, List, [], ◌∷◌, ◌++◌, length, take, drop, get_or, set, Option, Some, None, refl, sym, ap, ◌∙◌, arith}
+use Rattle.std.proofs.Common.{◌≡◌, ◌≢◌, ℕ, ◌+◌, ◌-◌, ◌*◌, ◌/◌, ◌%◌, ◌^◌, ◌<◌, ◌≤◌, zero, suc, true, false, nat_lt, IsTrue, List, [], ◌∷◌, ◌++◌, length, take}
+use Rattle.std.proofs.Common.{drop, get_or, set, Option, Some, None, refl, sym, ap, ◌∙◌, arith}
 use Rattle.std.specs.Prelude.{is_some, ◌==◌, if◌then◌else◌}
 use Rattle.std.specs.Int.{byte_at, bytes_low_first}
 use Rattle.std.proofs.lemmas.List.{get_or-set_other, get_or-take, get_or-drop, get_or_append_left, get_or-append_right, length-take-le, set-get_or}
@@ -49,7 +50,8 @@ replaced_before o new bytes i h k =
     get_or_append_left (take o bytes) (new ++ drop (o + length new) bytes) 0 i (let e = length-take-le o bytes (omega arith) in omega arith)
     ∙ get_or-take o bytes i 0 k
 
-replaced_after : (o : ℕ) (new bytes : List ℕ) (i : ℕ) → o + length new ≤ length bytes → o + length new ≤ i → get_or (replaced o new bytes) i 0 ≡ get_or bytes i 0
+replaced_after : (o : ℕ) (new bytes : List ℕ) (i : ℕ) → o + length new ≤ length bytes → o + length new ≤ i
+    → get_or (replaced o new bytes) i 0 ≡ get_or bytes i 0
 replaced_after o new bytes i h k =
     let front = length-take-le o bytes (omega arith) in
     let past : o + length new + (i - o - length new) ≡ i = omega arith in
@@ -100,7 +102,8 @@ pub stored_held : (o k x : ℕ) (bytes : List ℕ) → o + k ≤ length bytes �
 stored_held o k x bytes h =
     let count = length-bytes_low_first 0 k x in
     let same = replaced_held o (low_bytes k x) bytes (omega arith) in
-    ap (λ (j : ℕ). number_of (take j (drop o (replaced o (low_bytes k x) bytes)))) (sym count) ∙ ap number_of same ∙ number_of-low_first k 0 x ∙ ap (λ (y : ℕ). y % 256 ^ k) (div-one x)
+    ap (λ (j : ℕ). number_of (take j (drop o (replaced o (low_bytes k x) bytes)))) (sym count) ∙ ap number_of same ∙ number_of-low_first k 0 x
+    ∙ ap (λ (y : ℕ). y % 256 ^ k) (div-one x)
 
 stored_size : (size : Size) (o x : ℕ) (bytes : List ℕ) → o + size_bytes size ≤ length bytes
     → number_of (take (size_bytes size) (drop o (replaced o (low_bytes (size_bytes size) x) bytes))) ≡ unsigned (8 * size_bytes size) x
@@ -133,7 +136,8 @@ some_bytes Double = omega arith
 some_inside : (op : Op) (n : ℕ) → IsInside op n → 0 < n
 some_inside op n h = let c = some_bytes (size_of op.action) in omega arith
 
-pub bytes_accessed : (old : List (List ℕ)) (n : ℕ) (op : Op) → IsInside op (length (bytes_of old n)) → bytes_of (with_bytes old n (after op (bytes_of old n))) n ≡ after op (bytes_of old n)
+pub bytes_accessed : (old : List (List ℕ)) (n : ℕ) (op : Op) → IsInside op (length (bytes_of old n))
+    → bytes_of (with_bytes old n (after op (bytes_of old n))) n ≡ after op (bytes_of old n)
 bytes_accessed old n op h = set_same_at old n (after op (bytes_of old n)) (some_inside op (length (bytes_of old n)) h)
 
 -- ---- the laws
@@ -144,8 +148,10 @@ writes_inside old new n op x i h w = let inside = h.0 in omega (arith, w.to)
 pub bytes_stay : laws.OtherBytesStay
 bytes_stay old new n op x i h w =
     let same = bytes_accessed old n op h.0 in
-    let at = rw h.1 at (λ (p : IsTrue (writes op.action x)) (q : op.offset ≤ i) (s : i < op.offset + count_of op). w (record { wrote = p; «from» = q; to = s })) in
-    rw (h.2, same) (written_elsewhere op.offset (count_of op) (number_put op.action (old_number op (bytes_of old n))) (bytes_of old n) i h.0 (λ p q s. at (written_as_answered op.action (old_number op (bytes_of old n)) ∙ p) q s))
+    let at = rw h.1 at (λ (p : IsTrue (writes op.action x)) (q : op.offset ≤ i) (s : i < op.offset + count_of op).
+    w (record { wrote = p; «from» = q; to = s })) in
+    rw (h.2, same) (written_elsewhere op.offset (count_of op) (number_put op.action (old_number op (bytes_of old n))) (bytes_of old n) i h.0
+    (λ p q s. at (written_as_answered op.action (old_number op (bytes_of old n)) ∙ p) q s))
 
 pub unwritten : laws.UnwrittenStays
 unwritten old new n op x h e =
@@ -162,7 +168,8 @@ exchange_failed : (width : Width) (src r0 old : ℕ) → old ≢ unsigned (width
 exchange_failed width src r0 old h = not_same old (unsigned (width_bits width) r0) (unsigned (width_bits width) src) h
 
 pub failed : laws.FailedExchangesChangeNothing
-failed old new n offset width src r0 x h e = unwritten old new n (record { offset = offset; action = Atomic width CompareExchange src r0 }) x h (exchange_failed width src r0 x e)
+failed old new n offset width src r0 x h e =
+    unwritten old new n (record { offset = offset; action = Atomic width CompareExchange src r0 }) x h (exchange_failed width src r0 x e)
 
 pub others : laws.OtherObjectsStay
 others old new n k op (Done x) h d = rw h.2 (get_or-set_other old n k (after op (bytes_of old n)) [] d)

@@ -1,5 +1,6 @@
 -- Accesses keep lengths.
-use Rattle.std.proofs.Common.{◌≡◌, ℕ, ◌+◌, ◌≤◌, zero, suc, List, [], ◌∷◌, ◌++◌, length, take, drop, get_or, set, Option, Some, None, refl, length-append, length-take, length-drop, arith}
+use Rattle.std.proofs.Common.{◌≡◌, ℕ, ◌+◌, ◌≤◌, zero, suc, List, [], ◌∷◌, ◌++◌, length, take, drop, get_or, set, Option, Some, None, refl, length-append}
+use Rattle.std.proofs.Common.{length-take, length-drop, arith}
 use Rattle.byteorder.specs.Numbers.{length-bytes_low_first}
 use Rattle.isa_table.specs.Words.{low_bytes}
 use Rattle.memory.specs.declared.access.Op.{Op}
@@ -20,7 +21,8 @@ length-with_number o n (Some x) bytes h = let e = length-bytes_low_first 0 n x i
 pub length-after : (op : Op) (bytes : List ℕ) → IsInside op (length bytes) → length (after op bytes) ≡ length bytes
 length-after op bytes h = length-with_number op.offset (count_of op) (number_put op.action (old_number op bytes)) bytes h
 
-pub length-set_at : (objects : List (List ℕ)) (n k : ℕ) (b : List ℕ) → length b ≡ length (get_or objects n []) → length (get_or (set objects n b) k []) ≡ length (get_or objects k [])
+pub length-set_at : (objects : List (List ℕ)) (n k : ℕ) (b : List ℕ) → length b ≡ length (get_or objects n [])
+    → length (get_or (set objects n b) k []) ≡ length (get_or objects k [])
 length-set_at [] n k b h = refl
 length-set_at (x ∷ xs) zero zero b h = h
 length-set_at (x ∷ xs) zero (suc k) b h = refl

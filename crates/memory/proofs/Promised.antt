@@ -49,7 +49,8 @@ map_adds old new n op Away h = absurd h
 map_adds old new n op Busy h = absurd h
 map_adds old new n op Worn h = absurd h
 
-map_answers : (old new : List (List ℕ)) (n : ℕ) (op : Op) (r : Reach) → map_reaches old n op r new → Promises (map_memory.length_of old n) op r (map_memory.is_worn new n)
+map_answers : (old new : List (List ℕ)) (n : ℕ) (op : Op) (r : Reach) → map_reaches old n op r new
+    → Promises (map_memory.length_of old n) op r (map_memory.is_worn new n)
 map_answers old new n op Outside h = h.0
 map_answers old new n op (Done x) h = (h.0, (bytes_of old n, refl, h.1))
 map_answers old new n op Away h = absurd h

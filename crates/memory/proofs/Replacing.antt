@@ -8,12 +8,14 @@ use Rattle.memory.specs.Access.{replaced}
 
 pub one_byte : (bytes : List ℕ) (offset x : ℕ) → offset < length bytes → set bytes offset (bit_and x 255) ≡ replaced offset (bytes_low_first 0 1 x) bytes
 one_byte bytes o x h =
-    let whole : take o (set bytes o (bit_and x 255)) ++ drop o (set bytes o (bit_and x 255)) ≡ set bytes o (bit_and x 255) = take-append-drop o (set bytes o (bit_and x 255)) in
+    let whole : take o (set bytes o (bit_and x 255)) ++ drop o (set bytes o (bit_and x 255)) ≡ set bytes o (bit_and x 255) =
+    take-append-drop o (set bytes o (bit_and x 255)) in
     let low : bit_and x 255 ≡ x % 256 = grind (arith, common_steps) in
     sym whole ∙ rw (take-set bytes o (bit_and x 255), drop-set bytes o (bit_and x 255) h, low) refl
 
 -- what a write through the part from o on leaves
-pub to_end : (bytes bs new : List ℕ) (o : ℕ) → new ≡ bs ++ drop (length bs) (take (length bytes - o) (drop o bytes)) → put_mid o (length bytes - o) bytes new ≡ replaced o bs bytes
+pub to_end : (bytes bs new : List ℕ) (o : ℕ) → new ≡ bs ++ drop (length bs) (take (length bytes - o) (drop o bytes))
+    → put_mid o (length bytes - o) bytes new ≡ replaced o bs bytes
 to_end bytes bs new o e =
     let gone : drop (length bytes - o) (drop o bytes) ≡ [] = drop_all (length bytes - o) (drop o bytes) (omega (arith, length-drop o bytes)) in
     let all : take (length bytes - o) (drop o bytes) ≡ drop o bytes = take_all (length bytes - o) (drop o bytes) (omega (arith, length-drop o bytes)) in

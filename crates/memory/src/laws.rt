@@ -1,5 +1,6 @@
 //! What the definitions say of accesses and objects, apart from any call.
-ghost use Rattle.memory.specs.Laws.{WritesAreInside, OtherBytesStay, UnwrittenStays, FailedExchangesChangeNothing, OtherObjectsStay, LengthsStay, LoadsWhatWasStored, AccessesOneWay, AccessesCommute};
+ghost use Rattle.memory.specs.Laws.{WritesAreInside, OtherBytesStay, UnwrittenStays, FailedExchangesChangeNothing, OtherObjectsStay, LengthsStay};
+ghost use Rattle.memory.specs.Laws.{LoadsWhatWasStored, AccessesOneWay, AccessesCommute};
 ghost use Rattle.memory.specs.Memories.{KeepsPromises};
 ghost use Rattle.memory.specs.MapMemory.{map_memory};
 

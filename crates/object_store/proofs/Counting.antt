@@ -1,5 +1,6 @@
 -- The count of an object stays the number of windows that hold it, whatever a window notes or gives up.
-use Rattle.std.proofs.Common.{◌≡◌, ℕ, zero, suc, ◌||◌, IfSome, ◌+◌, ◌-◌, ◌<◌, ◌≤◌, nat_eq, Bool, true, false, cond, List, [], ◌∷◌, ◌++◌, length, replicate, map, set, get_or, refl, sym, ◌∙◌, subst, arith, nat_le, ◌≢◌, Option, Some, None}
+use Rattle.std.proofs.Common.{◌≡◌, ℕ, zero, suc, ◌||◌, IfSome, ◌+◌, ◌-◌, ◌<◌, ◌≤◌, nat_eq, Bool, true, false, cond, List, [], ◌∷◌, ◌++◌, length, replicate, map}
+use Rattle.std.proofs.Common.{set, get_or, refl, sym, ◌∙◌, subst, arith, nat_le, ◌≢◌, Option, Some, None}
 use Rattle.std.proofs.lemmas.List.{map-set, get_or-set_same, get_or-set_other, length-set}
 use Rattle.std.proofs.lemmas.List.Sums.{sum_by-set, sum_by-cons}
 use Rattle.std.specs.List.{list_any}
@@ -26,7 +27,8 @@ pub ruleset body_steps = (scopes_set, scopes_at, bytes_same, places_same, sent_s
 
 -- ---- weights
 
-three : (a b c : Bool) → (a ≡ true → b ≡ false) → (a ≡ true → c ≡ false) → (b ≡ true → c ≡ false) → cond (b || (c || false)) 1 0 + cond a 1 0 ≡ cond (a || b) 1 0 + cond c 1 0
+three : (a b c : Bool) → (a ≡ true → b ≡ false) → (a ≡ true → c ≡ false) → (b ≡ true → c ≡ false)
+    → cond (b || (c || false)) 1 0 + cond a 1 0 ≡ cond (a || b) 1 0 + cond c 1 0
 three true true c f g h = let e = f refl in absurd (cc)
 three true false true f g h = let e = g refl in absurd (cc)
 three true false false f g h = refl
@@ -46,7 +48,8 @@ same_number k x h = grind (arith, nat_tests)
 
 -- a number that isn't held isn't one that is
 apart : (w : List ℕ) (n k : ℕ) → holds n w ≡ false → holds k w ≡ true → nat_eq k n ≡ false
-apart w n k h p = elim (nat_eq k n) as (λ b. nat_eq k n ≡ b → nat_eq k n ≡ false) [ false ↦ λ e. e | true ↦ λ e. absurd (let s = same_number k n e in let q : holds n w ≡ true = subst (λ (i : ℕ). holds i w ≡ true) s p in cc) ] refl
+apart w n k h p = elim (nat_eq k n) as (λ b. nat_eq k n ≡ b → nat_eq k n ≡ false)
+    [ false ↦ λ e. e | true ↦ λ e. absurd (let s = same_number k n e in let q : holds n w ≡ true = subst (λ (i : ℕ). holds i w ≡ true) s p in cc) ] refl
 
 abbrev is_out : ℕ → Option ℕ → ℕ
 is_out k None = 0
@@ -63,10 +66,12 @@ shifted : (full : Bool) (x : ℕ) (xs : List ℕ) (n k : ℕ) → AreDistinct (x
     → weight k (cond full xs (x ∷ xs) ++ n ∷ []) + is_out k (cond full (Some x) None) ≡ weight k (x ∷ xs) + cond (nat_eq k n) 1 0
 shifted true x xs n k d h =
     let g = neither (nat_eq n x) (list_any (nat_eq n) xs) h in
-    rw (appended xs n k) (three (nat_eq k x) (holds k xs) (nat_eq k n) (first_apart x k xs d.0) (λ e. apart (x ∷ xs) n k h (rw e refl)) (λ e. apart xs n k g.1 e))
+    rw (appended xs n k) (three (nat_eq k x) (holds k xs) (nat_eq k n) (first_apart x k xs d.0)
+    (λ e. apart (x ∷ xs) n k h (rw e refl)) (λ e. apart xs n k g.1 e))
 shifted false x xs n k d h = rw (appended (x ∷ xs) n k) (two (holds k (x ∷ xs)) (nat_eq k n) (apart (x ∷ xs) n k h))
 
-weight_noted : (w : List ℕ) (n k : ℕ) → AreDistinct w → holds n w ≡ false → weight k (noted n w) + is_out k (pushed_out n w) ≡ weight k w + cond (nat_eq k n) 1 0
+weight_noted : (w : List ℕ) (n k : ℕ) → AreDistinct w → holds n w ≡ false
+    → weight k (noted n w) + is_out k (pushed_out n w) ≡ weight k w + cond (nat_eq k n) 1 0
 weight_noted [] n k d h = elim (nat_eq k n) as (λ b. cond (b || false) 1 0 + 0 ≡ 0 + cond b 1 0) [ true ↦ refl | false ↦ refl ]
 weight_noted (x ∷ xs) n k d h = rw h (shifted (nat_le 4 (length (x ∷ xs))) x xs n k d h)
 
@@ -83,7 +88,8 @@ at_grown counts n k h = elim (nat_eq k n) as (λ b. nat_eq k n ≡ b → get_or 
   | false ↦ λ e. let s : k ≢ n = grind (arith, nat_tests) in get_or-set_other counts n k (get_or counts n 0 + 1) 0 s ∙ omega arith
 ] refl
 
-at_lessened : (counts : List ℕ) (out : Option ℕ) (k : ℕ) → IfSome out (λ n. 0 < get_or counts n 0) → get_or (lessened out counts) k 0 + is_out k out ≡ get_or counts k 0
+at_lessened : (counts : List ℕ) (out : Option ℕ) (k : ℕ) → IfSome out (λ n. 0 < get_or counts n 0)
+    → get_or (lessened out counts) k 0 + is_out k out ≡ get_or counts k 0
 at_lessened counts None k h = omega arith
 at_lessened counts (Some n) k h = elim (nat_eq k n) as (λ b. nat_eq k n ≡ b → get_or (lessened (Some n) counts) k 0 + cond b 1 0 ≡ get_or counts k 0) [
   | true ↦ λ e. let s = same_number k n e in rw s (let g = get_or-set_same counts n (get_or counts n 0 - 1) 0 (in_range counts n h) in omega arith)
@@ -106,11 +112,13 @@ out_held : (w : List ℕ) (n : ℕ) → holds n w ≡ false → IfSome (pushed_o
 out_held [] n h = tt
 out_held (x ∷ xs) n h = rw h (first_held (nat_le 4 (length (x ∷ xs))) x xs)
 
-put : (windows : List (List ℕ)) (who k : ℕ) (v : List ℕ) → who < length windows → holders (set windows who v) k + weight k (get_or windows who []) ≡ holders windows k + weight k v
+put : (windows : List (List ℕ)) (who k : ℕ) (v : List ℕ) → who < length windows
+    → holders (set windows who v) k + weight k (get_or windows who []) ≡ holders windows k + weight k v
 unfolding holders
 put windows who k v h = sum_by-set (weight k) windows who v [] h
 
-held_counted : (counts : List ℕ) (windows : List (List ℕ)) (who k : ℕ) → CountsHold counts windows → who < length windows → holds k (get_or windows who []) ≡ true → 0 < get_or counts k 0
+held_counted : (counts : List ℕ) (windows : List (List ℕ)) (who k : ℕ) → CountsHold counts windows → who < length windows
+    → holds k (get_or windows who []) ≡ true → 0 < get_or counts k 0
 held_counted counts windows who k c h p = let g = put windows who k [] h in let q = rw p at g in omega (arith, c.each k)
 
 some_counted : (counts : List ℕ) (windows : List (List ℕ)) (who : ℕ) (o : Option ℕ) → CountsHold counts windows → who < length windows
@@ -118,7 +126,8 @@ some_counted : (counts : List ℕ) (windows : List (List ℕ)) (who : ℕ) (o : 
 some_counted counts windows who None c h p = tt
 some_counted counts windows who (Some k) c h p = held_counted counts windows who k c h p
 
-pub out_counted : (counts : List ℕ) (windows : List (List ℕ)) (who n : ℕ) → CountsHold counts windows → who < length windows → holds n (get_or windows who []) ≡ false
+pub out_counted : (counts : List ℕ) (windows : List (List ℕ)) (who n : ℕ) → CountsHold counts windows → who < length windows
+    → holds n (get_or windows who []) ≡ false
     → IfSome (pushed_out n (get_or windows who [])) (λ k. 0 < get_or counts k 0)
 out_counted counts windows who n c h p = some_counted counts windows who _ c h (out_held (get_or windows who []) n p)
 
@@ -128,10 +137,12 @@ weight_bound k w = elim (holds k w) as (λ b. cond b 1 0 ≤ 1) [ true ↦ omega
 holders_bound : (windows : List (List ℕ)) (k : ℕ) → holders windows k ≤ length windows
 unfolding holders
 holders_bound [] k = omega arith
-holders_bound (w ∷ ws) k = let e : holders (w ∷ ws) k ≡ weight k w + holders ws k = sum_by-cons (weight k) w ws in omega (arith, e, holders_bound ws k, weight_bound k w)
+holders_bound (w ∷ ws) k = let e : holders (w ∷ ws) k ≡ weight k w + holders ws k = sum_by-cons (weight k) w ws in
+    omega (arith, e, holders_bound ws k, weight_bound k w)
 
 -- where one window doesn't hold it, not all do
-pub bounded : (counts : List ℕ) (windows : List (List ℕ)) (who n : ℕ) → CountsHold counts windows → who < length windows → holds n (get_or windows who []) ≡ false → get_or counts n 0 < length windows
+pub bounded : (counts : List ℕ) (windows : List (List ℕ)) (who n : ℕ) → CountsHold counts windows → who < length windows
+    → holds n (get_or windows who []) ≡ false → get_or counts n 0 < length windows
 bounded counts windows who n c h p =
     let e = itself n [] in
     let g = rw (p, e) at (put windows who n (n ∷ []) h) in
@@ -151,7 +162,8 @@ counts_noted counts windows who n c h l d p = record {
       omega (arith, a, b, c.each k, s, x);
 }
 
-pub bounded_lessened : (counts : List ℕ) (windows : List (List ℕ)) (who n : ℕ) → CountsHold counts windows → who < length windows → holds n (get_or windows who []) ≡ false
+pub bounded_lessened : (counts : List ℕ) (windows : List (List ℕ)) (who n : ℕ) → CountsHold counts windows → who < length windows
+    → holds n (get_or windows who []) ≡ false
     → get_or (lessened (pushed_out n (get_or windows who [])) counts) n 0 < length windows
 bounded_lessened counts windows who n c h p =
     let b = at_lessened counts (pushed_out n (get_or windows who [])) n (out_counted counts windows who n c h p) in
@@ -159,7 +171,8 @@ bounded_lessened counts windows who n c h p =
 
 -- ---- one taken out
 
-pub taken_counted : (counts : List ℕ) (windows : List (List ℕ)) (who n : ℕ) (rest : List ℕ) → CountsHold counts windows → who < length windows → get_or windows who [] ≡ n ∷ rest → 0 < get_or counts n 0
+pub taken_counted : (counts : List ℕ) (windows : List (List ℕ)) (who n : ℕ) (rest : List ℕ) → CountsHold counts windows → who < length windows
+    → get_or windows who [] ≡ n ∷ rest → 0 < get_or counts n 0
 taken_counted counts windows who n rest c h e = held_counted counts windows who n c h (rw e (itself n rest))
 
 first_weight : (a b : Bool) → (a ≡ true → b ≡ false) → cond (a || b) 1 0 ≡ cond b 1 0 + cond a 1 0
@@ -168,7 +181,8 @@ first_weight true false f = refl
 first_weight false true f = refl
 first_weight false false f = refl
 
-pub counts_taken : (counts : List ℕ) (windows : List (List ℕ)) (who n : ℕ) (rest : List ℕ) → CountsHold counts windows → who < length windows → get_or windows who [] ≡ n ∷ rest
+pub counts_taken : (counts : List ℕ) (windows : List (List ℕ)) (who n : ℕ) (rest : List ℕ) → CountsHold counts windows → who < length windows
+    → get_or windows who [] ≡ n ∷ rest
     → AreDistinct (n ∷ rest) → CountsHold (lessened (Some n) counts) (set windows who rest)
 counts_taken counts windows who n rest c h e d = record {
   each = λ k.
@@ -183,7 +197,8 @@ counts_taken counts windows who n rest c h e d = record {
 pub none_held : (count k : ℕ) → holders (replicate count []) k ≡ 0
 unfolding holders
 none_held zero k = refl
-none_held (suc count) k = let e : holders ([] ∷ replicate count []) k ≡ weight k [] + holders (replicate count []) k = sum_by-cons (weight k) [] (replicate count []) in omega (arith, e, none_held count k)
+none_held (suc count) k = let e : holders ([] ∷ replicate count []) k ≡ weight k [] + holders (replicate count []) k =
+    sum_by-cons (weight k) [] (replicate count []) in omega (arith, e, none_held count k)
 
 first_count : (k : ℕ) → ◌≡◌ {A = ℕ} (get_or (0 ∷ []) k 0) 0
 first_count zero = refl

@@ -1,5 +1,6 @@
 -- A store stays as it is always kept.
-use Rattle.std.proofs.Common.{◌≡◌, ℕ, ◌+◌, ◌<◌, ◌≤◌, zero, suc, Bool, true, false, List, [], ◌∷◌, ◌++◌, length, slice_index_or, map, set, take, drop, replicate, None, refl, sym, ap, ◌∙◌, arith}
+use Rattle.std.proofs.Common.{◌≡◌, ℕ, ◌+◌, ◌<◌, ◌≤◌, zero, suc, Bool, true, false, List, [], ◌∷◌, ◌++◌, length, slice_index_or, map, set, take, drop, replicate}
+use Rattle.std.proofs.Common.{None, refl, sym, ap, ◌∙◌, arith}
 use Rattle.std.proofs.lemmas.List.{length-map, length-set, map-append}
 use Rattle.std.proofs.Math.Seq.{take-append_seam}
 use Rattle.placement.specs.declared.places.Place.{Place}
@@ -15,7 +16,8 @@ use Rattle.object_store.proofs.Counting.{uncounted_more, counts_at_first, none_h
 
 -- where one place changes
 pub near_placed : (objects : List (List ℕ)) (places : List Place) (n : ℕ) (p : Place) → n < length objects → length places ≡ length objects
-    → near_bytes objects (set places n p) + near_length (place_of places n) (bytes_of objects n) ≡ near_bytes objects places + near_length p (bytes_of objects n)
+    → near_bytes objects (set places n p) + near_length (place_of places n) (bytes_of objects n) ≡ near_bytes objects places
+    + near_length p (bytes_of objects n)
 near_placed [] places n p h e = absurd (omega arith)
 near_placed (o ∷ os) [] n p h e = absurd (omega arith)
 near_placed (o ∷ os) (q ∷ ps) zero p h e = omega arith
@@ -23,7 +25,8 @@ near_placed (o ∷ os) (q ∷ ps) (suc n) p h e = let g = near_placed os ps n p 
 
 -- where the bytes of one object change
 pub near_filled : (objects : List (List ℕ)) (places : List Place) (n : ℕ) (b : List ℕ) → n < length objects → length places ≡ length objects
-    → near_bytes (with_bytes objects n b) places + near_length (place_of places n) (bytes_of objects n) ≡ near_bytes objects places + near_length (place_of places n) b
+    → near_bytes (with_bytes objects n b) places + near_length (place_of places n) (bytes_of objects n) ≡ near_bytes objects places
+    + near_length (place_of places n) b
 near_filled [] places n b h e = absurd (omega arith)
 near_filled (o ∷ os) [] n b h e = absurd (omega arith)
 near_filled (o ∷ os) (q ∷ ps) zero b h e = omega arith
@@ -44,14 +47,16 @@ pub in_bytes : (bodies : List Kept) (n : ℕ) → n < length bodies → n < leng
 in_bytes bodies n h = let e = length-map bodies bytes_in in omega arith
 
 -- an object that isn't far is in the sum
-pub near_one : (bodies : List Kept) (n : ℕ) → n < length bodies → near_length (place_of (map place_in bodies) n) (bytes_of (map bytes_in bodies) n) ≤ near_bytes (map bytes_in bodies) (map place_in bodies)
+pub near_one : (bodies : List Kept) (n : ℕ) → n < length bodies
+    → near_length (place_of (map place_in bodies) n) (bytes_of (map bytes_in bodies) n) ≤ near_bytes (map bytes_in bodies) (map place_in bodies)
 near_one bodies n h = let g = near_placed (map bytes_in bodies) (map place_in bodies) n Far (in_bytes bodies n h) (same_length bodies) in omega (arith, g)
 
 -- ---- changes
 
 -- to another place
 pub placed : (old new : List Kept) (windows : List (List ℕ)) (budget spare left n : ℕ) (from p : Place) → IsKeptStore old windows budget spare → n < length old
-    → place_of (map place_in old) n ≡ from → map bytes_in new ≡ map bytes_in old → map place_in new ≡ set (map place_in old) n p → map scopes_in new ≡ map scopes_in old
+    → place_of (map place_in old) n ≡ from → map bytes_in new ≡ map bytes_in old → map place_in new ≡ set (map place_in old) n p
+    → map scopes_in new ≡ map scopes_in old
     → left + near_length p (bytes_of (map bytes_in old) n) ≡ spare + near_length from (bytes_of (map bytes_in old) n) → IsKeptStore new windows budget left
 placed old new windows budget spare left n from p k h f b q s e =
     let g = rw f at (near_placed (map bytes_in old) (map place_in old) n p (in_bytes old n h) (same_length old)) in
@@ -77,7 +82,8 @@ filled old new windows after budget spare n b k h l e q s w f =
 
 -- without bytes
 pub emptied : (old new : List Kept) (windows : List (List ℕ)) (budget spare left n : ℕ) → IsKeptStore old windows budget spare → n < length old
-    → map bytes_in new ≡ with_bytes (map bytes_in old) n [] → map place_in new ≡ map place_in old → map scopes_in new ≡ map scopes_in old → place_of (map place_in old) n ≡ Here
+    → map bytes_in new ≡ with_bytes (map bytes_in old) n [] → map place_in new ≡ map place_in old → map scopes_in new ≡ map scopes_in old
+    → place_of (map place_in old) n ≡ Here
     → left ≡ spare + length (bytes_of (map bytes_in old) n) → IsKeptStore new windows budget left
 emptied old new windows budget spare left n k h b q s f e =
     let g = rw f at (near_filled (map bytes_in old) (map place_in old) n [] (in_bytes old n h) (same_length old)) in
@@ -110,7 +116,8 @@ came_back false old new windows budget spare n k h f b q s =
 
 -- ---- made
 
-pub made : (old new : List Kept) (body : Kept) (windows : List (List ℕ)) (budget spare left : ℕ) → IsKeptStore old windows budget spare → new ≡ old ++ body ∷ [] → body.place ≡ Here → body.scopes ≡ 0
+pub made : (old new : List Kept) (body : Kept) (windows : List (List ℕ)) (budget spare left : ℕ) → IsKeptStore old windows budget spare
+    → new ≡ old ++ body ∷ [] → body.place ≡ Here → body.scopes ≡ 0
     → length old ≤ object_limit → length body.bytes ≤ object_bytes → left + length body.bytes ≡ spare → IsKeptStore new windows budget left
 made old new body windows budget spare left k e p s room short l =
     let bytes = ap (map bytes_in) e ∙ map-append bytes_in old (body ∷ []) in
@@ -147,7 +154,9 @@ none_sized (suc k) = omega arith
 objects_first : AreObjects ([] ∷ [])
 objects_first = record { none_at_zero = refl; place_of_zero = omega arith; limit = omega arith; sizes = λ k. none_sized k }
 
-pub first_store : (bodies : List Kept) (windows : List (List ℕ)) (budget : ℕ) → bodies ≡ record { bytes = []; place = Here; scopes = 0; parcel = None; clean = false } ∷ [] → windows ≡ replicate window_count [] → IsKeptStore bodies windows budget budget
+pub first_store : (bodies : List Kept) (windows : List (List ℕ)) (budget : ℕ)
+    → bodies ≡ record { bytes = []; place = Here; scopes = 0; parcel = None; clean = false } ∷ [] → windows ≡ replicate window_count []
+    → IsKeptStore bodies windows budget budget
 first_store bodies windows budget b w = rw (b, w) (record {
   objects = objects_first;
   counts = counts_at_first (replicate window_count []) (λ k. none_held window_count k);

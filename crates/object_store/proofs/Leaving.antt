@@ -1,5 +1,6 @@
 -- What is left of one object of a list once it left, or couldn't.
-use Rattle.std.proofs.Common.{◌≡◌, ℕ, ◌<◌, Bool, true, false, List, length, map, set, get_or, Result, Ok, Err, Some, None, OnOk, OnErr, IsOk, IfErr, refl, ap, subst, ◌∙◌}
+use Rattle.std.proofs.Common.{◌≡◌, ℕ, ◌<◌, Bool, true, false, List, length, map, set, get_or, Result, Ok, Err, Some, None, OnOk, OnErr, IsOk, IfErr, refl, ap}
+use Rattle.std.proofs.Common.{subst, ◌∙◌}
 use Rattle.far_store.specs.declared.fault.StoreFault.{StoreFault}
 use Rattle.placement.specs.declared.places.Place.TheVariants.{Here, Far}
 use Rattle.far_store.specs.Calls.{Call, Calls}
@@ -14,7 +15,8 @@ pub record LeftAt {T E : Type 0} (r : Result T E) (bodies : List Kept) (n : ℕ)
   pub far : OnOk r (map place_in new ≡ set (map place_in bodies) n Far)
   pub here : OnErr r (map place_in new ≡ set (map place_in bodies) n Here)
   pub counts : map scopes_in new ≡ map scopes_in bodies
-  pub sent : OnOk r (map sent_in new ≡ set (map sent_in bodies) n (record (sent_of (map sent_in bodies) n) { parcel = Some (bytes_of (map bytes_in bodies) n) }))
+  pub sent : OnOk r (map sent_in new ≡ set (map sent_in bodies) n
+      (record (sent_of (map sent_in bodies) n) { parcel = Some (bytes_of (map bytes_in bodies) n) }))
   pub lost : OnErr r (map sent_in new ≡ set (map sent_in bodies) n unsent)
 
 pub not_clean : (b : Bool) → (b ≡ true → false ≡ true) → b ≡ false

@@ -44,7 +44,8 @@ parcel_at bodies i d h = ap (λ (s : Sent). s.parcel) (sent_at bodies i d h)
 pub clean_at : (bodies : List Kept) (i : ℕ) (d : Kept) → i < length bodies → (get_or bodies i d).clean ≡ (get_or (map sent_in bodies) i unsent).clean
 clean_at bodies i d h = ap (λ (s : Sent). s.clean) (sent_at bodies i d h)
 
-pub sent_set : (bodies : List Kept) (i : ℕ) (b : Kept) → map sent_in (set bodies i b) ≡ set (map sent_in bodies) i (record { parcel = b.parcel; clean = b.clean })
+pub sent_set : (bodies : List Kept) (i : ℕ) (b : Kept)
+    → map sent_in (set bodies i b) ≡ set (map sent_in bodies) i (record { parcel = b.parcel; clean = b.clean })
 sent_set bodies i b = map-set sent_in bodies i b
 
 pub sent_same : (bodies : List Kept) (i : ℕ) (b d : Kept) → sent_in b ≡ sent_in (get_or bodies i d) → map sent_in (set bodies i b) ≡ map sent_in bodies
@@ -52,16 +53,19 @@ sent_same bodies i b d e = map-set_same sent_in bodies i b d e
 
 -- ---- what is made of one part of it
 
-pub bytes_by : (bodies : List Kept) (i : ℕ) (d b : Kept) (f : List ℕ → List ℕ) → i < length bodies → b.bytes ≡ f (get_or bodies i d).bytes → map bytes_in (set bodies i b) ≡ set (map bytes_in bodies) i (f (get_or (map bytes_in bodies) i []))
+pub bytes_by : (bodies : List Kept) (i : ℕ) (d b : Kept) (f : List ℕ → List ℕ) → i < length bodies → b.bytes ≡ f (get_or bodies i d).bytes
+    → map bytes_in (set bodies i b) ≡ set (map bytes_in bodies) i (f (get_or (map bytes_in bodies) i []))
 bytes_by bodies i d b f h e = map-set bytes_in bodies i b ∙ ap (set (map bytes_in bodies) i) (e ∙ ap f (bytes_at bodies i d h))
 
 pub place_by : (bodies : List Kept) (i : ℕ) (b : Kept) (p : Place) → b.place ≡ p → map place_in (set bodies i b) ≡ set (map place_in bodies) i p
 place_by bodies i b p e = map-set place_in bodies i b ∙ ap (set (map place_in bodies) i) e
 
-pub scopes_by : (bodies : List Kept) (i : ℕ) (d b : Kept) (f : ℕ → ℕ) → i < length bodies → b.scopes ≡ f (get_or bodies i d).scopes → map scopes_in (set bodies i b) ≡ set (map scopes_in bodies) i (f (get_or (map scopes_in bodies) i 0))
+pub scopes_by : (bodies : List Kept) (i : ℕ) (d b : Kept) (f : ℕ → ℕ) → i < length bodies → b.scopes ≡ f (get_or bodies i d).scopes
+    → map scopes_in (set bodies i b) ≡ set (map scopes_in bodies) i (f (get_or (map scopes_in bodies) i 0))
 scopes_by bodies i d b f h e = map-set scopes_in bodies i b ∙ ap (set (map scopes_in bodies) i) (e ∙ ap f (scopes_at bodies i d h))
 
-pub sent_by : (bodies : List Kept) (i : ℕ) (d b : Kept) (f : Sent → Sent) → i < length bodies → sent_in b ≡ f (sent_in (get_or bodies i d)) → map sent_in (set bodies i b) ≡ set (map sent_in bodies) i (f (get_or (map sent_in bodies) i unsent))
+pub sent_by : (bodies : List Kept) (i : ℕ) (d b : Kept) (f : Sent → Sent) → i < length bodies → sent_in b ≡ f (sent_in (get_or bodies i d))
+    → map sent_in (set bodies i b) ≡ set (map sent_in bodies) i (f (get_or (map sent_in bodies) i unsent))
 sent_by bodies i d b f h e = map-set sent_in bodies i b ∙ ap (set (map sent_in bodies) i) (e ∙ ap f (sent_at bodies i d h))
 
 -- ---- of all parts of it
@@ -76,7 +80,8 @@ placed_at bodies i d b p e = record {
 }
 
 -- held by another number of windows
-pub counted_at : (bodies : List Kept) (i : ℕ) (d b : Kept) (f : ℕ → ℕ) → i < length bodies → b ≡ record (get_or bodies i d) { scopes = f (get_or bodies i d).scopes }
+pub counted_at : (bodies : List Kept) (i : ℕ) (d b : Kept) (f : ℕ → ℕ) → i < length bodies
+    → b ≡ record (get_or bodies i d) { scopes = f (get_or bodies i d).scopes }
     → IsCounted bodies (set (map scopes_in bodies) i (f (get_or (map scopes_in bodies) i 0))) (set bodies i b)
 counted_at bodies i d b f h e = record {
   counts = scopes_by bodies i d b f h (ap scopes_in e);

@@ -9,7 +9,8 @@ empty [] h = refl
 empty (x ∷ xs) h = absurd (omega arith)
 
 -- objects stay objects where one gets as many other bytes
-pub objects_stay : (objects : List (List ℕ)) (n : ℕ) (b : List ℕ) → AreObjects objects → length b ≡ length (bytes_of objects n) → AreObjects (with_bytes objects n b)
+pub objects_stay : (objects : List (List ℕ)) (n : ℕ) (b : List ℕ) → AreObjects objects → length b ≡ length (bytes_of objects n)
+    → AreObjects (with_bytes objects n b)
 objects_stay objects n b o h =
     let count = length-set objects n b in
     let zeroth = length-set_at objects n 0 b h in
@@ -28,7 +29,8 @@ short_end [] b (suc k) n h l = omega arith
 short_end (x ∷ xs) b zero n h l = h
 short_end (x ∷ xs) b (suc k) n h l = short_end xs b k n h l
 
-pub objects_made : (objects : List (List ℕ)) (b : List ℕ) → AreObjects objects → length objects ≤ object_limit → length b ≤ object_bytes → AreObjects (objects ++ b ∷ [])
+pub objects_made : (objects : List (List ℕ)) (b : List ℕ) → AreObjects objects → length objects ≤ object_limit → length b ≤ object_bytes
+    → AreObjects (objects ++ b ∷ [])
 objects_made objects b o room l =
     let count = length-append objects (b ∷ []) in
     record {

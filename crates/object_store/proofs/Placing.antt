@@ -19,7 +19,8 @@ in_list (b ∷ bodies) zero h = omega arith
 in_list (b ∷ bodies) (suc n) h = let g = in_list bodies n h in omega arith
 
 -- so it is where its callers see it
-pub found : (bodies : List Kept) (n : ℕ) (from : Place) → (0 < length (bytes_of (map bytes_in bodies) n)) × (place_of (map place_in bodies) n ≡ from) → IsFound bodies n from
+pub found : (bodies : List Kept) (n : ℕ) (from : Place)
+    → (0 < length (bytes_of (map bytes_in bodies) n)) × (place_of (map place_in bodies) n ≡ from) → IsFound bodies n from
 found bodies n from h = record { inside = in_list bodies n h.0; place = h.1 }
 
 -- what leaves the budget fits a word, as the budget does
@@ -33,20 +34,33 @@ fits_word bodies windows budget spare n count from k h e fits =
 
 -- The store, once the list is back with the object in the other place. It has its memory still.
 pub placed_back : {Z : Type 0} (v : Vec Kept Z) (lent new : List Kept) (windows : List (List ℕ)) (budget spare left n : ℕ) (from to : Place)
-    → IsKeptStore v.items windows budget spare × (v.cap ≡ number_count) → (0 < length (bytes_of (map bytes_in v.items) n)) × (place_of (map place_in v.items) n ≡ from)
+    → IsKeptStore v.items windows budget spare × (v.cap ≡ number_count)
+    → (0 < length (bytes_of (map bytes_in v.items) n)) × (place_of (map place_in v.items) n ≡ from)
     → lent ≡ v.items → length new ≡ length lent → length lent ≡ v.len
     → map bytes_in new ≡ map bytes_in lent → map place_in new ≡ set (map place_in lent) n to → map scopes_in new ≡ map scopes_in lent
     → left + near_length to (bytes_of (map bytes_in v.items) n) ≡ spare + near_length from (bytes_of (map bytes_in v.items) n)
     → IsKeptStore (with_items v new).items windows budget left × (v.cap ≡ number_count)
 placed_back v lent new windows budget spare left n from to k h value long all b q s e =
     let there = found v.items n from h in
-    rw (with_items_is v new (long ∙ all)) (placed v.items new windows budget spare left n from to k.0 there.inside there.place (rw value at b) (rw value at q) (rw value at s) e, k.1)
+    rw (with_items_is v new (long ∙ all)) (
+      placed v.items new windows budget spare left n from to k.0 there.inside there.place (rw value at b)
+          (rw value at q) (rw value at s) e,
+      k.1,
+    )
 
 -- and what its callers see of it then: where the object was, what else is said of the move, and what the move changed
 pub seen_placed : {Z Said : Type 0} (v : Vec Kept Z) (lent new : List Kept) (windows : List (List ℕ)) (budget faults n : ℕ) (from to : Place)
-    → (0 < length (bytes_of (map bytes_in v.items) n)) × (place_of (map place_in v.items) n ≡ from) → Said → lent ≡ v.items → length new ≡ length lent → length lent ≡ v.len
+    → (0 < length (bytes_of (map bytes_in v.items) n)) × (place_of (map place_in v.items) n ≡ from) → Said → lent ≡ v.items
+    → length new ≡ length lent → length lent ≡ v.len
     → map bytes_in new ≡ map bytes_in lent → map place_in new ≡ set (map place_in lent) n to
     → ((0 < length (bytes_of (map bytes_in v.items) n)) × (place_of (map place_in v.items) n ≡ from)) × Said
-    × ◌≡◌ {A = StoreState} (record { objects = map bytes_in (with_items v new).items; places = map place_in (with_items v new).items; windows = windows; budget = budget; faults = faults })
+    × ◌≡◌ {A = StoreState} (record {
+      objects = map bytes_in (with_items v new).items;
+      places = map place_in (with_items v new).items;
+      windows = windows;
+      budget = budget;
+      faults = faults;
+    })
     (record { objects = map bytes_in v.items; places = set (map place_in v.items) n to; windows = windows; budget = budget; faults = faults })
-seen_placed v lent new windows budget faults n from to there said value long all b q = (there, said, rw (with_items_is v new (long ∙ all), rw value at b, rw value at q) refl)
+seen_placed v lent new windows budget faults n from to there said value long all b q =
+    (there, said, rw (with_items_is v new (long ∙ all), rw value at b, rw value at q) refl)

@@ -59,7 +59,9 @@ AsksToLeave called old n _ new = AsksNothing old new
 
 -- An object that returns is got, and what is got are its bytes then. Over a store that returns what was put it is clean.
 abbrev pub AsksToReturn : {X : Type 0} → Bool → (X → Call → X → Type 0) → StoreWithin X → ℕ → Moved → StoreWithin X → Type 0
-AsksToReturn returns called old n moved.Done new = Calls called old.far (Get (parcel_of (sent_of old.sent n).parcel) (Ok (bytes_of new.state.objects n)) ∷ []) new.far
+AsksToReturn returns called old n moved.Done new =
+    Calls called old.far (Get (parcel_of (sent_of old.sent n).parcel) (Ok (bytes_of new.state.objects n)) ∷ []) new.far
     × (new.sent ≡ set old.sent n (record (sent_of old.sent n) { clean = returns }))
-AsksToReturn returns called old n (moved.Fault f) new = AsksInVain called old.far (sent_of old.sent n).parcel (length (bytes_of old.state.objects n)) f new.far × (new.sent ≡ old.sent)
+AsksToReturn returns called old n (moved.Fault f) new =
+    AsksInVain called old.far (sent_of old.sent n).parcel (length (bytes_of old.state.objects n)) f new.far × (new.sent ≡ old.sent)
 AsksToReturn returns called old n _ new = AsksNothing old new

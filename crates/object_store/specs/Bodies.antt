@@ -47,7 +47,8 @@ FitsWord out WordFar = out ≡ true
 
 -- An object as it is always kept, by its fields: its word, how many bytes it has, the bytes that are here, for how many of them
 -- memory is taken, its parcel, and its two marks: the far store alone has its bytes (out), its parcel stands for them (clean).
-pub record IsKept {P : Type 0} (stands_for : P → List ℕ) (word : WordRecord) (count : ℕ) (bytes : List ℕ) (memory : ℕ) (parcel : Option P) (out clean : Bool) : Type 0 where
+pub record IsKept {P : Type 0} (stands_for : P
+    → List ℕ) (word : WordRecord) (count : ℕ) (bytes : List ℕ) (memory : ℕ) (parcel : Option P) (out clean : Bool) : Type 0 where
   -- An object that is here isn't out, and one that is far is. One on its way may be either, which tells the way.
   pub fits : FitsWord out word.place
   -- Turns, heat and stamps are for objects that threads share, so the word of this one never has any.

@@ -31,7 +31,8 @@ same_length : (old new : StoreState) (k : ℕ) → new.objects ≡ old.objects �
 same_length old new k e = ap (λ (o : List (List ℕ)). length (bytes_of o k)) e
 
 -- an access changes no length
-kept_lengths : (who : ℕ) (old new : StoreState) (n k : ℕ) (op : Op) (r : Reach) → Touches who old n op r new → length (bytes_of new.objects k) ≡ length (bytes_of old.objects k)
+kept_lengths : (who : ℕ) (old new : StoreState) (n k : ℕ) (op : Op) (r : Reach) → Touches who old n op r new
+    → length (bytes_of new.objects k) ≡ length (bytes_of old.objects k)
 kept_lengths who old new n k op Outside h = same_length old new k (ap (λ (s : StoreState). s.objects) h.1)
 kept_lengths who old new n k op (Done x) h = lengths old.objects new.objects n k op (Done x) (h.0, h.2, ap (λ (s : StoreState). s.objects) h.3)
 kept_lengths who old new n k op Away h = same_length old new k (ap (λ (s : StoreState). s.objects) h.2)

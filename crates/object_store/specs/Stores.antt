@@ -130,7 +130,10 @@ abbrev pub Touches : ℕ → StoreState → ℕ → Op → Reach → StoreState 
 Touches who old n op Outside new = (Reaches old.objects n op → ⊥) × (new ≡ old)
 Touches who old n op Away new = Reaches old.objects n op × (place_of old.places n ≡ Here → ⊥) × (new ≡ old)
 Touches who old n op (Done x) new = Reaches old.objects n op × (place_of old.places n ≡ Here) × (x ≡ answer op (bytes_of old.objects n))
-    × (new ≡ record old { objects = with_bytes old.objects n (after op (bytes_of old.objects n)); windows = set old.windows who (noted n (window_of old.windows who)) })
+    × (new ≡ record old {
+      objects = with_bytes old.objects n (after op (bytes_of old.objects n));
+      windows = set old.windows who (noted n (window_of old.windows who));
+    })
 Touches who old n op _ new = ⊥
 
 -- a store as the memory of a machine

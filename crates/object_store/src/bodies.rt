@@ -1,5 +1,6 @@
 //! What is kept of one object: its word, its bytes, and the parcel that stands for them in the far store.
-ghost use Rattle.std.specs.Prelude.{◌≡◌, ◌<◌, ◌≤◌, ◌+◌, ◌-◌, [], true, false, ◌∷◌, ◌++◌, Some, None, Ok, is_some, length, IfOk, IfErr, OnOk, OnErr, IsOk, take, drop, vec_capacity};
+ghost use Rattle.std.specs.Prelude.{◌≡◌, ◌<◌, ◌≤◌, ◌+◌, ◌-◌, [], true, false, ◌∷◌, ◌++◌, Some, None, Ok, is_some, length, IfOk, IfErr, OnOk, OnErr, IsOk, take};
+ghost use Rattle.std.specs.Prelude.{drop, vec_capacity};
 ghost use Rattle.memory.specs.Access.{IsInside, answer, after, replaced};
 ghost use Rattle.object_store.specs.Stores.{HasRisen};
 ghost use Rattle.object_store.specs.Calls.{FailsToReturn};
@@ -47,7 +48,13 @@ impl<F: FarStore> Model for ObjectBody<F> {
 
     ghost Value = { Kept };
 
-    ghost view = { λ b. record { bytes = contents F.bytes_in b.out b.bytes.items b.parcel; place = place_of_word b.out b.word.place; scopes = b.word.count; parcel = parcel_bytes F.bytes_in b.parcel; clean = b.clean } };
+    ghost view = { λ b. record {
+      bytes = contents F.bytes_in b.out b.bytes.items b.parcel;
+      place = place_of_word b.out b.word.place;
+      scopes = b.word.count;
+      parcel = parcel_bytes F.bytes_in b.parcel;
+      clean = b.clean;
+    } };
 
     ghost invariant = { λ b. IsKept F.bytes_in b.word b.length b.bytes.items (vec_capacity b.bytes) b.parcel b.out b.clean };
 }

@@ -59,7 +59,8 @@ pub fn end_leave_into_at<F: HandsOut>(
     ensures counts { map scopes_in bodies.new ≡ map scopes_in bodies.old }
     ensures into { into.new ≡ bytes_of (map bytes_in bodies.old) number }
     ensures faults { F.faults_of store.old ≤ F.faults_of store.new }
-    ensures sent { map sent_in bodies.new ≡ set (map sent_in bodies.old) number (record (sent_of (map sent_in bodies.old) number) { parcel = Some (bytes_of (map bytes_in bodies.old) number) }) }
+    ensures sent { map sent_in bodies.new ≡ set (map sent_in bodies.old) number
+        (record (sent_of (map sent_in bodies.old) number) { parcel = Some (bytes_of (map bytes_in bodies.old) number) }) }
     ensures puts { Calls F.called store.old (leave_calls (sent_of (map sent_in bodies.old) number) (bytes_of (map bytes_in bodies.old) number) None) store.new }
 {
     bodies[number].end_leave_into(alloc, store, into);
@@ -86,10 +87,13 @@ pub fn end_return_from_at<F: HandsOut>(
     ensures others { IfErr result (λ f. bytes.now ≢ bytes_of (map bytes_in bodies.old) number → f ≡ Damaged) }
     ensures calm { OnOk result (F.faults_of store.new ≡ F.faults_of store.old) }
     ensures fault { OnErr result (HasRisen (F.faults_of store.old) (F.faults_of store.new)) }
-    ensures sent { OnOk result (map sent_in bodies.new ≡ set (map sent_in bodies.old) number (record (sent_of (map sent_in bodies.old) number) { clean = true })) }
+    ensures sent { OnOk result (map sent_in bodies.new
+        ≡ set (map sent_in bodies.old) number (record (sent_of (map sent_in bodies.old) number) { clean = true })) }
     ensures kept { OnErr result (map sent_in bodies.new ≡ map sent_in bodies.old) }
-    ensures gets { OnOk result (Calls F.called store.old (Get (parcel_of (sent_of (map sent_in bodies.old) number).parcel) (Ok (bytes_of (map bytes_in bodies.old) number)) ∷ []) store.new) }
-    ensures vain { IfErr result (λ f. AsksInVain F.called store.old (sent_of (map sent_in bodies.old) number).parcel (length (bytes_of (map bytes_in bodies.old) number)) f store.new) }
+    ensures gets { OnOk result (Calls F.called store.old
+        (Get (parcel_of (sent_of (map sent_in bodies.old) number).parcel) (Ok (bytes_of (map bytes_in bodies.old) number)) ∷ []) store.new) }
+    ensures vain { IfErr result (λ f. AsksInVain F.called store.old (sent_of (map sent_in bodies.old) number).parcel
+        (length (bytes_of (map bytes_in bodies.old) number)) f store.new) }
 {
     match bodies[number].end_return_from(store, bytes) {
         Ok(()) => Ok(()),

@@ -61,11 +61,17 @@ pub fn end_leave_at<F: FarStore>(
     ensures counts { map scopes_in bodies.new ≡ map scopes_in bodies.old }
     ensures faults { OnOk result (F.faults_of store.old ≤ F.faults_of store.new) }
     ensures fault { OnErr result (HasRisen (F.faults_of store.old) (F.faults_of store.new)) }
-    ensures sent { OnOk result (map sent_in bodies.new ≡ set (map sent_in bodies.old) number (record (sent_of (map sent_in bodies.old) number) { parcel = Some (bytes_of (map bytes_in bodies.old) number) })) }
+    ensures sent { OnOk result (map sent_in bodies.new
+        ≡ set (map sent_in bodies.old) number (record (sent_of (map sent_in bodies.old) number) {
+          parcel =
+              Some (bytes_of (map bytes_in bodies.old) number);
+        })) }
     ensures lost { OnErr result (map sent_in bodies.new ≡ set (map sent_in bodies.old) number unsent) }
     ensures clean { (sent_of (map sent_in bodies.old) number).clean ≡ true → IsOk result }
-    ensures puts { OnOk result (Calls F.called store.old (leave_calls (sent_of (map sent_in bodies.old) number) (bytes_of (map bytes_in bodies.old) number) None) store.new) }
-    ensures tries { IfErr result (λ f. Calls F.called store.old (leave_calls (sent_of (map sent_in bodies.old) number) (bytes_of (map bytes_in bodies.old) number) (Some f)) store.new) }
+    ensures puts { OnOk result (Calls F.called store.old
+        (leave_calls (sent_of (map sent_in bodies.old) number) (bytes_of (map bytes_in bodies.old) number) None) store.new) }
+    ensures tries { IfErr result (λ f. Calls F.called store.old
+        (leave_calls (sent_of (map sent_in bodies.old) number) (bytes_of (map bytes_in bodies.old) number) (Some f)) store.new) }
 {
     bodies[number].end_leave(alloc, store)
 }
@@ -97,10 +103,13 @@ pub fn end_return_at<F: FarStore>(
     ensures counts { map scopes_in bodies.new ≡ map scopes_in bodies.old }
     ensures calm { OnOk result (F.faults_of store.new ≡ F.faults_of store.old) }
     ensures fault { OnErr result (FailsToReturn F.RETURNS (F.faults_of store.old) (F.faults_of store.new)) }
-    ensures sent { OnOk result (map sent_in bodies.new ≡ set (map sent_in bodies.old) number (record (sent_of (map sent_in bodies.old) number) { clean = F.RETURNS })) }
+    ensures sent { OnOk result (map sent_in bodies.new
+        ≡ set (map sent_in bodies.old) number (record (sent_of (map sent_in bodies.old) number) { clean = F.RETURNS })) }
     ensures kept { OnErr result (map sent_in bodies.new ≡ map sent_in bodies.old) }
-    ensures gets { OnOk result (Calls F.called store.old (Get (parcel_of (sent_of (map sent_in bodies.old) number).parcel) (Ok (bytes_of (map bytes_in bodies.new) number)) ∷ []) store.new) }
-    ensures vain { IfErr result (λ f. AsksInVain F.called store.old (sent_of (map sent_in bodies.old) number).parcel (length (bytes_of (map bytes_in bodies.old) number)) f store.new) }
+    ensures gets { OnOk result (Calls F.called store.old
+        (Get (parcel_of (sent_of (map sent_in bodies.old) number).parcel) (Ok (bytes_of (map bytes_in bodies.new) number)) ∷ []) store.new) }
+    ensures vain { IfErr result (λ f. AsksInVain F.called store.old (sent_of (map sent_in bodies.old) number).parcel
+        (length (bytes_of (map bytes_in bodies.old) number)) f store.new) }
 {
     match bodies[number].end_return(store) {
         Ok(()) => Ok(()),

@@ -104,7 +104,8 @@ pub fn act_at<F: FarStore>(bodies: &mut [ObjectBody<F>], number: usize, op: &Op)
     ensures bytes { map bytes_in bodies.new ≡ with_bytes (map bytes_in bodies.old) number (after op.now (bytes_of (map bytes_in bodies.old) number)) }
     ensures places { map place_in bodies.new ≡ map place_in bodies.old }
     ensures counts { map scopes_in bodies.new ≡ map scopes_in bodies.old }
-    ensures sent { map sent_in bodies.new ≡ set (map sent_in bodies.old) number (record (sent_of (map sent_in bodies.old) number) { clean = clean_after op.now.action (sent_of (map sent_in bodies.old) number).clean }) }
+    ensures sent { map sent_in bodies.new ≡ set (map sent_in bodies.old) number
+        (record (sent_of (map sent_in bodies.old) number) { clean = clean_after op.now.action (sent_of (map sent_in bodies.old) number).clean }) }
 {
     bodies[number].act(op)
 }

@@ -49,7 +49,17 @@ impl<F: FarStore> Model for ObjectStore<F> {
 
     ghost Value = { StoreWithin F };
 
-    ghost view = { λ s. record { state = record { objects = map bytes_in s.bodies.items; places = map place_in s.bodies.items; windows = s.windows; budget = s.budget; faults = F.faults_of s.store }; far = s.store; sent = map sent_in s.bodies.items } };
+    ghost view = { λ s. record {
+      state = record {
+        objects = map bytes_in s.bodies.items;
+        places = map place_in s.bodies.items;
+        windows = s.windows;
+        budget = s.budget;
+        faults = F.faults_of s.store;
+      };
+      far = s.store;
+      sent = map sent_in s.bodies.items;
+    } };
 
     ghost invariant = { λ s. IsKeptStore s.bodies.items s.windows s.budget s.spare × (vec_capacity s.bodies ≡ number_count) };
 }

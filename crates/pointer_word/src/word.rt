@@ -1,6 +1,7 @@
 //! The word of an object in 64 bits, and its calls. Each is a few shifts and masks, so that a step can afford them.
 ghost use Rattle.std.specs.Prelude.{◌≡◌, ◌+◌, ◌-◌, ◌<◌, nat_eq, None, IfSome};
-ghost use Rattle.pointer_word.specs.Words.{WordRecord, HasFields, place_number, where_it_applies, word_number, new_word, is_local, opened, closed, turn_taken, turn_given, cooled, leaving, gone_far, returning, home};
+ghost use Rattle.pointer_word.specs.Words.{WordRecord, HasFields, place_number, where_it_applies, word_number, new_word, is_local, opened, closed, turn_taken};
+ghost use Rattle.pointer_word.specs.Words.{turn_given, cooled, leaving, gone_far, returning, home};
 ghost use Rattle.pointer_word.specs.Bits.{cold_bits, place_at};
 
 use std::marker::Model;

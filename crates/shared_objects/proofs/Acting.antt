@@ -1,5 +1,6 @@
 -- A seat after a call of its actor.
-use Rattle.std.proofs.Common.{◌≡◌, ℕ, ◌+◌, ◌<◌, ◌≤◌, List, [], ◌∷◌, length, sym, refl, ap, ◌∙◌, subst, arith, None, zero, map, suc, ◌++◌, take, drop, length-take, length-drop}
+use Rattle.std.proofs.Common.{◌≡◌, ℕ, ◌+◌, ◌<◌, ◌≤◌, List, [], ◌∷◌, length, sym, refl, ap, ◌∙◌, subst, arith, None, zero, map, suc, ◌++◌, take, drop}
+use Rattle.std.proofs.Common.{length-take, length-drop}
 use Rattle.std.proofs.lemmas.List.{length-map}
 use Rattle.atomic_table.specs.Table.{rest}
 use Rattle.isa_table.specs.declared.instr.Size.{Size}
@@ -25,7 +26,8 @@ use Rattle.shared_objects.specs.declared.seats.ActorSeat.{ActorSeat}
 use Rattle.shared_objects.specs.declared.table.SharedTable.{SharedTable}
 use Rattle.shared_objects.specs.declared.view.View.{View}
 
-pub rests_after : (old new : Sat) (w : View) → Rests old → new ≡ (w, []) → w.turn ≡ None → w.live ≡ old.0.live → w.made ≡ old.0.made → w.gathered ≡ old.0.gathered → w.passing ≡ old.0.passing → w.out ≡ old.0.out → Rests new
+pub rests_after : (old new : Sat) (w : View) → Rests old → new ≡ (w, []) → w.turn ≡ None → w.live ≡ old.0.live → w.made ≡ old.0.made
+    → w.gathered ≡ old.0.gathered → w.passing ≡ old.0.passing → w.out ≡ old.0.out → Rests new
 rests_after old new w r is t a b c d e = subst Rests (sym is) (refl, t, a ∙ r.2, b ∙ r.3, c ∙ r.4, d ∙ r.5, e ∙ r.6)
 
 some_bytes : (s : Size) → 0 < size_bytes s
@@ -45,17 +47,26 @@ none_above (x ∷ xs) (suc n) h = none_above xs n (omega arith)
 
 -- an actor's seat, with its window and its stamp, between two calls
 abbrev ActorFits : Sat → List ℕ → ℕ → Type 0
-ActorFits m window stamp = record { rests : Rests m; opens : m.0.scopes ≡ window; near : AllBelow (length m.0.opening) window; stamped : top 0 m.0.entries ≤ stamp }
+ActorFits m window stamp = record {
+  rests : Rests m;
+  opens : m.0.scopes ≡ window;
+  near : AllBelow (length m.0.opening) window;
+  stamped : top 0 m.0.entries ≤ stamp;
+}
 
 -- a seat after a call that noted an object
-noted_seat : (old new : Sat) (w : View) (window after : List ℕ) (n stamp : ℕ) → Rests old → old.0.scopes ≡ window → AllBelow (length old.0.opening) window → new ≡ (w, []) → after ≡ noted n window
-    → w.scopes ≡ noted n old.0.scopes → w.turn ≡ None → w.live ≡ old.0.live → w.made ≡ old.0.made → w.gathered ≡ old.0.gathered → w.passing ≡ old.0.passing → w.out ≡ old.0.out → w.opening ≡ old.0.opening
+noted_seat : (old new : Sat) (w : View) (window after : List ℕ) (n stamp : ℕ) → Rests old → old.0.scopes ≡ window → AllBelow (length old.0.opening) window
+    → new ≡ (w, []) → after ≡ noted n window
+    → w.scopes ≡ noted n old.0.scopes → w.turn ≡ None → w.live ≡ old.0.live → w.made ≡ old.0.made → w.gathered ≡ old.0.gathered → w.passing ≡ old.0.passing
+    → w.out ≡ old.0.out → w.opening ≡ old.0.opening
     → n < length old.0.opening → top 0 w.entries ≤ stamp
     → ActorFits new after stamp
 noted_seat old new w window after n stamp r opens near is then scopes t a b c d e opening lt low = record {
   rests = rests_after old new w r is t a b c d e;
   opens = ap (λ (m : Sat). m.0.scopes) is ∙ scopes ∙ ap (noted n) opens ∙ sym then;
-  near = subst (λ (m : Sat). AllBelow (length m.0.opening) after) (sym is) (subst (λ (o : List (List ℕ)). AllBelow (length o) after) (sym opening) (subst (AllBelow (length old.0.opening)) (sym then) (below_noted (length old.0.opening) n window near lt)));
+  near = subst (λ (m : Sat). AllBelow (length m.0.opening) after) (sym is)
+      (subst (λ (o : List (List ℕ)). AllBelow (length o) after) (sym opening)
+      (subst (AllBelow (length old.0.opening)) (sym then) (below_noted (length old.0.opening) n window near lt)));
   stamped = subst (λ (m : Sat). top 0 m.0.entries ≤ stamp) (sym is) low;
 }
 
@@ -64,7 +75,8 @@ opened_at : (lengths : List ℕ) (key opening : List (List ℕ)) (n : ℕ) → l
 opened_at lengths key opening n sizes same lt = omega (arith, ap length sizes, length-map key length, ap length same)
 
 -- a call of an actor of the table on one of its objects, which it noted
-module _ (shared : SharedTable) (a : ActorSeat) (of : IsActorOf shared a) (new : Sat) (after : List ℕ) (n : ℕ) (near : n < length shared.lengths.items) (then : after ≡ noted n a.window) where
+module _ (shared : SharedTable) (a : ActorSeat) (of : IsActorOf shared a) (new : Sat) (after : List ℕ) (n : ℕ) (near : n < length shared.lengths.items)
+    (then : after ≡ noted n a.window) where
   lt : n < length a.seat.me.0.opening
   lt = opened_at shared.lengths.items (table_opening shared) a.seat.me.0.opening n shared.sizes of.1 near
 
@@ -77,7 +89,8 @@ module _ (shared : SharedTable) (a : ActorSeat) (of : IsActorOf shared a) (new :
   worn_seat found is = noted_seat a.seat.me new _ a.window after n a.stamp a.rests a.opens a.near is then refl refl refl refl refl refl refl refl lt a.stamped
 
   -- it had the turn, and there is one entry more
-  pub done_seat : (found stamp : ℕ) (bytes : List ℕ) (v : View) (deed : Deed) (given : Given) → v ≡ holding n found bytes (looking n a.seat.me.0) → new ≡ (recorded (entry v.actor stamp found n deed given) v, []) → ActorFits new after stamp
+  pub done_seat : (found stamp : ℕ) (bytes : List ℕ) (v : View) (deed : Deed) (given : Given) → v ≡ holding n found bytes (looking n a.seat.me.0)
+      → new ≡ (recorded (entry v.actor stamp found n deed given) v, []) → ActorFits new after stamp
   done_seat found stamp bytes v deed given held is =
       let told = is ∙ ap (λ (u : View). (recorded (entry u.actor stamp found n deed given) u, [])) held in
       noted_seat a.seat.me new _ a.window after n stamp a.rests a.opens a.near told then refl refl refl refl refl refl refl refl lt
@@ -92,10 +105,12 @@ pub still_alone : (m : Sat) (n : ℕ) (P : Body → Type 0) → HoldsBody m n P 
 still_alone m n P h body = ap (λ l. (n, body) ∷ rest l) h.1
 
 -- what is known of an entry's deed and answer is known of an equal entry
-pub told_by : (m : Sat) (n : ℕ) (bytes : List ℕ) (e f : SharedEntry) → e ≡ f → EndsInside f.deed (length bytes) → f.given ≡ given_by f.deed bytes → HoldsBody m n (λ body. body.bytes.items ≡ left_by f.deed bytes)
+pub told_by : (m : Sat) (n : ℕ) (bytes : List ℕ) (e f : SharedEntry) → e ≡ f → EndsInside f.deed (length bytes) → f.given ≡ given_by f.deed bytes
+    → HoldsBody m n (λ body. body.bytes.items ≡ left_by f.deed bytes)
     → EndsInside e.deed (length bytes) × (e.given ≡ given_by e.deed bytes) × HoldsBody m n (λ body. body.bytes.items ≡ left_by e.deed bytes)
 told_by m n bytes e f is inside given held =
-    let Fit : SharedEntry → Type 0 = λ x. EndsInside x.deed (length bytes) × (x.given ≡ given_by x.deed bytes) × HoldsBody m n (λ body. body.bytes.items ≡ left_by x.deed bytes) in
+    let Fit : SharedEntry → Type 0 = λ x. EndsInside x.deed (length bytes) × (x.given ≡ given_by x.deed bytes)
+    × HoldsBody m n (λ body. body.bytes.items ≡ left_by x.deed bytes) in
     subst Fit (sym is) (inside, given, held)
 
 -- all of a vector is written over

@@ -13,7 +13,15 @@ few_rest : (n : ℕ) (vs : List View) → length vs ≤ 57 → ((j : ℕ) (v : V
     → ((v : View) → get_elem? vs 0 ≡ some v → (v.scopes ≡ []) × (v.passing ≡ [])) → total (has_open n) vs + total (has_pass n) vs ≤ 56
 few_rest n [] few once first = omega arith
 few_rest n (v ∷ vs) few once first = let f = first v refl in
-    omega (arith, ap (times n) f.0, ap (times n) f.1, total_few (λ (u : View). has_open n u + has_pass n u) vs (λ j u e. once (suc j) u e), total-sum (has_open n) (has_pass n) vs)
+    omega (
+      arith,
+      ap (times n) f.0,
+      ap (times n) f.1,
+      total_few (λ (u : View). has_open n u + has_pass n u) vs (λ j u e. once (suc j) u e),
+      total-sum (has_open n) (has_pass n) vs,
+    )
 
-pub counts_few : (returns : Bool) (opening : List (List ℕ)) (s : State Body View) → Kept returns opening s → (n : ℕ) → total (has_open n) s.views + total (has_pass n) s.views ≤ 56
-counts_few returns opening s o n = few_rest n s.views o.seats.few (λ j v e. (o.seats.knows j v e).opens_once n) (λ v e. let h = (o.seats.knows 0 v e).first refl in (h.1, h.2))
+pub counts_few : (returns : Bool) (opening : List (List ℕ)) (s : State Body View) → Kept returns opening s → (n : ℕ)
+    → total (has_open n) s.views + total (has_pass n) s.views ≤ 56
+counts_few returns opening s o n = few_rest n s.views o.seats.few (λ j v e. (o.seats.knows j v e).opens_once n) (λ v e. let h =
+    (o.seats.knows 0 v e).first refl in (h.1, h.2))

@@ -1,5 +1,6 @@
 -- Seats are taken in, and the last one knows all.
-use Rattle.std.proofs.Common.{◌≡◌, ℕ, zero, suc, ◌+◌, ◌-◌, ◌<◌, ◌≤◌, ◌≢◌, Bool, true, false, List, [], ◌∷◌, ◌++◌, length, set, sym, refl, ap, ◌∙◌, subst, arith, cond, ◌⊎◌, inl, inr, ⊎_elim, length-set, map, take, Some, None}
+use Rattle.std.proofs.Common.{◌≡◌, ℕ, zero, suc, ◌+◌, ◌-◌, ◌<◌, ◌≤◌, ◌≢◌, Bool, true, false, List, [], ◌∷◌, ◌++◌, length, set, sym, refl, ap, ◌∙◌, subst, arith}
+use Rattle.std.proofs.Common.{cond, ◌⊎◌, inl, inr, ⊎_elim, length-set, map, take, Some, None}
 use Rattle.std.specs.Prelude.{slice_index_or}
 use Rattle.std.proofs.lemmas.Bool.{cases_lt}
 use mathlib.Core.Logic.{dite}
@@ -10,7 +11,8 @@ use Rattle.atomic_table.specs.Table.{State, Joins}
 use Rattle.atomic_table.proofs.Lists.{at_set, set_else}
 use Rattle.shared_objects.specs.History.{Has, Chained, AllInside, Answers}
 use Rattle.memory.specs.Objects.{bytes_of}
-use Rattle.shared_objects.specs.Rule.{total, times, has_turn, has_open, has_pass, has_moving, has_far, place_of, bytes_taken, is_moving, is_far, is_live, spent, HasPart, PartFits, MarkFits, Stands, turns_on, Knows, Kept}
+use Rattle.shared_objects.specs.Rule.{total, times, has_turn, has_open, has_pass, has_moving, has_far, place_of, bytes_taken, is_moving, is_far, is_live, spent}
+use Rattle.shared_objects.specs.Rule.{HasPart, PartFits, MarkFits, Stands, turns_on, Knows, Kept}
 use Rattle.shared_objects.specs.Kinds.{gathers, gathers_all, part}
 use Rattle.shared_objects.specs.declared.body.Body.{Body}
 use Rattle.shared_objects.specs.declared.view.SharedEntry.{SharedEntry}
@@ -31,7 +33,8 @@ use Rattle.shared_objects.proofs.One.{one_list}
 use Rattle.shared_objects.specs.One.{PartsFit}
 
 -- The seat that makes the others takes in one that holds no turn and has no scope open
-pub joins_ok : (returns : Bool) (key : List (List ℕ)) (id : ℕ) (v : View) (other : ℕ) (u : View) → 0 < v.made → v.live ≡ true → u.live ≡ true → u.made ≡ 0 → u.turn ≡ None → u.scopes ≡ [] → u.gathered ≡ [] → u.passing ≡ [] → u.out ≡ []
+pub joins_ok : (returns : Bool) (key : List (List ℕ)) (id : ℕ) (v : View) (other : ℕ) (u : View) → 0 < v.made → v.live ≡ true → u.live ≡ true → u.made ≡ 0
+    → u.turn ≡ None → u.scopes ≡ [] → u.gathered ≡ [] → u.passing ≡ [] → u.out ≡ []
     → Joins (Kept returns key) id v other u (gathers v u) spent
 joins_ok returns key id v other u maker alive_ here young free shut clean past home s o me apart them =
     let w : View = gathers v u in
@@ -41,12 +44,14 @@ joins_ok returns key id v other u maker alive_ here young free shut clean past h
     let there : get_elem? s.views other ≡ some u = sym (set_else s.views id other w apart) ∙ them in
     let k = o.seats.knows id v me in let ku = o.seats.knows other u there in
     let d = o.seats.dealer id v me maker in
-    let both : (g : View → ℕ) → total g vs' + g u + g v ≡ total g s.views + g w + g spent = λ g. omega (arith, total-set g s.views id v w me, total-set g vs other u spent them) in
+    let both : (g : View → ℕ) → total g vs' + g u + g v ≡ total g s.views + g w + g spent =
+    λ g. omega (arith, total-set g s.views id v w me, total-set g vs other u spent them) in
     let long : length vs' ≡ length s.views = length-set vs other spent ∙ length-set s.views id w in
     let one : is_live v ≡ 1 = ap {B = ℕ} (λ (b : Bool). cond b 1 0) alive_ in let one' : is_live u ≡ 1 = ap {B = ℕ} (λ (b : Bool). cond b 1 0) here in
     let numbered : u.actor ≡ other = ku.actor here in
     let gone : get_elem? vs' other ≡ some spent = set_there vs other u spent them in
-    let not_live : (n : ℕ) (y : View) → get_elem? s.views n ≡ some y → y.live ≡ true → get_elem? s.views n ≡ some spent → ⊥ = λ n y at lively is. no_live (ap (λ (z : View). z.live) (some-injective spent y (sym is ∙ at)) ∙ lively) in
+    let not_live : (n : ℕ) (y : View) → get_elem? s.views n ≡ some y → y.live ≡ true → get_elem? s.views n ≡ some spent
+    → ⊥ = λ n y at lively is. no_live (ap (λ (z : View). z.live) (some-injective spent y (sym is ∙ at)) ∙ lively) in
     -- a seat that was taken in stays so
     let stays : (p : Part) → PartFits o.logs s.views p → PartFits o.logs vs' p = λ p f. record {
       rises = f.rises;
@@ -55,12 +60,20 @@ joins_ok returns key id v other u maker alive_ here young free shut clean past h
       gone = set_else vs other p.actor spent (λ e. not_live other u there here (sym (ap (get_elem? s.views) e) ∙ f.gone))
           ∙ set_else s.views id p.actor w (λ e. not_live id v me alive_ (sym (ap (get_elem? s.views) e) ∙ f.gone)) ∙ f.gone;
     } in
-    let news : PartFits o.logs vs' new = record { rises = ku.rises; entries = λ e h. (let q = ku.entries e h in (q.0 ∙ sym numbered, q.1)); marks = ku.marks; gone = ap (get_elem? vs') numbered ∙ gone } in
+    let news : PartFits o.logs vs' new = record {
+      rises = ku.rises;
+      entries = λ e h. (let q = ku.entries e h in (q.0 ∙ sym numbered, q.1));
+      marks = ku.marks;
+      gone = ap (get_elem? vs') numbered ∙ gone;
+    } in
     let not_zero : other ≡ 0 → ⊥ = λ z. (let h = (ku.first z).0 in omega (arith, young)) in
-    let fresh : (p : Part) → Has v.gathered p → p.actor ≡ new.actor → ⊥ = λ p h e. let f = o.seats.parts id v me p h in not_live other u there here (sym (ap (get_elem? s.views) (e ∙ numbered)) ∙ f.gone) in
+    let fresh : (p : Part) → Has v.gathered p → p.actor ≡ new.actor → ⊥ = λ p h e. let f = o.seats.parts id v me p h in
+    not_live other u there here (sym (ap (get_elem? s.views) (e ∙ numbered)) ∙ f.gone) in
     -- which seat it is
-    let which : (j : ℕ) (x : View) → get_elem? vs' j ≡ some x → ((j ≡ other) × (spent ≡ x)) ⊎ (((j ≡ id) × (w ≡ x)) ⊎ ((j ≢ id) × (get_elem? s.views j ≡ some x))) = λ j x at. ⊎_elim
-    (λ (t : (j ≡ other) × (spent ≡ x)). inl t) (λ (t : (j ≢ other) × (get_elem? vs j ≡ some x)). inr (at_set s.views id j w x t.1)) (at_set vs other j spent x at) in
+    let which : (j : ℕ) (x : View) → get_elem? vs' j ≡ some x
+    → ((j ≡ other) × (spent ≡ x)) ⊎ (((j ≡ id) × (w ≡ x)) ⊎ ((j ≢ id) × (get_elem? s.views j ≡ some x))) = λ j x at. ⊎_elim
+    (λ (t : (j ≡ other) × (spent ≡ x)). inl t) (λ (t : (j ≢ other)
+    × (get_elem? vs j ≡ some x)). inr (at_set s.views id j w x t.1)) (at_set vs other j spent x at) in
     record {
       logs = o.logs;
       objects = record {
@@ -74,32 +87,48 @@ joins_ok returns key id v other u maker alive_ here young free shut clean past h
             let near : has_far n u ≡ 0 = ap (λ (l : List Whereabouts). is_far (slice_index_or l n Here)) home in
             let moving : total (has_moving n) vs' ≡ total (has_moving n) s.views = omega (arith, both (has_moving n), still) in
             let far : total (has_far n) vs' ≡ total (has_far n) s.views = omega (arith, both (has_far n), near) in
-            same_fits _ _ _ _ _ _ _ _ _ _ (λ i. record { turns = turns i; opens = opens i; passes = passes i; moving = moving i; far = far i }) refl refl refl (o.objects.fits n lt);
+            same_fits _ _ _ _ _ _ _ _ _ _ (λ i. record {
+              turns = turns i;
+              opens = opens i;
+              passes = passes i;
+              moving = moving i;
+              far = far i;
+            }) refl refl refl (o.objects.fits n lt);
         nowhere = o.objects.nowhere;
       };
       seats = record {
         few = subst (λ n. n ≤ 57) (sym long) o.seats.few;
         knows = λ j x at. ⊎_elim
-            (λ (t : (j ≡ other) × (spent ≡ x)). subst (λ y. Knows returns key o.logs j y) t.1 (knows_nothing returns key o.logs j false spent.returns spent.actor spent.opening (λ z. not_zero (sym t.0 ∙ z)) (λ e. absurd (no_live e)) (λ _. refl)))
+            (λ (t : (j ≡ other) × (spent ≡ x)). subst (λ y. Knows returns key o.logs j y) t.1
+            (knows_nothing returns key o.logs j false spent.returns spent.actor spent.opening (λ z. not_zero (sym t.0 ∙ z))
+            (λ e. absurd (no_live e)) (λ _. refl)))
             (λ t. ⊎_elim
-            (λ (q : (j ≡ id) × (w ≡ x)). subst (λ y. Knows returns key o.logs j y) q.1 (subst (λ i. Knows returns key o.logs i w) (sym q.0) (knows_still returns key o.logs id v v.made (v.alive - 1) (v.gathered ++ new ∷ []) k alive_ maker d.0)))
+            (λ (q : (j ≡ id) × (w ≡ x)). subst (λ y. Knows returns key o.logs j y) q.1
+            (subst (λ i. Knows returns key o.logs i w) (sym q.0)
+            (knows_still returns key o.logs id v v.made (v.alive - 1) (v.gathered ++ new ∷ []) k alive_ maker d.0)))
             (λ (q : (j ≢ id) × (get_elem? s.views j ≡ some x)). o.seats.knows j x q.1) t)
             (which j x at);
         dealer = λ j x at some-made. ⊎_elim
             (λ (t : (j ≡ other) × (spent ≡ x)). absurd (omega (arith, ap (λ (y : View). y.made) t.1)))
             (λ t. ⊎_elim
-            (λ (q : (j ≡ id) × (w ≡ x)). (q.0 ∙ d.0, ap (λ (y : View). y.made) (sym q.1) ∙ d.1 ∙ sym long, omega (arith, ap (λ (y : View). y.alive) q.1, d.2, both is_live, terms_le is_live s.views id other v u apart me there)))
+            (λ (q : (j ≡ id) × (w ≡ x)). (
+              q.0 ∙ d.0,
+              ap (λ (y : View). y.made) (sym q.1) ∙ d.1 ∙ sym long,
+              omega (arith, ap (λ (y : View). y.alive) q.1, d.2, both is_live, terms_le is_live s.views id other v u apart me there),
+            ))
             (λ (q : (j ≢ id) × (get_elem? s.views j ≡ some x)). absurd (q.0 ((o.seats.dealer j x q.1 some-made).0 ∙ sym d.0))) t)
             (which j x at);
         parts = λ j x at p has. ⊎_elim
-            (λ (t : (j ≡ other) × (spent ≡ x)). absurd (let bad : Has [] p = subst (λ l. Has l p) (ap (λ (y : View). y.gathered) (sym t.1)) has in some-ne-none p (sym bad.1)))
+            (λ (t : (j ≡ other) × (spent ≡ x)). absurd (let bad : Has [] p = subst (λ l. Has l p) (ap (λ (y : View). y.gathered) (sym t.1)) has in
+            some-ne-none p (sym bad.1)))
             (λ t. ⊎_elim
             (λ (q : (j ≡ id) × (w ≡ x)). ⊎_elim (λ old. stays p (o.seats.parts id v me p old)) (λ (e : new ≡ p). subst (PartFits o.logs vs') e news)
             (has_snoc v.gathered new p (subst (λ l. Has l p) (ap (λ (y : View). y.gathered) (sym q.1)) has)))
             (λ (q : (j ≢ id) × (get_elem? s.views j ≡ some x)). stays p (o.seats.parts j x q.1 p has)) t)
             (which j x at);
         apart = λ j x at a b p q hp hq same. ⊎_elim
-            (λ (t : (j ≡ other) × (spent ≡ x)). absurd (let bad : get_elem? {A = Part} [] a ≡ some p = subst (λ l. get_elem? l a ≡ some p) (ap (λ (y : View). y.gathered) (sym t.1)) hp in some-ne-none p (sym bad)))
+            (λ (t : (j ≡ other) × (spent ≡ x)). absurd (let bad : get_elem? {A = Part} [] a ≡ some p =
+            subst (λ l. get_elem? l a ≡ some p) (ap (λ (y : View). y.gathered) (sym t.1)) hp in some-ne-none p (sym bad)))
             (λ t. ⊎_elim
             (λ (z : (j ≡ id) × (w ≡ x)). let e : x.gathered ≡ v.gathered ++ new ∷ [] = ap (λ (y : View). y.gathered) (sym z.1) in
             ⊎_elim
@@ -123,14 +152,16 @@ joins_ok returns key id v other u maker alive_ here young free shut clean past h
               w,
               set_else vs other id spent (λ q. apart (sym q)) ∙ set_there s.views id v w me,
               ⊎_elim (λ own. inr (new, has_last v.gathered new, subst (λ (y : View). Has y.entries e) is own))
-                  (λ got. absurd (let bad : HasPart [] e = subst (λ l. HasPart l e) (ap (λ (y : View). y.gathered) is ∙ clean) got in some-ne-none bad.0 (sym bad.1.1))) t.1.3,
+                  (λ got. absurd (let bad : HasPart [] e = subst (λ l. HasPart l e) (ap (λ (y : View). y.gathered) is ∙ clean) got in
+                  some-ne-none bad.0 (sym bad.1.1))) t.1.3,
             ))
             (λ ne. dite (ℕ_discrete t.1.0 id)
             (λ it. let is : t.1.1 ≡ v = some-injective t.1.1 v (sym t.1.2 ∙ ap (get_elem? s.views) it ∙ me) in (
               id,
               w,
               set_else vs other id spent (λ q. apart (sym q)) ∙ set_there s.views id v w me,
-              ⊎_elim (λ own. inl (subst (λ (y : View). Has y.entries e) is own)) (λ got. let g = subst (λ (y : View). HasPart y.gathered e) is got in inr (g.0, has_longer v.gathered (new ∷ []) g.0 g.1, g.2)) t.1.3,
+              ⊎_elim (λ own. inl (subst (λ (y : View). Has y.entries e) is own)) (λ got. let g = subst (λ (y : View). HasPart y.gathered e) is got in
+                  inr (g.0, has_longer v.gathered (new ∷ []) g.0 g.1, g.2)) t.1.3,
             ))
             (λ ne'. (t.1.0, t.1.1, set_else vs other t.1.0 spent ne ∙ set_else s.views id t.1.0 w ne' ∙ t.1.2, t.1.3))),
       );
@@ -144,9 +175,11 @@ pub record Settled (returns : Bool) (key : List (List ℕ)) (v : View) (s : Stat
   pub from : (n : ℕ) (e : SharedEntry) → Has (logs n) e → (e.object ≡ n) × HasPart v.gathered e
   pub nowhere : (n : ℕ) → length key ≤ n → logs n ≡ []
   pub marks : (p : Part) → Has v.gathered p → (m : Mark) → Has p.marks m → MarkFits logs m
-  pub legal : (n : ℕ) → n < length key → Chained 0 (logs n) × AllInside (length (bytes_of key n)) (logs n) × (returns ≡ true → Answers (bytes_of key n) (logs n))
+  pub legal : (n : ℕ) → n < length key → Chained 0 (logs n) × AllInside (length (bytes_of key n)) (logs n)
+      × (returns ≡ true → Answers (bytes_of key n) (logs n))
   pub slots : length s.homes ≡ length key
-  pub here : (n : ℕ) → n < length key → place_of v n ≡ Here → (body : Body) × (get_elem? s.homes n ≡ some (some body)) × Stands returns (bytes_of key n) (logs n) body.bytes.items
+  pub here : (n : ℕ) → n < length key → place_of v n ≡ Here
+      → (body : Body) × (get_elem? s.homes n ≡ some (some body)) × Stands returns (bytes_of key n) (logs n) body.bytes.items
   pub away : (n : ℕ) (bytes : List ℕ) → bytes_taken (place_of v n) ≡ Some bytes → Stands returns (bytes_of key n) (logs n) bytes
 
 alone : (g : View → ℕ) (vs : List View) (j k : ℕ) (v x : View) → get_elem? vs j ≡ some v → get_elem? vs k ≡ some x → g v ≡ 1 → total g vs ≡ 1 → k ≢ j → g x ≡ 0
@@ -163,7 +196,8 @@ total_none : {A : Type 0} (g : A → ℕ) (l : List A) → ((j : ℕ) (a : A) �
 total_none g [] h = refl
 total_none g (x ∷ xs) h = omega (arith, h 0 x refl, total_none g xs (λ j a e. h (suc j) a e))
 
-pub settles : (returns : Bool) (key : List (List ℕ)) (id : ℕ) (v : View) (s : State Body View) → Kept returns key s → get_elem? s.views id ≡ some v → 0 < v.made → v.live ≡ true → v.alive ≡ 1 → v.turn ≡ None → v.entries ≡ [] → Settled returns key v s
+pub settles : (returns : Bool) (key : List (List ℕ)) (id : ℕ) (v : View) (s : State Body View) → Kept returns key s → get_elem? s.views id ≡ some v
+    → 0 < v.made → v.live ≡ true → v.alive ≡ 1 → v.turn ≡ None → v.entries ≡ [] → Settled returns key v s
 settles returns key id v s o me maker alive_ last free idle_hands =
     let d = o.seats.dealer id v me maker in
     let one : is_live v ≡ 1 = ap {B = ℕ} (λ (b : Bool). cond b 1 0) alive_ in
@@ -175,13 +209,18 @@ settles returns key id v s o me maker alive_ last free idle_hands =
     record {
       logs = o.logs;
       parts = ((λ p h. let f = o.seats.parts id v me p h in (f.rises, λ e q. (f.entries e q).0)), o.seats.apart id v me);
-      into = λ e h. let f = o.seats.parts id v me h.0 h.1 in let q : Has (o.logs e.object) e = (f.entries e h.2).1 in
-          (⊎_elim (λ near. near) (λ (far : length key ≤ e.object). absurd (let bad : Has [] e = subst (λ l. Has l e) (o.objects.nowhere e.object far) q in some-ne-none e (sym bad.1))) (cases_lt e.object (length key)), q);
+      into = λ e h. let f = o.seats.parts id v me h.0 h.1 in let q : Has (o.logs e.object) e = (f.entries e h.2).1 in (
+        ⊎_elim (λ near. near) (λ (far : length key ≤ e.object). absurd (let bad : Has [] e = subst (λ l. Has l e) (o.objects.nowhere e.object far) q in
+            some-ne-none e (sym bad.1))) (cases_lt e.object (length key)),
+        q,
+      );
       from = λ n e h. let t = o.whole n e h in (
         t.0,
         dite (ℕ_discrete t.1.0 id)
             (λ it. ⊎_elim
-            (λ own. absurd (let bad : Has [] e = subst (λ l. Has l e) (ap (λ (y : View). y.entries) (some-injective t.1.1 v (sym t.1.2 ∙ ap (get_elem? s.views) it ∙ me)) ∙ idle_hands) own in some-ne-none e (sym bad.1)))
+            (λ own. absurd (let bad : Has [] e = subst (λ l. Has l e)
+            (ap (λ (y : View). y.entries) (some-injective t.1.1 v (sym t.1.2 ∙ ap (get_elem? s.views) it ∙ me)) ∙ idle_hands) own in
+            some-ne-none e (sym bad.1)))
             (λ got. subst (λ (y : View). HasPart y.gathered e) (some-injective t.1.1 v (sym t.1.2 ∙ ap (get_elem? s.views) it ∙ me)) got) t.1.3)
             (λ ne. let z = others t.1.0 t.1.1 ne t.1.2 in ⊎_elim
             (λ own. absurd (let bad : Has [] e = subst (λ (y : View). Has y.entries e) z own in some-ne-none e (sym bad.1)))
@@ -227,13 +266,15 @@ shows_one Here b = refl
 shows_one (Moving bytes) b = refl
 shows_one (Far bytes) b = refl
 
-shows_all : (out : List Whereabouts) (bs : List Body) (n : ℕ) (e : ObjectEnd) → get_elem? (all_shown (map phase_of out) bs) n ≡ some e → Shows (slice_index_or out n Here) (bytes_of (all_ends out bs) n) e
+shows_all : (out : List Whereabouts) (bs : List Body) (n : ℕ) (e : ObjectEnd) → get_elem? (all_shown (map phase_of out) bs) n ≡ some e
+    → Shows (slice_index_or out n Here) (bytes_of (all_ends out bs) n) e
 shows_all [] bs n e at = absurd (some-ne-none e (sym at))
 shows_all (p ∷ ps) [] n e at = absurd (some-ne-none e (sym at))
 shows_all (p ∷ ps) (b ∷ bs) zero e at = subst (Shows p (end_of p b)) (some-injective (shown (phase_of p) b) e at) (shows_one p b)
 shows_all (p ∷ ps) (b ∷ bs) (suc n) e at = shows_all ps bs n e at
 
-end_here : (out : List Whereabouts) (bs : List Body) (n : ℕ) (b : Body) → length out ≡ length bs → get_elem? bs n ≡ some b → slice_index_or out n Here ≡ Here → bytes_of (all_ends out bs) n ≡ b.bytes.items
+end_here : (out : List Whereabouts) (bs : List Body) (n : ℕ) (b : Body) → length out ≡ length bs → get_elem? bs n ≡ some b
+    → slice_index_or out n Here ≡ Here → bytes_of (all_ends out bs) n ≡ b.bytes.items
 end_here [] [] n b long at is = absurd (some-ne-none b (sym at))
 end_here [] (x ∷ xs) n b long at is = absurd (omega (arith, long))
 end_here (p ∷ ps) [] n b long at is = absurd (omega (arith, long))
@@ -245,7 +286,8 @@ end_taken Here b bytes e = absurd (none_is_not bytes e)
 end_taken (Moving x) b bytes e = some_is x bytes e
 end_taken (Far x) b bytes e = some_is x bytes e
 
-end_away : (out : List Whereabouts) (bs : List Body) (n : ℕ) (bytes : List ℕ) → length out ≡ length bs → bytes_taken (slice_index_or out n Here) ≡ Some bytes → bytes_of (all_ends out bs) n ≡ bytes
+end_away : (out : List Whereabouts) (bs : List Body) (n : ℕ) (bytes : List ℕ) → length out ≡ length bs
+    → bytes_taken (slice_index_or out n Here) ≡ Some bytes → bytes_of (all_ends out bs) n ≡ bytes
 end_away [] bs n bytes long e = absurd (none_is_not bytes e)
 end_away (p ∷ ps) [] n bytes long e = absurd (omega (arith, long))
 end_away (p ∷ ps) (x ∷ xs) zero bytes long e = end_taken p x bytes e
@@ -257,11 +299,14 @@ here_or (Moving bytes) = inr (bytes, refl)
 here_or (Far bytes) = inr (bytes, refl)
 
 -- all seats are taken in, and the table is closed
-pub closes : (returns : Bool) (key : List (List ℕ)) (id : ℕ) (d v : View) (parts : List Part) (slots : List Body) (s : State Body View) → v ≡ gathers_all d parts → d.gathered ≡ [] → 0 < d.made → d.live ≡ true → d.turn ≡ None → d.entries ≡ []
-    → length d.out ≡ length key → d.alive ≡ length parts + 1 → Kept returns key s → get_elem? s.views id ≡ some v → length s.homes ≡ length slots → ((k : ℕ) (y : Body) → get_elem? s.homes k ≡ some (some y) → get_elem? slots k ≡ some y)
+pub closes : (returns : Bool) (key : List (List ℕ)) (id : ℕ) (d v : View) (parts : List Part) (slots : List Body) (s : State Body View)
+    → v ≡ gathers_all d parts → d.gathered ≡ [] → 0 < d.made → d.live ≡ true → d.turn ≡ None → d.entries ≡ []
+    → length d.out ≡ length key → d.alive ≡ length parts + 1 → Kept returns key s → get_elem? s.views id ≡ some v → length s.homes ≡ length slots
+    → ((k : ℕ) (y : Body) → get_elem? s.homes k ≡ some (some y) → get_elem? slots k ≡ some y)
     → Closes returns key d parts (all_shown (map phase_of d.out) slots)
 closes returns key id d v parts slots s is clean maker alive_ free idle_hands wide count kept at long given =
-    let z = settles returns key id v s kept at (subst (λ (y : View). 0 < y.made) (sym is) maker) (ap (λ (y : View). y.live) is ∙ alive_) (ap (λ (y : View). y.alive) is ∙ omega (arith, count))
+    let z = settles returns key id v s kept at (subst (λ (y : View). 0 < y.made) (sym is) maker) (ap (λ (y : View). y.live) is
+    ∙ alive_) (ap (λ (y : View). y.alive) is ∙ omega (arith, count))
     (ap (λ (y : View). y.turn) is ∙ free) (ap (λ (y : View). y.entries) is ∙ idle_hands) in
     let got : v.gathered ≡ parts = ap (λ (y : View). y.gathered) is ∙ ap (λ l. l ++ parts) clean in
     let many : length slots ≡ length key = sym long ∙ z.slots in
@@ -269,19 +314,23 @@ closes returns key id d v parts slots s is clean maker alive_ free idle_hands wi
     let ends : List (List ℕ) = all_ends d.out slots in
     let places : (n : ℕ) → place_of v n ≡ place_of d n = λ n. ap (λ (y : View). place_of y n) is in
     let stands : (n : ℕ) → n < length key → Stands returns (bytes_of key n) (z.logs n) (bytes_of ends n) = λ n lt. ⊎_elim
-    (λ (here : place_of d n ≡ Here). let b = z.here n lt (places n ∙ here) in subst (Stands returns (bytes_of key n) (z.logs n)) (sym (end_here d.out slots n b.0 same (given n b.0 b.1) here)) b.2)
-    (λ (t : (bytes : List ℕ) × (bytes_taken (place_of d n) ≡ Some bytes)). subst (Stands returns (bytes_of key n) (z.logs n)) (sym (end_away d.out slots n t.0 same t.1)) (z.away n t.0 (ap bytes_taken (places n) ∙ t.1)))
+    (λ (here : place_of d n ≡ Here). let b = z.here n lt (places n ∙ here) in
+    subst (Stands returns (bytes_of key n) (z.logs n)) (sym (end_here d.out slots n b.0 same (given n b.0 b.1) here)) b.2)
+    (λ (t : (bytes : List ℕ) × (bytes_taken (place_of d n) ≡ Some bytes)).
+    subst (Stands returns (bytes_of key n) (z.logs n)) (sym (end_away d.out slots n t.0 same t.1)) (z.away n t.0 (ap bytes_taken (places n) ∙ t.1)))
     (here_or (place_of d n)) in
     record {
       ends = ends;
       long = (shown_long d.out slots same ∙ many, ends_long d.out slots same ∙ many);
       lengths = λ n lt. (stands n lt).0;
       shows = shows_all d.out slots;
-      list = one_list returns key z.logs parts ends (subst PartsFit got z.parts) (λ e h. z.into e (subst (λ l. HasPart l e) (sym got) h)) (λ n e h. let t = z.from n e h in (t.0, subst (λ l. HasPart l e) got t.1)) z.legal z.nowhere (λ p h. z.marks p (subst (λ l. Has l p) (sym got) h))
+      list = one_list returns key z.logs parts ends (subst PartsFit got z.parts) (λ e h. z.into e (subst (λ l. HasPart l e) (sym got) h)) (λ n e h. let t =
+          z.from n e h in (t.0, subst (λ l. HasPart l e) got t.1)) z.legal z.nowhere (λ p h. z.marks p (subst (λ l. Has l p) (sym got) h))
           (ends_long d.out slots same ∙ many) (λ r n lt. (stands n lt).1 r);
     }
 
-shown_more : (ps : List Phase) (bs : List Body) (i : ℕ) (p : Phase) (b : Body) → get_elem? ps i ≡ some p → get_elem? bs i ≡ some b → all_shown (take (suc i) ps) (take (suc i) bs) ≡ all_shown (take i ps) (take i bs) ++ shown p b ∷ []
+shown_more : (ps : List Phase) (bs : List Body) (i : ℕ) (p : Phase) (b : Body) → get_elem? ps i ≡ some p → get_elem? bs i ≡ some b
+    → all_shown (take (suc i) ps) (take (suc i) bs) ≡ all_shown (take i ps) (take i bs) ++ shown p b ∷ []
 shown_more [] bs i p b e f = absurd (some-ne-none p (sym e))
 shown_more (x ∷ xs) [] i p b e f = absurd (some-ne-none b (sym f))
 shown_more (x ∷ xs) (y ∷ ys) zero p b e f = λ k. shown (some-injective x p e k) (some-injective y b f k) ∷ []
@@ -299,5 +348,6 @@ taken_long (p ∷ ps) [] (suc i) h k = absurd (omega arith)
 taken_long (p ∷ ps) (b ∷ bs) (suc i) h k = omega (arith, taken_long ps bs i (omega arith) (omega arith))
 
 -- one more is shown
-pub shown_next : (ps : List Phase) (bs : List Body) (i : ℕ) (p : Phase) (b : Body) → get_elem? ps i ≡ some p → get_elem? bs i ≡ some b → all_shown (take (i + 1) ps) (take (i + 1) bs) ≡ all_shown (take i ps) (take i bs) ++ shown p b ∷ []
+pub shown_next : (ps : List Phase) (bs : List Body) (i : ℕ) (p : Phase) (b : Body) → get_elem? ps i ≡ some p → get_elem? bs i ≡ some b
+    → all_shown (take (i + 1) ps) (take (i + 1) bs) ≡ all_shown (take i ps) (take i bs) ++ shown p b ∷ []
 shown_next ps bs i p b e f = let one : i + 1 ≡ suc i = omega arith in ap (λ n. all_shown (take n ps) (take n bs)) one ∙ shown_more ps bs i p b e f

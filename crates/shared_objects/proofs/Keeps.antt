@@ -1,5 +1,7 @@
 -- Each step of an actor keeps the rule.
-use Rattle.std.proofs.Common.{◌≡◌, true, false, Bool, ℕ, zero, suc, ◌+◌, ◌-◌, ◌*◌, ◌/◌, ◌%◌, ◌^◌, ◌<◌, ◌≤◌, ◌≢◌, List, [], ◌∷◌, ◌++◌, length, set, get_or, sym, refl, ap, ◌∙◌, subst, arith, inl, inr, ⊎_elim, length-set, length-append, map, slice_index, lit<, Some, None, bit_or, bit_and, min}
+use Rattle.std.proofs.Common.{◌≡◌, true, false, Bool, ℕ, zero, suc, ◌+◌, ◌-◌, ◌*◌, ◌/◌, ◌%◌, ◌^◌, ◌<◌, ◌≤◌, ◌≢◌, List, [], ◌∷◌, ◌++◌, length, set, get_or, sym}
+use Rattle.std.proofs.Common.{refl, ap, ◌∙◌, subst, arith, inl, inr, ⊎_elim, length-set, length-append, map, slice_index, lit<, Some, None, bit_or, bit_and}
+use Rattle.std.proofs.Common.{min}
 use Rattle.std.specs.Prelude.{slice_index_or}
 use Rattle.std.proofs.lemmas.List.{length-map}
 use lib.Bits.{and_step, and_mask, or_add_and}
@@ -13,8 +15,10 @@ use Rattle.atomic_table.proofs.Lists.{set_here, at_set, set_else, at_longer}
 use Rattle.memory.specs.Deeds.{EndsInside, given_by, left_by}
 use Rattle.shared_objects.specs.History.{Has, top}
 use Rattle.memory.specs.Objects.{bytes_of}
-use Rattle.shared_objects.specs.Rule.{total, times, same, has_turn, has_open, has_pass, has_moving, has_far, bytes_taken, is_moving, is_far, is_live, spent, Written, PartFits, TurnFits, MarkFits, Stands, turns_on, word_of, tally, Knows, Kept}
-use Rattle.shared_objects.specs.Kinds.{Sat, object_at, turn, with_scope, without, without_scope, with_pass, without_pass, marked, holding, recorded, worn_out, opens_scope, closes_scope, leaves_pass, takes_turn, gives_turn, gives_up_turn, Took, dealer, dealt, newcomer}
+use Rattle.shared_objects.specs.Rule.{total, times, same, has_turn, has_open, has_pass, has_moving, has_far, bytes_taken, is_moving, is_far, is_live, spent}
+use Rattle.shared_objects.specs.Rule.{Written, PartFits, TurnFits, MarkFits, Stands, turns_on, word_of, tally, Knows, Kept}
+use Rattle.shared_objects.specs.Kinds.{Sat, object_at, turn, with_scope, without, without_scope, with_pass, without_pass, marked, holding, recorded, worn_out}
+use Rattle.shared_objects.specs.Kinds.{opens_scope, closes_scope, leaves_pass, takes_turn, gives_turn, gives_up_turn, Took, dealer, dealt, newcomer}
 use Rattle.shared_objects.specs.Rule.SlotFits.{AtHome, Lent}
 use Rattle.shared_objects.specs.declared.body.Body.{Body}
 use Rattle.shared_objects.specs.declared.view.SharedEntry.{SharedEntry}
@@ -24,10 +28,13 @@ use Rattle.shared_objects.specs.declared.view.Part.{Part}
 use Rattle.shared_objects.specs.declared.view.Whereabouts.TheVariants.{Here}
 use Rattle.shared_objects.specs.declared.view.View.{View}
 use Rattle.shared_objects.specs.declared.view.Mark.TheVariants.{Away, Busy, Worn}
-use Rattle.shared_objects.proofs.Sums.{at_end, total-set, total-append, term_le, total_few, set_there, is_here, is_else, times-snoc, times-without, times-without_other}
-use Rattle.shared_objects.proofs.Logs.{object_home, length-left_by, has_longer, has_last, has_snoc, Rises-snoc, Chained-snoc, AllInside-snoc, top-snoc, fold-snoc, Answers-snoc}
+use Rattle.shared_objects.proofs.Sums.{at_end, total-set, total-append, term_le, total_few, set_there, is_here, is_else, times-snoc, times-without}
+use Rattle.shared_objects.proofs.Sums.{times-without_other}
+use Rattle.shared_objects.proofs.Logs.{object_home, length-left_by, has_longer, has_last, has_snoc, Rises-snoc, Chained-snoc, AllInside-snoc, top-snoc}
+use Rattle.shared_objects.proofs.Logs.{fold-snoc, Answers-snoc}
 use Rattle.shared_objects.proofs.Steps.{keeps_slot, moves_slot, gives_back, is_in}
-use Rattle.shared_objects.proofs.Moves.{St, state, knows_again, same_fits, grown, grown_here, grown_else, moves, entry_stays, mark_stays, turn_here, no_live, out_weighs, body_in}
+use Rattle.shared_objects.proofs.Moves.{St, state, knows_again, same_fits, grown, grown_here, grown_else, moves, entry_stays, mark_stays, turn_here, no_live}
+use Rattle.shared_objects.proofs.Moves.{out_weighs, body_in}
 
 -- the marks of a turn and of heat are set
 or_turn : (x : ℕ) → bit_or x 12 + (x / 4 % 2 * 4 + x / 8 % 2 * 8) ≡ x + 12
@@ -53,28 +60,33 @@ no_turn n v e = ap (turns_on n) e
 
 module _ (returns : Bool) (key : List (List ℕ)) (s : St) (o : Kept returns key s) where
   pub few_open : (n : ℕ) → total (has_open n) s.views + total (has_pass n) s.views ≤ 57
-  few_open n = let a = total_few (λ v. has_open n v + has_pass n v) s.views (λ j v e. (o.seats.knows j v e).opens_once n) in let b = o.seats.few in let c = total-sum (has_open n) (has_pass n) s.views in omega arith
+  few_open n = let a = total_few (λ v. has_open n v + has_pass n v) s.views (λ j v e. (o.seats.knows j v e).opens_once n) in let b = o.seats.few in
+      let c = total-sum (has_open n) (has_pass n) s.views in omega arith
 
   -- an actor's seat is not the first
   pub not_first : (id : ℕ) (v : View) → get_elem? s.views id ≡ some v → v.made ≡ 0 → id ≡ 0 → ⊥
   not_first id v me young z = let h = ((o.seats.knows id v me).first z).0 in omega (arith, young)
 
   -- the same number is written, and the seat does nothing
-  pub unmoved : (id : ℕ) (v : View) (n : ℕ) → get_elem? s.views id ≡ some v → v.live ≡ true → n < length key → Kept returns key (state (set s.words (word_of n) (slice_index s.words (word_of n))) s.homes (set s.views id v))
+  pub unmoved : (id : ℕ) (v : View) (n : ℕ) → get_elem? s.views id ≡ some v → v.live ≡ true → n < length key
+      → Kept returns key (state (set s.words (word_of n) (slice_index s.words (word_of n))) s.homes (set s.views id v))
   unmoved id v n me alive_ near = let f = o.objects.fits n near in let k = o.seats.knows id v me in
       keeps_slot returns key s o id v n (slice_index s.words (word_of n)) f.hot me near alive_ f.one_hot v.scopes v.passing v.marks v.coolings
       (λ _ _. (refl, refl)) (k.opens_once n) (λ opens passes a b. (omega (arith, f.word_is), λ out. let h = f.here out in omega arith)) k.first k.turn k.marks
 
 -- one mark more
-mark_more : (returns : Bool) (key : List (List ℕ)) (s : St) (o : Kept returns key s) (id : ℕ) (v : View) (new : Mark) → get_elem? s.views id ≡ some v → MarkFits o.logs new → (m : Mark) → Has (v.marks ++ new ∷ []) m → MarkFits o.logs m
-mark_more returns key s o id v new me h m has = ⊎_elim (λ old. (o.seats.knows id v me).marks m old) (λ e. subst (MarkFits o.logs) e h) (has_snoc v.marks new m has)
+mark_more : (returns : Bool) (key : List (List ℕ)) (s : St) (o : Kept returns key s) (id : ℕ) (v : View) (new : Mark) → get_elem? s.views id ≡ some v
+    → MarkFits o.logs new → (m : Mark) → Has (v.marks ++ new ∷ []) m → MarkFits o.logs m
+mark_more returns key s o id v new me h m has =
+    ⊎_elim (λ old. (o.seats.knows id v me).marks m old) (λ e. subst (MarkFits o.logs) e h) (has_snoc v.marks new m has)
 
 -- a seat that has no turn has none that would have to fit
 turnless : (P : Turn → Type 0) (v : View) → v.turn ≡ None → (t : Turn) → v.turn ≡ Some t → P t
 turnless P v free t is = absurd (none_is_not t (sym free ∙ is))
 
 -- open scope
-pub opens_ok : (returns : Bool) (key : List (List ℕ)) (slots id : ℕ) (m : Sat) (n : ℕ) → n < slots → has_open n m.0 + has_pass n m.0 ≡ 0 → m.0.live ≡ true → m.0.made ≡ 0 → m.0.turn ≡ None
+pub opens_ok : (returns : Bool) (key : List (List ℕ)) (slots id : ℕ) (m : Sat) (n : ℕ) → n < slots → has_open n m.0 + has_pass n m.0 ≡ 0 → m.0.live ≡ true
+    → m.0.made ≡ 0 → m.0.turn ≡ None
     → Allows (Kept returns key) slots id m (word_of n) (λ x. (x + 256) % 2 ^ 64) (opens_scope (step slots (word_of n) 256 0 none) m)
 opens_ok returns key slots id m n lt shut alive_ young free s o wide me small =
     let v : View = m.0 in
@@ -83,7 +95,8 @@ opens_ok returns key slots id m n lt shut alive_ young free s o wide me small =
     let k = o.seats.knows id v me in
     let x : ℕ = slice_index s.words (word_of n) in
     let away : ℕ = (tally n s.views).moving + (tally n s.views).far in
-    let more : (xs : List ℕ) (j : ℕ) → j ≢ n → times j (xs ++ n ∷ []) ≡ times j xs = λ xs j ne. omega (arith, times-snoc j n xs, is_else n j (λ e. ne (sym e))) in
+    let more : (xs : List ℕ) (j : ℕ) → j ≢ n
+    → times j (xs ++ n ∷ []) ≡ times j xs = λ xs j ne. omega (arith, times-snoc j n xs, is_else n j (λ e. ne (sym e))) in
     let one : (xs : List ℕ) → times n (xs ++ n ∷ []) ≡ times n xs + 1 = λ xs. omega (arith, times-snoc n n xs, is_here n n refl) in
     let opened = one v.scopes in let passed = one v.passing in
     dite (ℕ_discrete away 0)
@@ -92,7 +105,10 @@ opens_ok returns key slots id m n lt shut alive_ young free s o wide me small =
       keeps,
       tt,
       keeps_slot returns key s o id v n ((x + 256) % 2 ^ 64) f.hot me near alive_ f.one_hot (v.scopes ++ n ∷ []) v.passing v.marks v.coolings
-          (λ j ne. (more v.scopes j ne, refl)) (omega arith) (λ opens passes a b. (omega (arith, f.word_is, f.one_hot, f.small, f.one_turn), λ out. absurd (omega arith)))
+          (λ j ne. (more v.scopes j ne, refl)) (omega arith) (λ opens passes a b. (
+            omega (arith, f.word_is, f.one_hot, f.small, f.one_turn),
+            λ out. absurd (omega arith),
+          ))
           (λ z. absurd (not_first returns key s o id v me young z)) (turnless _ v free) k.marks,
       ((λ _. ap (λ j. (with_scope j v, m.1)) (sym (object_home n))), λ ne. absurd (ne (omega (arith, f.word_is)))),
     ))
@@ -101,7 +117,10 @@ opens_ok returns key slots id m n lt shut alive_ young free s o wide me small =
       keeps,
       tt,
       keeps_slot returns key s o id v n ((x + 256) % 2 ^ 64) f.hot me near alive_ f.one_hot v.scopes (v.passing ++ n ∷ []) (v.marks ++ Away n ∷ []) v.coolings
-          (λ j ne. (refl, more v.passing j ne)) (omega arith) (λ opens passes a b. (omega (arith, f.word_is, f.one_hot, f.small, f.one_turn, f.one_out), λ out. let h = f.here out in omega arith))
+          (λ j ne. (refl, more v.passing j ne)) (omega arith) (λ opens passes a b. (
+            omega (arith, f.word_is, f.one_hot, f.small, f.one_turn, f.one_out),
+            λ out. let h = f.here out in omega arith,
+          ))
           (λ z. absurd (not_first returns key s o id v me young z)) k.turn (mark_more returns key s o id v (Away n) me tt),
       ((λ q. let q' : x % 4 ≡ 0 = q in absurd (is_away (omega (arith, f.word_is, f.one_out, q')))), λ _. ap (λ j. (with_pass j v, m.1)) (sym (object_home n))),
     ))
@@ -112,16 +131,19 @@ module _ (returns : Bool) (key : List (List ℕ)) (s : St) (o : Kept returns key
       → ((j : ℕ) → j ≢ n → (times j scopes ≡ has_open j v) × (times j passing ≡ has_pass j v))
       → times n scopes ≤ has_open n v → times n passing ≤ has_pass n v → times n scopes + times n passing + 1 ≡ has_open n v + has_pass n v
       → ((t : Turn) → v.turn ≡ Some t → TurnFits returns key o.logs scopes t)
-      → Kept returns key (state (set s.words (word_of n) ((slice_index s.words (word_of n) + (2 ^ 64 - 256)) % 2 ^ 64)) s.homes (set s.views id (record v { scopes = scopes; passing = passing })))
+      → Kept returns key (state (set s.words (word_of n) ((slice_index s.words (word_of n) + (2 ^ 64 - 256)) % 2 ^ 64)) s.homes
+      (set s.views id (record v { scopes = scopes; passing = passing })))
   closes id n v me near alive_ young scopes passing apart opens_less passes_less less turn =
       let f = o.objects.fits n near in let few = few_open returns key s o n in
       let k = o.seats.knows id v me in let once = k.opens_once n in
-      keeps_slot returns key s o id v n ((slice_index s.words (word_of n) + (2 ^ 64 - 256)) % 2 ^ 64) f.hot me near alive_ f.one_hot scopes passing v.marks v.coolings
+      keeps_slot returns key s o id v n ((slice_index s.words (word_of n) + (2 ^ 64 - 256)) % 2 ^ 64) f.hot me near alive_ f.one_hot
+      scopes passing v.marks v.coolings
       apart (omega arith) (λ opens passes a b. (omega (arith, f.word_is, f.one_hot, f.small, f.one_turn, f.one_out), λ out. let h = f.here out in omega arith))
       (λ z. absurd (not_first returns key s o id v me young z)) turn k.marks
 
 -- close scope, of a number that was open
-pub closes_ok : (returns : Bool) (key : List (List ℕ)) (slots id : ℕ) (m : Sat) (n : ℕ) → n < slots → has_open n m.0 ≡ 1 → m.0.live ≡ true → m.0.made ≡ 0 → m.0.turn ≡ None
+pub closes_ok : (returns : Bool) (key : List (List ℕ)) (slots id : ℕ) (m : Sat) (n : ℕ) → n < slots → has_open n m.0 ≡ 1 → m.0.live ≡ true
+    → m.0.made ≡ 0 → m.0.turn ≡ None
     → Allows (Kept returns key) slots id m (word_of n) (λ x. (x + (2 ^ 64 - 256)) % 2 ^ 64) (closes_scope (step slots (word_of n) 256 0 none) m)
 closes_ok returns key slots id m n lt held alive_ young free s o wide me small =
     let v : View = m.0 in
@@ -149,7 +171,8 @@ leaves_ok returns key slots id m n lt held alive_ young s o wide me small =
     )
 
 -- take turn, of an object that is open
-pub turns_ok : (returns : Bool) (key : List (List ℕ)) (slots id : ℕ) (m : Sat) (n : ℕ) → n < slots → m.0.turn ≡ None → has_open n m.0 ≡ 1 → length m.0.scopes ≤ 4 → m.0.live ≡ true → m.0.made ≡ 0
+pub turns_ok : (returns : Bool) (key : List (List ℕ)) (slots id : ℕ) (m : Sat) (n : ℕ) → n < slots → m.0.turn ≡ None → has_open n m.0 ≡ 1
+    → length m.0.scopes ≤ 4 → m.0.live ≡ true → m.0.made ≡ 0
     → Allows (Kept returns key) slots id m (word_of n) (λ x. bit_or x 12) (takes_turn (step slots (word_of n) 12 0 none) m)
 turns_ok returns key slots id m n lt free opened_ few_scopes alive_ young s o wide me small =
     let v : View = m.0 in
@@ -175,11 +198,21 @@ turns_ok returns key slots id m n lt free opened_ few_scopes alive_ young s o wi
       y.1,
       moves_slot returns key s o id v n (bit_or x 12) 1 me near alive_ (omega arith) none (Some t) v.marks v.out
           (λ j ne. (is_else n j (λ q. ne (sym q)) ∙ sym (no_turn j v free), refl))
-          (λ turns moving far a b c. (omega (arith, f.word_is, f.one_hot, bit, hot_is, bit_is), omega arith, omega (arith, f.one_out), (λ out. absurd (omega arith)), Lent (omega arith) refl))
+          (λ turns moving far a b c. (
+            omega (arith, f.word_is, f.one_hot, bit, hot_is, bit_is),
+            omega arith,
+            omega (arith, f.one_out),
+            (λ out. absurd (omega arith)),
+            Lent (omega arith) refl,
+          ))
           (λ u q. subst (TurnFits returns key o.logs v.scopes) (some_is t u q) (stamp_is, y.2, few_scopes)) (k.out n) k.marks,
       (
         refl,
-        (λ _. subst (λ j. Took j x m (holding n (x / 65536) body.bytes.items v, (n, body) ∷ m.1)) (sym (object_home n)) (body, refl, y.2.0 ∙ ap (λ (p : List (List ℕ)). length (bytes_of p n)) (sym (k.opening_is alive_)))),
+        (λ _. subst (λ j. Took j x m (holding n (x / 65536) body.bytes.items v, (n, body) ∷ m.1)) (sym (object_home n)) (
+          body,
+          refl,
+          y.2.0 ∙ ap (λ (p : List (List ℕ)). length (bytes_of p n)) (sym (k.opening_is alive_)),
+        )),
         λ one. let q : x / 4 % 2 ≡ 1 = one in absurd (omega (arith, q)),
       ),
     ))
@@ -188,7 +221,10 @@ turns_ok returns key slots id m n lt free opened_ few_scopes alive_ young s o wi
       keeps,
       tt,
       keeps_slot returns key s o id v n (bit_or x 12) 1 me near alive_ (omega arith) v.scopes v.passing (v.marks ++ Busy n ∷ []) v.coolings
-          (λ _ _. (refl, refl)) (k.opens_once n) (λ opens passes a b. (omega (arith, f.word_is, f.one_hot, f.one_turn, bit, hot_is, bit_is), λ out. absurd (omega arith)))
+          (λ _ _. (refl, refl)) (k.opens_once n) (λ opens passes a b. (
+            omega (arith, f.word_is, f.one_hot, f.one_turn, bit, hot_is, bit_is),
+            λ out. absurd (omega arith),
+          ))
           (λ z. absurd (not_first returns key s o id v me young z)) k.turn (mark_more returns key s o id v (Busy n) me tt),
       (refl, (λ zero. let q : x / 4 % 2 ≡ 0 = zero in absurd (omega (arith, f.one_turn, q))), λ _. ap (λ j. (marked (Busy j) v, m.1)) (sym (object_home n))),
     ))
@@ -196,10 +232,12 @@ turns_ok returns key slots id m n lt free opened_ few_scopes alive_ young s o wi
 -- give turn: it ends with one entry more, which carries the bytes on
 pub records_ok : (returns : Bool) (key : List (List ℕ)) (slots id : ℕ) (m : Sat) (t : Turn) (body : Body) (more : List (ℕ × Body)) (e : SharedEntry) (k : ℕ)
     → t.object < slots → m.1 ≡ (t.object, body) ∷ more → m.0.turn ≡ Some t
-    → e.actor ≡ m.0.actor → e.object ≡ t.object → e.found ≡ t.stamp → EndsInside e.deed (length t.bytes) → t.stamp < e.stamp → top 0 m.0.entries < e.stamp → e.stamp < 2 ^ 48
+    → e.actor ≡ m.0.actor → e.object ≡ t.object → e.found ≡ t.stamp → EndsInside e.deed (length t.bytes) → t.stamp < e.stamp
+    → top 0 m.0.entries < e.stamp → e.stamp < 2 ^ 48
     → e.given ≡ given_by e.deed t.bytes → body.bytes.items ≡ left_by e.deed t.bytes → k + 4 ≡ (e.stamp - t.stamp) * 65536 → m.0.live ≡ true → m.0.made ≡ 0
     → Allows (Kept returns key) slots id m (word_of t.object) (λ x. (x + k) % 2 ^ 64) (gives_turn e (step slots (word_of t.object) k 0 none) m)
-records_ok returns key slots id m t body more e k lt carried has by on found_is within above later small_stamp answered done k_is alive_ young s o wide me small =
+records_ok returns key slots id m t body more e k lt carried has by on found_is within above later small_stamp answered done k_is
+    alive_ young s o wide me small =
     let v : View = m.0 in let w : View = recorded e v in let n : ℕ = t.object in
     let near : n < length key = omega (arith, o.objects.slots) in
     let f = o.objects.fits n near in let few = few_open returns key s o n in
@@ -209,7 +247,8 @@ records_ok returns key slots id m t body more e k lt carried has by on found_is 
     let at = kn.turn t has in
     let mine : has_turn n v ≡ 1 = turn_here v t has in
     let part = term_le (has_turn n) s.views id v me in
-    let a₁ = total-set (has_open n) s.views id v w me in let b₁ = total-set (has_turn n) s.views id v w me in let c₁ = total-set (has_pass n) s.views id v w me in
+    let a₁ = total-set (has_open n) s.views id v w me in let b₁ = total-set (has_turn n) s.views id v w me in
+    let c₁ = total-set (has_pass n) s.views id v w me in
     let d₁ = total-set (has_moving n) s.views id v w me in let e₁ = total-set (has_far n) s.views id v w me in
     let here = is_in f (omega arith) in
     let stamp_is : t.stamp ≡ top 0 (o.logs n) = at.0 in
@@ -217,9 +256,13 @@ records_ok returns key slots id m t body more e k lt carried has by on found_is 
     let rising : top 0 (o.logs n) < e.stamp = omega arith in
     let hs : List (maybe.Option Body) = set s.homes n (some body) in
     let back : get_elem? hs n ≡ some (some body) = set_here s.homes n (some body) (omega (arith, o.objects.slots)) in
-    let done' : Stands returns (bytes_of key n) log body.bytes.items = (ap length done ∙ length-left_by e.deed t.bytes within ∙ at.1.0, λ r. done ∙ ap (left_by e.deed) (at.1.1 r) ∙ sym (fold-snoc (bytes_of key n) (o.logs n) e)) in
+    let done' : Stands returns (bytes_of key n) log body.bytes.items = (
+      ap length done ∙ length-left_by e.deed t.bytes within ∙ at.1.0,
+      λ r. done ∙ ap (left_by e.deed) (at.1.1 r) ∙ sym (fold-snoc (bytes_of key n) (o.logs n) e),
+    ) in
     let not_mine : (j : ℕ) → j ≢ n → has_turn j v ≡ 0 = λ j ne. ap (turns_on j) has ∙ is_else n j (λ q. ne (sym q)) in
-    let kept = moves returns key s o id v w n ((x + k) % 2 ^ 64) hs log me near alive_ (length-set s.homes n (some body)) (λ j ne. set_else s.homes n j (some body) ne)
+    let kept = moves returns key s o id v w n ((x + k) % 2 ^ 64) hs log me near alive_ (length-set s.homes n (some body))
+    (λ j ne. set_else s.homes n j (some body) ne)
     (λ j ne. record { turns = sym (not_mine j ne); opens = refl; passes = refl; moving = refl; far = refl }) (refl, refl, refl, refl, refl, refl, refl)
     (record {
       hot = f.hot;
@@ -248,7 +291,10 @@ records_ok returns key slots id m t body more e k lt carried has by on found_is 
           absurd (omega (arith, term_le (has_moving n) s.views id v me, term_le (has_far n) s.views id v me)))
           (λ else. subst (λ l. Stands returns (bytes_of key j) l bytes) (sym (grown_else o.logs n log j else)) (kn.out j bytes q));
       entries = λ y h. ⊎_elim
-          (λ old. let q = kn.entries y old in (q.0, entry_stays returns key s o id v w n ((x + k) % 2 ^ 64) hs log me near alive_ (has_longer (o.logs n) (e ∷ [])) y q.1))
+          (λ old. let q = kn.entries y old in (
+            q.0,
+            entry_stays returns key s o id v w n ((x + k) % 2 ^ 64) hs log me near alive_ (has_longer (o.logs n) (e ∷ [])) y q.1,
+          ))
           (λ (new : e ≡ y). subst (λ (z : SharedEntry). (z.actor ≡ id) × Has (grown o.logs n log z.object) z) new
           (by ∙ kn.actor alive_, subst (λ l. Has l e) (sym (grown_here o.logs n log e.object on)) (has_last (o.logs n) e)))
           (has_snoc v.entries e y h);
@@ -256,7 +302,8 @@ records_ok returns key slots id m t body more e k lt carried has by on found_is 
       rises = Rises-snoc 0 v.entries e kn.rises later;
     })
     (has_longer (o.logs n) (e ∷ []))
-    (λ y h. ⊎_elim (λ old. inl old) (λ (new : e ≡ y). inr (subst (λ (z : SharedEntry). (z.object ≡ n) × Has w.entries z) new (on, has_last v.entries e))) (has_snoc (o.logs n) e y h))
+    (λ y h. ⊎_elim (λ old. inl old) (λ (new : e ≡ y).
+    inr (subst (λ (z : SharedEntry). (z.object ≡ n) × Has w.entries z) new (on, has_last v.entries e))) (has_snoc (o.logs n) e y h))
     (has_longer v.entries (e ∷ [])) (omega arith) (inr mine) in
     gives_back (Kept returns key) s id (word_of n) ((x + k) % 2 ^ 64) x m (gives_turn e (step slots (word_of n) k 0 none)) n body more w carried kept refl
 
@@ -275,7 +322,8 @@ wears_ok returns key slots id m t body more lt carried has done alive_ young s o
     let part = term_le (has_turn n) s.views id v me in
     let here = is_in f (omega arith) in
     let stamp_low : t.stamp ≤ top 0 (o.logs n) = let q : t.stamp ≡ top 0 (o.logs n) = at.0 in omega arith in
-    gives_back (Kept returns key) s id (word_of n) ((x + (2 ^ 64 - 4)) % 2 ^ 64) x m (gives_up_turn (step slots (word_of n) 4 0 none)) n body more (worn_out n t.stamp v) carried
+    gives_back (Kept returns key) s id (word_of n) ((x + (2 ^ 64 - 4)) % 2 ^ 64) x m (gives_up_turn (step slots (word_of n) 4 0 none)) n body more
+    (worn_out n t.stamp v) carried
     (moves_slot returns key s o id v n ((x + (2 ^ 64 - 4)) % 2 ^ 64) f.hot me near alive_ f.one_hot (some body) None (v.marks ++ Worn n t.stamp ∷ []) v.out
     (λ j ne. (sym (ap (turns_on j) has ∙ is_else n j (λ q. ne (sym q))), refl))
     (λ turns moving far a b c. (
@@ -298,7 +346,8 @@ sees_ok returns key slots id m n lt alive_ s o wide me small =
 module _ (returns : Bool) (key : List (List ℕ)) (logs : ℕ → List SharedEntry) (id : ℕ) where
   -- a seat that has done nothing yet, or whose part was taken in
   pub knows_nothing : (live sees : Bool) (actor : ℕ) (opening : List (List ℕ)) → id ≢ 0
-      → (live ≡ true → (actor ≡ id) × (opening ≡ key) × (sees ≡ returns)) → (live ≡ false → record spent { live = live; actor = actor; opening = opening; returns = sees } ≡ spent)
+      → (live ≡ true → (actor ≡ id) × (opening ≡ key) × (sees ≡ returns))
+      → (live ≡ false → record spent { live = live; actor = actor; opening = opening; returns = sees } ≡ spent)
       → Knows returns key logs id (record spent { live = live; actor = actor; opening = opening; returns = sees })
   knows_nothing live sees actor opening apart same idle = record {
     actor = λ e. (same e).0;
@@ -319,10 +368,12 @@ module _ (returns : Bool) (key : List (List ℕ)) (logs : ℕ → List SharedEnt
   pub knows_still : (v : View) (made alive : ℕ) (gathered : List Part) → Knows returns key logs id v → v.live ≡ true → 0 < made → id ≡ 0
       → Knows returns key logs id (record v { made = made; alive = alive; gathered = gathered })
   knows_still v made alive gathered k here maker zeroth =
-      knows_again returns key logs logs id v made alive gathered k (λ no. absurd (no_live (sym no ∙ here))) (λ _. maker) (λ ne. absurd (ne zeroth)) k.turn k.out (λ e has. (k.entries e has).1) k.marks
+      knows_again returns key logs logs id v made alive gathered k (λ no. absurd (no_live (sym no ∙ here))) (λ _. maker) (λ ne. absurd (ne zeroth)) k.turn
+      k.out (λ e has. (k.entries e has).1) k.marks
 
 -- The first seat makes one more
-pub deals_ok : (returns : Bool) (key : List (List ℕ)) (id : ℕ) (v : View) → 0 < v.made → v.made < 57 → v.live ≡ true → Splits (Kept returns key) id v (dealt v) (newcomer v)
+pub deals_ok : (returns : Bool) (key : List (List ℕ)) (id : ℕ) (v : View) → 0 < v.made → v.made < 57 → v.live ≡ true
+    → Splits (Kept returns key) id v (dealt v) (newcomer v)
 deals_ok returns key id v is_dealer room alive_ s o me =
     let d = o.seats.dealer id v me is_dealer in
     let w : View = dealt v in let new : View = newcomer v in
@@ -330,19 +381,29 @@ deals_ok returns key id v is_dealer room alive_ s o me =
     let long : length vs ≡ length s.views = length-set s.views id w in
     let longer : length (vs ++ new ∷ []) ≡ length s.views + 1 = omega (arith, length-append vs (new ∷ []), long) in
     let k = o.seats.knows id v me in
-    let sum : (g : View → ℕ) → g w ≡ g v → g new ≡ 0 → total g (vs ++ new ∷ []) ≡ total g s.views = λ g p q. omega (arith, total-append g vs (new ∷ []), total-set g s.views id v w me, p, q) in
+    let sum : (g : View → ℕ) → g w ≡ g v → g new ≡ 0
+    → total g (vs ++ new ∷ []) ≡ total g s.views = λ g p q. omega (arith, total-append g vs (new ∷ []), total-set g s.views id v w me, p, q) in
     let keeps_part : (p : Part) → PartFits o.logs s.views p → PartFits o.logs (vs ++ new ∷ []) p = λ p f. record {
       rises = f.rises;
       entries = f.entries;
       marks = f.marks;
-      gone = at_longer vs (new ∷ []) p.actor spent (set_else s.views id p.actor w (λ same. no_live (ap (λ (y : View). y.live) (some-injective spent v (sym f.gone ∙ ap (get_elem? s.views) same ∙ me)) ∙ alive_)) ∙ f.gone);
+      gone = at_longer vs (new ∷ []) p.actor spent
+          (set_else s.views id p.actor w (λ same. no_live (ap (λ (y : View). y.live) (some-injective spent v (sym f.gone ∙ ap (get_elem? s.views) same ∙ me))
+          ∙ alive_)) ∙ f.gone);
     } in
     record {
       logs = o.logs;
       objects = record {
         words = o.objects.words;
         slots = o.objects.slots;
-        fits = λ n lt. let f = o.objects.fits n lt in same_fits _ _ _ _ _ _ _ _ _ _ (λ i. record { turns = sum (has_turn n) refl refl i; opens = sum (has_open n) refl refl i; passes = sum (has_pass n) refl refl i; moving = sum (has_moving n) refl refl i; far = sum (has_far n) refl refl i }) refl refl refl f;
+        fits = λ n lt. let f = o.objects.fits n lt in
+            same_fits _ _ _ _ _ _ _ _ _ _ (λ i. record {
+              turns = sum (has_turn n) refl refl i;
+              opens = sum (has_open n) refl refl i;
+              passes = sum (has_pass n) refl refl i;
+              moving = sum (has_moving n) refl refl i;
+              far = sum (has_far n) refl refl i;
+            }) refl refl refl f;
         nowhere = o.objects.nowhere;
       };
       seats = record {
@@ -359,7 +420,11 @@ deals_ok returns key id v is_dealer room alive_ s o me =
             (at_end vs new u j at);
         dealer = λ j u at some-made. ⊎_elim
             (λ old. ⊎_elim
-            (λ (t : (j ≡ id) × (w ≡ u)). (t.0 ∙ d.0, omega (arith, ap (λ (y : View). y.made) t.1, longer, d.1), omega (arith, ap (λ (y : View). y.alive) t.1, d.2, total-append is_live vs (new ∷ []), total-set is_live s.views id v w me)))
+            (λ (t : (j ≡ id) × (w ≡ u)). (
+              t.0 ∙ d.0,
+              omega (arith, ap (λ (y : View). y.made) t.1, longer, d.1),
+              omega (arith, ap (λ (y : View). y.alive) t.1, d.2, total-append is_live vs (new ∷ []), total-set is_live s.views id v w me),
+            ))
             (λ (t : (j ≢ id) × (get_elem? s.views j ≡ some u)). absurd (t.0 ((o.seats.dealer j u t.1 some-made).0 ∙ sym d.0)))
             (at_set s.views id j w u old))
             (λ (t : (j ≡ length vs) × (new ≡ u)). absurd (omega (arith, ap (λ (y : View). y.made) t.1, some-made)))
@@ -369,7 +434,8 @@ deals_ok returns key id v is_dealer room alive_ s o me =
             (λ (t : (j ≡ id) × (w ≡ u)). keeps_part p (o.seats.parts id v me p (subst (λ l. Has l p) (ap (λ (y : View). y.gathered) (sym t.1)) has)))
             (λ (t : (j ≢ id) × (get_elem? s.views j ≡ some u)). keeps_part p (o.seats.parts j u t.1 p has))
             (at_set s.views id j w u old))
-            (λ (t : (j ≡ length vs) × (new ≡ u)). absurd (let none-there : Has [] p = subst (λ l. Has l p) (ap (λ (y : View). y.gathered) (sym t.1)) has in some-ne-none p (sym none-there.1)))
+            (λ (t : (j ≡ length vs) × (new ≡ u)). absurd (let none-there : Has [] p = subst (λ l. Has l p) (ap (λ (y : View). y.gathered) (sym t.1)) has in
+            some-ne-none p (sym none-there.1)))
             (at_end vs new u j at);
         apart = λ j u at a b p q hp hq same. ⊎_elim
             (λ old. ⊎_elim
@@ -377,13 +443,19 @@ deals_ok returns key id v is_dealer room alive_ s o me =
             o.seats.apart id v me a b p q (subst (λ l. get_elem? l a ≡ some p) e hp) (subst (λ l. get_elem? l b ≡ some q) e hq) same)
             (λ (t : (j ≢ id) × (get_elem? s.views j ≡ some u)). o.seats.apart j u t.1 a b p q hp hq same)
             (at_set s.views id j w u old))
-            (λ (t : (j ≡ length vs) × (new ≡ u)). absurd (let none-there : get_elem? {A = Part} [] a ≡ some p = subst (λ l. get_elem? l a ≡ some p) (ap (λ (y : View). y.gathered) (sym t.1)) hp in some-ne-none p (sym none-there)))
+            (λ (t : (j ≡ length vs) × (new ≡ u)). absurd (let none-there : get_elem? {A = Part} [] a ≡ some p =
+            subst (λ l. get_elem? l a ≡ some p) (ap (λ (y : View). y.gathered) (sym t.1)) hp in some-ne-none p (sym none-there)))
             (at_end vs new u j at);
       };
       whole = λ n e h. let t = o.whole n e h in (
         t.0,
         dite (ℕ_discrete t.1.0 id)
-            (λ here. (id, w, at_longer vs (new ∷ []) id w (set_there s.views id v w me), subst (λ (y : View). Written y e) (some-injective t.1.1 v (sym t.1.2 ∙ ap (get_elem? s.views) here ∙ me)) t.1.3))
+            (λ here. (
+              id,
+              w,
+              at_longer vs (new ∷ []) id w (set_there s.views id v w me),
+              subst (λ (y : View). Written y e) (some-injective t.1.1 v (sym t.1.2 ∙ ap (get_elem? s.views) here ∙ me)) t.1.3,
+            ))
             (λ ne. (t.1.0, t.1.1, at_longer vs (new ∷ []) t.1.0 t.1.1 (set_else s.views id t.1.0 w ne ∙ t.1.2), t.1.3)),
       );
     }
@@ -407,7 +479,8 @@ all_here (x ∷ xs) zero = refl
 all_here (x ∷ xs) (suc n) = all_here xs n
 
 -- the table at the start
-pub starts_ok : (returns : Bool) (key : List (List ℕ)) (ws : List ℕ) (bs : List Body) → length ws ≡ word_of (length key) → ((n : ℕ) → get_or ws n 0 ≡ 0) → map body_bytes bs ≡ key → Kept returns key (opening ws bs (dealer returns key))
+pub starts_ok : (returns : Bool) (key : List (List ℕ)) (ws : List ℕ) (bs : List Body) → length ws ≡ word_of (length key) → ((n : ℕ) → get_or ws n 0 ≡ 0)
+    → map body_bytes bs ≡ key → Kept returns key (opening ws bs (dealer returns key))
 starts_ok returns key ws bs long quiet same_bytes =
     let many : length bs ≡ length key = sym (length-map bs body_bytes) ∙ ap length same_bytes in
     let none-moving : (n : ℕ) → has_moving n (dealer returns key) ≡ 0 = λ n. ap is_moving (all_here key n) in
@@ -428,7 +501,8 @@ starts_ok returns key ws bs long quiet same_bytes =
           chained = tt;
           inside = tt;
           answers = λ _. tt;
-          slot = let t = body_at bs n (omega arith) in let q = t.2 ∙ ap (λ (l : List (List ℕ)). bytes_of l n) same_bytes in AtHome (omega arith) t.0 t.1 (ap length q, λ _. q);
+          slot = let t = body_at bs n (omega arith) in let q = t.2 ∙ ap (λ (l : List (List ℕ)). bytes_of l n) same_bytes in
+              AtHome (omega arith) t.0 t.1 (ap length q, λ _. q);
         };
         nowhere = λ n far. refl;
       };
@@ -449,8 +523,10 @@ starts_ok returns key ws bs long quiet same_bytes =
           rises = tt;
         });
         dealer = λ j u at some-made. let t = one_only returns key j u at in (t.0, sym (ap (λ (y : View). y.made) t.1), sym (ap (λ (y : View). y.alive) t.1));
-        parts = λ j u at p has. absurd (let none-there : Has [] p = subst (λ l. Has l p) (ap (λ (y : View). y.gathered) (sym (one_only returns key j u at).1)) has in some-ne-none p (sym none-there.1));
-        apart = λ j u at a b p q hp hq same. absurd (let none-there : get_elem? {A = Part} [] a ≡ some p = subst (λ l. get_elem? l a ≡ some p) (ap (λ (y : View). y.gathered) (sym (one_only returns key j u at).1)) hp in some-ne-none p (sym none-there));
+        parts = λ j u at p has. absurd (let none-there : Has [] p =
+            subst (λ l. Has l p) (ap (λ (y : View). y.gathered) (sym (one_only returns key j u at).1)) has in some-ne-none p (sym none-there.1));
+        apart = λ j u at a b p q hp hq same. absurd (let none-there : get_elem? {A = Part} [] a ≡ some p =
+            subst (λ l. get_elem? l a ≡ some p) (ap (λ (y : View). y.gathered) (sym (one_only returns key j u at).1)) hp in some-ne-none p (sym none-there));
       };
       whole = λ n e h. absurd (some-ne-none e (sym h.1));
     }

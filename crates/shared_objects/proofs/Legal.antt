@@ -1,5 +1,6 @@
 -- All entries of a table are one history, and a legal one runs; what words say.
-use Rattle.std.proofs.Common.{◌≡◌, ℕ, zero, suc, ◌+◌, ◌*◌, ◌/◌, ◌<◌, ◌≤◌, ◌≢◌, Bool, true, false, List, [], ◌∷◌, ◌++◌, length, sym, refl, ap, ◌∙◌, subst, arith, ◌⊎◌, inl, inr, ⊎_elim, slice_index}
+use Rattle.std.proofs.Common.{◌≡◌, ℕ, zero, suc, ◌+◌, ◌*◌, ◌/◌, ◌<◌, ◌≤◌, ◌≢◌, Bool, true, false, List, [], ◌∷◌, ◌++◌, length, sym, refl, ap, ◌∙◌, subst, arith}
+use Rattle.std.proofs.Common.{◌⊎◌, inl, inr, ⊎_elim, slice_index}
 use Rattle.std.specs.Prelude.{◌==◌}
 use Rattle.std.proofs.lemmas.Bool.{cases_lt}
 use mathlib.Core.Logic.{dite}
@@ -23,7 +24,8 @@ use Rattle.shared_objects.specs.declared.view.View.{View}
 use Rattle.shared_objects.proofs.Moves.{body_in}
 use Rattle.shared_objects.proofs.Few.{counts_few}
 use Rattle.shared_objects.proofs.Logs.{chained_rises}
-use Rattle.shared_objects.proofs.One.{empty, has_cons, first, later, places, apart_by_actor, rises_above, rises_unique, pick_rises, by_is, own_log, all_after, all_runs, all_fold, all_long}
+use Rattle.shared_objects.proofs.One.{empty, has_cons, first, later, places, apart_by_actor, rises_above, rises_unique, pick_rises, by_is, own_log, all_after}
+use Rattle.shared_objects.proofs.One.{all_runs, all_fold, all_long}
 use Rattle.shared_objects.proofs.Sorting.{has_either, has_left, has_right}
 
 -- ---- runs
@@ -37,7 +39,8 @@ one_run opening history l = record {
 }
 
 actor_later : (e f : SharedEntry) → e.actor ≡ f.actor → Before e f → e.stamp < f.stamp
-actor_later e f same b = ⊎_elim (λ (s : e.stamp < f.stamp). s) (λ (t : (e.stamp ≡ f.stamp) × (e.actor < f.actor)). let less = t.1 in absurd (omega (arith, same))) b
+actor_later e f same b = ⊎_elim (λ (s : e.stamp < f.stamp). s) (λ (t : (e.stamp ≡ f.stamp) × (e.actor < f.actor)). let less = t.1 in
+    absurd (omega (arith, same))) b
 
 by_actor : (actor : ℕ) (one : List SharedEntry) → InOrder one → ((e : SharedEntry) → Has one e → 0 < e.stamp) → Rises 0 (entries_by actor one)
 by_actor actor one o low = pick_rises (λ e. e.actor == actor) 0 one o (λ e h yes. low e h)
@@ -84,7 +87,8 @@ word_shows returns opening s k n lt =
         count = refl;
         stamp = refl;
         here = λ used. ⊎_elim (λ (out : 0 < (tally n s.views).moving + (tally n s.views).far). absurd (omega (arith, f.here out, used, hot_is)))
-            (λ (none : (tally n s.views).moving + (tally n s.views).far ≤ 0). place.2 (omega (arith, none))) (cases_lt 0 ((tally n s.views).moving + (tally n s.views).far));
+            (λ (none : (tally n s.views).moving + (tally n s.views).far ≤ 0). place.2 (omega (arith, none)))
+            (cases_lt 0 ((tally n s.views).moving + (tally n s.views).far));
       },
       f.word_is ∙ omega (arith, place_is, turn_is, hot_is),
     )
@@ -111,7 +115,8 @@ all_logs logs (suc n) = logs n ++ all_logs logs n
 
 logs_have : (logs : ℕ → List SharedEntry) (count : ℕ) (e : SharedEntry) → Has (all_logs logs count) e → (n : ℕ) × (n < count) × Has (logs n) e
 logs_have logs zero e h = absurd (empty e h)
-logs_have logs (suc n) e h = ⊎_elim (λ q. (n, omega arith, q)) (λ q. let t = logs_have logs n e q in let lt = t.1 in (t.0, omega (arith, lt), t.2)) (has_either (logs n) (all_logs logs n) e h)
+logs_have logs (suc n) e h = ⊎_elim (λ q. (n, omega arith, q)) (λ q. let t = logs_have logs n e q in let lt = t.1 in
+    (t.0, omega (arith, lt), t.2)) (has_either (logs n) (all_logs logs n) e h)
 
 logs_there : (logs : ℕ → List SharedEntry) (count n : ℕ) (e : SharedEntry) → n < count → Has (logs n) e → Has (all_logs logs count) e
 logs_there logs zero n e lt h = absurd (omega (arith, lt))
@@ -124,12 +129,14 @@ module _ (returns : Bool) (opening : List (List ℕ)) (s : State Body View) (k :
   same_view i j v w at at' same = some-injective v w (sym at ∙ ap (get_elem? s.views) same ∙ at')
 
   -- a seat with entries wasn't taken in
-  not_gone : (id : ℕ) (v : View) (p : Part) (e : SharedEntry) → get_elem? s.views id ≡ some v → get_elem? s.views p.actor ≡ some spent → Has v.entries e → id ≡ p.actor → ⊥
+  not_gone : (id : ℕ) (v : View) (p : Part) (e : SharedEntry) → get_elem? s.views id ≡ some v → get_elem? s.views p.actor ≡ some spent
+      → Has v.entries e → id ≡ p.actor → ⊥
   not_gone id v p e at gone h same = empty e (subst (λ (u : View). Has u.entries e) (same_view id p.actor v spent at gone same) h)
 
   -- a seat that took others in is the first
   takes_in : (id : ℕ) (v : View) (p : Part) → get_elem? s.views id ≡ some v → Has v.gathered p → id ≡ 0
-  takes_in id v p at h = dite (ℕ_discrete id 0) (λ (same : id ≡ 0). same) (λ (ne : id ≢ 0). absurd (empty p (subst (λ l. Has l p) ((k.seats.knows id v at).alone ne) h)))
+  takes_in id v p at h = dite (ℕ_discrete id 0) (λ (same : id ≡ 0). same) (λ (ne : id ≢ 0).
+      absurd (empty p (subst (λ l. Has l p) ((k.seats.knows id v at).alone ne) h)))
 
   -- an actor wrote no two entries at one stamp
   one_each : (e f : SharedEntry) → IsWrittenIn s e → IsWrittenIn s f → e.actor ≡ f.actor → e.stamp ≡ f.stamp → e ≡ f
@@ -147,19 +154,22 @@ module _ (returns : Bool) (opening : List (List ℕ)) (s : State Body View) (k :
       (λ (got' : HasPart b.1.gathered f). let q = k.seats.parts b.0 b.1 b.2 got'.0 got'.1 in
       let same : a.1 ≡ b.1 = same_view a.0 b.0 a.1 b.1 a.2 b.2 (takes_in a.0 a.1 got.0 a.2 got.1 ∙ sym (takes_in b.0 b.1 got'.0 b.2 got'.1)) in
       let at : get_elem? b.1.gathered got.1.0 ≡ some got.0 = subst (λ (u : View). get_elem? u.gathered got.1.0 ≡ some got.0) same got.1.1 in
-      let place : got.1.0 ≡ got'.1.0 = k.seats.apart b.0 b.1 b.2 got.1.0 got'.1.0 got.0 got'.0 at got'.1.1 (sym (p.entries e got.2).0 ∙ actor ∙ (q.entries f got'.2).0) in
+      let place : got.1.0 ≡ got'.1.0 = k.seats.apart b.0 b.1 b.2 got.1.0 got'.1.0 got.0 got'.0 at got'.1.1 (sym (p.entries e got.2).0
+      ∙ actor ∙ (q.entries f got'.2).0) in
       let part : got.0 ≡ got'.0 = some-injective got.0 got'.0 (sym at ∙ ap (get_elem? b.1.gathered) place ∙ got'.1.1) in
       rises_unique 0 got'.0.entries e f q.rises (subst (λ (r : Part). Has r.entries e) part got.2) got'.2 stamp) b.3) a.3
 
   near_log : (n : ℕ) (e : SharedEntry) → Has (k.logs n) e → n < length opening
-  near_log n e h = ⊎_elim (λ (near : n < length opening). near) (λ (far : length opening ≤ n). absurd (empty e (subst (λ l. Has l e) (k.objects.nowhere n far) h))) (cases_lt n (length opening))
+  near_log n e h = ⊎_elim (λ (near : n < length opening). near) (λ (far : length opening ≤ n).
+      absurd (empty e (subst (λ l. Has l e) (k.objects.nowhere n far) h))) (cases_lt n (length opening))
 
   -- two entries are the same, or one stands before the other
   in_line : (e f : SharedEntry) → IsWrittenIn s e → IsWrittenIn s f → (e ≡ f) ⊎ (Before e f ⊎ Before f e)
   in_line e f a b = dite (ℕ_discrete e.actor f.actor)
       (λ (actor : e.actor ≡ f.actor). dite (ℕ_discrete e.stamp f.stamp)
       (λ (stamp : e.stamp ≡ f.stamp). inl (one_each e f a b actor stamp))
-      (λ (ne : e.stamp ≢ f.stamp). inr (⊎_elim (λ (lt : e.stamp < f.stamp). inl (inl lt)) (λ (ge : f.stamp ≤ e.stamp). inr (inl (omega (arith, ge, ne)))) (cases_lt e.stamp f.stamp))))
+      (λ (ne : e.stamp ≢ f.stamp). inr (⊎_elim (λ (lt : e.stamp < f.stamp). inl (inl lt)) (λ (ge : f.stamp ≤ e.stamp).
+      inr (inl (omega (arith, ge, ne)))) (cases_lt e.stamp f.stamp))))
       (λ (ne : e.actor ≢ f.actor). inr (apart_by_actor e f ne))
 
   -- what a seat wrote is in the entries of its object
@@ -177,17 +187,22 @@ module _ (returns : Bool) (opening : List (List ℕ)) (s : State Body View) (k :
       let t = orders es (λ e f he hf. in_line e f (from e he) (from f hf)) in
       let history : List SharedEntry = t.0 in
       let only : (e : SharedEntry) → Has history e → IsWrittenIn s e = λ e h. from e (t.3 e h) in
-      let all : (e : SharedEntry) → IsWrittenIn s e → Has history e = λ e a. let l = logged e a in t.2 e (logs_there k.logs (length opening) e.object e (near_log e.object e l) l) in
-      let log : (n : ℕ) → n < length opening → entries_on n history ≡ k.logs n = λ n lt. own_log n (k.logs n) history (chained_rises 0 (k.logs n) (k.objects.fits n lt).chained) t.1
+      let all : (e : SharedEntry) → IsWrittenIn s e → Has history e = λ e a. let l = logged e a in
+      t.2 e (logs_there k.logs (length opening) e.object e (near_log e.object e l) l) in
+      let log : (n : ℕ) → n < length opening → entries_on n history ≡ k.logs n =
+      λ n lt. own_log n (k.logs n) history (chained_rises 0 (k.logs n) (k.objects.fits n lt).chained) t.1
       (λ e h on. subst (λ j. Has (k.logs j) e) on (logged e (only e h)))
       (λ e h. (all e (written n e h), (k.whole n e h).0)) in
       let near : (e : SharedEntry) → Has history e → e.object < length opening = λ e h. near_log e.object e (logged e (only e h)) in
-      let low : (e : SharedEntry) → Has history e → 0 < e.stamp = λ e h. rises_above 0 (k.logs e.object) e (chained_rises 0 (k.logs e.object) (k.objects.fits e.object (near e h)).chained) (logged e (only e h)) in
+      let low : (e : SharedEntry) → Has history e
+      → 0 < e.stamp = λ e h. rises_above 0 (k.logs e.object) e
+      (chained_rises 0 (k.logs e.object) (k.objects.fits e.object (near e h)).chained) (logged e (only e h)) in
       record {
         history = history;
         only = only;
         all = all;
-        stamps = λ n lt. let f = k.objects.fits n lt in let few = counts_few returns opening s k n in let hot = f.one_hot in let turn = f.one_turn in let out = f.one_out in
+        stamps = λ n lt. let f = k.objects.fits n lt in let few = counts_few returns opening s k n in let hot = f.one_hot in
+            let turn = f.one_turn in let out = f.one_out in
             let stamp_is : slice_index s.words (word_of n) / 65536 ≡ top 0 (k.logs n) = omega (arith, f.word_is, few, hot, turn, out) in
             stamp_is ∙ ap (top 0) (sym (log n lt));
         legal = λ r. record {
@@ -198,6 +213,7 @@ module _ (returns : Bool) (opening : List (List ℕ)) (s : State Body View) (k :
           answers = λ n lt. subst (Answers (bytes_of opening n)) (sym (log n lt)) ((k.objects.fits n lt).answers r);
         };
         here = λ n lt free. let f = k.objects.fits n lt in let hot = f.one_hot in let turn = f.one_turn in let out = f.one_out in
-            let b = body_in f (omega (arith, f.word_is, free, hot, turn, out)) in (b.0, b.1, (b.2.0, λ r. b.2.1 r ∙ ap (fold (bytes_of opening n)) (sym (log n lt))));
+            let b = body_in f (omega (arith, f.word_is, free, hot, turn, out)) in
+            (b.0, b.1, (b.2.0, λ r. b.2.1 r ∙ ap (fold (bytes_of opening n)) (sym (log n lt))));
         out = λ id n v bytes at lt is. let b = (k.seats.knows id v at).out n bytes is in (b.0, λ r. b.1 r ∙ ap (fold (bytes_of opening n)) (sym (log n lt)));
       }

@@ -33,7 +33,8 @@ pub Rises-snoc : (floor : ℕ) (es : List SharedEntry) (e : SharedEntry) → Ris
 Rises-snoc floor [] e r h = (h, tt)
 Rises-snoc floor (x ∷ xs) e r h = (r.0, Rises-snoc x.stamp xs e r.1 h)
 
-pub Chained-snoc : (floor : ℕ) (es : List SharedEntry) (e : SharedEntry) → Chained floor es → e.found ≡ top floor es → top floor es < e.stamp → Chained floor (es ++ e ∷ [])
+pub Chained-snoc : (floor : ℕ) (es : List SharedEntry) (e : SharedEntry) → Chained floor es → e.found ≡ top floor es → top floor es < e.stamp
+    → Chained floor (es ++ e ∷ [])
 Chained-snoc floor [] e r f h = (f, h, tt)
 Chained-snoc floor (x ∷ xs) e r f h = (r.0, r.1, Chained-snoc x.stamp xs e r.2 f h)
 
@@ -53,7 +54,8 @@ pub fold-snoc : (bytes : List ℕ) (es : List SharedEntry) (e : SharedEntry) →
 fold-snoc bytes [] e = refl
 fold-snoc bytes (x ∷ xs) e = fold-snoc (left_by x.deed bytes) xs e
 
-pub Answers-snoc : (bytes : List ℕ) (es : List SharedEntry) (e : SharedEntry) → Answers bytes es → e.given ≡ given_by e.deed (fold bytes es) → Answers bytes (es ++ e ∷ [])
+pub Answers-snoc : (bytes : List ℕ) (es : List SharedEntry) (e : SharedEntry) → Answers bytes es → e.given ≡ given_by e.deed (fold bytes es)
+    → Answers bytes (es ++ e ∷ [])
 Answers-snoc bytes [] e a h = (h, tt)
 Answers-snoc bytes (x ∷ xs) e a h = (a.0, Answers-snoc (left_by x.deed bytes) xs e a.1 h)
 

@@ -1,5 +1,6 @@
 -- One seat steps on one object, and the rule stays.
-use Rattle.std.proofs.Common.{◌≡◌, true, false, Bool, ℕ, ◌+◌, ◌<◌, ◌≤◌, ◌≢◌, List, [], length, set, sym, refl, ap, ◌∙◌, subst, arith, cond, eqb, eq-eqb, ne_eqb, ◌⊎◌, inl, inr, ⊎_elim, length-set, get_or-set_other, get_or-set_same, slice_index, Some, None}
+use Rattle.std.proofs.Common.{◌≡◌, true, false, Bool, ℕ, ◌+◌, ◌<◌, ◌≤◌, ◌≢◌, List, [], length, set, sym, refl, ap, ◌∙◌, subst, arith, cond, eqb, eq-eqb, ne_eqb}
+use Rattle.std.proofs.Common.{◌⊎◌, inl, inr, ⊎_elim, length-set, get_or-set_other, get_or-set_same, slice_index, Some, None}
 use mathlib.Core.Logic.{dite}
 use native.Mathlib.Decide.{ℕ_discrete}
 use mathlib.Core.Option.{some, none, some-injective, some-ne-none}
@@ -9,7 +10,8 @@ use Rattle.atomic_table.specs.Table.{State}
 use Rattle.atomic_table.proofs.Lists.{at_set, set_else}
 use Rattle.shared_objects.specs.History.{Has, top}
 use Rattle.memory.specs.Objects.{bytes_of}
-use Rattle.shared_objects.specs.Rule.{total, has_turn, has_open, has_pass, has_moving, has_far, place_of, is_moving, is_far, bytes_taken, is_live, spent, HasPart, Written, PartFits, TurnFits, MarkFits, Stands, turns_on, word_of, Tally, tally, SlotFits, Fits, Knows, Kept}
+use Rattle.shared_objects.specs.Rule.{total, has_turn, has_open, has_pass, has_moving, has_far, place_of, is_moving, is_far, bytes_taken, is_live, spent}
+use Rattle.shared_objects.specs.Rule.{HasPart, Written, PartFits, TurnFits, MarkFits, Stands, turns_on, word_of, Tally, tally, SlotFits, Fits, Knows, Kept}
 use Rattle.shared_objects.specs.Rule.SlotFits.{AtHome, Lent, Idle}
 use Rattle.shared_objects.specs.declared.body.Body.{Body}
 use Rattle.shared_objects.specs.declared.view.SharedEntry.{SharedEntry}
@@ -39,30 +41,36 @@ pub grown_else : (logs : ℕ → List SharedEntry) (n : ℕ) (log : List SharedE
 grown_else logs n log m e = ap (λ b. cond b log (logs m)) (ne_eqb m n e)
 
 pub grown_same : (logs : ℕ → List SharedEntry) (n : ℕ) → logs ≡ grown logs n (logs n)
-grown_same logs n = λ i m. dite {P = m ≡ n} {C = logs m ≡ grown logs n (logs n) m} (ℕ_discrete m n) (λ e. ap logs e ∙ sym (grown_here logs n (logs n) m e)) (λ ne. sym (grown_else logs n (logs n) m ne)) i
+grown_same logs n = λ i m. dite {P = m ≡ n} {C = logs m ≡ grown logs n (logs n) m} (ℕ_discrete m n) (λ e. ap logs e
+    ∙ sym (grown_here logs n (logs n) m e)) (λ ne. sym (grown_else logs n (logs n) m ne)) i
 
 pub same_fits : (returns : Bool) (opening : List ℕ) (t t' : Tally) (w w' : ℕ) (h h' : maybe.Option (maybe.Option Body)) (l l' : List SharedEntry)
     → t' ≡ t → w' ≡ w → h' ≡ h → l' ≡ l → Fits returns opening t w h l → Fits returns opening t' w' h' l'
 same_fits returns opening t t' w w' h h' l l' p₁ p₃ p₄ p₅ f =
-    subst (λ a. Fits returns opening a w' h' l') (sym p₁) (subst (λ a. Fits returns opening t a h' l') (sym p₃) (subst (λ a. Fits returns opening t w a l') (sym p₄) (subst (λ a. Fits returns opening t w h a) (sym p₅) f)))
+    subst (λ a. Fits returns opening a w' h' l') (sym p₁)
+    (subst (λ a. Fits returns opening t a h' l') (sym p₃)
+    (subst (λ a. Fits returns opening t w a l') (sym p₄) (subst (λ a. Fits returns opening t w h a) (sym p₅) f)))
 
 -- ---- where the body of an object is
 
 in_of : {returns : Bool} {opening : List ℕ} {t : Tally} {home : maybe.Option (maybe.Option Body)} {log : List SharedEntry}
-    → SlotFits returns opening t home log → t.moving + t.far + t.turns ≡ 0 → (body : Body) × (home ≡ some (some body)) × Stands returns opening log body.bytes.items
+    → SlotFits returns opening t home log → t.moving + t.far + t.turns ≡ 0
+    → (body : Body) × (home ≡ some (some body)) × Stands returns opening log body.bytes.items
 in_of (AtHome calm body at stands) z = (body, at, stands)
 in_of (Lent out at) z = absurd (omega arith)
 in_of (Idle far body at) z = absurd (omega arith)
 
 far_of : {returns : Bool} {opening : List ℕ} {t : Tally} {home : maybe.Option (maybe.Option Body)} {log : List SharedEntry} (hot : ℕ)
-    → t.moving + t.far ≤ 1 → (0 < t.moving + t.far → t.opens + t.turns + hot ≡ 0) → SlotFits returns opening t home log → 0 < t.far → (body : Body) × (home ≡ some (some body))
+    → t.moving + t.far ≤ 1 → (0 < t.moving + t.far → t.opens + t.turns + hot ≡ 0) → SlotFits returns opening t home log → 0 < t.far
+    → (body : Body) × (home ≡ some (some body))
 far_of hot one here (AtHome calm body at stands) z = absurd (omega arith)
 far_of hot one here (Lent out at) z = absurd (let h = here (omega arith) in omega arith)
 far_of hot one here (Idle far body at) z = (body, at)
 
 -- here and with no turn held the body is at home
 pub body_in : {returns : Bool} {opening : List ℕ} {t : Tally} {word : ℕ} {home : maybe.Option (maybe.Option Body)} {log : List SharedEntry}
-    → Fits returns opening t word home log → t.moving + t.far + t.turns ≡ 0 → (body : Body) × (home ≡ some (some body)) × Stands returns opening log body.bytes.items
+    → Fits returns opening t word home log → t.moving + t.far + t.turns ≡ 0
+    → (body : Body) × (home ≡ some (some body)) × Stands returns opening log body.bytes.items
 body_in f z = in_of f.slot z
 
 -- where it is far some body is at home
@@ -81,7 +89,13 @@ pub record Alike (m : ℕ) (v w : View) : Type 0 where
 pub tally_set : (vs : List View) (id : ℕ) (v w : View) (m : ℕ) → get_elem? vs id ≡ some v → Alike m v w → tally m (set vs id w) ≡ tally m vs
 tally_set vs id v w m me a =
     let step : (g : View → ℕ) → g w ≡ g v → total g (set vs id w) ≡ total g vs = λ g e. omega (arith, total-set g vs id v w me, e) in
-    λ i. record { turns = step (has_turn m) a.turns i; opens = step (has_open m) a.opens i; passes = step (has_pass m) a.passes i; moving = step (has_moving m) a.moving i; far = step (has_far m) a.far i }
+    λ i. record {
+      turns = step (has_turn m) a.turns i;
+      opens = step (has_open m) a.opens i;
+      passes = step (has_pass m) a.passes i;
+      moving = step (has_moving m) a.moving i;
+      far = step (has_far m) a.far i;
+    }
 
 -- a place with bytes counts
 pub place_weighs : (p : Whereabouts) (bytes : List ℕ) → bytes_taken p ≡ Some bytes → is_moving p + is_far p ≡ 1
@@ -101,12 +115,15 @@ no_live e = cc
 
 -- what a step leaves of a seat
 abbrev pub SameSeat : View → View → Type 0
-SameSeat v w = (w.made ≡ v.made) × (w.alive ≡ v.alive) × (w.live ≡ v.live) × (w.gathered ≡ v.gathered) × (w.actor ≡ v.actor) × (w.opening ≡ v.opening) × (w.returns ≡ v.returns)
+SameSeat v w = (w.made ≡ v.made) × (w.alive ≡ v.alive) × (w.live ≡ v.live) × (w.gathered ≡ v.gathered) × (w.actor ≡ v.actor)
+    × (w.opening ≡ v.opening) × (w.returns ≡ v.returns)
 
 -- a seat knows what it knew, of other entries and with other counts of seats, where these facts hold again
-pub knows_again : (returns : Bool) (opening : List (List ℕ)) (logs logs' : ℕ → List SharedEntry) (id : ℕ) (v : View) (made alive : ℕ) (gathered : List Part) → Knows returns opening logs id v
+pub knows_again : (returns : Bool) (opening : List (List ℕ)) (logs logs' : ℕ → List SharedEntry) (id : ℕ) (v : View) (made alive : ℕ) (gathered : List Part)
+    → Knows returns opening logs id v
     → (v.live ≡ false → record v { made = made; alive = alive; gathered = gathered } ≡ spent) → (id ≡ 0 → 0 < made) → (id ≢ 0 → gathered ≡ [])
-    → ((t : Turn) → v.turn ≡ Some t → TurnFits returns opening logs' v.scopes t) → ((n : ℕ) (bytes : List ℕ) → bytes_taken (place_of v n) ≡ Some bytes → Stands returns (bytes_of opening n) (logs' n) bytes)
+    → ((t : Turn) → v.turn ≡ Some t → TurnFits returns opening logs' v.scopes t)
+    → ((n : ℕ) (bytes : List ℕ) → bytes_taken (place_of v n) ≡ Some bytes → Stands returns (bytes_of opening n) (logs' n) bytes)
     → ((e : SharedEntry) → Has v.entries e → Has (logs' e.object) e) → ((m : Mark) → Has v.marks m → MarkFits logs' m)
     → Knows returns opening logs' id (record v { made = made; alive = alive; gathered = gathered })
 knows_again returns opening logs logs' id v made alive gathered k idle maker alone turn out entries marks = record {
@@ -124,7 +141,8 @@ knows_again returns opening logs logs' id v made alive gathered k idle maker alo
   rises = k.rises;
 }
 
-module _ (returns : Bool) (opening : List (List ℕ)) (s : St) (o : Kept returns opening s) (id : ℕ) (v w : View) (n x : ℕ) (hs : List (maybe.Option Body)) (log : List SharedEntry)
+module _ (returns : Bool) (opening : List (List ℕ)) (s : St) (o : Kept returns opening s) (id : ℕ) (v w : View) (n x : ℕ)
+    (hs : List (maybe.Option Body)) (log : List SharedEntry)
     (me : get_elem? s.views id ≡ some v) (near : n < length opening) (alive_ : v.live ≡ true) where
   abbrev logs' : ℕ → List SharedEntry
   logs' = grown o.logs n log
@@ -143,7 +161,8 @@ module _ (returns : Bool) (opening : List (List ℕ)) (s : St) (o : Kept returns
   mark_stays higher (Away k) h = tt
   mark_stays higher (Busy k) h = tt
   mark_stays higher (Worn k found) h = dite (ℕ_discrete k n)
-      (λ here. let a : top 0 (o.logs k) ≡ top 0 (o.logs n) = ap (λ j. top 0 (o.logs j)) here in let b : top 0 (logs' k) ≡ top 0 log = ap (top 0) (grown_here o.logs n log k here) in omega arith)
+      (λ here. let a : top 0 (o.logs k) ≡ top 0 (o.logs n) = ap (λ j. top 0 (o.logs j)) here in
+      let b : top 0 (logs' k) ≡ top 0 log = ap (top 0) (grown_here o.logs n log k here) in omega arith)
       (λ else. let b : top 0 (logs' k) ≡ top 0 (o.logs k) = ap (top 0) (grown_else o.logs n log k else) in omega arith)
 
   -- what another seat knows
@@ -159,7 +178,8 @@ module _ (returns : Bool) (opening : List (List ℕ)) (s : St) (o : Kept returns
       let few = (o.objects.fits n near).one_turn in
       absurd (omega (arith, terms_le (has_turn n) s.views id j v u ne me at)))
       mine)
-      (λ else. subst (λ l. (t.stamp ≡ top 0 l) × Stands returns (bytes_of opening t.object) l t.bytes × (length u.scopes ≤ 4)) (sym (grown_else o.logs n log t.object else)) (k.turn t e)))
+      (λ else. subst (λ l. (t.stamp ≡ top 0 l) × Stands returns (bytes_of opening t.object) l t.bytes
+      × (length u.scopes ≤ 4)) (sym (grown_else o.logs n log t.object else)) (k.turn t e)))
       (λ m bytes e. dite (ℕ_discrete m n)
       (λ here. ⊎_elim (λ (same : log ≡ o.logs n).
       let eq : logs' m ≡ o.logs m = grown_here o.logs n log m here ∙ same ∙ ap o.logs (sym here) in
@@ -178,8 +198,13 @@ module _ (returns : Bool) (opening : List (List ℕ)) (s : St) (o : Kept returns
   -- what is written in the seats stays written
   stays : ((e : SharedEntry) → Has v.entries e → Has w.entries e) → w.gathered ≡ v.gathered → (e : SharedEntry) → WrittenIn s.views e → WrittenIn vs' e
   stays mine got e h = dite (ℕ_discrete h.0 id)
-      (λ same. let is : h.1 ≡ v = some-injective h.1 v (sym h.2 ∙ ap (get_elem? s.views) same ∙ me) in
-      (id, w, set_there s.views id v w me, ⊎_elim (λ own. inl (mine e (subst (λ (y : View). Has y.entries e) is own))) (λ part. inr (subst (λ l. HasPart l e) (sym got) (subst (λ (y : View). HasPart y.gathered e) is part))) h.3))
+      (λ same. let is : h.1 ≡ v = some-injective h.1 v (sym h.2 ∙ ap (get_elem? s.views) same ∙ me) in (
+        id,
+        w,
+        set_there s.views id v w me,
+        ⊎_elim (λ own. inl (mine e (subst (λ (y : View). Has y.entries e) is own)))
+            (λ part. inr (subst (λ l. HasPart l e) (sym got) (subst (λ (y : View). HasPart y.gathered e) is part))) h.3,
+      ))
       (λ ne. (h.0, h.1, set_else s.views id h.0 w ne ∙ h.2, h.3))
 
   -- a seat that was taken in stays so
@@ -188,7 +213,8 @@ module _ (returns : Bool) (opening : List (List ℕ)) (s : St) (o : Kept returns
     rises = f.rises;
     entries = λ e has. let old = f.entries e has in (old.0, entry_stays keeps e old.1);
     marks = λ m has. mark_stays higher m (f.marks m has);
-    gone = set_else s.views id p.actor w (λ same. let is : spent ≡ v = some-injective spent v (sym f.gone ∙ ap (get_elem? s.views) same ∙ me) in no_live (ap (λ (y : View). y.live) is ∙ alive_)) ∙ f.gone;
+    gone = set_else s.views id p.actor w (λ same. let is : spent ≡ v = some-injective spent v (sym f.gone ∙ ap (get_elem? s.views) same ∙ me) in
+        no_live (ap (λ (y : View). y.live) is ∙ alive_)) ∙ f.gone;
   }
 
   pub moves : length hs ≡ length s.homes
@@ -213,10 +239,13 @@ module _ (returns : Bool) (opening : List (List ℕ)) (s : St) (o : Kept returns
           words = length-set s.words (word_of n) x ∙ o.objects.words;
           slots = long ∙ o.objects.slots;
           fits = λ m lt. dite (ℕ_discrete m n)
-              (λ e. subst (λ k. Fits returns (bytes_of opening k) (tally k vs') (slice_index (set s.words (word_of n) x) (word_of k)) (get_elem? hs k) (logs' k)) (sym e)
-              (same_fits _ _ _ _ _ _ _ _ _ _ refl (get_or-set_same s.words (word_of n) x 0 (omega (arith, o.objects.words, near))) refl (grown_here o.logs n log n refl) fits))
+              (λ e. subst (λ k. Fits returns (bytes_of opening k) (tally k vs') (slice_index (set s.words (word_of n) x) (word_of k))
+              (get_elem? hs k) (logs' k)) (sym e)
+              (same_fits _ _ _ _ _ _ _ _ _ _ refl (get_or-set_same s.words (word_of n) x 0 (omega (arith, o.objects.words, near))) refl
+              (grown_here o.logs n log n refl) fits))
               (λ ne. same_fits _ _ _ _ _ _ _ _ _ _ (tally_set s.views id v w m me (alike m ne))
-              (get_or-set_other s.words (word_of n) (word_of m) x 0 (λ q. ne (omega (arith, q)))) (homes m ne) (grown_else o.logs n log m ne) (o.objects.fits m lt));
+              (get_or-set_other s.words (word_of n) (word_of m) x 0 (λ q. ne (omega (arith, q)))) (homes m ne)
+              (grown_else o.logs n log m ne) (o.objects.fits m lt));
           nowhere = λ m far. grown_else o.logs n log m (λ same. omega (arith, same)) ∙ o.objects.nowhere m far;
         };
         seats = record {
@@ -225,10 +254,13 @@ module _ (returns : Bool) (opening : List (List ℕ)) (s : St) (o : Kept returns
               (λ (t : (j ≡ id) × (w ≡ u)). subst (λ y. Knows returns opening logs' j y) t.1 (subst (λ k. Knows returns opening logs' k w) (sym t.0) knows))
               (λ (t : (j ≢ id) × (get_elem? s.views j ≡ some u)). others keeps higher only j u t.0 t.1) (at_set s.views id j w u at);
           dealer = λ j u at some-made. ⊎_elim
-              (λ (t : (j ≡ id) × (w ≡ u)). let e : u.made ≡ v.made = ap (λ (y : View). y.made) (sym t.1) ∙ made.0 in let d = o.seats.dealer id v me (subst (λ k. 0 < k) e some-made) in (t.0 ∙ d.0, e ∙ d.1 ∙ sym long', ap (λ (y : View). y.alive) (sym t.1) ∙ made.1 ∙ d.2 ∙ sym living))
+              (λ (t : (j ≡ id) × (w ≡ u)). let e : u.made ≡ v.made = ap (λ (y : View). y.made) (sym t.1) ∙ made.0 in
+              let d = o.seats.dealer id v me (subst (λ k. 0 < k) e some-made) in
+              (t.0 ∙ d.0, e ∙ d.1 ∙ sym long', ap (λ (y : View). y.alive) (sym t.1) ∙ made.1 ∙ d.2 ∙ sym living))
               (λ t. let d = o.seats.dealer j u t.1 some-made in (d.0, d.1 ∙ sym long', d.2 ∙ sym living)) (at_set s.views id j w u at);
           parts = λ j u at p has. ⊎_elim
-              (λ (t : (j ≡ id) × (w ≡ u)). fits_on keeps higher p (o.seats.parts id v me p (subst (λ l. Has l p) (ap (λ (y : View). y.gathered) (sym t.1) ∙ made.3) has)))
+              (λ (t : (j ≡ id) × (w ≡ u)). fits_on keeps higher p
+              (o.seats.parts id v me p (subst (λ l. Has l p) (ap (λ (y : View). y.gathered) (sym t.1) ∙ made.3) has)))
               (λ (t : (j ≢ id) × (get_elem? s.views j ≡ some u)). fits_on keeps higher p (o.seats.parts j u t.1 p has)) (at_set s.views id j w u at);
           apart = λ j u at a b p q hp hq same. ⊎_elim
               (λ (t : (j ≡ id) × (w ≡ u)). let e : u.gathered ≡ v.gathered = ap (λ (y : View). y.gathered) (sym t.1) ∙ made.3 in

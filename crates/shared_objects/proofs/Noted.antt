@@ -51,7 +51,8 @@ rest_times n (x ∷ xs) h = either_way (nat_le 4 (length (x ∷ xs))) (times n (
 pub noted_once : (n : ℕ) (w : List ℕ) → IsWindow w → times n (noted n w) ≡ 1
 noted_once n w is = either_way (holds n w) (times n (noted n w) ≡ 1)
     (λ e. ap (λ b. times n (cond b w (without_oldest w ++ n ∷ []))) e ∙ times_once n w is.distinct e)
-    (λ e. ap (λ b. times n (cond b w (without_oldest w ++ n ∷ []))) e ∙ omega (arith, times-snoc n n (without_oldest w), is_here n n refl, rest_times n w (times_none n w e)))
+    (λ e. ap (λ b. times n (cond b w (without_oldest w ++ n ∷ []))) e
+    ∙ omega (arith, times-snoc n n (without_oldest w), is_here n n refl, rest_times n w (times_none n w e)))
 
 same_self : (x : ℕ) → nat_eq x x ≡ true
 same_self x = grind (arith, nat_tests)
@@ -92,7 +93,8 @@ below_rest count (x ∷ xs) a = either_way (nat_le 4 (length (x ∷ xs))) (Each 
 pub below_noted : (count n : ℕ) (w : List ℕ) → AllBelow count w → n < count → AllBelow count (noted n w)
 below_noted count n w a h = either_way (holds n w) (AllBelow count (noted n w))
     (λ e. subst (λ b. AllBelow count (cond b w (without_oldest w ++ n ∷ []))) (sym e) a)
-    (λ e. subst (λ b. AllBelow count (cond b w (without_oldest w ++ n ∷ []))) (sym e) (all_of count (without_oldest w ++ n ∷ []) (below_snoc count n (without_oldest w) (below_rest count w (each_of count w a)) h)))
+    (λ e. subst (λ b. AllBelow count (cond b w (without_oldest w ++ n ∷ []))) (sym e)
+    (all_of count (without_oldest w ++ n ∷ []) (below_snoc count n (without_oldest w) (below_rest count w (each_of count w a)) h)))
 
 pub below_none : (count : ℕ) → AllBelow count []
 below_none count k h = absurd (let z : false ≡ true = h in cc)
@@ -108,36 +110,44 @@ noted_held n w e = ap (λ b. cond b w (without_oldest w ++ n ∷ [])) e
 pub noted_more : (n : ℕ) (w : List ℕ) → holds n w ≡ false → pushed_out n w ≡ None → noted n w ≡ w ++ n ∷ []
 noted_more n [] e p = ap (λ b. cond b [] (n ∷ [])) e
 noted_more n (x ∷ xs) e p = either_way (nat_le 4 (length (x ∷ xs))) (noted n (x ∷ xs) ≡ (x ∷ xs) ++ n ∷ [])
-    (λ full. absurd (let q : Some x ≡ None = sym (ap (λ b. cond b None (cond (nat_le 4 (length (x ∷ xs))) (Some x) None)) e ∙ ap (λ b. cond b (Some x) None) full) ∙ p in cc))
+    (λ full. absurd (let q : Some x ≡ None = sym (ap (λ b. cond b None (cond (nat_le 4 (length (x ∷ xs))) (Some x) None)) e
+    ∙ ap (λ b. cond b (Some x) None) full) ∙ p in cc))
     (λ room. ap (λ b. cond b (x ∷ xs) (without_oldest (x ∷ xs) ++ n ∷ [])) e ∙ ap (λ b. cond b xs (x ∷ xs) ++ n ∷ []) room)
 
 -- where one is pushed out it was the first
 pub noted_full : (n k : ℕ) (w : List ℕ) → holds n w ≡ false → pushed_out n w ≡ Some k → without k (w ++ n ∷ []) ≡ noted n w
 noted_full n k [] e p = absurd (let q : None ≡ Some k = sym (ap (λ b. cond b None None) e) ∙ p in cc)
 noted_full n k (x ∷ xs) e p = either_way (nat_le 4 (length (x ∷ xs))) (without k ((x ∷ xs) ++ n ∷ []) ≡ noted n (x ∷ xs))
-    (λ full. let q : Some x ≡ Some k = sym (ap (λ b. cond b None (cond (nat_le 4 (length (x ∷ xs))) (Some x) None)) e ∙ ap (λ b. cond b (Some x) None) full) ∙ p in
+    (λ full. let q : Some x ≡ Some k = sym (ap (λ b. cond b None (cond (nat_le 4 (length (x ∷ xs))) (Some x) None)) e ∙ ap (λ b. cond b (Some x) None) full)
+    ∙ p in
     let is : x ≡ k = (cc) in
-    ap (λ b. cond b (xs ++ n ∷ []) (x ∷ without k (xs ++ n ∷ []))) (eq-eqb x k is) ∙ sym (ap (λ b. cond b (x ∷ xs) (without_oldest (x ∷ xs) ++ n ∷ [])) e ∙ ap (λ b. cond b xs (x ∷ xs) ++ n ∷ []) full))
-    (λ room. absurd (let q : None ≡ Some k = sym (ap (λ b. cond b None (cond (nat_le 4 (length (x ∷ xs))) (Some x) None)) e ∙ ap (λ b. cond b (Some x) None) room) ∙ p in cc))
+    ap (λ b. cond b (xs ++ n ∷ []) (x ∷ without k (xs ++ n ∷ []))) (eq-eqb x k is)
+    ∙ sym (ap (λ b. cond b (x ∷ xs) (without_oldest (x ∷ xs) ++ n ∷ [])) e ∙ ap (λ b. cond b xs (x ∷ xs) ++ n ∷ []) full))
+    (λ room. absurd (let q : None ≡ Some k = sym (ap (λ b. cond b None (cond (nat_le 4 (length (x ∷ xs))) (Some x) None)) e
+    ∙ ap (λ b. cond b (Some x) None) room) ∙ p in cc))
 
 -- what is pushed out stands once among the open scopes
 pub pushed_once : (n k : ℕ) (w : List ℕ) → IsWindow w → holds n w ≡ false → pushed_out n w ≡ Some k → times k (w ++ n ∷ []) ≡ 1
 pushed_once n k [] is e p = absurd (let q : None ≡ Some k = sym (ap (λ b. cond b None None) e) ∙ p in cc)
 pushed_once n k (x ∷ xs) is e p = either_way (nat_le 4 (length (x ∷ xs))) (times k ((x ∷ xs) ++ n ∷ []) ≡ 1)
-    (λ full. let q : Some x ≡ Some k = sym (ap (λ b. cond b None (cond (nat_le 4 (length (x ∷ xs))) (Some x) None)) e ∙ ap (λ b. cond b (Some x) None) full) ∙ p in
+    (λ full. let q : Some x ≡ Some k = sym (ap (λ b. cond b None (cond (nat_le 4 (length (x ∷ xs))) (Some x) None)) e ∙ ap (λ b. cond b (Some x) None) full)
+    ∙ p in
     let it : x ≡ k = (cc) in
     let t = or_false (nat_eq n x) (holds n xs) e in
     let other : n ≢ k = λ z. other_test n x t.0 (it ∙ sym z) in
     let none-more : times k xs ≡ 0 = times_none k xs (subst (λ j. holds j xs ≡ false) it is.distinct.0) in
     omega (arith, is_here x k it, times-snoc k n xs, is_else n k other, none-more))
-    (λ room. absurd (let q : None ≡ Some k = sym (ap (λ b. cond b None (cond (nat_le 4 (length (x ∷ xs))) (Some x) None)) e ∙ ap (λ b. cond b (Some x) None) room) ∙ p in cc))
+    (λ room. absurd (let q : None ≡ Some k = sym (ap (λ b. cond b None (cond (nat_le 4 (length (x ∷ xs))) (Some x) None)) e
+    ∙ ap (λ b. cond b (Some x) None) room) ∙ p in cc))
 
 pub pushed_below : (count n k : ℕ) (w : List ℕ) → AllBelow count w → holds n w ≡ false → pushed_out n w ≡ Some k → k < count
 pushed_below count n k [] a e p = absurd (let q : None ≡ Some k = sym (ap (λ b. cond b None None) e) ∙ p in cc)
 pushed_below count n k (x ∷ xs) a e p = either_way (nat_le 4 (length (x ∷ xs))) (k < count)
-    (λ full. let q : Some x ≡ Some k = sym (ap (λ b. cond b None (cond (nat_le 4 (length (x ∷ xs))) (Some x) None)) e ∙ ap (λ b. cond b (Some x) None) full) ∙ p in
+    (λ full. let q : Some x ≡ Some k = sym (ap (λ b. cond b None (cond (nat_le 4 (length (x ∷ xs))) (Some x) None)) e ∙ ap (λ b. cond b (Some x) None) full)
+    ∙ p in
     let it : x ≡ k = (cc) in subst (λ j. j < count) it (a x (or_left (nat_eq x x) (holds x xs) (same_self x))))
-    (λ room. absurd (let q : None ≡ Some k = sym (ap (λ b. cond b None (cond (nat_le 4 (length (x ∷ xs))) (Some x) None)) e ∙ ap (λ b. cond b (Some x) None) room) ∙ p in cc))
+    (λ room. absurd (let q : None ≡ Some k = sym (ap (λ b. cond b None (cond (nat_le 4 (length (x ∷ xs))) (Some x) None)) e
+    ∙ ap (λ b. cond b (Some x) None) room) ∙ p in cc))
 
 -- the first of a list stands at its place once where it stands once
 pub without_first : (n : ℕ) (w : List ℕ) → without n (n ∷ w) ≡ w

@@ -14,9 +14,13 @@ seated_next k v = let a : v.made + k + 1 ≡ v.made + (k + 1) = omega arith in l
 pub seated_none : (v : View) → v ≡ seated 0 v
 seated_none v = let a : v.made ≡ v.made + 0 = omega arith in let b : v.alive ≡ v.alive + 0 = omega arith in λ i. record v { made = a i; alive = b i }
 
-pub fresh_more : (v : View) (actors : List ActorSeat) (a : ActorSeat) → AreFresh v actors → a.seat.me.0 ≡ newcomer (seated (length actors) v) → a.stamp ≡ 0 → AreFresh v (actors ++ a ∷ [])
+pub fresh_more : (v : View) (actors : List ActorSeat) (a : ActorSeat) → AreFresh v actors → a.seat.me.0 ≡ newcomer (seated (length actors) v) → a.stamp ≡ 0
+    → AreFresh v (actors ++ a ∷ [])
 fresh_more v actors a fresh is young k x at = ⊎_elim (λ old. fresh k x old)
-    (λ (new : (k ≡ length actors) × (a ≡ x)). (ap (λ (y : ActorSeat). y.seat.me.0) (sym new.1) ∙ is ∙ ap (λ j. newcomer (seated j v)) (sym new.0), ap (λ (y : ActorSeat). y.stamp) (sym new.1) ∙ young))
+    (λ (new : (k ≡ length actors) × (a ≡ x)). (
+      ap (λ (y : ActorSeat). y.seat.me.0) (sym new.1) ∙ is ∙ ap (λ j. newcomer (seated j v)) (sym new.0),
+      ap (λ (y : ActorSeat). y.stamp) (sym new.1) ∙ young,
+    ))
     (at_end actors a x k at)
 
 pub all_more : {A : Type 0} (P : A → Type 0) (xs : List A) (x : A) → All P xs → P x → All P (xs ++ x ∷ [])

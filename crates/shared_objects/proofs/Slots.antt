@@ -1,5 +1,6 @@
 -- The slots that are with the mover, in turns, and its phases.
-use Rattle.std.proofs.Common.{◌≡◌, ℕ, zero, suc, ◌+◌, ◌<◌, ◌≤◌, ◌≢◌, List, [], ◌∷◌, ◌++◌, length, set, map, take, drop, get_or, replicate, sym, refl, ap, ◌∙◌, arith, cond, eq-eqb, ne_eqb, length-append, length-set, subst, Some}
+use Rattle.std.proofs.Common.{◌≡◌, ℕ, zero, suc, ◌+◌, ◌<◌, ◌≤◌, ◌≢◌, List, [], ◌∷◌, ◌++◌, length, set, map, take, drop, get_or, replicate, sym, refl, ap, ◌∙◌}
+use Rattle.std.proofs.Common.{arith, cond, eq-eqb, ne_eqb, length-append, length-set, subst, Some}
 use Rattle.std.specs.Prelude.{slice_index_or, slice_set}
 use Rattle.std.proofs.lemmas.List.{map-set}
 use mathlib.Core.Logic.{dite}
@@ -93,7 +94,8 @@ pub inside : (v : View) (n : ℕ) (bytes : List ℕ) → bytes_taken (place_of v
 inside v n bytes e = inside_list v.out n bytes e
 
 -- how many objects are on their way, after one of them has another place
-pub total_placed : (l : List Whereabouts) (n : ℕ) (p : Whereabouts) → n < length l → total is_moving (slice_set l n p) + is_moving (slice_index_or l n Here) ≡ total is_moving l + is_moving p
+pub total_placed : (l : List Whereabouts) (n : ℕ) (p : Whereabouts) → n < length l
+    → total is_moving (slice_set l n p) + is_moving (slice_index_or l n Here) ≡ total is_moving l + is_moving p
 total_placed [] n p h = absurd (omega arith)
 total_placed (x ∷ xs) zero p h = omega arith
 total_placed (x ∷ xs) (suc n) p h = omega (arith, total_placed xs n p (omega arith))
@@ -153,7 +155,8 @@ all_in (x ∷ xs) (y ∷ ys) e = ap (λ l. phases.In ∷ l) (all_in xs ys (omega
 
 -- ---- after a step of the mover
 
-phased_after : (ps : List Phase) (out : List Whereabouts) (n : ℕ) (p : Whereabouts) (q : Phase) → ps ≡ map phase_of out → phase_of p ≡ q → slice_set ps n q ≡ map phase_of (slice_set out n p)
+phased_after : (ps : List Phase) (out : List Whereabouts) (n : ℕ) (p : Whereabouts) (q : Phase) → ps ≡ map phase_of out → phase_of p ≡ q
+    → slice_set ps n q ≡ map phase_of (slice_set out n p)
 phased_after ps out n p q e is = ap (λ l. set l n q) e ∙ ap (set (map phase_of out) n) (sym is) ∙ sym (map-set phase_of out n p)
 
 -- one more is on its way
@@ -164,10 +167,12 @@ held_taken v n p order held m e = dite (ℕ_discrete n m)
     (λ ne. let old = held m (sym (ap is_moving (placed_else v n p m (λ q. ne (sym q)))) ∙ e) in omega (arith, times-append m order (n ∷ [])))
 
 -- one is on its way no more
-held_landed : (v : View) (n : ℕ) (p : Whereabouts) (order before rest : List ℕ) → n < length v.out → is_moving p ≡ 0 → before ≡ n ∷ rest → ((m : ℕ) → times m before ≡ times m order) → ((m : ℕ) → is_moving (place_of v m) ≡ 1 → 0 < times m order)
+held_landed : (v : View) (n : ℕ) (p : Whereabouts) (order before rest : List ℕ) → n < length v.out → is_moving p ≡ 0 → before ≡ n ∷ rest
+    → ((m : ℕ) → times m before ≡ times m order) → ((m : ℕ) → is_moving (place_of v m) ≡ 1 → 0 < times m order)
     → (m : ℕ) → is_moving (place_of (placed n p v) m) ≡ 1 → 0 < times m rest
 held_landed v n p order before rest wide still is same_times held m e = dite (ℕ_discrete n m)
-    (λ here. absurd (let z : is_moving (place_of (placed n p v) m) ≡ 0 = ap is_moving (ap (place_of (placed n p v)) (sym here) ∙ placed_here v n p wide) ∙ still in omega (arith, z, e)))
+    (λ here. absurd (let z : is_moving (place_of (placed n p v) m) ≡ 0 = ap is_moving (ap (place_of (placed n p v)) (sym here) ∙ placed_here v n p wide)
+    ∙ still in omega (arith, z, e)))
     (λ ne. let old = held m (sym (ap is_moving (placed_else v n p m (λ q. ne (sym q)))) ∙ e) in omega (arith, same_times m, ap (times m) is, is_else n m ne))
 
 -- a mover: its view, its slots, its phases, and the numbers of its slots, with room for so many
@@ -175,21 +180,33 @@ abbrev MoverFits : View → List (ℕ × Body) → List Phase → List ℕ → �
 MoverFits v slots named order room = Makes v × (named ≡ map phase_of v.out) × (length v.out ≡ length v.opening) × (order ≡ numbers slots)
     × ((m : ℕ) → is_moving (place_of v m) ≡ 1 → 0 < times m order) × (length order ≡ total is_moving v.out) × (length v.opening ≤ room)
 
-module _ (v w : View) (n : ℕ) (p : Whereabouts) (old new : List (ℕ × Body)) (named : List Phase) (phase : Phase) (order after : List ℕ) (room wider : ℕ) (fits : MoverFits v old named order room)
+module _ (v w : View) (n : ℕ) (p : Whereabouts) (old new : List (ℕ
+    × Body)) (named : List Phase) (phase : Phase) (order after : List ℕ) (room wider : ℕ) (fits : MoverFits v old named order room)
     (wide : n < length v.out) (is : w ≡ placed n p v) (is_phase : phase_of p ≡ phase) (slots : after ≡ numbers new) (roomy : room ≤ wider) where
-  placed_fits : ((m : ℕ) → is_moving (place_of (placed n p v) m) ≡ 1 → 0 < times m after) → length after + is_moving (place_of v n) ≡ length order + is_moving p → MoverFits w new (slice_set named n phase) after wider
-  placed_fits held count = subst (λ u. MoverFits u new (slice_set named n phase) after wider) (sym is)
-      (fits.0, phased_after named v.out n p phase fits.1 is_phase, length-set v.out n p ∙ fits.2, slots, held, omega (arith, count, fits.5, total_placed v.out n p wide), omega (arith, fits.6))
+  placed_fits : ((m : ℕ) → is_moving (place_of (placed n p v) m) ≡ 1 → 0 < times m after)
+      → length after + is_moving (place_of v n) ≡ length order + is_moving p → MoverFits w new (slice_set named n phase) after wider
+  placed_fits held count = subst (λ u. MoverFits u new (slice_set named n phase) after wider) (sym is) (
+    fits.0,
+    phased_after named v.out n p phase fits.1 is_phase,
+    length-set v.out n p ∙ fits.2,
+    slots,
+    held,
+    omega (arith, count, fits.5, total_placed v.out n p wide),
+    omega (arith, fits.6),
+  )
 
   -- one more is on its way, behind the others
   pub taken_fits : after ≡ order ++ n ∷ [] → is_moving (place_of v n) ≡ 0 → is_moving p ≡ 1 → MoverFits w new (slice_set named n phase) after wider
-  taken_fits longer was still = placed_fits (subst (λ l. (m : ℕ) → is_moving (place_of (placed n p v) m) ≡ 1 → 0 < times m l) (sym longer) (held_taken v n p order fits.4))
+  taken_fits longer was still = placed_fits (subst (λ l. (m : ℕ) → is_moving (place_of (placed n p v) m) ≡ 1
+      → 0 < times m l) (sym longer) (held_taken v n p order fits.4))
       (omega (arith, ap length longer, length-append order (n ∷ []), was, still))
 
   -- the first of them is on its way no more
-  pub landed_fits : (before : List ℕ) → before ≡ n ∷ after → ((m : ℕ) → times m before ≡ times m order) → length before ≡ length order → is_moving (place_of v n) ≡ 1 → is_moving p ≡ 0
+  pub landed_fits : (before : List ℕ) → before ≡ n ∷ after → ((m : ℕ) → times m before ≡ times m order) → length before ≡ length order
+      → is_moving (place_of v n) ≡ 1 → is_moving p ≡ 0
       → MoverFits w new (slice_set named n phase) after wider
-  landed_fits before first same_times as_long was still = placed_fits (held_landed v n p order before after wide still first same_times fits.4) (omega (arith, ap length first, as_long, was, still))
+  landed_fits before first same_times as_long was still =
+      placed_fits (held_landed v n p order before after wide still first same_times fits.4) (omega (arith, ap length first, as_long, was, still))
 
 abbrev pub zeros : ℕ → List ℕ
 zeros k = replicate k 0

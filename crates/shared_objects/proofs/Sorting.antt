@@ -1,5 +1,6 @@
 -- The one list is the sorted one.
-use Rattle.std.proofs.Common.{◌≡◌, ℕ, suc, ◌<◌, ◌≤◌, Bool, true, false, List, [], ◌∷◌, ◌++◌, sym, refl, ap, ◌∙◌, subst, arith, cond, eq-eqb, ◌⊎◌, inl, inr, ⊎_elim}
+use Rattle.std.proofs.Common.{◌≡◌, ℕ, suc, ◌<◌, ◌≤◌, Bool, true, false, List, [], ◌∷◌, ◌++◌, sym, refl, ap, ◌∙◌, subst, arith, cond, eq-eqb, ◌⊎◌, inl, inr}
+use Rattle.std.proofs.Common.{⊎_elim}
 use Rattle.std.specs.Prelude.{nat_lt, ◌&&◌, ◌||◌, ◌==◌}
 use Rattle.std.proofs.lemmas.Bool.Decides.{nat_tests}
 use Rattle.shared_objects.specs.History.{Has, Rises}
@@ -11,7 +12,8 @@ use Rattle.shared_objects.proofs.One.{empty, first, later, has_cons, through, ri
 
 not_both : (e f : SharedEntry) → Before e f → Before f e → ⊥
 not_both e f p q = ⊎_elim
-    (λ (x : e.stamp < f.stamp). ⊎_elim (λ (y : f.stamp < e.stamp). omega arith) (λ (y : (f.stamp ≡ e.stamp) × (f.actor < e.actor)). let y0 = y.0 in omega arith) q)
+    (λ (x : e.stamp < f.stamp). ⊎_elim (λ (y : f.stamp < e.stamp). omega arith) (λ (y : (f.stamp ≡ e.stamp) × (f.actor < e.actor)). let y0 = y.0 in
+    omega arith) q)
     (λ (x : (e.stamp ≡ f.stamp) × (e.actor < f.actor)). let x0 = x.0 in let x1 = x.1 in
     ⊎_elim (λ (y : f.stamp < e.stamp). omega arith) (λ (y : (f.stamp ≡ e.stamp) × (f.actor < e.actor)). let y1 = y.1 in omega arith) q) p
 
@@ -19,7 +21,8 @@ not_self : (e : SharedEntry) → Before e e → ⊥
 not_self e p = not_both e e p p
 
 -- two lists in order with the same entries are the same
-order_same : (xs ys : List SharedEntry) → InOrder xs → InOrder ys → ((e : SharedEntry) → Has xs e → Has ys e) → ((e : SharedEntry) → Has ys e → Has xs e) → xs ≡ ys
+order_same : (xs ys : List SharedEntry) → InOrder xs → InOrder ys → ((e : SharedEntry) → Has xs e → Has ys e)
+    → ((e : SharedEntry) → Has ys e → Has xs e) → xs ≡ ys
 order_same [] [] o u there back = refl
 order_same [] (y ∷ ys) o u there back = absurd (empty y (back y (first y ys)))
 order_same (x ∷ xs) [] o u there back = absurd (empty x (there x (first x xs)))
@@ -27,8 +30,10 @@ order_same (x ∷ xs) (y ∷ ys) o u there back =
     let same : x ≡ y = ⊎_elim (λ (q : y ≡ x). sym q) (λ (q : Has ys x). ⊎_elim (λ (p : x ≡ y). p)
     (λ (p : Has xs y). absurd (not_both x y (o.0 y p) (u.0 x q))) (has_cons x y xs (back y (first y ys)))) (has_cons y x ys (there x (first x xs))) in
     let tails : xs ≡ ys = order_same xs ys o.1 u.1
-    (λ e h. ⊎_elim (λ (q : y ≡ e). absurd (not_self e (subst (λ (z : SharedEntry). Before z e) (same ∙ q) (o.0 e h)))) (λ q. q) (has_cons y e ys (there e (later x e xs h))))
-    (λ e h. ⊎_elim (λ (q : x ≡ e). absurd (not_self e (subst (λ (z : SharedEntry). Before z e) (sym same ∙ q) (u.0 e h)))) (λ q. q) (has_cons x e xs (back e (later y e ys h)))) in
+    (λ e h. ⊎_elim (λ (q : y ≡ e). absurd (not_self e (subst (λ (z : SharedEntry). Before z e) (same ∙ q) (o.0 e h)))) (λ q. q)
+    (has_cons y e ys (there e (later x e xs h))))
+    (λ e h. ⊎_elim (λ (q : x ≡ e). absurd (not_self e (subst (λ (z : SharedEntry). Before z e) (sym same ∙ q) (u.0 e h)))) (λ q. q)
+    (has_cons x e xs (back e (later y e ys h)))) in
     ap (λ z. z ∷ xs) same ∙ ap (λ l. y ∷ l) tails
 
 less_true : (a b : ℕ) → nat_lt a b ≡ true → a < b
@@ -48,7 +53,10 @@ and_both false b e = absurd (let z : false ≡ true = e in cc)
 test_true : (e f : SharedEntry) → is_before e f ≡ true → Before e f
 test_true e f h = ⊎_elim (λ (p : nat_lt e.stamp f.stamp ≡ true). inl (less_true e.stamp f.stamp p))
     (λ (p : ((e.stamp == f.stamp) && nat_lt e.actor f.actor) ≡ true). let q = and_both (e.stamp == f.stamp) (nat_lt e.actor f.actor) p in
-    inr (Rattle.shared_objects.proofs.One.by_is e.stamp f.stamp q.0, less_true e.actor f.actor q.1)) (or_left (nat_lt e.stamp f.stamp) ((e.stamp == f.stamp) && nat_lt e.actor f.actor) h)
+    inr (
+      Rattle.shared_objects.proofs.One.by_is e.stamp f.stamp q.0,
+      less_true e.actor f.actor q.1,
+    )) (or_left (nat_lt e.stamp f.stamp) ((e.stamp == f.stamp) && nat_lt e.actor f.actor) h)
 
 clash : (b : Bool) → b ≡ true → b ≡ false → ⊥
 clash b t f = let e : true ≡ false = sym t ∙ f in cc
@@ -67,7 +75,8 @@ and_is false b p q = absurd (let z = p in cc)
 test_is : (e f : SharedEntry) → Before e f → is_before e f ≡ true
 test_is e f h = or_is (nat_lt e.stamp f.stamp) ((e.stamp == f.stamp) && nat_lt e.actor f.actor)
     (⊎_elim (λ (p : e.stamp < f.stamp). inl (less_is e.stamp f.stamp p))
-    (λ (p : (e.stamp ≡ f.stamp) × (e.actor < f.actor)). inr (and_is (e.stamp == f.stamp) (nat_lt e.actor f.actor) (eq-eqb e.stamp f.stamp p.0) (less_is e.actor f.actor p.1))) h)
+    (λ (p : (e.stamp ≡ f.stamp) × (e.actor < f.actor)).
+    inr (and_is (e.stamp == f.stamp) (nat_lt e.actor f.actor) (eq-eqb e.stamp f.stamp p.0) (less_is e.actor f.actor p.1))) h)
 
 insert_soon : (e f : SharedEntry) (fs : List SharedEntry) → is_before e f ≡ true → insert e (f ∷ fs) ≡ e ∷ f ∷ fs
 insert_soon e f fs h = ap (λ b. cond b (e ∷ f ∷ fs) (f ∷ insert e fs)) h
@@ -87,10 +96,12 @@ insert_has e x (f ∷ fs) h = ⊎_elim
 insert_there : (e x : SharedEntry) (l : List SharedEntry) → (e ≡ x) ⊎ Has l x → Has (insert e l) x
 insert_there e x [] h = ⊎_elim (λ q. subst (Has (e ∷ [])) q (first e [])) (λ q. absurd (empty x q)) h
 insert_there e x (f ∷ fs) h = ⊎_elim
-    (λ (p : is_before e f ≡ true). subst (λ l. Has l x) (sym (insert_soon e f fs p)) (⊎_elim (λ q. subst (Has (e ∷ f ∷ fs)) q (first e (f ∷ fs))) (λ q. later e x (f ∷ fs) q) h))
+    (λ (p : is_before e f ≡ true). subst (λ l. Has l x) (sym (insert_soon e f fs p))
+    (⊎_elim (λ q. subst (Has (e ∷ f ∷ fs)) q (first e (f ∷ fs))) (λ q. later e x (f ∷ fs) q) h))
     (λ (p : is_before e f ≡ false). subst (λ l. Has l x) (sym (insert_late e f fs p))
     (⊎_elim (λ q. later f x (insert e fs) (insert_there e x fs (inl q)))
-    (λ q. ⊎_elim (λ (r : f ≡ x). subst (Has (f ∷ insert e fs)) r (first f (insert e fs))) (λ r. later f x (insert e fs) (insert_there e x fs (inr r))) (has_cons f x fs q)) h))
+    (λ q. ⊎_elim (λ (r : f ≡ x). subst (Has (f ∷ insert e fs)) r (first f (insert e fs)))
+    (λ r. later f x (insert e fs) (insert_there e x fs (inr r))) (has_cons f x fs q)) h))
     (either_way (is_before e f))
 
 insert_order : (e : SharedEntry) (l : List SharedEntry) → InOrder l → ((f : SharedEntry) → Has l f → Before e f ⊎ Before f e) → InOrder (insert e l)
@@ -123,11 +134,13 @@ sorted_order (e ∷ es) a = insert_order e (sorted es) (sorted_order es a.1) (λ
 
 pub has_either : (xs ys : List SharedEntry) (x : SharedEntry) → Has (xs ++ ys) x → Has xs x ⊎ Has ys x
 has_either [] ys x h = inr h
-has_either (y ∷ xs) ys x h = ⊎_elim (λ q. inl (subst (Has (y ∷ xs)) q (first y xs))) (λ q. ⊎_elim (λ r. inl (later y x xs r)) (λ r. inr r) (has_either xs ys x q)) (has_cons y x (xs ++ ys) h)
+has_either (y ∷ xs) ys x h = ⊎_elim (λ q. inl (subst (Has (y ∷ xs)) q (first y xs)))
+    (λ q. ⊎_elim (λ r. inl (later y x xs r)) (λ r. inr r) (has_either xs ys x q)) (has_cons y x (xs ++ ys) h)
 
 pub has_left : (xs ys : List SharedEntry) (x : SharedEntry) → Has xs x → Has (xs ++ ys) x
 has_left [] ys x h = absurd (empty x h)
-has_left (y ∷ xs) ys x h = ⊎_elim (λ q. subst (Has (y ∷ (xs ++ ys))) q (first y (xs ++ ys))) (λ q. later y x (xs ++ ys) (has_left xs ys x q)) (has_cons y x xs h)
+has_left (y ∷ xs) ys x h = ⊎_elim (λ q. subst (Has (y ∷ (xs ++ ys))) q (first y (xs ++ ys)))
+    (λ q. later y x (xs ++ ys) (has_left xs ys x q)) (has_cons y x xs h)
 
 pub has_right : (xs ys : List SharedEntry) (x : SharedEntry) → Has ys x → Has (xs ++ ys) x
 has_right [] ys x h = h
@@ -135,14 +148,16 @@ has_right (y ∷ xs) ys x h = later y x (xs ++ ys) (has_right xs ys x h)
 
 all_has : (ps : List Part) (x : SharedEntry) → Has (all_entries ps) x → HasPart ps x
 all_has [] x h = absurd (empty x h)
-all_has (p ∷ ps) x h = ⊎_elim (λ q. (p, first p ps, q)) (λ q. let t = all_has ps x q in (t.0, later p t.0 ps t.1, t.2)) (has_either p.entries (all_entries ps) x h)
+all_has (p ∷ ps) x h = ⊎_elim (λ q. (p, first p ps, q)) (λ q. let t = all_has ps x q in
+    (t.0, later p t.0 ps t.1, t.2)) (has_either p.entries (all_entries ps) x h)
 
 all_there : (ps : List Part) (x : SharedEntry) → HasPart ps x → Has (all_entries ps) x
 all_there [] x h = absurd (empty h.0 h.1)
 all_there (p ∷ ps) x h = ⊎_elim (λ (q : p ≡ h.0). has_left p.entries (all_entries ps) x (subst (λ (y : Part). Has y.entries x) (sym q) h.2))
     (λ q. has_right p.entries (all_entries ps) x (all_there ps x (h.0, q, h.2))) (has_cons p h.0 ps h.1)
 
-apart_more : (floor : ℕ) (es l : List SharedEntry) → Rises floor es → ((e f : SharedEntry) → Has es e → Has l f → Before e f ⊎ Before f e) → Apart l → Apart (es ++ l)
+apart_more : (floor : ℕ) (es l : List SharedEntry) → Rises floor es
+    → ((e f : SharedEntry) → Has es e → Has l f → Before e f ⊎ Before f e) → Apart l → Apart (es ++ l)
 apart_more floor [] l r far a = a
 apart_more floor (e ∷ es) l r far a = (
   (λ f h. ⊎_elim (λ q. apart_by_stamp e f (rises_above e.stamp es f r.1 q)) (λ q. far e f (first e es) q) (has_either es l f h)),
@@ -158,7 +173,9 @@ all_apart (p ∷ ps) f =
     (all_apart ps (fewer p ps f))
 
 -- the one list is that of all parts, sorted
-pub one_is_sorted : (returns : Bool) (opening : List (List ℕ)) (parts : List Part) (ends : List (List ℕ)) (l : OneList returns opening parts ends) → l.one ≡ sorted (all_entries parts)
-one_is_sorted returns opening parts ends l = order_same l.one (sorted (all_entries parts)) l.ordered (sorted_order (all_entries parts) (all_apart parts l.apart))
+pub one_is_sorted : (returns : Bool) (opening : List (List ℕ)) (parts : List Part) (ends : List (List ℕ)) (l : OneList returns opening parts ends)
+    → l.one ≡ sorted (all_entries parts)
+one_is_sorted returns opening parts ends l =
+    order_same l.one (sorted (all_entries parts)) l.ordered (sorted_order (all_entries parts) (all_apart parts l.apart))
     (λ e h. sorted_there (all_entries parts) e (all_there parts e (l.only e h)))
     (λ e h. l.all e (all_has parts e (sorted_has (all_entries parts) e h)))

@@ -1,5 +1,6 @@
 -- A step that adds no entry keeps the rule if the object's word, heat and slot fit.
-use Rattle.std.proofs.Common.{◌≡◌, true, Bool, ℕ, ◌+◌, ◌*◌, ◌<◌, ◌≤◌, ◌≢◌, List, [], ◌∷◌, length, set, sym, refl, ap, ◌∙◌, subst, arith, inl, length-set, get_or-set_other, get_or-set_same, Some, Option}
+use Rattle.std.proofs.Common.{◌≡◌, true, Bool, ℕ, ◌+◌, ◌*◌, ◌<◌, ◌≤◌, ◌≢◌, List, [], ◌∷◌, length, set, sym, refl, ap, ◌∙◌, subst, arith, inl, length-set}
+use Rattle.std.proofs.Common.{get_or-set_other, get_or-set_same, Some, Option}
 use Rattle.std.specs.Prelude.{slice_index_or}
 use mathlib.Core.Logic.{dite}
 use native.Mathlib.Decide.{ℕ_discrete}
@@ -11,7 +12,8 @@ use Rattle.atomic_table.proofs.Lists.{set_here, set_else}
 use Rattle.memory.specs.Objects.{bytes_of}
 use Rattle.shared_objects.specs.History.{Has, Rises, top}
 use Rattle.shared_objects.specs.Kinds.{Sat, placed}
-use Rattle.shared_objects.specs.Rule.{total, times, has_turn, has_open, has_pass, has_moving, has_far, place_of, is_moving, is_far, bytes_taken, turns_on, Stands, word_of, Tally, tally, SlotFits, TurnFits, MarkFits, Fits, Knows, Kept}
+use Rattle.shared_objects.specs.Rule.{total, times, has_turn, has_open, has_pass, has_moving, has_far, place_of, is_moving, is_far, bytes_taken, turns_on}
+use Rattle.shared_objects.specs.Rule.{Stands, word_of, Tally, tally, SlotFits, TurnFits, MarkFits, Fits, Knows, Kept}
 use Rattle.shared_objects.specs.Rule.SlotFits.{AtHome, Lent, Idle}
 use Rattle.shared_objects.specs.declared.body.Body.{Body}
 use Rattle.shared_objects.specs.declared.view.Cooling.{Cooling}
@@ -37,11 +39,13 @@ same_slot turns moving far (Lent out at) = Lent (omega arith) at
 same_slot turns moving far (Idle away body at) = Idle (omega arith) body at
 
 -- a seat gives the first of its bodies back
-pub gives_back : (holds : St → Type 0) (s : St) (id at next found : ℕ) (m : Sat) (told : Sat → ℕ → Sat → Type 0) (n : ℕ) (body : Body) (more : List (ℕ × Body)) (w : View)
+pub gives_back : (holds : St → Type 0) (s : St) (id at next found : ℕ) (m : Sat) (told : Sat → ℕ → Sat
+    → Type 0) (n : ℕ) (body : Body) (more : List (ℕ × Body)) (w : View)
     → m.1 ≡ (n, body) ∷ more → holds (state (set s.words at next) (set s.homes n (some body)) (set s.views id w)) → told (m.0, (n, body) ∷ more) found (w, more)
     → (w : View) × (a : Act Body) × Valid s.homes m.1 a × holds (stepped s at next id m.1 w a) × told m found (w, carried_after m.1 a)
 gives_back holds s id at next found m told n body more w carried kept tells =
-    let P : List (ℕ × Body) → Type 0 = λ c. (w : View) × (a : Act Body) × Valid s.homes c a × holds (stepped s at next id c w a) × told (m.0, c) found (w, carried_after c a) in
+    let P : List (ℕ × Body) → Type 0 = λ c. (w : View) × (a : Act Body) × Valid s.homes c a × holds (stepped s at next id c w a)
+    × told (m.0, c) found (w, carried_after c a) in
     subst P (sym carried) (w, gives, tt, kept, tells)
 
 -- the object that was placed is there, and the others are where they were
@@ -51,7 +55,8 @@ placed_here v n p wide = get_or-set_same v.out n p Here wide
 pub placed_else : (v : View) (n : ℕ) (p : Whereabouts) (m : ℕ) → m ≢ n → place_of (placed n p v) m ≡ place_of v m
 placed_else v n p m ne = get_or-set_other v.out n m p Here ne
 
-module _ (returns : Bool) (key : List (List ℕ)) (s : St) (o : Kept returns key s) (id : ℕ) (v : View) (n x hot : ℕ) (me : get_elem? s.views id ≡ some v) (near : n < length key) (alive_ : v.live ≡ true) (one_hot : hot ≤ 1) where
+module _ (returns : Bool) (key : List (List ℕ)) (s : St) (o : Kept returns key s) (id : ℕ) (v : View) (n x hot : ℕ) (me : get_elem? s.views id ≡ some v)
+    (near : n < length key) (alive_ : v.live ≡ true) (one_hot : hot ≤ 1) where
   -- what all seats have of the object before the step
   abbrev was : Tally
   was = tally n s.views
@@ -65,16 +70,32 @@ module _ (returns : Bool) (key : List (List ℕ)) (s : St) (o : Kept returns key
   RestsOut t = 0 < t.moving + t.far → t.opens + t.turns + hot ≡ 0
 
   -- the step adds no entry
-  unlogged : (w : View) (hs : List (maybe.Option Body)) → SameSeat v w → w.entries ≡ v.entries → length hs ≡ length s.homes → ((m : ℕ) → m ≢ n → get_elem? hs m ≡ get_elem? s.homes m) → ((m : ℕ) → m ≢ n → Alike m v w)
-      → WordIs (tally n (set s.views id w)) → (tally n (set s.views id w)).turns ≤ 1 → (tally n (set s.views id w)).moving + (tally n (set s.views id w)).far ≤ 1 → RestsOut (tally n (set s.views id w))
+  unlogged : (w : View) (hs : List (maybe.Option Body)) → SameSeat v w → w.entries ≡ v.entries → length hs ≡ length s.homes
+      → ((m : ℕ) → m ≢ n → get_elem? hs m ≡ get_elem? s.homes m) → ((m : ℕ) → m ≢ n → Alike m v w)
+      → WordIs (tally n (set s.views id w)) → (tally n (set s.views id w)).turns ≤ 1
+      → (tally n (set s.views id w)).moving + (tally n (set s.views id w)).far ≤ 1 → RestsOut (tally n (set s.views id w))
       → SlotFits returns (bytes_of key n) (tally n (set s.views id w)) (get_elem? hs n) (o.logs n)
-      → (id ≡ 0 → (0 < w.made) × (w.scopes ≡ []) × (w.passing ≡ [])) → ((m : ℕ) → has_open m w + has_pass m w ≤ 1) → ((t : Turn) → w.turn ≡ Some t → TurnFits returns key o.logs w.scopes t)
-      → ((m : ℕ) (bytes : List ℕ) → bytes_taken (place_of w m) ≡ Some bytes → Stands returns (bytes_of key m) (o.logs m) bytes) → ((m : Mark) → Has w.marks m → MarkFits o.logs m)
+      → (id ≡ 0 → (0 < w.made) × (w.scopes ≡ []) × (w.passing ≡ [])) → ((m : ℕ) → has_open m w + has_pass m w ≤ 1)
+      → ((t : Turn) → w.turn ≡ Some t → TurnFits returns key o.logs w.scopes t)
+      → ((m : ℕ) (bytes : List ℕ) → bytes_taken (place_of w m) ≡ Some bytes → Stands returns (bytes_of key m) (o.logs m) bytes)
+      → ((m : Mark) → Has w.marks m → MarkFits o.logs m)
       → Kept returns key (state (set s.words (word_of n) x) hs (set s.views id w))
   unlogged w hs made wrote long homes alike word_is one_turn one_out here slot first once turn out marks =
       let f = o.objects.fits n near in let k = o.seats.knows id v me in
       moves returns key s o id v w n x hs (o.logs n) me near alive_ long homes alike made
-      (record { hot = hot; one_hot = one_hot; word_is = word_is; one_turn = one_turn; one_out = one_out; here = here; small = f.small; chained = f.chained; inside = f.inside; answers = f.answers; slot = slot })
+      (record {
+        hot = hot;
+        one_hot = one_hot;
+        word_is = word_is;
+        one_turn = one_turn;
+        one_out = one_out;
+        here = here;
+        small = f.small;
+        chained = f.chained;
+        inside = f.inside;
+        answers = f.answers;
+        slot = slot;
+      })
       (subst (λ l. Knows returns key l id w) (grown_same o.logs n) (record {
         actor = λ _. made.4 ∙ k.actor alive_;
         opening_is = λ _. made.5 ∙ k.opening_is alive_;
@@ -96,38 +117,61 @@ module _ (returns : Bool) (key : List (List ℕ)) (s : St) (o : Kept returns key
       → ((m : ℕ) → m ≢ n → (times m scopes ≡ has_open m v) × (times m passing ≡ has_pass m v)) → times n scopes + times n passing ≤ 1
       → ((opens passes : ℕ) → opens + has_open n v ≡ was.opens + times n scopes → passes + has_pass n v ≡ was.passes + times n passing
       → WordIs (record was { opens = opens; passes = passes }) × RestsOut (record was { opens = opens; passes = passes }))
-      → (id ≡ 0 → (0 < v.made) × (scopes ≡ []) × (passing ≡ [])) → ((t : Turn) → v.turn ≡ Some t → TurnFits returns key o.logs scopes t) → ((m : Mark) → Has marks m → MarkFits o.logs m)
-      → Kept returns key (state (set s.words (word_of n) x) s.homes (set s.views id (record v { scopes = scopes; passing = passing; marks = marks; coolings = coolings })))
+      → (id ≡ 0 → (0 < v.made) × (scopes ≡ []) × (passing ≡ [])) → ((t : Turn) → v.turn ≡ Some t → TurnFits returns key o.logs scopes t)
+      → ((m : Mark) → Has marks m → MarkFits o.logs m)
+      → Kept returns key (state (set s.words (word_of n) x) s.homes
+      (set s.views id (record v { scopes = scopes; passing = passing; marks = marks; coolings = coolings })))
   keeps_slot scopes passing marks coolings apart once left first turn marked =
       let w : View = record v { scopes = scopes; passing = passing; marks = marks; coolings = coolings } in let vs : List View = set s.views id w in
       let f = o.objects.fits n near in let k = o.seats.knows id v me in
-      let a = total-set (has_turn n) s.views id v w me in let b = total-set (has_moving n) s.views id v w me in let c = total-set (has_far n) s.views id v w me in
+      let a = total-set (has_turn n) s.views id v w me in let b = total-set (has_moving n) s.views id v w me in
+      let c = total-set (has_far n) s.views id v w me in
       let h = left (total (has_open n) vs) (total (has_pass n) vs) (total-set (has_open n) s.views id v w me) (total-set (has_pass n) s.views id v w me) in
-      unlogged w s.homes (refl, refl, refl, refl, refl, refl, refl) refl refl (λ _ _. refl) (λ m ne. record { turns = refl; opens = (apart m ne).0; passes = (apart m ne).1; moving = refl; far = refl })
-      (omega (arith, h.0)) (omega (arith, f.one_turn)) (omega (arith, f.one_out)) (λ out. let r = h.1 (omega arith) in omega arith) (same_slot (omega arith) (omega arith) (omega arith) f.slot)
-      first (λ m. dite (ℕ_discrete m n) (λ e. subst (λ i. times i scopes + times i passing ≤ 1) (sym e) once) (λ ne. omega (arith, (apart m ne).0, (apart m ne).1, k.opens_once m))) turn k.out marked
+      unlogged w s.homes (
+        refl,
+        refl,
+        refl,
+        refl,
+        refl,
+        refl,
+        refl,
+      ) refl refl (λ _ _. refl) (λ m ne. record { turns = refl; opens = (apart m ne).0; passes = (apart m ne).1; moving = refl; far = refl })
+      (omega (arith, h.0)) (omega (arith, f.one_turn)) (omega (arith, f.one_out)) (λ out. let r = h.1 (omega arith) in
+      omega arith) (same_slot (omega arith) (omega arith) (omega arith) f.slot)
+      first (λ m. dite (ℕ_discrete m n) (λ e. subst (λ i. times i scopes + times i passing ≤ 1) (sym e) once) (λ ne. omega (
+        arith,
+        (apart m ne).0,
+        (apart m ne).1,
+        k.opens_once m,
+      ))) turn k.out marked
 
   -- the seat takes the slot of the object, or gives it back
   pub moves_slot : (slot : maybe.Option Body) (turn : Option Turn) (marks : List Mark) (out : List Whereabouts)
       → ((m : ℕ) → m ≢ n → (turns_on m turn ≡ has_turn m v) × (slice_index_or out m Here ≡ place_of v m))
-      → ((turns moving far : ℕ) → turns + has_turn n v ≡ was.turns + turns_on n turn → moving + has_moving n v ≡ was.moving + is_moving (slice_index_or out n Here) → far + has_far n v ≡ was.far + is_far (slice_index_or out n Here)
-      → WordIs (record was { turns = turns; moving = moving; far = far }) × (turns ≤ 1) × (moving + far ≤ 1) × RestsOut (record was { turns = turns; moving = moving; far = far })
+      → ((turns moving far : ℕ) → turns + has_turn n v ≡ was.turns + turns_on n turn
+      → moving + has_moving n v ≡ was.moving + is_moving (slice_index_or out n Here) → far + has_far n v ≡ was.far + is_far (slice_index_or out n Here)
+      → WordIs (record was { turns = turns; moving = moving; far = far }) × (turns ≤ 1) × (moving + far ≤ 1)
+      × RestsOut (record was { turns = turns; moving = moving; far = far })
       × SlotFits returns (bytes_of key n) (record was { turns = turns; moving = moving; far = far }) (some slot) (o.logs n))
-      → ((t : Turn) → turn ≡ Some t → TurnFits returns key o.logs v.scopes t) → ((bytes : List ℕ) → bytes_taken (slice_index_or out n Here) ≡ Some bytes → Stands returns (bytes_of key n) (o.logs n) bytes)
+      → ((t : Turn) → turn ≡ Some t → TurnFits returns key o.logs v.scopes t)
+      → ((bytes : List ℕ) → bytes_taken (slice_index_or out n Here) ≡ Some bytes → Stands returns (bytes_of key n) (o.logs n) bytes)
       → ((m : Mark) → Has marks m → MarkFits o.logs m)
       → Kept returns key (state (set s.words (word_of n) x) (set s.homes n slot) (set s.views id (record v { turn = turn; marks = marks; out = out })))
   moves_slot slot turn marks out apart left held stands marked =
       let w : View = record v { turn = turn; marks = marks; out = out } in let vs : List View = set s.views id w in
       let f = o.objects.fits n near in let k = o.seats.knows id v me in
       let a = total-set (has_open n) s.views id v w me in let b = total-set (has_pass n) s.views id v w me in
-      let h = left (total (has_turn n) vs) (total (has_moving n) vs) (total (has_far n) vs) (total-set (has_turn n) s.views id v w me) (total-set (has_moving n) s.views id v w me) (total-set (has_far n) s.views id v w me) in
+      let h = left (total (has_turn n) vs) (total (has_moving n) vs) (total (has_far n) vs) (total-set (has_turn n) s.views id v w me)
+      (total-set (has_moving n) s.views id v w me) (total-set (has_far n) s.views id v w me) in
       unlogged w (set s.homes n slot) (refl, refl, refl, refl, refl, refl, refl) refl (length-set s.homes n slot) (λ m ne. set_else s.homes n m slot ne)
       (λ m ne. record { turns = (apart m ne).0; opens = refl; passes = refl; moving = ap is_moving (apart m ne).1; far = ap is_far (apart m ne).1 })
       (omega (arith, h.0)) h.1 h.2 (λ away. let r = h.3 (omega arith) in omega arith)
-      (subst (λ home. SlotFits returns (bytes_of key n) (tally n vs) home (o.logs n)) (sym (set_here s.homes n slot (omega (arith, o.objects.slots)))) (same_slot refl refl refl h.4))
+      (subst (λ home. SlotFits returns (bytes_of key n) (tally n vs) home (o.logs n)) (sym (set_here s.homes n slot (omega (arith, o.objects.slots))))
+      (same_slot refl refl refl h.4))
       k.first k.opens_once held
       (λ m bytes e. dite (ℕ_discrete m n)
-      (λ here. subst (λ i. Stands returns (bytes_of key i) (o.logs i) bytes) (sym here) (stands bytes (ap (λ i. bytes_taken (slice_index_or out i Here)) (sym here) ∙ e)))
+      (λ here. subst (λ i. Stands returns (bytes_of key i) (o.logs i) bytes) (sym here)
+      (stands bytes (ap (λ i. bytes_taken (slice_index_or out i Here)) (sym here) ∙ e)))
       (λ ne. k.out m bytes (ap bytes_taken (sym (apart m ne).1) ∙ e)))
       marked
 

@@ -13,7 +13,8 @@ use Rattle.shared_objects.specs.declared.touching.Begun.TheVariants as begun
 abbrev pub Begins : View → List ℕ → ℕ → ℕ → Begun → Sat → List ℕ → Type 0
 Begins v window last n begun.Away m after = (m ≡ (marked (Away n) v, [])) × (after ≡ window)
 Begins v window last n begun.Busy m after = (m ≡ (marked (Busy n) (looking n v), [])) × (after ≡ noted n window)
-Begins v window last n begun.Worn m after = ((found : ℕ) × (2 ^ 48 ≤ max last found + 1) × (m ≡ (worn_out n found (looking n v), []))) × (after ≡ noted n window)
+Begins v window last n begun.Worn m after = ((found : ℕ) × (2 ^ 48 ≤ max last found + 1) × (m ≡ (worn_out n found (looking n v), [])))
+    × (after ≡ noted n window)
 Begins v window last n (begun.Turn found stamp) m after = (stamp ≡ max last found + 1) × (stamp < 2 ^ 48)
     × HoldsBody m n (λ body. (m.0 ≡ holding n found body.bytes.items (looking n v)) × (length body.bytes.items ≡ length (bytes_of v.opening n)))
     × (after ≡ noted n window)

@@ -1,6 +1,7 @@
 -- The kinds of step, by what each tells: of the step, the seat before, the word found and the seat after. There are nine:
 -- open scope, close scope, take turn, give turn, begin leave, end leave, begin return, end return and cool.
-use Rattle.std.specs.Prelude.{◌≡◌, ◌≢◌, ℕ, ◌+◌, ◌-◌, ◌^◌, Bool, true, nat_eq, ◌/◌, ◌%◌, List, [], ◌∷◌, ◌++◌, length, map, slice_set, ◌==◌, if◌then◌else◌, Some, None}
+use Rattle.std.specs.Prelude.{◌≡◌, ◌≢◌, ℕ, ◌+◌, ◌-◌, ◌^◌, Bool, true, nat_eq, ◌/◌, ◌%◌, List, [], ◌∷◌, ◌++◌, length, map, slice_set, ◌==◌, if◌then◌else◌, Some}
+use Rattle.std.specs.Prelude.{None}
 use Rattle.atomic_table.specs.Table.{Me, Step, State, rest}
 use mathlib.Core.Option.{some}
 use lib.ListN.{get_elem?}
@@ -62,7 +63,22 @@ without n (x ∷ xs) = if x == n then xs else x ∷ without n xs
 
 -- the first seat of a table, with each object here, of which none was cooled
 abbrev pub dealer : Bool → List (List ℕ) → View
-dealer returns opening = record { made = 1; alive = 1; live = true; gathered = []; actor = 0; opening = opening; returns = returns; scopes = []; passing = []; turn = None; entries = []; marks = []; out = map (λ _. Here) opening; coolings = [] }
+dealer returns opening = record {
+  made = 1;
+  alive = 1;
+  live = true;
+  gathered = [];
+  actor = 0;
+  opening = opening;
+  returns = returns;
+  scopes = [];
+  passing = [];
+  turn = None;
+  entries = [];
+  marks = [];
+  out = map (λ _. Here) opening;
+  coolings = [];
+}
 
 -- the first seat made one more
 abbrev pub dealt : View → View
@@ -70,7 +86,22 @@ dealt v = record v { made = v.made + 1; alive = v.alive + 1 }
 
 -- the seat that the first one makes next: its actor is the number of seats before it
 abbrev pub newcomer : View → View
-newcomer v = record { made = 0; alive = 0; live = true; gathered = []; actor = v.made; opening = v.opening; returns = v.returns; scopes = []; passing = []; turn = None; entries = []; marks = []; out = []; coolings = [] }
+newcomer v = record {
+  made = 0;
+  alive = 0;
+  live = true;
+  gathered = [];
+  actor = v.made;
+  opening = v.opening;
+  returns = v.returns;
+  scopes = [];
+  passing = [];
+  turn = None;
+  entries = [];
+  marks = [];
+  out = [];
+  coolings = [];
+}
 
 -- what an actor did
 abbrev pub part : ℕ → List SharedEntry → List Mark → Part
@@ -169,7 +200,8 @@ IsBodyOf object seat body = length body.bytes.items ≡ length (bytes_of (view_o
 
 -- the seat has the turn with the body
 abbrev pub Took : ℕ → ℕ → Sat → Sat → Type 0
-Took object found before after = (body : Body) × (after ≡ seat_taking (holding object (found / 65536) body.bytes.items (view_of before)) object body before) × IsBodyOf object before body
+Took object found before after = (body : Body)
+    × (after ≡ seat_taking (holding object (found / 65536) body.bytes.items (view_of before)) object body before) × IsBodyOf object before body
 
 -- take turn: the marks of a turn and of heat are set, and the seat has the turn where nobody had it
 abbrev pub takes_turn : Play
@@ -186,7 +218,8 @@ gives_up_turn st before found after = (t : Turn) × ((view_of before).turn ≡ S
 
 -- the mover has the body, and the object is on its way
 abbrev pub Lifted : ℕ → Sat → Sat → Type 0
-Lifted object before after = (body : Body) × (after ≡ seat_taking (placed object (Moving body.bytes.items) (view_of before)) object body before) × IsBodyOf object before body
+Lifted object before after = (body : Body)
+    × (after ≡ seat_taking (placed object (Moving body.bytes.items) (view_of before)) object body before) × IsBodyOf object before body
 
 -- begin leave: where another word was found nothing changed
 abbrev pub begins_leave : Play
@@ -194,11 +227,14 @@ begins_leave st before found after = (found ≡ st.first → Lifted (object_at s
 
 -- end leave: what was on its way is far, and its slot is at home
 abbrev pub ends_leave : Play
-ends_leave st before found after = after ≡ seat_giving (placed (object_at st.word) (sent (place_of (view_of before) (object_at st.word))) (view_of before)) before
+ends_leave st before found after = after
+    ≡ seat_giving (placed (object_at st.word) (sent (place_of (view_of before) (object_at st.word))) (view_of before)) before
 
 -- begin return: what was far is on its way, and its slot is with the mover
 abbrev pub begins_return : Play
-begins_return st before found after = (body : Body) × (after ≡ seat_taking (placed (object_at st.word) (called (place_of (view_of before) (object_at st.word))) (view_of before)) (object_at st.word) body before)
+begins_return st before found after = (body : Body)
+    × (after ≡ seat_taking (placed (object_at st.word) (called (place_of (view_of before) (object_at st.word))) (view_of before))
+    (object_at st.word) body before)
 
 -- end return: the object is here, and its slot is at home
 abbrev pub ends_return : Play
@@ -206,14 +242,16 @@ ends_return st before found after = after ≡ seat_giving (placed (object_at st.
 
 -- cool: the mark of heat is cleared, and the mover knows whether it was set
 abbrev pub cools : Play
-cools st before found after = (st.first ≡ 2 ^ 64 - 9) × (after ≡ seat_keeping (with_cooling (object_at st.word) (nat_eq (found / 8 % 2) 1) (view_of before)) before)
+cools st before found after = (st.first ≡ 2 ^ 64 - 9)
+    × (after ≡ seat_keeping (with_cooling (object_at st.word) (nat_eq (found / 8 % 2) 1) (view_of before)) before)
 
 -- ---- a look, which is no step
 
 -- There was a moment at which the whole of a table that was opened so kept the rule, this seat had this view, and the word of
 -- the object was this number.
 abbrev pub Witness : Bool → List (List ℕ) → View → ℕ → ℕ → Type 0
-Witness returns opening v n word = (s : State Body View) × ((id : ℕ) × Kept returns opening s × (get_elem? s.views id ≡ some v) × (slice_index s.words (word_of n) ≡ word))
+Witness returns opening v n word = (s : State Body View)
+    × ((id : ℕ) × Kept returns opening s × (get_elem? s.views id ≡ some v) × (slice_index s.words (word_of n) ≡ word))
 
 -- a look changes nothing
 abbrev pub looks : Bool → List (List ℕ) → Play

@@ -19,7 +19,8 @@ use Rattle.shared_objects.specs.declared.view.View.{View}
 
 -- At most 56 seats count at an object, so that no count reaches into the stamp.
 abbrev pub CountsStayFew : Type 0
-CountsStayFew = (returns : Bool) (opening : List (List ℕ)) (s : State Body View) → Kept returns opening s → (n : ℕ) → total (has_open n) s.views + total (has_pass n) s.views ≤ 56
+CountsStayFew = (returns : Bool) (opening : List (List ℕ)) (s : State Body View) → Kept returns opening s → (n : ℕ)
+    → total (has_open n) s.views + total (has_pass n) s.views ≤ 56
 
 -- What the word of an object says is what all seats have of it: its place is where the mover has it, its turn is taken exactly
 -- where one seat holds it, its count is that of the seats that have it open or pass by, and its stamp is the last of its
@@ -60,8 +61,10 @@ pub record HasHistory (returns : Bool) (opening : List (List ℕ)) (s : State Bo
   pub all : (e : SharedEntry) → IsWrittenIn s e → Has history e
   pub stamps : (n : ℕ) → n < length opening → slice_index s.words (word_of n) / 65536 ≡ top 0 (entries_on n history)
   pub legal : returns ≡ true → Legal opening history
-  pub here : (n : ℕ) → n < length opening → slice_index s.words (word_of n) % 8 ≡ 0 → (body : Body) × (get_elem? s.homes n ≡ some (some body)) × IsLeft returns opening history n body.bytes.items
-  pub out : (id n : ℕ) (v : View) (bytes : List ℕ) → get_elem? s.views id ≡ some v → n < length opening → bytes_taken (place_of v n) ≡ Some bytes → IsLeft returns opening history n bytes
+  pub here : (n : ℕ) → n < length opening → slice_index s.words (word_of n) % 8 ≡ 0
+      → (body : Body) × (get_elem? s.homes n ≡ some (some body)) × IsLeft returns opening history n body.bytes.items
+  pub out : (id n : ℕ) (v : View) (bytes : List ℕ) → get_elem? s.views id ≡ some v → n < length opening → bytes_taken (place_of v n) ≡ Some bytes
+      → IsLeft returns opening history n bytes
 
 -- Between any two steps there is such a history.
 abbrev pub TablesHaveHistories : Type 0

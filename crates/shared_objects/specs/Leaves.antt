@@ -11,6 +11,7 @@ use Rattle.shared_objects.specs.declared.moving.Leave.TheVariants as leave
 
 -- taken: it was here, and is on its way with these bytes, which are as long as the opening ones; else nothing changed
 abbrev pub Leaves : View → ℕ → Leave → View → Type 0
-Leaves v n (leave.Taken bytes) w = IsObject v.opening n × (place_of v n ≡ Here) × (w ≡ placed n (Moving bytes.items) v) × (length bytes.items ≡ length (bytes_of v.opening n))
+Leaves v n (leave.Taken bytes) w = IsObject v.opening n × (place_of v n ≡ Here) × (w ≡ placed n (Moving bytes.items) v)
+    × (length bytes.items ≡ length (bytes_of v.opening n))
 Leaves v n leave.Held w = IsObject v.opening n × (w ≡ v)
 Leaves v n leave.NoObject w = (IsObject v.opening n → ⊥) × (w ≡ v)

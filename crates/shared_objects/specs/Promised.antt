@@ -43,21 +43,37 @@ seat_answers v before n op (Done x) w stamp h = (h.inside, (h.bytes, h.long, num
 seat_answers v before n op Away w stamp h = h.0
 seat_answers v before n op Busy w stamp h = h.0
 seat_answers v before n op Outside w stamp h = h.0
-seat_answers v before n op Worn w stamp h = let t = h.2 in (h.0, (t.0, subst (λ (u : View). Has u.marks (marks.Worn n t.0)) (sym t.2) (length v.marks, at_last v.marks (marks.Worn n t.0) (length v.marks) refl)))
+seat_answers v before n op Worn w stamp h = let t = h.2 in
+    (h.0, (t.0, subst (λ (u : View). Has u.marks (marks.Worn n t.0)) (sym t.2) (length v.marks, at_last v.marks (marks.Worn n t.0) (length v.marks) refl)))
 
 -- what it adds to the seat's own entries; lengths and marks stay
 seat_adds : (v : View) (before n : ℕ) (op : Op) (r : Reach) (w : View) (stamp : ℕ) → Touches v before n op r w stamp
     → (map own_entry w.entries ≡ map own_entry v.entries ++ entries_added n op r) × (w.opening ≡ v.opening) × ((m : Mark) → Has v.marks m → Has w.marks m)
-seat_adds v before n op (Done x) w stamp h = let is = h.view_is in let e : SharedEntry = entry v.actor stamp h.found n (Accesses op) (Number x) in
-    (ap (λ (u : View). map own_entry u.entries) is ∙ map_own v.entries (e ∷ []), ap (λ (u : View). u.opening) is, λ m has. subst (λ (u : View). Has u.marks m) (sym is) has)
-seat_adds v before n op Away w stamp h = let is = h.2 in
-    (ap (λ (u : View). map own_entry u.entries) is ∙ sym (append_none (map own_entry v.entries)), ap (λ (u : View). u.opening) is, λ m has. subst (λ (u : View). Has u.marks m) (sym is) (has_more v.marks (marks.Away n) m has))
-seat_adds v before n op Busy w stamp h = let is = h.2 in
-    (ap (λ (u : View). map own_entry u.entries) is ∙ sym (append_none (map own_entry v.entries)), ap (λ (u : View). u.opening) is, λ m has. subst (λ (u : View). Has u.marks m) (sym is) (has_more v.marks (marks.Busy n) m has))
-seat_adds v before n op Outside w stamp h = let is = h.2 in
-    (ap (λ (u : View). map own_entry u.entries) is ∙ sym (append_none (map own_entry v.entries)), ap (λ (u : View). u.opening) is, λ m has. subst (λ (u : View). Has u.marks m) (sym is) has)
-seat_adds v before n op Worn w stamp h = let t = h.2 in let is = t.2 in
-    (ap (λ (u : View). map own_entry u.entries) is ∙ sym (append_none (map own_entry v.entries)), ap (λ (u : View). u.opening) is, λ m has. subst (λ (u : View). Has u.marks m) (sym is) (has_more v.marks (marks.Worn n t.0) m has))
+seat_adds v before n op (Done x) w stamp h = let is = h.view_is in let e : SharedEntry = entry v.actor stamp h.found n (Accesses op) (Number x) in (
+  ap (λ (u : View). map own_entry u.entries) is ∙ map_own v.entries (e ∷ []),
+  ap (λ (u : View). u.opening) is,
+  λ m has. subst (λ (u : View). Has u.marks m) (sym is) has,
+)
+seat_adds v before n op Away w stamp h = let is = h.2 in (
+  ap (λ (u : View). map own_entry u.entries) is ∙ sym (append_none (map own_entry v.entries)),
+  ap (λ (u : View). u.opening) is,
+  λ m has. subst (λ (u : View). Has u.marks m) (sym is) (has_more v.marks (marks.Away n) m has),
+)
+seat_adds v before n op Busy w stamp h = let is = h.2 in (
+  ap (λ (u : View). map own_entry u.entries) is ∙ sym (append_none (map own_entry v.entries)),
+  ap (λ (u : View). u.opening) is,
+  λ m has. subst (λ (u : View). Has u.marks m) (sym is) (has_more v.marks (marks.Busy n) m has),
+)
+seat_adds v before n op Outside w stamp h = let is = h.2 in (
+  ap (λ (u : View). map own_entry u.entries) is ∙ sym (append_none (map own_entry v.entries)),
+  ap (λ (u : View). u.opening) is,
+  λ m has. subst (λ (u : View). Has u.marks m) (sym is) has,
+)
+seat_adds v before n op Worn w stamp h = let t = h.2 in let is = t.2 in (
+  ap (λ (u : View). map own_entry u.entries) is ∙ sym (append_none (map own_entry v.entries)),
+  ap (λ (u : View). u.opening) is,
+  λ m has. subst (λ (u : View). Has u.marks m) (sym is) (has_more v.marks (marks.Worn n t.0) m has),
+)
 
 -- a seat keeps the promises of memories
 pub seat_promises : {M S : Type 0} (view : M → View) (stamp loan : M → ℕ) (table : M → S) → KeepsPromises (seat_memory view stamp loan table)

@@ -1,5 +1,6 @@
 -- The rule of the table: what its words, bodies and views have to do with one another, between any two steps.
-use Rattle.std.specs.Prelude.{◌≡◌, ◌≢◌, ◌⊎◌, Bool, true, false, ℕ, ◌+◌, ◌*◌, ◌^◌, ◌<◌, ◌≤◌, List, [], ◌∷◌, length, slice_index, slice_index_or, cond, ◌==◌, Option, Some, None}
+use Rattle.std.specs.Prelude.{◌≡◌, ◌≢◌, ◌⊎◌, Bool, true, false, ℕ, ◌+◌, ◌*◌, ◌^◌, ◌<◌, ◌≤◌, List, [], ◌∷◌, length, slice_index, slice_index_or, cond, ◌==◌}
+use Rattle.std.specs.Prelude.{Option, Some, None}
 use mathlib.Core.Option.{some, none}
 use mathlib.Core.Option as maybe
 use lib.ListN.{get_elem?}
@@ -86,7 +87,22 @@ is_live v = cond v.live 1 0
 
 -- a seat that was taken in
 abbrev pub spent : View
-spent = record { made = 0; alive = 0; live = false; gathered = []; actor = 0; opening = []; returns = false; scopes = []; passing = []; turn = None; entries = []; marks = []; out = []; coolings = [] }
+spent = record {
+  made = 0;
+  alive = 0;
+  live = false;
+  gathered = [];
+  actor = 0;
+  opening = [];
+  returns = false;
+  scopes = [];
+  passing = [];
+  turn = None;
+  entries = [];
+  marks = [];
+  out = [];
+  coolings = [];
+}
 
 -- how many seats have the turn of an object, have it open, pass by, have it on its way, and have it far
 pub record Tally : Type 0 where
@@ -98,7 +114,13 @@ pub record Tally : Type 0 where
 
 -- the object n, as all seats have it
 abbrev pub tally : ℕ → List View → Tally
-tally n vs = record { turns = total (has_turn n) vs; opens = total (has_open n) vs; passes = total (has_pass n) vs; moving = total (has_moving n) vs; far = total (has_far n) vs }
+tally n vs = record {
+  turns = total (has_turn n) vs;
+  opens = total (has_open n) vs;
+  passes = total (has_pass n) vs;
+  moving = total (has_moving n) vs;
+  far = total (has_far n) vs;
+}
 
 -- ---- the rule
 
@@ -121,7 +143,8 @@ word_of n = n * 16
 -- Where the body of an object is: its opening bytes, what all seats have of it, its slot, and its entries.
 pub data SlotFits (returns : Bool) (opening : List ℕ) (t : Tally) (home : maybe.Option (maybe.Option Body)) (log : List SharedEntry) : Type 0 where
   -- the object is here with no turn held: the body is at home
-  AtHome : t.moving + t.far + t.turns ≡ 0 → (body : Body) → home ≡ some (some body) → Stands returns opening log body.bytes.items → SlotFits returns opening t home log
+  AtHome : t.moving + t.far + t.turns ≡ 0 → (body : Body) → home ≡ some (some body) → Stands returns opening log body.bytes.items
+      → SlotFits returns opening t home log
   -- its turn is held, or it is on its way: a seat has the slot
   Lent : 0 < t.moving + t.turns → home ≡ some none → SlotFits returns opening t home log
   -- it is far: some body is at home, which stands for nothing
@@ -145,7 +168,8 @@ pub record Fits (returns : Bool) (opening : List ℕ) (t : Tally) (word : ℕ) (
 
 -- The turn that a seat holds has the latest stamp and bytes, and at most four scopes are open meanwhile.
 abbrev pub TurnFits : Bool → List (List ℕ) → (ℕ → List SharedEntry) → List ℕ → Turn → Type 0
-TurnFits returns opening logs scopes t = (t.stamp ≡ top 0 (logs t.object)) × Stands returns (bytes_of opening t.object) (logs t.object) t.bytes × (length scopes ≤ window_limit)
+TurnFits returns opening logs scopes t = (t.stamp ≡ top 0 (logs t.object)) × Stands returns (bytes_of opening t.object) (logs t.object) t.bytes
+    × (length scopes ≤ window_limit)
 
 -- The stamp that a worn turn found stands in the object's entries, or below.
 abbrev pub MarkFits : (ℕ → List SharedEntry) → Mark → Type 0
@@ -194,7 +218,8 @@ pub record SeatsFit (returns : Bool) (opening : List (List ℕ)) (s : State Body
   -- what it has taken in
   pub parts : (id : ℕ) (v : View) → get_elem? s.views id ≡ some v → (p : Part) → Has v.gathered p → PartFits logs s.views p
   -- no two parts are of one actor
-  pub apart : (id : ℕ) (v : View) → get_elem? s.views id ≡ some v → (j k : ℕ) (p q : Part) → get_elem? v.gathered j ≡ some p → get_elem? v.gathered k ≡ some q → p.actor ≡ q.actor → j ≡ k
+  pub apart : (id : ℕ) (v : View) → get_elem? s.views id ≡ some v → (j k : ℕ) (p q : Part) → get_elem? v.gathered j ≡ some p
+      → get_elem? v.gathered k ≡ some q → p.actor ≡ q.actor → j ≡ k
 
 -- The whole table.
 pub record Kept (returns : Bool) (opening : List (List ℕ)) (s : State Body View) : Type 0 where

@@ -32,4 +32,5 @@ IsShutOf shared actor = IsActorOf shared actor × (actor.seat.me.0.scopes ≡ []
 
 -- The seat is the mover's of this table.
 abbrev pub IsMoverOf : SharedTable → MoverSeat → Type 0
-IsMoverOf shared mover = (mover.seat.table_id ≡ shared.table.shared.table_id) × (mover.seat.me.0.opening ≡ table_opening shared) × (mover.seat.me.0.returns ≡ table_returns shared)
+IsMoverOf shared mover = (mover.seat.table_id ≡ shared.table.shared.table_id) × (mover.seat.me.0.opening ≡ table_opening shared)
+    × (mover.seat.me.0.returns ≡ table_returns shared)

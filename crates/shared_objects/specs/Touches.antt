@@ -45,7 +45,8 @@ FindsBusy v before n deed w stamp = IsInside v n deed × (stamp ≡ before) × (
 
 -- The stamps have run out.
 abbrev pub FindsWorn : View → ℕ → ℕ → Deed → View → ℕ → Type 0
-FindsWorn v before n deed w stamp = IsInside v n deed × (stamp ≡ before) × ((found : ℕ) × (2 ^ 48 ≤ max before found + 1) × (w ≡ worn_out n found (looking n v)))
+FindsWorn v before n deed w stamp = IsInside v n deed × (stamp ≡ before)
+    × ((found : ℕ) × (2 ^ 48 ≤ max before found + 1) × (w ≡ worn_out n found (looking n v)))
 
 -- It isn't inside, and nothing changed. No step is made; this can't be said here, since steps that undo one another, as a scope
 -- that is opened and closed again, leave the same view.

@@ -1,5 +1,6 @@
 //! The rule of the table, and the nine kinds of step. A proof of a step is as good as this list: no other module has kinds.
-ghost use Rattle.shared_objects.specs.Kinds.{opens_scope, closes_scope, leaves_pass, takes_turn, gives_turn, gives_up_turn, begins_leave, ends_leave, begins_return, ends_return, cools, looks, dealer, dealt, newcomer, gathers};
+ghost use Rattle.shared_objects.specs.Kinds.{opens_scope, closes_scope, leaves_pass, takes_turn, gives_turn, gives_up_turn, begins_leave, ends_leave};
+ghost use Rattle.shared_objects.specs.Kinds.{begins_return, ends_return, cools, looks, dealer, dealt, newcomer, gathers};
 ghost use Rattle.shared_objects.specs.Rule.{Kept, spent};
 ghost use Rattle.shared_objects.specs.Opening.{opening_bytes};
 

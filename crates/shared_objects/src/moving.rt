@@ -1,5 +1,6 @@
 //! Bodies leave and come back. The slots of the objects that are on their way are with the mover's seat.
-ghost use Rattle.std.specs.Prelude.{◌≡◌, ◌≢◌, ◌⊎◌, ◌+◌, ◌-◌, ◌%◌, IfSome, ℕ, ◌<◌, ◌≤◌, true, nat_eq, List, ◌∷◌, length, map, None, Some, MatchResult, MatchOption, vec_capacity};
+ghost use Rattle.std.specs.Prelude.{◌≡◌, ◌≢◌, ◌⊎◌, ◌+◌, ◌-◌, ◌%◌, IfSome, ℕ, ◌<◌, ◌≤◌, true, nat_eq, List, ◌∷◌, length, map, None, Some, MatchResult};
+ghost use Rattle.std.specs.Prelude.{MatchOption, vec_capacity};
 ghost use Rattle.memory.specs.Objects.{bytes_of};
 ghost use Rattle.shared_objects.specs.Kinds.{placed, sent, called, with_cooling};
 ghost use Rattle.shared_objects.specs.Leaves.{Leaves};
@@ -141,7 +142,8 @@ impl SharedTable {
     fn land(&self, mover: &mut MoverSeat, n: usize, bytes: Vec<u8>)
         requires mover { IsMoverOf self.now mover.old }
         requires phase { phase_of (place_of mover.old.seat.me.0 n) ≡ Phase.Moving }
-        requires long { (old : List ℕ) → bytes_taken (place_of mover.old.seat.me.0 n) ≡ Some old → length old ≡ length (bytes_of mover.old.seat.me.0.opening n) → length bytes.items ≡ length (bytes_of mover.old.seat.me.0.opening n) }
+        requires long { (old : List ℕ) → bytes_taken (place_of mover.old.seat.me.0 n) ≡ Some old
+            → length old ≡ length (bytes_of mover.old.seat.me.0.opening n) → length bytes.items ≡ length (bytes_of mover.old.seat.me.0.opening n) }
         requires body { mover.old.seat.me.0.returns ≡ true → bytes_taken (place_of mover.old.seat.me.0 n) ≡ Some bytes.items }
         ensures mover { IsMoverOf self.now mover.new }
         ensures view { mover.new.seat.me.0 ≡ placed n Here mover.old.seat.me.0 }
@@ -185,7 +187,8 @@ impl SharedTable {
         ensures mover { IsMoverOf self.now mover.new }
         ensures view { MatchResult result
             (λ _. (length bytes.items ≡ length (bytes_of mover.old.seat.me.0.opening number)) × (mover.new.seat.me.0 ≡ placed number Here mover.old.seat.me.0))
-            (λ back. (length bytes.items ≢ length (bytes_of mover.old.seat.me.0.opening number)) × (back.items ≡ bytes.items) × (mover.new.seat.me.0 ≡ mover.old.seat.me.0)) }
+            (λ back. (length bytes.items ≢ length (bytes_of mover.old.seat.me.0.opening number)) × (back.items ≡ bytes.items)
+            × (mover.new.seat.me.0 ≡ mover.old.seat.me.0)) }
     {
         if bytes.len() != self.length(number as u64) {
             return Err(bytes);

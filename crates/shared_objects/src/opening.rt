@@ -56,7 +56,8 @@ impl SharedTable {
         returns: bool,
     ) -> Result<(SharedTable, MoverSeat), AllocError>
         requires { length bodies.items ≤ 1024 }
-        ensures { IfOk result (λ r. IsMoverOf r.0 r.1 × (table_opening r.0 ≡ opening_bytes bodies) × (table_returns r.0 ≡ returns) × (r.1.seat.me.0 ≡ dealer returns (opening_bytes bodies))) }
+        ensures { IfOk result (λ r. IsMoverOf r.0 r.1 × (table_opening r.0 ≡ opening_bytes bodies) × (table_returns r.0 ≡ returns)
+            × (r.1.seat.me.0 ≡ dealer returns (opening_bytes bodies))) }
     {
         let key = Key {
             bodies: Snapshot::of(&bodies),
@@ -106,7 +107,8 @@ impl SharedTable {
         requires mover { IsMoverOf self.now mover.old }
         requires room { mover.old.seat.me.0.made + count ≤ 57 }
         ensures mover { IsMoverOf self.now mover.new }
-        ensures seats { IfOk result (λ v. (length v.items ≡ count) × (mover.new.seat.me.0 ≡ seated count mover.old.seat.me.0) × AreFresh mover.old.seat.me.0 v.items × All (IsActorOf self.now) v.items) }
+        ensures seats { IfOk result (λ v. (length v.items ≡ count) × (mover.new.seat.me.0 ≡ seated count mover.old.seat.me.0)
+            × AreFresh mover.old.seat.me.0 v.items × All (IsActorOf self.now) v.items) }
     {
         let mut actors = Vec::new(self.alloc);
         while actors.len() < count {
@@ -125,7 +127,8 @@ impl SharedTable {
     ) -> Result<(SharedTable, Vec<ActorSeat>, MoverSeat), AllocError>
         requires bodies { length bodies.items ≤ 1024 }
         requires actors { actors ≤ 56 }
-        ensures { IfOk result (λ r. IsMoverOf r.0 r.2 × All (IsActorOf r.0) r.1.items × (table_opening r.0 ≡ opening_bytes bodies) × (table_returns r.0 ≡ returns) × (length r.1.items ≡ actors)
+        ensures { IfOk result (λ r. IsMoverOf r.0 r.2 × All (IsActorOf r.0) r.1.items × (table_opening r.0 ≡ opening_bytes bodies)
+            × (table_returns r.0 ≡ returns) × (length r.1.items ≡ actors)
             × AreFresh (dealer returns (opening_bytes bodies)) r.1.items × (r.2.seat.me.0 ≡ seated actors (dealer returns (opening_bytes bodies)))) }
     {
         let (table, mut mover) = SharedTable::with_mover(alloc, bodies, returns)?;

@@ -41,7 +41,8 @@ impl<F: FarStore> Shared<F> {
     ) -> Result<(Shared<F>, Vec<ActorSeat>, MoverSeat), OpenFault>
         requires bodies { length bodies.items ≤ 1024 }
         requires actors { actors ≤ 56 }
-        ensures { IfOk result (λ r. IsMoverOf r.0.table r.2 × All (IsActorOf r.0.table) r.1.items × (table_opening r.0.table ≡ opening_bytes bodies) × (length r.1.items ≡ actors)
+        ensures { IfOk result (λ r. IsMoverOf r.0.table r.2 × All (IsActorOf r.0.table) r.1.items
+            × (table_opening r.0.table ≡ opening_bytes bodies) × (length r.1.items ≡ actors)
             × AreFresh (dealer F.RETURNS (opening_bytes bodies)) r.1.items × (r.2.seat.me.0 ≡ seated actors (dealer F.RETURNS (opening_bytes bodies)))) }
     {
         match SharedTable::open(alloc, bodies, actors, F::RETURNS) {

@@ -95,7 +95,8 @@ impl SharedTable {
         requires open { (has_open n seat.old.me.0 ≡ 1) × (length seat.old.me.0.scopes ≤ 4) }
         ensures id { seat.new.table_id ≡ seat.old.table_id }
         ensures me { MatchOption result (seat.new.me ≡ (marked (Busy n) seat.old.me.0, []))
-            (λ stamp. HoldsBody seat.new.me n (λ body. (seat.new.me.0 ≡ holding n stamp body.bytes.items seat.old.me.0) × (length body.bytes.items ≡ length (bytes_of seat.old.me.0.opening n)))) }
+            (λ stamp. HoldsBody seat.new.me n (λ body. (seat.new.me.0 ≡ holding n stamp body.bytes.items seat.old.me.0)
+            × (length body.bytes.items ≡ length (bytes_of seat.old.me.0.opening n)))) }
     {
         let found = self
             .table
@@ -116,7 +117,8 @@ impl SharedTable {
         requires object { n < length self.now.lengths.items }
         requires stamps { (found < stamp) × (stamp < 2 ^ 48) × (top 0 seat.old.me.0.entries < stamp) }
         requires entry { T.entry ≡ entry seat.old.me.0.actor stamp found n T.entry.deed T.entry.given }
-        requires held { (bytes : List ℕ) × (seat.old.me.0.turn ≡ Some (turn n found bytes)) × EndsInside T.entry.deed (length bytes) × (T.entry.given ≡ given_by T.entry.deed bytes) × HoldsBody seat.old.me n (λ body. body.bytes.items ≡ left_by T.entry.deed bytes) }
+        requires held { (bytes : List ℕ) × (seat.old.me.0.turn ≡ Some (turn n found bytes)) × EndsInside T.entry.deed (length bytes)
+            × (T.entry.given ≡ given_by T.entry.deed bytes) × HoldsBody seat.old.me n (λ body. body.bytes.items ≡ left_by T.entry.deed bytes) }
         ensures id { seat.new.table_id ≡ seat.old.table_id }
         ensures me { seat.new.me ≡ (recorded T.entry seat.old.me.0, []) }
     {

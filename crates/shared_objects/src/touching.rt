@@ -117,7 +117,8 @@ impl SharedTable {
         requires held { HoldsBody seat.old.me n (λ body. IsInside op.now (length body.bytes.items)) }
         ensures id { seat.new.table_id ≡ seat.old.table_id }
         ensures view { seat.new.me.0 ≡ seat.old.me.0 }
-        ensures held { HoldsBody seat.old.me n (λ body. (result ≡ answer op.now body.bytes.items) × HoldsBody seat.new.me n (λ left. left.bytes.items ≡ after op.now body.bytes.items)) }
+        ensures held { HoldsBody seat.old.me n (λ body. (result ≡ answer op.now body.bytes.items)
+            × HoldsBody seat.new.me n (λ left. left.bytes.items ≡ after op.now body.bytes.items)) }
     {
         seat.slot_mut(&self.table.shared, n).act(op)
     }
@@ -128,7 +129,8 @@ impl SharedTable {
         requires held { HoldsBody seat.old.me n (λ body. offset + length into.old.items ≤ length body.bytes.items) }
         ensures id { seat.new.table_id ≡ seat.old.table_id }
         ensures view { seat.new.me.0 ≡ seat.old.me.0 }
-        ensures held { HoldsBody seat.old.me n (λ body. (into.new.items ≡ part offset (length into.old.items) body.bytes.items) × HoldsBody seat.new.me n (λ left. left.bytes.items ≡ body.bytes.items)) }
+        ensures held { HoldsBody seat.old.me n (λ body. (into.new.items ≡ part offset (length into.old.items) body.bytes.items)
+            × HoldsBody seat.new.me n (λ left. left.bytes.items ≡ body.bytes.items)) }
     {
         seat.slot_mut(&self.table.shared, n)
             .read(offset, into.as_mut_slice());
@@ -160,7 +162,8 @@ impl SharedTable {
         requires object { n < length self.now.lengths.items }
         requires stamps { (found < stamp) × (stamp < 2 ^ 48) × (top 0 seat.old.me.0.entries < stamp) }
         requires entry { T.entry ≡ entry seat.old.me.0.actor stamp found n (Accesses _op.now) (Number _reply) }
-        requires held { (bytes : List ℕ) × (seat.old.me.0.turn ≡ Some (turn n found bytes)) × IsInside _op.now (length bytes) × (_reply ≡ answer _op.now bytes) × HoldsBody seat.old.me n (λ body. body.bytes.items ≡ after _op.now bytes) }
+        requires held { (bytes : List ℕ) × (seat.old.me.0.turn ≡ Some (turn n found bytes)) × IsInside _op.now (length bytes)
+            × (_reply ≡ answer _op.now bytes) × HoldsBody seat.old.me n (λ body. body.bytes.items ≡ after _op.now bytes) }
         ensures id { seat.new.table_id ≡ seat.old.table_id }
         ensures me { seat.new.me ≡ (recorded (entry seat.old.me.0.actor stamp found n (Accesses _op.now) (Number _reply)) seat.old.me.0, []) }
     {
@@ -183,7 +186,8 @@ impl SharedTable {
         requires object { n < length self.now.lengths.items }
         requires stamps { (found < stamp) × (stamp < 2 ^ 48) × (top 0 seat.old.me.0.entries < stamp) }
         requires entry { T.entry ≡ entry seat.old.me.0.actor stamp found n (Reads _offset _count) (Bytes _bytes.now.items) }
-        requires held { (bytes : List ℕ) × (seat.old.me.0.turn ≡ Some (turn n found bytes)) × (0 < length bytes) × (_offset + _count ≤ length bytes) × (_bytes.now.items ≡ part _offset _count bytes) × HoldsBody seat.old.me n (λ body. body.bytes.items ≡ bytes) }
+        requires held { (bytes : List ℕ) × (seat.old.me.0.turn ≡ Some (turn n found bytes)) × (0 < length bytes) × (_offset + _count ≤ length bytes)
+            × (_bytes.now.items ≡ part _offset _count bytes) × HoldsBody seat.old.me n (λ body. body.bytes.items ≡ bytes) }
         ensures id { seat.new.table_id ≡ seat.old.table_id }
         ensures me { seat.new.me ≡ (recorded (entry seat.old.me.0.actor stamp found n (Reads _offset _count) (Bytes _bytes.now.items)) seat.old.me.0, []) }
     {
@@ -205,7 +209,8 @@ impl SharedTable {
         requires object { n < length self.now.lengths.items }
         requires stamps { (found < stamp) × (stamp < 2 ^ 48) × (top 0 seat.old.me.0.entries < stamp) }
         requires entry { T.entry ≡ entry seat.old.me.0.actor stamp found n (Writes _offset _bytes.now) Nothing }
-        requires held { (bytes : List ℕ) × (seat.old.me.0.turn ≡ Some (turn n found bytes)) × (0 < length bytes) × (_offset + length _bytes.now ≤ length bytes) × HoldsBody seat.old.me n (λ body. body.bytes.items ≡ replaced _offset _bytes.now bytes) }
+        requires held { (bytes : List ℕ) × (seat.old.me.0.turn ≡ Some (turn n found bytes)) × (0 < length bytes)
+            × (_offset + length _bytes.now ≤ length bytes) × HoldsBody seat.old.me n (λ body. body.bytes.items ≡ replaced _offset _bytes.now bytes) }
         ensures id { seat.new.table_id ≡ seat.old.table_id }
         ensures me { seat.new.me ≡ (recorded (entry seat.old.me.0.actor stamp found n (Writes _offset _bytes.now) Nothing) seat.old.me.0, []) }
     {
@@ -237,7 +242,8 @@ impl SharedTable {
 
     /// Whether there is an object, within whose bytes the range ends.
     fn has_range(&self, number: u32, offset: u32, count: usize) -> bool
-        ensures value { IsTrue result ↔ ((0 < length (bytes_of (table_opening self.now) number)) × (offset + count ≤ length (bytes_of (table_opening self.now) number))) }
+        ensures value { IsTrue result ↔ ((0 < length (bytes_of (table_opening self.now) number))
+            × (offset + count ≤ length (bytes_of (table_opening self.now) number))) }
         ensures object { result ≡ true → number < length self.now.lengths.items }
     {
         let length = self.length(number as u64);

@@ -49,11 +49,13 @@ cell_tells (Show command) before after m h = show_tells m h.0 h.1
 cell_tells (Debug command) before after m h = debug_tells h.0 h.1
 
 -- no cell of such a machine is empty
-cell_filled : (opening : List (List ℕ)) (starts : List MachineState) (m : ℕ) (seat : SeatState) (r : Option RunningState) (start : MachineState) → r ≡ None → FitsCell opening starts m seat r → opened_as starts m ≡ Some start → ⊥
+cell_filled : (opening : List (List ℕ)) (starts : List MachineState) (m : ℕ) (seat : SeatState) (r : Option RunningState) (start : MachineState) → r ≡ None
+    → FitsCell opening starts m seat r → opened_as starts m ≡ Some start → ⊥
 cell_filled opening starts m seat r start none fits there =
     let h : FitsCell opening starts m seat None = subst (FitsCell opening starts m seat) none fits in let e = sym h.0 ∙ there in absurd (cc)
 
-lent_tells : (opening : List (List ℕ)) (starts : List MachineState) (old new : SeatState) (m : ℕ) (c : MachineCommand) (before after : CellState) (start : MachineState)
+lent_tells : (opening : List (List ℕ)) (starts : List MachineState) (old new : SeatState) (m : ℕ) (c : MachineCommand)
+    (before after : CellState) (start : MachineState)
     → FitsCell opening starts m before.seat before.running → opened_as starts m ≡ Some start → AnswersLent c old before m reply.Missing new after → ⊥
 lent_tells opening starts old new m c before after start fits there (inl h) = cell_filled opening starts m before.seat before.running start h.none fits there
 lent_tells opening starts old new m c before after start fits there (inr h) = cell_tells c (informed c old before) after m h.answers

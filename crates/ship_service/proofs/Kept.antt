@@ -18,7 +18,8 @@ abbrev number_of : CellState → ℕ
 number_of c = c.number
 
 -- the type's fact, of a cell of this number
-pub cell_now : (opening : List (List ℕ)) (starts : List MachineState) (m : ℕ) (c : CellState) → c.number ≡ m → c.seat.view.actor ≡ c.number → c.seat.view.opening ≡ opening → IsStamped c.seat → FitsCell opening starts c.number c.seat c.running
+pub cell_now : (opening : List (List ℕ)) (starts : List MachineState) (m : ℕ) (c : CellState) → c.number ≡ m → c.seat.view.actor ≡ c.number
+    → c.seat.view.opening ≡ opening → IsStamped c.seat → FitsCell opening starts c.number c.seat c.running
     → IsCell opening starts m c
 cell_now opening starts m c number actor opens stamped fits = record {
   number_is = number;
@@ -32,7 +33,8 @@ requeued_number : (command : DebugCommand) (outcome : Debugged) (mid after : Cel
 requeued_number Resume debugged.Done mid after h = ap number_of h.0.1
 requeued_number command outcome mid after h = ap number_of h
 
-cell_number : (command : MachineCommand) (before : CellState) (m : ℕ) (told : Reply) (after : CellState) → AnswersCell command before m told after → after.number ≡ before.number
+cell_number : (command : MachineCommand) (before : CellState) (m : ℕ) (told : Reply) (after : CellState) → AnswersCell command before m told after
+    → after.number ≡ before.number
 cell_number (Step way) before m told after h = ap number_of h.2.becomes
 cell_number (Show command) before m told after h = ap number_of h.3
 cell_number (Debug command) before m told after h = requeued_number command h.0 h.2.0 after h.2.2 ∙ ap number_of h.2.1.becomes
@@ -43,13 +45,16 @@ informed_number (Show command) old before = refl
 informed_number (Debug command) old before = refl
 
 -- a command on its machine
-pub answered_number : (command : MachineCommand) (old : SeatState) (before : CellState) (m : ℕ) (told : Reply) (new : SeatState) (after : CellState) → AnswersLent command old before m told new after
+pub answered_number : (command : MachineCommand) (old : SeatState) (before : CellState) (m : ℕ) (told : Reply) (new : SeatState) (after : CellState)
+    → AnswersLent command old before m told new after
     → after.number ≡ before.number
 answered_number command old before m told new after (inl h) = ap number_of h.unchanged
-answered_number command old before m told new after (inr h) = cell_number command (informed command old before) m told after h.answers ∙ informed_number command old before
+answered_number command old before m told new after (inr h) =
+    cell_number command (informed command old before) m told after h.answers ∙ informed_number command old before
 
 -- a machine that comes
-pub shipped_number : (start : Start) (code : List ℕ) (before : CellState) (told : Reply) (after : CellState) → ShipsCell start code before told after → after.number ≡ before.number
+pub shipped_number : (start : Start) (code : List ℕ) (before : CellState) (told : Reply) (after : CellState) → ShipsCell start code before told after
+    → after.number ≡ before.number
 shipped_number start code before (reply.Shipped m) after h = ap number_of h.2.0.1
 shipped_number start code before (reply.Refused e) after h = ap number_of h.2
 shipped_number start code before reply.NoMemory after h = ap number_of h.1

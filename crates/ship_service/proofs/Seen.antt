@@ -15,9 +15,11 @@ learnt old new seat e s = let k : new.stamp ≡ max old.stamp seat.stamp = ap (�
 none_there : (r : Option RunningState) (x : RunningState) → r ≡ None → r ≡ Some x → ⊥
 none_there r x e f = let g = sym e ∙ f in absurd (cc)
 
-answered : (opening : List (List ℕ)) (starts : List MachineState) (old new : SeatState) (m : ℕ) (command : MachineCommand) (before after : CellState) (said : Reply) (r : RunningState)
+answered : (opening : List (List ℕ)) (starts : List MachineState) (old new : SeatState) (m : ℕ) (command : MachineCommand) (before after : CellState)
+    (said : Reply) (r : RunningState)
     → IsCell opening starts m after → AnswersLent command old before m said new after → after.running ≡ Some r → IsSeen opening starts m new.stamp after.seat r
-answered opening starts old new m command before after said r is (inl h) e = absurd (none_there after.running r (ap (λ (c : CellState). c.running) h.unchanged ∙ h.none) e)
+answered opening starts old new m command before after said r is (inl h) e =
+    absurd (none_there after.running r (ap (λ (c : CellState). c.running) h.unchanged ∙ h.none) e)
 answered opening starts old new m command before after said r is (inr h) e =
     record { replayed = subst (FitsCell opening starts m after.seat) e is.fits; up_to = learnt old new after.seat h.learns is.stamped }
 

@@ -40,9 +40,11 @@ put_short n reach.Worn = tt
 bytes_are : (xs ys : List ℕ) → Bytes xs ≡ Bytes ys → xs ≡ ys
 bytes_are xs ys e = cc
 
-get_short : (old new : SeatState) (n offset size : ℕ) (f : Fetched) → GetsRange old.view old.stamp n offset size f new.view new.stamp → size ≤ range_limit → IsShortReply (reply_to_get n f)
+get_short : (old new : SeatState) (n offset size : ℕ) (f : Fetched) → GetsRange old.view old.stamp n offset size f new.view new.stamp → size ≤ range_limit
+    → IsShortReply (reply_to_get n f)
 get_short old new n offset size (fetched.Done bytes) h short =
-    let e = ap length (bytes_are bytes.items (part offset size h.bytes) h.given_is) in let l = length-take size (drop offset h.bytes) in omega (arith, e, l, short)
+    let e = ap length (bytes_are bytes.items (part offset size h.bytes) h.given_is) in
+    let l = length-take size (drop offset h.bytes) in omega (arith, e, l, short)
 get_short old new n offset size fetched.Away h short = tt
 get_short old new n offset size fetched.Busy h short = tt
 get_short old new n offset size fetched.Outside h short = tt
@@ -59,31 +61,36 @@ move_short : (opening : List (List ℕ)) (n : ℕ) (m : Move) (told : ServiceRep
 move_short opening n m (Plain (reply.Bytes b)) h = absurd (no_bytes opening n m b h)
 move_short opening n m _ h = tt
 
-object_short : (old new : SeatState) (n : ℕ) (c : ObjectCommand) (told : ServiceReply) → ServesObject old n c told new → AsksShort (event.Object n c) → IsShortReply told
+object_short : (old new : SeatState) (n : ℕ) (c : ObjectCommand) (told : ServiceReply) → ServesObject old n c told new
+    → AsksShort (event.Object n c) → IsShortReply told
 object_short old new n (object.Put offset bytes) told h short = subst IsShortReply (sym h.last.told_is) (put_short n h.last.outcome)
 object_short old new n (object.Get offset size) told h short = get_tells_short h.mid new n offset size told h.last short
 object_short old new n object.Free told h short = subst IsShortReply (sym h.0) tt
 object_short old new n (object.Move m) told h short = move_short old.view.opening n m told h.0
 
-cell_short : (before after : CellState) (m : ℕ) (c : MachineCommand) (told : Reply) → AnswersCell c before m told after → AsksShort (event.Machine m c) → IsShort told
+cell_short : (before after : CellState) (m : ℕ) (c : MachineCommand) (told : Reply) → AnswersCell c before m told after
+    → AsksShort (event.Machine m c) → IsShort told
 cell_short before after m (Step way) told h short = subst IsShort (sym h.1) (step_short m h.0)
 cell_short before after m (Show command) told h short = subst IsShort (sym h.1) (show_short m command h.2.0.debuggee h.0 h.2.2 short)
 cell_short before after m (Debug command) told h short = subst IsShort (sym h.1) (debug_short h.0)
 
-lent_short : (old new : SeatState) (before after : CellState) (m : ℕ) (c : MachineCommand) (told : Reply) → AnswersLent c old before m told new after → AsksShort (event.Machine m c) → IsShort told
+lent_short : (old new : SeatState) (before after : CellState) (m : ℕ) (c : MachineCommand) (told : Reply) → AnswersLent c old before m told new after
+    → AsksShort (event.Machine m c) → IsShort told
 lent_short old new before after m c told (inl h) short = subst IsShort (sym h.told_is) tt
 lent_short old new before after m c told (inr h) short = cell_short (informed c old before) after m c told h.answers short
 
 machine_short : (opening : List (List ℕ)) (starts : List MachineState) (old new : SeatState) (m : ℕ) (c : MachineCommand) (told : ServiceReply)
     → ServesMachine opening starts old m c told new → AsksShort (event.Machine m c) → IsShortReply told
 machine_short opening starts old new m c told (inl h) short = subst IsShortReply (sym h.told_is) tt
-machine_short opening starts old new m c told (inr h) short = subst IsShortReply (sym h.told_is) (lent_short old new h.before h.after m c h.said h.answers short)
+machine_short opening starts old new m c told (inr h) short =
+    subst IsShortReply (sym h.told_is) (lent_short old new h.before h.after m c h.said h.answers short)
 
 shipped_short : (start : Start) (code : List ℕ) (before after : CellState) (said : Reply) → ShipsCell start code before said after → IsShort said
 shipped_short start code before after (reply.Bytes b) h = absurd h
 shipped_short start code before after _ h = tt
 
-ship_short : (opening : List (List ℕ)) (starts : List MachineState) (lent : ℕ → Bool) (start : Start) (code : List ℕ) (told : ServiceReply) → ServesShip opening starts lent start code told → IsShortReply told
+ship_short : (opening : List (List ℕ)) (starts : List MachineState) (lent : ℕ → Bool) (start : Start) (code : List ℕ) (told : ServiceReply)
+    → ServesShip opening starts lent start code told → IsShortReply told
 ship_short opening starts lent start code told (inl h) = subst IsShortReply (sym h.told_is) tt
 ship_short opening starts lent start code told (inr h) = subst IsShortReply (sym h.told_is) (shipped_short start code h.before h.after h.said h.ships)
 

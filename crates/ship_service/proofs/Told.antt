@@ -46,7 +46,8 @@ nothing : (old new : SeatState) → new.view.entries ≡ old.view.entries → ol
 nothing old new e s a = record { more = []; entries = e ∙ sym (append-nil old.view.entries); tells = refl; stamps = s; actor = a }
 
 same : (old new : SeatState) → new ≡ old → Tells old [] new
-same old new e = nothing old new (ap (λ (s : SeatState). s.view.entries) e) (let k = ap (λ (s : SeatState). s.stamp) e in omega (arith, k)) (ap (λ (s : SeatState). s.view.actor) e)
+same old new e = nothing old new (ap (λ (s : SeatState). s.view.entries) e) (let k = ap (λ (s : SeatState). s.stamp) e in
+    omega (arith, k)) (ap (λ (s : SeatState). s.view.actor) e)
 
 learnt : (old new : SeatState) (stamp : ℕ) → new ≡ record old { stamp = max old.stamp stamp } → Tells old [] new
 learnt old new stamp e =
@@ -83,13 +84,17 @@ get_adds old new n offset size fetched.Busy h = unmoved old new _ h.1 h.2 refl r
 get_adds old new n offset size fetched.Outside h = unmoved old new _ h.1 h.2 refl refl
 get_adds old new n offset size fetched.Worn h = unmoved old new _ h.1 h.2.2 refl refl
 
-put_once_tells : (old new : SeatState) (n offset : ℕ) (bytes : List ℕ) (told : ServiceReply) → PutsOnce old n offset bytes told new → Tells old (added (event.Object n (object.Put offset bytes)) told) new
+put_once_tells : (old new : SeatState) (n offset : ℕ) (bytes : List ℕ) (told : ServiceReply) → PutsOnce old n offset bytes told new
+    → Tells old (added (event.Object n (object.Put offset bytes)) told) new
 put_once_tells old new n offset bytes told h =
     subst (λ r. Tells old (added (event.Object n (object.Put offset bytes)) r) new) (sym h.told_is) (put_adds old new n offset bytes h.outcome h.puts)
 
-get_once_tells : (old new : SeatState) (n offset size : ℕ) (told : ServiceReply) → GetsOnce old n offset size told new → Tells old (added (event.Object n (object.Get offset size)) told) new
-get_once_tells old new n offset size told (inl h) = subst (λ r. Tells old (added (event.Object n (object.Get offset size)) r) new) (sym h.told_is) (same old new h.same)
-get_once_tells old new n offset size told (inr h) = subst (λ r. Tells old (added (event.Object n (object.Get offset size)) r) new) (sym h.told_is) (get_adds old new n offset size h.outcome h.gets)
+get_once_tells : (old new : SeatState) (n offset size : ℕ) (told : ServiceReply) → GetsOnce old n offset size told new
+    → Tells old (added (event.Object n (object.Get offset size)) told) new
+get_once_tells old new n offset size told (inl h) =
+    subst (λ r. Tells old (added (event.Object n (object.Get offset size)) r) new) (sym h.told_is) (same old new h.same)
+get_once_tells old new n offset size told (inr h) =
+    subst (λ r. Tells old (added (event.Object n (object.Get offset size)) r) new) (sym h.told_is) (get_adds old new n offset size h.outcome h.gets)
 
 -- ---- tries
 
@@ -117,19 +122,22 @@ busy_tells : (once : SeatState → ServiceReply → SeatState → Type 0) (n : �
 busy_tells once n adds zero old new h = same old new h
 busy_tells once n adds (suc k) old new h = after old h.0 new [] (busy_tells once n adds k old h.0 h.1) (adds h.0 new h.2)
 
-put_tells : (old new : SeatState) (n offset : ℕ) (bytes : List ℕ) (told : ServiceReply) → ServesPut old n offset bytes told new → Tells old (added (event.Object n (object.Put offset bytes)) told) new
+put_tells : (old new : SeatState) (n offset : ℕ) (bytes : List ℕ) (told : ServiceReply) → ServesPut old n offset bytes told new
+    → Tells old (added (event.Object n (object.Put offset bytes)) told) new
 put_tells old new n offset bytes told h = after old h.mid new (added (event.Object n (object.Put offset bytes)) told)
     (busy_tells (λ s r t. PutsOnce s n offset bytes r t) n (λ s t b. put_once_tells s t n offset bytes (Busy n) b) h.tries old h.mid h.busy)
     (put_once_tells h.mid new n offset bytes told h.last)
 
-get_tells : (old new : SeatState) (n offset size : ℕ) (told : ServiceReply) → ServesGet old n offset size told new → Tells old (added (event.Object n (object.Get offset size)) told) new
+get_tells : (old new : SeatState) (n offset size : ℕ) (told : ServiceReply) → ServesGet old n offset size told new
+    → Tells old (added (event.Object n (object.Get offset size)) told) new
 get_tells old new n offset size told h = after old h.mid new (added (event.Object n (object.Get offset size)) told)
     (busy_tells (λ s r t. GetsOnce s n offset size r t) n (λ s t b. get_once_tells s t n offset size (Busy n) b) h.tries old h.mid h.busy)
     (get_once_tells h.mid new n offset size told h.last)
 
 -- ---- commands
 
-object_tells : (old new : SeatState) (n : ℕ) (c : ObjectCommand) (told : ServiceReply) → ServesObject old n c told new → Tells old (added (event.Object n c) told) new
+object_tells : (old new : SeatState) (n : ℕ) (c : ObjectCommand) (told : ServiceReply) → ServesObject old n c told new
+    → Tells old (added (event.Object n c) told) new
 object_tells old new n (object.Put offset bytes) told h = put_tells old new n offset bytes told h
 object_tells old new n (object.Get offset size) told h = get_tells old new n offset size told h
 object_tells old new n object.Free told h = same old new h.1
@@ -152,12 +160,14 @@ serves_tells opening starts lent old new (event.Machine m c) told h = machine_te
 
 -- ---- one after the other
 
-turn_tells : (opening : List (List ℕ)) (starts : List MachineState) (lent : ℕ → Bool) (old new : SeatState) (c : Event) (told : ServiceReply) → ServesTurn opening starts lent old c told new → Tells old (added c told) new
+turn_tells : (opening : List (List ℕ)) (starts : List MachineState) (lent : ℕ → Bool) (old new : SeatState) (c : Event) (told : ServiceReply)
+    → ServesTurn opening starts lent old c told new → Tells old (added c told) new
 turn_tells opening starts lent old new c told h = subst (λ (s : SeatState). Tells old (added c told) s) (sym h.2) (
     let t = serves_tells opening starts lent old h.0 c told h.1 in
     record { more = t.more; entries = t.entries; tells = t.tells; stamps = t.stamps; actor = t.actor })
 
-runs_tell : (opening : List (List ℕ)) (starts : List MachineState) (lent : ℕ → Bool) (old new : SeatState) (cs : List Event) (rs : List ServiceReply) → Runs (ServesTurn opening starts lent) old cs rs new → TellsEntries old cs rs new
+runs_tell : (opening : List (List ℕ)) (starts : List MachineState) (lent : ℕ → Bool) (old new : SeatState) (cs : List Event) (rs : List ServiceReply)
+    → Runs (ServesTurn opening starts lent) old cs rs new → TellsEntries old cs rs new
 runs_tell opening starts lent old new [] [] h =
     let t = same old new h in
     record { more = t.more; entries = t.entries; tells = t.tells; stamps = t.stamps; actor = t.actor }
@@ -169,7 +179,8 @@ runs_tell opening starts lent old new (c ∷ cs) (r ∷ rs) h =
       more = t.more ++ u.more;
       entries = u.entries ∙ ap (λ l. l ++ u.more) t.entries ∙ append_assoc old.view.entries t.more u.more;
       tells = map-append own_entry t.more u.more ∙ ap (λ l. l ++ map own_entry u.more) t.tells ∙ ap (λ l. added c r ++ l) u.tells;
-      stamps = rise_join old.view.actor old.stamp mid.stamp new.stamp t.more u.more t.stamps (subst (λ a. RiseTo a mid.stamp u.more new.stamp) t.actor u.stamps);
+      stamps = rise_join old.view.actor old.stamp mid.stamp new.stamp t.more u.more t.stamps
+          (subst (λ a. RiseTo a mid.stamp u.more new.stamp) t.actor u.stamps);
       actor = u.actor ∙ t.actor;
     }
 runs_tell opening starts lent old new [] (r ∷ rs) h = absurd h

@@ -29,11 +29,13 @@ get_busy n told fetched.Outside e b = absurd (unlike told _ e b refl)
 get_busy n told fetched.Worn e b = absurd (unlike told _ e b refl)
 
 -- one try more that was answered `busy`
-one_more : (once : SeatState → ServiceReply → SeatState → Type 0) (n k : ℕ) (old mid new : SeatState) → FoundBusy once n k old mid → once mid (Busy n) new → FoundBusy once n (k + 1) old new
+one_more : (once : SeatState → ServiceReply → SeatState → Type 0) (n k : ℕ) (old mid new : SeatState) → FoundBusy once n k old mid → once mid (Busy n) new
+    → FoundBusy once n (k + 1) old new
 one_more once n k old mid new h t = let e : k + 1 ≡ suc k = omega arith in subst (λ j. FoundBusy once n j old new) (sym e) (mid, h, t)
 
 pub put_again : (n offset : ℕ) (bytes : List ℕ) (k : ℕ) (old mid new : SeatState) (told : ServiceReply) → is_busy told ≡ true
-    → FoundBusy (λ s r t. PutsOnce s n offset bytes r t) n k old mid → PutsOnce mid n offset bytes told new → FoundBusy (λ s r t. PutsOnce s n offset bytes r t) n (k + 1) old new
+    → FoundBusy (λ s r t. PutsOnce s n offset bytes r t) n k old mid → PutsOnce mid n offset bytes told new
+    → FoundBusy (λ s r t. PutsOnce s n offset bytes r t) n (k + 1) old new
 put_again n offset bytes k old mid new told b h t = one_more (λ s r t. PutsOnce s n offset bytes r t) n k old mid new h
     (subst (λ r. PutsOnce mid n offset bytes r new) (put_busy n told t.outcome t.told_is b) t)
 
@@ -42,14 +44,16 @@ get_named n offset size old new told b (inl t) = absurd (unlike told _ t.told_is
 get_named n offset size old new told b (inr t) = get_busy n told t.outcome t.told_is b
 
 pub get_again : (n offset size k : ℕ) (old mid new : SeatState) (told : ServiceReply) → is_busy told ≡ true
-    → FoundBusy (λ s r t. GetsOnce s n offset size r t) n k old mid → GetsOnce mid n offset size told new → FoundBusy (λ s r t. GetsOnce s n offset size r t) n (k + 1) old new
+    → FoundBusy (λ s r t. GetsOnce s n offset size r t) n k old mid → GetsOnce mid n offset size told new
+    → FoundBusy (λ s r t. GetsOnce s n offset size r t) n (k + 1) old new
 get_again n offset size k old mid new told b h t = one_more (λ s r t. GetsOnce s n offset size r t) n k old mid new h
     (subst (λ r. GetsOnce mid n offset size r new) (get_named n offset size mid new told b t) t)
 
 -- the last try is answered otherwise
 pub tried : (once : SeatState → ServiceReply → SeatState → Type 0) (n k : ℕ) (old mid new : SeatState) (told : ServiceReply)
     → FoundBusy once n k old mid → once mid told new → is_busy told ≡ false → k ≤ retry_limit → InTries once n old told new
-tried once n k old mid new told h t b few = record { tries = k; mid = mid; busy = h; last = t; few = few; all = λ e. let f : true ≡ false = sym e ∙ b in absurd (cc) }
+tried once n k old mid new told h t b few =
+    record { tries = k; mid = mid; busy = h; last = t; few = few; all = λ e. let f : true ≡ false = sym e ∙ b in absurd (cc) }
 
 -- it is the last of all
 pub tried_all : (once : SeatState → ServiceReply → SeatState → Type 0) (n k : ℕ) (old mid new : SeatState) (told : ServiceReply)

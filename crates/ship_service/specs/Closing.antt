@@ -1,5 +1,6 @@
 -- What the service leaves when it closes.
-use Rattle.std.specs.Prelude.{◌≡◌, ℕ, ◌<◌, ◌==◌, if◌then◌else◌, Bool, true, List, ◌++◌, length, map, slice_get, slice_index_or, Option, Some, None, Result, Vec, IfOk}
+use Rattle.std.specs.Prelude.{◌≡◌, ℕ, ◌<◌, ◌==◌, if◌then◌else◌, Bool, true, List, ◌++◌, length, map, slice_get, slice_index_or, Option, Some, None, Result, Vec}
+use Rattle.std.specs.Prelude.{IfOk}
 use Rattle.std.specs.declared.alloc.Global.{Global}
 use Rattle.atomic_table.specs.Seated.{TableId}
 use Rattle.far_store.specs.declared.fault.StoreFault.{StoreFault}
@@ -65,7 +66,8 @@ pub record KeepsNumbers {X : Type 0} (opening ends : List (List ℕ)) (state : C
   pub parcels_are : length state.parcels ≡ length opening
 
 -- What the service of the table of this name leaves, by what its mover and the seats of its connections were then.
-pub record Settles {X : Type 0} (returns : Bool) (table : TableId) (opening : List (List ℕ)) (starts : List MachineState) (mover : MoverState X) (connections : List ActorSeat) (state : ClosedState X) : Type 0 where
+pub record Settles {X : Type 0} (returns : Bool) (table : TableId) (opening : List (List ℕ)) (starts : List MachineState) (mover : MoverState X)
+    (connections : List ActorSeat) (state : ClosedState X) : Type 0 where
   -- the seats of the cells, one for each machine that there may be
   pub seats : List ActorSeat
   pub all : length seats ≡ machine_limit
@@ -94,7 +96,8 @@ GivesParcel returns parcel given = (bytes : List ℕ) × (parcel ≡ Some bytes)
 
 -- A machine is the replay, from its start, of what its actor has in the list: that is one of these parts, whose marks say which
 -- objects' stamps had run out.
-pub record ReplaysShare (opening : List (List ℕ)) (starts : List MachineState) (parts : List Part) (one : List SharedEntry) (number : ℕ) (r : RunningState) : Type 0 where
+pub record ReplaysShare (opening : List (List ℕ)) (starts : List MachineState) (parts : List Part) (one : List SharedEntry) (number : ℕ)
+    (r : RunningState) : Type 0 where
   pub share : Part
   pub there : Has parts share
   pub actor : share.actor ≡ number
@@ -105,5 +108,7 @@ pub record ReplaysShare (opening : List (List ℕ)) (starts : List MachineState)
 
 -- Each machine that is left is the replay of its own share of the one list.
 abbrev pub MachinesReplayTheList : Type 0 → Bool → TableId → List (List ℕ) → List MachineState → Type 0
-MachinesReplayTheList X returns table opening starts = (mover : MoverState X) (connections : List ActorSeat) (state : ClosedState X) → (s : Settles returns table opening starts mover connections state)
-    → (c : ClosedCell) (r : RunningState) → Has state.cells c → c.running ≡ Some r → ReplaysShare opening starts (map part_of (s.seats ++ connections)) s.list.one c.number r
+MachinesReplayTheList X returns table opening starts = (mover : MoverState X) (connections : List ActorSeat) (state : ClosedState X)
+    → (s : Settles returns table opening starts mover connections state)
+    → (c : ClosedCell) (r : RunningState) → Has state.cells c → c.running ≡ Some r
+    → ReplaysShare opening starts (map part_of (s.seats ++ connections)) s.list.one c.number r

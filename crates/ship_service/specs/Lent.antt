@@ -46,7 +46,8 @@ AnswersCell (Debug command) before m told after = (outcome : Debugged) × (told 
     × ((mid : CellState) × DebugsCell command before outcome mid × Requeues command outcome mid after)
 
 -- The cell has a machine, which answers; then the connection's seat learns the stamp of the machine's.
-pub record FindsMachine (command : MachineCommand) (old : SeatState) (before : CellState) (m : ℕ) (told : Reply) (new : SeatState) (after : CellState) : Type 0 where
+pub record FindsMachine (command : MachineCommand) (old : SeatState) (before : CellState) (m : ℕ) (told : Reply) (new : SeatState)
+    (after : CellState) : Type 0 where
   pub answers : AnswersCell command (informed command old before) m told after
   pub learns : new ≡ learning after.seat.stamp old
 
@@ -67,9 +68,11 @@ AnswersLent command old before m told new after = MissesMachine old before told 
 abbrev pub shipped_at : ℕ → List ℕ → Start → RunningState
 shipped_at m code s = record { debuggee = debuggee_start m code s; shipped = Some (granted_start m code s.fuel s.arguments s.grants) }
 
--- `ship` on what the lock of a cell without a machine lends: the machine that comes is of the cell's number, and is put into the queue. That memory ran out may also be answered of code that isn't valid, in place of the refusal.
+-- `ship` on what the lock of a cell without a machine lends: the machine that comes is of the cell's number, and is put into
+-- the queue. That memory ran out may also be answered of code that isn't valid, in place of the refusal.
 abbrev pub ShipsCell : Start → List ℕ → CellState → Reply → CellState → Type 0
-ShipsCell start code before (reply.Shipped m) after = (m ≡ before.number) × ValidCode code × QueuesCell (record before { running = Some (shipped_at before.number code start) }) after
+ShipsCell start code before (reply.Shipped m) after = (m ≡ before.number) × ValidCode code
+    × QueuesCell (record before { running = Some (shipped_at before.number code start) }) after
 ShipsCell start code before (reply.Refused e) after = Refuses code e.slot e.why × (e.why ≢ why.Memory) × (after ≡ before)
 ShipsCell start code before reply.NoMemory after = HasCodeSize code × (after ≡ before)
 ShipsCell start code before _ after = ⊥

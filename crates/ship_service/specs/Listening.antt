@@ -52,7 +52,8 @@ SaysAs tells before after (Ok ended) = (port : ℕ) × (text : List ℕ) × tell
 SaysAs tells before after (Err (NotHere n)) = Keeps before after
 SaysAs tells before after (Err Memory) = Keeps before after ⊎ ((port : ℕ) × Appends before after (listening_line port))
 SaysAs tells before after (Err Net) = Keeps before after ⊎ ((port : ℕ) × Appends before after (listening_line port))
-SaysAs tells before after (Err Write) = (port : ℕ) × (AppendsPart before after (listening_line port) ⊎ ((text : List ℕ) × tells text × AppendsPart before after (listening_line port ++ text)))
+SaysAs tells before after (Err Write) = (port : ℕ)
+    × (AppendsPart before after (listening_line port) ⊎ ((text : List ℕ) × tells text × AppendsPart before after (listening_line port ++ text)))
 
 -- it didn't end because of an object that isn't here
 abbrev pub OpensAll : Result ⊤ ListenFault → Type 0

@@ -39,7 +39,8 @@ pub record IsCell (opening : List (List ℕ)) (starts : List MachineState) (numb
 -- ---- machines
 
 -- A command on machine m, on what the lock of its cell lends.
-pub record OnCell (opening : List (List ℕ)) (starts : List MachineState) (old : SeatState) (m : ℕ) (command : MachineCommand) (told : ServiceReply) (new : SeatState) : Type 0 where
+pub record OnCell (opening : List (List ℕ)) (starts : List MachineState) (old : SeatState) (m : ℕ) (command : MachineCommand) (told : ServiceReply)
+    (new : SeatState) : Type 0 where
   pub before : CellState
   pub after : CellState
   pub said : Reply
@@ -64,7 +65,8 @@ pub record NoRoom (lent : ℕ → Bool) (told : ServiceReply) : Type 0 where
   pub told_is : told ≡ Plain reply.Full
 
 -- The code comes into a cell without a machine: the cells of the lesser numbers were each lent with one.
-pub record IntoCell (opening : List (List ℕ)) (starts : List MachineState) (lent : ℕ → Bool) (start : Start) (code : List ℕ) (told : ServiceReply) : Type 0 where
+pub record IntoCell (opening : List (List ℕ)) (starts : List MachineState) (lent : ℕ
+    → Bool) (start : Start) (code : List ℕ) (told : ServiceReply) : Type 0 where
   pub lesser : ℕ
   pub before : CellState
   pub after : CellState
@@ -122,7 +124,8 @@ service opening starts lent = record { State = SeatState; Reply = ServiceReply; 
 
 -- Of a machine that was there when the table was opened no command is answered that there is none.
 abbrev pub OpenedMachinesStay : List (List ℕ) → List MachineState → Type 0
-OpenedMachinesStay opening starts = (old new : SeatState) (m : ℕ) (command : MachineCommand) (start : MachineState) → 1 ≤ m → m ≤ machine_limit → opened_as starts m ≡ Some start
+OpenedMachinesStay opening starts = (old new : SeatState) (m : ℕ) (command : MachineCommand) (start : MachineState) → 1 ≤ m → m ≤ machine_limit
+    → opened_as starts m ≡ Some start
     → ServesMachine opening starts old m command (Plain reply.Missing) new → ⊥
 
 -- A machine is seen up to a stamp: it is the replay, from its start, of entries of which the last stands at that stamp or below.
@@ -132,5 +135,6 @@ pub record IsSeen (opening : List (List ℕ)) (starts : List MachineState) (numb
 
 -- Whatever a command on a machine is answered, the connection has seen the machine as the command left it.
 abbrev pub AnsweredMachinesAreSeen : List (List ℕ) → List MachineState → Type 0
-AnsweredMachinesAreSeen opening starts = (old new : SeatState) (m : ℕ) (command : MachineCommand) (told : ServiceReply) (c : OnCell opening starts old m command told new) (r : RunningState)
+AnsweredMachinesAreSeen opening starts =
+    (old new : SeatState) (m : ℕ) (command : MachineCommand) (told : ServiceReply) (c : OnCell opening starts old m command told new) (r : RunningState)
     → c.after.running ≡ Some r → IsSeen opening starts m new.stamp c.after.seat r

@@ -45,7 +45,8 @@ pub record TellsEntries (old : SeatState) (commands : List Event) (replies : Lis
 
 -- In a conversation the replies are the entries' answers.
 abbrev pub RepliesAreEntries : List (List ℕ) → List MachineState → (ℕ → Bool) → Type 0
-RepliesAreEntries opening starts lent = (old new : SeatState) (input output rest : List ℕ) (e : Exchange (service opening starts lent) old input output new rest)
+RepliesAreEntries opening starts lent =
+    (old new : SeatState) (input output rest : List ℕ) (e : Exchange (service opening starts lent) old input output new rest)
     → TellsEntries old (flat_map (turn_commands (service opening starts lent)) e.turns) (flat_map (turn_replies (service opening starts lent)) e.turns) new
 
 -- So it is for a line whose reply is written in part.

@@ -64,7 +64,8 @@ fn lend_empty<'a, F: FarStore, K: TableName, R: Wait>(
     rt: &R,
     agent: &'a Agent<F, K>,
 ) -> Result<(MutexGuard<'a, Locked<K>>, Occupied<K>), Occupied<K>>
-    ensures found { IfOk result (λ r. (r.1 < machine_limit) × IsCell K.opening K.starts (r.1 + 1) (mutex_guard_value r.0) × ((mutex_guard_value r.0).running ≡ None)) }
+    ensures found { IfOk result (λ r. (r.1 < machine_limit) × IsCell K.opening K.starts (r.1 + 1) (mutex_guard_value r.0)
+        × ((mutex_guard_value r.0).running ≡ None)) }
     ensures none { IfErr result (λ occupied. occupied ≡ machine_limit) }
 {
     let mut occupied = agent.pool().occupied(rt, MACHINE_LIMIT);

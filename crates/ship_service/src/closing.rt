@@ -48,7 +48,13 @@ impl<F: FarStore> Model for Closed<F> {
 
     ghost Value = { ClosedState F };
 
-    ghost view = { λ c. record { lengths = c.lengths.items; objects = c.objects.items; cells = c.cells.items; store = c.store; parcels = map (parcel_bytes F.bytes_in) c.parcels.items } };
+    ghost view = { λ c. record {
+      lengths = c.lengths.items;
+      objects = c.objects.items;
+      cells = c.cells.items;
+      store = c.store;
+      parcels = map (parcel_bytes F.bytes_in) c.parcels.items;
+    } };
 }
 
 impl<F: FarStore> Closed<F> {

@@ -97,11 +97,14 @@ pub fn serve<F: FarStore, K: TableName, R: Wait, I: Read, O: Write>(
     connection: &mut Connection<K>,
 ) -> Result<(), DriveFault>
     ensures ok { OnOk result (IfSome (I.remaining reader.old) (λ input.
-        AnswersAll (service K.opening K.starts K.lent) (seat_state connection.old.post.seat) input (O.contents writer.old) (O.contents writer.new) (seat_state connection.new.post.seat))) }
+        AnswersAll (service K.opening K.starts K.lent) (seat_state connection.old.post.seat) input (O.contents writer.old) (O.contents writer.new)
+        (seat_state connection.new.post.seat))) }
     ensures read { IsErrOf result DriveFault.Read → IfSome (I.remaining reader.old) (λ input.
-        StopsReading (service K.opening K.starts K.lent) (seat_state connection.old.post.seat) input (O.contents writer.old) (O.contents writer.new) (seat_state connection.new.post.seat) connection.new.console (I.remaining reader.new)) }
+        StopsReading (service K.opening K.starts K.lent) (seat_state connection.old.post.seat) input (O.contents writer.old) (O.contents writer.new)
+        (seat_state connection.new.post.seat) connection.new.console (I.remaining reader.new)) }
     ensures write { IsErrOf result DriveFault.Write → IfSome (I.remaining reader.old) (λ input.
-        StopsWriting (service K.opening K.starts K.lent) (seat_state connection.old.post.seat) input (O.contents writer.old) (O.contents writer.new) (seat_state connection.new.post.seat) (I.remaining reader.new)) }
+        StopsWriting (service K.opening K.starts K.lent) (seat_state connection.old.post.seat) input (O.contents writer.old) (O.contents writer.new)
+        (seat_state connection.new.post.seat) (I.remaining reader.new)) }
 {
     connection.console.clear();
     let service = Service { rt, agent };

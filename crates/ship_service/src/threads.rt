@@ -295,7 +295,8 @@ fn unlocked<K: TableName>(
 /// Serves as many clients as are planned, one after another as they come and each on a thread of its own, beside workers and
 /// mover, until all have ended. Where a client can't be accepted or a thread can't be made, those that are there are cut off. A move
 /// that still waits for the far store then is cut off by `far`, which is its stream, if it has one.
-/// The journal is told of clients and moves. All threads have ended then, so agent and mover can be closed, with all connections, which come back. Out of memory
+/// The journal is told of clients and moves. All threads have ended then, so agent and mover can be closed, with all
+/// connections, which come back. Out of memory
 /// is an error before the first thread or after the last, and drops them.
 pub fn serve_all<
     F: FarStore + Send + Sync,

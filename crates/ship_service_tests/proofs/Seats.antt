@@ -23,7 +23,8 @@ fresh_first : (v : View) (xs ys : List ActorSeat) → AreFresh v (xs ++ ys) → 
 fresh_first v xs ys h k a at = h k a (at_longer xs ys k a at)
 
 -- what is left without the last seat, and that seat
-pub seats_left : (returns : Bool) (shared : SharedTable) (old xs ys : List ActorSeat) → old ≡ xs ++ ys → AreNewSeats returns shared old → AreNewSeats returns shared xs × All (IsActorOf shared) ys
+pub seats_left : (returns : Bool) (shared : SharedTable) (old xs ys : List ActorSeat) → old ≡ xs ++ ys → AreNewSeats returns shared old
+    → AreNewSeats returns shared xs × All (IsActorOf shared) ys
 seats_left returns shared old xs ys e h =
     let k : AreNewSeats returns shared (xs ++ ys) = subst (AreNewSeats returns shared) e h in
     ((fresh_first (dealer returns (table_opening shared)) xs ys k.0, all_first (IsActorOf shared) xs ys k.1), all_rest (IsActorOf shared) xs ys k.1)

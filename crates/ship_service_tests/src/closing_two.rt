@@ -144,7 +144,8 @@ fn close_after<
 where
     F::Parcel: Send,
     requires table { IsTableOf K.table K.opening parts.shared.table }
-    requires seats { AreFresh (dealer F.RETURNS K.opening) parts.seats.items × All (IsActorOf parts.shared.table) parts.seats.items × (length parts.seats.items ≡ 48) }
+    requires seats { AreFresh (dealer F.RETURNS K.opening) parts.seats.items × All (IsActorOf parts.shared.table) parts.seats.items
+        × (length parts.seats.items ≡ 48) }
     requires machines { (K.starts ≡ machines_of parts.machines.items) × (length parts.machines.items ≤ 48) }
     requires lent { K.lent ≡ each_lent }
     requires connection { IsSeatOf K.table K.opening parts.connection }

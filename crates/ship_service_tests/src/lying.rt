@@ -183,7 +183,8 @@ fn faults_after<F: FarStore + Drop, K: TableName, R: Wait + Abort>(
     acts: &[Act],
 ) -> Result<u64, AllocError>
     requires table { IsTableOf K.table K.opening parts.shared.table }
-    requires seats { AreFresh (dealer F.RETURNS K.opening) parts.seats.items × All (IsActorOf parts.shared.table) parts.seats.items × (length parts.seats.items ≡ 48) }
+    requires seats { AreFresh (dealer F.RETURNS K.opening) parts.seats.items × All (IsActorOf parts.shared.table) parts.seats.items
+        × (length parts.seats.items ≡ 48) }
     requires machines { (K.starts ≡ machines_of parts.machines.items) × (length parts.machines.items ≤ 48) }
     requires lent { K.lent ≡ each_lent }
     requires connection { IsSeatOf K.table K.opening parts.connection }

@@ -203,7 +203,8 @@ fn talks<F: FarStore, K: TableName, R: Wait + Abort>(
     lines: [Lines; 2],
 ) -> Result<Left, AllocError>
     requires table { IsTableOf K.table K.opening parts.shared.table }
-    requires seats { AreFresh (dealer F.RETURNS K.opening) parts.seats.items × All (IsActorOf parts.shared.table) parts.seats.items × (length parts.seats.items ≡ 48) }
+    requires seats { AreFresh (dealer F.RETURNS K.opening) parts.seats.items × All (IsActorOf parts.shared.table) parts.seats.items
+        × (length parts.seats.items ≡ 48) }
     requires machines { (K.starts ≡ machines_of parts.machines.items) × (length parts.machines.items ≤ 48) }
     requires lent { K.lent ≡ each_lent }
     requires connections { IsSeatOf K.table K.opening parts.first × IsSeatOf K.table K.opening parts.second }

@@ -8,7 +8,8 @@ range_of_part : (a k n : ℕ) (xs ys : List ℕ) → a ≤ length xs → n ≤ l
 range_of_part a k n xs ys within fits =
     let same : (a + n) - a ≡ n = omega arith in
     let after = post_of a k xs in
-    ap (take ((a + n) - a)) (drop_at (take a xs) (ys ++ after) a (length-take-le a xs within)) ∙ ap (λ m. take m (ys ++ after)) same ∙ take-append-le n ys after fits
+    ap (take ((a + n) - a)) (drop_at (take a xs) (ys ++ after) a (length-take-le a xs within)) ∙ ap (λ m. take m (ys ++ after)) same
+    ∙ take-append-le n ys after fits
 
 front_and_range : (a b : ℕ) (old new : List ℕ) → a ≤ b → take a new ≡ take a old → take a old ++ slice_range new a b ≡ take b new
 front_and_range a b old new h front =

@@ -1,4 +1,4 @@
-//! What can go wrong.
+//! Faults of a stream, without the system's reason: no clause could say which it is.
 
 use thiserror::Error;
 

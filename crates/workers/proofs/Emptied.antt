@@ -7,7 +7,8 @@ use Rattle.workers.specs.Closing.{WasCell, WereCells}
 use Rattle.workers.specs.declared.closing.ClosedCell.{ClosedCell}
 
 -- one more
-pub one_more : (table : TableId) (opening : List (List ℕ)) (starts : List MachineState) (ss : List ActorSeat) (cs : List ClosedCell) (s : ActorSeat) (c : ClosedCell)
+pub one_more : (table : TableId) (opening : List (List ℕ)) (starts : List MachineState) (ss : List ActorSeat) (cs : List ClosedCell)
+    (s : ActorSeat) (c : ClosedCell)
     → WereCells table opening starts ss cs → WasCell table opening starts s c → WereCells table opening starts (ss ++ s ∷ []) (cs ++ c ∷ [])
 one_more table opening starts [] [] s c w h = (h, tt)
 one_more table opening starts [] (d ∷ cs) s c w h = absurd w

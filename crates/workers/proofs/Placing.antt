@@ -1,5 +1,6 @@
 -- What the mover knows after one object went there and back, and its parcels.
-use Rattle.std.proofs.Common.{◌≡◌, true, false, ℕ, zero, suc, ◌+◌, ◌<◌, ◌≢◌, List, [], ◌∷◌, ◌++◌, length, map, set, get_or, sym, refl, ap, ◌∙◌, subst, arith, length-set, get_or-set_other, get_or-set_same, Some, None}
+use Rattle.std.proofs.Common.{◌≡◌, true, false, ℕ, zero, suc, ◌+◌, ◌<◌, ◌≢◌, List, [], ◌∷◌, ◌++◌, length, map, set, get_or, sym, refl, ap, ◌∙◌, subst, arith}
+use Rattle.std.proofs.Common.{length-set, get_or-set_other, get_or-set_same, Some, None}
 use Rattle.std.proofs.lemmas.List.{set-set, set-get_or, get_or-map, map-set, length-map}
 use Rattle.std.specs.Prelude.{Bool, Option, slice_index_or}
 use mathlib.Core.Logic.{dite}
@@ -40,7 +41,8 @@ back : (v : View) (n : ℕ) (p : Whereabouts) → place_of v n ≡ p → placed 
 back v n p e = ap (λ l. record v { out = l }) (ap (set v.out n) (sym e) ∙ set-get_or v.out n Here)
 
 -- taken, and sent
-pub went : (v : View) (n : ℕ) (bytes : List ℕ) → n < length v.out → placed n (sent (place_of (placed n (Moving bytes) v) n)) (placed n (Moving bytes) v) ≡ placed n (Far bytes) v
+pub went : (v : View) (n : ℕ) (bytes : List ℕ) → n < length v.out
+    → placed n (sent (place_of (placed n (Moving bytes) v) n)) (placed n (Moving bytes) v) ≡ placed n (Far bytes) v
 went v n bytes wide = ap (λ p. placed n (sent p) (placed n (Moving bytes) v)) (now_here v n (Moving bytes) wide) ∙ twice v n (Moving bytes) (Far bytes)
 
 -- taken, and put home
@@ -52,7 +54,8 @@ pub came : (v : View) (n : ℕ) → placed n Here (placed n (called (place_of v 
 came v n = twice v n (called (place_of v n)) Here
 
 -- called, and sent again
-pub kept_away : (v : View) (n : ℕ) (bytes : List ℕ) → n < length v.out → place_of v n ≡ Far bytes → placed n (sent (place_of (placed n (called (place_of v n)) v) n)) (placed n (called (place_of v n)) v) ≡ v
+pub kept_away : (v : View) (n : ℕ) (bytes : List ℕ) → n < length v.out → place_of v n ≡ Far bytes
+    → placed n (sent (place_of (placed n (called (place_of v n)) v) n)) (placed n (called (place_of v n)) v) ≡ v
 kept_away v n bytes wide e = ap (λ p. placed n (sent p) (placed n (called (place_of v n)) v)) (now_here v n (called (place_of v n)) wide)
     ∙ twice v n (called (place_of v n)) (sent (called (place_of v n))) ∙ ap (λ p. placed n (sent (called p)) v) e ∙ back v n (Far bytes) e
 
@@ -70,7 +73,8 @@ some_far opening Here bytes k = absurd (cc)
 some_far opening (Moving b) bytes k = absurd k
 some_far opening (Far b) bytes k = (cc, cc)
 
-module _ (v : View) (n : ℕ) (parcels : List (Option (List ℕ))) (wide : n < length v.out) (long : length v.out ≡ length v.opening) (keeps : KeepsParcels v parcels) where
+module _ (v : View) (n : ℕ) (parcels : List (Option (List ℕ))) (wide : n < length v.out) (long : length v.out ≡ length v.opening)
+    (keeps : KeepsParcels v parcels) where
   -- one object is in another place, and its parcel is another one
   moved : (p : Whereabouts) (parcel : Option (List ℕ)) → KeepsParcel (bytes_of v.opening n) p parcel → KeepsParcels (placed n p v) (set parcels n parcel)
   moved p parcel k = (
@@ -81,7 +85,8 @@ module _ (v : View) (n : ℕ) (parcels : List (Option (List ℕ))) (wide : n < l
         let kept = ap (λ i. slice_index_or (set parcels n parcel) i None) here ∙ get_or-set_same parcels n parcel None (omega (arith, wide, long, keeps.0)) in
         let one = subst (λ (q : Option (List ℕ)). KeepsParcel (bytes_of v.opening n) p q) (sym kept) k in
         let two = subst (λ (q : Whereabouts). KeepsParcel (bytes_of v.opening n) q (slice_index_or (set parcels n parcel) m None)) (sym there) one in
-        subst (λ (o : List ℕ). KeepsParcel o (place_of (placed n p v) m) (slice_index_or (set parcels n parcel) m None)) (ap (bytes_of v.opening) (sym here)) two)
+        subst (λ (o : List ℕ). KeepsParcel o (place_of (placed n p v) m) (slice_index_or (set parcels n parcel) m None))
+        (ap (bytes_of v.opening) (sym here)) two)
         (λ ne.
         subst (λ (q : Whereabouts). KeepsParcel (bytes_of v.opening m) q (slice_index_or (set parcels n parcel) m None)) (sym (now_else v n p m ne))
         (subst (λ (q : Option (List ℕ)). KeepsParcel (bytes_of v.opening m) (place_of v m) q) (sym (get_or-set_other parcels n m parcel None ne)) (keeps.1 m))),
@@ -112,7 +117,8 @@ all_here [] n = refl
 all_here (x ∷ xs) zero = refl
 all_here (x ∷ xs) (suc n) = all_here xs n
 
-pub keeps_none : (v : View) (parcels : List (Option (List ℕ))) → v.out ≡ map (λ _. Here) v.opening → length parcels ≡ length v.opening → ((n : ℕ) → slice_index_or parcels n None ≡ None) → KeepsParcels v parcels
+pub keeps_none : (v : View) (parcels : List (Option (List ℕ))) → v.out ≡ map (λ _. Here) v.opening → length parcels ≡ length v.opening
+    → ((n : ℕ) → slice_index_or parcels n None ≡ None) → KeepsParcels v parcels
 keeps_none v parcels here long none = (
   long,
   λ n.
@@ -123,31 +129,39 @@ keeps_none v parcels here long none = (
 -- ---- the parcels themselves
 
 -- the place tells whether a parcel is kept, and of which bytes
-pub parcel_at : {P : Type 0} (bytes_in : P → List ℕ) (items : List (Option P)) (n : ℕ) (d x : Option P) → n < length items → get_or items n d ≡ x → slice_index_or (map (parcel_bytes bytes_in) items) n None ≡ parcel_bytes bytes_in x
+pub parcel_at : {P : Type 0} (bytes_in : P → List ℕ) (items : List (Option P)) (n : ℕ) (d x : Option P) → n < length items → get_or items n d ≡ x
+    → slice_index_or (map (parcel_bytes bytes_in) items) n None ≡ parcel_bytes bytes_in x
 parcel_at bytes_in items n d x h e = get_or-map (parcel_bytes bytes_in) items n d None h ∙ ap (parcel_bytes bytes_in) e
 
-module _ {P : Type 0} (bytes_in : P → List ℕ) (v : View) (n : ℕ) (items : List (Option P)) (wide : n < length v.out) (long : length v.out ≡ length v.opening) (keeps : KeepsParcels v (map (parcel_bytes bytes_in) items)) where
+module _ {P : Type 0} (bytes_in : P → List ℕ) (v : View) (n : ℕ) (items : List (Option P)) (wide : n < length v.out)
+    (long : length v.out ≡ length v.opening) (keeps : KeepsParcels v (map (parcel_bytes bytes_in) items)) where
   -- it went, and its parcel is kept
-  pub kept_far : (parcel : P) → length (bytes_in parcel) ≡ length (bytes_of v.opening n) → KeepsParcels (placed n (Far (bytes_in parcel)) v) (map (parcel_bytes bytes_in) (set items n (Some parcel)))
-  kept_far parcel as_long = subst (λ (l : List (Option (List ℕ))). KeepsParcels (placed n (Far (bytes_in parcel)) v) l) (sym (map-set (parcel_bytes bytes_in) items n (Some parcel)))
+  pub kept_far : (parcel : P) → length (bytes_in parcel) ≡ length (bytes_of v.opening n)
+      → KeepsParcels (placed n (Far (bytes_in parcel)) v) (map (parcel_bytes bytes_in) (set items n (Some parcel)))
+  kept_far parcel as_long = subst (λ (l : List (Option (List ℕ))). KeepsParcels (placed n (Far (bytes_in parcel)) v) l)
+      (sym (map-set (parcel_bytes bytes_in) items n (Some parcel)))
       (keeps_far v n (map (parcel_bytes bytes_in) items) wide long keeps (bytes_in parcel) as_long)
 
   -- it came, and none is kept
   pub kept_here : KeepsParcels (placed n Here v) (map (parcel_bytes bytes_in) (set items n None))
-  kept_here = subst (λ (l : List (Option (List ℕ))). KeepsParcels (placed n Here v) l) (sym (map-set (parcel_bytes bytes_in) items n None)) (keeps_here v n (map (parcel_bytes bytes_in) items) wide long keeps)
+  kept_here = subst (λ (l : List (Option (List ℕ))). KeepsParcels (placed n Here v) l) (sym (map-set (parcel_bytes bytes_in) items n None))
+      (keeps_here v n (map (parcel_bytes bytes_in) items) wide long keeps)
 
   at_n : IsObject v.opening n → n < length items
   at_n o = omega (arith, object_inside v.opening n o, keeps.0, length-map items (parcel_bytes bytes_in))
 
   -- the parcel that is found there is that of the object, which is far
-  pub found : (d : Option P) (parcel : P) → IsObject v.opening n → d ≡ get_or items n d → Some parcel ≡ d → (place_of v n ≡ Far (bytes_in parcel)) × (length (bytes_in parcel) ≡ length (bytes_of v.opening n))
+  pub found : (d : Option P) (parcel : P) → IsObject v.opening n → d ≡ get_or items n d → Some parcel ≡ d
+      → (place_of v n ≡ Far (bytes_in parcel)) × (length (bytes_in parcel) ≡ length (bytes_of v.opening n))
   found d parcel o is some = some_far (bytes_of v.opening n) (place_of v n) (bytes_in parcel)
-      (subst (λ (q : Option (List ℕ)). KeepsParcel (bytes_of v.opening n) (place_of v n) q) (parcel_at bytes_in items n d (Some parcel) (at_n o) (sym is ∙ sym some)) (keeps.1 n))
+      (subst (λ (q : Option (List ℕ)). KeepsParcel (bytes_of v.opening n) (place_of v n) q)
+      (parcel_at bytes_in items n d (Some parcel) (at_n o) (sym is ∙ sym some)) (keeps.1 n))
 
   -- where none is found the object is here
   pub lacks : (d : Option P) → IsObject v.opening n → d ≡ get_or items n d → d ≡ None → place_of v n ≡ Here
   lacks d o is none = none_here (bytes_of v.opening n) (place_of v n)
-      (subst (λ (q : Option (List ℕ)). KeepsParcel (bytes_of v.opening n) (place_of v n) q) (parcel_at bytes_in items n d None (at_n o) (sym is ∙ none)) (keeps.1 n))
+      (subst (λ (q : Option (List ℕ)). KeepsParcel (bytes_of v.opening n) (place_of v n) q)
+      (parcel_at bytes_in items n d None (at_n o) (sym is ∙ none)) (keeps.1 n))
 
 -- ---- requests
 

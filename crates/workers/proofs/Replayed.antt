@@ -1,5 +1,6 @@
 -- A machine stays the replay of its seat's entries, and keeps what it started as.
-use Rattle.std.proofs.Common.{◌≡◌, ℕ, zero, suc, nat_eq, Bool, true, false, ◌||◌, List, [], ◌∷◌, length, map, Option, Some, None, refl, sym, ap, ◌∙◌, subst, arith, inl, inr, ◌⊎◌}
+use Rattle.std.proofs.Common.{◌≡◌, ℕ, zero, suc, nat_eq, Bool, true, false, ◌||◌, List, [], ◌∷◌, length, map, Option, Some, None, refl, sym, ap, ◌∙◌, subst}
+use Rattle.std.proofs.Common.{arith, inl, inr, ◌⊎◌}
 use Rattle.std.specs.List.{list_any}
 use Rattle.std.proofs.lemmas.Bool.Decides.{nat_tests}
 use mathlib.Core.Option.{some, some-injective, some-ne-none}
@@ -36,7 +37,8 @@ use Rattle.debugger.specs.declared.debuggee.Debuggee.{Debuggee}
 use Rattle.debugger.specs.Debuggees.{Walks, AnswersStep, debuggee_start}
 use Rattle.debugger.specs.declared.start.Start.{Start}
 use Rattle.workers.specs.declared.running.Shipment.{Shipment}
-use Rattle.workers.specs.Cells.{SeatState, seat_acts, RunningState, shipped_as, opened_as, StartedAs, lengths_of, is_worn_mark, is_marked_worn, IsReplayed, FitsCell}
+use Rattle.workers.specs.Cells.{SeatState, seat_acts, RunningState, shipped_as, opened_as, StartedAs, lengths_of, is_worn_mark, is_marked_worn, IsReplayed}
+use Rattle.workers.specs.Cells.{FitsCell}
 
 -- ---- marks
 
@@ -50,13 +52,15 @@ same_number n b = grind (arith, nat_tests)
 -- a mark that stands there is found
 pub marked : (marks : List Mark) (n found : ℕ) → Has marks (Worn n found) → is_marked_worn marks n ≡ true
 marked [] n found h = absurd (some-ne-none (Worn n found) (sym h.1))
-marked (m ∷ ms) n found (zero, e) = subst (λ (x : Mark). (is_worn_mark n x || is_marked_worn ms n) ≡ true) (sym (some-injective m (Worn n found) e)) (same_number n (is_marked_worn ms n))
+marked (m ∷ ms) n found (zero, e) = subst (λ (x : Mark). (is_worn_mark n x || is_marked_worn ms n) ≡ true) (sym (some-injective m (Worn n found) e))
+    (same_number n (is_marked_worn ms n))
 marked (m ∷ ms) n found (suc k, e) = or_right (is_worn_mark n m) (is_marked_worn ms n) (marked ms n found (k, e))
 
 -- ---- more may be worn
 
 module _ (lengths : ℕ → ℕ) (worn other : ℕ → Bool) (more : (n : ℕ) → worn n ≡ true → other n ≡ true) where
-  reached_more : (before after : List Entry) (n : ℕ) (op : Op) (r : Reach) → (recorded_memory lengths worn).reaches before n op r after → (recorded_memory lengths other).reaches before n op r after
+  reached_more : (before after : List Entry) (n : ℕ) (op : Op) (r : Reach) → (recorded_memory lengths worn).reaches before n op r after
+      → (recorded_memory lengths other).reaches before n op r after
   reached_more before after n op reach.Outside h = h
   reached_more before after n op (reach.Done x) h = h
   reached_more before after n op reach.Worn h = (h.0, more n h.1, h.2)
@@ -77,17 +81,20 @@ module _ (lengths : ℕ → ℕ) (worn other : ℕ → Bool) (more : (n : ℕ) �
     replays_more k start earlier mid h,
     record {
       answer = a.answer;
-      step = (step_carries true (recorded_memory lengths worn) (recorded_memory lengths other) (λ (l : List Entry). l) (λ (l : List Entry). Unit {0}) carries_more mid m earlier es a.answer tt refl a.step).0;
+      step = (step_carries true (recorded_memory lengths worn) (recorded_memory lengths other) (λ (l : List Entry). l) (λ (l : List Entry). Unit {0})
+          carries_more mid m earlier es a.answer tt refl a.step).0;
       paid = a.paid;
     },
   )
 
-  stops_more : (reached : MachineState) (es : List Entry) (m : MachineState) → (m ≡ reached) ⊎ StopsThere lengths worn reached es m → (m ≡ reached) ⊎ StopsThere lengths other reached es m
+  stops_more : (reached : MachineState) (es : List Entry) (m : MachineState) → (m ≡ reached) ⊎ StopsThere lengths worn reached es m
+      → (m ≡ reached) ⊎ StopsThere lengths other reached es m
   stops_more reached es m (inl e) = inl e
   stops_more reached es m (inr s) = inr (record {
     stop = s.stop;
     other = s.other;
-    step = (step_carries true (recorded_memory lengths worn) (recorded_memory lengths other) (λ (l : List Entry). l) (λ (l : List Entry). Unit {0}) carries_more reached m es es _ tt refl s.step).0;
+    step = (step_carries true (recorded_memory lengths worn) (recorded_memory lengths other) (λ (l : List Entry). l) (λ (l : List Entry). Unit {0})
+        carries_more reached m es es _ tt refl s.step).0;
   })
 
   pub replay_more : (start : MachineState) (es : List Entry) (m : MachineState) → IsReplay lengths worn start es m → IsReplay lengths other start es m
@@ -119,37 +126,49 @@ marked_at (m ∷ ms) n e = cases (is_worn_mark n m) (is_marked_worn ms n) e
 
 -- a step over a seat leaves the machine the replay of the seat's entries
 step_replays : (opening : List (List ℕ)) (start old new : MachineState) (before after : SeatState) (a : Stepped) → before.view.opening ≡ opening
-    → IsReplay (lengths_of opening) (is_marked_worn before.view.marks) start (map own_entry before.view.entries) old → TableStep seat_acts old before a new after
+    → IsReplay (lengths_of opening) (is_marked_worn before.view.marks) start (map own_entry before.view.entries) old
+    → TableStep seat_acts old before a new after
     → IsReplay (lengths_of opening) (is_marked_worn after.view.marks) start (map own_entry after.view.entries) new
 step_replays opening start old new before after a same r t =
     let es : List Entry = map own_entry before.view.entries in
     let long : (n : ℕ) → seat_acts.length_of before n ≡ lengths_of opening n = λ n. ap (λ (o : List (List ℕ)). length (bytes_of o n)) same in
     let p = seat_promises {S = ℕ} (λ (s : SeatState). s.view) (λ (s : SeatState). s.stamp) (λ (s : SeatState). 0) (λ (s : SeatState). 0) in
     let wide = replay_more (lengths_of opening) (is_marked_worn before.view.marks) (λ n. true) (λ n e. refl) start es old r in
-    let first : ReplaysOn seat_acts (lengths_of opening) (λ n. true) start es before new after = stays_replay seat_acts p (lengths_of opening) (λ n. true) start old new es before after a long (λ n w. refl) wide t in
-    let more : (n : ℕ) → is_marked_worn before.view.marks n ≡ true → is_marked_worn after.view.marks n ≡ true = λ n e. let w = first.did.worn n (marked_at before.view.marks n e) in marked after.view.marks n w.0 w.1 in
-    let last : ReplaysOn seat_acts (lengths_of opening) (is_marked_worn after.view.marks) start es before new after = stays_replay seat_acts p (lengths_of opening) (is_marked_worn after.view.marks) start old new es before after a long
-    (λ n w. marked after.view.marks n w.0 w.1) (replay_more (lengths_of opening) (is_marked_worn before.view.marks) (is_marked_worn after.view.marks) more start es old r) t in
+    let first : ReplaysOn seat_acts (lengths_of opening) (λ n. true) start es before new after =
+    stays_replay seat_acts p (lengths_of opening) (λ n. true) start old new es before after a long (λ n w. refl) wide t in
+    let more : (n : ℕ) → is_marked_worn before.view.marks n ≡ true
+    → is_marked_worn after.view.marks n ≡ true = λ n e. let w = first.did.worn n (marked_at before.view.marks n e) in marked after.view.marks n w.0 w.1 in
+    let last : ReplaysOn seat_acts (lengths_of opening) (is_marked_worn after.view.marks) start es before new after =
+    stays_replay seat_acts p (lengths_of opening) (is_marked_worn after.view.marks) start old new es before after a long
+    (λ n w. marked after.view.marks n w.0 w.1)
+    (replay_more (lengths_of opening) (is_marked_worn before.view.marks) (is_marked_worn after.view.marks) more start es old r) t in
     subst (λ (l : List Entry). IsReplay (lengths_of opening) (is_marked_worn after.view.marks) start l new) (sym last.did.adds) last.replay
 
-walk_replays : (opening : List (List ℕ)) (start : MachineState) (way : Way) (old new : Debuggee) (before after : SeatState) (told : StepReply) → before.view.opening ≡ opening
-    → IsReplay (lengths_of opening) (is_marked_worn before.view.marks) start (map own_entry before.view.entries) old.machine → Walks seat_acts way old before told new after
+walk_replays : (opening : List (List ℕ)) (start : MachineState) (way : Way) (old new : Debuggee) (before after : SeatState) (told : StepReply)
+    → before.view.opening ≡ opening
+    → IsReplay (lengths_of opening) (is_marked_worn before.view.marks) start (map own_entry before.view.entries) old.machine
+    → Walks seat_acts way old before told new after
     → IsReplay (lengths_of opening) (is_marked_worn after.view.marks) start (map own_entry after.view.entries) new.machine
 walk_replays opening start way old new before after told same r h =
     subst (λ (d : Debuggee). IsReplay (lengths_of opening) (is_marked_worn after.view.marks) start (map own_entry after.view.entries) d.machine) (sym h.changed)
     (step_replays opening start old.machine h.machine before after h.answer same r h.step)
 
-pub answer_replays : (opening : List (List ℕ)) (start : MachineState) (way : Way) (old new : Debuggee) (before after : SeatState) (told : StepReply) → before.view.opening ≡ opening
-    → IsReplay (lengths_of opening) (is_marked_worn before.view.marks) start (map own_entry before.view.entries) old.machine → AnswersStep seat_acts way old before told new after
+pub answer_replays : (opening : List (List ℕ)) (start : MachineState) (way : Way) (old new : Debuggee) (before after : SeatState) (told : StepReply)
+    → before.view.opening ≡ opening
+    → IsReplay (lengths_of opening) (is_marked_worn before.view.marks) start (map own_entry before.view.entries) old.machine
+    → AnswersStep seat_acts way old before told new after
     → IsReplay (lengths_of opening) (is_marked_worn after.view.marks) start (map own_entry after.view.entries) new.machine
 answer_replays opening start way old new before after (step_reply.Paused slot) same r h =
     subst (λ (s : SeatState). IsReplay (lengths_of opening) (is_marked_worn s.view.marks) start (map own_entry s.view.entries) new.machine) (sym h.same)
-    (subst (λ (d : Debuggee). IsReplay (lengths_of opening) (is_marked_worn before.view.marks) start (map own_entry before.view.entries) d.machine) (sym h.changed) r)
+    (subst (λ (d : Debuggee). IsReplay (lengths_of opening) (is_marked_worn before.view.marks) start (map own_entry before.view.entries) d.machine)
+    (sym h.changed) r)
 answer_replays opening start way old new before after told same r h = walk_replays opening start way old new before after told same r h
 
 -- a cell's machine stays the replay, from the same start
-pub stays_replayed : (opening : List (List ℕ)) (starts : List MachineState) (number : ℕ) (way : Way) (old new : RunningState) (before after : SeatState) (told : StepReply) → before.view.opening ≡ opening
-    → AnswersStep seat_acts way old.debuggee before told new.debuggee after → new.shipped ≡ old.shipped → IsReplayed opening starts number before old → IsReplayed opening starts number after new
+pub stays_replayed : (opening : List (List ℕ)) (starts : List MachineState) (number : ℕ) (way : Way) (old new : RunningState) (before after : SeatState)
+    (told : StepReply) → before.view.opening ≡ opening
+    → AnswersStep seat_acts way old.debuggee before told new.debuggee after → new.shipped ≡ old.shipped → IsReplayed opening starts number before old
+    → IsReplayed opening starts number after new
 stays_replayed opening starts number way old new before after told same h kept r = record {
   start = r.start;
   started = subst (λ (s : Option MachineState). StartedAs starts number s r.start) (sym kept) r.started;
@@ -162,35 +181,47 @@ pub shipped_stays : (m n : MachineState) (b : Option Shipment) → n.number ≡ 
 shipped_stays m n None e f g = refl
 shipped_stays m n (Some b) e f g =
     ap (λ x. Some (granted_start x n.code b.fuel b.arguments n.grants)) e
-    ∙ (ap (λ (x : List ℕ). Some (granted_start m.number x b.fuel b.arguments n.grants)) f ∙ ap (λ (x : GrantState). Some (granted_start m.number m.code b.fuel b.arguments x)) g)
+    ∙ (ap (λ (x : List ℕ). Some (granted_start m.number x b.fuel b.arguments n.grants)) f
+    ∙ ap (λ (x : GrantState). Some (granted_start m.number m.code b.fuel b.arguments x)) g)
 
-walk_keeps : (way : Way) (old new : Debuggee) (before after : SeatState) (told : StepReply) (b : Option Shipment) → IsWholeMachine old.machine → Walks seat_acts way old before told new after
+walk_keeps : (way : Way) (old new : Debuggee) (before after : SeatState) (told : StepReply) (b : Option Shipment) → IsWholeMachine old.machine
+    → Walks seat_acts way old before told new after
     → shipped_as new.machine b ≡ shipped_as old.machine b
 walk_keeps way old new before after told b whole h =
     let w = stays_whole seat_acts old.machine h.machine before after h.answer whole h.step in
-    ap (λ (d : Debuggee). shipped_as d.machine b) h.changed ∙ shipped_stays old.machine h.machine b w.1 w.0 (keeps seat_acts old.machine h.machine before after h.answer h.step)
+    ap (λ (d : Debuggee). shipped_as d.machine b) h.changed
+    ∙ shipped_stays old.machine h.machine b w.1 w.0 (keeps seat_acts old.machine h.machine before after h.answer h.step)
 
-pub answer_keeps : (way : Way) (old new : Debuggee) (before after : SeatState) (told : StepReply) (b : Option Shipment) → IsWholeMachine old.machine → AnswersStep seat_acts way old before told new after
+pub answer_keeps : (way : Way) (old new : Debuggee) (before after : SeatState) (told : StepReply) (b : Option Shipment) → IsWholeMachine old.machine
+    → AnswersStep seat_acts way old before told new after
     → shipped_as new.machine b ≡ shipped_as old.machine b
 answer_keeps way old new before after (step_reply.Paused slot) b whole h = ap (λ (d : Debuggee). shipped_as d.machine b) h.changed
 answer_keeps way old new before after told b whole h = walk_keeps way old new before after told b whole h
 
 -- a machine without entries is the replay at its start
-pub fresh_replayed : (opening : List (List ℕ)) (starts : List MachineState) (number : ℕ) (seat : SeatState) (r : RunningState) → seat.view.entries ≡ [] → StartedAs starts number r.shipped r.debuggee.machine
+pub fresh_replayed : (opening : List (List ℕ)) (starts : List MachineState) (number : ℕ) (seat : SeatState) (r : RunningState) → seat.view.entries ≡ []
+    → StartedAs starts number r.shipped r.debuggee.machine
     → IsReplayed opening starts number seat r
 fresh_replayed opening starts number seat r none started = record {
   start = r.debuggee.machine;
   started = started;
-  replay = subst (λ (l : List SharedEntry). IsReplay (lengths_of opening) (is_marked_worn seat.view.marks) r.debuggee.machine (map own_entry l) r.debuggee.machine) (sym none) (starts_as_replay (lengths_of opening) (is_marked_worn seat.view.marks) r.debuggee.machine);
+  replay = subst (λ (l : List SharedEntry).
+      IsReplay (lengths_of opening) (is_marked_worn seat.view.marks) r.debuggee.machine (map own_entry l) r.debuggee.machine) (sym none)
+      (starts_as_replay (lengths_of opening) (is_marked_worn seat.view.marks) r.debuggee.machine);
 }
 
 -- and a machine that is shipped is one
 pub shipped_replayed : (opening : List (List ℕ)) (starts : List MachineState) (number : ℕ) (seat : SeatState) (r : RunningState) (code : List ℕ) (s : Start)
-    → ValidCode code → length s.arguments ≡ 5 → r ≡ record { debuggee = debuggee_start number code s; shipped = Some (granted_start number code s.fuel s.arguments s.grants) } → seat.view.entries ≡ [] → opened_as starts number ≡ None
+    → ValidCode code → length s.arguments ≡ 5
+    → r ≡ record { debuggee = debuggee_start number code s; shipped = Some (granted_start number code s.fuel s.arguments s.grants) }
+    → seat.view.entries ≡ [] → opened_as starts number ≡ None
     → IsReplayed opening starts number seat r
 shipped_replayed opening starts number seat r code s valid five e none free =
     subst (λ (x : RunningState). IsReplayed opening starts number seat x) (sym e)
-    (fresh_replayed opening starts number seat (record { debuggee = debuggee_start number code s; shipped = Some (granted_start number code s.fuel s.arguments s.grants) }) none
+    (fresh_replayed opening starts number seat (record {
+      debuggee = debuggee_start number code s;
+      shipped = Some (granted_start number code s.fuel s.arguments s.grants);
+    }) none
     (free, refl, record { code = code; fuel = s.fuel; arguments = s.arguments; grants = s.grants; valid = valid; five = five; start_is = refl }))
 
 -- ---- the actor stays
@@ -209,11 +240,14 @@ actor_carries actor = record {
   measured = λ before n. refl;
 }
 
-walk_actor : (way : Way) (old new : Debuggee) (before after : SeatState) (told : StepReply) → Walks seat_acts way old before told new after → after.view.actor ≡ before.view.actor
+walk_actor : (way : Way) (old new : Debuggee) (before after : SeatState) (told : StepReply) → Walks seat_acts way old before told new after
+    → after.view.actor ≡ before.view.actor
 walk_actor way old new before after told h =
-    (step_carries true seat_acts seat_acts (λ (s : SeatState). s) (λ (s : SeatState). s.view.actor ≡ before.view.actor) (actor_carries before.view.actor) old.machine h.machine before after h.answer refl refl h.step).1
+    (step_carries true seat_acts seat_acts (λ (s : SeatState). s) (λ (s : SeatState). s.view.actor ≡ before.view.actor) (actor_carries before.view.actor)
+    old.machine h.machine before after h.answer refl refl h.step).1
 
-pub answer_actor : (way : Way) (old new : Debuggee) (before after : SeatState) (told : StepReply) → AnswersStep seat_acts way old before told new after → after.view.actor ≡ before.view.actor
+pub answer_actor : (way : Way) (old new : Debuggee) (before after : SeatState) (told : StepReply) → AnswersStep seat_acts way old before told new after
+    → after.view.actor ≡ before.view.actor
 answer_actor way old new before after (step_reply.Paused slot) h = ap (λ (s : SeatState). s.view.actor) h.same
 answer_actor way old new before after told h = walk_actor way old new before after told h
 
@@ -221,4 +255,5 @@ answer_actor way old new before after told h = walk_actor way old new before aft
 pub opened_replayed : (opening : List (List ℕ)) (starts : List MachineState) (number : ℕ) (seat : SeatState) (r : RunningState) (d : Debuggee)
     → r ≡ record { debuggee = d; shipped = None } → seat.view.entries ≡ [] → opened_as starts number ≡ Some d.machine → IsReplayed opening starts number seat r
 opened_replayed opening starts number seat r d e none named =
-    subst (λ (x : RunningState). IsReplayed opening starts number seat x) (sym e) (fresh_replayed opening starts number seat (record { debuggee = d; shipped = None }) none named)
+    subst (λ (x : RunningState). IsReplayed opening starts number seat x) (sym e)
+    (fresh_replayed opening starts number seat (record { debuggee = d; shipped = None }) none named)

@@ -21,7 +21,8 @@ pub record IsLent {M S : Type 0} (loan : M → ℕ) (table : M → S) (first m :
   pub loan_is : loan m ≡ loan first
   pub table_is : table m ≡ table first
 
-seat_carries : {M S : Type 0} (view : M → View) (stamp loan : M → ℕ) (table : M → S) (first : M) → Carries true (seat_memory view stamp loan table) seat_acts (seen view stamp) (IsLent loan table first)
+seat_carries : {M S : Type 0} (view : M → View) (stamp loan : M → ℕ) (table : M → S) (first : M)
+    → Carries true (seat_memory view stamp loan table) seat_acts (seen view stamp) (IsLent loan table first)
 seat_carries {M} {S} view stamp loan table first = record {
   reached = λ before after n op r i _ h. ((h.0, refl, refl), record { loan_is = h.1 ∙ i.loan_is; table_is = h.2 ∙ i.table_is });
   closed = λ before after i h. ((h.0, h.1, refl, refl), record { loan_is = h.2 ∙ i.loan_is; table_is = h.3 ∙ i.table_is });
@@ -29,9 +30,11 @@ seat_carries {M} {S} view stamp loan table first = record {
 }
 
 seat_walk : {M S : Type 0} (view : M → View) (stamp loan : M → ℕ) (table : M → S) (way : Way) (old new : Debuggee) (before after : M) (told : StepReply)
-    → Walks (seat_memory view stamp loan table) way old before told new after → Walks seat_acts way old (seen view stamp before) told new (seen view stamp after) × IsLent loan table before after
+    → Walks (seat_memory view stamp loan table) way old before told new after
+    → Walks seat_acts way old (seen view stamp before) told new (seen view stamp after) × IsLent loan table before after
 seat_walk {M} {S} view stamp loan table way old new before after told h =
-    let t = step_carries true (seat_memory view stamp loan table) seat_acts (seen view stamp) (IsLent loan table before) (seat_carries view stamp loan table before)
+    let t = step_carries true (seat_memory view stamp loan table) seat_acts (seen view stamp) (IsLent loan table before)
+    (seat_carries view stamp loan table before)
     old.machine h.machine before after h.answer (record { loan_is = refl; table_is = refl }) refl h.step in (
       record { goes = h.goes; answer = h.answer; machine = h.machine; step = t.0; told = h.told; changed = h.changed },
       t.1,
@@ -39,7 +42,8 @@ seat_walk {M} {S} view stamp loan table way old new before after told h =
 
 -- a step over a seat that is lent is one over what the seat knows
 pub seat_answer : {M S : Type 0} (view : M → View) (stamp loan : M → ℕ) (table : M → S) (way : Way) (old new : Debuggee) (before after : M) (told : StepReply)
-    → AnswersStep (seat_memory view stamp loan table) way old before told new after → AnswersStep seat_acts way old (seen view stamp before) told new (seen view stamp after) × IsLent loan table before after
+    → AnswersStep (seat_memory view stamp loan table) way old before told new after
+    → AnswersStep seat_acts way old (seen view stamp before) told new (seen view stamp after) × IsLent loan table before after
 seat_answer view stamp loan table way old new before after (step_reply.Paused slot) h = (
   record { held = h.held; slot_is = h.slot_is; changed = h.changed; same = ap (seen view stamp) h.same },
   record { loan_is = ap loan h.same; table_is = ap table h.same },
@@ -47,7 +51,8 @@ seat_answer view stamp loan table way old new before after (step_reply.Paused sl
 seat_answer view stamp loan table way old new before after told h = seat_walk view stamp loan table way old new before after told h
 
 seat_steps : {M S : Type 0} (view : M → View) (stamp loan : M → ℕ) (table : M → S) (n : ℕ) (old new : Debuggee) (before after : M)
-    → StepsRan (seat_memory view stamp loan table) n old before new after → StepsRan seat_acts n old (seen view stamp before) new (seen view stamp after) × IsLent loan table before after
+    → StepsRan (seat_memory view stamp loan table) n old before new after
+    → StepsRan seat_acts n old (seen view stamp before) new (seen view stamp after) × IsLent loan table before after
 seat_steps view stamp loan table zero old new before after h = ((h.0, ap (seen view stamp) h.1), record { loan_is = ap loan h.1; table_is = ap table h.1 })
 seat_steps view stamp loan table (suc n) old new before after h =
     let first = seat_answer view stamp loan table way.Step old h.1 before h.2 (step_reply.Ran h.0) h.3 in
@@ -57,8 +62,10 @@ seat_steps view stamp loan table (suc n) old new before after h =
     )
 
 -- and so is a run
-pub seat_run : {M S : Type 0} (view : M → View) (stamp loan : M → ℕ) (table : M → S) (n : ℕ) (old : Debuggee) (before : M) (ran : ℕ) (end : Option StepReply) (new : Debuggee) (after : M)
-    → RunsUpTo (seat_memory view stamp loan table) n old before ran end new after → RunsUpTo seat_acts n old (seen view stamp before) ran end new (seen view stamp after) × IsLent loan table before after
+pub seat_run : {M S : Type 0} (view : M → View) (stamp loan : M → ℕ) (table : M
+    → S) (n : ℕ) (old : Debuggee) (before : M) (ran : ℕ) (end : Option StepReply) (new : Debuggee) (after : M)
+    → RunsUpTo (seat_memory view stamp loan table) n old before ran end new after
+    → RunsUpTo seat_acts n old (seen view stamp before) ran end new (seen view stamp after) × IsLent loan table before after
 seat_run view stamp loan table n old before ran None new after h = let k = seat_steps view stamp loan table n old new before after h.1 in ((h.0, k.0), k.1)
 seat_run view stamp loan table n old before ran (Some told) new after h =
     let steps = seat_steps view stamp loan table ran old h.last before h.mid h.steps in

@@ -1,5 +1,6 @@
 -- What a cell keeps under its lock: a seat of the table, and a machine that is the replay of the seat's entries.
-use Rattle.std.specs.Prelude.{◌≡◌, ◌<◌, ◌≤◌, ℕ, zero, suc, ◌-◌, ◌%◌, ◌==◌, nat_eq, Bool, true, false, List, [], length, map, Option, Some, None, is_some, is_none, not, ◌&&◌, slice_get}
+use Rattle.std.specs.Prelude.{◌≡◌, ◌<◌, ◌≤◌, ℕ, zero, suc, ◌-◌, ◌%◌, ◌==◌, nat_eq, Bool, true, false, List, [], length, map, Option, Some, None, is_some}
+use Rattle.std.specs.Prelude.{is_none, not, ◌&&◌, slice_get}
 use Rattle.std.specs.List.{list_any}
 use Rattle.atomic_table.specs.Seated.{TableId}
 use Rattle.memory.specs.Memories.{Memories}

@@ -1,5 +1,6 @@
 -- What the mover of a table keeps between two requests, and what it does with one.
-use Rattle.std.specs.Prelude.{◌≡◌, ◌≢◌, ◌⊎◌, ℕ, ◌+◌, ◌≤◌, nat_lt, Bool, true, false, if◌then◌else◌, ◌&&◌, List, [], ◌∷◌, length, slice_index_or, Option, Some, None, Ok}
+use Rattle.std.specs.Prelude.{◌≡◌, ◌≢◌, ◌⊎◌, ℕ, ◌+◌, ◌≤◌, nat_lt, Bool, true, false, if◌then◌else◌, ◌&&◌, List, [], ◌∷◌, length, slice_index_or, Option, Some}
+use Rattle.std.specs.Prelude.{None, Ok}
 use Rattle.atomic_table.specs.Seated.{TableId}
 use Rattle.memory.specs.Objects.{bytes_of, object_limit}
 use Rattle.far_store.specs.Stores.{Rises}
@@ -74,7 +75,8 @@ RefusesRequest from v n _ w = ⊥
 -- An object that is here goes to the far store, with bytes as long as the opening ones. Where it is held, as by a scope, or
 -- the far store fails, it stays here.
 abbrev pub LeavesFor : View → ℕ → Moved → View → Type 0
-LeavesFor v n Done w = IsObject v.opening n × (place_of v n ≡ Here) × ((bytes : List ℕ) × (length bytes ≡ length (bytes_of v.opening n)) × (w ≡ placed n (Far bytes) v))
+LeavesFor v n Done w = IsObject v.opening n × (place_of v n ≡ Here)
+    × ((bytes : List ℕ) × (length bytes ≡ length (bytes_of v.opening n)) × (w ≡ placed n (Far bytes) v))
 LeavesFor v n Scoped w = IsObject v.opening n × (place_of v n ≡ Here) × (w ≡ v)
 LeavesFor v n (Fault f) w = IsObject v.opening n × (place_of v n ≡ Here) × (w ≡ v)
 LeavesFor v n moved w = RefusesRequest phases.In v n moved w
@@ -130,7 +132,8 @@ abbrev pub FailsToBring : Bool → ℕ → StoreFault → ℕ → Type 0
 FailsToBring returns old f new = Rises old new ⊎ ((returns ≡ false) × (f ≡ Damaged) × (new ≡ old))
 
 -- The bytes with which it was taken were asked for, once, and what came was not taken. Its parcel is kept.
-pub record BringsNone {X : Type 0} (returns : Bool) (called : X → Call → X → Type 0) (faults : X → ℕ) (v : View) (old : X) (n : ℕ) (f : StoreFault) (new : X) : Type 0 where
+pub record BringsNone {X : Type 0} (returns : Bool) (called : X → Call → X → Type 0) (faults : X
+    → ℕ) (v : View) (old : X) (n : ℕ) (f : StoreFault) (new : X) : Type 0 where
   pub bytes : List ℕ
   pub was_far : place_of v n ≡ Far bytes
   pub asked : AsksInVain called old (Some bytes) (length bytes) f new
@@ -158,4 +161,5 @@ number_after count last = if nat_lt (last + 1) count && nat_lt last object_limit
 abbrev pub LooksAt : {X : Type 0} → (X → Call → X → Type 0) → (X → ℕ) → View → X → ℕ → Looked → View → X → Type 0
 LooksAt called faults v old n looked.NoObject w new = (IsObject v.opening n → ⊥) × (w ≡ v) × (new ≡ old)
 LooksAt called faults v old n looked.Hot w new = IsObject v.opening n × (w ≡ with_cooling n true v) × (new ≡ old)
-LooksAt called faults v old n (looked.Cold moved) w new = IsObject v.opening n × LeavesFor (with_cooling n false v) n moved w × AsksToLeave called faults (with_cooling n false v) old n moved w new
+LooksAt called faults v old n (looked.Cold moved) w new = IsObject v.opening n × LeavesFor (with_cooling n false v) n moved w
+    × AsksToLeave called faults (with_cooling n false v) old n moved w new

@@ -24,7 +24,8 @@ pub record LooksOn {X : Type 0} (called : X → Call → X → Type 0) (faults :
 -- It does so many of these, one after the other, and nothing else.
 abbrev pub InTurn : {X : Type 0} → Bool → (X → Call → X → Type 0) → (X → ℕ) → ℕ → ℕ → MoverState X → MoverState X → Type 0
 InTurn returns called faults count zero old new = new ≡ old
-InTurn {X} returns called faults count (suc n) old new = (mid : MoverState X) × (Serves returns called faults old mid ⊎ LooksOn called faults count old mid) × InTurn returns called faults count n mid new
+InTurn {X} returns called faults count (suc n) old new = (mid : MoverState X) × (Serves returns called faults old mid ⊎ LooksOn called faults count old mid)
+    × InTurn returns called faults count n mid new
 
 -- It does some number of these.
 abbrev pub MovesOn : {X : Type 0} → Bool → (X → Call → X → Type 0) → (X → ℕ) → ℕ → MoverState X → MoverState X → Type 0

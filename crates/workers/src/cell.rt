@@ -5,7 +5,8 @@ ghost use Rattle.debugger.specs.Showing.{Shows};
 ghost use Rattle.machine.specs.MachineState.{granted_start};
 ghost use Rattle.shared_objects.specs.Tables.{table_returns};
 ghost use Rattle.workers.specs.TableNames.{each_lent, AreLent};
-ghost use Rattle.workers.specs.Cells.{IsSeatOf, IsTableOf, seat_state, opened_as, IsStamped, FitsCell, StepsCell, RunsCell, DebugsCell, ShowsCell, SeesAway, may_queue, is_going};
+ghost use Rattle.workers.specs.Cells.{IsSeatOf, IsTableOf, seat_state, opened_as, IsStamped, FitsCell, StepsCell, RunsCell, DebugsCell, ShowsCell, SeesAway};
+ghost use Rattle.workers.specs.Cells.{may_queue, is_going};
 
 use crate::running::Running;
 use crate::table_name::TableName;
@@ -211,7 +212,8 @@ impl<K: TableName> Model for Locked<K> {
 
     ghost view = { λ c. record { number = c.number; seat = seat_state c.seat; running = c.running; queued = c.queued } };
 
-    ghost invariant = { λ c. IsSeatOf K.table K.opening c.seat × (c.seat.seat.me.0.actor ≡ c.number) × FitsCell K.opening K.starts c.number (seat_state c.seat) c.running };
+    ghost invariant = { λ c. IsSeatOf K.table K.opening c.seat × (c.seat.seat.me.0.actor ≡ c.number)
+        × FitsCell K.opening K.starts c.number (seat_state c.seat) c.running };
 }
 
 impl<K: TableName> Locked<K> {
@@ -250,7 +252,13 @@ impl<K: TableName> Locked<K> {
     /// The empty cell gets its machine, at the start of this program.
     pub fn ship(&mut self, program: Program, start: Start)
         requires { self.old.running ≡ None }
-        ensures { self.new ≡ record self.old { running = Some (record { debuggee = debuggee_start self.old.number program start; shipped = Some (granted_start self.old.number program start.fuel start.arguments start.grants) }) } }
+        ensures { self.new ≡ record self.old {
+          running =
+              Some (record {
+                debuggee = debuggee_start self.old.number program start;
+                shipped = Some (granted_start self.old.number program start.fuel start.arguments start.grants);
+              });
+        } }
     {
         self.running = Some(Running::shipped(program, self.number, start));
     }

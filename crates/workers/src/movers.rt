@@ -11,7 +11,8 @@ ghost use Rattle.shared_objects.specs.Rule.{place_of};
 ghost use Rattle.shared_objects.specs.Tables.{IsMoverOf, table_returns};
 ghost use Rattle.shared_objects.specs.declared.view.Whereabouts.TheVariants.{Here, Far};
 ghost use Rattle.workers.specs.Cells.{IsTableOf};
-ghost use Rattle.workers.specs.Moves.{LeavesFor, ReturnsFrom, AsksToLeave, AsksToReturn, FailsToBring, IsMoverSeat, IsMoverView, KeepsParcels, MovesOne, AsksOne, LooksAt, number_after};
+ghost use Rattle.workers.specs.Moves.{LeavesFor, ReturnsFrom, AsksToLeave, AsksToReturn, FailsToBring, IsMoverSeat, IsMoverView, KeepsParcels, MovesOne};
+ghost use Rattle.workers.specs.Moves.{AsksOne, LooksAt, number_after};
 
 use crate::job::Direction;
 use crate::pool::Pool;
@@ -55,7 +56,8 @@ impl<F: FarStore, K: TableName> Model for Mover<F, K> {
 
     ghost view = { λ m. record { view = m.seat.seat.me.0; store = m.store; parcels = map (parcel_bytes F.bytes_in) m.parcels.items; last = m.last } };
 
-    ghost invariant = { λ m. IsMoverSeat K.table K.opening F.RETURNS K.seats m.seat × KeepsParcels m.seat.seat.me.0 (map (parcel_bytes F.bytes_in) m.parcels.items) };
+    ghost invariant = { λ m. IsMoverSeat K.table K.opening F.RETURNS K.seats m.seat
+        × KeepsParcels m.seat.seat.me.0 (map (parcel_bytes F.bytes_in) m.parcels.items) };
 }
 
 /// Takes an object that is here to the far store.
@@ -70,9 +72,11 @@ fn send<F: FarStore>(
     requires here { place_of seat.old.seat.me.0 number ≡ Here }
     ensures mover { IsMoverOf shared.now seat.new }
     ensures sent { MatchResult result
-        (λ parcel. (seat.new.seat.me.0 ≡ placed number (Far (F.bytes_in parcel)) seat.old.seat.me.0) × (length (F.bytes_in parcel) ≡ length (bytes_of seat.old.seat.me.0.opening number))
+        (λ parcel. (seat.new.seat.me.0 ≡ placed number (Far (F.bytes_in parcel)) seat.old.seat.me.0)
+        × (length (F.bytes_in parcel) ≡ length (bytes_of seat.old.seat.me.0.opening number))
         × Calls F.called store.old (Put (F.bytes_in parcel) None ∷ []) store.new × (F.faults_of store.new ≡ F.faults_of store.old))
-        (λ moved. (seat.new.seat.me.0 ≡ seat.old.seat.me.0) × LeavesFor seat.old.seat.me.0 number moved seat.new.seat.me.0 × AsksToLeave F.called F.faults_of seat.old.seat.me.0 store.old number moved seat.new.seat.me.0 store.new) }
+        (λ moved. (seat.new.seat.me.0 ≡ seat.old.seat.me.0) × LeavesFor seat.old.seat.me.0 number moved seat.new.seat.me.0
+        × AsksToLeave F.called F.faults_of seat.old.seat.me.0 store.old number moved seat.new.seat.me.0 store.new) }
 {
     let Leave::Taken(bytes) = shared.begin_leave(seat, number) else {
         return Err(Moved::Scoped);
@@ -104,9 +108,11 @@ fn fetch<F: FarStore>(
     ensures mover { IsMoverOf shared.now seat.new }
     ensures fetched { MatchResult result
         (λ _. (seat.new.seat.me.0 ≡ placed number Here seat.old.seat.me.0)
-        × ((came : List ℕ) × (length came ≡ length (F.bytes_in parcel.now)) × Calls F.called store.old (Get (F.bytes_in parcel.now) (Ok came) ∷ []) store.new) × (F.faults_of store.new ≡ F.faults_of store.old))
+        × ((came : List ℕ) × (length came ≡ length (F.bytes_in parcel.now))
+        × Calls F.called store.old (Get (F.bytes_in parcel.now) (Ok came) ∷ []) store.new) × (F.faults_of store.new ≡ F.faults_of store.old))
         (λ fault. (seat.new.seat.me.0 ≡ seat.old.seat.me.0)
-        × AsksInVain F.called store.old (Some (F.bytes_in parcel.now)) (length (F.bytes_in parcel.now)) fault store.new × FailsToBring F.RETURNS (F.faults_of store.old) fault (F.faults_of store.new)) }
+        × AsksInVain F.called store.old (Some (F.bytes_in parcel.now)) (length (F.bytes_in parcel.now)) fault store.new
+        × FailsToBring F.RETURNS (F.faults_of store.old) fault (F.faults_of store.new)) }
 {
     shared.begin_return(seat, number);
     let bytes = match store.get(parcel) {

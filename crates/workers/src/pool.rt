@@ -131,7 +131,9 @@ fn cell_of<K: TableName>(number: usize, seat: ActorSeat, machine: Option<Debugge
 /// The next seat of those that are left, where so many went before.
 fn next_seat<K: TableName>(_before: usize, left: &mut IntoIter<ActorSeat>) -> Option<ActorSeat>
     requires { AreSeats K.table K.opening (_before + 1) (into_iter_items left.old) }
-    ensures some { IfSome result (λ seat. IsNewSeat K.table K.opening (_before + 1) seat × AreSeats K.table K.opening (_before + 1 + 1) (into_iter_items left.new) × (length (into_iter_items left.old) ≡ length (into_iter_items left.new) + 1)) }
+    ensures some { IfSome result (λ seat. IsNewSeat K.table K.opening (_before + 1) seat
+        × AreSeats K.table K.opening (_before + 1 + 1) (into_iter_items left.new)
+        × (length (into_iter_items left.old) ≡ length (into_iter_items left.new) + 1)) }
     ensures none { IfNone result (length (into_iter_items left.old) ≡ 0) }
 {
     left.next()

@@ -54,7 +54,10 @@ impl Running {
 
     /// A machine that is shipped, at the start of its program.
     pub fn shipped(program: Program, number: usize, start: Start) -> Self
-        ensures is { result ≡ record { debuggee = debuggee_start number program start; shipped = Some (granted_start number program start.fuel start.arguments start.grants) } }
+        ensures is { result ≡ record {
+          debuggee = debuggee_start number program start;
+          shipped = Some (granted_start number program start.fuel start.arguments start.grants);
+        } }
         ensures valid { ValidCode program }
         ensures five { length start.arguments ≡ 5 }
     {

@@ -13,7 +13,8 @@ use Rattle.debugger.specs.declared.replies.StepReply.TheVariants as step_reply
 use Rattle.debugger.specs.declared.debuggee.Debuggee.{Debuggee}
 use Rattle.debugger.specs.Debuggees.{Walks, AnswersStep}
 
-lent_carries : {M X : Type 0} (store : M → StoreWithin X) (loan who : M → ℕ) (first : M) → Carries true (lent_memory store loan who) (within_memory (who first)) store (IsLent loan who first)
+lent_carries : {M X : Type 0} (store : M → StoreWithin X) (loan who : M → ℕ) (first : M)
+    → Carries true (lent_memory store loan who) (within_memory (who first)) store (IsLent loan who first)
 lent_carries store loan who first = record {
   reached = λ before after n op r i _ h. (
     subst (λ w. TouchesWithin w (store before) n op r (store after)) i.who_is h.0,
@@ -27,13 +28,15 @@ lent_carries store loan who first = record {
 }
 
 pub lent_step : {M X : Type 0} (store : M → StoreWithin X) (loan who : M → ℕ) (old new : MachineState) (before after : M) (a : Stepped)
-    → TableStep (lent_memory store loan who) old before a new after → TableStep (within_memory (who before)) old (store before) a new (store after) × IsLent loan who before after
+    → TableStep (lent_memory store loan who) old before a new after
+    → TableStep (within_memory (who before)) old (store before) a new (store after) × IsLent loan who before after
 lent_step store loan who old new before after a t =
     step_carries true (lent_memory store loan who) (within_memory (who before)) store (IsLent loan who before) (lent_carries store loan who before)
     old new before after a (record { loan_is = refl; who_is = refl }) refl t
 
 lent_walk : {M X : Type 0} (store : M → StoreWithin X) (loan who : M → ℕ) (way : Way) (old new : Debuggee) (before after : M) (told : StepReply)
-    → Walks (lent_memory store loan who) way old before told new after → Walks (within_memory (who before)) way old (store before) told new (store after) × IsLent loan who before after
+    → Walks (lent_memory store loan who) way old before told new after
+    → Walks (within_memory (who before)) way old (store before) told new (store after) × IsLent loan who before after
 lent_walk store loan who way old new before after told h =
     let t = lent_step store loan who old.machine h.machine before after h.answer h.step in (
       record { goes = h.goes; answer = h.answer; machine = h.machine; step = t.0; told = h.told; changed = h.changed },
@@ -42,7 +45,8 @@ lent_walk store loan who way old new before after told h =
 
 -- a step over a store that is lent is one over the store
 pub lent_answer : {M X : Type 0} (store : M → StoreWithin X) (loan who : M → ℕ) (way : Way) (old new : Debuggee) (before after : M) (told : StepReply)
-    → AnswersStep (lent_memory store loan who) way old before told new after → AnswersStep (within_memory (who before)) way old (store before) told new (store after) × IsLent loan who before after
+    → AnswersStep (lent_memory store loan who) way old before told new after
+    → AnswersStep (within_memory (who before)) way old (store before) told new (store after) × IsLent loan who before after
 lent_answer store loan who way old new before after (step_reply.Paused slot) h = (
   record { held = h.held; slot_is = h.slot_is; changed = h.changed; same = ap store h.same },
   record { loan_is = ap loan h.same; who_is = ap who h.same },
@@ -61,11 +65,13 @@ within_carries who = record {
 within_walk : {X : Type 0} (who : ℕ) (way : Way) (old new : Debuggee) (before after : StoreWithin X) (told : StepReply)
     → Walks (within_memory who) way old before told new after → Walks (store_memory who) way old before.state told new after.state
 within_walk {X} who way old new before after told h =
-    let t = step_carries true (within_memory who) (store_memory who) (λ (s : StoreWithin X). s.state) (λ _. Unit {0}) (within_carries who) old.machine h.machine before after h.answer tt refl h.step in
+    let t = step_carries true (within_memory who) (store_memory who) (λ (s : StoreWithin X). s.state) (λ _. Unit {0}) (within_carries who) old.machine
+    h.machine before after h.answer tt refl h.step in
     record { goes = h.goes; answer = h.answer; machine = h.machine; step = t.0; told = h.told; changed = h.changed }
 
 -- a step over a store is one over its state
 pub within_answer : {X : Type 0} (who : ℕ) (way : Way) (old new : Debuggee) (before after : StoreWithin X) (told : StepReply)
     → AnswersStep (within_memory who) way old before told new after → AnswersStep (store_memory who) way old before.state told new after.state
-within_answer {X} who way old new before after (step_reply.Paused slot) h = record { held = h.held; slot_is = h.slot_is; changed = h.changed; same = ap (λ (s : StoreWithin X). s.state) h.same }
+within_answer {X} who way old new before after (step_reply.Paused slot) h =
+    record { held = h.held; slot_is = h.slot_is; changed = h.changed; same = ap (λ (s : StoreWithin X). s.state) h.same }
 within_answer who way old new before after told h = within_walk who way old new before after told h

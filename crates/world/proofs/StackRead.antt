@@ -20,7 +20,8 @@ use Rattle.world.proofs.Numbered.{with_same}
 abbrev pub StackAnswers : List Debuggee → ℕ → ℕ → ℕ → Reply → Type 0
 StackAnswers machines m offset size reply = (s : StoreState) → AnswersMachine (store_memory m) machines s m (Show (Stack offset size)) reply machines s
 
-shown : (machines : List Debuggee) (m offset size : ℕ) (d : Debuggee) (told : ShowReply) → machine_at machines m ≡ Some d → ShowsBytes d.machine.stack offset size told
+shown : (machines : List Debuggee) (m offset size : ℕ) (d : Debuggee) (told : ShowReply) → machine_at machines m ≡ Some d
+    → ShowsBytes d.machine.stack offset size told
     → StackAnswers machines m offset size (reply_to_show m told)
 shown machines m offset size d told found shows =
     λ s. inr (record { debuggee = d; became = d; found = found; answers = (told, refl, shows, refl, refl); changed = sym (with_same machines m d found) })
@@ -28,15 +29,20 @@ shown machines m offset size d told found shows =
 at : (machines : List Debuggee) (m k : ℕ) (d : Debuggee) → m ≡ suc k → slice_get machines k ≡ Some d → machine_at machines m ≡ Some d
 at machines m k d e found = subst (λ (n : ℕ). machine_at machines n ≡ Some d) (sym e) found
 
-pub stack_read : (machines : List Debuggee) (m k offset size : ℕ) (d : Debuggee) (stack into : List ℕ) (result : Result Unit StackError) → m ≡ suc k → slice_get machines k ≡ Some d → stack ≡ d.machine.stack
+pub stack_read : (machines : List Debuggee) (m k offset size : ℕ) (d : Debuggee) (stack into : List ℕ) (result : Result Unit StackError) → m ≡ suc k
+    → slice_get machines k ≡ Some d → stack ≡ d.machine.stack
     → OnOk result (ShowsBytes stack offset size (show_reply.Bytes into)) → OnOk result (StackAnswers machines m offset size (Bytes into))
 stack_read machines m k offset size d stack into (Ok u) e found same h =
-    shown machines m offset size d (show_reply.Bytes into) (at machines m k d e found) (subst (λ (bytes : List ℕ). ShowsBytes bytes offset size (show_reply.Bytes into)) same h)
+    shown machines m offset size d (show_reply.Bytes into) (at machines m k d e found)
+    (subst (λ (bytes : List ℕ). ShowsBytes bytes offset size (show_reply.Bytes into)) same h)
 stack_read machines m k offset size d stack into (Err x) e found same h = tt
 
-pub stack_refused : (machines : List Debuggee) (m k offset size : ℕ) (d : Debuggee) (stack : List ℕ) (result : Result Unit StackError) → m ≡ suc k → slice_get machines k ≡ Some d → stack ≡ d.machine.stack
-    → IfErr result (λ x. (x ≡ stack_error.Outside) × ShowsBytes stack offset size show_reply.Outside) → IfErr result (λ x. StackAnswers machines m offset size (refused_stack x))
+pub stack_refused : (machines : List Debuggee) (m k offset size : ℕ) (d : Debuggee) (stack : List ℕ) (result : Result Unit StackError) → m ≡ suc k
+    → slice_get machines k ≡ Some d → stack ≡ d.machine.stack
+    → IfErr result (λ x. (x ≡ stack_error.Outside) × ShowsBytes stack offset size show_reply.Outside)
+    → IfErr result (λ x. StackAnswers machines m offset size (refused_stack x))
 stack_refused machines m k offset size d stack (Ok u) e found same h = tt
 stack_refused machines m k offset size d stack (Err x) e found same h =
     subst (λ (y : StackError). StackAnswers machines m offset size (refused_stack y)) (sym h.0)
-    (shown machines m offset size d show_reply.Outside (at machines m k d e found) (subst (λ (bytes : List ℕ). ShowsBytes bytes offset size show_reply.Outside) same h.1))
+    (shown machines m offset size d show_reply.Outside (at machines m k d e found)
+    (subst (λ (bytes : List ℕ). ShowsBytes bytes offset size show_reply.Outside) same h.1))

@@ -1,5 +1,6 @@
 -- Machines without their debug states.
-use Rattle.std.proofs.Common.{◌≡◌, ℕ, zero, suc, ◌-◌, Bool, true, false, not, ◌&&◌, ◌||◌, is_none, cond, List, [], map, Option, Some, None, inl, inr, refl, sym, ap, subst, ◌∙◌, arith}
+use Rattle.std.proofs.Common.{◌≡◌, ℕ, zero, suc, ◌-◌, Bool, true, false, not, ◌&&◌, ◌||◌, is_none, cond, List, [], map, Option, Some, None, inl, inr, refl, sym}
+use Rattle.std.proofs.Common.{ap, subst, ◌∙◌, arith}
 use Rattle.std.specs.Prelude.{option_map}
 use Rattle.std.proofs.lemmas.List.{map-set}
 use Rattle.std.proofs.lemmas.Option.{slice_get-map}
@@ -54,17 +55,20 @@ at_undebugged : (machines : List Debuggee) (m : ℕ) → machine_at (undebugged_
 at_undebugged machines zero = refl
 at_undebugged machines (suc n) = slice_get-map undebugged_machine machines n
 
-found_undebugged : (machines : List Debuggee) (m : ℕ) (d : Debuggee) → machine_at machines m ≡ Some d → machine_at (undebugged_machines machines) m ≡ Some (undebugged_machine d)
+found_undebugged : (machines : List Debuggee) (m : ℕ) (d : Debuggee) → machine_at machines m ≡ Some d
+    → machine_at (undebugged_machines machines) m ≡ Some (undebugged_machine d)
 found_undebugged machines m d e = at_undebugged machines m ∙ ap (option_map undebugged_machine) e
 
 missing_undebugged : (machines : List Debuggee) (m : ℕ) → machine_at machines m ≡ None → machine_at (undebugged_machines machines) m ≡ None
 missing_undebugged machines m e = at_undebugged machines m ∙ ap (option_map undebugged_machine) e
 
-with_undebugged : (machines : List Debuggee) (m : ℕ) (d : Debuggee) → undebugged_machines (with_machine machines m d) ≡ with_machine (undebugged_machines machines) m (undebugged_machine d)
+with_undebugged : (machines : List Debuggee) (m : ℕ) (d : Debuggee)
+    → undebugged_machines (with_machine machines m d) ≡ with_machine (undebugged_machines machines) m (undebugged_machine d)
 with_undebugged machines m d = map-set undebugged_machine machines (m - 1) d
 
 -- a machine of which no more is changed than its debug state
-unseen : (old new : List Debuggee) (m : ℕ) (d e : Debuggee) → machine_at old m ≡ Some d → undebugged_machine e ≡ undebugged_machine d → new ≡ with_machine old m e
+unseen : (old new : List Debuggee) (m : ℕ) (d e : Debuggee) → machine_at old m ≡ Some d
+    → undebugged_machine e ≡ undebugged_machine d → new ≡ with_machine old m e
     → undebugged_machines new ≡ undebugged_machines old
 unseen old new m d e found same changed =
     ap undebugged_machines changed
@@ -105,7 +109,8 @@ told_undebugged (stepped.Waiting n) slot d = refl
 told_undebugged (stepped.Stopped s) slot d = refl
 
 -- a step by any way is one by `step`
-walk_undebugged : {S : Type 0} (memory : Memories S) (w : Way) (old new : Debuggee) (before after : S) (told : StepReply) → Walks memory w old before told new after
+walk_undebugged : {S : Type 0} (memory : Memories S) (w : Way) (old new : Debuggee) (before after : S) (told : StepReply)
+    → Walks memory w old before told new after
     → Walks memory way.Step (undebugged_machine old) before (unhit told) (undebugged_machine new) after
 walk_undebugged memory w old new before after told h = record {
   goes = never_held old.machine.stop old.machine.slot;
@@ -116,7 +121,8 @@ walk_undebugged memory w old new before after told h = record {
   changed = ap undebugged_machine h.changed ∙ ap (λ (d : DebugState). debuggee h.machine d) (sym (starts_stay h.answer));
 }
 
-step_undebugged : {S : Type 0} (memory : Memories S) (w : Way) (m : ℕ) (old new : Debuggee) (before after : S) (told : StepReply) → is_pause (reply_to_step m told) ≡ false
+step_undebugged : {S : Type 0} (memory : Memories S) (w : Way) (m : ℕ) (old new : Debuggee) (before after : S) (told : StepReply)
+    → is_pause (reply_to_step m told) ≡ false
     → AnswersStep memory w old before told new after → AnswersStep memory way.Step (undebugged_machine old) before (unhit told) (undebugged_machine new) after
 step_undebugged memory w m old new before after (step_reply.Paused slot) e h = absurd (cc)
 step_undebugged memory w m old new before after (step_reply.Ran slot) e h = walk_undebugged memory w old new before after (step_reply.Ran slot) h
@@ -125,7 +131,8 @@ step_undebugged memory w m old new before after (step_reply.Waiting n) e h = wal
 step_undebugged memory w m old new before after (step_reply.Stopped s) e h = walk_undebugged memory w old new before after (step_reply.Stopped s) h
 
 -- a pause is not seen
-step_unseen : {S : Type 0} (memory : Memories S) (w : Way) (m : ℕ) (old new : Debuggee) (before after : S) (told : StepReply) → is_pause (reply_to_step m told) ≡ true
+step_unseen : {S : Type 0} (memory : Memories S) (w : Way) (m : ℕ) (old new : Debuggee) (before after : S) (told : StepReply)
+    → is_pause (reply_to_step m told) ≡ true
     → AnswersStep memory w old before told new after → (undebugged_machine new ≡ undebugged_machine old) × (after ≡ before)
 step_unseen memory w m old new before after (step_reply.Paused slot) e h = (ap undebugged_machine h.changed, h.same)
 step_unseen memory w m old new before after _ e h = absurd (cc)
@@ -137,7 +144,8 @@ unpaused_state (Some s) paused = refl
 unpaused_state None true = refl
 unpaused_state None false = refl
 
-shown_undebugged : (d : Debuggee) (shown : Shown) → shown ≡ shown_of d.machine d.debugger → record shown { state = unpaused shown.state } ≡ shown_of d.machine debug_start
+shown_undebugged : (d : Debuggee) (shown : Shown) → shown ≡ shown_of d.machine d.debugger
+    → record shown { state = unpaused shown.state } ≡ shown_of d.machine debug_start
 shown_undebugged d shown e =
     ap (λ (s : Shown). record s { state = unpaused s.state }) e
     ∙ ap (λ (s : State). record (shown_of d.machine debug_start) { state = s }) (unpaused_state d.machine.stop d.debugger.paused)
@@ -170,8 +178,10 @@ abbrev pub undebugged_work : MachineCommand → MachineCommand
 undebugged_work (Step w) = Step way.Step
 undebugged_work c = c
 
-command_undebugged : {S : Type 0} (memory : Memories S) (m : ℕ) (c : MachineCommand) (old new : Debuggee) (before after : S) (r : Reply) → is_undebugged (Machine m c) r ≡ true
-    → AnswersCommand memory old before m c r new after → AnswersCommand memory (undebugged_machine old) before m (undebugged_work c) (undebugged_reply r) (undebugged_machine new) after
+command_undebugged : {S : Type 0} (memory : Memories S) (m : ℕ) (c : MachineCommand) (old new : Debuggee) (before after : S) (r : Reply)
+    → is_undebugged (Machine m c) r ≡ true
+    → AnswersCommand memory old before m c r new after
+    → AnswersCommand memory (undebugged_machine old) before m (undebugged_work c) (undebugged_reply r) (undebugged_machine new) after
 command_undebugged memory m (Step w) old new before after r e h = (
   unhit h.0,
   ap undebugged_reply h.1 ∙ unhit_reply m h.0,
@@ -181,7 +191,8 @@ command_undebugged memory m (Show c) old new before after r e h =
     (unshown h.0, ap undebugged_reply h.1 ∙ unshown_reply m h.0, show_undebugged c old h.0 h.2, ap undebugged_machine h.3, h.4)
 command_undebugged memory m (Debug c) old new before after r e h = absurd (cc)
 
-pub machine_undebugged : {S : Type 0} (memory : Memories S) (m : ℕ) (c : MachineCommand) (old new : List Debuggee) (before after : S) (r : Reply) → is_undebugged (Machine m c) r ≡ true
+pub machine_undebugged : {S : Type 0} (memory : Memories S) (m : ℕ) (c : MachineCommand) (old new : List Debuggee) (before after : S) (r : Reply)
+    → is_undebugged (Machine m c) r ≡ true
     → AnswersMachine memory old before m c r new after
     → AnswersMachine memory (undebugged_machines old) before m (undebugged_work c) (undebugged_reply r) (undebugged_machines new) after
 machine_undebugged memory m c old new before after r e (inl h) =
@@ -198,7 +209,8 @@ not_pause : (m : ℕ) (told : ShowReply) → is_pause (reply_to_show m told) ≡
 not_pause m told = grind arith
 
 -- the debugging commands and pauses are not seen
-command_unseen : {S : Type 0} (memory : Memories S) (m : ℕ) (c : MachineCommand) (old new : Debuggee) (before after : S) (r : Reply) → is_undebugged (Machine m c) r ≡ false
+command_unseen : {S : Type 0} (memory : Memories S) (m : ℕ) (c : MachineCommand) (old new : Debuggee) (before after : S) (r : Reply)
+    → is_undebugged (Machine m c) r ≡ false
     → AnswersCommand memory old before m c r new after → (undebugged_machine new ≡ undebugged_machine old) × (after ≡ before)
 command_unseen memory m (Step w) old new before after r e h =
     step_unseen memory w m old new before after h.0 (subst (λ (x : Reply). is_pause x ≡ true) h.1 (second (is_pause r) e)) h.2
@@ -206,7 +218,8 @@ command_unseen memory m (Show c) old new before after r e h =
     let f = sym (second (is_pause r) e) ∙ (rw (← h.1) at (not_pause m h.0)) in absurd (cc)
 command_unseen memory m (Debug c) old new before after r e h = (ap undebugged_machine h.2.1, h.3)
 
-pub machine_unseen : {S : Type 0} (memory : Memories S) (m : ℕ) (c : MachineCommand) (old new : List Debuggee) (before after : S) (r : Reply) → is_undebugged (Machine m c) r ≡ false
+pub machine_unseen : {S : Type 0} (memory : Memories S) (m : ℕ) (c : MachineCommand) (old new : List Debuggee) (before after : S) (r : Reply)
+    → is_undebugged (Machine m c) r ≡ false
     → AnswersMachine memory old before m c r new after → (undebugged_machines new ≡ undebugged_machines old) × (after ≡ before)
 machine_unseen memory m c old new before after r e (inl h) = (ap undebugged_machines h.unchanged, h.same)
 machine_unseen memory m c old new before after r e (inr h) =

@@ -22,7 +22,8 @@ use Rattle.world.specs.WorldState.{WorldState, AreAllShipped}
 use Rattle.world.specs.Answers.{AnswersMake, AnswersPut, AnswersGet, AnswersMove, AnswersObject, AnswersShip, reply_to_move, Answers}
 use Rattle.world.specs.Moves.{Moves, moved_reply, place_before}
 use Rattle.world.specs.Kept.{commands_kept, replies_kept}
-use Rattle.world.specs.Undebugged.{undebugged, undebugged_machine, undebugged_command, undebugged_reply, undebugged_commands, undebugged_replies, is_pause, is_undebugged}
+use Rattle.world.specs.Undebugged.{undebugged, undebugged_machine, undebugged_command, undebugged_reply, undebugged_commands, undebugged_replies, is_pause}
+use Rattle.world.specs.Undebugged.{is_undebugged}
 use Rattle.world.specs.Unseen.{DebuggingChangesNothing, NeitherChangesAnything}
 use Rattle.world.proofs.Joined.{kept_first}
 use Rattle.world.proofs.Undebugged_machines.{undebugged_machines, machine_undebugged, machine_unseen, second}
@@ -38,7 +39,8 @@ make_kept old new size reply.NoMemory h = (h.0, ap undebugged h.1)
 make_kept old new size (reply.Made n) h = (h.0, ap undebugged h.1)
 make_kept old new size _ h = absurd h
 
-put_kept : (old new : WorldState) (n offset : ℕ) (bytes : List ℕ) (r : Reply) → AnswersPut old n offset bytes r new → AnswersPut (undebugged old) n offset bytes (undebugged_reply r) (undebugged new)
+put_kept : (old new : WorldState) (n offset : ℕ) (bytes : List ℕ) (r : Reply) → AnswersPut old n offset bytes r new
+    → AnswersPut (undebugged old) n offset bytes (undebugged_reply r) (undebugged new)
 put_kept old new n offset bytes reply.Outside h = (h.0, ap undebugged h.1)
 put_kept old new n offset bytes (reply.Away k) h = (h.0, (h.1.0, ap undebugged h.1.1))
 put_kept old new n offset bytes reply.Done h = (h.0, ap undebugged h.1)
@@ -47,10 +49,12 @@ put_kept old new n offset bytes _ h = absurd h
 get_kept : (s : StoreState) (n offset size : ℕ) (r : Reply) → AnswersGet s n offset size r → AnswersGet s n offset size (undebugged_reply r)
 get_kept s n offset size r h = grind arith
 
-same_to_move : (told : Reply) (back : Place) (n : ℕ) (m : Moved) → undebugged_reply told ≡ told → undebugged_reply (reply_to_move told back n m) ≡ reply_to_move told back n m
+same_to_move : (told : Reply) (back : Place) (n : ℕ) (m : Moved) → undebugged_reply told ≡ told
+    → undebugged_reply (reply_to_move told back n m) ≡ reply_to_move told back n m
 same_to_move told back n m e = grind arith
 
-move_kept : (moves : StoreState → ℕ → Moved → StoreState → Type 0) (told : Reply) (back : Place) (old new : WorldState) (n : ℕ) (r : Reply) → undebugged_reply told ≡ told
+move_kept : (moves : StoreState → ℕ → Moved → StoreState → Type 0) (told : Reply) (back : Place) (old new : WorldState) (n : ℕ) (r : Reply)
+    → undebugged_reply told ≡ told
     → AnswersMove moves told back old n r new → AnswersMove moves told back (undebugged old) n (undebugged_reply r) (undebugged new)
 move_kept moves told back old new n r e h = record {
   moved = h.moved;
@@ -59,7 +63,8 @@ move_kept moves told back old new n r e h = record {
   changed = ap undebugged h.changed;
 }
 
-object_kept : (old new : WorldState) (n : ℕ) (c : ObjectCommand) (r : Reply) → AnswersObject old n c r new → AnswersObject (undebugged old) n c (undebugged_reply r) (undebugged new)
+object_kept : (old new : WorldState) (n : ℕ) (c : ObjectCommand) (r : Reply) → AnswersObject old n c r new
+    → AnswersObject (undebugged old) n c (undebugged_reply r) (undebugged new)
 object_kept old new n Free r h = move_kept Frees (reply.Freed n) place.Here old new n r refl h
 object_kept old new n (Put offset bytes) r h = put_kept old new n offset bytes r h
 object_kept old new n (Get offset size) r h = (get_kept old.store n offset size r h.0, ap undebugged h.1)
@@ -113,7 +118,8 @@ one_erased : (old new : WorldState) (c : Event) (r : Reply) → is_undebugged c 
 one_erased old new (Object n c) r e h = object_unpaused old new n c r h (second (is_pause r) e)
 one_erased old new (Machine m c) r e h =
     let k = machine_unseen (store_memory m) m c old.machines new.machines old.store new.store r e h in
-    ap (λ (x : List Debuggee). record { machines = x; store = new.store }) k.0 ∙ ap (λ (s : StoreState). record { machines = undebugged_machines old.machines; store = s }) k.1
+    ap (λ (x : List Debuggee). record { machines = x; store = new.store }) k.0
+    ∙ ap (λ (s : StoreState). record { machines = undebugged_machines old.machines; store = s }) k.1
 one_erased old new (Make size) (reply.Paused k slot) e h = absurd h
 one_erased old new (Ship start code) (reply.Paused k slot) e h = absurd h.0
 one_erased old new _ _ e h = absurd (cc)
@@ -123,7 +129,8 @@ one_erased old new _ _ e h = absurd (cc)
 pub debugging_changes_nothing : DebuggingChangesNothing
 debugging_changes_nothing old new [] [] h = ap undebugged h
 debugging_changes_nothing old new (c ∷ cs) (r ∷ rs) h =
-    kept_first (λ (s : WorldState) (left : List Event) (told : List Reply). Runs Answers s (map undebugged_command left) (map undebugged_reply told) (undebugged new)) (is_undebugged c r)
+    kept_first (λ (s : WorldState) (left : List Event) (told : List Reply).
+    Runs Answers s (map undebugged_command left) (map undebugged_reply told) (undebugged new)) (is_undebugged c r)
     (undebugged old) (undebugged h.0) c (commands_kept is_undebugged cs rs) r (replies_kept is_undebugged cs rs)
     (λ e rest. (undebugged h.0, one_kept old h.0 c r e h.1, rest)) (λ e. one_erased old h.0 c r e h.1) (debugging_changes_nothing h.0 new cs rs h.2)
 debugging_changes_nothing old new [] (r ∷ rs) h = absurd h

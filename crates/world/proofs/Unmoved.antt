@@ -65,7 +65,9 @@ store_carries who = record {
 
 plain_step : (who : ℕ) (old new : MachineState) (before after : StoreState) (a : Stepped) → goes a ≡ true → TableStep (store_memory who) old before a new after
     → TableStep map_memory old before.objects a new after.objects
-plain_step who old new before after a l t = (step_carries false (store_memory who) map_memory (λ (s : StoreState). s.objects) (λ (s : StoreState). Unit {0}) (store_carries who) old new before after a tt l t).0
+plain_step who old new before after a l t =
+    (step_carries false (store_memory who) map_memory (λ (s : StoreState). s.objects) (λ (s : StoreState). Unit {0}) (store_carries who)
+    old new before after a tt l t).0
 
 abbrev debuggee : MachineState → DebugState → Debuggee
 debuggee m d = record { machine = m; debugger = d }
@@ -82,7 +84,8 @@ walk_plain m way old new before after told e h = record {
   goes = h.goes;
   answer = h.answer;
   machine = h.machine;
-  step = plain_step m old.machine h.machine before after h.answer (told_goes m h.answer h.machine.slot old.debugger (subst (λ (x : StepReply). is_absence (reply_to_step m x) ≡ false) h.told e)) h.step;
+  step = plain_step m old.machine h.machine before after h.answer
+      (told_goes m h.answer h.machine.slot old.debugger (subst (λ (x : StepReply). is_absence (reply_to_step m x) ≡ false) h.told e)) h.step;
   told = h.told;
   changed = h.changed;
 }
@@ -90,18 +93,21 @@ walk_plain m way old new before after told e h = record {
 -- by any way, where it isn't answered that it waits
 step_plain : (m : ℕ) (way : Way) (old new : Debuggee) (before after : StoreState) (told : StepReply) → is_absence (reply_to_step m told) ≡ false
     → AnswersStep (store_memory m) way old before told new after → AnswersStep map_memory way old before.objects told new after.objects
-step_plain m way old new before after (step_reply.Paused slot) e h = record { held = h.held; slot_is = h.slot_is; changed = h.changed; same = ap (λ (s : StoreState). s.objects) h.same }
+step_plain m way old new before after (step_reply.Paused slot) e h =
+    record { held = h.held; slot_is = h.slot_is; changed = h.changed; same = ap (λ (s : StoreState). s.objects) h.same }
 step_plain m way old new before after told e h = walk_plain m way old new before after told e h
 
 command_plain : (m : ℕ) (c : MachineCommand) (old new : Debuggee) (before after : StoreState) (r : Reply) → is_absence r ≡ false
     → AnswersCommand (store_memory m) old before m c r new after → AnswersCommand map_memory old before.objects m c r new after.objects
-command_plain m (Step way) old new before after r e h = (h.0, h.1, step_plain m way old new before after h.0 (subst (λ (x : Reply). is_absence x ≡ false) h.1 e) h.2)
+command_plain m (Step way) old new before after r e h =
+    (h.0, h.1, step_plain m way old new before after h.0 (subst (λ (x : Reply). is_absence x ≡ false) h.1 e) h.2)
 command_plain m (Show c) old new before after r e h = (h.0, h.1, h.2, h.3, ap (λ (s : StoreState). s.objects) h.4)
 command_plain m (Debug c) old new before after r e h = (h.0, h.1, h.2, ap (λ (s : StoreState). s.objects) h.3)
 
 machine_plain : (m : ℕ) (c : MachineCommand) (old new : List Debuggee) (before after : StoreState) (r : Reply) → is_absence r ≡ false
     → AnswersMachine (store_memory m) old before m c r new after → AnswersMachine map_memory old before.objects m c r new after.objects
-machine_plain m c old new before after r e (inl h) = inl (record { none = h.none; told = h.told; unchanged = h.unchanged; same = ap (λ (s : StoreState). s.objects) h.same })
+machine_plain m c old new before after r e (inl h) =
+    inl (record { none = h.none; told = h.told; unchanged = h.unchanged; same = ap (λ (s : StoreState). s.objects) h.same })
 machine_plain m c old new before after r e (inr h) = inr (record {
   debuggee = h.debuggee;
   became = h.became;
@@ -126,10 +132,12 @@ told_waits n (stepped.Ran w) slot d e = absurd (told_ran (hits w d) n slot e)
 told_waits n (stepped.Waiting k) slot d e = cc
 told_waits n (stepped.Stopped s) slot d e = absurd (cc)
 
-waited : (m n : ℕ) (way : Way) (old new : Debuggee) (before after : StoreState) → Walks (store_memory m) way old before (step_reply.Waiting n) new after → (new ≡ old) × (after ≡ before)
+waited : (m n : ℕ) (way : Way) (old new : Debuggee) (before after : StoreState) → Walks (store_memory m) way old before (step_reply.Waiting n) new after
+    → (new ≡ old) × (after ≡ before)
 waited m n way old new before after h =
     let k = told_waits n h.answer h.machine.slot old.debugger h.told in
-    let w = waits_in_place (store_memory m) old.machine h.machine before after n (subst (λ (a : Stepped). TableStep (store_memory m) old.machine before a h.machine after) k h.step) in
+    let w = waits_in_place (store_memory m) old.machine h.machine before after n
+    (subst (λ (a : Stepped). TableStep (store_memory m) old.machine before a h.machine after) k h.step) in
     let d : pausing.debugged way h.answer old.debugger ≡ old.debugger = ap (λ (a : Stepped). pausing.debugged way a old.debugger) k in (
       h.changed
           ∙ ap (λ (x : MachineState). debuggee x (pausing.debugged way h.answer old.debugger)) w.0
@@ -160,12 +168,14 @@ machine_erased m c old new before after r e (inr h) =
 
 -- ---- moves
 
-move_erased : (moves : StoreState → ℕ → Moved → StoreState → Type 0) → ((old new : StoreState) (n : ℕ) (m : Moved) → moves old n m new → new.objects ≡ old.objects)
+move_erased : (moves : StoreState → ℕ → Moved → StoreState → Type 0)
+    → ((old new : StoreState) (n : ℕ) (m : Moved) → moves old n m new → new.objects ≡ old.objects)
     → (told : Reply) (back : Place) (old new : WorldState) (n : ℕ) (r : Reply) → AnswersMove moves told back old n r new → plain_of new ≡ plain_of old
 move_erased moves stay told back old new n r h =
     ap plain_of h.changed ∙ ap (λ (o : List (List ℕ)). record { machines = old.machines; objects = o }) (stay old.store new.store n h.moved h.move)
 
-frees_plain : (old new : StoreState) (n : ℕ) (m : Moved) → Frees old n m new → FreesPlain old.objects n (reply_to_move (reply.Freed n) place.Here n m) new.objects
+frees_plain : (old new : StoreState) (n : ℕ) (m : Moved) → Frees old n m new
+    → FreesPlain old.objects n (reply_to_move (reply.Freed n) place.Here n m) new.objects
 frees_plain old new n moved.Scoped h = (refl, h.0.0, ap (λ (s : StoreState). s.objects) h.2)
 frees_plain old new n moved.Done h = (refl, h.0.0, ap (λ (s : StoreState). s.objects) h.3)
 frees_plain old new n moved.NoObject h = (h.0, ap (λ (s : StoreState). s.objects) h.1)
@@ -190,8 +200,10 @@ make_plain old new size _ h = absurd h
 
 object_plain : (old new : WorldState) (n : ℕ) (c : ObjectCommand) (r : Reply) → is_unmoved (Object n c) r ≡ true → AnswersObject old n c r new
     → ObjectPlain old.store.objects n c r new.store.objects × (new.machines ≡ old.machines)
-object_plain old new n Free r e h =
-    (subst (λ (x : Reply). FreesPlain old.store.objects n x new.store.objects) (sym h.told) (frees_plain old.store new.store n h.moved h.move), ap machines_of h.changed)
+object_plain old new n Free r e h = (
+  subst (λ (x : Reply). FreesPlain old.store.objects n x new.store.objects) (sym h.told) (frees_plain old.store new.store n h.moved h.move),
+  ap machines_of h.changed,
+)
 object_plain old new n (Put offset bytes) reply.Outside e h = ((h.0.0, ap (λ (s : StoreState). s.objects) h.0.1), ap machines_of h.1)
 object_plain old new n (Put offset bytes) reply.Done e h = ((h.0.0, ap (λ (s : StoreState). s.objects) h.0.2), ap machines_of h.1)
 object_plain old new n (Put offset bytes) (reply.Away k) e h = absurd (cc)
@@ -212,11 +224,13 @@ one_kept old new (Machine m c) r e h = machine_plain m c old.machines new.machin
 free_told : {P : Type 0} (r : Reply) (n : ℕ) (m : Moved) → r ≡ reply_to_move (reply.Freed n) place.Here n m → is_absence r ≡ true → P
 free_told r n m e h = absurd (grind arith)
 
-object_erased : (old new : WorldState) (n : ℕ) (c : ObjectCommand) (r : Reply) → is_unmoved (Object n c) r ≡ false → AnswersObject old n c r new → plain_of new ≡ plain_of old
+object_erased : (old new : WorldState) (n : ℕ) (c : ObjectCommand) (r : Reply) → is_unmoved (Object n c) r ≡ false
+    → AnswersObject old n c r new → plain_of new ≡ plain_of old
 object_erased old new n (Move m) r e h = move_erased (Moves m) (moves_stay m) (moved_reply m n) (place_before m) old new n r h
 object_erased old new n Free r e h =
     free_told (reply_to_move (reply.Freed n) place.Here n h.moved) n h.moved refl (subst (λ (x : Reply). is_absence x ≡ true) h.told (second (is_absence r) e))
-object_erased old new n (Put offset bytes) (reply.Away k) e h = ap plain_of h.1.1 ∙ ap (λ (s : StoreState). record { machines = old.machines; objects = s.objects }) h.1.0.2
+object_erased old new n (Put offset bytes) (reply.Away k) e h =
+    ap plain_of h.1.1 ∙ ap (λ (s : StoreState). record { machines = old.machines; objects = s.objects }) h.1.0.2
 object_erased old new n (Get offset size) (reply.Away k) e h = ap plain_of h.1
 object_erased old new n (Put offset bytes) (reply.Waiting k m) e h = absurd h
 object_erased old new n (Get offset size) (reply.Waiting k m) e h = absurd h.0
@@ -227,7 +241,8 @@ one_erased : (old new : WorldState) (c : Event) (r : Reply) → is_unmoved c r �
 one_erased old new (Object n c) r e h = object_erased old new n c r e h
 one_erased old new (Machine m c) r e h =
     let k = machine_erased m c old.machines new.machines old.store new.store r (second (is_absence r) e) h in
-    ap (λ (x : List Debuggee). record { machines = x; objects = new.store.objects }) k.0 ∙ ap (λ (s : StoreState). record { machines = old.machines; objects = s.objects }) k.1
+    ap (λ (x : List Debuggee). record { machines = x; objects = new.store.objects }) k.0
+    ∙ ap (λ (s : StoreState). record { machines = old.machines; objects = s.objects }) k.1
 one_erased old new (Make size) (reply.Waiting k n) e h = absurd h
 one_erased old new (Make size) (reply.Away k) e h = absurd h
 one_erased old new (Ship start code) (reply.Waiting k n) e h = absurd h.0
@@ -239,7 +254,8 @@ one_erased old new _ _ e h = absurd (cc)
 pub moving_changes_nothing : MovingChangesNothing
 moving_changes_nothing old new [] [] h = ap plain_of h
 moving_changes_nothing old new (c ∷ cs) (r ∷ rs) h =
-    kept_first (λ (s : PlainState) (left : List Event) (told : List Reply). Runs PlainAnswers s left told (plain_of new)) (is_unmoved c r) (plain_of old) (plain_of h.0) c (unmoved_commands cs rs) r (unmoved_replies cs rs)
+    kept_first (λ (s : PlainState) (left : List Event) (told : List Reply). Runs PlainAnswers s left told (plain_of new)) (is_unmoved c r) (plain_of old)
+    (plain_of h.0) c (unmoved_commands cs rs) r (unmoved_replies cs rs)
     (λ e rest. (plain_of h.0, one_kept old h.0 c r e h.1, rest)) (λ e. one_erased old h.0 c r e h.1) (moving_changes_nothing h.0 new cs rs h.2)
 moving_changes_nothing old new [] (r ∷ rs) h = absurd h
 moving_changes_nothing old new (c ∷ cs) [] h = absurd h

@@ -17,7 +17,8 @@ use Rattle.debugger.specs.declared.start.Start.{Start}
 use Rattle.debugger.specs.declared.debuggee.Debuggee.{Debuggee}
 use Rattle.debugger.specs.Debuggees.{debuggee_start}
 use Rattle.world.specs.declared.replies.Reply.{Reply}
-use Rattle.world.specs.declared.replies.Reply.TheVariants.{Made, Freed, Done, Bytes, Shipped, NoMemory, Full, NoRoom, Outside, Away, Misplaced, Scoped, Faulted, Refused, Missing}
+use Rattle.world.specs.declared.replies.Reply.TheVariants.{Made, Freed, Done, Bytes, Shipped, NoMemory, Full, NoRoom, Outside, Away, Misplaced, Scoped, Faulted}
+use Rattle.world.specs.declared.replies.Reply.TheVariants.{Refused, Missing}
 use Rattle.world.specs.declared.events.Event.{Event}
 use Rattle.world.specs.declared.events.Event.TheVariants as event
 use Rattle.world.specs.declared.events.ObjectCommand.{ObjectCommand}
@@ -73,7 +74,8 @@ reply_to_move told back n moved.NoRoom = NoRoom
 reply_to_move told back n (moved.Fault f) = Faulted n back
 
 -- a move of object n, or its end, or its freeing
-pub record AnswersMove (moves : StoreState → ℕ → Moved → StoreState → Type 0) (done : Reply) (back : Place) (old : WorldState) (n : ℕ) (reply : Reply) (new : WorldState) : Type 0 where
+pub record AnswersMove (moves : StoreState → ℕ → Moved → StoreState
+    → Type 0) (done : Reply) (back : Place) (old : WorldState) (n : ℕ) (reply : Reply) (new : WorldState) : Type 0 where
   pub moved : Moved
   pub move : moves old.store n moved new.store
   pub told : reply ≡ reply_to_move done back n moved
@@ -81,7 +83,8 @@ pub record AnswersMove (moves : StoreState → ℕ → Moved → StoreState → 
 
 -- ---- machines
 
--- A machine at the start of the code, of the next number. That memory ran out may also be answered of code that isn't valid, in place of the refusal: room is taken before the code is read. Code that is empty or too long takes none.
+-- A machine at the start of the code, of the next number. That memory ran out may also be answered of code that isn't valid, in
+-- place of the refusal: room is taken before the code is read. Code that is empty or too long takes none.
 abbrev pub AnswersShip : List Debuggee → Start → List ℕ → Reply → List Debuggee → Type 0
 AnswersShip old start code Full new = AreAllShipped old × (new ≡ old)
 AnswersShip old start code (Refused e) new = (AreAllShipped old → ⊥) × Refuses code e.slot e.why × (e.why ≢ why.Memory) × (new ≡ old)

@@ -29,7 +29,8 @@ AsksToPut old n Done new = (new.far ≡ old.far) × (new.sent ≡ set old.sent n
 AsksToPut old n _ new = AsksNothing old new
 
 -- a move of object n, or its end, or its freeing, which is answered so
-pub record AsksMove {X : Type 0} (asks : StoreWithin X → ℕ → Moved → StoreWithin X → Type 0) (done : Reply) (back : Place) (old : StoreWithin X) (n : ℕ) (reply : Reply) (new : StoreWithin X) : Type 0 where
+pub record AsksMove {X : Type 0} (asks : StoreWithin X → ℕ → Moved → StoreWithin X
+    → Type 0) (done : Reply) (back : Place) (old : StoreWithin X) (n : ℕ) (reply : Reply) (new : StoreWithin X) : Type 0 where
   pub moved : Moved
   pub told : reply ≡ reply_to_move done back n moved
   pub asked : asks old n moved new

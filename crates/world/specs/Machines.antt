@@ -15,7 +15,8 @@ use Rattle.debugger.specs.Debuggees.{AnswersStep, DebugsMachine}
 use Rattle.world.specs.declared.replies.Reply.{Reply}
 use Rattle.world.specs.declared.stack.StackError.{StackError}
 use Rattle.world.specs.declared.stack.StackError.TheVariants as stack_error
-use Rattle.world.specs.declared.replies.Reply.TheVariants.{Ran, Hit, Waiting, Paused, Stopped, Registers, Emitted, Bytes, Disassembled, Done, NoMemory, Outside, NoSlot, Full, NoWatch, NotPaused, Missing}
+use Rattle.world.specs.declared.replies.Reply.TheVariants.{Ran, Hit, Waiting, Paused, Stopped, Registers, Emitted, Bytes, Disassembled, Done, NoMemory, Outside}
+use Rattle.world.specs.declared.replies.Reply.TheVariants.{NoSlot, Full, NoWatch, NotPaused, Missing}
 use Rattle.world.specs.WorldState.{machine_at, with_machine}
 
 -- ---- replies
@@ -61,9 +62,12 @@ reply_to_debug debugged.NotPaused = NotPaused
 
 -- what machine m, which is there, answers to a command over the memory
 abbrev pub AnswersCommand : {S : Type 0} → Memories S → Debuggee → S → ℕ → MachineCommand → Reply → Debuggee → S → Type 0
-AnswersCommand memory old before m (Step way) reply new after = (told : StepReply) × (reply ≡ reply_to_step m told) × AnswersStep memory way old before told new after
-AnswersCommand memory old before m (Show command) reply new after = (told : ShowReply) × (reply ≡ reply_to_show m told) × Shows command old told × (new ≡ old) × (after ≡ before)
-AnswersCommand memory old before m (Debug command) reply new after = (told : Debugged) × (reply ≡ reply_to_debug told) × DebugsMachine command old told new × (after ≡ before)
+AnswersCommand memory old before m (Step way) reply new after = (told : StepReply) × (reply ≡ reply_to_step m told)
+    × AnswersStep memory way old before told new after
+AnswersCommand memory old before m (Show command) reply new after = (told : ShowReply) × (reply ≡ reply_to_show m told) × Shows command old told
+    × (new ≡ old) × (after ≡ before)
+AnswersCommand memory old before m (Debug command) reply new after = (told : Debugged) × (reply ≡ reply_to_debug told)
+    × DebugsMachine command old told new × (after ≡ before)
 
 -- There is no machine m: nothing changes.
 pub record Misses {S : Type 0} (old : List Debuggee) (before : S) (m : ℕ) (reply : Reply) (new : List Debuggee) (after : S) : Type 0 where
@@ -73,7 +77,8 @@ pub record Misses {S : Type 0} (old : List Debuggee) (before : S) (m : ℕ) (rep
   pub same : after ≡ before
 
 -- Machine m is there and answers the command. The other machines stay as they are.
-pub record Finds {S : Type 0} (memory : Memories S) (old : List Debuggee) (before : S) (m : ℕ) (command : MachineCommand) (reply : Reply) (new : List Debuggee) (after : S) : Type 0 where
+pub record Finds {S : Type 0} (memory : Memories S) (old : List Debuggee) (before : S) (m : ℕ) (command : MachineCommand) (reply : Reply)
+    (new : List Debuggee) (after : S) : Type 0 where
   pub debuggee : Debuggee
   pub became : Debuggee
   pub found : machine_at old m ≡ Some debuggee

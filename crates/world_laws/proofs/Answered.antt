@@ -19,7 +19,8 @@ use Rattle.world.specs.Machines.{AnswersMachine, Misses, reply_to_step}
 use Rattle.world_laws.proofs.Replying.{step_replies}
 
 -- the machine makes a step of the table
-pub record Steps {S : Type 0} (memory : Memories S) (way : Way) (old : List Debuggee) (before : S) (m : ℕ) (reply : Reply) (new : List Debuggee) (after : S) : Type 0 where
+pub record Steps {S : Type 0} (memory : Memories S) (way : Way) (old : List Debuggee) (before : S) (m : ℕ) (reply : Reply)
+    (new : List Debuggee) (after : S) : Type 0 where
   pub debuggee : Debuggee
   pub found : machine_at old m ≡ Some debuggee
   pub goes : holds_back way debuggee ≡ false
@@ -44,13 +45,16 @@ pub record Halts {S : Type 0} (way : Way) (old : List Debuggee) (before : S) (m 
 abbrev pub StepsAt : {S : Type 0} → Memories S → Way → List Debuggee → S → ℕ → Reply → List Debuggee → S → Type 0
 StepsAt memory way old before m reply new after = AnswersMachine memory old before m (Step way) reply new after
 
-pub data StepAnswer {S : Type 0} (memory : Memories S) (way : Way) (old : List Debuggee) (before : S) (m : ℕ) (r : Reply) (new : List Debuggee) (after : S) : Type 0 where
+pub data StepAnswer {S : Type 0} (memory : Memories S) (way : Way) (old : List Debuggee) (before : S) (m : ℕ) (r : Reply)
+    (new : List Debuggee) (after : S) : Type 0 where
   NoMachine : Misses old before m r new after → StepAnswer memory way old before m r new after
   Pause : Halts way old before m r new after → StepAnswer memory way old before m r new after
   TableRow : Steps memory way old before m r new after → StepAnswer memory way old before m r new after
 
-found_step : {S : Type 0} (memory : Memories S) (way : Way) (old : List Debuggee) (before : S) (m : ℕ) (r : Reply) (new : List Debuggee) (after : S) (d e : Debuggee) (told : StepReply)
-    → machine_at old m ≡ Some d → new ≡ with_machine old m e → r ≡ reply_to_step m told → AnswersStep memory way d before told e after → StepAnswer memory way old before m r new after
+found_step : {S : Type 0} (memory : Memories S) (way : Way) (old : List Debuggee) (before : S) (m : ℕ) (r : Reply) (new : List Debuggee) (after : S)
+    (d e : Debuggee) (told : StepReply)
+    → machine_at old m ≡ Some d → new ≡ with_machine old m e → r ≡ reply_to_step m told → AnswersStep memory way d before told e after
+    → StepAnswer memory way old before m r new after
 found_step memory way old before m r new after d e (step_reply.Paused slot) f c t h = Pause (record {
   debuggee = d;
   found = f;
@@ -75,7 +79,8 @@ found_step memory way old before m r new after d e told f c t h = TableRow (reco
 pub parted : {S : Type 0} (memory : Memories S) (way : Way) (old : List Debuggee) (before : S) (m : ℕ) (r : Reply) (new : List Debuggee) (after : S)
     → StepsAt memory way old before m r new after → StepAnswer memory way old before m r new after
 parted memory way old before m r new after (inl h) = NoMachine h
-parted memory way old before m r new after (inr h) = found_step memory way old before m r new after h.debuggee h.became h.answers.0 h.found h.changed h.answers.1 h.answers.2
+parted memory way old before m r new after (inr h) =
+    found_step memory way old before m r new after h.debuggee h.became h.answers.0 h.found h.changed h.answers.1 h.answers.2
 
 -- ---- and back
 
@@ -83,7 +88,8 @@ never_paused : (slot k : ℕ) (a : Stepped) (d : DebugState) → step_reply.Paus
 never_paused slot k a d = step_replies (λ (told : StepReply). step_reply.Paused slot ≡ told → ⊥) a k d (λ i e. cc) (λ i e. cc) (λ i e. cc) (λ i e. cc)
 
 -- a step of the table is never answered that the machine is paused
-walked : {S : Type 0} (memory : Memories S) (way : Way) (old new : Debuggee) (before after : S) (told : StepReply) → Walks memory way old before told new after → AnswersStep memory way old before told new after
+walked : {S : Type 0} (memory : Memories S) (way : Way) (old new : Debuggee) (before after : S) (told : StepReply)
+    → Walks memory way old before told new after → AnswersStep memory way old before told new after
 walked memory way old new before after (step_reply.Paused slot) h = absurd (never_paused slot h.machine.slot h.answer old.debugger h.told)
 walked memory way old new before after told h = h
 
@@ -92,8 +98,15 @@ pub stepped_so : {S : Type 0} (memory : Memories S) (way : Way) (old : List Debu
 stepped_so memory way old before m r new after h =
     let told = reply_after h.answer h.machine.slot h.debuggee.debugger in
     let became : Debuggee = record { machine = h.machine; debugger = debugged way h.answer h.debuggee.debugger } in
-    let walk : Walks memory way h.debuggee before told became after = record { goes = h.goes; answer = h.answer; machine = h.machine; step = h.step; told = refl; changed = refl } in
-    inr (record { debuggee = h.debuggee; became = became; found = h.found; answers = (told, h.told, walked memory way h.debuggee became before after told walk); changed = h.changed })
+    let walk : Walks memory way h.debuggee before told became after =
+    record { goes = h.goes; answer = h.answer; machine = h.machine; step = h.step; told = refl; changed = refl } in
+    inr (record {
+      debuggee = h.debuggee;
+      became = became;
+      found = h.found;
+      answers = (told, h.told, walked memory way h.debuggee became before after told walk);
+      changed = h.changed;
+    })
 
 pub halting : {S : Type 0} (memory : Memories S) (way : Way) (old : List Debuggee) (before : S) (m : ℕ) (r : Reply) (new : List Debuggee) (after : S)
     → Halts way old before m r new after → StepsAt memory way old before m r new after

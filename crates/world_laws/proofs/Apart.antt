@@ -39,7 +39,8 @@ machines_stay old new (Object n c) r h t = object_apart old new n c r h
 machines_stay old new (Ship start code) r h t = absurd (cc)
 machines_stay old new (Machine m c) r h t = absurd (cc)
 
-machine_apart : (old new : WorldState) (m : ℕ) (c : MachineCommand) (r : Reply) → AnswersMachine (store_memory m) old.machines old.store m c r new.machines new.store → is_step (Machine m c) ≡ false
+machine_apart : (old new : WorldState) (m : ℕ) (c : MachineCommand) (r : Reply)
+    → AnswersMachine (store_memory m) old.machines old.store m c r new.machines new.store → is_step (Machine m c) ≡ false
     → new.store ≡ old.store
 machine_apart old new m c r (inl h) t = h.same
 machine_apart old new m (Step way) r (inr h) t = absurd (cc)

@@ -38,7 +38,8 @@ use Rattle.world_laws.proofs.Answered.{Steps, StepsAt, StepAnswer, NoMachine, Pa
 
 -- ---- a store is determined
 
-touched_once : (who : ℕ) (before a b : StoreState) (n : ℕ) (op : Op) (r s : Reach) → Touches who before n op r a → Touches who before n op s b → (r ≡ s) × (a ≡ b)
+touched_once : (who : ℕ) (before a b : StoreState) (n : ℕ) (op : Op) (r s : Reach) → Touches who before n op r a
+    → Touches who before n op s b → (r ≡ s) × (a ≡ b)
 touched_once who before a b n op (reach.Done v) (reach.Done w) g h = (ap reach.Done (g.2 ∙ sym h.2), g.3 ∙ sym h.3)
 touched_once who before a b n op (reach.Done v) reach.Away g h = absurd (h.1 g.1)
 touched_once who before a b n op (reach.Done v) reach.Outside g h = absurd (h.0 g.0)
@@ -67,7 +68,8 @@ away_waits (Measures k) i old n op e = absurd (cc)
 away_waits (AccessesStack x) i old n op e = absurd (cc)
 away_waits (Accesses x) i old n op e = ap (λ k. waits k old) (touch_is x.number n x.op op e)
 
-waiting_step : (who n : ℕ) (old : MachineState) (before : StoreState) (i : Instr) (op : Op) → Attempts old i → asks i old ≡ Touch n op → Reaches before.objects n op → place_of before.places n ≢ Here
+waiting_step : (who n : ℕ) (old : MachineState) (before : StoreState) (i : Instr) (op : Op) → Attempts old i → asks i old ≡ Touch n op
+    → Reaches before.objects n op → place_of before.places n ≢ Here
     → TableStep (store_memory who) old before (stepped.Waiting n) old before
 waiting_step who n old before i op t e g p =
     let answers : table.AnswersRequest (store_memory who) (asks i old) before (Reached reach.Away) before =
@@ -75,7 +77,8 @@ waiting_step who n old before i op t e g p =
     record {
       closes = false;
       mid = before;
-      steps = subst (λ (o : Outcome). StepsFrom old.stop (store_memory who) old before o before) (away_waits (work_of i old) i old n op e) (steps_told (store_memory who) i old before before (Reached reach.Away) t answers);
+      steps = subst (λ (o : Outcome). StepsFrom old.stop (store_memory who) old before o before) (away_waits (work_of i old) i old n op e)
+          (steps_told (store_memory who) i old before before (Reached reach.Away) t answers);
       closed = refl;
     }
 
@@ -90,7 +93,8 @@ StepsStore way old m r new = StepsAt (store_memory m) way old.machines old.store
 held_goes : {P : Type 0} (way : Way) (d e : Debuggee) → d ≡ e → holds_back way d ≡ true → holds_back way e ≡ false → P
 held_goes way d e s p q = let g = rw s at p in absurd (cc)
 
-back : (way : Way) (old new : WorldState) (m n : ℕ) (r : Reply) → Awaits way old m n → StepAnswer (store_memory m) way old.machines old.store m r new.machines new.store → r ≡ Waiting m n
+back : (way : Way) (old new : WorldState) (m n : ℕ) (r : Reply) → Awaits way old m n
+    → StepAnswer (store_memory m) way old.machines old.store m r new.machines new.store → r ≡ Waiting m n
 back way old new m n r w (NoMachine h) = found_none (machine_at old.machines m) w.debuggee h.none w.found
 back way old new m n r w (Pause h) =
     held_goes way h.debuggee w.debuggee (found_once (machine_at old.machines m) h.debuggee w.debuggee h.found w.found) h.held w.goes
@@ -98,7 +102,8 @@ back way old new m n r w (TableRow h) =
     let same = found_once (machine_at old.machines m) h.debuggee w.debuggee h.found w.found in
     let step = subst (λ (x : Debuggee). TableStep (store_memory m) x.machine old.store h.answer h.machine new.store) same h.step in
     let wait = waiting_step m n w.debuggee.machine old.store w.instr w.op w.attempts w.access w.inside w.not_here in
-    let once = steps_one_way (store_memory m) (store_determined m) w.debuggee.machine h.machine w.debuggee.machine old.store new.store old.store h.answer (stepped.Waiting n) step wait in
+    let once = steps_one_way (store_memory m) (store_determined m) w.debuggee.machine h.machine w.debuggee.machine old.store new.store old.store h.answer
+    (stepped.Waiting n) step wait in
     waiting_tells m h.machine.slot n h.debuggee.debugger h.answer r once.0 h.told
 
 -- the answer that is told as waiting
@@ -128,7 +133,8 @@ barred who before after n op reach.Away w h = record { inside = h.0; away = h.1;
 barred who before after n op reach.Busy w h = absurd h
 barred who before after n op _ w h = absurd w
 
-there : (way : Way) (old new : WorldState) (m k n : ℕ) → Steps (store_memory m) way old.machines old.store m (Waiting k n) new.machines new.store → (k ≡ m) × Awaits way old m n × (new ≡ old)
+there : (way : Way) (old new : WorldState) (m k n : ℕ) → Steps (store_memory m) way old.machines old.store m (Waiting k n) new.machines new.store
+    → (k ≡ m) × Awaits way old m n × (new ≡ old)
 there way old new m k n h =
     let t = told_waiting m k n h.machine.slot h.answer h.debuggee.debugger h.told in
     let step = subst (λ (a : Stepped). TableStep (store_memory m) h.debuggee.machine old.store a h.machine new.store) t.answer h.step in
@@ -140,8 +146,19 @@ there way old new m k n h =
     ∙ ap (λ (x : DebugState). with_machine old.machines m (record { machine = h.debuggee.machine; debugger = x })) debugger
     ∙ with_same old.machines m h.debuggee h.found in (
       t.number,
-      record { debuggee = h.debuggee; found = h.found; goes = h.goes; instr = w.1.0; attempts = w.1.3; op = w.1.1; access = w.1.4; inside = b.inside; not_here = b.away },
-      ap (λ (x : List Debuggee). record { machines = x; store = new.store }) machines ∙ ap (λ (x : StoreState). record { machines = old.machines; store = x }) b.same,
+      record {
+        debuggee = h.debuggee;
+        found = h.found;
+        goes = h.goes;
+        instr = w.1.0;
+        attempts = w.1.3;
+        op = w.1.1;
+        access = w.1.4;
+        inside = b.inside;
+        not_here = b.away;
+      },
+      ap (λ (x : List Debuggee). record { machines = x; store = new.store }) machines
+          ∙ ap (λ (x : StoreState). record { machines = old.machines; store = x }) b.same,
     )
 
 table_row : (way : Way) (old new : WorldState) (m k n : ℕ) → StepAnswer (store_memory m) way old.machines old.store m (Waiting k n) new.machines new.store
@@ -153,7 +170,8 @@ table_row way old new m k n (TableRow h) = h
 exactly : (way : Way) (old new : WorldState) (m n : ℕ) (r : Reply) → StepsStore way old m r new
     → ((k : ℕ) → r ≡ Waiting k n → (k ≡ m) × Awaits way old m n × (new ≡ old)) × (Awaits way old m n → r ≡ Waiting m n)
 exactly way old new m n r h = (
-  λ k e. there way old new m k n (table_row way old new m k n (subst (λ (x : Reply). StepAnswer (store_memory m) way old.machines old.store m x new.machines new.store) e
+  λ k e. there way old new m k n (table_row way old new m k n
+      (subst (λ (x : Reply). StepAnswer (store_memory m) way old.machines old.store m x new.machines new.store) e
       (parted (store_memory m) way old.machines old.store m r new.machines new.store h))),
   λ w. back way old new m n r w (parted (store_memory m) way old.machines old.store m r new.machines new.store h),
 )

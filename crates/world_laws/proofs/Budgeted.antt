@@ -28,7 +28,8 @@ no_more Leaving a b h = h
 no_more Far a b h = omega arith
 no_more Returning a b h = h
 
-near_filled : (objects : List (List ℕ)) (places : List Place) (n : ℕ) (b : List ℕ) → length b ≤ length (bytes_of objects n) → near_bytes (with_bytes objects n b) places ≤ near_bytes objects places
+near_filled : (objects : List (List ℕ)) (places : List Place) (n : ℕ) (b : List ℕ) → length b ≤ length (bytes_of objects n)
+    → near_bytes (with_bytes objects n b) places ≤ near_bytes objects places
 near_filled [] places n b h = omega arith
 near_filled (o ∷ os) [] zero b h = omega arith
 near_filled (o ∷ os) [] (suc n) b h = omega arith
@@ -41,7 +42,8 @@ record Fits (budget : ℕ) (s : StoreState) : Type 0 where
   same : s.budget ≡ budget
   fits : near_bytes s.objects s.places ≤ s.budget
 
-touch_fits : (budget who : ℕ) (before after : StoreState) (n : ℕ) (op : Op) (r : Reach) → Fits budget before → Touches who before n op r after → Fits budget after
+touch_fits : (budget who : ℕ) (before after : StoreState) (n : ℕ) (op : Op) (r : Reach) → Fits budget before
+    → Touches who before n op r after → Fits budget after
 touch_fits budget who before next n op (reach.Done v) f h =
     let l = length-after op (bytes_of before.objects n) h.0 in
     subst (Fits budget) (sym h.3) (record {
@@ -86,5 +88,8 @@ one budget old new c r o h = let g = store_changes old new c r h in
 
 pub budget_holds : BudgetHolds
 budget_holds budget faults cs rs new h =
-    let o = run_keeps (Holds budget) (λ x y c r k g. one budget x y c r k g) (world_start budget faults) new cs rs (record { placed = refl; fits = record { same = refl; fits = omega arith } }) h in
+    let o = run_keeps (Holds budget) (λ x y c r k g. one budget x y c r k g) (world_start budget faults) new cs rs (record {
+      placed = refl;
+      fits = record { same = refl; fits = omega arith };
+    }) h in
     omega (arith, o.fits.fits, o.fits.same)

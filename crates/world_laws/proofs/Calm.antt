@@ -1,5 +1,6 @@
 -- Machines that are stopped are calm.
-use Rattle.std.proofs.Common.{◌≡◌, ◌≢◌, ℕ, zero, suc, nat_eq, Bool, true, false, List, [], ◌∷◌, ◌++◌, Some, None, refl, sym, ap, ◌∙◌, subst, ◌⊎◌, inl, inr, arith}
+use Rattle.std.proofs.Common.{◌≡◌, ◌≢◌, ℕ, zero, suc, nat_eq, Bool, true, false, List, [], ◌∷◌, ◌++◌, Some, None, refl, sym, ap, ◌∙◌, subst, ◌⊎◌, inl, inr}
+use Rattle.std.proofs.Common.{arith}
 use Rattle.std.specs.Prelude.{slice_get}
 use Rattle.std.proofs.lemmas.Bool.Decides.{nat_tests}
 use Rattle.object_store.specs.Stores.{StoreState, store_memory, window_of}
@@ -50,16 +51,22 @@ record IsOther (xs : List Debuggee) (m k : ℕ) (d : Debuggee) : Type 0 where
   number : k ≢ m
   found : machine_at xs k ≡ Some d
 
-set_cases : (b : Bool) (xs : List Debuggee) (m k : ℕ) (x e d : Debuggee) → nat_eq k m ≡ b → machine_at xs m ≡ Some x → machine_at (with_machine xs m e) k ≡ Some d → IsSet m k e d ⊎ IsOther xs m k d
+set_cases : (b : Bool) (xs : List Debuggee) (m k : ℕ) (x e d : Debuggee) → nat_eq k m ≡ b → machine_at xs m ≡ Some x
+    → machine_at (with_machine xs m e) k ≡ Some d → IsSet m k e d ⊎ IsOther xs m k d
 set_cases true xs m k x e d t f h =
     let same : k ≡ m = grind (arith, nat_tests) in
-    inl (record { number = same; same = found_once (machine_at (with_machine xs m e) m) d e (subst (λ i. machine_at (with_machine xs m e) i ≡ Some d) same h) (found_set xs m x e f) })
+    inl (record {
+      number = same;
+      same = found_once (machine_at (with_machine xs m e) m) d e
+          (subst (λ i. machine_at (with_machine xs m e) i ≡ Some d) same h) (found_set xs m x e f);
+    })
 set_cases false xs m k x e d t f h =
     let other : k ≢ m = grind (arith, nat_tests) in
     inr (record { number = other; found = sym (other_number xs m k e (not_zero xs m x f) other) ∙ h })
 
 -- the one that is set is calm where it is stopped, and the others keep their windows
-by_cases : (old new : WorldState) (m k : ℕ) (e d : Debuggee) (s : Stop) → ((t : Stop) → e.machine.stop ≡ Some t → IsCalm new m e) → ((j : ℕ) → j ≢ m → window_of new.store.windows j ≡ window_of old.store.windows j)
+by_cases : (old new : WorldState) (m k : ℕ) (e d : Debuggee) (s : Stop) → ((t : Stop) → e.machine.stop ≡ Some t → IsCalm new m e)
+    → ((j : ℕ) → j ≢ m → window_of new.store.windows j ≡ window_of old.store.windows j)
     → AllCalm old → d.machine.stop ≡ Some s → IsSet m k e d ⊎ IsOther old.machines m k d → IsCalm new k d
 by_cases old new m k e d s f g c t (inl i) =
     let there = f s (subst (λ (x : Debuggee). x.machine.stop ≡ Some s) i.same t) in
@@ -68,22 +75,28 @@ by_cases old new m k e d s f g c t (inr i) =
     let there = c k d s i.found t in
     record { unpaused = there.unpaused; unscoped = g k i.number ∙ there.unscoped }
 
-one_calm : (old new : WorldState) (m : ℕ) (x e : Debuggee) → machine_at old.machines m ≡ Some x → new.machines ≡ with_machine old.machines m e → ((t : Stop) → e.machine.stop ≡ Some t → IsCalm new m e)
+one_calm : (old new : WorldState) (m : ℕ) (x e : Debuggee) → machine_at old.machines m ≡ Some x → new.machines ≡ with_machine old.machines m e
+    → ((t : Stop) → e.machine.stop ≡ Some t → IsCalm new m e)
     → ((j : ℕ) → j ≢ m → window_of new.store.windows j ≡ window_of old.store.windows j) → AllCalm old → AllCalm new
 one_calm old new m x e found changed f g c k d s h t =
-    by_cases old new m k e d s f g c t (set_cases (nat_eq k m) old.machines m k x e d refl found (sym (ap (λ (xs : List Debuggee). machine_at xs k) changed) ∙ h))
+    by_cases old new m k e d s f g c t (set_cases (nat_eq k m) old.machines m k x e d refl found (sym (ap (λ (xs : List Debuggee). machine_at xs k) changed)
+    ∙ h))
 
 -- ---- steps
 
 stopped_unpaused : (way : Way) (s : Stop) (d : DebugState) → (debugged way (stepped.Stopped s) d).paused ≡ false
 stopped_unpaused way s d = refl
 
-row_calm : (way : Way) (old new : WorldState) (m : ℕ) (r : Reply) → Steps (store_memory m) way old.machines old.store m r new.machines new.store → AllCalm old → AllCalm new
+row_calm : (way : Way) (old new : WorldState) (m : ℕ) (r : Reply)
+    → Steps (store_memory m) way old.machines old.store m r new.machines new.store → AllCalm old → AllCalm new
 row_calm way old new m r h c =
     one_calm old new m h.debuggee (record { machine = h.machine; debugger = debugged way h.answer h.debuggee.debugger }) h.found h.changed
     (λ t e.
     let g = ends_stopped m h.debuggee.machine h.machine old.store new.store h.answer t h.step e (λ u f. (c m h.debuggee u h.found f).unscoped) in
-    record { unpaused = ap (λ (a : Stepped). (debugged way a h.debuggee.debugger).paused) g.answer ∙ stopped_unpaused way g.stop h.debuggee.debugger; unscoped = g.window })
+    record {
+      unpaused = ap (λ (a : Stepped). (debugged way a h.debuggee.debugger).paused) g.answer ∙ stopped_unpaused way g.stop h.debuggee.debugger;
+      unscoped = g.window;
+    })
     (λ j d. other_window m j h.debuggee.machine h.machine old.store new.store h.answer d h.step) c
 
 -- ---- debug states
@@ -112,14 +125,16 @@ found_appended xs (suc n) x d h = at_appended xs n x d h
 new_runs : {P : Type 0} (d x : Debuggee) (s : Stop) → d ≡ x → x.machine.stop ≡ None → d.machine.stop ≡ Some s → P
 new_runs d x s e f g = let k = rw e at g in absurd (cc)
 
-appended_calm : (old new : WorldState) (x : Debuggee) (m : ℕ) (d : Debuggee) (s : Stop) → x.machine.stop ≡ None → new.store.windows ≡ old.store.windows → AllCalm old → d.machine.stop ≡ Some s
+appended_calm : (old new : WorldState) (x : Debuggee) (m : ℕ) (d : Debuggee) (s : Stop) → x.machine.stop ≡ None → new.store.windows ≡ old.store.windows
+    → AllCalm old → d.machine.stop ≡ Some s
     → (machine_at old.machines m ≡ Some d) ⊎ (d ≡ x) → IsCalm new m d
 appended_calm old new x m d s n w c t (inl h) =
     let g = c m d s h t in
     record { unpaused = g.unpaused; unscoped = ap (λ (ws : List (List ℕ)). window_of ws m) w ∙ g.unscoped }
 appended_calm old new x m d s n w c t (inr e) = new_runs d x s e n t
 
-shipped_calm : (old new : WorldState) (x : Debuggee) → new.machines ≡ old.machines ++ x ∷ [] → x.machine.stop ≡ None → new ≡ record old { machines = new.machines } → AllCalm old → AllCalm new
+shipped_calm : (old new : WorldState) (x : Debuggee) → new.machines ≡ old.machines ++ x ∷ [] → x.machine.stop ≡ None
+    → new ≡ record old { machines = new.machines } → AllCalm old → AllCalm new
 shipped_calm old new x e n f c m d s h t = appended_calm old new x m d s n (ap (λ (w : WorldState). w.store.windows) f) c t
     (found_appended old.machines m x d (sym (ap (λ (xs : List Debuggee). machine_at xs m) e) ∙ h))
 
@@ -138,4 +153,5 @@ no_machine zero d e = absurd (cc)
 no_machine (suc m) d e = absurd (cc)
 
 pub stopped_machines_are_calm : StoppedMachinesAreCalm
-stopped_machines_are_calm budget faults cs rs new h = run_keeps AllCalm (λ x y c r k g. by_sort x y c r (sort_of x y c r g) k) (world_start budget faults) new cs rs (λ m d s e t. no_machine m d e) h
+stopped_machines_are_calm budget faults cs rs new h =
+    run_keeps AllCalm (λ x y c r k g. by_sort x y c r (sort_of x y c r g) k) (world_start budget faults) new cs rs (λ m d s e t. no_machine m d e) h

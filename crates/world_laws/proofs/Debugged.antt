@@ -29,7 +29,8 @@ written old new m d e f h k n = ap (λ (ms : List Debuggee). machine_at ms k) h 
 abbrev Alone : WorldState → WorldState → ℕ → Type 0
 Alone old new m = (new.store ≡ old.store) × (map machine_in new.machines ≡ map machine_in old.machines) × Others old.machines new.machines m
 
-alone : (old new : WorldState) (m : ℕ) (c : DebugCommand) (r : Reply) → AnswersMachine (store_memory m) old.machines old.store m (Debug c) r new.machines new.store → Alone old new m
+alone : (old new : WorldState) (m : ℕ) (c : DebugCommand) (r : Reply)
+    → AnswersMachine (store_memory m) old.machines old.store m (Debug c) r new.machines new.store → Alone old new m
 alone old new m c r (inl h) = (h.same, ap (map machine_in) h.unchanged, equal old.machines new.machines m h.unchanged)
 alone old new m c r (inr h) = (
   h.answers.3,
@@ -42,7 +43,8 @@ debugging_keeps old new m c r h = alone old new m c r h
 
 -- ---- any command on a machine
 
-others : (old new : WorldState) (m : ℕ) (c : MachineCommand) (r : Reply) → AnswersMachine (store_memory m) old.machines old.store m c r new.machines new.store → Others old.machines new.machines m
+others : (old new : WorldState) (m : ℕ) (c : MachineCommand) (r : Reply)
+    → AnswersMachine (store_memory m) old.machines old.store m c r new.machines new.store → Others old.machines new.machines m
 others old new m c r (inl h) = equal old.machines new.machines m h.unchanged
 others old new m c r (inr h) = written old.machines new.machines m h.debuggee h.became h.found h.changed
 
@@ -58,7 +60,8 @@ step_scopes m way old new r (NoMachine h) k n = ap (λ (s : StoreState). window_
 step_scopes m way old new r (Pause h) k n = ap (λ (s : StoreState). window_of s.windows k) h.same
 step_scopes m way old new r (TableRow h) k n = other_window m k h.debuggee.machine h.machine old.store new.store h.answer n h.step
 
-scopes : (old new : WorldState) (m : ℕ) (c : MachineCommand) (r : Reply) → AnswersMachine (store_memory m) old.machines old.store m c r new.machines new.store → Scopes old new m
+scopes : (old new : WorldState) (m : ℕ) (c : MachineCommand) (r : Reply)
+    → AnswersMachine (store_memory m) old.machines old.store m c r new.machines new.store → Scopes old new m
 scopes old new m (Step way) r h k n = step_scopes m way old new r (parted (store_memory m) way old.machines old.store m r new.machines new.store h) k n
 scopes old new m c r (inl h) k n = ap (λ (s : StoreState). window_of s.windows k) h.same
 scopes old new m (Show c) r (inr h) k n = ap (λ (s : StoreState). window_of s.windows k) h.answers.4

@@ -22,38 +22,88 @@ use Rattle.world_laws.proofs.StoreCalls.{Move, Refused, Moves}
 
 -- ---- what it does to the store
 
-refused : (at : Place) (old new : StoreState) (n : ℕ) (m : Moved) (told : Reply) (back : Place) → RefusesMove at old n m new → Move old n (reply_to_move told back n m) new
+refused : (at : Place) (old new : StoreState) (n : ℕ) (m : Moved) (told : Reply) (back : Place) → RefusesMove at old n m new
+    → Move old n (reply_to_move told back n m) new
 refused at old new n moved.NoObject told back h = Refused refl h.1
 refused at old new n (moved.Misplaced q) told back h = Refused refl h.2
 refused at old new n _ told back h = absurd h
 
 begun_leave : (old new : StoreState) (n : ℕ) (m : Moved) → BeginsLeave old n m new → Move old n (reply_to_move (reply.Leaving n) place.Here n m) new
 begun_leave old new n moved.Done h = Moves place.Here place.Leaving old.faults
-    (record { stands = h.0; fits = λ g. omega (arith, g); unscoped = λ e. h.1; done = refl; told = λ k p. refl; is_unmade = refl; fault = λ k p e. absurd (cc) }) h.2
+    (record {
+      stands = h.0;
+      fits = λ g. omega (arith, g);
+      unscoped = λ e. h.1;
+      done = refl;
+      told = λ k p. refl;
+      is_unmade = refl;
+      fault = λ k p e. absurd (cc);
+    }) h.2
 begun_leave old new n moved.Scoped h = Refused refl h.2
 begun_leave old new n m h = refused place.Here old new n m (reply.Leaving n) place.Here h
 
 ended_leave : (old new : StoreState) (n : ℕ) (m : Moved) → EndsLeave old n m new → Move old n (reply_to_move (reply.Left n) place.Here n m) new
 ended_leave old new n moved.Done h = Moves place.Leaving place.Far new.faults
-    (record { stands = h.0; fits = λ g. omega (arith, g); unscoped = λ e. absurd (cc); done = refl; told = λ k p. refl; is_unmade = refl; fault = λ k p e. absurd (cc) }) h.2
+    (record {
+      stands = h.0;
+      fits = λ g. omega (arith, g);
+      unscoped = λ e. absurd (cc);
+      done = refl;
+      told = λ k p. refl;
+      is_unmade = refl;
+      fault = λ k p e. absurd (cc);
+    }) h.2
 ended_leave old new n (moved.Fault f) h = Moves place.Leaving place.Here new.faults
-    (record { stands = h.0; fits = λ g. omega (arith, g); unscoped = λ e. absurd (cc); done = refl; told = λ k p. refl; is_unmade = refl; fault = λ k p e. (h.1, cc, cc) }) h.2
+    (record {
+      stands = h.0;
+      fits = λ g. omega (arith, g);
+      unscoped = λ e. absurd (cc);
+      done = refl;
+      told = λ k p. refl;
+      is_unmade = refl;
+      fault = λ k p e. (h.1, cc, cc);
+    }) h.2
 ended_leave old new n m h = refused place.Leaving old new n m (reply.Left n) place.Here h
 
 begun_return : (old new : StoreState) (n : ℕ) (m : Moved) → BeginsReturn old n m new → Move old n (reply_to_move (reply.Returning n) place.Far n m) new
 begun_return old new n moved.Done h = Moves place.Far place.Returning old.faults
-    (record { stands = h.0; fits = λ g. omega (arith, h.1); unscoped = λ e. absurd (cc); done = refl; told = λ k p. refl; is_unmade = refl; fault = λ k p e. absurd (cc) }) h.2
+    (record {
+      stands = h.0;
+      fits = λ g. omega (arith, h.1);
+      unscoped = λ e. absurd (cc);
+      done = refl;
+      told = λ k p. refl;
+      is_unmade = refl;
+      fault = λ k p e. absurd (cc);
+    }) h.2
 begun_return old new n moved.NoRoom h = Refused refl h.2
 begun_return old new n m h = refused place.Far old new n m (reply.Returning n) place.Far h
 
 ended_return : (old new : StoreState) (n : ℕ) (m : Moved) → EndsReturn true old n m new → Move old n (reply_to_move (reply.Home n) place.Far n m) new
 ended_return old new n moved.Done h = Moves place.Returning place.Here old.faults
-    (record { stands = h.0; fits = λ g. omega (arith, g); unscoped = λ e. absurd (cc); done = refl; told = λ k p. refl; is_unmade = refl; fault = λ k p e. absurd (cc) }) h.1
+    (record {
+      stands = h.0;
+      fits = λ g. omega (arith, g);
+      unscoped = λ e. absurd (cc);
+      done = refl;
+      told = λ k p. refl;
+      is_unmade = refl;
+      fault = λ k p e. absurd (cc);
+    }) h.1
 ended_return old new n (moved.Fault f) h = Moves place.Returning place.Far new.faults
-    (record { stands = h.0; fits = λ g. omega (arith, g); unscoped = λ e. absurd (cc); done = refl; told = λ k p. refl; is_unmade = refl; fault = λ k p e. (h.1, cc, cc) }) h.2
+    (record {
+      stands = h.0;
+      fits = λ g. omega (arith, g);
+      unscoped = λ e. absurd (cc);
+      done = refl;
+      told = λ k p. refl;
+      is_unmade = refl;
+      fault = λ k p e. (h.1, cc, cc);
+    }) h.2
 ended_return old new n m h = refused place.Returning old new n m (reply.Home n) place.Far h
 
-pub store_move : (k : MoveKind) (old new : StoreState) (n : ℕ) (m : Moved) → MovesSo k old n m new → Move old n (reply_to_move (moved_reply k n) (place_before k) n m) new
+pub store_move : (k : MoveKind) (old new : StoreState) (n : ℕ) (m : Moved) → MovesSo k old n m new
+    → Move old n (reply_to_move (moved_reply k n) (place_before k) n m) new
 store_move move.Leave old new n m h = begun_leave old new n m h
 store_move move.Left old new n m h = ended_leave old new n m h
 store_move move.Return old new n m h = begun_return old new n m h
@@ -173,7 +223,8 @@ abbrev pub cleared : StoreState → StoreState
 cleared s = record s { faults = 0 }
 
 abbrev pub Clears : (StoreState → ℕ → Moved → StoreState → Type 0) → Type 0
-Clears moves = (old new : StoreState) (n : ℕ) (told : Reply) (back : Place) (m : Moved) → moves old n m new → is_settled (reply_to_move told back n m) ≡ true → moves (cleared old) n m (cleared new)
+Clears moves = (old new : StoreState) (n : ℕ) (told : Reply) (back : Place) (m : Moved) → moves old n m new
+    → is_settled (reply_to_move told back n m) ≡ true → moves (cleared old) n m (cleared new)
 
 pub frees_clears : Clears Frees
 frees_clears old new n told back m h t = grind arith
@@ -187,30 +238,44 @@ module _ (n : ℕ) (b : List ℕ) (k : ℕ) (h : k ≢ n) where
   stands : (s : StoreState) (p : Place) → StandsAt p s k → StandsAt p (blind n b s) k
   stands s p g = (subst (λ (y : List ℕ). 0 < length y) (sym (other s.objects n k b h)) g.0, g.1)
 
-  refused_blind : (p : Place) (old new : StoreState) (m : Moved) → RefusesMove p old k m new → RefusesMove p (blind n b old) k m (blind n b new) × Leaves n old new
-  refused_blind p old new moved.NoObject g = (((λ l. g.0 (subst (λ (y : List ℕ). 0 < length y) (other old.objects n k b h) l)), ap (blind n b) g.1), leaves_same n old new g.1)
+  refused_blind : (p : Place) (old new : StoreState) (m : Moved) → RefusesMove p old k m new
+      → RefusesMove p (blind n b old) k m (blind n b new) × Leaves n old new
+  refused_blind p old new moved.NoObject g =
+      (((λ l. g.0 (subst (λ (y : List ℕ). 0 < length y) (other old.objects n k b h) l)), ap (blind n b) g.1), leaves_same n old new g.1)
   refused_blind p old new (moved.Misplaced q) g = ((stands old q g.0, g.1, ap (blind n b) g.2), leaves_same n old new g.2)
   refused_blind p old new _ g = absurd g
 
   pub frees_blind : (old new : StoreState) (m : Moved) → Suits n b old → Frees old k m new → Frees (blind n b old) k m (blind n b new) × Leaves n old new
   frees_blind old new moved.Scoped f g = ((stands old place.Here g.0, g.1, ap (blind n b) g.2), leaves_same n old new g.2)
   frees_blind old new moved.Done f g = (
-    (stands old place.Here g.0, g.1, g.2, ap (blind n b) g.3 ∙ ap (λ (os : List (List ℕ)). record old { objects = os; faults = new.faults }) (set_commutes old.objects k n [] b h)),
+    (
+      stands old place.Here g.0,
+      g.1,
+      g.2,
+      ap (blind n b) g.3
+          ∙ ap (λ (os : List (List ℕ)). record old { objects = os; faults = new.faults }) (set_commutes old.objects k n [] b h),
+    ),
     leaves_set n old new k [] h (ap (λ (s : StoreState). s.objects) g.3),
   )
   frees_blind old new m f g = refused_blind place.Here old new m g
 
-  leave_blind : (old new : StoreState) (m : Moved) → Suits n b old → BeginsLeave old k m new → BeginsLeave (blind n b old) k m (blind n b new) × Leaves n old new
+  leave_blind : (old new : StoreState) (m : Moved) → Suits n b old → BeginsLeave old k m new
+      → BeginsLeave (blind n b old) k m (blind n b new) × Leaves n old new
   leave_blind old new moved.Scoped f g = ((stands old place.Here g.0, g.1, ap (blind n b) g.2), leaves_same n old new g.2)
   leave_blind old new moved.Done f g = ((stands old place.Here g.0, g.1, ap (blind n b) g.2), leaves_objects n old new (ap (λ (s : StoreState). s.objects) g.2))
   leave_blind old new m f g = refused_blind place.Here old new m g
 
   left_blind : (old new : StoreState) (m : Moved) → Suits n b old → EndsLeave old k m new → EndsLeave (blind n b old) k m (blind n b new) × Leaves n old new
-  left_blind old new (moved.Fault e) f g = ((stands old place.Leaving g.0, g.1, ap (blind n b) g.2), leaves_objects n old new (ap (λ (s : StoreState). s.objects) g.2))
-  left_blind old new moved.Done f g = ((stands old place.Leaving g.0, g.1, ap (blind n b) g.2), leaves_objects n old new (ap (λ (s : StoreState). s.objects) g.2))
+  left_blind old new (moved.Fault e) f g =
+      ((stands old place.Leaving g.0, g.1, ap (blind n b) g.2), leaves_objects n old new (ap (λ (s : StoreState). s.objects) g.2))
+  left_blind old new moved.Done f g = (
+    (stands old place.Leaving g.0, g.1, ap (blind n b) g.2),
+    leaves_objects n old new (ap (λ (s : StoreState). s.objects) g.2),
+  )
   left_blind old new m f g = refused_blind place.Leaving old new m g
 
-  return_blind : (old new : StoreState) (m : Moved) → Suits n b old → BeginsReturn old k m new → BeginsReturn (blind n b old) k m (blind n b new) × Leaves n old new
+  return_blind : (old new : StoreState) (m : Moved) → Suits n b old → BeginsReturn old k m new
+      → BeginsReturn (blind n b old) k m (blind n b new) × Leaves n old new
   return_blind old new moved.NoRoom f g =
       let x = near_same old.objects old.places n b f.long in
       let y = ap length (other old.objects n k b h) in
@@ -221,12 +286,16 @@ module _ (n : ℕ) (b : List ℕ) (k : ℕ) (h : k ≢ n) where
       ((stands old place.Far g.0, omega (arith, x, y, g.1), ap (blind n b) g.2), leaves_objects n old new (ap (λ (s : StoreState). s.objects) g.2))
   return_blind old new m f g = refused_blind place.Far old new m g
 
-  returned_blind : (old new : StoreState) (m : Moved) → Suits n b old → EndsReturn true old k m new → EndsReturn true (blind n b old) k m (blind n b new) × Leaves n old new
-  returned_blind old new (moved.Fault e) f g = ((stands old place.Returning g.0, g.1, ap (blind n b) g.2), leaves_objects n old new (ap (λ (s : StoreState). s.objects) g.2))
-  returned_blind old new moved.Done f g = ((stands old place.Returning g.0, ap (blind n b) g.1), leaves_objects n old new (ap (λ (s : StoreState). s.objects) g.1))
+  returned_blind : (old new : StoreState) (m : Moved) → Suits n b old → EndsReturn true old k m new
+      → EndsReturn true (blind n b old) k m (blind n b new) × Leaves n old new
+  returned_blind old new (moved.Fault e) f g =
+      ((stands old place.Returning g.0, g.1, ap (blind n b) g.2), leaves_objects n old new (ap (λ (s : StoreState). s.objects) g.2))
+  returned_blind old new moved.Done f g =
+      ((stands old place.Returning g.0, ap (blind n b) g.1), leaves_objects n old new (ap (λ (s : StoreState). s.objects) g.1))
   returned_blind old new m f g = refused_blind place.Returning old new m g
 
-  pub moves_blind : (kind : MoveKind) (old new : StoreState) (m : Moved) → Suits n b old → MovesSo kind old k m new → MovesSo kind (blind n b old) k m (blind n b new) × Leaves n old new
+  pub moves_blind : (kind : MoveKind) (old new : StoreState) (m : Moved) → Suits n b old → MovesSo kind old k m new
+      → MovesSo kind (blind n b old) k m (blind n b new) × Leaves n old new
   moves_blind move.Leave old new m f g = leave_blind old new m f g
   moves_blind move.Left old new m f g = left_blind old new m f g
   moves_blind move.Return old new m f g = return_blind old new m f g

@@ -52,5 +52,6 @@ case_keeps mem old before mid o (inl d) = ap (λ (x : Outcome). x.machine.code) 
 case_keeps mem old before mid o (inr (inl d)) = ap (λ (x : Outcome). x.machine.code) d.becomes
 case_keeps mem old before mid o (inr (inr d)) = ap (λ (x : Outcome). x.machine.code) d.becomes ∙ told_keeps (work_of d.instr old) d.instr old d.said
 
-pub step_keeps_code : {M : Type 0} (mem : Memories M) (old new : MachineState) (before after : M) (a : Stepped) → TableStep mem old before a new after → new.code ≡ old.code
+pub step_keeps_code : {M : Type 0} (mem : Memories M) (old new : MachineState) (before after : M) (a : Stepped)
+    → TableStep mem old before a new after → new.code ≡ old.code
 step_keeps_code mem old new before after a t = case_keeps mem old before t.mid _ (step_case mem old.stop old before _ t.mid refl t.steps)

@@ -16,13 +16,15 @@ found_none o d a b = absurd (cc)
 
 -- ---- written back
 
-map_same : {B : Type 0} (f : Debuggee → B) (xs : List Debuggee) (n : ℕ) (x y : Debuggee) → slice_get xs n ≡ Some x → f y ≡ f x → map f (slice_set xs n y) ≡ map f xs
+map_same : {B : Type 0} (f : Debuggee → B) (xs : List Debuggee) (n : ℕ) (x y : Debuggee) → slice_get xs n ≡ Some x → f y ≡ f x
+    → map f (slice_set xs n y) ≡ map f xs
 map_same f [] n x y e h = refl
 map_same f (z ∷ zs) zero x y e h = let g : z ≡ x = cc in rw (g, h) refl
 map_same f (z ∷ zs) (suc n) x y e h = ap (λ l. f z ∷ l) (map_same f zs n x y e h)
 
 -- what is the same in the one that is written is the same in all
-pub with_map : {B : Type 0} (f : Debuggee → B) (ms : List Debuggee) (m : ℕ) (x y : Debuggee) → machine_at ms m ≡ Some x → f y ≡ f x → map f (with_machine ms m y) ≡ map f ms
+pub with_map : {B : Type 0} (f : Debuggee → B) (ms : List Debuggee) (m : ℕ) (x y : Debuggee) → machine_at ms m ≡ Some x → f y ≡ f x
+    → map f (with_machine ms m y) ≡ map f ms
 with_map f ms zero x y e h = absurd (cc)
 with_map f ms (suc n) x y e h =
     let i : suc n - 1 ≡ n = omega arith in

@@ -44,7 +44,8 @@ use Rattle.world_laws.proofs.Awaited.{store_determined}
 
 -- two answers to one command are the same
 abbrev MachinesOneWay : (List Debuggee → Reply → List Debuggee → Type 0) → Type 0
-MachinesOneWay answers = (old new other : List Debuggee) (a b : Reply) → answers old a new → answers old b other → is_settled a ≡ true → is_settled b ≡ true → (a ≡ b) × (new ≡ other)
+MachinesOneWay answers = (old new other : List Debuggee) (a b : Reply) → answers old a new → answers old b other → is_settled a ≡ true
+    → is_settled b ≡ true → (a ≡ b) × (new ≡ other)
 
 -- ---- shipping
 
@@ -123,16 +124,19 @@ line_first m code n (show_reply.Disassembled i t) g p = inr (at_row code n g.1.i
 line_first m code n show_reply.NoMemory g p = absurd (cc)
 line_first m code n _ g p = absurd g
 
-show_once : (m : ℕ) (c : ShowCommand) (d : Debuggee) (a b : ShowReply) → Shows c d a → Shows c d b → is_settled (reply_to_show m a) ≡ true → is_settled (reply_to_show m b) ≡ true → a ≡ b
+show_once : (m : ℕ) (c : ShowCommand) (d : Debuggee) (a b : ShowReply) → Shows c d a → Shows c d b → is_settled (reply_to_show m a) ≡ true
+    → is_settled (reply_to_show m b) ≡ true → a ≡ b
 show_once m Regs d (show_reply.Registers s) (show_reply.Registers t) g h p q = ap show_reply.Registers (g ∙ sym h)
 show_once m Regs d (show_reply.Registers s) _ g h p q = absurd h
 show_once m Out d (show_reply.Emitted v) (show_reply.Emitted u) g h p q = ap show_reply.Emitted (g ∙ sym h)
 show_once m Out d (show_reply.Emitted v) _ g h p q = absurd h
-show_once m (Stack o z) d a b g h p q = decides_once (λ r. o + z ≤ length d.machine.stack) (show_reply.Outside ∷ []) (show_reply.Bytes (take z (drop o d.machine.stack))) a b
+show_once m (Stack o z) d a b g h p q =
+    decides_once (λ r. o + z ≤ length d.machine.stack) (show_reply.Outside ∷ []) (show_reply.Bytes (take z (drop o d.machine.stack))) a b
     (bytes_first m d.machine.stack o z a g p) (bytes_first m d.machine.stack o z b h q)
 show_once m (Line n) d a b g h p q =
     let code = d.machine.code in
-    unless_once (IsAt code n) (λ (x : ShowReply). x ≡ show_reply.NoSlot) (TellsLine code n) (this_once show_reply.NoSlot) (one_line code n) a b (line_first m code n a g p) (line_first m code n b h q)
+    unless_once (IsAt code n) (λ (x : ShowReply). x ≡ show_reply.NoSlot) (TellsLine code n) (this_once show_reply.NoSlot) (one_line code n) a b
+    (line_first m code n a g p) (line_first m code n b h q)
 show_once m _ d _ _ g h p q = absurd g
 
 -- ---- steps
@@ -140,12 +144,15 @@ show_once m _ d _ _ g h p q = absurd g
 abbrev debuggee : MachineState → DebugState → Debuggee
 debuggee m d = record { machine = m; debugger = d }
 
-walk_once : (who : ℕ) (w : Way) (old x y : Debuggee) (s t u : StoreState) (a b : StepReply) → Walks (store_memory who) w old s a x t → Walks (store_memory who) w old s b y u
+walk_once : (who : ℕ) (w : Way) (old x y : Debuggee) (s t u : StoreState) (a b : StepReply) → Walks (store_memory who) w old s a x t
+    → Walks (store_memory who) w old s b y u
     → (a ≡ b) × (x ≡ y) × (t ≡ u)
 walk_once who w old x y s t u a b d e =
     let k = steps_one_way (store_memory who) (store_determined who) old.machine d.machine e.machine s t u d.answer e.answer d.step e.step in (
-      d.told ∙ ap (λ (r : Stepped). reply_after r d.machine.slot old.debugger) k.0 ∙ ap (λ (m : MachineState). reply_after e.answer m.slot old.debugger) k.1 ∙ sym e.told,
-      d.changed ∙ ap (λ (r : Stepped). debuggee d.machine (debugged w r old.debugger)) k.0 ∙ ap (λ (m : MachineState). debuggee m (debugged w e.answer old.debugger)) k.1 ∙ sym e.changed,
+      d.told ∙ ap (λ (r : Stepped). reply_after r d.machine.slot old.debugger) k.0
+          ∙ ap (λ (m : MachineState). reply_after e.answer m.slot old.debugger) k.1 ∙ sym e.told,
+      d.changed ∙ ap (λ (r : Stepped). debuggee d.machine (debugged w r old.debugger)) k.0
+          ∙ ap (λ (m : MachineState). debuggee m (debugged w e.answer old.debugger)) k.1 ∙ sym e.changed,
       k.2,
     )
 
@@ -153,7 +160,8 @@ walk_once who w old x y s t u a b d e =
 not_both : {X : Type 0} (w : Way) (d : Debuggee) → holds_back w d ≡ true → holds_back w d ≡ false → X
 not_both w d h k = absurd (cc)
 
-step_once : (who : ℕ) (w : Way) (old x y : Debuggee) (s t u : StoreState) (a b : StepReply) → AnswersStep (store_memory who) w old s a x t → AnswersStep (store_memory who) w old s b y u
+step_once : (who : ℕ) (w : Way) (old x y : Debuggee) (s t u : StoreState) (a b : StepReply) → AnswersStep (store_memory who) w old s a x t
+    → AnswersStep (store_memory who) w old s b y u
     → (a ≡ b) × (x ≡ y) × (t ≡ u)
 step_once who w old x y s t u (step_reply.Paused i) (step_reply.Paused j) g h =
     let e : i ≡ j = g.slot_is ∙ sym h.slot_is in
@@ -166,8 +174,11 @@ step_once who w old x y s t u a b g h = walk_once who w old x y s t u a b g h
 
 debug_once : (c : DebugCommand) (d x y : Debuggee) (a b : Debugged) → DebugsMachine c d a x → DebugsMachine c d b y → (a ≡ b) × (x ≡ y)
 debug_once c d x y a b g h =
-    let e = decides_once (Needs c d.machine.code d.debugger) (refusals_of c) debug_reply.Done a b g.0.0 h.0.0 in
-    (e, g.1 ∙ ap (λ (s : DebugState). record d { debugger = s }) (g.0.1 ∙ ap (λ (o : Debugged). left_by o d.debugger (change_of c d.debugger)) e ∙ sym h.0.1) ∙ sym h.1)
+    let e = decides_once (Needs c d.machine.code d.debugger) (refusals_of c) debug_reply.Done a b g.0.0 h.0.0 in (
+      e,
+      g.1 ∙ ap (λ (s : DebugState). record d { debugger = s }) (g.0.1
+          ∙ ap (λ (o : Debugged). left_by o d.debugger (change_of c d.debugger)) e ∙ sym h.0.1) ∙ sym h.1,
+    )
 
 -- ---- all commands on machines
 
@@ -188,10 +199,12 @@ finds_once : (who : ℕ) (c : MachineCommand) (old new other : List Debuggee) (s
     → Finds (store_memory who) old s who c b other u → is_settled a ≡ true → is_settled b ≡ true → Same new other t u a b
 finds_once who c old new other s t u a b g h p q =
     let same = found_once (machine_at old who) g.debuggee h.debuggee g.found h.found in
-    let e = command_once who c h.debuggee g.became h.became s t u a b (subst (λ (d : Debuggee). AnswersCommand (store_memory who) d s who c a g.became t) same g.answers) h.answers p q in
+    let e = command_once who c h.debuggee g.became h.became s t u a b
+    (subst (λ (d : Debuggee). AnswersCommand (store_memory who) d s who c a g.became t) same g.answers) h.answers p q in
     (e.0, g.changed ∙ ap (λ (d : Debuggee). with_machine old who d) e.1 ∙ sym h.changed, e.2)
 
-pub machine : (who : ℕ) (c : MachineCommand) (old new other : List Debuggee) (s t u : StoreState) (a b : Reply) → AnswersMachine (store_memory who) old s who c a new t
+pub machine : (who : ℕ) (c : MachineCommand) (old new other : List Debuggee) (s t u : StoreState) (a b : Reply)
+    → AnswersMachine (store_memory who) old s who c a new t
     → AnswersMachine (store_memory who) old s who c b other u → is_settled a ≡ true → is_settled b ≡ true → Same new other t u a b
 machine who c old new other s t u a b (inl g) (inl h) p q = (g.told ∙ sym h.told, g.unchanged ∙ sym h.unchanged, g.same ∙ sym h.same)
 machine who c old new other s t u a b (inl g) (inr h) p q = found_none (machine_at old who) h.debuggee g.none h.found

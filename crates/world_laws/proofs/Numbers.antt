@@ -31,7 +31,8 @@ other _ replies t = refl
 same_count : (old new : StoreState) (r : Reply) → is_made r ≡ false → count new ≡ count old → Adds old r new
 same_count old new r i e replies h = rw (other r replies i) (subst (λ n. CountsFrom n replies) e h)
 
-made : (old new : StoreState) (size : ℕ) → new ≡ record old { objects = old.objects ++ replicate size 0 ∷ []; places = old.places ++ Here ∷ [] } → Adds old (Made (count old)) new
+made : (old new : StoreState) (size : ℕ) → new ≡ record old { objects = old.objects ++ replicate size 0 ∷ []; places = old.places ++ Here ∷ [] }
+    → Adds old (Made (count old)) new
 made old new size e replies h =
     let more : count new ≡ suc (count old) = ap count e ∙ length-append old.objects _ ∙ omega arith in
     ap (λ (l : List ℕ). count old ∷ l) (subst (λ k. CountsFrom k replies) more h)

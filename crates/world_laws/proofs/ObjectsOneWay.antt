@@ -27,19 +27,22 @@ OneWay answers = (old new other : WorldState) (a b : Reply) → answers old a ne
 
 -- an answer is the first need that isn't met
 abbrev Firsts : (WorldState → Reply → WorldState → Type 0) → (WorldState → Reply → Type 0) → (WorldState → List Reply) → (WorldState → Reply) → Type 0
-Firsts answers Needs refusals done = (old new : WorldState) (r : Reply) → answers old r new → is_settled r ≡ true → Decides (Needs old) (refusals old) (done old) r
+Firsts answers Needs refusals done = (old new : WorldState) (r : Reply) → answers old r new → is_settled r ≡ true
+    → Decides (Needs old) (refusals old) (done old) r
 
 -- an answer leads to one state
 abbrev Leads : (WorldState → Reply → WorldState → Type 0) → Type 0
 Leads answers = (old new other : WorldState) (r : Reply) → answers old r new → answers old r other → new ≡ other
 
-decided : (answers : WorldState → Reply → WorldState → Type 0) (Needs : WorldState → Reply → Type 0) (refusals : WorldState → List Reply) (done : WorldState → Reply)
+decided : (answers : WorldState → Reply → WorldState → Type 0) (Needs : WorldState → Reply → Type 0) (refusals : WorldState
+    → List Reply) (done : WorldState → Reply)
     → Firsts answers Needs refusals done → Leads answers → OneWay answers
 decided answers Needs refusals done first leads old new other a b g h f p q =
     let e = decides_once (Needs old) (refusals old) (done old) a b (first old new a g p) (first old other b h q) in
     (e, leads old new other b (subst (λ (x : Reply). answers old x new) e g) h)
 
-same_stores : (old new other : WorldState) → new.store ≡ other.store → new ≡ record old { store = new.store } → other ≡ record old { store = other.store } → new ≡ other
+same_stores : (old new other : WorldState) → new.store ≡ other.store → new ≡ record old { store = new.store }
+    → other ≡ record old { store = other.store } → new ≡ other
 same_stores old new other e g h = g ∙ ap (λ (s : StoreState). record old { store = s }) e ∙ sym h
 
 -- ---- making, writing and reading
@@ -64,7 +67,8 @@ make_leads z old new other (Made n) g h = same_stores old new other (g.0.3 ∙ s
 make_leads z old new other _ g h = absurd g
 
 pub make : (z : ℕ) → OneWay (λ old a new. AnswersMake old z a new)
-make z = decided (λ old r new. AnswersMake old z r new) (MakeNeeds z) (λ old. Full ∷ NoRoom ∷ []) (λ old. Made (length old.store.objects)) (make_first z) (make_leads z)
+make z = decided (λ old r new. AnswersMake old z r new) (MakeNeeds z) (λ old. Full ∷ NoRoom
+    ∷ []) (λ old. Made (length old.store.objects)) (make_first z) (make_leads z)
 
 -- the range is in the object, which is here
 abbrev RangeNeeds : ℕ → ℕ → ℕ → WorldState → Reply → Type 0
@@ -72,7 +76,8 @@ RangeNeeds n o z old Outside = HasRange old.store.objects n o z
 RangeNeeds n o z old (Away k) = place_of old.store.places n ≡ place.Here
 RangeNeeds n o z old _ = Unit {0}
 
-put_first : (n o : ℕ) (bytes : List ℕ) → Firsts (λ old r new. AnswersPut old n o bytes r new) (RangeNeeds n o (length bytes)) (λ old. Outside ∷ Away n ∷ []) (λ old. Done)
+put_first : (n o : ℕ) (bytes : List ℕ) → Firsts (λ old r new. AnswersPut old n o bytes r new) (RangeNeeds n o (length bytes)) (λ old. Outside ∷ Away n
+    ∷ []) (λ old. Done)
 put_first n o bytes old new Outside g p = inl (g.0.0, refl)
 put_first n o bytes old new (Away k) g p = inr (g.1.0.0, inl (g.1.0.1, ap Away g.0))
 put_first n o bytes old new Done g p = inr (g.0.0, inr (g.0.1, refl))
@@ -85,7 +90,8 @@ put_leads n o bytes old new other Done g h = same_stores old new other (g.0.2 �
 put_leads n o bytes old new other _ g h = absurd g
 
 put : (n o : ℕ) (bytes : List ℕ) → OneWay (λ old a new. AnswersPut old n o bytes a new)
-put n o bytes = decided (λ old r new. AnswersPut old n o bytes r new) (RangeNeeds n o (length bytes)) (λ old. Outside ∷ Away n ∷ []) (λ old. Done) (put_first n o bytes) (put_leads n o bytes)
+put n o bytes = decided (λ old r new. AnswersPut old n o bytes r new) (RangeNeeds n o (length bytes)) (λ old. Outside ∷ Away n
+    ∷ []) (λ old. Done) (put_first n o bytes) (put_leads n o bytes)
 
 -- a get is answered, and the world stays as it is
 abbrev GetsAndKeeps : ℕ → ℕ → ℕ → WorldState → Reply → WorldState → Type 0
@@ -99,7 +105,8 @@ get_first n o z old new NoMemory g p = absurd (cc)
 get_first n o z old new _ g p = absurd g.0
 
 get : (n o z : ℕ) → OneWay (GetsAndKeeps n o z)
-get n o z = decided (GetsAndKeeps n o z) (RangeNeeds n o z) (λ old. Outside ∷ Away n ∷ []) (λ old. Bytes (range_of old.store.objects n o z)) (get_first n o z) (λ old new other r g h. g.1 ∙ sym h.1)
+get n o z = decided (GetsAndKeeps n o z) (RangeNeeds n o z) (λ old. Outside ∷ Away n
+    ∷ []) (λ old. Bytes (range_of old.store.objects n o z)) (get_first n o z) (λ old new other r g h. g.1 ∙ sym h.1)
 
 -- ---- moves
 
@@ -108,7 +115,8 @@ moved_once : (moves : StoreMoves) (from : Place) (more : List Moved) → MoveFir
 moved_once moves from more first leads told back n old new other a b g h f p q =
     let x = settles told back n g.moved (sym (ap is_settled g.told) ∙ p) in
     let y = settles told back n h.moved (sym (ap is_settled h.told) ∙ q) in
-    let e = decides_once (MoveNeeds from old.store n) (move_refusals old.store n more) moved.Done g.moved h.moved (first old.store new.store n g.moved g.move x) (first old.store other.store n h.moved h.move y) in
+    let e = decides_once (MoveNeeds from old.store n) (move_refusals old.store n more) moved.Done g.moved h.moved
+    (first old.store new.store n g.moved g.move x) (first old.store other.store n h.moved h.move y) in
     let s = leads old.store new.store other.store n h.moved (subst (λ (m : Moved). moves old.store n m new.store) e g.move) h.move f y in
     (g.told ∙ ap (reply_to_move told back n) e ∙ sym h.told, same_stores old new other s g.changed h.changed)
 

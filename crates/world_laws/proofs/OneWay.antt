@@ -30,7 +30,8 @@ exact (Machine m c) old new other a b g h f p q =
 
 pub answers_one_way : AnswersOneWay
 answers_one_way old aside new other c a b e g h p q =
-    let k : Answers (without_faults old) c b (without_faults other) = subst (λ (w : WorldState). Answers w c b (without_faults other)) (sym e) (unfaulted aside other c b h q) in
+    let k : Answers (without_faults old) c b (without_faults other) =
+    subst (λ (w : WorldState). Answers w c b (without_faults other)) (sym e) (unfaulted aside other c b h q) in
     exact c (without_faults old) (without_faults new) (without_faults other) a b (unfaulted old new c a g p) k refl p q
 
 pub runs_one_way : RunsOneWay

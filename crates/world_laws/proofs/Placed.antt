@@ -1,5 +1,6 @@
 -- The replies tell where each object is.
-use Rattle.std.proofs.Common.{◌≡◌, ◌≢◌, ◌<◌, ℕ, zero, suc, nat_eq, Bool, true, false, cond, List, [], ◌∷◌, ◌++◌, length, length-append, length-set, replicate, ◌+◌, set, refl, sym, ap, ◌∙◌, subst, arith}
+use Rattle.std.proofs.Common.{◌≡◌, ◌≢◌, ◌<◌, ℕ, zero, suc, nat_eq, Bool, true, false, cond, List, [], ◌∷◌, ◌++◌, length, length-append, length-set, replicate}
+use Rattle.std.proofs.Common.{◌+◌, set, refl, sym, ap, ◌∙◌, subst, arith}
 use Rattle.std.proofs.lemmas.List.{get_or-set_same, get_or-set_other}
 use Rattle.std.proofs.lemmas.Bool.Decides.{nat_tests}
 use Rattle.memory.specs.declared.access.Op.{Op}
@@ -53,7 +54,8 @@ record Unmoved (places : List Place) (count : ℕ) (s : StoreState) : Type 0 whe
   same : s.places ≡ places
   length_is : length s.objects ≡ count
 
-touch_unmoved : (places : List Place) (count who : ℕ) (before after : StoreState) (n : ℕ) (op : Op) (r : Reach) → Unmoved places count before → Touches who before n op r after → Unmoved places count after
+touch_unmoved : (places : List Place) (count who : ℕ) (before after : StoreState) (n : ℕ) (op : Op) (r : Reach) → Unmoved places count before
+    → Touches who before n op r after → Unmoved places count after
 touch_unmoved places count who before after n op (reach.Done v) u h = record {
   same = ap (λ (s : StoreState). s.places) h.3 ∙ u.same;
   length_is = ap (λ (s : StoreState). length s.objects) h.3 ∙ (length-set before.objects n _ ∙ u.length_is);
@@ -68,13 +70,17 @@ unmoved_kept places count who = record {
   closed = λ x u. record { same = u.same; length_is = u.length_is };
 }
 
-pub step_places : (who : ℕ) (old new : MachineState) (before after : StoreState) (a : Stepped) → TableStep (store_memory who) old before a new after → after.places ≡ before.places
+pub step_places : (who : ℕ) (old new : MachineState) (before after : StoreState) (a : Stepped) → TableStep (store_memory who) old before a new after
+    → after.places ≡ before.places
 step_places who old new before after a t =
-    (step_keeps (Unmoved before.places (length before.objects)) who (unmoved_kept before.places (length before.objects) who) old new before after a (record { same = refl; length_is = refl }) t).same
+    (step_keeps (Unmoved before.places (length before.objects)) who (unmoved_kept before.places (length before.objects) who) old new before after a
+    (record { same = refl; length_is = refl }) t).same
 
-pub step_count : (who : ℕ) (old new : MachineState) (before after : StoreState) (a : Stepped) → TableStep (store_memory who) old before a new after → length after.objects ≡ length before.objects
+pub step_count : (who : ℕ) (old new : MachineState) (before after : StoreState) (a : Stepped) → TableStep (store_memory who) old before a new after
+    → length after.objects ≡ length before.objects
 step_count who old new before after a t =
-    (step_keeps (Unmoved before.places (length before.objects)) who (unmoved_kept before.places (length before.objects) who) old new before after a (record { same = refl; length_is = refl }) t).length_is
+    (step_keeps (Unmoved before.places (length before.objects)) who (unmoved_kept before.places (length before.objects) who) old new before after a
+    (record { same = refl; length_is = refl }) t).length_is
 
 -- a new object is here
 pub at_end : (places : List Place) (k : ℕ) → place_of (places ++ Here ∷ []) k ≡ place_of places k
@@ -87,11 +93,13 @@ beyond : (places : List Place) → place_of places (length places) ≡ Here
 beyond [] = refl
 beyond (p ∷ places) = beyond places
 
-grown_place : (b : Bool) (places : List Place) (n k : ℕ) → nat_eq n k ≡ b → n ≡ length places → place_of (places ++ Here ∷ []) k ≡ cond b Here (place_of places k)
+grown_place : (b : Bool) (places : List Place) (n k : ℕ) → nat_eq n k ≡ b → n ≡ length places
+    → place_of (places ++ Here ∷ []) k ≡ cond b Here (place_of places k)
 grown_place true places n k e l = let s : k ≡ length places = grind (arith, nat_tests) in at_end places k ∙ (ap (place_of places) s ∙ beyond places)
 grown_place false places n k e l = at_end places k
 
-set_place : (b : Bool) (places : List Place) (n k : ℕ) (p : Place) → nat_eq n k ≡ b → n < length places → place_of (set places n p) k ≡ cond b p (place_of places k)
+set_place : (b : Bool) (places : List Place) (n k : ℕ) (p : Place) → nat_eq n k ≡ b → n < length places
+    → place_of (set places n p) k ≡ cond b p (place_of places k)
 set_place true places n k p e h = let s : k ≡ n = grind (arith, nat_tests) in rw s (get_or-set_same places n p Here h)
 set_place false places n k p e h = let s : k ≢ n = grind (arith, nat_tests) in get_or-set_other places n k p Here s
 
@@ -103,12 +111,14 @@ changed_places old new r p (Called (Grown count room t e)) =
     subst HasPlaces (sym e) (length-append old.places (Here ∷ []) ∙ (ap (λ n. n + 1) p ∙ sym (length-append old.objects (replicate count 0 ∷ []))))
 changed_places old new r p (Called (Filled n bytes faults q l z e)) = subst HasPlaces (sym e) (p ∙ sym (length-set old.objects n bytes))
 changed_places old new r p (Called (Placed n a b faults m e)) = subst HasPlaces (sym e) (length-set old.places n b ∙ p)
-changed_places old new r p (Walked m before after a q t) = ap (λ (ps : List Place). length ps) (step_places m before after old new a t) ∙ (p ∙ sym (step_count m before after old new a t))
+changed_places old new r p (Walked m before after a q t) =
+    ap (λ (ps : List Place). length ps) (step_places m before after old new a t) ∙ (p ∙ sym (step_count m before after old new a t))
 
 there : (k : ℕ) (old new : StoreState) (r : Reply) → HasPlaces old → StoreChange old r new → place_of new.places k ≡ placed k (place_of old.places k) r
 there k old new r p (Unchanged q e) = ap (λ (s : StoreState). place_of s.places k) e ∙ sym (quiet r k _ q)
 there k old new r p (Called (Grown count room t e)) =
-    ap (λ (s : StoreState). place_of s.places k) e ∙ (grown_place (nat_eq (length old.objects) k) old.places (length old.objects) k refl (sym p) ∙ sym (ap (placed k (place_of old.places k)) t))
+    ap (λ (s : StoreState). place_of s.places k) e
+    ∙ (grown_place (nat_eq (length old.objects) k) old.places (length old.objects) k refl (sym p) ∙ sym (ap (placed k (place_of old.places k)) t))
 there k old new r p (Called (Filled n bytes faults q l z e)) = ap (λ (s : StoreState). place_of s.places k) e ∙ sym (quiet r k _ q)
 there k old new r p (Called (Placed n a b faults m e)) =
     ap (λ (s : StoreState). place_of s.places k) e
@@ -117,7 +127,8 @@ there k old new r p (Walked m before after a q t) = ap (λ (ps : List Place). pl
 
 -- ---- a run
 
-read_from : (n : ℕ) (old new : WorldState) (cs : List Event) (rs : List Reply) → HasPlaces old.store → Runs Answers old cs rs new → place_of new.store.places n ≡ place_from n (place_of old.store.places n) rs
+read_from : (n : ℕ) (old new : WorldState) (cs : List Event) (rs : List Reply) → HasPlaces old.store → Runs Answers old cs rs new
+    → place_of new.store.places n ≡ place_from n (place_of old.store.places n) rs
 read_from n old new [] [] p h = ap (λ (w : WorldState). place_of w.store.places n) h
 read_from n old new (c ∷ cs) (r ∷ rs) p h =
     let g = store_changes old h.0 c r h.1 in

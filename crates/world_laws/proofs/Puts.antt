@@ -31,7 +31,8 @@ is_listed (b ∷ objects) (suc n) h = let g = is_listed objects n h in omega ari
 seam : (front new rest : List ℕ) (o : ℕ) → length front ≡ o → take (length new) (drop o (front ++ (new ++ rest))) ≡ new
 seam front new rest o e = rw (sym e) (rw drop-append_seam (take-append_seam new rest))
 
-got_back : (objects : List (List ℕ)) (n o : ℕ) (bytes : List ℕ) → HasRange objects n o (length bytes) → range_of (with_range objects n o bytes) n o (length bytes) ≡ bytes
+got_back : (objects : List (List ℕ)) (n o : ℕ) (bytes : List ℕ) → HasRange objects n o (length bytes)
+    → range_of (with_range objects n o bytes) n o (length bytes) ≡ bytes
 got_back objects n o bytes h =
     let old = bytes_of objects n in
     let same = get_or-set_same objects n (replaced o bytes old) [] (is_listed objects n h.0) in
@@ -39,7 +40,8 @@ got_back objects n o bytes h =
     ap (λ (b : List ℕ). take (length bytes) (drop o b)) same ∙ seam (take o old) bytes (drop (o + length bytes) old) o (omega (arith, h.1, front))
 
 -- the range stays a range
-still_there : (objects : List (List ℕ)) (n o : ℕ) (bytes : List ℕ) → HasRange objects n o (length bytes) → HasRange (with_range objects n o bytes) n o (length bytes)
+still_there : (objects : List (List ℕ)) (n o : ℕ) (bytes : List ℕ) → HasRange objects n o (length bytes)
+    → HasRange (with_range objects n o bytes) n o (length bytes)
 still_there objects n o bytes h =
     let old = bytes_of objects n in
     let same = ap (λ (b : List ℕ). length b) (get_or-set_same objects n (replaced o bytes old) [] (is_listed objects n h.0)) in
@@ -48,7 +50,8 @@ still_there objects n o bytes h =
 
 got : (s t : StoreState) (n o : ℕ) (bytes : List ℕ) (reply : Reply) → HasRange s.objects n o (length bytes) → place_of s.places n ≡ place.Here
     → t ≡ record s { objects = with_range s.objects n o bytes } → AnswersGet t n o (length bytes) reply → (reply ≡ Bytes bytes) ⊎ (reply ≡ NoMemory)
-got s t n o bytes (Bytes shown) r p e h = inl (ap Bytes (h.2 ∙ ap (λ (x : StoreState). range_of x.objects n o (length bytes)) e ∙ got_back s.objects n o bytes r))
+got s t n o bytes (Bytes shown) r p e h =
+    inl (ap Bytes (h.2 ∙ ap (λ (x : StoreState). range_of x.objects n o (length bytes)) e ∙ got_back s.objects n o bytes r))
 got s t n o bytes NoMemory r p e h = inr refl
 got s t n o bytes Outside r p e h = absurd (h (subst (λ (x : StoreState). HasRange x.objects n o (length bytes)) (sym e) (still_there s.objects n o bytes r)))
 got s t n o bytes (Away k) r p e h = absurd (h.1.1 (ap (λ (x : StoreState). place_of x.places n) e ∙ p))

@@ -26,7 +26,8 @@ keeps old new c r (Walks m way k q h) t = off (is_refusal r) (ap refused k) t
 pub refusals_keep : RefusalsChangeNothing
 refusals_keep old new c r h t = keeps old new c r (sort_of old new c r h) t
 
-shown : (old new : WorldState) (m : ℕ) (c : ShowCommand) (r : Reply) → AnswersMachine (store_memory m) old.machines old.store m (Show c) r new.machines new.store → new ≡ old
+shown : (old new : WorldState) (m : ℕ) (c : ShowCommand) (r : Reply)
+    → AnswersMachine (store_memory m) old.machines old.store m (Show c) r new.machines new.store → new ≡ old
 shown old new m c r (inl h) = both old new h.unchanged h.same
 shown old new m c r (inr h) = both old new (as_it_was old.machines m h.debuggee h.became new.machines h.found h.changed h.answers.3) h.answers.4
 

@@ -1,5 +1,6 @@
 -- What is in scope stays here.
-use Rattle.std.proofs.Common.{◌≡◌, ◌+◌, ◌≤◌, ◌<◌, ℕ, zero, suc, nat_eq, nat_le, Bool, true, false, ◌||◌, cond, List, [], ◌∷◌, ◌++◌, length, get_or, set, refl, sym, ap, ◌∙◌, subst, arith}
+use Rattle.std.proofs.Common.{◌≡◌, ◌+◌, ◌≤◌, ◌<◌, ℕ, zero, suc, nat_eq, nat_le, Bool, true, false, ◌||◌, cond, List, [], ◌∷◌, ◌++◌, length, get_or, set, refl}
+use Rattle.std.proofs.Common.{sym, ap, ◌∙◌, subst, arith}
 use Rattle.std.proofs.lemmas.List.{get_or-set_other}
 use Rattle.std.proofs.lemmas.List.Folds.{list_any-append}
 use Rattle.std.proofs.lemmas.List.Sums.{sum_by-cons}
@@ -69,12 +70,15 @@ weight_noted k n w d = implied (holds k (noted n w)) (holds k w) (noted_before (
 abbrev HasScopesHere : StoreState → Type 0
 HasScopesHere s = (n : ℕ) → IsScoped s n → place_of s.places n ≡ Here
 
-same_windows : (old new : StoreState) → new.windows ≡ old.windows → ((n : ℕ) → place_of new.places n ≡ place_of old.places n) → HasScopesHere old → HasScopesHere new
+same_windows : (old new : StoreState) → new.windows ≡ old.windows → ((n : ℕ) → place_of new.places n ≡ place_of old.places n)
+    → HasScopesHere old → HasScopesHere new
 same_windows old new w p h n s = p n ∙ h n (subst (λ (ws : List (List ℕ)). 0 < holders ws n) w s)
 
-noted_here : (b : Bool) (s : StoreState) (who n k : ℕ) → nat_eq k n ≡ b → HasScopesHere s → place_of s.places n ≡ Here → 0 < holders (set s.windows who (noted n (window_of s.windows who))) k → place_of s.places k ≡ Here
+noted_here : (b : Bool) (s : StoreState) (who n k : ℕ) → nat_eq k n ≡ b → HasScopesHere s → place_of s.places n ≡ Here
+    → 0 < holders (set s.windows who (noted n (window_of s.windows who))) k → place_of s.places k ≡ Here
 noted_here true s who n k e h p c = let i : k ≡ n = grind (arith, nat_tests) in ap (place_of s.places) i ∙ p
-noted_here false s who n k e h p c = h k (let g = fewer s.windows who k (noted n (window_of s.windows who)) (weight_noted k n (window_of s.windows who) e) in omega (arith, g, c))
+noted_here false s who n k e h p c = h k (let g =
+    fewer s.windows who k (noted n (window_of s.windows who)) (weight_noted k n (window_of s.windows who) e) in omega (arith, g, c))
 
 touch_here : (who : ℕ) (before after : StoreState) (n : ℕ) (op : Op) (r : Reach) → HasScopesHere before → Touches who before n op r after → HasScopesHere after
 touch_here who before after n op (reach.Done v) f h = subst HasScopesHere (sym h.3) (λ k c. noted_here (nat_eq k n) before who n k refl f h.1 c)
@@ -89,7 +93,8 @@ here_kept who = record {
 }
 
 -- what isn't in scope isn't asked for
-moved_here : (b : Bool) (places : List Place) (n k : ℕ) (p : Place) → nat_eq k n ≡ b → (k ≡ n → ⊥) → place_of places k ≡ Here → place_of (set places n p) k ≡ Here
+moved_here : (b : Bool) (places : List Place) (n k : ℕ) (p : Place) → nat_eq k n ≡ b → (k ≡ n → ⊥) → place_of places k ≡ Here
+    → place_of (set places n p) k ≡ Here
 moved_here true places n k p e d h = absurd (d (grind (arith, nat_tests)))
 moved_here false places n k p e d h = get_or-set_other places n k p Here d ∙ h
 

@@ -38,11 +38,13 @@ one_more old new c r (Ships d k q n a e) =
 one_more old new c r (Tunes m k q s e) = unchanged old new _ (ap shipped k) (ap codes s.changed ∙ with_map code_of old.machines m s.debuggee _ s.found refl)
 one_more old new c r (Pauses m k q s e) = unchanged old new _ (ap shipped k) (ap codes s.changed ∙ with_map code_of old.machines m s.debuggee _ s.found refl)
 one_more old new c r (Walks m way k q h) = unchanged old new _ (ap shipped k)
-    (ap codes h.changed ∙ with_map code_of old.machines m h.debuggee _ h.found (step_keeps_code (store_memory m) h.debuggee.machine h.machine old.store new.store h.answer h.step))
+    (ap codes h.changed ∙ with_map code_of old.machines m h.debuggee _ h.found
+    (step_keeps_code (store_memory m) h.debuggee.machine h.machine old.store new.store h.answer h.step))
 
 -- ---- a run
 
-first_then : (c : Event) (cs : List Event) (r : Reply) (rs : List Reply) → shipped_codes (c ∷ []) (r ∷ []) ++ shipped_codes cs rs ≡ shipped_codes (c ∷ cs) (r ∷ rs)
+first_then : (c : Event) (cs : List Event) (r : Reply) (rs : List Reply)
+    → shipped_codes (c ∷ []) (r ∷ []) ++ shipped_codes cs rs ≡ shipped_codes (c ∷ cs) (r ∷ rs)
 first_then (Ship start code) cs (Shipped m) rs = refl
 first_then (Ship start code) cs _ rs = refl
 first_then _ cs r rs = refl

@@ -82,9 +82,11 @@ pub data Sort (old : WorldState) (c : Event) (r : Reply) (new : WorldState) : Ty
   Ships : (d : Debuggee) → marks_of c r ≡ ship_marks (code_of d) → is_placing r ≡ false → d.machine.stop ≡ None → new.machines ≡ old.machines ++ d ∷ []
       → new ≡ record old { machines = new.machines } → Sort old c r new
   -- a debugging command changes a debug state
-  Tunes : (m : ℕ) → marks_of c r ≡ plain_marks false → is_placing r ≡ false → Sets old.machines m new.machines → new ≡ record old { machines = new.machines } → Sort old c r new
+  Tunes : (m : ℕ) → marks_of c r ≡ plain_marks false → is_placing r ≡ false → Sets old.machines m new.machines
+      → new ≡ record old { machines = new.machines } → Sort old c r new
   -- a machine is paused in place of a step
-  Pauses : (m : ℕ) → marks_of c r ≡ plain_marks false → is_placing r ≡ false → Sets old.machines m new.machines → new ≡ record old { machines = new.machines } → Sort old c r new
+  Pauses : (m : ℕ) → marks_of c r ≡ plain_marks false → is_placing r ≡ false → Sets old.machines m new.machines
+      → new ≡ record old { machines = new.machines } → Sort old c r new
   -- a machine makes a step
   Walks : (m : ℕ) (way : Way) → marks_of c r ≡ plain_marks false → is_placing r ≡ false
       → Steps (store_memory m) way old.machines old.store m r new.machines new.store → Sort old c r new
@@ -109,7 +111,8 @@ made old new size reply.NoRoom h = Stays refl refl (in_store old new h.0.2 h.1)
 made old new size reply.NoMemory h = Stays refl refl (in_store old new h.0.2 h.1)
 made old new size _ h = absurd h
 
-put : (old new : WorldState) (n offset : ℕ) (bytes : List ℕ) (r : Reply) → Answers old (Object n (Put offset bytes)) r new → Sort old (Object n (Put offset bytes)) r new
+put : (old new : WorldState) (n offset : ℕ) (bytes : List ℕ) (r : Reply) → Answers old (Object n (Put offset bytes)) r new
+    → Sort old (Object n (Put offset bytes)) r new
 put old new n offset bytes reply.Done h =
     let l = length-replaced offset bytes (bytes_of old.store.objects n) h.0.0.1 in
     Stores refl (Filled n (replaced offset bytes (bytes_of old.store.objects n)) old.store.faults refl h.0.0.0 (omega arith) h.0.2) h.1
@@ -124,7 +127,8 @@ get old new n offset size (reply.Away k) h = Stays refl refl h.1
 get old new n offset size reply.NoMemory h = Stays refl refl h.1
 get old new n offset size _ h = absurd h.0
 
-freed : (old new : WorldState) (n : ℕ) (m : Moved) → Frees old.store n m new.store → new ≡ record old { store = new.store } → Sort old (Object n Free) (reply_to_move (reply.Freed n) place.Here n m) new
+freed : (old new : WorldState) (n : ℕ) (m : Moved) → Frees old.store n m new.store → new ≡ record old { store = new.store }
+    → Sort old (Object n Free) (reply_to_move (reply.Freed n) place.Here n m) new
 freed old new n moved.Done h e = Stores refl (Filled n [] new.store.faults refl h.0.0 (omega arith) h.3) e
 freed old new n moved.Scoped h e = Stays refl refl (in_store old new h.2 e)
 freed old new n moved.NoObject h e = Stays refl refl (in_store old new h.1 e)
@@ -137,7 +141,8 @@ pub record MoveAnswer (old : WorldState) (n : ℕ) (r : Reply) (new : WorldState
   pub changed : new ≡ record old { store = new.store }
 
 by_move : (moves : StoreState → ℕ → Moved → StoreState → Type 0) (told : Reply) (back : Place) (old new : WorldState) (n : ℕ) (r : Reply)
-    → ((m : Moved) → moves old.store n m new.store → Move old.store n (reply_to_move told back n m) new.store) → AnswersMove moves told back old n r new → MoveAnswer old n r new
+    → ((m : Moved) → moves old.store n m new.store → Move old.store n (reply_to_move told back n m) new.store)
+    → AnswersMove moves told back old n r new → MoveAnswer old n r new
 by_move moves told back old new n r f h = record {
   move = subst (λ (x : Reply). Move old.store n x new.store) (sym h.told) (f h.moved h.move);
   changed = h.changed;
@@ -146,7 +151,8 @@ by_move moves told back old new n r f h = record {
 pub as_move : (old new : WorldState) (n : ℕ) (k : MoveKind) (r : Reply) → Answers old (Object n (Moving k)) r new → MoveAnswer old n r new
 as_move old new n k r h = by_move (MovesSo k) (moved_reply k n) (place_before k) old new n r (λ m g. store_move k old.store new.store n m g) h
 
-moved_sort : (old new : WorldState) (c : Event) (n : ℕ) (r : Reply) → marks_of c r ≡ plain_marks (is_refusal r) → new ≡ record old { store = new.store } → Move old.store n r new.store → Sort old c r new
+moved_sort : (old new : WorldState) (c : Event) (n : ℕ) (r : Reply) → marks_of c r ≡ plain_marks (is_refusal r) → new ≡ record old { store = new.store }
+    → Move old.store n r new.store → Sort old c r new
 moved_sort old new c n r k h (Refused q e) = Stays q (ap (λ (m : Marks). m.codes) k) (in_store old new e h)
 moved_sort old new c n r k h (Moves a b faults m e) = Stores (k ∙ ap plain_marks m.done) (Placed n a b faults m e) h
 
@@ -177,10 +183,12 @@ unheld : {P : Type 0} (w : Way) (d : Debuggee) (s : Stop) → holds_back w d ≡
 unheld way.Step d s h e = let g = rw e at h in absurd (cc)
 unheld way.One d s h e = absurd (cc)
 
-misses : (old new : WorldState) (m : ℕ) (c : MachineCommand) (r : Reply) → Misses old.machines old.store m r new.machines new.store → Sort old (Machine m c) r new
+misses : (old new : WorldState) (m : ℕ) (c : MachineCommand) (r : Reply) → Misses old.machines old.store m r new.machines new.store
+    → Sort old (Machine m c) r new
 misses old new m c r h = Stays (ap is_placing h.told) refl (both old new h.unchanged h.same)
 
-halts : (w : Way) (old new : WorldState) (m : ℕ) (c : MachineCommand) (r : Reply) → Halts w old.machines old.store m r new.machines new.store → Sort old (Machine m c) r new
+halts : (w : Way) (old new : WorldState) (m : ℕ) (c : MachineCommand) (r : Reply) → Halts w old.machines old.store m r new.machines new.store
+    → Sort old (Machine m c) r new
 halts w old new m c r h =
     Pauses m (ap (λ (x : Reply). plain_marks (is_refusal x)) h.told) (ap is_placing h.told) (record {
       debuggee = h.debuggee;
@@ -190,13 +198,17 @@ halts w old new m c r h =
       changed = h.changed;
     }) (with_machines old new h.same)
 
-walks : (w : Way) (old new : WorldState) (m : ℕ) (c : MachineCommand) (r : Reply) → Steps (store_memory m) w old.machines old.store m r new.machines new.store → Sort old (Machine m c) r new
+walks : (w : Way) (old new : WorldState) (m : ℕ) (c : MachineCommand) (r : Reply)
+    → Steps (store_memory m) w old.machines old.store m r new.machines new.store → Sort old (Machine m c) r new
 walks w old new m c r h =
-    let done = step_replies (λ x. is_refusal (reply_to_step m x) ≡ false) h.answer h.machine.slot h.debuggee.debugger (λ i. refl) (λ i. refl) (λ i. refl) (λ i. refl) in
-    let quiet = step_replies (λ x. is_placing (reply_to_step m x) ≡ false) h.answer h.machine.slot h.debuggee.debugger (λ i. refl) (λ i. refl) (λ i. refl) (λ i. refl) in
+    let done = step_replies (λ x. is_refusal (reply_to_step m x) ≡ false) h.answer h.machine.slot h.debuggee.debugger (λ i. refl)
+    (λ i. refl) (λ i. refl) (λ i. refl) in
+    let quiet = step_replies (λ x. is_placing (reply_to_step m x) ≡ false) h.answer h.machine.slot h.debuggee.debugger (λ i. refl)
+    (λ i. refl) (λ i. refl) (λ i. refl) in
     Walks m w (ap plain_marks (ap is_refusal h.told ∙ done)) (ap is_placing h.told ∙ quiet) h
 
-steps : (w : Way) (old new : WorldState) (m : ℕ) (c : MachineCommand) (r : Reply) → StepAnswer (store_memory m) w old.machines old.store m r new.machines new.store → Sort old (Machine m c) r new
+steps : (w : Way) (old new : WorldState) (m : ℕ) (c : MachineCommand) (r : Reply)
+    → StepAnswer (store_memory m) w old.machines old.store m r new.machines new.store → Sort old (Machine m c) r new
 steps w old new m c r (NoMachine h) = misses old new m c r h
 steps w old new m c r (Pause h) = halts w old new m c r h
 steps w old new m c r (TableRow h) = walks w old new m c r h
@@ -207,7 +219,8 @@ quiet_show : (m : ℕ) (told : ShowReply) → is_placing (reply_to_show m told) 
 quiet_show m told = grind arith
 
 -- a machine that is as it was
-pub as_it_was : (old : List Debuggee) (m : ℕ) (d e : Debuggee) (new : List Debuggee) → machine_at old m ≡ Some d → new ≡ with_machine old m e → e ≡ d → new ≡ old
+pub as_it_was : (old : List Debuggee) (m : ℕ) (d e : Debuggee) (new : List Debuggee) → machine_at old m ≡ Some d
+    → new ≡ with_machine old m e → e ≡ d → new ≡ old
 as_it_was old m d e new f c s = c ∙ ap (λ (x : Debuggee). with_machine old m x) s ∙ with_same old m d f
 
 -- ---- debugging
@@ -227,7 +240,8 @@ unpaused (debug.Unbreak slot) d u = u
 unpaused (debug.Unwatch address size) d u = u
 unpaused _ d u = refl
 
-debugs : (old new : WorldState) (m : ℕ) (c : DebugCommand) (r : Reply) (d e : Debuggee) (told : Debugged) → machine_at old.machines m ≡ Some d → new.machines ≡ with_machine old.machines m e
+debugs : (old new : WorldState) (m : ℕ) (c : DebugCommand) (r : Reply) (d e : Debuggee) (told : Debugged) → machine_at old.machines m ≡ Some d
+    → new.machines ≡ with_machine old.machines m e
     → r ≡ reply_to_debug told → DebugsMachine c d told e → new.store ≡ old.store → Sort old (Machine m (Debug c)) r new
 debugs old new m c r d e debugged.Done f s t h k =
     Tunes m (ap (λ (x : Reply). plain_marks (is_refusal x)) t) (ap is_placing t) (record {
@@ -243,13 +257,15 @@ debugs old new m c r d e told f s t h k =
 
 -- ---- all commands
 
-machines : (old new : WorldState) (m : ℕ) (c : MachineCommand) (r : Reply) → Finds (store_memory m) old.machines old.store m c r new.machines new.store → Sort old (Machine m c) r new
+machines : (old new : WorldState) (m : ℕ) (c : MachineCommand) (r : Reply) → Finds (store_memory m) old.machines old.store m c r new.machines new.store
+    → Sort old (Machine m c) r new
 machines old new m (Step w) r h = steps w old new m (Step w) r (parted (store_memory m) w old.machines old.store m r new.machines new.store (inr h))
 machines old new m (Show c) r h = Stays (ap is_placing h.answers.1 ∙ quiet_show m h.answers.0) refl
     (both old new (as_it_was old.machines m h.debuggee h.became new.machines h.found h.changed h.answers.3) h.answers.4)
 machines old new m (Debug c) r h = debugs old new m c r h.debuggee h.became h.answers.0 h.found h.changed h.answers.1 h.answers.2 h.answers.3
 
-by_number : (old new : WorldState) (m : ℕ) (c : MachineCommand) (r : Reply) → AnswersMachine (store_memory m) old.machines old.store m c r new.machines new.store → Sort old (Machine m c) r new
+by_number : (old new : WorldState) (m : ℕ) (c : MachineCommand) (r : Reply)
+    → AnswersMachine (store_memory m) old.machines old.store m c r new.machines new.store → Sort old (Machine m c) r new
 by_number old new m c r (inl h) = misses old new m c r h
 by_number old new m c r (inr h) = machines old new m c r h
 

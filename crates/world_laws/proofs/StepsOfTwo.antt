@@ -32,7 +32,8 @@ record Asked {M : Type 0} (mem : Memories M) (m : MachineState) (o : Outcome) (b
   touches : (n : ℕ) (op : Op) → request ≡ Touch n op → AccessesNext m n
   again : (x y : M) → AnswersRequest mem request x said y → StepsFrom m.stop mem m x o y
 
-over : {M : Type 0} (mem : Memories M) (m : MachineState) (o p : Outcome) (x y : M) → o ≡ p → y ≡ x → StepsFrom m.stop mem m x p x → StepsFrom m.stop mem m x o y
+over : {M : Type 0} (mem : Memories M) (m : MachineState) (o p : Outcome) (x y : M) → o ≡ p → y ≡ x → StepsFrom m.stop mem m x p x
+    → StepsFrom m.stop mem m x o y
 over mem m o p x y e f s = rw (e, f) s
 
 case_asked : {M : Type 0} (mem : Memories M) (m : MachineState) (o : Outcome) (before mid : M) → StepCase mem m before o mid → Asked mem m o before mid
@@ -61,7 +62,10 @@ case_asked mem m o before mid (inr (inr d)) = record {
 -- ---- what a request does to the store
 
 abbrev touched : ℕ → ℕ → Op → StoreState → StoreState
-touched who n op s = record s { objects = with_bytes s.objects n (after op (bytes_of s.objects n)); windows = set s.windows who (noted n (window_of s.windows who)) }
+touched who n op s = record s {
+  objects = with_bytes s.objects n (after op (bytes_of s.objects n));
+  windows = set s.windows who (noted n (window_of s.windows who));
+}
 
 abbrev effect : ℕ → Request → MemoryAnswer → StoreState → StoreState
 effect who (Touch n op) (Reached (reach.Done v)) s = touched who n op s
@@ -120,7 +124,8 @@ so_closes false who x y h = h
 
 -- two that change by what they were
 changed_commute : (xs : List (List ℕ)) (n m : ℕ) (f g : List ℕ → List ℕ) → n ≢ m
-    → set (set xs n (f (get_or xs n []))) m (g (get_or (set xs n (f (get_or xs n []))) m [])) ≡ set (set xs m (g (get_or xs m []))) n (f (get_or (set xs m (g (get_or xs m []))) n []))
+    → set (set xs n (f (get_or xs n []))) m (g (get_or (set xs n (f (get_or xs n []))) m []))
+    ≡ set (set xs m (g (get_or xs m []))) n (f (get_or (set xs m (g (get_or xs m []))) n []))
 changed_commute xs n m f g d =
     rw (get_or-set_other xs n m (f (get_or xs n [])) [] (λ e. d (sym e)), get_or-set_other xs m n (g (get_or xs m [])) [] d)
     (set_commutes xs n m (f (get_or xs n [])) (g (get_or xs m [])) d)
@@ -133,7 +138,8 @@ touched_commute m k n i op other s d e =
 abbrev Apart : Request → Request → Type 0
 Apart q r = (n : ℕ) (op other : Op) → q ≡ Touch n op → r ≡ Touch n other → ⊥
 
-effects_commute : (m k : ℕ) (q r : Request) (a b : MemoryAnswer) (s : StoreState) → m ≢ k → Apart q r → effect k r b (effect m q a s) ≡ effect m q a (effect k r b s)
+effects_commute : (m k : ℕ) (q r : Request) (a b : MemoryAnswer) (s : StoreState) → m ≢ k → Apart q r
+    → effect k r b (effect m q a s) ≡ effect m q a (effect k r b s)
 effects_commute m k (Touch n op) (Touch i other) (Reached (reach.Done v)) (Reached (reach.Done w)) s d p =
     touched_commute m k n i op other s d (λ e. p n op other refl (ap (λ j. Touch j other) (sym e)))
 effects_commute m k (Touch n op) (Touch i other) (Reached (reach.Done v)) _ s d p = refl
@@ -154,7 +160,8 @@ closed_commute false c m k s d = refl
 abbrev acted : ℕ → Request → MemoryAnswer → Bool → StoreState → StoreState
 acted who q a b s = closed b who (effect who q a s)
 
-acted_commute : (m k : ℕ) (q r : Request) (a c : MemoryAnswer) (b d : Bool) (s : StoreState) → m ≢ k → Apart q r → acted k r c d (acted m q a b s) ≡ acted m q a b (acted k r c d s)
+acted_commute : (m k : ℕ) (q r : Request) (a c : MemoryAnswer) (b d : Bool) (s : StoreState) → m ≢ k → Apart q r
+    → acted k r c d (acted m q a b s) ≡ acted m q a b (acted k r c d s)
 acted_commute m k q r a c b d s e p =
     ap (closed d k) (effect_closed b m k r c (effect m q a s) e ∙ ap (closed b m) (effects_commute m k q r a c s e p))
     ∙ closed_commute b d m k (effect m q a (effect k r c s)) e
@@ -174,20 +181,25 @@ acted_objects : (who : ℕ) (q : Request) (a : MemoryAnswer) (b : Bool) (s : Sto
 acted_objects who q a true s = refl
 acted_objects who q a false s = refl
 
-effect_bytes : (who : ℕ) (q : Request) (a : MemoryAnswer) (s : StoreState) (n : ℕ) → ((op : Op) → q ≡ Touch n op → ⊥) → bytes_of (effect who q a s).objects n ≡ bytes_of s.objects n
+effect_bytes : (who : ℕ) (q : Request) (a : MemoryAnswer) (s : StoreState) (n : ℕ) → ((op : Op) → q ≡ Touch n op → ⊥)
+    → bytes_of (effect who q a s).objects n ≡ bytes_of s.objects n
 effect_bytes who (Touch k op) (Reached (reach.Done v)) s n d = get_or-set_other s.objects k n _ [] (λ e. d op (ap (λ j. Touch j op) (sym e)))
 effect_bytes who _ _ s n d = refl
 
-effect_lengths : (who : ℕ) (q : Request) (a : MemoryAnswer) (s : StoreState) (n : ℕ) → Says s q a → length (bytes_of (effect who q a s).objects n) ≡ length (bytes_of s.objects n)
-effect_lengths who (Touch k op) (Reached (reach.Done v)) s n h = length-set_at s.objects k n (after op (bytes_of s.objects k)) (length-after op (bytes_of s.objects k) h.0)
+effect_lengths : (who : ℕ) (q : Request) (a : MemoryAnswer) (s : StoreState) (n : ℕ) → Says s q a
+    → length (bytes_of (effect who q a s).objects n) ≡ length (bytes_of s.objects n)
+effect_lengths who (Touch k op) (Reached (reach.Done v)) s n h =
+    length-set_at s.objects k n (after op (bytes_of s.objects k)) (length-after op (bytes_of s.objects k) h.0)
 effect_lengths who _ _ s n h = refl
 
-says_stays : (s t : StoreState) (r : Request) (c : MemoryAnswer) → t.places ≡ s.places → ((n : ℕ) (op : Op) → r ≡ Touch n op → bytes_of t.objects n ≡ bytes_of s.objects n)
+says_stays : (s t : StoreState) (r : Request) (c : MemoryAnswer) → t.places ≡ s.places
+    → ((n : ℕ) (op : Op) → r ≡ Touch n op → bytes_of t.objects n ≡ bytes_of s.objects n)
     → ((n : ℕ) → length (bytes_of t.objects n) ≡ length (bytes_of s.objects n)) → Says s r c → Says t r c
 says_stays s t Nothing NoAnswer p e l h = tt
 says_stays s t Nothing _ p e l h = absurd h
 says_stays s t (Touch n op) (Reached x) p e l h =
-    subst (λ (o : List ℕ). Allows op o (place_of t.places n) x) (sym (e n op refl)) (subst (λ (ps : List Place). Allows op (bytes_of s.objects n) (place_of ps n) x) (sym p) h)
+    subst (λ (o : List ℕ). Allows op o (place_of t.places n) x) (sym (e n op refl))
+    (subst (λ (ps : List Place). Allows op (bytes_of s.objects n) (place_of ps n) x) (sym p) h)
 says_stays s t (Touch n op) _ p e l h = absurd h
 says_stays s t (Measure n) (Measured k) p e l h = h ∙ sym (l n)
 says_stays s t (Measure n) _ p e l h = absurd h
@@ -199,7 +211,8 @@ record Turned (m k : ℕ) (q r : Request) (a c : MemoryAnswer) (b d : Bool) (x z
   first : Says (acted k r c d x) q a
   ends : z ≡ acted m q a b (acted k r c d x)
 
-turned : (m k : ℕ) (q r : Request) (a c : MemoryAnswer) (b d : Bool) (x y z : StoreState) → m ≢ k → Apart q r → Says x q a → y ≡ acted m q a b x → Says y r c → z ≡ acted k r c d y
+turned : (m k : ℕ) (q r : Request) (a c : MemoryAnswer) (b d : Bool) (x y z : StoreState) → m ≢ k → Apart q r → Says x q a → y ≡ acted m q a b x
+    → Says y r c → z ≡ acted k r c d y
     → Turned m k q r a c b d x z
 turned m k q r a c b d x y z e p h f g i =
     let g' = subst (λ (s : StoreState). Says s r c) f g in
@@ -244,12 +257,14 @@ stepping_so who p q x y a t =
       };
     }
 
-pub store_steps_commute : (m k : ℕ) (p q r s : MachineState) (before mid after : StoreState) (a b : Stepped) → m ≢ k → ((n : ℕ) → AccessesNext p n → AccessesNext q n → ⊥)
+pub store_steps_commute : (m k : ℕ) (p q r s : MachineState) (before mid after : StoreState) (a b : Stepped) → m ≢ k
+    → ((n : ℕ) → AccessesNext p n → AccessesNext q n → ⊥)
     → TableStep (store_memory m) p before a r mid → TableStep (store_memory k) q mid b s after
     → (other : StoreState) × TableStep (store_memory k) q before b s other × TableStep (store_memory m) p other a r after
 store_steps_commute m k p q r s before mid after a b d apart t u =
     let x = stepping_so m p r before mid a t in
     let y = stepping_so k q s mid after b u in
-    let c = turned m k x.request y.request x.said y.said x.closes y.closes before mid after d (λ n op other e f. apart n (x.touches n op e) (y.touches n other f)) x.says x.becomes y.says y.becomes in
+    let c = turned m k x.request y.request x.said y.said x.closes y.closes before mid after d
+    (λ n op other e f. apart n (x.touches n op e) (y.touches n other f)) x.says x.becomes y.says y.becomes in
     let other = acted k y.request y.said y.closes before in
     (other, y.again before other c.second refl, x.again other after c.first c.ends)

@@ -91,27 +91,43 @@ told_ends who old o mid after s r e (inl d) c = record { stop = d.stop; answer =
 told_ends who old o mid after s r e (inr d) c = none_some old.stop o.machine.stop s r d e
 
 case_ends : (who : ℕ) (old : MachineState) (before mid after : StoreState) (o : Outcome) (s : Stop) → o.machine.stop ≡ Some s
-    → ((t : Stop) → old.stop ≡ Some t → window_of before.windows who ≡ []) → StepCase (store_memory who) old before o mid → Closes o.closes (store_memory who) mid after → EndsStopped who o.answer after
+    → ((t : Stop) → old.stop ≡ Some t → window_of before.windows who ≡ []) → StepCase (store_memory who) old before o mid
+    → Closes o.closes (store_memory who) mid after → EndsStopped who o.answer after
 case_ends who old before mid after o s e w (inl d) c =
     let same = closed_none who o.closes mid after (ap (λ (x : Outcome). x.closes) d.becomes) c ∙ d.same in
-    record { stop = d.stop; answer = ap (λ (x : Outcome). x.answer) d.becomes; window = ap (λ (x : StoreState). window_of x.windows who) same ∙ w d.stop d.stopped }
+    record {
+      stop = d.stop;
+      answer = ap (λ (x : Outcome). x.answer) d.becomes;
+      window = ap (λ (x : StoreState). window_of x.windows who) same ∙ w d.stop d.stopped;
+    }
 case_ends who old before mid after o s e w (inr (inl d)) c =
-    record { stop = d.stop; answer = ap (λ (x : Outcome). x.answer) d.becomes; window = closed_empty who o.closes mid after (ap (λ (x : Outcome). x.closes) d.becomes) c }
+    record {
+      stop = d.stop;
+      answer = ap (λ (x : Outcome). x.answer) d.becomes;
+      window = closed_empty who o.closes mid after (ap (λ (x : Outcome). x.closes) d.becomes) c;
+    }
 case_ends who old before mid after o s e w (inr (inr d)) c =
     told_ends who old o mid after s d.attempts.runs e (subst (MayStop old) (sym d.becomes) (told_stops (work_of d.instr old) d.instr old d.said)) c
 
-pub ends_stopped : (who : ℕ) (old new : MachineState) (before after : StoreState) (a : Stepped) (s : Stop) → TableStep (store_memory who) old before a new after → new.stop ≡ Some s
+pub ends_stopped : (who : ℕ) (old new : MachineState) (before after : StoreState) (a : Stepped) (s : Stop)
+    → TableStep (store_memory who) old before a new after → new.stop ≡ Some s
     → ((t : Stop) → old.stop ≡ Some t → window_of before.windows who ≡ []) → EndsStopped who a after
 ends_stopped who old new before after a s t e w =
-    case_ends who old before t.mid after (record { machine = new; answer = a; closes = t.closes }) s e w (step_case (store_memory who) old.stop old before _ t.mid refl t.steps) t.closed
+    case_ends who old before t.mid after (record {
+      machine = new;
+      answer = a;
+      closes = t.closes;
+    }) s e w (step_case (store_memory who) old.stop old before _ t.mid refl t.steps) t.closed
 
 -- ---- the windows of the others
 
 abbrev HasWindow : ℕ → List ℕ → StoreState → Type 0
 HasWindow k w s = window_of s.windows k ≡ w
 
-touch_window : (who k : ℕ) (w : List ℕ) (before after : StoreState) (n : ℕ) (op : Op) (r : Reach) → k ≢ who → HasWindow k w before → Touches who before n op r after → HasWindow k w after
-touch_window who k w before after n op (reach.Done v) d h t = ap (λ (s : StoreState). window_of s.windows k) t.3 ∙ (get_or-set_other before.windows who k _ [] d ∙ h)
+touch_window : (who k : ℕ) (w : List ℕ) (before after : StoreState) (n : ℕ) (op : Op) (r : Reach) → k ≢ who → HasWindow k w before
+    → Touches who before n op r after → HasWindow k w after
+touch_window who k w before after n op (reach.Done v) d h t =
+    ap (λ (s : StoreState). window_of s.windows k) t.3 ∙ (get_or-set_other before.windows who k _ [] d ∙ h)
 touch_window who k w before after n op reach.Away d h t = ap (λ (s : StoreState). window_of s.windows k) t.2 ∙ h
 touch_window who k w before after n op reach.Outside d h t = ap (λ (s : StoreState). window_of s.windows k) t.1 ∙ h
 touch_window who k w before after n op _ d h t = absurd t
@@ -122,6 +138,8 @@ window_kept who k w d = record {
   closed = λ x h. get_or-set_other x.windows who k [] [] d ∙ h;
 }
 
-pub other_window : (who k : ℕ) (old new : MachineState) (before after : StoreState) (a : Stepped) → k ≢ who → TableStep (store_memory who) old before a new after
+pub other_window : (who k : ℕ) (old new : MachineState) (before after : StoreState) (a : Stepped) → k ≢ who
+    → TableStep (store_memory who) old before a new after
     → window_of after.windows k ≡ window_of before.windows k
-other_window who k old new before after a d t = step_keeps (HasWindow k (window_of before.windows k)) who (window_kept who k (window_of before.windows k) d) old new before after a refl t
+other_window who k old new before after a d t =
+    step_keeps (HasWindow k (window_of before.windows k)) who (window_kept who k (window_of before.windows k) d) old new before after a refl t

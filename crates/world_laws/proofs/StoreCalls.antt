@@ -61,7 +61,8 @@ pub data StoreCall (old : StoreState) (r : Reply) (new : StoreState) : Type 0 wh
       → new ≡ record old { objects = old.objects ++ replicate count 0 ∷ []; places = old.places ++ place.Here ∷ [] } → StoreCall old r new
   Filled : (n : ℕ) (bytes : List ℕ) (faults : ℕ) → is_placing r ≡ false → IsLive old.objects n → length bytes ≤ length (bytes_of old.objects n)
       → new ≡ record old { objects = with_bytes old.objects n bytes; faults = faults } → StoreCall old r new
-  Placed : (n : ℕ) («from» to : Place) (faults : ℕ) → IsMove old n «from» to faults r → new ≡ record (with_place old n to) { faults = faults } → StoreCall old r new
+  Placed : (n : ℕ) («from» to : Place) (faults : ℕ) → IsMove old n «from» to faults r
+      → new ≡ record (with_place old n to) { faults = faults } → StoreCall old r new
 
 -- ---- moves
 

@@ -15,7 +15,8 @@ use Rattle.world_laws.proofs.Sorts.{Sort, Stays, Stores, Ships, Tunes, Pauses, W
 pub data StoreChange (old : StoreState) (r : Reply) (new : StoreState) : Type 0 where
   Unchanged : is_placing r ≡ false → new ≡ old → StoreChange old r new
   Called : StoreCall old r new → StoreChange old r new
-  Walked : (m : ℕ) (before after : MachineState) (a : Stepped) → is_placing r ≡ false → TableStep (store_memory m) before old a after new → StoreChange old r new
+  Walked : (m : ℕ) (before after : MachineState) (a : Stepped) → is_placing r ≡ false
+      → TableStep (store_memory m) before old a after new → StoreChange old r new
 
 abbrev store : WorldState → StoreState
 store w = w.store

@@ -1,5 +1,6 @@
 -- A step tells what it writes.
-use Rattle.std.proofs.Common.{◌≡◌, ◌≢◌, ℕ, nat_eq, Bool, true, false, cond, List, length, get_or, Some, None, IsTrue, refl, ap, sym, ◌∙◌, subst, inl, inr, arith}
+use Rattle.std.proofs.Common.{◌≡◌, ◌≢◌, ℕ, nat_eq, Bool, true, false, cond, List, length, get_or, Some, None, IsTrue, refl, ap, sym, ◌∙◌, subst, inl, inr}
+use Rattle.std.proofs.Common.{arith}
 use Rattle.std.proofs.lemmas.Bool.Decides.{nat_tests}
 use Rattle.isa_table.specs.declared.instr.Instr.{Instr}
 use Rattle.memory.specs.declared.access.Reach.{Reach}
@@ -37,21 +38,27 @@ range_told : (b : Bool) (w : Written) → IsTrue b → cond b (Some w) None ≡ 
 range_told true w h = refl
 range_told false w h = absurd (cc)
 
-byte_told : (b : Bool) (x : Accessing) (v n i : ℕ) (a : Stepped) (before mid : Objects) → nat_eq n x.number ≡ b → map_reaches before x.number x.op (reach.Done v) mid → a ≡ Ran (range x v)
+byte_told : (b : Bool) (x : Accessing) (v n i : ℕ) (a : Stepped) (before mid : Objects) → nat_eq n x.number ≡ b
+    → map_reaches before x.number x.op (reach.Done v) mid → a ≡ Ran (range x v)
     → (IsTold a n i → ⊥) → get_or (bytes_of mid n) i 0 ≡ get_or (bytes_of before n) i 0
 byte_told true x v n i a before mid e h s d =
     let same : n ≡ x.number = grind (arith, nat_tests) in
-    let untold : WritesAt x.op v i → ⊥ = λ w. d (subst (λ (z : Stepped). IsTold z n i) (sym (s ∙ ap Ran (range_told (writes x.op.action v) _ w.wrote))) (same, w.from, w.to)) in
+    let untold : WritesAt x.op v i → ⊥ = λ w. d
+    (subst (λ (z : Stepped). IsTold z n i) (sym (s ∙ ap Ran (range_told (writes x.op.action v) _ w.wrote))) (same, w.from, w.to)) in
     subst (λ k. get_or (bytes_of mid k) i 0 ≡ get_or (bytes_of before k) i 0) (sym same) (bytes_stay before mid x.number x.op v i h untold)
 byte_told false x v n i a before mid e h s d =
     let other : n ≢ x.number = grind (arith, nat_tests) in
     ap (λ (b : List ℕ). get_or b i 0) (others before mid x.number n x.op (reach.Done v) h other)
 
-reach_told : (who : ℕ) (x : Accessing) (i : Instr) (m : MachineState) (r : Reach) (a : Stepped) (before mid : StoreState) → Touches who before x.number x.op r mid
+reach_told : (who : ℕ) (x : Accessing) (i : Instr) (m : MachineState) (r : Reach) (a : Stepped) (before mid : StoreState)
+    → Touches who before x.number x.op r mid
     → a ≡ (told_access i x m (Reached r)).answer → ChangesTold a before.objects mid.objects
 reach_told who x i m (reach.Done v) a before mid h s =
     let done : map_reaches before.objects x.number x.op (reach.Done v) mid.objects = (h.0, h.2, ap (λ (s : StoreState). s.objects) h.3) in
-    λ n. (lengths before.objects mid.objects x.number n x.op (reach.Done v) done, λ k d. byte_told (nat_eq n x.number) x v n k a before.objects mid.objects refl done s d)
+    λ n. (
+      lengths before.objects mid.objects x.number n x.op (reach.Done v) done,
+      λ k d. byte_told (nat_eq n x.number) x v n k a before.objects mid.objects refl done s d,
+    )
 reach_told who x i m reach.Outside a before mid h s = same_told a before.objects mid.objects (ap (λ (s : StoreState). s.objects) h.1)
 reach_told who x i m reach.Away a before mid h s = same_told a before.objects mid.objects (ap (λ (s : StoreState). s.objects) h.2)
 reach_told who x i m _ a before mid h s = absurd h
@@ -70,10 +77,12 @@ work_told who (AccessesStack x) i m _ a before mid h s = absurd h
 work_told who (Accesses x) i m (Reached r) a before mid h s = reach_told who x i m r a before mid h s
 work_told who (Accesses x) i m _ a before mid h s = absurd h
 
-case_told : (who : ℕ) (m : MachineState) (before mid : StoreState) (o : Outcome) → StepCase (store_memory who) m before o mid → ChangesTold o.answer before.objects mid.objects
+case_told : (who : ℕ) (m : MachineState) (before mid : StoreState) (o : Outcome) → StepCase (store_memory who) m before o mid
+    → ChangesTold o.answer before.objects mid.objects
 case_told who m before mid o (inl d) = same_store o.answer before mid d.same
 case_told who m before mid o (inr (inl d)) = same_store o.answer before mid d.same
-case_told who m before mid o (inr (inr d)) = work_told who (work_of d.instr m) d.instr m d.said o.answer before mid d.answers (ap (λ (x : Outcome). x.answer) d.becomes)
+case_told who m before mid o (inr (inr d)) =
+    work_told who (work_of d.instr m) d.instr m d.said o.answer before mid d.answers (ap (λ (x : Outcome). x.answer) d.becomes)
 
 pub steps_tell_what_they_write : StepsTellWhatTheyWrite
 steps_tell_what_they_write m way old new before after r s =

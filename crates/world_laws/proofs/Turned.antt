@@ -56,9 +56,11 @@ record Local (way : Way) (m : ℕ) (r : Reply) (old : List Debuggee) (before : S
   number : IfPut put (m ≢ 0)
   goes : (n : ℕ) → Reaches kind n → Going old m n
   -- among any machines, if this one is the same
-  again : (xs : List Debuggee) (x y : StoreState) → machine_at xs m ≡ machine_at old m → Does m kind x y → StepsAt (store_memory m) way xs x m r (put_in xs m put) y
+  again : (xs : List Debuggee) (x y : StoreState) → machine_at xs m ≡ machine_at old m → Does m kind x y
+      → StepsAt (store_memory m) way xs x m r (put_in xs m put) y
 
-local_none : (way : Way) (m : ℕ) (r : Reply) (old new : List Debuggee) (before after : StoreState) → Misses old before m r new after → Local way m r old before new after
+local_none : (way : Way) (m : ℕ) (r : Reply) (old new : List Debuggee) (before after : StoreState) → Misses old before m r new after
+    → Local way m r old before new after
 local_none way m r old new before after h = record {
   kind = Idle;
   put = None;
@@ -69,7 +71,8 @@ local_none way m r old new before after h = record {
   again = λ xs x y e d. inl (record { none = e ∙ h.none; told = h.told; unchanged = refl; same = d });
 }
 
-local_pause : (way : Way) (m : ℕ) (r : Reply) (old new : List Debuggee) (before after : StoreState) → Halts way old before m r new after → Local way m r old before new after
+local_pause : (way : Way) (m : ℕ) (r : Reply) (old new : List Debuggee) (before after : StoreState) → Halts way old before m r new after
+    → Local way m r old before new after
 local_pause way m r old new before after h =
     let e : Debuggee = record h.debuggee { debugger = with_pause h.slot h.debuggee.debugger } in
     record {
@@ -91,7 +94,8 @@ local_pause way m r old new before after h =
       });
     }
 
-local_row : (way : Way) (m : ℕ) (r : Reply) (old new : List Debuggee) (before after : StoreState) → Steps (store_memory m) way old before m r new after → Local way m r old before new after
+local_row : (way : Way) (m : ℕ) (r : Reply) (old new : List Debuggee) (before after : StoreState) → Steps (store_memory m) way old before m r new after
+    → Local way m r old before new after
 local_row way m r old new before after h = record {
   kind = Row h.debuggee.machine h.answer h.machine;
   put = Some (record { machine = h.machine; debugger = debugged way h.answer h.debuggee.debugger });
@@ -111,7 +115,8 @@ local_row way m r old new before after h = record {
   });
 }
 
-local_case : (way : Way) (m : ℕ) (r : Reply) (old new : List Debuggee) (before after : StoreState) → StepAnswer (store_memory m) way old before m r new after → Local way m r old before new after
+local_case : (way : Way) (m : ℕ) (r : Reply) (old new : List Debuggee) (before after : StoreState)
+    → StepAnswer (store_memory m) way old before m r new after → Local way m r old before new after
 local_case way m r old new before after (NoMachine h) = local_none way m r old new before after h
 local_case way m r old new before after (Pause h) = local_pause way m r old new before after h
 local_case way m r old new before after (TableRow h) = local_row way m r old new before after h
@@ -122,13 +127,15 @@ put_other : (xs : List Debuggee) (m k : ℕ) (p : Option Debuggee) → IfPut p (
 put_other xs m k None z d = refl
 put_other xs m k (Some e) z d = other_number xs m k e z d
 
-puts_swap : (xs : List Debuggee) (m k : ℕ) (p q : Option Debuggee) → IfPut p (m ≢ 0) → IfPut q (k ≢ 0) → m ≢ k → put_in (put_in xs m p) k q ≡ put_in (put_in xs k q) m p
+puts_swap : (xs : List Debuggee) (m k : ℕ) (p q : Option Debuggee) → IfPut p (m ≢ 0) → IfPut q (k ≢ 0) → m ≢ k
+    → put_in (put_in xs m p) k q ≡ put_in (put_in xs k q) m p
 puts_swap xs m k None None y z d = refl
 puts_swap xs m k None (Some f) y z d = refl
 puts_swap xs m k (Some e) None y z d = refl
 puts_swap xs m k (Some e) (Some f) y z d = machines_swap xs m k e f y z d
 
-does_turned : (m k : ℕ) (p q : Kind) (x y z : StoreState) → m ≢ k → ((n : ℕ) → Reaches p n → Reaches q n → ⊥) → Does m p x y → Does k q y z → (other : StoreState) × Does k q x other × Does m p other z
+does_turned : (m k : ℕ) (p q : Kind) (x y z : StoreState) → m ≢ k → ((n : ℕ) → Reaches p n → Reaches q n → ⊥) → Does m p x y → Does k q y z
+    → (other : StoreState) × Does k q x other × Does m p other z
 does_turned m k Idle q x y z d e g h = (z, subst (λ (s : StoreState). Does k q s z) g h, refl)
 does_turned m k (Row p a r) Idle x y z d e g h = (x, refl, subst (λ (s : StoreState). TableStep (store_memory m) p x a r s) (sym h) g)
 does_turned m k (Row p a r) (Row q b s) x y z d e g h = store_steps_commute m k p q r s x y z a b d e g h
@@ -137,7 +144,8 @@ abbrev StepsStore : Way → WorldState → ℕ → Reply → WorldState → Type
 StepsStore way old m r new = StepsAt (store_memory m) way old.machines old.store m r new.machines new.store
 
 localled : (way : Way) (old new : WorldState) (m : ℕ) (r : Reply) → StepsStore way old m r new → Local way m r old.machines old.store new.machines new.store
-localled way old new m r h = local_case way m r old.machines new.machines old.store new.store (parted (store_memory m) way old.machines old.store m r new.machines new.store h)
+localled way old new m r h = local_case way m r old.machines new.machines old.store new.store
+    (parted (store_memory m) way old.machines old.store m r new.machines new.store h)
 
 record Turned (old : WorldState) (v w : Way) (m k : ℕ) (a b : Reply) (new : WorldState) : Type 0 where
   side : WorldState
@@ -147,11 +155,16 @@ record Turned (old : WorldState) (v w : Way) (m k : ℕ) (a b : Reply) (new : Wo
 turned : (old mid new : WorldState) (v w : Way) (m k : ℕ) (a b : Reply) → m ≢ k → ((n : ℕ) → Comes old m n → Comes old k n → ⊥)
     → Local v m a old.machines old.store mid.machines mid.store → Local w k b mid.machines mid.store new.machines new.store → Turned old v w m k a b new
 turned old mid new v w m k a b d apart g h =
-    let there : machine_at mid.machines k ≡ machine_at old.machines k = ap (λ (xs : List Debuggee). machine_at xs k) g.changed ∙ put_other old.machines m k g.put g.number (λ e. d (sym e)) in
+    let there : machine_at mid.machines k ≡ machine_at old.machines k =
+    ap (λ (xs : List Debuggee). machine_at xs k) g.changed ∙ put_other old.machines m k g.put g.number (λ e. d (sym e)) in
     let o = does_turned m k g.kind h.kind old.store mid.store new.store d (λ n s t.
     let x = g.goes n s in
     let y = h.goes n t in
-    apart n (record { debuggee = x.debuggee; found = x.found; touches = x.touches }) (record { debuggee = y.debuggee; found = sym there ∙ y.found; touches = y.touches })) g.does h.does in
+    apart n (record { debuggee = x.debuggee; found = x.found; touches = x.touches }) (record {
+      debuggee = y.debuggee;
+      found = sym there ∙ y.found;
+      touches = y.touches;
+    })) g.does h.does in
     let side : WorldState = record { machines = put_in old.machines k h.put; store = o.0 } in
     let machines : new.machines ≡ put_in side.machines m g.put =
     h.changed ∙ ap (λ (xs : List Debuggee). put_in xs k h.put) g.changed ∙ puts_swap old.machines m k g.put h.put g.number h.number d in

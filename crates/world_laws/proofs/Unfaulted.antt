@@ -45,7 +45,8 @@ carries who = record {
   measured = λ old n. refl;
 }
 
-walk : (who : ℕ) (w : Way) (old new : Debuggee) (s t : StoreState) (told : StepReply) → Walks (store_memory who) w old s told new t → Walks (store_memory who) w old (cleared s) told new (cleared t)
+walk : (who : ℕ) (w : Way) (old new : Debuggee) (s t : StoreState) (told : StepReply) → Walks (store_memory who) w old s told new t
+    → Walks (store_memory who) w old (cleared s) told new (cleared t)
 walk who w old new s t told d = record {
   goes = d.goes;
   answer = d.answer;
@@ -74,7 +75,8 @@ machine who c old new s t r (inr h) =
 
 -- ---- moves
 
-moves : (does : StoreState → ℕ → Moved → StoreState → Type 0) (told : Reply) (back : Place) (old new : WorldState) (n : ℕ) (r : Reply) → Clears does → AnswersMove does told back old n r new
+moves : (does : StoreState → ℕ → Moved → StoreState → Type 0) (told : Reply) (back : Place) (old new : WorldState) (n : ℕ) (r : Reply) → Clears does
+    → AnswersMove does told back old n r new
     → is_settled r ≡ true → AnswersMove does told back (without_faults old) n r (without_faults new)
 moves does told back old new n r c h t = record {
   moved = h.moved;
@@ -95,7 +97,8 @@ make old new z NoMemory h = ((h.0.0, h.0.1, ap cleared h.0.2), ap without_faults
 make old new z (Made n) h = ((h.0.0, h.0.1, h.0.2, ap cleared h.0.3), ap without_faults h.1)
 make old new z _ h = absurd h
 
-object : (old new : WorldState) (n : ℕ) (c : ObjectCommand) (r : Reply) → AnswersObject old n c r new → is_settled r ≡ true → AnswersObject (without_faults old) n c r (without_faults new)
+object : (old new : WorldState) (n : ℕ) (c : ObjectCommand) (r : Reply) → AnswersObject old n c r new → is_settled r ≡ true
+    → AnswersObject (without_faults old) n c r (without_faults new)
 object old new n Free r h t = moves Frees (Freed n) place.Here old new n r frees_clears h t
 object old new n (Put o b) Outside h t = ((h.0.0, ap cleared h.0.1), ap without_faults h.1)
 object old new n (Put o b) (Away k) h t = (h.0, ((h.1.0.0, h.1.0.1, ap cleared h.1.0.2), ap without_faults h.1.1))
@@ -105,7 +108,8 @@ object old new n (Get o z) r h t = (shows old.store n o z r h.0, ap without_faul
 object old new n (Move k) r h t = moves (Moves k) (moved_reply k n) (place_before k) old new n r (clears k) h t
 
 -- What is answered would be answered whatever the count, but for a fault.
-pub unfaulted : (old new : WorldState) (c : Event) (r : Reply) → Answers old c r new → is_settled r ≡ true → Answers (without_faults old) c r (without_faults new)
+pub unfaulted : (old new : WorldState) (c : Event) (r : Reply) → Answers old c r new → is_settled r ≡ true
+    → Answers (without_faults old) c r (without_faults new)
 unfaulted old new (Make z) r h t = make old new z r h
 unfaulted old new (Ship start code) r h t = (h.0, ap cleared h.1)
 unfaulted old new (Object n c) r h t = object old new n c r h t

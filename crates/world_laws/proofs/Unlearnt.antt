@@ -1,5 +1,6 @@
 -- Commands on other objects, and on machines without a grant, don't look at the bytes of an object.
-use Rattle.std.proofs.Common.{◌≡◌, ◌≢◌, ℕ, zero, suc, ◌<◌, Bool, true, false, nat_eq, List, [], ◌∷◌, ◌++◌, length, replicate, set, All, Some, ◌⊎◌, inl, inr, refl, ap, sym, ◌∙◌, subst, arith}
+use Rattle.std.proofs.Common.{◌≡◌, ◌≢◌, ℕ, zero, suc, ◌<◌, Bool, true, false, nat_eq, List, [], ◌∷◌, ◌++◌, length, replicate, set, All, Some, ◌⊎◌, inl, inr}
+use Rattle.std.proofs.Common.{refl, ap, sym, ◌∙◌, subst, arith}
 use Rattle.std.specs.Prelude.{slice_get}
 use Rattle.std.proofs.Math.ListN.{length-set}
 use Rattle.std.proofs.lemmas.List.{set-append_left}
@@ -69,7 +70,8 @@ off g n (Touch k op) l a = clash g n k l (reads g _ k a)
 off g n (Measure k) l a = clash g n k l a
 
 module _ (n : ℕ) (b : List ℕ) (who : ℕ) where
-  touch : (old new : StoreState) (k : ℕ) (op : Op) (r : Reach) → k ≢ n → Touches who old k op r new → Touches who (blind n b old) k op r (blind n b new) × Leaves n old new
+  touch : (old new : StoreState) (k : ℕ) (op : Op) (r : Reach) → k ≢ n → Touches who old k op r new
+      → Touches who (blind n b old) k op r (blind n b new) × Leaves n old new
   touch old new k op (reach.Done x) h t =
       let e = other old.objects n k b h in
       let c = after op (bytes_of old.objects k) in
@@ -103,7 +105,8 @@ module _ (n : ℕ) (b : List ℕ) (who : ℕ) where
       → StepsFrom m.stop (store_memory who) m (blind n b old) o (blind n b mid) × Leaves n old mid
   case_blind m old mid o l (inl d) = (
     subst (λ (x : StoreState). StepsFrom m.stop (store_memory who) m (blind n b old) o x) (ap (blind n b) (sym d.same))
-        (subst (λ (p : Outcome). StepsFrom m.stop (store_memory who) m (blind n b old) p (blind n b old)) (sym d.becomes) (steps_stayed (store_memory who) m.stop d.stop m (blind n b old) d.stopped)),
+        (subst (λ (p : Outcome). StepsFrom m.stop (store_memory who) m (blind n b old) p (blind n b old)) (sym d.becomes)
+        (steps_stayed (store_memory who) m.stop d.stop m (blind n b old) d.stopped)),
     leaves_same n old mid d.same,
   )
   case_blind m old mid o l (inr (inl d)) = (
@@ -112,10 +115,14 @@ module _ (n : ℕ) (b : List ℕ) (who : ℕ) where
     leaves_same n old mid d.same,
   )
   case_blind m old mid o l (inr (inr d)) =
-      let a = answered (asks d.instr m) old mid d.said (off m.grants n (asks d.instr m) l (allowed d.instr m d.attempts.free)) d.answers in
-      (subst (λ (p : Outcome). StepsFrom m.stop (store_memory who) m (blind n b old) p (blind n b mid)) (sym d.becomes) (steps_told (store_memory who) d.instr m (blind n b old) (blind n b mid) d.said d.attempts a.0), a.1)
+      let a = answered (asks d.instr m) old mid d.said (off m.grants n (asks d.instr m) l (allowed d.instr m d.attempts.free)) d.answers in (
+        subst (λ (p : Outcome). StepsFrom m.stop (store_memory who) m (blind n b old) p (blind n b mid)) (sym d.becomes)
+            (steps_told (store_memory who) d.instr m (blind n b old) (blind n b mid) d.said d.attempts a.0),
+        a.1,
+      )
 
-  closes_blind : (c : Bool) (old new : StoreState) → Closes c (store_memory who) old new → Closes c (store_memory who) (blind n b old) (blind n b new) × Leaves n old new
+  closes_blind : (c : Bool) (old new : StoreState) → Closes c (store_memory who) old new
+      → Closes c (store_memory who) (blind n b old) (blind n b new) × Leaves n old new
   closes_blind true old new h = (ap (blind n b) h, leaves_objects n old new (ap (λ (s : StoreState). s.objects) h))
   closes_blind false old new h = (ap (blind n b) h, leaves_same n old new h)
 
@@ -139,8 +146,11 @@ module _ (n : ℕ) (b : List ℕ) (who : ℕ) where
 
   step : (w : Way) (old new : Debuggee) (s t : StoreState) (told : StepReply) → LacksGrant n old → AnswersStep (store_memory who) w old s told new t
       → AnswersStep (store_memory who) w old (blind n b s) told new (blind n b t) × Leaves n s t × (new.machine.grants ≡ old.machine.grants)
-  step w old new s t (step_reply.Paused slot) l h =
-      (record { held = h.held; slot_is = h.slot_is; changed = h.changed; same = ap (blind n b) h.same }, leaves_same n s t h.same, ap (λ (x : Debuggee). x.machine.grants) h.changed)
+  step w old new s t (step_reply.Paused slot) l h = (
+    record { held = h.held; slot_is = h.slot_is; changed = h.changed; same = ap (blind n b) h.same },
+    leaves_same n s t h.same,
+    ap (λ (x : Debuggee). x.machine.grants) h.changed,
+  )
   step w old new s t told l h = walk w old new s t told l h
 
   command : (c : MachineCommand) (old new : Debuggee) (s t : StoreState) (r : Reply) → LacksGrant n old → AnswersCommand (store_memory who) old s who c r new t
@@ -158,13 +168,16 @@ either_number {P} k n f g = elim (nat_eq k n) as (λ b. nat_eq k n ≡ b → P) 
 abbrev LackingIn : ℕ → (ℕ → Bool) → List Debuggee → Type 0
 LackingIn n is_ours ms = (m : ℕ) (d : Debuggee) → is_ours m ≡ true → machine_at ms m ≡ Some d → LacksGrant n d
 
-written_back : (n : ℕ) (is_ours : ℕ → Bool) (ms : List Debuggee) (m : ℕ) (x y : Debuggee) → machine_at ms m ≡ Some x → LacksGrant n y → LackingIn n is_ours ms → LackingIn n is_ours (with_machine ms m y)
+written_back : (n : ℕ) (is_ours : ℕ → Bool) (ms : List Debuggee) (m : ℕ) (x y : Debuggee) → machine_at ms m ≡ Some x → LacksGrant n y
+    → LackingIn n is_ours ms → LackingIn n is_ours (with_machine ms m y)
 written_back n is_ours ms m x y f l all = λ k d o e. either_number k m
     (λ (t : k ≡ m). subst (LacksGrant n) (found_once _ y d (found_set ms m x y f) (subst (λ j. machine_at (with_machine ms m y) j ≡ Some d) t e)) l)
     (λ t. all k d o (sym (other_machine ms m k x y f t) ∙ e))
 
-machine : (n : ℕ) (b : List ℕ) (is_ours : ℕ → Bool) (who : ℕ) (c : MachineCommand) (old new : List Debuggee) (s t : StoreState) (r : Reply) → is_ours who ≡ true → LackingIn n is_ours old
-    → AnswersMachine (store_memory who) old s who c r new t → AnswersMachine (store_memory who) old (blind n b s) who c r new (blind n b t) × Leaves n s t × LackingIn n is_ours new
+machine : (n : ℕ) (b : List ℕ) (is_ours : ℕ → Bool) (who : ℕ) (c : MachineCommand) (old new : List Debuggee) (s t : StoreState) (r : Reply)
+    → is_ours who ≡ true → LackingIn n is_ours old
+    → AnswersMachine (store_memory who) old s who c r new t
+    → AnswersMachine (store_memory who) old (blind n b s) who c r new (blind n b t) × Leaves n s t × LackingIn n is_ours new
 machine n b is_ours who c old new s t r o all (inl h) = (
   inl (record { none = h.none; told = h.told; unchanged = h.unchanged; same = ap (blind n b) h.same }),
   leaves_same n s t h.same,
@@ -175,7 +188,8 @@ machine n b is_ours who c old new s t r o all (inr h) =
     let k = command n b who c h.debuggee h.became s t r l h.answers in (
       inr (record { debuggee = h.debuggee; became = h.became; found = h.found; answers = k.0; changed = h.changed }),
       k.1,
-      subst (LackingIn n is_ours) (sym h.changed) (written_back n is_ours old who h.debuggee h.became h.found (subst (λ (g : GrantState). is_granted g false n ≡ false) (sym k.2) l) all),
+      subst (LackingIn n is_ours) (sym h.changed)
+          (written_back n is_ours old who h.debuggee h.became h.found (subst (λ (g : GrantState). is_granted g false n ≡ false) (sym k.2) l) all),
     )
 
 -- ---- a machine that is shipped
@@ -193,7 +207,8 @@ one_more n is_ours ms x l all (suc m) d o e = elim (last_or_before ms x d m e) [
   | inr f ↦ subst (LacksGrant n) f l
 ]
 
-shipped : (n : ℕ) (is_ours : ℕ → Bool) (old new : List Debuggee) (start : Start) (code : List ℕ) (r : Reply) → is_granted start.grants false n ≡ false → LackingIn n is_ours old
+shipped : (n : ℕ) (is_ours : ℕ → Bool) (old new : List Debuggee) (start : Start) (code : List ℕ) (r : Reply)
+    → is_granted start.grants false n ≡ false → LackingIn n is_ours old
     → AnswersShip old start code r new → LackingIn n is_ours new
 shipped n is_ours old new start code Full l all h = subst (LackingIn n is_ours) (sym h.1) all
 shipped n is_ours old new start code (Refused e) l all h = subst (LackingIn n is_ours) (sym h.3) all
@@ -204,13 +219,27 @@ shipped n is_ours old new start code _ l all h = absurd h
 -- ---- objects
 
 module _ (n : ℕ) (b : List ℕ) (k : ℕ) (h : k ≢ n) where
-  put : (o : ℕ) (c : List ℕ) (old new : WorldState) (r : Reply) → AnswersPut old k o c r new → AnswersPut (with_other n b old) k o c r (with_other n b new) × Leaves n old.store new.store
+  put : (o : ℕ) (c : List ℕ) (old new : WorldState) (r : Reply) → AnswersPut old k o c r new
+      → AnswersPut (with_other n b old) k o c r (with_other n b new) × Leaves n old.store new.store
   put o c old new Outside g = (
-    (((λ i. g.0.0 (subst (λ (y : List ℕ). EndsInside (Reads o (length c)) (length y)) (other old.store.objects n k b h) i)), ap (blind n b) g.0.1), ap (with_other n b) g.1),
+    (
+      ((λ i. g.0.0 (subst (λ (y : List ℕ). EndsInside (Reads o (length c)) (length y)) (other old.store.objects n k b h) i)), ap (blind n b) g.0.1),
+      ap (with_other n b) g.1,
+    ),
     leaves_same n old.store new.store g.0.1,
   )
   put o c old new (Away j) g = (
-    (g.0, ((subst (λ (y : List ℕ). EndsInside (Reads o (length c)) (length y)) (sym (other old.store.objects n k b h)) g.1.0.0, g.1.0.1, ap (blind n b) g.1.0.2), ap (with_other n b) g.1.1)),
+    (
+      g.0,
+      (
+        (
+          subst (λ (y : List ℕ). EndsInside (Reads o (length c)) (length y)) (sym (other old.store.objects n k b h)) g.1.0.0,
+          g.1.0.1,
+          ap (blind n b) g.1.0.2,
+        ),
+        ap (with_other n b) g.1.1,
+      ),
+    ),
     leaves_same n old.store new.store g.1.0.2,
   )
   put o c old new Done g =
@@ -219,7 +248,11 @@ module _ (n : ℕ) (b : List ℕ) (k : ℕ) (h : k ≢ n) where
       let both : set (set old.store.objects k d) n b ≡ set (set old.store.objects n b) k (left_by (Writes o c) (bytes_of (set old.store.objects n b) k)) =
       set_commutes old.store.objects k n d b h ∙ ap (λ (y : List ℕ). set (set old.store.objects n b) k (left_by (Writes o c) y)) (sym e) in (
         (
-          (subst (λ (y : List ℕ). EndsInside (Reads o (length c)) (length y)) (sym e) g.0.0, g.0.1, ap (blind n b) g.0.2 ∙ ap (λ (os : List (List ℕ)). record old.store { objects = os }) both),
+          (
+            subst (λ (y : List ℕ). EndsInside (Reads o (length c)) (length y)) (sym e) g.0.0,
+            g.0.1,
+            ap (blind n b) g.0.2 ∙ ap (λ (os : List (List ℕ)). record old.store { objects = os }) both,
+          ),
           ap (with_other n b) g.1,
         ),
         leaves_set n old.store new.store k d h (ap (λ (s : StoreState). s.objects) g.0.2),
@@ -230,7 +263,11 @@ module _ (n : ℕ) (b : List ℕ) (k : ℕ) (h : k ≢ n) where
   get s o z Outside g = λ i. g (subst (λ (y : List ℕ). EndsInside (Reads o z) (length y)) (other s.objects n k b h) i)
   get s o z (Away j) g = (g.0, (subst (λ (y : List ℕ). EndsInside (Reads o z) (length y)) (sym (other s.objects n k b h)) g.1.0, g.1.1))
   get s o z NoMemory g = (subst (λ (y : List ℕ). EndsInside (Reads o z) (length y)) (sym (other s.objects n k b h)) g.0, g.1)
-  get s o z (Bytes x) g = (subst (λ (y : List ℕ). EndsInside (Reads o z) (length y)) (sym (other s.objects n k b h)) g.0, g.1, g.2 ∙ ap (part o z) (sym (other s.objects n k b h)))
+  get s o z (Bytes x) g = (
+    subst (λ (y : List ℕ). EndsInside (Reads o z) (length y)) (sym (other s.objects n k b h)) g.0,
+    g.1,
+    g.2 ∙ ap (part o z) (sym (other s.objects n k b h)),
+  )
   get s o z _ g = absurd g
 
   object : (c : ObjectCommand) (old new : WorldState) (r : Reply) → Suits n b old.store → AnswersObject old k c r new
@@ -248,22 +285,34 @@ module _ (n : ℕ) (b : List ℕ) (k : ℕ) (h : k ≢ n) where
       put_machines (Away j) g = ap (λ (w : WorldState). w.machines) g.1.1
       put_machines Done g = ap (λ (w : WorldState). w.machines) g.1
       put_machines _ g = absurd g
-  object (Get o z) old new r f g =
-      ((get old.store o z r g.0, ap (with_other n b) g.1), leaves_same n old.store new.store (ap (λ (w : WorldState). w.store) g.1), ap (λ (w : WorldState). w.machines) g.1)
+  object (Get o z) old new r f g = (
+    (get old.store o z r g.0, ap (with_other n b) g.1),
+    leaves_same n old.store new.store (ap (λ (w : WorldState). w.store) g.1),
+    ap (λ (w : WorldState). w.machines) g.1,
+  )
 
 make : (n : ℕ) (b : List ℕ) (z : ℕ) (old new : WorldState) (r : Reply) → Suits n b old.store → AnswersMake old z r new
     → AnswersMake (with_other n b old) z r (with_other n b new) × Leaves n old.store new.store × (new.machines ≡ old.machines)
 make n b z old new Full f g =
-    let l = length-set old.store.objects n b in
-    (((omega (arith, l, g.0.0), ap (blind n b) g.0.1), ap (with_other n b) g.1), leaves_same n old.store new.store g.0.1, ap (λ (w : WorldState). w.machines) g.1)
+    let l = length-set old.store.objects n b in (
+      ((omega (arith, l, g.0.0), ap (blind n b) g.0.1), ap (with_other n b) g.1),
+      leaves_same n old.store new.store g.0.1,
+      ap (λ (w : WorldState). w.machines) g.1,
+    )
 make n b z old new NoRoom f g =
     let l = length-set old.store.objects n b in
-    let x = near_same old.store.objects old.store.places n b f.long in
-    ((((λ i. g.0.0 (omega (arith, l, i))), (λ r. g.0.1 (omega (arith, x, r))), ap (blind n b) g.0.2), ap (with_other n b) g.1), leaves_same n old.store new.store g.0.2, ap (λ (w : WorldState). w.machines) g.1)
+    let x = near_same old.store.objects old.store.places n b f.long in (
+      (((λ i. g.0.0 (omega (arith, l, i))), (λ r. g.0.1 (omega (arith, x, r))), ap (blind n b) g.0.2), ap (with_other n b) g.1),
+      leaves_same n old.store new.store g.0.2,
+      ap (λ (w : WorldState). w.machines) g.1,
+    )
 make n b z old new NoMemory f g =
     let l = length-set old.store.objects n b in
-    let x = near_same old.store.objects old.store.places n b f.long in
-    ((((λ i. g.0.0 (omega (arith, l, i))), omega (arith, x, g.0.1), ap (blind n b) g.0.2), ap (with_other n b) g.1), leaves_same n old.store new.store g.0.2, ap (λ (w : WorldState). w.machines) g.1)
+    let x = near_same old.store.objects old.store.places n b f.long in (
+      (((λ i. g.0.0 (omega (arith, l, i))), omega (arith, x, g.0.1), ap (blind n b) g.0.2), ap (with_other n b) g.1),
+      leaves_same n old.store new.store g.0.2,
+      ap (λ (w : WorldState). w.machines) g.1,
+    )
 make n b z old new (Made m) f g =
     let l = length-set old.store.objects n b in
     let x = near_same old.store.objects old.store.places n b f.long in
@@ -284,13 +333,17 @@ make n b z old new _ f g = absurd g
 
 -- ---- all commands
 
-one : (n : ℕ) (is_ours : ℕ → Bool) (b : List ℕ) (old new : WorldState) (c : Event) (r : Reply) → Suits n b old.store → LackingIn n is_ours old.machines → KeepsOff n is_ours c → Answers old c r new
+one : (n : ℕ) (is_ours : ℕ → Bool) (b : List ℕ) (old new : WorldState) (c : Event) (r : Reply) → Suits n b old.store → LackingIn n is_ours old.machines
+    → KeepsOff n is_ours c → Answers old c r new
     → Answers (with_other n b old) c r (with_other n b new) × Suits n b new.store × LackingIn n is_ours new.machines
 one n is_ours b old new (Make z) r f all k g =
     let d = make n b z old new r f g in
     (d.0, suits_on n b old.store new.store f d.1, subst (LackingIn n is_ours) (sym d.2) all)
-one n is_ours b old new (Ship start code) r f all k g =
-    ((g.0, ap (blind n b) g.1), suits_on n b old.store new.store f (leaves_same n old.store new.store g.1), shipped n is_ours old.machines new.machines start code r k all g.0)
+one n is_ours b old new (Ship start code) r f all k g = (
+  (g.0, ap (blind n b) g.1),
+  suits_on n b old.store new.store f (leaves_same n old.store new.store g.1),
+  shipped n is_ours old.machines new.machines start code r k all g.0,
+)
 one n is_ours b old new (Object j c) r f all k g =
     let d = object n b j k c old new r f g in
     (d.0, suits_on n b old.store new.store f d.1, subst (LackingIn n is_ours) (sym d.2) all)
@@ -298,7 +351,8 @@ one n is_ours b old new (Machine m c) r f all k g =
     let d = machine n b is_ours m c old.machines new.machines old.store new.store r k all g in
     (d.0, suits_on n b old.store new.store f d.1, d.2)
 
-run : (n : ℕ) (is_ours : ℕ → Bool) (b : List ℕ) (old new : WorldState) (cs : List Event) (rs : List Reply) → Suits n b old.store → LackingIn n is_ours old.machines → All (KeepsOff n is_ours) cs
+run : (n : ℕ) (is_ours : ℕ → Bool) (b : List ℕ) (old new : WorldState) (cs : List Event) (rs : List Reply) → Suits n b old.store
+    → LackingIn n is_ours old.machines → All (KeepsOff n is_ours) cs
     → Runs Answers old cs rs new → Runs Answers (with_other n b old) cs rs (with_other n b new)
 run n is_ours b old new [] [] f all k g = ap (with_other n b) g
 run n is_ours b old new (c ∷ cs) (r ∷ rs) f all k g =
@@ -308,4 +362,5 @@ run n is_ours b old new [] (r ∷ rs) f all k g = absurd g
 run n is_ours b old new (c ∷ cs) [] f all k g = absurd g
 
 pub runs_are_confined : RunsAreConfined
-runs_are_confined n is_ours bytes old new cs rs live long all k g = run n is_ours bytes old new cs rs (record { there = is_there old.store.objects n live; long = long }) all k g
+runs_are_confined n is_ours bytes old new cs rs live long all k g =
+    run n is_ours bytes old new cs rs (record { there = is_there old.store.objects n live; long = long }) all k g

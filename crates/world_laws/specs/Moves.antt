@@ -14,7 +14,8 @@ use Rattle.world.specs.Places.{place_after}
 
 -- The replies tell where each object is.
 abbrev pub PlacesAreRead : Type 0
-PlacesAreRead = (budget faults : ℕ) (commands : List Event) (replies : List Reply) (new : WorldState) → Runs Answers (world_start budget faults) commands replies new
+PlacesAreRead = (budget faults : ℕ) (commands : List Event) (replies : List Reply) (new : WorldState)
+    → Runs Answers (world_start budget faults) commands replies new
     → (n : ℕ) → place_of new.store.places n ≡ place_after n replies
 
 -- A move changes no byte, no machine, no debug state, no window, no budget, and no other object's place. It may change the
@@ -30,10 +31,12 @@ MovesChangeNoByte = (old new : WorldState) (n : ℕ) (move : Move) (reply : Repl
 
 -- The objects that aren't far fit into the budget, whatever was done.
 abbrev pub BudgetHolds : Type 0
-BudgetHolds = (budget faults : ℕ) (commands : List Event) (replies : List Reply) (new : WorldState) → Runs Answers (world_start budget faults) commands replies new
+BudgetHolds = (budget faults : ℕ) (commands : List Event) (replies : List Reply) (new : WorldState)
+    → Runs Answers (world_start budget faults) commands replies new
     → near_bytes new.store.objects new.store.places ≤ budget
 
 -- An object that a machine has in scope is here. So none is moved while it is in scope.
 abbrev pub ScopesStay : Type 0
-ScopesStay = (budget faults : ℕ) (commands : List Event) (replies : List Reply) (new : WorldState) → Runs Answers (world_start budget faults) commands replies new
+ScopesStay = (budget faults : ℕ) (commands : List Event) (replies : List Reply) (new : WorldState)
+    → Runs Answers (world_start budget faults) commands replies new
     → (n : ℕ) → IsScoped new.store n → place_of new.store.places n ≡ Here

@@ -6,7 +6,8 @@ use Rattle.object_store.specs.Stores.{with_place, window_of, HasRisen}
 use Rattle.machine.specs.MachineState.{MachineState}
 use Rattle.debugger.specs.declared.debuggee.Debuggee.{Debuggee}
 use Rattle.world.specs.declared.replies.Reply.{Reply}
-use Rattle.world.specs.declared.replies.Reply.TheVariants.{Made, Done, Bytes, Shipped, NoMemory, Full, NoRoom, Outside, Away, Misplaced, Scoped, Faulted, NoSlot, NoWatch, NotPaused, Refused, Missing}
+use Rattle.world.specs.declared.replies.Reply.TheVariants.{Made, Done, Bytes, Shipped, NoMemory, Full, NoRoom, Outside, Away, Misplaced, Scoped, Faulted}
+use Rattle.world.specs.declared.replies.Reply.TheVariants.{NoSlot, NoWatch, NotPaused, Refused, Missing}
 use Rattle.debugger.specs.declared.commands.MachineCommand.{MachineCommand}
 use Rattle.debugger.specs.declared.commands.MachineCommand.TheVariants.{Step, Show, Debug}
 use Rattle.debugger.specs.declared.commands.DebugCommand.{DebugCommand}
@@ -83,7 +84,8 @@ code_of d = d.machine.code
 
 -- Whatever was done, the programs are those that were shipped, byte for byte and in order.
 abbrev pub RunsWhatWasShipped : Type 0
-RunsWhatWasShipped = (budget faults : ℕ) (commands : List Event) (replies : List Reply) (new : WorldState) → Runs Answers (world_start budget faults) commands replies new
+RunsWhatWasShipped = (budget faults : ℕ) (commands : List Event) (replies : List Reply) (new : WorldState)
+    → Runs Answers (world_start budget faults) commands replies new
     → map code_of new.machines ≡ shipped_codes commands replies
 
 -- ---- objects
@@ -101,11 +103,13 @@ is_step _ = false
 
 -- Commands on objects leave all machines and their debug states as they were.
 abbrev pub MachinesStay : Type 0
-MachinesStay = (old new : WorldState) (command : Event) (reply : Reply) → Answers old command reply new → is_on_objects command ≡ true → new.machines ≡ old.machines
+MachinesStay = (old new : WorldState) (command : Event) (reply : Reply) → Answers old command reply new
+    → is_on_objects command ≡ true → new.machines ≡ old.machines
 
 -- Commands on machines leave the objects as they were, but for steps.
 abbrev pub ObjectsStay : Type 0
-ObjectsStay = (old new : WorldState) (command : Event) (reply : Reply) → Answers old command reply new → is_on_objects command ≡ false → is_step command ≡ false → new.store ≡ old.store
+ObjectsStay = (old new : WorldState) (command : Event) (reply : Reply) → Answers old command reply new → is_on_objects command ≡ false
+    → is_step command ≡ false → new.store ≡ old.store
 
 -- Writing bytes into an object leaves every other object as it was.
 abbrev pub PutsStayApart : Type 0
@@ -115,7 +119,8 @@ PutsStayApart = (old new : WorldState) (n offset k : ℕ) (bytes : List ℕ) (re
 -- What was put is what is got.
 abbrev pub GetsWhatWasPut : Type 0
 GetsWhatWasPut = (old new : WorldState) (n offset : ℕ) (bytes : List ℕ) (reply : Reply)
-    → Runs Answers old (Object n (Put offset bytes) ∷ Object n (Get offset (length bytes)) ∷ []) (Done ∷ reply ∷ []) new → (reply ≡ Bytes bytes) ⊎ (reply ≡ NoMemory)
+    → Runs Answers old (Object n (Put offset bytes) ∷ Object n (Get offset (length bytes)) ∷ []) (Done ∷ reply ∷ []) new
+    → (reply ≡ Bytes bytes) ⊎ (reply ≡ NoMemory)
 
 -- the numbers of the replies `made`, in order
 abbrev pub made_numbers : List Reply → List ℕ
@@ -130,7 +135,8 @@ counted_from n (suc count) = n ∷ counted_from (suc n) count
 
 -- Objects are numbered from 1, in the order in which they are made. So no number is used again, freed or not.
 abbrev pub NumbersCountUp : Type 0
-NumbersCountUp = (budget faults : ℕ) (commands : List Event) (replies : List Reply) (new : WorldState) → Runs Answers (world_start budget faults) commands replies new
+NumbersCountUp = (budget faults : ℕ) (commands : List Event) (replies : List Reply) (new : WorldState)
+    → Runs Answers (world_start budget faults) commands replies new
     → made_numbers replies ≡ counted_from 1 (length (made_numbers replies))
 
 -- ---- one way
@@ -149,7 +155,8 @@ without_faults w = record w { store = record w.store { faults = 0 } }
 -- count of faults alone.
 abbrev pub AnswersOneWay : Type 0
 AnswersOneWay = (old aside new other : WorldState) (command : Event) (a b : Reply) → without_faults old ≡ without_faults aside
-    → Answers old command a new → Answers aside command b other → is_settled a ≡ true → is_settled b ≡ true → (a ≡ b) × (without_faults new ≡ without_faults other)
+    → Answers old command a new → Answers aside command b other → is_settled a ≡ true → is_settled b ≡ true
+    → (a ≡ b) × (without_faults new ≡ without_faults other)
 
 -- each of these replies is such a one
 abbrev pub AreSettled : List Reply → Type 0

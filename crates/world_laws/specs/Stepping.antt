@@ -55,7 +55,8 @@ pub record IsCalm (w : WorldState) (m : ℕ) (d : Debuggee) : Type 0 where
 
 -- So is every machine that is stopped, in each run from the start.
 abbrev pub StoppedMachinesAreCalm : Type 0
-StoppedMachinesAreCalm = (budget faults : ℕ) (commands : List Event) (replies : List Reply) (new : WorldState) → Runs Answers (world_start budget faults) commands replies new
+StoppedMachinesAreCalm = (budget faults : ℕ) (commands : List Event) (replies : List Reply) (new : WorldState)
+    → Runs Answers (world_start budget faults) commands replies new
     → (m : ℕ) (d : Debuggee) (s : Stop) → machine_at new.machines m ≡ Some d → d.machine.stop ≡ Some s → IsCalm new m d
 
 -- ---- what is written
@@ -72,7 +73,8 @@ ChangesTold answer before after = (n : ℕ) → (length (bytes_of after n) ≡ l
 
 -- A step writes one object at most, and of it the range at most that it tells.
 abbrev pub StepsTellWhatTheyWrite : Type 0
-StepsTellWhatTheyWrite = (m : ℕ) (way : Way) (old new : Debuggee) (before after : StoreState) (reply : StepReply) (s : Walks (store_memory m) way old before reply new after)
+StepsTellWhatTheyWrite = (m : ℕ) (way : Way) (old new : Debuggee) (before after : StoreState) (reply : StepReply)
+    (s : Walks (store_memory m) way old before reply new after)
     → ChangesTold s.answer before.objects after.objects
 
 -- ---- the order of steps
@@ -87,4 +89,5 @@ pub record Comes (w : WorldState) (m n : ℕ) : Type 0 where
 -- both.
 abbrev pub StepsCommute : Type 0
 StepsCommute = (old new : WorldState) (v w : Way) (m k : ℕ) (a b : Reply) → m ≢ k → ((n : ℕ) → Comes old m n → Comes old k n → ⊥)
-    → Runs Answers old (Machine m (Step v) ∷ Machine k (Step w) ∷ []) (a ∷ b ∷ []) new → Runs Answers old (Machine k (Step w) ∷ Machine m (Step v) ∷ []) (b ∷ a ∷ []) new
+    → Runs Answers old (Machine m (Step v) ∷ Machine k (Step w) ∷ []) (a ∷ b ∷ []) new
+    → Runs Answers old (Machine k (Step w) ∷ Machine m (Step v) ∷ []) (b ∷ a ∷ []) new

@@ -1,6 +1,8 @@
 //! What replies tell of the state, and which replies there may be.
 
-ghost use Rattle.world_laws.specs.Replies.{RefusalsChangeNothing, FaultsChangeOnePlace, ShowingChangesNothing, DebuggingChangesDebugStateAlone, OthersStay, RunsWhatWasShipped, MachinesStay, ObjectsStay, PutsStayApart, GetsWhatWasPut, NumbersCountUp, AnswersOneWay, RunsOneWay};
+ghost use Rattle.world_laws.specs.Replies.{RefusalsChangeNothing, FaultsChangeOnePlace, ShowingChangesNothing, DebuggingChangesDebugStateAlone, OthersStay};
+ghost use Rattle.world_laws.specs.Replies.{RunsWhatWasShipped, MachinesStay, ObjectsStay, PutsStayApart, GetsWhatWasPut, NumbersCountUp, AnswersOneWay};
+ghost use Rattle.world_laws.specs.Replies.{RunsOneWay};
 
 /// A refusal changes nothing.
 pub fn refusals_change_nothing()

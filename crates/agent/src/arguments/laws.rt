@@ -44,7 +44,16 @@ pub fn right_ports()
 
 /// The options of `serve`, and numbers that are too small or too great for them. `--far` may be left out.
 pub fn right_services()
-    ensures all { (faults_of all_of_serve ≡ []) × (task_of all_of_serve ≡ Some (Task.Serve (record { port = 7070; connections = 8; workers = 0; budget = 64; sweep = true; far_timeout = 250; verbose = true }))) }
+    ensures all { (faults_of all_of_serve ≡ [])
+        × (task_of all_of_serve ≡ Some (Task.Serve (record {
+          port = 7070;
+          connections = 8;
+          workers = 0;
+          budget = 64;
+          sweep = true;
+          far_timeout = 250;
+          verbose = true;
+        }))) }
     ensures far { (faults_of far_serving ≡ []) × (task_of far_serving ≡ Some (Task.Serve plain_serving))
         × (far_of far_serving ≡ Some (codes "127.0.0.1:7070")) }
     ensures no_far { far_of all_of_serve ≡ None }

@@ -3,7 +3,8 @@ ghost use Rattle.std.specs.Prelude.{◌≡◌, ◌≤◌, ◌<◌, ◌+◌, ◌+
 ghost use Rattle.arrayvec.specs.ArrayVec.{array_vec_len};
 ghost use Rattle.asm_text.specs.Tokens.{tokens};
 ghost use Rattle.asm_grammar.specs.Blame.{blamed};
-ghost use Rattle.agent.specs.Explained.{Explains, ReportsExplained, SaysFirst, end_text, fits_text, fitting_text, operand_text, place_text, quoted, quoted_byte, range_text, token_text};
+ghost use Rattle.agent.specs.Explained.{Explains, ReportsExplained, SaysFirst, end_text, fits_text, fitting_text, operand_text, place_text, quoted};
+ghost use Rattle.agent.specs.Explained.{quoted_byte, range_text, token_text};
 ghost use Rattle.agent.specs.Failures.{failure_line};
 
 use crate::failure::{ExitStatus, Failure};

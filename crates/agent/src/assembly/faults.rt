@@ -2,7 +2,10 @@
 ghost use Rattle.std.specs.Prelude.{◌≡◌, ◌≤◌, ◌++◌, length, take, drop, OnOk};
 ghost use Rattle.hex.specs.Hex.{encode_lower};
 ghost use Rattle.bpf_codec.specs.Faults.{IsLeastFault, has_reserved_bits};
-ghost use Rattle.agent.specs.FaultsExplained.{allowed_text, choice_text, choices_text, differs, encoding_text, fault_text, field_of, field_text, fields_text, fits_in, half_text, held_text, is_like, is_meant, loaded_text, meant, no_opcode_text, number_in, opcode_text, other_text, others_text, packet_text, place_name, platform_text, reserved_text, second_text, sets_reserved_bits, short_text, shown_in, slot_text, some_fits_in, wrong_text};
+ghost use Rattle.agent.specs.FaultsExplained.{allowed_text, choice_text, choices_text, differs, encoding_text, fault_text, field_of, field_text, fields_text};
+ghost use Rattle.agent.specs.FaultsExplained.{fits_in, half_text, held_text, is_like, is_meant, loaded_text, meant, no_opcode_text, number_in, opcode_text};
+ghost use Rattle.agent.specs.FaultsExplained.{other_text, others_text, packet_text, place_name, platform_text, reserved_text, second_text, sets_reserved_bits};
+ghost use Rattle.agent.specs.FaultsExplained.{short_text, shown_in, slot_text, some_fits_in, wrong_text};
 
 use asm_table::mnemonic_of;
 use bpf_codec::{Fault, Field, Slot, layout_of, may_hold_in, rows_at, slot_at};

@@ -143,7 +143,8 @@ where
         + Copy
         + Send
         + Sync,
-    ensures { IfSome (I.remaining reader.old) (λ input. ServesOver F F.RETURNS serving.budget input (W.contents writer.old) (W.contents writer.new) (I.remaining reader.new) result) }
+    ensures { IfSome (I.remaining reader.old)
+        (λ input. ServesOver F F.RETURNS serving.budget input (W.contents writer.old) (W.contents writer.new) (I.remaining reader.new) result) }
 {
     let world: World<OwnStore> = match do_commands(alloc, serving.budget, reader, writer) {
         Ok(world) => world,
@@ -226,7 +227,9 @@ where
         + Copy
         + Send
         + Sync,
-    ensures { IfSome (I.remaining reader.old) (λ input. ServeLeaves serving.budget (option_map (λ text. text.now) far.entry) input (W.contents writer.old) (W.contents writer.new) (I.remaining reader.new) result) }
+    ensures { IfSome (I.remaining reader.old)
+        (λ input. ServeLeaves serving.budget (option_map (λ text. text.now) far.entry) input (W.contents writer.old) (W.contents writer.new)
+        (I.remaining reader.new) result) }
 {
     let notes = Notes::new(*rt, serving.verbose);
     let Some(address) = far else {
@@ -267,7 +270,9 @@ where
         + Copy
         + Send
         + Sync,
-    ensures { IfSome (I.remaining reader.old) (λ input. ReportsServe (ServeLeaves serving.budget (option_map (λ text. text.now) far.entry) input (W.contents writer.old) (W.contents writer.new) (I.remaining reader.new)) (E.contents errors.old) (E.contents errors.new) result) }
+    ensures { IfSome (I.remaining reader.old)
+        (λ input. ReportsServe (ServeLeaves serving.budget (option_map (λ text. text.now) far.entry) input (W.contents writer.old) (W.contents writer.new)
+        (I.remaining reader.new)) (E.contents errors.old) (E.contents errors.new) result) }
 {
     let outcome = serve_at(rt, alloc, serving, far, reader, writer);
     report_service(outcome, errors)

@@ -9,4 +9,5 @@ use Rattle.asm_laws.proofs.program_text_means_its_code.Goals as goal
 
 pub returns : goal.returns
 returns c = λ bytes text code t is.
-    ap meaning t.2 ∙ ap (λ l. meaning (text_of l)) (one_code bytes t.0 code t.1 is) ∙ canonical_spells code (all_fit_parts code is.fits) (few_slots bytes code is)
+    ap meaning t.2 ∙ ap (λ l. meaning (text_of l)) (one_code bytes t.0 code t.1 is)
+    ∙ canonical_spells code (all_fit_parts code is.fits) (few_slots bytes code is)

@@ -17,9 +17,12 @@ with_required a = record { top = record a.top { subcommand_required = true }; su
 
 pub returns : goal.returns
 returns c =
-    let about_is : app_of c.about.result ≡ new_app (codes "bpfagent") = ap app_of_fields c.about.ensures ∙ (ap app_of_fields c.in_ok-named.ensures.0 ∙ c.new.ensures.app) in
+    let about_is : app_of c.about.result ≡ new_app (codes "bpfagent") =
+    ap app_of_fields c.about.ensures ∙ (ap app_of_fields c.in_ok-named.ensures.0 ∙ c.new.ensures.app) in
     let texts_are : app_of c.after_help.result ≡ new_app (codes "bpfagent") = ap app_of_fields c.after_help.ensures ∙ about_is in
     let version_is : app_of c.version.result ≡ with_version (new_app (codes "bpfagent")) = ap app_of_fields c.version.ensures ∙ ap with_version texts_are in
-    let named_is : app_of c.no_binary_name.result ≡ with_no_name (with_version (new_app (codes "bpfagent"))) = ap app_of_fields c.no_binary_name.ensures ∙ ap with_no_name version_is in
-    let helpless_is : app_of c.disable_help_subcommand.result ≡ without_help (with_no_name (with_version (new_app (codes "bpfagent")))) = ap app_of_fields c.disable_help_subcommand.ensures ∙ ap without_help named_is in
+    let named_is : app_of c.no_binary_name.result ≡ with_no_name (with_version (new_app (codes "bpfagent"))) =
+    ap app_of_fields c.no_binary_name.ensures ∙ ap with_no_name version_is in
+    let helpless_is : app_of c.disable_help_subcommand.result ≡ without_help (with_no_name (with_version (new_app (codes "bpfagent")))) =
+    ap app_of_fields c.disable_help_subcommand.ensures ∙ ap without_help named_is in
     ap app_of_fields c.subcommand_required.ensures ∙ ap with_required helpless_is

@@ -13,7 +13,8 @@ module _ {X A B : Type 0} (f : X → A) (g : X → B) where
   firsts None = refl
   firsts (Some x) = refl
 
-  joined : (o : Option X) (p : Option (A × B)) → option_map f o ≡ option_map (λ q. q.0) p → option_map g o ≡ option_map (λ q. q.1) p → option_map (λ x. (f x, g x)) o ≡ p
+  joined : (o : Option X) (p : Option (A × B)) → option_map f o ≡ option_map (λ q. q.0) p → option_map g o ≡ option_map (λ q. q.1) p
+      → option_map (λ x. (f x, g x)) o ≡ p
   joined None None e h = refl
   joined None (Some q) e h = absurd (cc)
   joined (Some x) None e h = absurd (cc)
@@ -55,7 +56,8 @@ pub returns-clause-far : goal.returns-clause-far
 returns-clause-far g c =
     let seen = joined _ _ _ _ (c.subcommand.ensures.name ∙ firsts _ _ _) c.subcommand.ensures.rows ∙ c.in_ok-matches.ensures.ok.1 in
     let pair = rw c.in-Some.is at seen in
-    c.get_str.ensures ∙ first_value-rows (found_of c.in-Some.inner.now) (codes "far") ∙ ap (λ (o : Option (Text × List Row)). option_and_then (λ p. first_of (codes "far") p.1) o) pair
+    c.get_str.ensures ∙ first_value-rows (found_of c.in-Some.inner.now) (codes "far")
+    ∙ ap (λ (o : Option (Text × List Row)). option_and_then (λ p. first_of (codes "far") p.1) o) pair
 
 pub returns-in_err-matches-clause-err : goal.returns-in_err-matches-clause-err
 returns-in_err-matches-clause-err g c =

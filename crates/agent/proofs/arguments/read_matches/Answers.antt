@@ -19,7 +19,10 @@ free = refl
 module _ (words : List Text) (line : App) (is : line ≡ command_line) where
   matched : (r : Result ArgMatches Error) → FailsBy (fault_of line words) r → IfOk r (HasMatchesOf line words)
       → IfOk r (λ m. (faults_of words ≡ []) × (subcommand_rows_of m ≡ subcommand_of command_line words))
-  matched (Ok m) right has = (ap (λ (a : App). fault_of a words) (sym is) ∙ right, (has (ap is_simple is ∙ simple)).1 ∙ ap (λ (a : App). subcommand_of a words) is)
+  matched (Ok m) right has = (
+    ap (λ (a : App). fault_of a words) (sym is) ∙ right,
+    (has (ap is_simple is ∙ simple)).1 ∙ ap (λ (a : App). subcommand_of a words) is,
+  )
   matched (Err error) fails has = tt
 
   failed : (r : Result ArgMatches Error) → FailsBy (fault_of line words) r → IfErr r (HasKind (faults_of words))
@@ -29,9 +32,11 @@ module _ (words : List Text) (line : App) (is : line ≡ command_line) where
 pub returns-clause-ok : goal.returns-clause-ok
 returns-clause-ok g c =
     let line_is = c.in_ok-make_command.ensures in
-    matched (map g.S.AsStr.text c.args.arguments.now) _ line_is c.try_get_matches_from.result (c.try_get_matches_from.ensures.kinds (ap is_simple_and_free line_is ∙ free)) c.try_get_matches_from.ensures.matches
+    matched (map g.S.AsStr.text c.args.arguments.now) _ line_is c.try_get_matches_from.result
+    (c.try_get_matches_from.ensures.kinds (ap is_simple_and_free line_is ∙ free)) c.try_get_matches_from.ensures.matches
 
 pub returns-clause-err : goal.returns-clause-err
 returns-clause-err g c =
     let line_is = c.in_ok-make_command.ensures in
-    failed (map g.S.AsStr.text c.args.arguments.now) _ line_is c.try_get_matches_from.result (c.try_get_matches_from.ensures.kinds (ap is_simple_and_free line_is ∙ free))
+    failed (map g.S.AsStr.text c.args.arguments.now) _ line_is c.try_get_matches_from.result
+    (c.try_get_matches_from.ensures.kinds (ap is_simple_and_free line_is ∙ free))

@@ -6,7 +6,8 @@ pub returns-clause-token : goal.returns-clause-token
 returns-clause-token c =
     let e = c.find-rest.ensures in
     subst (λ (ts : List Lexeme). IsFirstOf ts c.args.line.now c.in_ok-found.found.start c.in_ok-found.found.end) e.tokens
-    (subst (λ (line : List ℕ). IsFirstOf (lexemes_left c.find-rest.result) line c.in_ok-found.found.start c.in_ok-found.found.end) e.line c.in_ok-found.ensures.whole)
+    (subst (λ (line : List ℕ). IsFirstOf (lexemes_left c.find-rest.result) line c.in_ok-found.found.start c.in_ok-found.found.end)
+    e.line c.in_ok-found.ensures.whole)
 
 pub returns-clause-some : goal.returns-clause-some
 returns-clause-some c = λ none.

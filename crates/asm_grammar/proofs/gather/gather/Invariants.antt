@@ -7,6 +7,7 @@ use Rattle.asm_grammar.proofs.gather.gather.Given as goal
 
 abbrev pub invariant-loop-i : goal.invariant-loop-i
 invariant-loop-i l = record {
-  so_far : gather_operands (look_in l.labels) l.n (nat_eq l.i 0) (gathered_seen l.g) (drop l.i l.sorts) (lexemes_left l.tokens) ≡ gather_operands (look_in l.labels) l.n true nothing l.sorts (lexemes_left l.fn.tokens);
+  so_far : gather_operands (look_in l.labels) l.n (nat_eq l.i 0) (gathered_seen l.g) (drop l.i l.sorts) (lexemes_left l.tokens)
+      ≡ gather_operands (look_in l.labels) l.n true nothing l.sorts (lexemes_left l.fn.tokens);
   few : array_vec_len l.g.operands ≤ l.i;
 }

@@ -10,7 +10,8 @@ decreases-loop-line l = length l.rest
 
 abbrev pub invariant-loop-line : goal.invariant-loop-line
 invariant-loop-line l = record {
-  so_far : onto (λ is. l.code.items ++ is) (assembled (l.number + 1) (look_in l.labels) l.slot (lines l.rest)) ≡ assembled 1 (look_in l.labels) 0 (lines l.fn.text);
+  so_far : onto (λ is. l.code.items ++ is) (assembled (l.number + 1) (look_in l.labels) l.slot (lines l.rest))
+      ≡ assembled 1 (look_in l.labels) 0 (lines l.fn.text);
   sound : (before : Look) × (outlined (l.number + 1) before l.slot (lines l.rest) ≡ Ok (look_in l.labels));
   slot : l.slot ≤ 4096;
   number : l.number + length l.rest ≤ length l.fn.text;

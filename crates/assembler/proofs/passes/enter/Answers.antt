@@ -11,4 +11,5 @@ returns-in-Ok-clause-labels c =
 
 pub returns-in-Ok-clause-slots : goal.returns-in-Ok-clause-slots
 returns-in-Ok-clause-slots c =
-    below_after (look_in c.args.labels.now) (look_in c.insert.new.self) (Some c.in-Some.name.now) c.args.n (entered c.in-Some.name.now c.args.labels.now c.insert.new.self c.args.n c.in-Ok.ensures.updates) c.requires.n c.requires.slots
+    below_after (look_in c.args.labels.now) (look_in c.insert.new.self) (Some c.in-Some.name.now) c.args.n
+    (entered c.in-Some.name.now c.args.labels.now c.insert.new.self c.args.n c.in-Ok.ensures.updates) c.requires.n c.requires.slots

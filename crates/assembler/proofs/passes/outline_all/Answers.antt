@@ -15,7 +15,8 @@ loop-line-preserved c =
     let n = c.in_default-complaint.is in
     let short = (right (look_in c.loop-line.labels) c.loop-line.slot (tokens c.in-Some.line.now) (sym w ∙ n)).short in
     record {
-      so_far = outlined_next _ _ _ _ _ _ _ _ _ c.in-Some.ensures.line (sym n ∙ w) c.outline-slots.ensures.label c.outline-slots.ensures.slots c.in_ok-enter.ensures.labels ∙ c.loop-line.invariant.so_far;
+      so_far = outlined_next _ _ _ _ _ _ _ _ _ c.in-Some.ensures.line (sym n
+          ∙ w) c.outline-slots.ensures.label c.outline-slots.ensures.slots c.in_ok-enter.ensures.labels ∙ c.loop-line.invariant.so_far;
       slots = c.in_ok-enter.ensures.slots;
       slot = omega (arith, short, c.outline-slots.ensures.slots);
       number = omega (arith, c.in-Some.ensures.shorter, c.loop-line.invariant.number);

@@ -5,4 +5,10 @@ use Rattle.workers.specs.Pools.{machines_of}
 use Rattle.bench_threads.proofs.turns.done.Given as goal
 
 abbrev pub ghosts-run : goal.ghosts-run
-ghosts-run g a = record { table = a.shared.table.table.shared.table_id; opening = table_opening a.shared.table; starts = machines_of a.machines.items; seats = length a.seats.items; lent = each_lent }
+ghosts-run g a = record {
+  table = a.shared.table.table.shared.table_id;
+  opening = table_opening a.shared.table;
+  starts = machines_of a.machines.items;
+  seats = length a.seats.items;
+  lent = each_lent;
+}

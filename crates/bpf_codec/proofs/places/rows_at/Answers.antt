@@ -12,4 +12,9 @@ part a b n rows = omega arith
 
 pub returns : goal.returns
 returns c =
-    rw (c.firsts.ensures, c.counts.ensures, c.rows.ensures.now, part (get_or FIRSTS c.args.opcode 0) (get_or COUNTS c.args.opcode 0) c.args.opcode c.rows.result.now) (rows_stand c.args.opcode c.ranges.opcode.fits)
+    rw (
+      c.firsts.ensures,
+      c.counts.ensures,
+      c.rows.ensures.now,
+      part (get_or FIRSTS c.args.opcode 0) (get_or COUNTS c.args.opcode 0) c.args.opcode c.rows.result.now,
+    ) (rows_stand c.args.opcode c.ranges.opcode.fits)

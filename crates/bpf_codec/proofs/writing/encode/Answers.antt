@@ -10,4 +10,14 @@ overflow_cast-bytes c = rw (c.number_of.ensures, c.number_of-2.ensures, c.layout
 
 pub returns-clause-encoded : goal.returns-clause-encoded
 returns-clause-encoded c =
-    rw (c.to_le_bytes-o.ensures, c.to_le_bytes-m.ensures, c.to_le_bytes-n.ensures, c.number_of.ensures, c.number_of-2.ensures, c.number_of-3.ensures, c.number_of-4.ensures, c.next_imm_of.ensures, c.layout_of-layout.ensures) (padded_is c.args.instr.now)
+    rw (
+      c.to_le_bytes-o.ensures,
+      c.to_le_bytes-m.ensures,
+      c.to_le_bytes-n.ensures,
+      c.number_of.ensures,
+      c.number_of-2.ensures,
+      c.number_of-3.ensures,
+      c.number_of-4.ensures,
+      c.next_imm_of.ensures,
+      c.layout_of-layout.ensures,
+    ) (padded_is c.args.instr.now)

@@ -18,15 +18,29 @@ returns-clause-told c =
     let same : c.deref.result.now ≡ c.args.agent.now.held.state = search rules in
     let live : c.args.agent.now.live ≡ true = search rules in
     let after : c.give.new.agent.held.state ≡ c.args.agent.now.held.state = search rules in
-    let carry : (r : Reply) → Answers (state_of c.deref.result.now) (Machine c.args.machine (Show (Stack c.args.offset (length c.args.bytes.now)))) r (state_of c.deref.result.now)
-    → Answers (state_of c.args.agent.now.held.state) (Machine c.args.machine (Show (Stack c.args.offset (length c.args.bytes.now)))) r (state_of c.give.new.agent.held.state)
-    = λ r h. subst (λ (x : WorldWithin LibraryState). Answers (state_of c.args.agent.now.held.state) (Machine c.args.machine (Show (Stack c.args.offset (length c.args.bytes.now)))) r (state_of x)) (sym after)
-    (subst (λ (x : WorldWithin LibraryState). Answers (state_of x) (Machine c.args.machine (Show (Stack c.args.offset (length c.args.bytes.now)))) r (state_of x)) same h) in
+    let carry : (r : Reply) → Answers (state_of c.deref.result.now) (Machine c.args.machine (Show (Stack c.args.offset (length c.args.bytes.now))))
+    r (state_of c.deref.result.now)
+    → Answers (state_of c.args.agent.now.held.state) (Machine c.args.machine (Show (Stack c.args.offset (length c.args.bytes.now)))) r
+    (state_of c.give.new.agent.held.state)
+    = λ r h. subst (λ (x : WorldWithin LibraryState).
+    Answers (state_of c.args.agent.now.held.state) (Machine c.args.machine (Show (Stack c.args.offset (length c.args.bytes.now)))) r (state_of x)) (sym after)
+    (subst (λ (x : WorldWithin LibraryState).
+    Answers (state_of x) (Machine c.args.machine (Show (Stack c.args.offset (length c.args.bytes.now)))) r (state_of x)) same h) in
     elim c.match-read_stack.branch [
       | in-Ok w ↦
-          let shown : Answers (state_of c.deref.result.now) (Machine c.args.machine (Show (Stack c.args.offset (length c.args.bytes.now)))) (Bytes c.read_stack.new.into) (state_of c.deref.result.now) = search rules in
-          (Some (Bytes c.read_stack.new.into), (live, c.give.ensures.live, carry (Bytes c.read_stack.new.into) shown), w.number-is, over_as_many c.read_stack.new.into c.args.bytes.now (search rules))
+          let shown : Answers (state_of c.deref.result.now) (Machine c.args.machine (Show (Stack c.args.offset (length c.args.bytes.now))))
+          (Bytes c.read_stack.new.into) (state_of c.deref.result.now) = search rules in (
+            Some (Bytes c.read_stack.new.into),
+            (live, c.give.ensures.live, carry (Bytes c.read_stack.new.into) shown),
+            w.number-is,
+            over_as_many c.read_stack.new.into c.args.bytes.now (search rules),
+          )
       | in-Err w ↦
-          let refused : Answers (state_of c.deref.result.now) (Machine c.args.machine (Show (Stack c.args.offset (length c.args.bytes.now)))) (refused_stack w.in-Err.error) (state_of c.deref.result.now) = search rules in
-          (Some (refused_stack w.in-Err.error), (live, c.give.ensures.live, carry (refused_stack w.in-Err.error) refused), w.number-is ∙ w.code_of_stack-number.ensures.number, search rules ∙ stack_shows_nothing w.in-Err.error c.args.bytes.now)
+          let refused : Answers (state_of c.deref.result.now) (Machine c.args.machine (Show (Stack c.args.offset (length c.args.bytes.now))))
+          (refused_stack w.in-Err.error) (state_of c.deref.result.now) = search rules in (
+            Some (refused_stack w.in-Err.error),
+            (live, c.give.ensures.live, carry (refused_stack w.in-Err.error) refused),
+            w.number-is ∙ w.code_of_stack-number.ensures.number,
+            search rules ∙ stack_shows_nothing w.in-Err.error c.args.bytes.now,
+          )
     ]

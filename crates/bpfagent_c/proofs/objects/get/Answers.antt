@@ -17,9 +17,43 @@ returns c =
     elim c.match-read.branch [
       | in-Ok w ↦
           let shown : AnswersGet c.deref.result.now.store.state c.args.object c.args.offset (length c.args.bytes.now) (Bytes c.read.new.into) = search rules in
-          record { told = (Some (Bytes c.read.new.into), (live, c.give.ensures.live, (subst (λ (x : WorldWithin LibraryState). AnswersGet x.store.state c.args.object c.args.offset (length c.args.bytes.now) (Bytes c.read.new.into)) same shown, ap state_of after)), w.number-is, over_as_many c.read.new.into c.args.bytes.now (search rules)); memory = λ e. let k : 0 ≡ 10 = sym w.number-is ∙ e in omega (arith, k) }
+          record {
+            told = (
+              Some (Bytes c.read.new.into),
+              (
+                live,
+                c.give.ensures.live,
+                (
+                  subst (λ (x : WorldWithin LibraryState).
+                      AnswersGet x.store.state c.args.object c.args.offset (length c.args.bytes.now) (Bytes c.read.new.into)) same shown,
+                  ap state_of after,
+                ),
+              ),
+              w.number-is,
+              over_as_many c.read.new.into c.args.bytes.now (search rules),
+            );
+            memory = λ e. let k : 0 ≡ 10 = sym w.number-is ∙ e in
+                omega (arith, k);
+          }
       | in-Err w ↦
-          let refused : AnswersGet c.deref.result.now.store.state c.args.object c.args.offset (length c.args.bytes.now) (refused_get c.args.object w.in-Err.error) = search rules in
+          let refused : AnswersGet c.deref.result.now.store.state c.args.object c.args.offset (length c.args.bytes.now)
+          (refused_get c.args.object w.in-Err.error) = search rules in
           let other : w.in-Err.error ≢ Memory = search rules in
-          record { told = (Some (refused_get c.args.object w.in-Err.error), (live, c.give.ensures.live, (subst (λ (x : WorldWithin LibraryState). AnswersGet x.store.state c.args.object c.args.offset (length c.args.bytes.now) (refused_get c.args.object w.in-Err.error)) same refused, ap state_of after)), w.number-is ∙ w.code_of_get-number.ensures.number c.args.object, search rules ∙ refused_shows_nothing c.args.object w.in-Err.error c.args.bytes.now); memory = λ e. other (w.code_of_get-number.ensures.memory (sym w.number-is ∙ e)) }
+          record {
+            told = (
+              Some (refused_get c.args.object w.in-Err.error),
+              (
+                live,
+                c.give.ensures.live,
+                (
+                  subst (λ (x : WorldWithin LibraryState).
+                      AnswersGet x.store.state c.args.object c.args.offset (length c.args.bytes.now) (refused_get c.args.object w.in-Err.error)) same refused,
+                  ap state_of after,
+                ),
+              ),
+              w.number-is ∙ w.code_of_get-number.ensures.number c.args.object,
+              search rules ∙ refused_shows_nothing c.args.object w.in-Err.error c.args.bytes.now,
+            );
+            memory = λ e. other (w.code_of_get-number.ensures.memory (sym w.number-is ∙ e));
+          }
     ]

@@ -10,7 +10,8 @@ use Rattle.console.proofs.commands.read_parameters.Goals as goal
 pub returns-in_err-text : goal.returns-in_err-text
 returns-in_err-text c =
     let x = err_from_is_err_and c.from_residual-in_err-text.result c.from_residual-in_err-text.ensures.1 in
-    without_bytes c.args.kind _ _ _ c.in_ok-numbers.numbers c.numbers.ensures.limits c.in_ok-numbers.ensures.ok _ c.bytes.ensures _ _ _ x.1 x.2 c.in_err-text.ensures.err
+    without_bytes c.args.kind _ _ _ c.in_ok-numbers.numbers c.numbers.ensures.limits c.in_ok-numbers.ensures.ok _ c.bytes.ensures _ _ _
+    x.1 x.2 c.in_err-text.ensures.err
 
 pub returns-in_err-grants : goal.returns-in_err-grants
 returns-in_err-grants c =
@@ -30,4 +31,5 @@ event-requires c =
     let numbers = c.in_ok-numbers.numbers in
     let count = length (number_limits kind) in
     let first = numbers_read kind _ _ _ numbers c.numbers.ensures.limits c.in_ok-numbers.ensures.ok in
-    λ i h. subst (IsWithin (get_or (number_limits kind) i (within 0 0))) (get_or-take count numbers i 0 h) (numbers_within (number_limits kind) _ (take count numbers) _ first i h)
+    λ i h. subst (IsWithin (get_or (number_limits kind) i (within 0 0))) (get_or-take count numbers i 0 h)
+    (numbers_within (number_limits kind) _ (take count numbers) _ first i h)

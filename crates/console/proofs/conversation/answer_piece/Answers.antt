@@ -1,4 +1,5 @@
-use Rattle.std.proofs.Common.{ℕ, List, [], ◌∷◌, ◌++◌, ◌≡◌, take, drop, sym, ap, ◌∙◌, refl, subst, append_assoc, append-nil, take-append-drop, length, ◌-◌, ◌<◌, arith, rules, length-append, length-drop, map}
+use Rattle.std.proofs.Common.{ℕ, List, [], ◌∷◌, ◌++◌, ◌≡◌, take, drop, sym, ap, ◌∙◌, refl, subst, append_assoc, append-nil, take-append-drop, length, ◌-◌, ◌<◌}
+use Rattle.std.proofs.Common.{arith, rules, length-append, length-drop, map}
 use Rattle.std.proofs.lemmas.List.{take_rest}
 use Rattle.std.proofs.lemmas.Result.{err_from_is_err_and}
 use Rattle.console.specs.Conversations.{FailsInReply}
@@ -10,11 +11,13 @@ use Rattle.console.proofs.conversation.answer_piece.Goals as goal
 -- the part that is taken goes over
 moved : (seen rest piece : List ℕ) (n : ℕ) → piece ≡ seen ++ rest → piece ≡ (seen ++ take n rest) ++ take (length rest - n) (drop n rest)
 moved seen rest piece n e =
-    e ∙ ap (λ l. seen ++ l) (sym (take-append-drop n rest)) ∙ sym (append_assoc seen (take n rest) (drop n rest)) ∙ ap (λ l. seen ++ take n rest ++ l) (sym (take_rest rest n))
+    e ∙ ap (λ l. seen ++ l) (sym (take-append-drop n rest)) ∙ sym (append_assoc seen (take n rest) (drop n rest))
+    ∙ ap (λ l. seen ++ take n rest ++ l) (sym (take_rest rest n))
 
 whole : (line seen rest piece : List ℕ) (n : ℕ) → piece ≡ seen ++ rest → (line ++ seen) ++ take n rest ++ drop n rest ≡ line ++ piece
 whole line seen rest piece n e =
-    append_assoc (line ++ seen) (take n rest) (drop n rest) ∙ ap (λ l. (line ++ seen) ++ l) (take-append-drop n rest) ∙ append_assoc line seen rest ∙ ap (λ l. line ++ l) (sym e)
+    append_assoc (line ++ seen) (take n rest) (drop n rest) ∙ ap (λ l. (line ++ seen) ++ l) (take-append-drop n rest)
+    ∙ append_assoc line seen rest ∙ ap (λ l. line ++ l) (sym e)
 
 -- what is left after some of it is taken is shorter than the whole
 shorter : (seen rest piece : List ℕ) (n : ℕ) → piece ≡ seen ++ rest → 0 < n → 0 < length rest → length (drop n rest) < length piece
@@ -44,7 +47,8 @@ loop-rest-preserved g c =
         λ line l e. rw (← append_assoc line i.answers.0 (take n rest))
             (answers_fed g.A.Answerer.protocol _ _ _ _ rest _ _ _ _ _ n _ (i.answers.2 line l e) (c.feed-taken.ensures.feeds i.open_line) a.ok),
         i.answers.3 ++ a.calls.0,
-        more_replies i.answers.3 a.calls.0 i.answers.0 (take n rest) i.answers.4 (a.calls.1 ∙ sym (fed_ends _ rest n _ (c.feed-taken.ensures.feeds i.open_line))),
+        more_replies i.answers.3 a.calls.0 i.answers.0 (take n rest) i.answers.4 (a.calls.1
+            ∙ sym (fed_ends _ rest n _ (c.feed-taken.ensures.feeds i.open_line))),
         written_append g.L.Link.called i.answers.3 a.calls.0 _ _ _ _ _ _ i.answers.5 a.calls.2,
       );
     }
@@ -59,10 +63,12 @@ returns-in_err-answer_waiting-clause-err g c =
     rw x.1 (λ line l e. (
       drop n rest,
       shorter i.answers.0 rest _ n i.answers.1 (c.feed-taken.ensures.progress i.open_line more) more,
-      subst (λ y. FailsInReply g.A.Answerer.protocol (drop n rest) (g.A.Answerer.state c.args.answerer.now) y (g.L.Link.contents c.args.writer.now) (g.L.Link.contents c.answer_waiting.new.writer) (g.A.Answerer.state c.answer_waiting.new.answerer))
+      subst (λ y. FailsInReply g.A.Answerer.protocol (drop n rest) (g.A.Answerer.state c.args.answerer.now) y (g.L.Link.contents c.args.writer.now)
+          (g.L.Link.contents c.answer_waiting.new.writer) (g.A.Answerer.state c.answer_waiting.new.answerer))
           (whole line i.answers.0 rest _ n i.answers.1)
           (fails_more g.A.Answerer.protocol [] _ _ _ (drop n rest) _ _
-          (fails_fed g.A.Answerer.protocol _ _ _ _ rest _ _ _ _ _ n (i.answers.2 line l e) (c.feed-taken.ensures.feeds i.open_line) c.in_err-answer_waiting.ensures.err)),
+          (fails_fed g.A.Answerer.protocol _ _ _ _ rest _ _ _ _ _ n (i.answers.2 line l e) (c.feed-taken.ensures.feeds i.open_line)
+          c.in_err-answer_waiting.ensures.err)),
     ))
 
 pub returns-in_err-answer_waiting-clause-broken : goal.returns-in_err-answer_waiting-clause-broken
@@ -74,7 +80,8 @@ returns-in_err-answer_waiting-clause-broken g c =
     let b = c.in_err-answer_waiting.ensures.broken in
     rw x.1 (
       i.answers.3,
-      fewer_replies i.answers.3 i.answers.0 (take n rest) _ _ (moved i.answers.0 rest _ n i.answers.1) i.answers.4 (one_waits _ b.0 ∙ sym (fed_ends _ rest n _ (c.feed-taken.ensures.feeds i.open_line))),
+      fewer_replies i.answers.3 i.answers.0 (take n rest) _ _ (moved i.answers.0 rest _ n i.answers.1) i.answers.4 (one_waits _ b.0
+          ∙ sym (fed_ends _ rest n _ (c.feed-taken.ensures.feeds i.open_line))),
       b.1,
       calls_append g.L.Link.called (map LineWritten i.answers.3) (LineBroken b.1 ∷ []) _ _ _ _ _ _ i.answers.5 b.2,
     )

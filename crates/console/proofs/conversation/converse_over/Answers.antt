@@ -19,7 +19,14 @@ returns-in_err-answer_waiting-clause-write g c = λ _.
     (rw append-nil (let l = c.in_err-answer_waiting.ensures.line in c.in_err-answer_waiting.ensures.err c.args.console.now.line l.0 (sym l.1)))
 
 pub loop-reads-init : goal.loop-reads-init
-loop-reads-init g c = ([], Consumes-nil _, rw append-nil (let l = c.in_ok-answer_waiting.ensures.line in c.in_ok-answer_waiting.ensures.ok c.args.console.now.line l.0 (sym l.1)), map LineWritten c.in_ok-answer_waiting.ensures.calls.0, c.in_ok-answer_waiting.ensures.calls.2, Start c.in_ok-answer_waiting.ensures.calls.0 c.in_ok-answer_waiting.ensures.calls.1)
+loop-reads-init g c = (
+  [],
+  Consumes-nil _,
+  rw append-nil (let l = c.in_ok-answer_waiting.ensures.line in c.in_ok-answer_waiting.ensures.ok c.args.console.now.line l.0 (sym l.1)),
+  map LineWritten c.in_ok-answer_waiting.ensures.calls.0,
+  c.in_ok-answer_waiting.ensures.calls.2,
+  Start c.in_ok-answer_waiting.ensures.calls.0 c.in_ok-answer_waiting.ensures.calls.1,
+)
 
 pub loop-reads-preserved : goal.loop-reads-preserved
 loop-reads-preserved g c =
@@ -29,7 +36,8 @@ loop-reads-preserved g c =
       i.0 ++ p,
       Consumes-trans _ _ _ i.0 p i.1 c.in-Ok.ensures.bytes.0,
       rw (← append_assoc (held_bytes c.args.console.now) i.0 p)
-          (answers_join g.A.Answerer.protocol _ _ _ _ p _ _ _ _ _ i.2 (c.in_ok-answer_piece-in-Ok.ensures.ok i.2.rest i.2.is_open (ap (λ (h : Held). h.line) i.2.holds))),
+          (answers_join g.A.Answerer.protocol _ _ _ _ p _ _ _ _ _ i.2
+          (c.in_ok-answer_piece-in-Ok.ensures.ok i.2.rest i.2.is_open (ap (λ (h : Held). h.line) i.2.holds))),
       i.3 ++ ReadGave p ∷ map LineWritten a.calls.0,
       calls_append g.L.Link.called i.3 (ReadGave p ∷ map LineWritten a.calls.0) _ _ _ _ _ _ i.4 (_, _, c.in-Ok.ensures.gave, a.calls.2),
       Round _ i.3 p a.calls.0 i.5 (omega (arith, length-take c.in-Ok.n c.read.new.buffer, c.read.auto.buffer)) a.calls.1,
@@ -40,7 +48,13 @@ returns-in_err-answer_piece-in-Ok-clause-write g c = λ _.
     let i = c.loop-reads.invariant in
     let p = take c.in-Ok.n c.read.new.buffer in
     let f = c.in_err-answer_piece-in-Ok.ensures.err i.2.rest i.2.is_open (ap (λ (h : Held). h.line) i.2.holds) in
-    stops_writing g.A.Answerer.protocol _ _ (held_bytes c.args.console.now) (i.0 ++ p) _ _ _ _ f.0 (Consumes-trans _ _ _ i.0 p i.1 c.in-Ok.ensures.bytes.0) (omega (arith, f.1, length-take c.in-Ok.n c.read.new.buffer, c.read.auto.buffer))
+    stops_writing g.A.Answerer.protocol _ _ (held_bytes c.args.console.now) (i.0
+    ++ p) _ _ _ _ f.0 (Consumes-trans _ _ _ i.0 p i.1 c.in-Ok.ensures.bytes.0) (omega (
+      arith,
+      f.1,
+      length-take c.in-Ok.n c.read.new.buffer,
+      c.read.auto.buffer,
+    ))
     (rw (← append_assoc (held_bytes c.args.console.now) i.0 p) (fails_join g.A.Answerer.protocol f.0 _ _ _ _ p _ _ _ _ i.2 f.2))
 
 pub returns-in-Err-clause-read : goal.returns-in-Err-clause-read
@@ -59,7 +73,8 @@ returns-else-cut-clause-ok g c =
     let b = c.in-Ok-eq0.ensures.bytes in
     let zero : c.in-Ok-eq0.field-0 ≡ 0 = c.in-Ok-eq0.field-0-test in
     ends_whole g.A.Answerer.protocol _ _ (held_bytes c.args.console.now) i.0 _ _ _ _ _
-    (none_seen _ _ i.0 c.read.new.buffer c.in-Ok-eq0.field-0 zero (Consumes-trans _ _ _ i.0 _ i.1 b.0)) (b.1 zero (omega (arith, c.read.auto.buffer))) i.2 (λ n. let t = c.rest-cut.ensures.1 (ap (λ (h : Held). h.waits) i.2.holds, n) in absurd (let e : true ≡ false = sym t ∙ c.if-cut.false in cc))
+    (none_seen _ _ i.0 c.read.new.buffer c.in-Ok-eq0.field-0 zero (Consumes-trans _ _ _ i.0 _ i.1 b.0)) (b.1 zero (omega (arith, c.read.auto.buffer))) i.2
+    (λ n. let t = c.rest-cut.ensures.1 (ap (λ (h : Held). h.waits) i.2.holds, n) in absurd (let e : true ≡ false = sym t ∙ c.if-cut.false in cc))
 
 pub returns-in_ok-write_line-in-Ok-eq0-clause-ok : goal.returns-in_ok-write_line-in-Ok-eq0-clause-ok
 returns-in_ok-write_line-in-Ok-eq0-clause-ok g c =
@@ -67,7 +82,8 @@ returns-in_ok-write_line-in-Ok-eq0-clause-ok g c =
     let b = c.in-Ok-eq0.ensures.bytes in
     let zero : c.in-Ok-eq0.field-0 ≡ 0 = c.in-Ok-eq0.field-0-test in
     ends_cut g.A.Answerer.protocol _ _ (held_bytes c.args.console.now) i.0 _ _ _ _ _ _
-    (none_seen _ _ i.0 c.read.new.buffer c.in-Ok-eq0.field-0 zero (Consumes-trans _ _ _ i.0 _ i.1 b.0)) (b.1 zero (omega (arith, c.read.auto.buffer))) i.2 (c.rest-cut.ensures.0 c.if-cut.true).1 c.in_ok-write_line-in-Ok-eq0.ensures.ok
+    (none_seen _ _ i.0 c.read.new.buffer c.in-Ok-eq0.field-0 zero (Consumes-trans _ _ _ i.0 _ i.1 b.0)) (b.1 zero (omega (arith, c.read.auto.buffer))) i.2
+    (c.rest-cut.ensures.0 c.if-cut.true).1 c.in_ok-write_line-in-Ok-eq0.ensures.ok
 
 pub returns-in_err-write_line-in-Ok-eq0-clause-write : goal.returns-in_err-write_line-in-Ok-eq0-clause-write
 returns-in_err-write_line-in-Ok-eq0-clause-write g c = λ _.
@@ -76,7 +92,8 @@ returns-in_err-write_line-in-Ok-eq0-clause-write g c = λ _.
     let zero : c.in-Ok-eq0.field-0 ≡ 0 = c.in-Ok-eq0.field-0-test in
     let r = c.in_err-write_line-in-Ok-eq0.ensures.err in
     breaks_cut g.A.Answerer.protocol _ _ (held_bytes c.args.console.now) i.0 _ _ _ _ _ _ r.0 r.1
-    (none_seen _ _ i.0 c.read.new.buffer c.in-Ok-eq0.field-0 zero (Consumes-trans _ _ _ i.0 _ i.1 b.0)) (b.1 zero (omega (arith, c.read.auto.buffer))) i.2 (c.rest-cut.ensures.0 c.if-cut.true).1 r.2 r.3 r.4
+    (none_seen _ _ i.0 c.read.new.buffer c.in-Ok-eq0.field-0 zero (Consumes-trans _ _ _ i.0 _ i.1 b.0)) (b.1 zero (omega (arith, c.read.auto.buffer))) i.2
+    (c.rest-cut.ensures.0 c.if-cut.true).1 r.2 r.3 r.4
 
 pub returns-in_err-answer_waiting-clause-calls : goal.returns-in_err-answer_waiting-clause-calls
 returns-in_err-answer_waiting-clause-calls g c =
@@ -123,7 +140,12 @@ returns-in_ok-write_line-in-Ok-eq0-clause-calls g c =
     let cut : List ℕ = ended (codes "cut") in
     let e = ended_call g.L.Link.called _ _ _ _ c.read.new.buffer c.in-Ok-eq0.field-0 c.in-Ok-eq0.field-0-test c.in-Ok-eq0.ensures.gave in (
       i.3 ++ ReadGave [] ∷ LineWritten cut ∷ [],
-      calls_append g.L.Link.called i.3 (ReadGave [] ∷ LineWritten cut ∷ []) _ _ _ _ _ _ i.4 (_, _, e, (_, _, c.in_ok-write_line-in-Ok-eq0.ensures.written, (refl, refl))),
+      calls_append g.L.Link.called i.3 (ReadGave [] ∷ LineWritten cut ∷ []) _ _ _ _ _ _ i.4 (
+        _,
+        _,
+        e,
+        (_, _, c.in_ok-write_line-in-Ok-eq0.ensures.written, (refl, refl)),
+      ),
       (_, i.3, i.5, inr refl),
     )
 
@@ -134,6 +156,11 @@ returns-in_err-write_line-in-Ok-eq0-clause-calls g c =
     let e = ended_call g.L.Link.called _ _ _ _ c.read.new.buffer c.in-Ok-eq0.field-0 c.in-Ok-eq0.field-0-test c.in-Ok-eq0.ensures.gave in
     let x = err_from_is_err_and c.from_residual-in_err-write_line-in-Ok-eq0.result c.from_residual-in_err-write_line-in-Ok-eq0.ensures.1 in (
       i.3 ++ ReadGave [] ∷ LineBroken cut ∷ [],
-      calls_append g.L.Link.called i.3 (ReadGave [] ∷ LineBroken cut ∷ []) _ _ _ _ _ _ i.4 (_, _, e, (_, _, c.in_err-write_line-in-Ok-eq0.ensures.broken, (refl, refl))),
+      calls_append g.L.Link.called i.3 (ReadGave [] ∷ LineBroken cut ∷ []) _ _ _ _ _ _ i.4 (
+        _,
+        _,
+        e,
+        (_, _, c.in_err-write_line-in-Ok-eq0.ensures.broken, (refl, refl)),
+      ),
       rw (x.1, x.2) (i.3 ++ ReadGave [] ∷ [], AtTheEnd _ i.3 i.5, (cut, sym (append_assoc i.3 (ReadGave [] ∷ []) (LineBroken cut ∷ [])))),
     )

@@ -24,4 +24,5 @@ returns-in-Ok g c = λ line l r.
     (Done line c.in-Ok.event t.0, refl, (l, s), (g.A.Answerer.state c.perform.new.self, t.1, refl), t.2)
 
 pub returns-in-Err : goal.returns-in-Err
-returns-in-Err g c = λ line l r. fault_answered _ _ line _ c.in-Err.fault l (subst (λ (x : Result Event LineFault). Reads (SpellsCommand line) x) c.in-Err.is r) c.print_fault.ensures.bad c.print_fault.ensures.no_memory
+returns-in-Err g c = λ line l r. fault_answered _ _ line _ c.in-Err.fault l
+    (subst (λ (x : Result Event LineFault). Reads (SpellsCommand line) x) c.in-Err.is r) c.print_fault.ensures.bad c.print_fault.ensures.no_memory

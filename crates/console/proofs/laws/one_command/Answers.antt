@@ -13,7 +13,8 @@ of_kind kind tokens a b s t =
     let n = numbers_one _ _ _ _ _ _ s.numbers_first t.numbers_first in
     let m = bytes_one _ t.rest _ _ _ _ (subst (λ l. AreBytes (most_bytes kind) l s.bytes s.words) n.1 s.bytes_next) t.bytes_next in
     let g = grants_one _ t.words _ _ (subst (λ l. AreGrants (takes_grants kind) l s.grants) m.1 s.grants_last) t.grants_last in
-    s.is_command ∙ ap (λ x. event_with kind x s.bytes s.grants) n.0 ∙ ap (λ x. event_with kind t.numbers x s.grants) m.0 ∙ ap (λ x. event_with kind t.numbers t.bytes x) g ∙ sym t.is_command
+    s.is_command ∙ ap (λ x. event_with kind x s.bytes s.grants) n.0 ∙ ap (λ x. event_with kind t.numbers x s.grants) m.0
+    ∙ ap (λ x. event_with kind t.numbers t.bytes x) g ∙ sym t.is_command
 
 said : (tokens : List (List ℕ)) (a b : Event) → Says tokens a → Says tokens b → a ≡ b
 said [] a b s t = absurd s

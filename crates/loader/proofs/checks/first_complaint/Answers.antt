@@ -35,10 +35,20 @@ instrs-preserved-then-slot-entries c = λ code e.
     subst (λ (k : ℕ). IsWalked c.args.entries.now (c.instrs.slot + k) code) p.2.3 (walk_on _ _ _ code w n sound)
 
 pub overflow_add-slot-in-instrs : goal.overflow_add-slot-in-instrs
-overflow_add-slot-in-instrs c = omega (arith, c.slots_of-slot.ensures, slots_at_most_two c.in-Some.instr, entry_within c.args.entries.now c.instrs.slot c.in-Some.instr (sym c.in-Some.is ∙ c.entry_at.ensures))
+overflow_add-slot-in-instrs c = omega (
+  arith,
+  c.slots_of-slot.ensures,
+  slots_at_most_two c.in-Some.instr,
+  entry_within c.args.entries.now c.instrs.slot c.in-Some.instr (sym c.in-Some.is ∙ c.entry_at.ensures),
+)
 
 pub instrs-smaller : goal.instrs-smaller
-instrs-smaller c = omega (arith, c.slots_of-slot.ensures, slots_positive c.in-Some.instr, entry_within c.args.entries.now c.instrs.slot c.in-Some.instr (sym c.in-Some.is ∙ c.entry_at.ensures))
+instrs-smaller c = omega (
+  arith,
+  c.slots_of-slot.ensures,
+  slots_positive c.in-Some.instr,
+  entry_within c.args.entries.now c.instrs.slot c.in-Some.instr (sym c.in-Some.is ∙ c.entry_at.ensures),
+)
 
 pub instrs-preserved : goal.instrs-preserved
 instrs-preserved c = λ code e.

@@ -17,13 +17,18 @@ loop-kept-preserved c =
     let all = c.kept-all.result.now in
     let index = c.loop-kept.kept-index in
     let one : Grant = c.kept-item.result in
-    let more : HasMore c.loop-kept.table one c.add.new.table = subst (λ (g : Grant). HasMore c.loop-kept.table g c.add.new.table) c.grant.ensures c.add.ensures in
-    rw (take_more all index one c.loop-kept-test.true, sym c.kept-item.is) (kept_table (take index all) one c.loop-kept.table c.add.new.table c.loop-kept.invariant more)
+    let more : HasMore c.loop-kept.table one c.add.new.table =
+    subst (λ (g : Grant). HasMore c.loop-kept.table g c.add.new.table) c.grant.ensures c.add.ensures in
+    rw (
+      take_more all index one c.loop-kept-test.true,
+      sym c.kept-item.is,
+    ) (kept_table (take index all) one c.loop-kept.table c.add.new.table c.loop-kept.invariant more)
 
 pub returns : goal.returns
 returns c =
     let all = c.kept-all.result.now in
     let index = c.loop-kept.kept-index in
     let whole : take index all ≡ all = take_all index all (omega (arith, c.loop-kept.auto.kept-index-end, c.loop-kept-test.false)) in
-    let read : IsTableOf (record { all = false; listed = grants_in all }) c.loop-kept.table = subst (λ ws. IsTableOf (record { all = false; listed = grants_in ws }) c.loop-kept.table) whole c.loop-kept.invariant in
+    let read : IsTableOf (record { all = false; listed = grants_in all }) c.loop-kept.table =
+    subst (λ ws. IsTableOf (record { all = false; listed = grants_in ws }) c.loop-kept.table) whole c.loop-kept.invariant in
     listed_table c.args.grants.now all c.loop-kept.table (sym c.is_all.ensures ∙ c.if-is_all.false) c.kept-all.ensures read

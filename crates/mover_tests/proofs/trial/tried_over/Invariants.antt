@@ -5,4 +5,10 @@ use Rattle.workers.specs.Pools.{machines_of}
 use Rattle.mover_tests.proofs.trial.tried_over.Given as goal
 
 abbrev pub ghosts-run : goal.ghosts-run
-ghosts-run g a = record { table = a.parts.shared.table.table.shared.table_id; opening = table_opening a.parts.shared.table; starts = machines_of a.machines.items; seats = length a.parts.seats.items; lent = each_lent }
+ghosts-run g a = record {
+  table = a.parts.shared.table.table.shared.table_id;
+  opening = table_opening a.parts.shared.table;
+  starts = machines_of a.machines.items;
+  seats = length a.parts.seats.items;
+  lent = each_lent;
+}

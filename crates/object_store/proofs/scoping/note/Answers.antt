@@ -26,4 +26,12 @@ returns-clause-counts g c =
     let same = get_or_default c.args.windows.now c.args.who c.index-windows-who.result [] c.requires.machine.0 in
     let none : holds c.args.number (get_or c.args.windows.now c.args.who []) ≡ false = rw same at (sym c.holds.ensures.value ∙ c.if-holds.false) in
     let window = rw same at c.holds.ensures.window in
-    rw (c.note_new.ensures.counted.counts, c.note_new.ensures.window, same) (counts_noted _ _ _ _ c.requires.counts c.requires.machine.0 (omega (arith, c.requires.object, length-map c.args.bodies.now scopes_in)) window.distinct none)
+    rw (
+      c.note_new.ensures.counted.counts,
+      c.note_new.ensures.window,
+      same,
+    ) (counts_noted _ _ _ _ c.requires.counts c.requires.machine.0 (omega (
+      arith,
+      c.requires.object,
+      length-map c.args.bodies.now scopes_in,
+    )) window.distinct none)

@@ -9,10 +9,12 @@ pub write-requires-clause-here : goal.write-requires-clause-here
 write-requires-clause-here g c = place_at c.args.bodies.now c.args.number c.index-bodies-number.result c.requires.found ∙ c.requires.here
 
 pub write-requires-clause-inside : goal.write-requires-clause-inside
-write-requires-clause-inside g c = subst (λ (l : List ℕ). c.args.offset + length c.args.bytes.now ≤ length l) (sym (bytes_at c.args.bodies.now c.args.number c.index-bodies-number.result c.requires.found)) c.requires.inside.1
+write-requires-clause-inside g c = subst (λ (l : List ℕ). c.args.offset + length c.args.bytes.now ≤ length l)
+    (sym (bytes_at c.args.bodies.now c.args.number c.index-bodies-number.result c.requires.found)) c.requires.inside.1
 
 pub returns-clause-bytes : goal.returns-clause-bytes
-returns-clause-bytes g c = bytes_by c.args.bodies.now c.args.number c.index-bodies-number.result c.write.new.self (replaced c.args.offset c.args.bytes.now) c.requires.found (ap bytes_in c.write.ensures)
+returns-clause-bytes g c = bytes_by c.args.bodies.now c.args.number c.index-bodies-number.result c.write.new.self (replaced c.args.offset c.args.bytes.now)
+    c.requires.found (ap bytes_in c.write.ensures)
 
 pub returns-clause-places : goal.returns-clause-places
 returns-clause-places g c = places_same c.args.bodies.now c.args.number c.write.new.self c.index-bodies-number.result (ap place_in c.write.ensures)
@@ -21,4 +23,5 @@ pub returns-clause-counts : goal.returns-clause-counts
 returns-clause-counts g c = scopes_same c.args.bodies.now c.args.number c.write.new.self c.index-bodies-number.result (ap scopes_in c.write.ensures)
 
 pub returns-clause-sent : goal.returns-clause-sent
-returns-clause-sent g c = sent_by c.args.bodies.now c.args.number c.index-bodies-number.result c.write.new.self (λ (s : Sent). record s { clean = false }) c.requires.found (ap sent_in c.write.ensures)
+returns-clause-sent g c = sent_by c.args.bodies.now c.args.number c.index-bodies-number.result c.write.new.self (λ (s : Sent). record s { clean = false })
+    c.requires.found (ap sent_in c.write.ensures)

@@ -5,4 +5,5 @@ use Rattle.shared_objects.proofs.Sorting.{one_is_sorted}
 use Rattle.shared_objects.proofs.laws.sorted_entries_run.Goals as goal
 
 pub returns : goal.returns
-returns c = λ gives opening parts ends l. let is = one_is_sorted gives opening parts ends l in (is, λ r. subst (λ (es : List SharedEntry). Runs opening es ends) is (l.runs r))
+returns c = λ gives opening parts ends l. let is = one_is_sorted gives opening parts ends l in
+    (is, λ r. subst (λ (es : List SharedEntry). Runs opening es ends) is (l.runs r))

@@ -13,7 +13,9 @@ returns-clause-serves g c =
       after = c.answer_lent-said.new.locked;
       said = c.answer_lent-said.result;
       before_is = was;
-      after_is = subst (IsCell g.K.TableName.opening g.K.TableName.starts c.args.machine) c.deref.ensures (cell_now _ _ _ c.deref.result.now (ap (λ (x : CellState). x.number) c.deref.ensures ∙ (answered_number _ _ _ _ _ _ _ t ∙ was.number_is)) c.fact.ensures.number c.fact.ensures.opening c.fact.ensures.stamped c.fact.ensures.fits);
+      after_is = subst (IsCell g.K.TableName.opening g.K.TableName.starts c.args.machine) c.deref.ensures
+          (cell_now _ _ _ c.deref.result.now (ap (λ (x : CellState). x.number) c.deref.ensures
+          ∙ (answered_number _ _ _ _ _ _ _ t ∙ was.number_is)) c.fact.ensures.number c.fact.ensures.opening c.fact.ensures.stamped c.fact.ensures.fits);
       told_is = refl;
       answers = t;
     }

@@ -16,7 +16,9 @@ returns g c =
       said = c.ship_lent-said.result;
       exists = found.0;
       before_is = was;
-      after_is = subst (IsCell g.K.TableName.opening g.K.TableName.starts (c.in-Ok.found.1 + 1)) c.deref.ensures (cell_now _ _ _ c.deref.result.now (ap (λ (x : CellState). x.number) c.deref.ensures ∙ (shipped_number _ _ _ _ _ t ∙ was.number_is)) c.fact-3.ensures.number c.fact-3.ensures.opening c.fact-3.ensures.stamped c.fact-3.ensures.fits);
+      after_is = subst (IsCell g.K.TableName.opening g.K.TableName.starts (c.in-Ok.found.1 + 1)) c.deref.ensures
+          (cell_now _ _ _ c.deref.result.now (ap (λ (x : CellState). x.number) c.deref.ensures
+          ∙ (shipped_number _ _ _ _ _ t ∙ was.number_is)) c.fact-3.ensures.number c.fact-3.ensures.opening c.fact-3.ensures.stamped c.fact-3.ensures.fits);
       empty = subst (λ (x : CellState). x.running ≡ None) same found.2;
       told_is = refl;
       ships = t;

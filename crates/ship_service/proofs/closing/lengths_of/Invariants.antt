@@ -5,4 +5,5 @@ use Rattle.shared_objects.specs.Tables.{table_opening}
 use Rattle.ship_service.proofs.closing.lengths_of.Given as goal
 
 abbrev pub invariant-loop-number : goal.invariant-loop-number
-invariant-loop-number l = (length l.lengths.items ≡ l.number) × ((n : ℕ) → n < l.number → slice_index_or l.lengths.items n 0 ≡ length (bytes_of (table_opening l.table) n))
+invariant-loop-number l = (length l.lengths.items ≡ l.number)
+    × ((n : ℕ) → n < l.number → slice_index_or l.lengths.items n 0 ≡ length (bytes_of (table_opening l.table) n))

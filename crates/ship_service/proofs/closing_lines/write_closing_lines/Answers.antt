@@ -12,5 +12,6 @@ returns-in_err-write_objects-clause-err g c =
 pub returns-clause-err : goal.returns-clause-err
 returns-clause-err g c =
     let s = c.args.closed.now in let first : List ℕ = object_lines s (length s.lengths) in
-    renamed c.write_machines.result _ _ (first ++ flat_map cell_line c.cells.result.now) _ (ap (λ (l : List ClosedCell). first ++ flat_map cell_line l) c.cells.ensures)
+    renamed c.write_machines.result _ _ (first
+    ++ flat_map cell_line c.cells.result.now) _ (ap (λ (l : List ClosedCell). first ++ flat_map cell_line l) c.cells.ensures)
     (second_failed c.write_machines.result _ _ _ first (flat_map cell_line c.cells.result.now) c.in_ok-write_objects.ensures.ok c.write_machines.ensures.err)

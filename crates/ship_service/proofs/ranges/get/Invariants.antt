@@ -4,4 +4,5 @@ use Rattle.ship_service.specs.Ranges.{GetsOnce, FoundBusy, retry_limit}
 use Rattle.ship_service.proofs.ranges.get.Given as goal
 
 abbrev pub invariant-loop-retry : goal.invariant-loop-retry
-invariant-loop-retry g l = IsSeatOf g.K.TableName.table g.K.TableName.opening l.seat × (l.retry ≤ retry_limit) × FoundBusy (λ s r t. GetsOnce s l.fn.object l.fn.offset l.fn.length r t) l.fn.object l.retry (seat_state l.fn.seat) (seat_state l.seat)
+invariant-loop-retry g l = IsSeatOf g.K.TableName.table g.K.TableName.opening l.seat × (l.retry ≤ retry_limit)
+    × FoundBusy (λ s r t. GetsOnce s l.fn.object l.fn.offset l.fn.length r t) l.fn.object l.retry (seat_state l.fn.seat) (seat_state l.seat)

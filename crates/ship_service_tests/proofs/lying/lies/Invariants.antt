@@ -4,4 +4,10 @@ use Rattle.workers.specs.Pools.{machines_of}
 use Rattle.ship_service_tests.proofs.lying.lies.Given as goal
 
 abbrev pub ghosts-faults_after : goal.ghosts-faults_after
-ghosts-faults_after g a = record { table = a.parts.shared.table.table.shared.table_id; opening = table_opening a.parts.shared.table; starts = machines_of a.parts.machines.items; seats = 49; lent = each_lent }
+ghosts-faults_after g a = record {
+  table = a.parts.shared.table.table.shared.table_id;
+  opening = table_opening a.parts.shared.table;
+  starts = machines_of a.parts.machines.items;
+  seats = 49;
+  lent = each_lent;
+}

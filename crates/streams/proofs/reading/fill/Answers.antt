@@ -7,7 +7,8 @@ use Rattle.streams.proofs.reading.fill.Goals as goal
 pub loop-filled-preserved : goal.loop-filled-preserved
 loop-filled-preserved g c =
     let i = c.loop-filled.invariant in
-    let joined = filled_on c.loop-filled.filled (length c.loop-filled.buffer - c.loop-filled.filled) c.in-Ok.n c.loop-filled.buffer c.read.new.buf i.1 c.in-Ok.ensures.bound.0 in
+    let joined = filled_on c.loop-filled.filled (length c.loop-filled.buffer - c.loop-filled.filled) c.in-Ok.n c.loop-filled.buffer c.read.new.buf
+    i.1 c.in-Ok.ensures.bound.0 in
     (search rules, search rules, subst (Consumes _ _) joined (Consumes-trans _ _ _ _ _ i.2 c.in-Ok.ensures.bytes.0))
 
 pub returns-in-Err-clause-err : goal.returns-in-Err-clause-err

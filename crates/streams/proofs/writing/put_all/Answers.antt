@@ -9,6 +9,7 @@ loop-rest-preserved g c =
     let n = c.in-Ok.n in
     let rest = c.loop-rest.rest.now in (
       i.0 ++ take n rest,
-      i.1 ∙ ap (λ l. i.0 ++ l) (sym (take-append-drop n rest)) ∙ sym (append_assoc i.0 (take n rest) (drop n rest)) ∙ ap (λ l. i.0 ++ take n rest ++ l) (sym (take_rest rest n)),
+      i.1 ∙ ap (λ l. i.0 ++ l) (sym (take-append-drop n rest)) ∙ sym (append_assoc i.0 (take n rest) (drop n rest))
+          ∙ ap (λ l. i.0 ++ take n rest ++ l) (sym (take_rest rest n)),
       Appends-trans _ _ _ i.0 (take n rest) i.2 c.in-Ok.ensures.bytes,
     )

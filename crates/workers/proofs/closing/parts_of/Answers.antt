@@ -11,6 +11,7 @@ loop-cell-preserved g c =
     let d : ClosedCell = record { number = c.into_parts-number.result.0; running = c.into_parts-number.result.2 } in (
       subst (λ l. W l c.push-in-loop-cell.new.self.items) (sym a)
           (subst (W (c.loop-cell.seats.items ++ s ∷ [])) (sym b)
-          (one_more g.K.TableName.table g.K.TableName.opening g.K.TableName.starts c.loop-cell.seats.items c.loop-cell.closed.items s d v.0 (record { seat_of = p.of.0; actor_is = p.of.1; fits = p.fits }))),
+          (one_more g.K.TableName.table g.K.TableName.opening g.K.TableName.starts c.loop-cell.seats.items c.loop-cell.closed.items s d v.0
+          (record { seat_of = p.of.0; actor_is = p.of.1; fits = p.fits }))),
       omega (arith, ap length a, length-append c.loop-cell.seats.items (s ∷ []), length-append c.loop-cell.yielded (c.in-Some.cell ∷ []), v.1),
     )

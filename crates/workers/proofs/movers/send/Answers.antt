@@ -9,8 +9,10 @@ use Rattle.workers.proofs.movers.send.Goals as goal
 
 pub returns-in-Ok-clause-sent : goal.returns-in-Ok-clause-sent
 returns-in-Ok-clause-sent g c =
-    let v : View = c.args.seat.now.seat.me.0 in let n : ℕ = c.args.number in let l = c.in-Taken.ensures.leave in let b : List ℕ = c.in-Taken.bytes.items in let p = c.in-Ok.ensures.parcel in
-    let e : c.end_leave.new.mover.seat.me.0 ≡ placed n (Far b) v = c.end_leave.ensures.view ∙ ap (λ (u : View). placed n (sent (place_of u n)) u) l.2 ∙ went v n b (inside v n c.requires.object c.args.seat.now.wide) in (
+    let v : View = c.args.seat.now.seat.me.0 in let n : ℕ = c.args.number in let l = c.in-Taken.ensures.leave in let b : List ℕ = c.in-Taken.bytes.items in
+    let p = c.in-Ok.ensures.parcel in
+    let e : c.end_leave.new.mover.seat.me.0 ≡ placed n (Far b) v =
+    c.end_leave.ensures.view ∙ ap (λ (u : View). placed n (sent (place_of u n)) u) l.2 ∙ went v n b (inside v n c.requires.object c.args.seat.now.wide) in (
       e ∙ ap (λ (x : List ℕ). placed n (Far x) v) (sym p),
       ap length p ∙ l.3,
       (c.put.new.self, subst (λ (x : List ℕ). g.F.FarStore.called c.args.store.now (Put x None) c.put.new.self) (sym p) c.in-Ok.ensures.called, refl),

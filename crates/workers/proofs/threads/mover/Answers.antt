@@ -3,7 +3,10 @@ use Rattle.workers.proofs.Turned.{goes_on}
 use Rattle.workers.proofs.threads.mover.Goals as goal
 
 pub loop-preserved-in-Some-next_request : goal.loop-preserved-in-Some-next_request
-loop-preserved-in-Some-next_request g c = goes_on g.F.FarStore.RETURNS g.F.FarStore.called g.F.FarStore.faults_of (length g.K.TableName.opening) c.args.served.now c.loop.served c.serve.new.mover c.loop.invariant c.serve.ensures.chain
+loop-preserved-in-Some-next_request g c =
+    goes_on g.F.FarStore.RETURNS g.F.FarStore.called g.F.FarStore.faults_of (length g.K.TableName.opening) c.args.served.now c.loop.served c.serve.new.mover
+    c.loop.invariant c.serve.ensures.chain
 
 pub loop-preserved : goal.loop-preserved
-loop-preserved g c = goes_on g.F.FarStore.RETURNS g.F.FarStore.called g.F.FarStore.faults_of (length g.K.TableName.opening) c.args.served.now c.loop.served c.rest.new.mover c.loop.invariant c.rest.ensures.chain
+loop-preserved g c = goes_on g.F.FarStore.RETURNS g.F.FarStore.called g.F.FarStore.faults_of (length g.K.TableName.opening) c.args.served.now c.loop.served
+    c.rest.new.mover c.loop.invariant c.rest.ensures.chain

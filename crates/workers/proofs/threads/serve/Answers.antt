@@ -3,4 +3,14 @@ use Rattle.workers.proofs.Turned.{serves}
 use Rattle.workers.proofs.threads.serve.Goals as goal
 
 pub returns : goal.returns
-returns g c = record { chain = serves g.F.FarStore.RETURNS g.F.FarStore.called g.F.FarStore.faults_of (length g.K.TableName.opening) c.args.mover.now c.one-moved.new.self (record { number = c.args.request.number; direction = c.args.request.direction; told = c.one-moved.result; moves = c.one-moved.ensures.moves; asks = c.one-moved.ensures.asks; last = c.one-moved.ensures.last }) }
+returns g c = record {
+  chain = serves g.F.FarStore.RETURNS g.F.FarStore.called g.F.FarStore.faults_of (length g.K.TableName.opening) c.args.mover.now
+      c.one-moved.new.self (record {
+        number = c.args.request.number;
+        direction = c.args.request.direction;
+        told = c.one-moved.result;
+        moves = c.one-moved.ensures.moves;
+        asks = c.one-moved.ensures.asks;
+        last = c.one-moved.ensures.last;
+      });
+}

@@ -5,4 +5,10 @@ use Rattle.workers.specs.Pools.{machines_of}
 use Rattle.workers_tests.proofs.course.left_of.Given as goal
 
 abbrev pub ghosts-left_over : goal.ghosts-left_over
-ghosts-left_over g a = record { table = a.shared.table.table.shared.table_id; opening = table_opening a.shared.table; starts = machines_of a.machines.items; seats = length a.seats.items; lent = each_lent }
+ghosts-left_over g a = record {
+  table = a.shared.table.table.shared.table_id;
+  opening = table_opening a.shared.table;
+  starts = machines_of a.machines.items;
+  seats = length a.seats.items;
+  lent = each_lent;
+}

@@ -12,13 +12,18 @@ returns-in-Err-clause-reported g c = unread_over _ _ _ _ _ _ _ c.from.ensures c.
 
 pub returns-then-explains-clause-reported : goal.returns-then-explains-clause-reported
 returns-then-explains-clause-reported g c =
-    let left = subst (λ (bytes : List ℕ). CheckLeaves bytes (g.W.Write.contents c.args.writer.now) (g.W.Write.contents c.put_slots-outcome.new.writer) c.put_slots-outcome.result) c.deref.ensures.value c.put_slots-outcome.ensures in
-    let says = subst (λ (bytes : List ℕ). ReportsExplainedCode bytes (g.E.Write.contents c.args.errors.now) (g.E.Write.contents c.report_explained.new.errors) c.put_slots-outcome.result c.report_explained.result
-    ⊎ ((error : LoadError) × (c.put_slots-outcome.result ≡ Err (Refused error)) × Reports (g.E.Write.contents c.args.errors.now) (g.E.Write.contents c.report_explained.new.errors) (Err NoMemory) c.report_explained.result))
+    let left = subst (λ (bytes : List ℕ). CheckLeaves bytes (g.W.Write.contents c.args.writer.now) (g.W.Write.contents c.put_slots-outcome.new.writer)
+    c.put_slots-outcome.result) c.deref.ensures.value c.put_slots-outcome.ensures in
+    let says = subst (λ (bytes : List ℕ). ReportsExplainedCode bytes (g.E.Write.contents c.args.errors.now)
+    (g.E.Write.contents c.report_explained.new.errors) c.put_slots-outcome.result c.report_explained.result
+    ⊎ ((error : LoadError) × (c.put_slots-outcome.result ≡ Err (Refused error))
+    × Reports (g.E.Write.contents c.args.errors.now) (g.E.Write.contents c.report_explained.new.errors) (Err NoMemory) c.report_explained.result))
     c.deref-then-explains.ensures.value c.report_explained.ensures in
     rw c.if-explains.true (explained_over _ _ _ _ _ _ _ check_limit _ refl c.in-Ok.ensures.whole left says)
 
 pub returns-clause-reported : goal.returns-clause-reported
 returns-clause-reported g c =
-    let left = subst (λ (bytes : List ℕ). CheckLeaves bytes (g.W.Write.contents c.args.writer.now) (g.W.Write.contents c.put_slots-outcome.new.writer) c.put_slots-outcome.result) c.deref.ensures.value c.put_slots-outcome.ensures in
-    rw c.if-explains.false (reported_over _ _ _ (g.E.Write.contents c.args.errors.now) (g.E.Write.contents c.report-2.new.errors) false c.report-2.result _ check_limit _ refl c.in-Ok.ensures.whole left c.report-2.ensures)
+    let left = subst (λ (bytes : List ℕ). CheckLeaves bytes (g.W.Write.contents c.args.writer.now) (g.W.Write.contents c.put_slots-outcome.new.writer)
+    c.put_slots-outcome.result) c.deref.ensures.value c.put_slots-outcome.ensures in
+    rw c.if-explains.false (reported_over _ _ _ (g.E.Write.contents c.args.errors.now) (g.E.Write.contents c.report-2.new.errors) false c.report-2.result _
+    check_limit _ refl c.in-Ok.ensures.whole left c.report-2.ensures)

@@ -10,4 +10,5 @@ returns c =
     let count = decimal (length c.args.bytes.now) in
     let end = codes " of 8 bytes (RFC 9669, section 3.1)" in
     let counted = two_parts out head count _ _ c.in_ok-extend_from_slice.ensures.items c.in_ok-put_decimal.ensures in
-    on_ok_weaker c.extend_from_slice-2.result (λ d. two_parts out (head ++ count) end _ _ counted d) (added c.extend_from_slice-2.result c.put_decimal.new.out.items end _ c.extend_from_slice-2.ensures.items)
+    on_ok_weaker c.extend_from_slice-2.result (λ d. two_parts out (head ++ count) end _ _ counted d)
+    (added c.extend_from_slice-2.result c.put_decimal.new.out.items end _ c.extend_from_slice-2.ensures.items)

@@ -12,4 +12,5 @@ returns c =
     let choices = choices_text c.args.place c.args.first c.args.rows.now in
     let said = two_parts out held middle _ _ c.in_ok-put_held.ensures c.in_ok-extend_from_slice.ensures.items in
     let chosen = two_parts out (held ++ middle) choices _ _ said c.in_ok-put_choices.ensures in
-    on_ok_weaker c.extend_from_slice-2.result (λ d. two_parts out (held ++ middle ++ choices) (codes "; ") _ _ chosen d) (added c.extend_from_slice-2.result c.put_choices.new.out.items (codes "; ") _ c.extend_from_slice-2.ensures.items)
+    on_ok_weaker c.extend_from_slice-2.result (λ d. two_parts out (held ++ middle ++ choices) (codes "; ") _ _ chosen d)
+    (added c.extend_from_slice-2.result c.put_choices.new.out.items (codes "; ") _ c.extend_from_slice-2.ensures.items)

@@ -7,11 +7,13 @@ loop-low-init c = all_of_them c.args.word.now 106 (omega arith)
 
 pub loop-low-preserved-in-Less : goal.loop-low-preserved-in-Less
 loop-low-preserved-in-Less c =
-    narrowed_above _ c.loop-low.low c.loop-low.high _ c.loop-low.invariant (omega arith) (omega arith) (compared_is _ _ _ _ _ c.nth-m.ensures c.name.ensures.name c.in-Less.ensures)
+    narrowed_above _ c.loop-low.low c.loop-low.high _ c.loop-low.invariant (omega arith) (omega arith)
+    (compared_is _ _ _ _ _ c.nth-m.ensures c.name.ensures.name c.in-Less.ensures)
 
 pub loop-low-preserved : goal.loop-low-preserved
 loop-low-preserved c =
-    narrowed_below _ c.loop-low.low c.loop-low.high _ c.loop-low.invariant (omega arith) (omega arith) (compared_is _ _ _ _ _ c.nth-m.ensures c.name.ensures.name c.in-Greater.ensures)
+    narrowed_below _ c.loop-low.low c.loop-low.high _ c.loop-low.invariant (omega arith) (omega arith)
+    (compared_is _ _ _ _ _ c.nth-m.ensures c.name.ensures.name c.in-Greater.ensures)
 
 pub returns-in-Equal : goal.returns-in-Equal
 returns-in-Equal c =

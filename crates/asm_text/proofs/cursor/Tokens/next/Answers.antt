@@ -9,7 +9,8 @@ use Rattle.asm_text.proofs.cursor.Tokens.next.Goals as goal
 
 pub returns-then-is_empty-clause-tokens : goal.returns-then-is_empty-clause-tokens
 returns-then-is_empty-clause-tokens c =
-    let e : length (take (length c.args.self.now.line.now - (c.args.self.now.at + c.run.result)) (drop (c.args.self.now.at + c.run.result) c.args.self.now.line.now)) ≡ 0 = grind (arith, nat_tests) in
+    let e : length (take (length c.args.self.now.line.now - (c.args.self.now.at + c.run.result))
+    (drop (c.args.self.now.at + c.run.result) c.args.self.now.line.now)) ≡ 0 = grind (arith, nat_tests) in
     left_none _ _ c.run.result c.run.ensures.run e
 
 pub returns-then-is_clean-clause-tokens : goal.returns-then-is_clean-clause-tokens
@@ -28,12 +29,14 @@ token-requires c = word_at _ _ (grind (arith, nat_tests)) c.word_length-length.e
 
 pub returns-clause-tokens : goal.returns-clause-tokens
 returns-clause-tokens c =
-    left_next _ _ c.run.result c.run.ensures.run c.word_length-length.result (grind (arith, nat_tests)) (sym c.begins_comment.ensures ∙ c.if-begins_comment.false) c.word_length-length.ensures.length c.word_length-length.ensures.some
+    left_next _ _ c.run.result c.run.ensures.run c.word_length-length.result (grind (arith, nat_tests)) (sym c.begins_comment.ensures
+    ∙ c.if-begins_comment.false) c.word_length-length.ensures.length c.word_length-length.ensures.some
     ∙ ap (λ t. t ∷ tokens (drop (c.args.self.now.at + c.run.result + c.word_length-length.result) c.args.self.now.line.now)) (sym c.token.ensures)
 
 pub invariant_of-self-clause-whole : goal.invariant_of-self-clause-whole
 invariant_of-self-clause-whole c =
-    place_next _ _ _ c.args.self.now.whole (ends_comment _ _ c.run.result c.run.ensures.run (grind (arith, nat_tests)) (sym c.begins_comment.ensures ∙ c.if-begins_comment.true))
+    place_next _ _ _ c.args.self.now.whole (ends_comment _ _ c.run.result c.run.ensures.run (grind (arith, nat_tests)) (sym c.begins_comment.ensures
+    ∙ c.if-begins_comment.true))
 
 pub returns-then-begins_comment-clause-whole : goal.returns-then-begins_comment-clause-whole
 returns-then-begins_comment-clause-whole c = (
@@ -46,7 +49,10 @@ returns-then-begins_comment-clause-whole c = (
 
 pub invariant_of-self-2-clause-whole : goal.invariant_of-self-2-clause-whole
 invariant_of-self-2-clause-whole c =
-    place_next _ _ _ c.args.self.now.whole (ends_next _ _ c.run.result c.run.ensures.run c.word_length-length.result (grind (arith, nat_tests)) (sym c.begins_comment.ensures ∙ c.if-begins_comment.false) c.word_length-length.ensures.length)
+    place_next _ _ _ c.args.self.now.whole (ends_next _ _ c.run.result c.run.ensures.run c.word_length-length.result (grind (
+      arith,
+      nat_tests,
+    )) (sym c.begins_comment.ensures ∙ c.if-begins_comment.false) c.word_length-length.ensures.length)
 
 pub returns-clause-whole : goal.returns-clause-whole
 returns-clause-whole c = (
@@ -54,5 +60,6 @@ returns-clause-whole c = (
   c.args.self.now.whole,
   refl,
   start_is _ _ _ c.run.ensures.run,
-  ends_next _ _ c.run.result c.run.ensures.run c.word_length-length.result (grind (arith, nat_tests)) (sym c.begins_comment.ensures ∙ c.if-begins_comment.false) c.word_length-length.ensures.length,
+  ends_next _ _ c.run.result c.run.ensures.run c.word_length-length.result (grind (arith, nat_tests)) (sym c.begins_comment.ensures
+      ∙ c.if-begins_comment.false) c.word_length-length.ensures.length,
 )

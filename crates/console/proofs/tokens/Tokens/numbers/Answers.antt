@@ -15,7 +15,8 @@ returns-in_err-numbers-clause-err c =
     let tokens = tokens_left c.args.self.now in
     rw x.1 (
       x.2 ∙ e.0,
-      λ numbers left a. numbers_none (take i all) (drop (suc i) all) (get_or all i (within 0 0)) tokens (take i c.loop-i.numbers) numbers (tokens_left c.loop-i.self) left c.loop-i.invariant.so_far e.1
+      λ numbers left a. numbers_none (take i all) (drop (suc i) all) (get_or all i (within 0 0)) tokens (take i c.loop-i.numbers) numbers
+          (tokens_left c.loop-i.self) left c.loop-i.invariant.so_far e.1
           (subst (λ ls. AreNumbers ls tokens numbers left) (split_at all i (within 0 0) c.loop-i-test.true) a),
     )
 
@@ -27,6 +28,9 @@ loop-i-preserved c =
     let room = c.loop-i.invariant.room in
     record {
       room = length-set c.loop-i.numbers i c.in_ok-numbers.field-0 ∙ room;
-      so_far = rw (take_more all i (within 0 0) c.loop-i-test.true, take_more_set c.loop-i.numbers i c.in_ok-numbers.field-0 (omega (arith, c.loop-i-test.true, c.requires, room)))
+      so_far = rw (
+        take_more all i (within 0 0) c.loop-i-test.true,
+        take_more_set c.loop-i.numbers i c.in_ok-numbers.field-0 (omega (arith, c.loop-i-test.true, c.requires, room)),
+      )
           (numbers_more (take i all) _ (take i c.loop-i.numbers) _ (get_or all i (within 0 0)) k.0 c.in_ok-numbers.field-0 _ c.loop-i.invariant.so_far k.1 k.2);
     }

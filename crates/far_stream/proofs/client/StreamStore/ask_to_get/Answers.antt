@@ -8,5 +8,11 @@ pub returns-clause-asked : goal.returns-clause-asked
 returns-clause-asked g c =
     let none : c.args.self.now.broken ≡ None = search rules in
     let puts : c.self.inside.puts ≡ c.args.self.now.puts = search rules in
-    let wrote : Appends (g.S.Write.contents c.args.self.now.stream) (g.S.Write.contents c.put_all.new.writer) (head get_kind c.args.parcel.now.id 0) = search rules in
-    calls_on c.args.self.now _ (record { stream = c.read_bytes.new.reader; puts = c.self.inside.puts; broken = c.self.inside.broken; faults = c.self.inside.faults }) _ none (puts, inl (c.put_all.new.writer, wrote, c.read_bytes.ensures))
+    let wrote : Appends (g.S.Write.contents c.args.self.now.stream) (g.S.Write.contents c.put_all.new.writer) (head get_kind c.args.parcel.now.id 0) =
+    search rules in
+    calls_on c.args.self.now _ (record {
+      stream = c.read_bytes.new.reader;
+      puts = c.self.inside.puts;
+      broken = c.self.inside.broken;
+      faults = c.self.inside.faults;
+    }) _ none (puts, inl (c.put_all.new.writer, wrote, c.read_bytes.ensures))

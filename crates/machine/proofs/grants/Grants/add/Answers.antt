@@ -20,18 +20,21 @@ listed c =
 pub invariant_of-self : goal.invariant_of-self
 invariant_of-self c =
     let e = ap (λ (g : GrantState). length g.listed) c.self.view_is in
-    let l : c.self.inside.count < length c.self.inside.kept = omega (arith, e, kept_count c.self.inside.count c.self.inside.kept c.self.invariant.0, c.requires.room, c.self.invariant.1) in
+    let l : c.self.inside.count < length c.self.inside.kept =
+    omega (arith, e, kept_count c.self.inside.count c.self.inside.kept c.self.invariant.0, c.requires.room, c.self.invariant.1) in
     let number : c.of.result.number ≡ c.args.grant.number = ap (λ (g : Grant). g.number) c.of.ensures in
     let z : nat_eq c.of.result.number 0 ≡ false = grind (arith, nat_tests, number, c.requires.object.0) in
     let more : suc c.self.inside.count ≡ c.self.inside.count + 1 = omega arith in (
-      subst (λ n. AreKept n (slice_set c.self.inside.kept c.self.inside.count c.of.result)) more (one_kept c.self.inside.count c.self.inside.kept c.of.result c.self.invariant.0 l z),
+      subst (λ n. AreKept n (slice_set c.self.inside.kept c.self.inside.count c.of.result)) more
+          (one_kept c.self.inside.count c.self.inside.kept c.of.result c.self.invariant.0 l z),
       length-set c.self.inside.kept c.self.inside.count c.of.result ∙ c.self.invariant.1,
     )
 
 pub returns : goal.returns
 returns c =
     let e = ap (λ (g : GrantState). length g.listed) c.self.view_is in
-    let l : c.self.inside.count < length c.self.inside.kept = omega (arith, e, kept_count c.self.inside.count c.self.inside.kept c.self.invariant.0, c.requires.room, c.self.invariant.1) in
+    let l : c.self.inside.count < length c.self.inside.kept =
+    omega (arith, e, kept_count c.self.inside.count c.self.inside.kept c.self.invariant.0, c.requires.room, c.self.invariant.1) in
     let number : c.of.result.number ≡ c.args.grant.number = ap (λ (g : Grant). g.number) c.of.ensures in
     let z : nat_eq c.of.result.number 0 ≡ false = grind (arith, nat_tests, number, c.requires.object.0) in
     let m = one_more c.self.inside.count c.self.inside.kept c.of.result c.self.invariant.0 l z in

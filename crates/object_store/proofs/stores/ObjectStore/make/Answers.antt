@@ -11,6 +11,7 @@ invariant_of-self g c =
     let place : c.with_bytes.result.place ≡ Here = search rules in
     let scopes : c.with_bytes.result.scopes ≡ 0 = search rules in
     let left : c.self.inside.spare - c.args.length + length c.with_bytes.result.bytes ≡ c.self.inside.spare = search (rules, arith) in (
-      made c.self.inside.bodies.items c.push_reserved.new.self.items c.with_bytes.result c.self.inside.windows _ _ _ c.self.invariant.0 c.push_reserved.ensures.items place scopes room short left,
+      made c.self.inside.bodies.items c.push_reserved.new.self.items c.with_bytes.result c.self.inside.windows _ _ _ c.self.invariant.0
+          c.push_reserved.ensures.items place scopes room short left,
       omega (arith, c.push_reserved.ensures.capacity, c.self.invariant.1),
     )

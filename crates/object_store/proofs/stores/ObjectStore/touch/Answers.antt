@@ -14,7 +14,8 @@ invariant_of-self g c =
     let value = c.as_mut_slice.ensures.value in
     let first = with_items_is c.self.inside.bodies c.act_at-answer.new.bodies (omega (arith, c.act_at-answer.auto.bodies, c.as_mut_slice.ensures.len)) in
     let again = c.as_mut_slice-bodies.ensures.value ∙ first in
-    let second = all_new c.self.inside.bodies.len (take c.self.inside.bodies.len (c.act_at-answer.new.bodies ++ drop (length c.act_at-answer.new.bodies) c.self.inside.bodies.items)) c.note.new.bodies
+    let second = all_new c.self.inside.bodies.len
+    (take c.self.inside.bodies.len (c.act_at-answer.new.bodies ++ drop (length c.act_at-answer.new.bodies) c.self.inside.bodies.items)) c.note.new.bodies
     (omega (arith, c.note.auto.bodies, c.as_mut_slice-bodies.ensures.len)) in
     let found : c.args.number < length c.self.inside.bodies.items = search rules in
     let from : place_of (map place_in c.self.inside.bodies.items) c.args.number ≡ Here = search rules in

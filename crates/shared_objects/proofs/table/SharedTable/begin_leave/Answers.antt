@@ -20,11 +20,23 @@ pub compare_exchange-found-requires : goal.compare_exchange-found-requires
 compare_exchange-found-requires c = let m = c.args.mover.now in let z = c.args.self.now in let n : ℕ = c.args.number in
     let key : List (List ℕ) = opening_bytes z.table.shared.key.bodies.value in
     let lt : n < length z.lengths.items = c.length.ensures.object (omega (arith, c.if-length-eq0.false)) in
-    let long : length z.lengths.items ≡ length key = ap length z.sizes ∙ length-map key length in
-    (c.requires.mover.0, omega (arith, z.words), lifts_ok _ _ _ _ _ n _ _ (omega (arith, z.slots)) c.in-Some.ensures.some.0 c.in-Some.ensures.some.1 (omega (arith, m.wide, ap length c.requires.mover.1)) m.makes.1)
+    let long : length z.lengths.items ≡ length key = ap length z.sizes ∙ length-map key length in (
+      c.requires.mover.0,
+      omega (arith, z.words),
+      lifts_ok _ _ _ _ _ n _ _ (omega (arith, z.slots)) c.in-Some.ensures.some.0 c.in-Some.ensures.some.1 (omega (
+        arith,
+        m.wide,
+        ap length c.requires.mover.1,
+      )) m.makes.1,
+    )
 
 pub exchange-bytes-requires : goal.exchange-bytes-requires
-exchange-bytes-requires c = let n : ℕ = c.args.number in let h = c.compare_exchange-found.ensures in let t = subst (λ k. (b : Body) × (◌≡◌ {A = Sat} c.compare_exchange-found.new.seat.me (placed k (places.Moving b.bytes.items) c.args.mover.now.seat.me.0, (k, b) ∷ c.args.mover.now.seat.me.1)) × (length b.bytes.items ≡ length (bytes_of c.args.mover.now.seat.me.0.opening k))) (object_home n) (h.2.0 c.if-found-old.false) in
+exchange-bytes-requires c = let n : ℕ = c.args.number in let h = c.compare_exchange-found.ensures in
+    let t = subst (λ k. (b : Body) × (◌≡◌ {A = Sat} c.compare_exchange-found.new.seat.me (
+      placed k (places.Moving b.bytes.items) c.args.mover.now.seat.me.0,
+      (k, b) ∷ c.args.mover.now.seat.me.1,
+    )) × (length b.bytes.items ≡ length (bytes_of c.args.mover.now.seat.me.0.opening k))) (object_home n)
+    (h.2.0 c.if-found-old.false) in
     (h.0 ∙ c.requires.mover.0, (t.0, ap (λ m. m.1) t.1 ∙ ap (λ m. (n, t.0) ∷ rest m.1) (sym t.1)))
 
 pub push_reserved-requires : goal.push_reserved-requires
@@ -41,13 +53,25 @@ invariant_of-mover-2 c = let m = c.args.mover.now in let v : View = m.seat.me.0 
     let lt : n < length z.lengths.items = c.length.ensures.object (omega (arith, c.if-length-eq0.false)) in
     let long : length z.lengths.items ≡ length key = ap length z.sizes ∙ length-map key length in
     let wide : n < length v.out = omega (arith, m.wide, ap length c.requires.mover.1) in
-    let t = subst (λ k. (b : Body) × (◌≡◌ {A = Sat} c.compare_exchange-found.new.seat.me (placed k (places.Moving b.bytes.items) v, (k, b) ∷ m.seat.me.1)) × (length b.bytes.items ≡ length (bytes_of v.opening k))) (object_home n) (c.compare_exchange-found.ensures.2.0 c.if-found-old.false) in
+    let t = subst (λ k. (b : Body) × (◌≡◌ {A = Sat} c.compare_exchange-found.new.seat.me (placed k (places.Moving b.bytes.items) v, (k, b) ∷ m.seat.me.1))
+    × (length b.bytes.items ≡ length (bytes_of v.opening k))) (object_home n) (c.compare_exchange-found.ensures.2.0 c.if-found-old.false) in
     let x = c.exchange-bytes.ensures.3 in let r = c.turn.ensures.2 in
     let p : Whereabouts = places.Moving t.0.bytes.items in
     let e : c.turn.new.self.me.0 ≡ placed n p v = ap (λ y. y.0) r ∙ ap (λ y. y.0) x ∙ ap (λ y. y.0) t.1 in
-    let slots : numbers c.turn.new.self.me.1 ≡ numbers m.seat.me.1 ++ n ∷ [] = ap (λ y. numbers y.1) r ∙ ap (λ y. numbers (turned y.1)) x ∙ map-append (rest c.compare_exchange-found.new.seat.me.1) ((n, record { bytes = c.new.result }) ∷ [])
+    let slots : numbers c.turn.new.self.me.1 ≡ numbers m.seat.me.1 ++ n ∷ [] =
+    ap (λ y. numbers y.1) r ∙ ap (λ y. numbers (turned y.1)) x
+    ∙ map-append (rest c.compare_exchange-found.new.seat.me.1) ((n, record { bytes = c.new.result }) ∷ [])
     ∙ ap (λ y. numbers (rest y.1) ++ n ∷ []) t.1 in
     let is = c.push_reserved.ensures.items in
-    let q = taken_fits v _ n p m.seat.me.1 c.turn.new.self.me.1 m.phases.items phases.Moving m.order.items c.push_reserved.new.self.items (vec_capacity m.order) (vec_capacity c.push_reserved.new.self)
-    (m.makes, m.phased, m.wide, m.ordered, m.held, m.counted, m.room) wide e refl (is ∙ ap (λ l. l ++ n ∷ []) m.ordered ∙ sym slots) (omega (arith, c.push_reserved.ensures.capacity)) is (ap is_moving (c.if-not-is_here.ensures.here refl)) refl in
+    let q = taken_fits v _ n p m.seat.me.1 c.turn.new.self.me.1 m.phases.items phases.Moving m.order.items c.push_reserved.new.self.items
+    (vec_capacity m.order) (vec_capacity c.push_reserved.new.self) (
+      m.makes,
+      m.phased,
+      m.wide,
+      m.ordered,
+      m.held,
+      m.counted,
+      m.room,
+    ) wide e refl (is ∙ ap (λ l. l ++ n ∷ []) m.ordered
+    ∙ sym slots) (omega (arith, c.push_reserved.ensures.capacity)) is (ap is_moving (c.if-not-is_here.ensures.here refl)) refl in
     record { makes = q.0; phased = q.1; wide = q.2; ordered = q.3; held = q.4; counted = q.5; room = q.6 }

@@ -15,7 +15,8 @@ use Rattle.shared_objects.proofs.Slots.{numbers, inside, is_moving_place, first_
 use Rattle.shared_objects.proofs.table.SharedTable.end_leave.Goals as goal
 
 pub fetch_add-requires : goal.fetch_add-requires
-fetch_add-requires c = let m = c.args.mover.now in let v : View = m.seat.me.0 in let n : ℕ = c.args.number in let t = is_moving_place (place_of v n) c.requires.phase in let z = c.args.self.now in
+fetch_add-requires c = let m = c.args.mover.now in let v : View = m.seat.me.0 in let n : ℕ = c.args.number in
+    let t = is_moving_place (place_of v n) c.requires.phase in let z = c.args.self.now in
     let b = c.bring.ensures in
     let key : List (List ℕ) = opening_bytes c.args.self.now.table.shared.key.bodies.value in
     let wide = inside v n t.0 (ap bytes_taken t.1) in
@@ -31,18 +32,31 @@ fetch_add-requires c = let m = c.args.mover.now in let v : View = m.seat.me.0 in
 
 pub returns-clause-view : goal.returns-clause-view
 returns-clause-view c = let n : ℕ = c.args.number in let b = c.bring.ensures in
-    ap (λ y. y.0) c.fetch_add.ensures.2 ∙ ap (λ k. placed k (sent (place_of c.bring.new.seat.me.0 k)) c.bring.new.seat.me.0) (object_home n) ∙ ap (λ (u : View). placed n (sent (place_of u n)) u) b.same.1
+    ap (λ y. y.0) c.fetch_add.ensures.2 ∙ ap (λ k. placed k (sent (place_of c.bring.new.seat.me.0 k)) c.bring.new.seat.me.0) (object_home n)
+    ∙ ap (λ (u : View). placed n (sent (place_of u n)) u) b.same.1
 
 pub invariant_of-mover : goal.invariant_of-mover
-invariant_of-mover c = let m = c.args.mover.now in let v : View = m.seat.me.0 in let n : ℕ = c.args.number in let t = is_moving_place (place_of v n) c.requires.phase in
+invariant_of-mover c = let m = c.args.mover.now in let v : View = m.seat.me.0 in let n : ℕ = c.args.number in
+    let t = is_moving_place (place_of v n) c.requires.phase in
     let b = c.bring.ensures in let f = c.fetch_add.ensures.2 in
     let wide = inside v n t.0 (ap bytes_taken t.1) in
     let p : Whereabouts = sent (place_of v n) in
-    let e : c.fetch_add.new.seat.me.0 ≡ placed n p v = ap (λ y. y.0) f ∙ ap (λ k. placed k (sent (place_of c.bring.new.seat.me.0 k)) c.bring.new.seat.me.0) (object_home n) ∙ ap (λ (u : View). placed n (sent (place_of u n)) u) b.same.1 in
+    let e : c.fetch_add.new.seat.me.0 ≡ placed n p v =
+    ap (λ y. y.0) f ∙ ap (λ k. placed k (sent (place_of c.bring.new.seat.me.0 k)) c.bring.new.seat.me.0) (object_home n)
+    ∙ ap (λ (u : View). placed n (sent (place_of u n)) u) b.same.1 in
     let slots : numbers c.fetch_add.new.seat.me.1 ≡ numbers (rest c.bring.new.seat.me.1) = ap (λ y. numbers y.1) f in
     let is = c.remove.ensures.items in
     let less : c.remove.new.self.items ≡ b.first.0 = is ∙ ap (drop 1) b.first.1 in
-    let q = landed_fits v _ n p m.seat.me.1 c.fetch_add.new.seat.me.1 m.phases.items phases.Far m.order.items c.remove.new.self.items (vec_capacity m.order) (vec_capacity c.remove.new.self)
-    (m.makes, m.phased, m.wide, m.ordered, m.held, m.counted, m.room) wide e (ap (λ (y : Whereabouts). phase_of (sent y)) t.1) (is ∙ ap (drop 1) b.ordered ∙ numbers_rest c.bring.new.seat.me.1 ∙ sym slots) (omega (arith, b.room.1, c.remove.ensures.capacity))
+    let q = landed_fits v _ n p m.seat.me.1 c.fetch_add.new.seat.me.1 m.phases.items phases.Far m.order.items c.remove.new.self.items (vec_capacity m.order)
+    (vec_capacity c.remove.new.self) (
+      m.makes,
+      m.phased,
+      m.wide,
+      m.ordered,
+      m.held,
+      m.counted,
+      m.room,
+    ) wide e (ap (λ (y : Whereabouts). phase_of (sent y)) t.1) (is ∙ ap (drop 1) b.ordered ∙ numbers_rest c.bring.new.seat.me.1
+    ∙ sym slots) (omega (arith, b.room.1, c.remove.ensures.capacity))
     c.bring.new.order.items (b.first.1 ∙ ap (λ l. n ∷ l) (sym less)) b.held b.room.0 (ap is_moving t.1) (ap (λ (y : Whereabouts). is_moving (sent y)) t.1) in
     record { makes = q.0; phased = q.1; wide = q.2; ordered = q.3; held = q.4; counted = q.5; room = q.6 }

@@ -12,7 +12,8 @@ use Rattle.shared_objects.proofs.Logs.{object_home}
 use Rattle.shared_objects.proofs.table.SharedTable.look_at.Goals as goal
 
 near : (os : List (List ℕ)) (n : ℕ) → 0 < length (bytes_of os n) → n < length os
-near os n h = ⊎_elim (λ (lt : n < length os). lt) (λ (far : length os ≤ n). absurd (let e = ap length (none_above os n far) in omega (arith, e))) (cases_lt n (length os))
+near os n h = ⊎_elim (λ (lt : n < length os). lt) (λ (far : length os ≤ n). absurd (let e = ap length (none_above os n far) in
+    omega (arith, e))) (cases_lt n (length os))
 
 pub load-requires : goal.load-requires
 load-requires g c = let z = c.args.self.now in let a = c.args.actor.now in let n : ℕ = c.args.number in

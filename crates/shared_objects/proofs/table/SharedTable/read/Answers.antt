@@ -18,5 +18,8 @@ returns-clause-held c = let t = c.requires.held in let alone = still_alone c.arg
     let all : c.args.into.now.len ≡ length new = omega (arith, long, c.args.into.now.ok.0) in (
       held,
       c.slot_mut.ensures.value ∙ alone held,
-      (ap (λ (k : ℕ). take k (new ++ drop (length new) old)) all ∙ take_whole new old long ∙ is, (c.read.new.self, alone c.read.new.self, ap (λ (b : Body). b.bytes.items) c.read.ensures.same)),
+      (
+        ap (λ (k : ℕ). take k (new ++ drop (length new) old)) all ∙ take_whole new old long ∙ is,
+        (c.read.new.self, alone c.read.new.self, ap (λ (b : Body). b.bytes.items) c.read.ensures.same),
+      ),
     )

@@ -9,7 +9,8 @@ use Rattle.shared_objects.proofs.Seating.{seated_next, fresh_more, all_more}
 use Rattle.shared_objects.proofs.table.SharedTable.seats.Goals as goal
 
 pub loop-actors-preserved : goal.loop-actors-preserved
-loop-actors-preserved c = let i = c.loop-actors.invariant in let xs : List ActorSeat = c.loop-actors.actors.items in let new : ActorSeat = c.seat.result in let v : View = c.args.mover.now.seat.me.0 in
+loop-actors-preserved c = let i = c.loop-actors.invariant in let xs : List ActorSeat = c.loop-actors.actors.items in let new : ActorSeat = c.seat.result in
+    let v : View = c.args.mover.now.seat.me.0 in
     let p = c.in_ok-push.ensures.items in
     let long : length c.push.new.self.items ≡ length xs + 1 = omega (arith, ap length p, length-append xs (new ∷ [])) in (
       c.seat.ensures.mover,

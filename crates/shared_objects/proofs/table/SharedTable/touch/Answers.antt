@@ -7,16 +7,27 @@ use Rattle.shared_objects.proofs.Acting.{busy_seat, worn_seat, done_seat, reache
 use Rattle.shared_objects.proofs.table.SharedTable.touch.Goals as goal
 
 pub invariant_of-actor-in-Busy : goal.invariant_of-actor-in-Busy
-invariant_of-actor-in-Busy c = let b = c.in-Busy.ensures.begins in busy_seat c.args.self.now c.args.actor.now c.requires _ _ c.args.number (c.length.ensures.object (let i : IsInside c.args.op.now c.length.result = c.if-not-is_inside.ensures.inside.0 refl in omega (arith, reaches_some c.args.op.now))) b.1 b.0
+invariant_of-actor-in-Busy c = let b = c.in-Busy.ensures.begins in
+    busy_seat c.args.self.now c.args.actor.now c.requires _ _ c.args.number
+    (c.length.ensures.object (let i : IsInside c.args.op.now c.length.result = c.if-not-is_inside.ensures.inside.0 refl in
+    omega (arith, reaches_some c.args.op.now))) b.1 b.0
 
 pub invariant_of-actor-in-Worn : goal.invariant_of-actor-in-Worn
-invariant_of-actor-in-Worn c = let b = c.in-Worn.ensures.begins in worn_seat c.args.self.now c.args.actor.now c.requires _ _ c.args.number (c.length.ensures.object (let i : IsInside c.args.op.now c.length.result = c.if-not-is_inside.ensures.inside.0 refl in omega (arith, reaches_some c.args.op.now))) b.1 b.0.0 b.0.2
+invariant_of-actor-in-Worn c = let b = c.in-Worn.ensures.begins in
+    worn_seat c.args.self.now c.args.actor.now c.requires _ _ c.args.number
+    (c.length.ensures.object (let i : IsInside c.args.op.now c.length.result = c.if-not-is_inside.ensures.inside.0 refl in
+    omega (arith, reaches_some c.args.op.now))) b.1 b.0.0 b.0.2
 
 pub invariant_of-actor-in-Turn : goal.invariant_of-actor-in-Turn
-invariant_of-actor-in-Turn c = let b = c.in-Turn.ensures.begins in done_seat c.args.self.now c.args.actor.now c.requires _ _ c.args.number (c.length.ensures.object (let i : IsInside c.args.op.now c.length.result = c.if-not-is_inside.ensures.inside.0 refl in omega (arith, reaches_some c.args.op.now))) b.3 c.in-Turn.found c.in-Turn.stamp _ _ (Accesses c.args.op.now) (Number c.act-reply.result) (c.act-reply.ensures.view ∙ b.2.2.0) c.record_access.ensures.me
+invariant_of-actor-in-Turn c = let b = c.in-Turn.ensures.begins in
+    done_seat c.args.self.now c.args.actor.now c.requires _ _ c.args.number
+    (c.length.ensures.object (let i : IsInside c.args.op.now c.length.result = c.if-not-is_inside.ensures.inside.0 refl in
+    omega (arith, reaches_some c.args.op.now))) b.3 c.in-Turn.found c.in-Turn.stamp _ _ (Accesses c.args.op.now) (Number c.act-reply.result)
+    (c.act-reply.ensures.view ∙ b.2.2.0) c.record_access.ensures.me
 
 pub act-reply-requires-clause-held : goal.act-reply-requires-clause-held
 act-reply-requires-clause-held c = let t = c.in-Turn.ensures.begins.2 in
     let i : IsInside c.args.op.now c.length.result = c.if-not-is_inside.ensures.inside.0 refl in
-    let long : length t.0.bytes.items ≡ c.length.result = t.2.1 ∙ ap (λ (o : List (List ℕ)). length (bytes_of o c.args.number)) c.requires.1 ∙ sym c.length.ensures.length in
+    let long : length t.0.bytes.items ≡ c.length.result =
+    t.2.1 ∙ ap (λ (o : List (List ℕ)). length (bytes_of o c.args.number)) c.requires.1 ∙ sym c.length.ensures.length in
     (t.0, t.1, subst (IsInside c.args.op.now) (sym long) i)

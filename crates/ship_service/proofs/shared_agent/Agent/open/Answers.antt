@@ -22,9 +22,13 @@ pub returns-in-Ok-new-2-clause-seats : goal.returns-in-Ok-new-2-clause-seats
 returns-in-Ok-new-2-clause-seats g c =
     let shared = c.args.opened.shared.table in let seats = c.args.opened.seats.items in let R = g.F.FarStore.RETURNS in
     let fresh : AreFresh (dealer R g.K.TableName.opening) seats = subst (λ o. AreFresh (dealer R o) seats) c.requires.0.1 c.args.opened.fresh.0 in
-    rw (c.in-Ok-connections_of.ensures.seats, c.in-Ok.ensures.tail) (last_seats shared g.K.TableName.table R g.K.TableName.opening 48 seats c.requires.0 fresh c.args.opened.fresh.1)
+    rw (
+      c.in-Ok-connections_of.ensures.seats,
+      c.in-Ok.ensures.tail,
+    ) (last_seats shared g.K.TableName.table R g.K.TableName.opening 48 seats c.requires.0 fresh c.args.opened.fresh.1)
 
 pub returns-in-Ok-new-2-clause-mover : goal.returns-in-Ok-new-2-clause-mover
 returns-in-Ok-new-2-clause-mover g c =
     let R = g.F.FarStore.RETURNS in let m = c.in-Ok-new.ensures in
-    mover_begins R g.K.TableName.opening c.args.opened.store c.in-Ok-new.mover (m.0 ∙ c.args.opened.moving.1 ∙ ap (λ o. seated seat_count (dealer R o)) c.requires.0.1) m.1 m.2 c.fact.ensures.parcels
+    mover_begins R g.K.TableName.opening c.args.opened.store c.in-Ok-new.mover (m.0 ∙ c.args.opened.moving.1
+    ∙ ap (λ o. seated seat_count (dealer R o)) c.requires.0.1) m.1 m.2 c.fact.ensures.parcels

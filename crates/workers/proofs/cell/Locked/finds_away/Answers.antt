@@ -7,7 +7,8 @@ use Rattle.workers.specs.Cells.SeesAway.{NoObject, Looked}
 use Rattle.workers.proofs.cell.Locked.finds_away.Goals as goal
 
 pub returns-then-length-eq0-clause-away : goal.returns-then-length-eq0-clause-away
-returns-then-length-eq0-clause-away g c = NoObject (λ o. let p = subst (λ x. IsObject x c.args.object) (sym c.requires.1) o in omega (arith, p, c.length.ensures.length, c.if-length-eq0.true)) refl
+returns-then-length-eq0-clause-away g c =
+    NoObject (λ o. let p = subst (λ x. IsObject x c.args.object) (sym c.requires.1) o in omega (arith, p, c.length.ensures.length, c.if-length-eq0.true)) refl
 
 pub returns-clause-away : goal.returns-clause-away
 returns-clause-away g c =

@@ -17,6 +17,7 @@ pub returns-clause-run : goal.returns-clause-run
 returns-clause-run g c =
     let ran = c.run.result.ran in let end = c.run.result.end in let seat = seat_state c.run.new.seat in
     let had = ap (λ (s : CellState). s.running) (sym c.self.view_is) ∙ sym c.in_ok-running.ensures.value in
-    let runs = subst (λ (s : SeatState). RunsUpTo seat_acts c.args.most c.in_ok-running.running.now.debuggee s ran end c.run.new.self.debuggee seat) (ap (λ (s : CellState). s.seat) c.self.view_is) c.run.ensures.runs in
+    let runs = subst (λ (s : SeatState). RunsUpTo seat_acts c.args.most c.in_ok-running.running.now.debuggee s ran end c.run.new.self.debuggee seat)
+    (ap (λ (s : CellState). s.seat) c.self.view_is) c.run.ensures.runs in
     subst (λ (s : CellState). RunsCell c.args.most c.args.self.now ran end (record s { seat = seat; running = Some c.run.new.self })) (sym c.self.view_is)
     (cell_runs c.args.self.now c.in_ok-running.running.now c.run.new.self seat c.args.most ran end had c.run.ensures.same runs)

@@ -19,7 +19,8 @@ returns-clause-step g c = record {
   after = c.step.new.self;
   seat = seat_state c.step.new.seat;
   had = ap (λ (s : CellState). s.running) (sym c.self.view_is) ∙ sym c.in_ok-running.ensures.value;
-  step = subst (λ (s : SeatState). AnswersStep seat_acts c.args.way c.in_ok-running.running.now.debuggee s c.step.result c.step.new.self.debuggee (seat_state c.step.new.seat)) (ap (λ (s : CellState). s.seat) c.self.view_is) c.step.ensures.step;
+  step = subst (λ (s : SeatState). AnswersStep seat_acts c.args.way c.in_ok-running.running.now.debuggee s c.step.result c.step.new.self.debuggee
+      (seat_state c.step.new.seat)) (ap (λ (s : CellState). s.seat) c.self.view_is) c.step.ensures.step;
   same = c.step.ensures.same;
   becomes = ap (λ (s : CellState). record s { seat = seat_state c.step.new.seat; running = Some c.step.new.self }) c.self.view_is;
 }

@@ -12,6 +12,7 @@ invariant_of-result g c =
       (c.requires.table, (opening, ap (λ (u : View). u.returns) fresh, ap (λ (u : View). u.alive) fresh ∙ omega arith, ap (λ (u : View). u.gathered) fresh)),
       keeps_none v (map (parcel_bytes g.F.FarStore.bytes_in) c.loop.parcels.items)
           (ap (λ (u : View). u.out) fresh ∙ ap (map (λ (_ : List ℕ). Here)) (sym opening))
-          (length-map c.loop.parcels.items (parcel_bytes g.F.FarStore.bytes_in) ∙ omega (arith, c.loop.invariant.0, c.loop.auto.counter-end, c.loop-test.false, c.numbers-end.ensures))
+          (length-map c.loop.parcels.items (parcel_bytes g.F.FarStore.bytes_in)
+          ∙ omega (arith, c.loop.invariant.0, c.loop.auto.counter-end, c.loop-test.false, c.numbers-end.ensures))
           c.loop.invariant.1,
     )
