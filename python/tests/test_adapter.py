@@ -174,6 +174,7 @@ class Sessions(unittest.TestCase):
         self.assertEqual((len(found), [each["instruction"] for each in found[:4]]), (60, ["(none)", "(none)", "stxdw [r10-8], r1", "stxw [r10-12], r2"]))
         self.assertEqual((found[3]["address"], found[3]["line"], found[3]["symbol"]), (reference, 22, "program"))
         self.assertEqual(found[-1]["instruction"], "(none)")
+        self.assertEqual(self.refused("disassemble", memoryReference=reference, instructionCount=10**9), "instructionCount is a number from 0 to 65536")
         pointer = self.variables(frame)["table"]
         self.assertEqual(pointer["value"], "(struct table *) 0x100000000 <object 1>")
         whole = self.ask("readMemory", memoryReference="0x100000000", offset=32, count=100)
@@ -191,6 +192,8 @@ class Sessions(unittest.TestCase):
         self.assertEqual(self.refused("launch"), "there is no program to debug: name a file, or connect to a service")
         self.assertEqual(self.refused("launch", program=TABLE[0], arguments=["1", "nine"]), "argument 2, `nine`: is neither a number nor +N, =TEXT or @FILE")
         self.assertEqual(self.refused("launch", program=TABLE[0], arguments=["1"] * 6), "6 arguments are given, and a program takes at most five")
+        self.assertEqual(self.refused("launch", program=TABLE[0], arguments="+64"), "arguments is a list of strings")
+        self.assertEqual(self.refused("attach", port=65_536 + 1, program=TABLE[0]), "port is a number from 1 to 65535")
         self.assertEqual(self.refused("attach", port=1, program=TABLE[0]), "no service can be reached at 127.0.0.1:1: Connection refused")
         self.launch()
         self.assertEqual(self.refused("launch", program=TABLE[0]), "something is debugged already")
@@ -245,6 +248,28 @@ class Sessions(unittest.TestCase):
         self.ask("disconnect")
         self.assertEqual(self.editor.process.wait(SECONDS), 0)
 
+    def test_another(self) -> None:
+        """A program that is begun after another has threads, and none of the other's breakpoints."""
+        for _ in range(2):
+            self.launch()
+            self.ask("setFunctionBreakpoints", breakpoints=[{"name": "find"}])
+            self.ask("setBreakpoints", source=SOURCE, breakpoints=[{"line": 23}])
+            self.ask("setBreakpoints", source=SOURCE, breakpoints=[])
+            self.ask("configurationDone")
+            self.assertEqual(self.stopped(1, "breakpoint")[0]["name"], "find")
+            self.assertEqual(self.refused("configurationDone"), "the machines run already: configurationDone comes once")
+            self.assertEqual([thread["id"] for thread in self.ask("threads")["threads"]], [1])
+            self.ask("setFunctionBreakpoints", breakpoints=[])
+            self.ask("setBreakpoints", source=SOURCE, breakpoints=[{"line": 26}])
+            self.ask("continue", threadId=1)
+            self.assertEqual(self.stopped(1, "breakpoint")[0]["line"], 26)
+            self.ask("continue", threadId=1)
+            self.editor.wait("terminated")
+            self.ask("terminate")
+            self.editor.wait("terminated")
+        self.ask("disconnect")
+        self.assertEqual(self.editor.process.wait(SECONDS), 0)
+
     def test_condition(self) -> None:
         """A breakpoint with a condition stops only where it holds."""
         self.launch(arguments=(TABLE[1], "8"))
@@ -278,6 +303,7 @@ class Sessions(unittest.TestCase):
             (b"Content-Length: x\r\n\r\n", "a message has no length"),
             (b"Content-Length: 3\r\n\r\nabc", "a message is no JSON"),
             (b"Content-Length: 2\r\n\r\n[]", "a message is no object"),
+            (b"Content-Length: 100000\r\n\r\n" + b"[" * 100_000, "a message is nested too deeply"),
             (b"x" * 70_000, "this is no message of the Debug Adapter Protocol"),
         ):
             done = subprocess.run([*DEBUGGER, "--dap"], input=garbage, capture_output=True, timeout=SECONDS)
@@ -294,6 +320,8 @@ class Sessions(unittest.TestCase):
             ({"fuel": "7"}, f"fuel is a number from 0 to {2**64 - 1}"),
             ({"workers": 17, "serve": True}, "workers is a number from 0 to 16"),
             ({"machines": 0}, "machines is a number from 1 to 48"),
+            ({"fuel": True}, f"fuel is a number from 0 to {2**64 - 1}"),
+            ({"flags": "-O2"}, "flags is a list of strings"),
         ]
         for options, why in wrong:
             self.assertEqual(self.refused("launch", program=TABLE[0], arguments=TABLE[1:], **options), why)

@@ -61,6 +61,8 @@ class Channel:
             found = json.loads(rest[:length])
         except ValueError:
             raise NoMessage("a message is no JSON") from None
+        except RecursionError:
+            raise NoMessage("a message is nested too deeply") from None
         if not isinstance(found, dict):
             raise NoMessage("a message is no object")
         return found

@@ -59,23 +59,31 @@ FIRST, LAST, NOTHING = 0.002, 0.05, 0.5
 CODE = 0xC0DE << 48
 SLOTS = 1 << 32
 LEVELS = 1 << 16
+# The greatest TCP port, and how many instructions are shown at a time.
+MOST_PORT, MOST_INSTRUCTIONS = 65_535, 1 << 16
 
 
 class Adapter:
     """One session with an editor."""
 
     def __init__(self, channel: Channel, ending: Ending) -> None:
-        self._channel, self._ending, self._tree = channel, ending, Tree()
+        self._channel, self._ending = channel, ending
         self._session: Optional[Session] = None
-        self._by_source: dict[str, list[int]] = {}
-        self._by_name: list[int] = []
-        self._ended: set[int] = set()
-        self._told: set[int] = set()
-        self._is_configured = self._stops_on_entry = self._is_over = False
+        self._begin_anew()
+        self._stops_on_entry = self._is_over = False
         self._pause = FIRST
         # Events that come while a request is done follow on its response.
         self._is_answering = False
         self._later: list[tuple[str, Body]] = []
+
+    def _begin_anew(self) -> None:
+        """Forgets the breakpoints, machines and values of a program that was debugged before."""
+        self._tree = Tree()
+        self._by_source: dict[str, list[int]] = {}
+        self._by_name: list[int] = []
+        self._ended: set[int] = set()
+        self._told: set[int] = set()
+        self._is_configured = False
 
     # ---- messages
 
@@ -100,12 +108,13 @@ class Adapter:
     def _close(self) -> None:
         """Ends what is debugged, if something is."""
         session, self._session = self._session, None
+        self._begin_anew()
         if session:
             session.close()
 
     def _patience(self) -> Optional[float]:
         """How long a request is waited for before machines go on, and new ones are looked for; None if neither can be."""
-        if not self._session:
+        if not self._session or not self._is_configured:
             return None
         if any(machine.goal for machine in self._engine.machines.values()):
             return self._pause if self._engine.is_service else 0.0
@@ -179,7 +188,7 @@ class Adapter:
 
     def on_attach(self, arguments: Body) -> None:
         """Connects to a service."""
-        self._open(arguments, int(arguments["port"]))
+        self._open(arguments, number_of({"port": int(arguments["port"])}, "port", 0, 1, MOST_PORT))
 
     def _open(self, given: Body, port: Optional[int]) -> None:
         if self._session:
@@ -187,9 +196,7 @@ class Adapter:
         names = {"bpfagent": None, "entry": None, "serve": False, "host": "127.0.0.1"}
         rest = {name: given.get(name, default) for name, default in names.items()}
         rest.update({name: number_of(given, name, *numbers) for name, numbers in NUMBERS.items()})
-        plan = Plan(
-            given.get("program"), [str(word) for word in given.get("arguments", [])], flags=[str(flag) for flag in given.get("flags", [])], port=port, **rest
-        )
+        plan = Plan(given.get("program"), words_of(given, "arguments"), flags=words_of(given, "flags"), port=port, **rest)
         self._stops_on_entry = bool(given.get("stopOnEntry", False))
         self._session = Session(plan)
 
@@ -210,6 +217,8 @@ class Adapter:
     def on_configurationDone(self, arguments: Body) -> None:
         """All breakpoints are set."""
         self._engine  # noqa: B018 - there has to be one
+        if self._is_configured:
+            raise Impossible("the machines run already: configurationDone comes once")
 
     def on_terminate(self, arguments: Body) -> None:
         """Ends what is debugged. The editor disconnects later."""
@@ -470,7 +479,7 @@ class Adapter:
         program = self._engine.machine(number).program
         starts = program.starts if program else list(range(limits.SLOTS))
         here = starts.index(slot) + int(arguments.get("instructionOffset") or 0)
-        chosen = range(here, here + int(arguments["instructionCount"]))
+        chosen = range(here, here + number_of(arguments, "instructionCount", 0, 0, MOST_INSTRUCTIONS))
         return {"instructions": [self._instruction(number, starts[k]) if 0 <= k < len(starts) else nothing(number, k) for k in chosen]}
 
     def _instruction(self, number: int, slot: int) -> Body:
@@ -489,9 +498,17 @@ class Adapter:
 def number_of(given: Body, name: str, otherwise: int, least: int, most: int) -> int:
     """An argument that is a number in this range."""
     found = given.get(name, otherwise)
-    if not isinstance(found, int) or not least <= found <= most:
+    if not isinstance(found, int) or isinstance(found, bool) or not least <= found <= most:
         raise Impossible(f"{name} is a number from {least} to {most}")
     return found
+
+
+def words_of(given: Body, name: str) -> list[str]:
+    """An argument that is a list of words, empty if it isn't given."""
+    found = given.get(name) or []
+    if not isinstance(found, list):
+        raise Impossible(f"{name} is a list of strings")
+    return [str(word) for word in found]
 
 
 def registered(value: Optional[int]) -> Value:
