@@ -29,8 +29,8 @@ class Store:
     """A store at the other end of a connection, which is a context manager.
 
     The store isn't trusted: bytes that come home are taken only if their digest is right. A method raises `Broken` if the
-    store ends the conversation or sends an impossible answer, and an `OSError` if the stream fails or times out. After either
-    nothing more can be asked.
+    store ends the conversation or sends an impossible answer, and an `OSError` if the stream fails or times out. After either,
+    and after `close`, every later call raises `Broken`.
     """
 
     def __init__(self, port: int, host: str = "127.0.0.1", timeout: Optional[float] = None) -> None:
@@ -39,9 +39,11 @@ class Store:
         with socket.create_connection((host, port), timeout) as connection:
             self.stream = connection.makefile("rwb")
         self.puts = 0
+        self._is_over = False
 
     def close(self) -> None:
         """Ends the conversation. The store forgets all that this client has sent."""
+        self._is_over = True
         self.stream.close()
 
     def __enter__(self) -> Store:
@@ -52,6 +54,16 @@ class Store:
 
     def ask(self, kind: int, number: int, payload: bytes = b"") -> tuple[int, bytes]:
         """Status and bytes of the answer to a request of this kind for an id. Only a put has a payload."""
+        if self._is_over:
+            raise Broken("the conversation is over")
+        # It goes on only if the whole answer has come; an interrupt ends it too.
+        self._is_over = True
+        answer = self._answer(kind, number, payload)
+        self._is_over = False
+        return answer
+
+    def _answer(self, kind: int, number: int, payload: bytes) -> tuple[int, bytes]:
+        """Sends a request, and reads its answer."""
         self.stream.write(HEAD.pack(kind, number, len(payload)) + payload)
         self.stream.flush()
         head = self.stream.read(HEAD.size)
@@ -67,6 +79,8 @@ class Store:
 
     def put(self, text: bytes) -> tuple[Optional[int], bytes]:
         """Sends 1 to 65,536 bytes away. Gives their id, or None if the store refused them, and their SHA-256."""
+        if not 1 <= len(text) <= LIMIT:
+            raise ValueError(f"a parcel has 1 to {LIMIT} bytes, and not {len(text)}")
         self.puts += 1
         status, _ = self.ask(PUT, self.puts, text)
         return (self.puts if status == DONE else None), hashlib.sha256(text).digest()

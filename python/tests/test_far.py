@@ -88,6 +88,12 @@ class FarTest(unittest.TestCase):
                 self.assertEqual((store.get(number, digest), store.get(number, bytes(32)), store.get(7, digest)), (b"abc", None, None))
                 store.forget(number)
                 self.assertIsNone(store.get(number, digest))
+                for wrong in (b"", bytes(LIMIT + 1)):
+                    with self.assertRaises(ValueError):
+                        store.put(wrong)
+                self.assertEqual(kept(store, bytes(LIMIT))[0], 2, "no id was used up")
+            with self.assertRaises(Broken):
+                store.get(number, digest)
             self.assertEqual(server.end(), (0, b"", b""))
 
     def test_lies(self) -> None:
@@ -97,6 +103,23 @@ class FarTest(unittest.TestCase):
             (frame(3, 1), Broken), (frame(DONE, 1, length=LIMIT + 1), Broken), (frame(DONE, 1, b"abc")[:-1], Broken), (frame(DONE, 1)[:5], Broken),
         ):
             self.assertEqual(lied_to(answer), taken, answer)
+
+    def test_faults(self) -> None:
+        """After a wrong answer, and after none in time, nothing more is asked, though an answer would come."""
+
+        def late(stream: socket.socket) -> None:
+            stream.recv(HEAD.size + 1)
+            stream.sendall(frame(DONE, 7) + frame(DONE, 2))
+            stream.recv(HEAD.size + 1)
+
+        with stand_in.answering(late) as port, Store(port, timeout=SECONDS) as store:
+            for _ in range(2):
+                with self.assertRaises(Broken):
+                    store.put(b"a")
+        with stand_in.answering(lambda stream: stream.recv(100) and stream.recv(100)) as port, Store(port, timeout=0.1) as store:
+            for error in (TimeoutError, Broken):
+                with self.assertRaises(error):
+                    store.put(b"a")
 
 
 if __name__ == "__main__":
