@@ -99,9 +99,10 @@ class Agent:
         pipes = Pipes(process)
 
         def end() -> None:
-            pipes.drain(time.monotonic() + GRACE)
-            pipes.close()
-            status = wait_or_end(process, PATIENCE)
+            with killing(process):
+                pipes.drain(time.monotonic() + GRACE)
+                pipes.close()
+                status = wait_or_end(process, PATIENCE)
             if status is None:
                 raise Broken("the program didn't end, and was killed")
             if status:
@@ -435,6 +436,17 @@ def fitting(lines: Sequence[bytes]) -> int:
 def started(command: Sequence[str]) -> subprocess.Popen[bytes]:
     """A program with pipes to it. An interrupt from the terminal reaches this process alone."""
     return subprocess.Popen(command, stdin=subprocess.PIPE, stdout=subprocess.PIPE, bufsize=0, start_new_session=True)
+
+
+@contextlib.contextmanager
+def killing(process: subprocess.Popen[bytes]) -> Iterator[None]:
+    """Kills a program if its block is interrupted, or fails."""
+    try:
+        yield
+    except BaseException:
+        process.kill()
+        wait_or_end(process, GRACE)
+        raise
 
 
 def wait_or_end(process: subprocess.Popen[bytes], seconds: float) -> Optional[int]:

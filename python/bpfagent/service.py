@@ -103,15 +103,14 @@ class Service:
         until = time.monotonic() + seconds
         output, fault = b"", ""
         try:
-            self._let_go(until)
-            output = self._rest + self._to_the_end(until)
-        except Broken as why:
-            fault = str(why)
-        except BaseException:
+            try:
+                self._let_go(until)
+                output = self._rest + self._to_the_end(until)
+            except Broken as why:
+                fault = str(why)
+            status = wait_or_end(self._process, max(until - time.monotonic(), GRACE))
+        finally:
             self.kill()
-            raise
-        status = wait_or_end(self._process, max(until - time.monotonic(), GRACE))
-        self.kill()
         if status is None:
             raise Broken(f"the service hadn't ended after {seconds:g} seconds, and was killed")
         if status or fault:

@@ -8,6 +8,7 @@ from __future__ import annotations
 
 import doctest
 import keyword
+import os
 import pathlib
 import re
 import shutil
@@ -26,6 +27,7 @@ from bpfagent import Agent, Broken, Hit, Move, Paused, Ran, Refused, Registers, 
 from support import PROGRAM, ROOT, SECONDS, program_of
 
 from form.protocol import commands
+from lib.programs import until
 from lib.scripts import Talk, conversations
 
 PAGE = ROOT / "python/README.md"
@@ -628,6 +630,24 @@ class Services(Case):
         start = time.monotonic()
         self.assertEqual(why_broken(lambda: service.close(seconds)), why)
         self.assertLess(time.monotonic() - start, seconds + LATE)
+
+    def test_interrupts(self) -> None:
+        """An interrupt while an end is awaited leaves no program that goes on."""
+        self.addCleanup(signal.signal, signal.SIGALRM, signal.signal(signal.SIGALRM, signal.default_int_handler))
+        note = self.folder / "number"
+        program = program_of(self.folder / "stays", f"import os, time\nopen({str(note)!r}, 'w').write(str(os.getpid()))\nos.close(1)\ntime.sleep(60)")
+        starts: list[Callable[[], Callable[[], object]]] = [lambda: Agent.run(program).close, lambda: bpfagent.Service(program).close]
+        for start in starts:
+            close = start()
+            until("the program doesn't begin", lambda: note.exists() and note.read_text())
+            number = int(note.read_text())
+            note.unlink()
+            # Once the end of the output is seen, only that of the program is awaited.
+            signal.setitimer(signal.ITIMER_REAL, 1.0)
+            with self.assertRaises(KeyboardInterrupt):
+                close()
+            with self.assertRaises(ProcessLookupError):
+                os.kill(number, 0)
 
     def test_waits(self) -> None:
         """`wait` gives the end of a machine, its pause, or that it still runs; the value is there only after an exit."""
