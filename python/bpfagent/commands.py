@@ -4,7 +4,7 @@ from __future__ import annotations
 import argparse
 import os
 import sys
-from typing import Callable
+from typing import Callable, Optional, Sequence
 
 from . import __version__
 
@@ -54,6 +54,12 @@ def fault_text(why: BaseException) -> str:
 def add_version(options: argparse.ArgumentParser) -> None:
     """The option `--version`."""
     options.add_argument("--version", action="version", version=f"%(prog)s {__version__}")
+
+
+def parsed(options: argparse.ArgumentParser, words: Optional[Sequence[str]]) -> argparse.Namespace:
+    """What the options of a command line are. They may stand among its arguments; behind `--` there are none."""
+    given = sys.argv[1:] if words is None else words
+    return options.parse_args(given) if "--" in given else options.parse_intermixed_args(given)
 
 
 def port_of(text: str) -> int:

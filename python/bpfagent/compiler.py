@@ -43,7 +43,7 @@ class Uncompiled(Exception):
 def compile_c(source: pathlib.Path, target: pathlib.Path, flags: Sequence[str] = ()) -> str:
     """Compiles a program, with further flags, and gives clang's warnings."""
     clang = os.environ.get("CLANG") or "clang"
-    command = [clang, *FLAGS, "-fno-crash-diagnostics", f"-I{INCLUDE}", *flags, "-c", os.fspath(source), "-o", os.fspath(target)]
+    command = [clang, *FLAGS, "-fno-crash-diagnostics", f"-I{INCLUDE}", *flags, "-c", named(source), "-o", os.fspath(target)]
     try:
         done = subprocess.run(command, stdin=subprocess.DEVNULL, capture_output=True, text=True, errors="replace", timeout=SECONDS)
     except FileNotFoundError:
@@ -57,6 +57,12 @@ def compile_c(source: pathlib.Path, target: pathlib.Path, flags: Sequence[str] =
     if not target.is_file() or not is_object_file(target.read_bytes()):
         raise Uncompiled(f"{clang} made no object file of {source}: its flags ask for something else")
     return done.stderr
+
+
+def named(source: pathlib.Path) -> str:
+    """A file's path as an argument of clang, which takes one that begins with a dash for an option."""
+    path = os.fspath(source)
+    return f"./{path}" if path.startswith("-") else path
 
 
 def without_traces(errors: str) -> str:

@@ -90,6 +90,8 @@ def assembled(path: pathlib.Path, text: bytes, program: str) -> bytes:
     """The raw code of a text of assembly."""
     try:
         done = subprocess.run([program, "asm", "--explain"], input=text, capture_output=True, timeout=SECONDS)
+    except OSError as fault:
+        raise Unloadable(f"{path}: {program} can't be run: {fault.strerror}") from None
     except subprocess.TimeoutExpired:
         raise Unloadable(f"{path}: {program} asm didn't end within {SECONDS:g} seconds") from None
     if done.returncode:

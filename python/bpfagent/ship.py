@@ -17,7 +17,7 @@ from typing import Callable, Mapping, Optional, Sequence, TypeVar, Union
 
 from .accesses import OF_MEMORY, access_text
 from .agent import ARGUMENTS, Agent, address, pauses
-from .commands import add_version, address_text, guarded, place_of
+from .commands import add_version, address_text, guarded, parsed, place_of
 from .image import Image, Unloadable, load, program_path
 from .limits import LONGEST, OBJECTS, SLOTS
 from .replies import Broken, Refused, Run, Stopped
@@ -360,7 +360,7 @@ def reader_of(given: argparse.Namespace) -> Callable[[str], object]:
 def main(words: Optional[Sequence[str]] = None) -> None:
     """The command line."""
     options = parser()
-    given = options.parse_intermixed_args(words)
+    given = parsed(options, words)
     if given.arguments and (given.check or given.output):
         options.error(f"{'--check' if given.check else '--output'} takes no ARGUMENT: nothing is run")
     try:

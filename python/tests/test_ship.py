@@ -318,6 +318,10 @@ class Ships(unittest.TestCase):
         self.assertTrue(
             (status, output) == (1, "") and errors.startswith(f"bpfagent-ship: {path}: line 2: Word"), f"wrong assembly ends with {status}, {output}, {errors}"
         )
+        (folder / "none").write_text("no program")
+        (folder / "none").chmod(0o755)
+        with self.assertRaisesRegex(Unloadable, "none can't be run: Exec format error$"):
+            load(path, bpfagent=str(folder / "none"))
         slow = program_of(folder / "slow", "import time\ntime.sleep(60)")
         with mock.patch.object(image, "SECONDS", 0.5), self.assertRaisesRegex(Unloadable, "slow asm didn't end within 0.5 seconds$"):
             load(path, bpfagent=str(slow))
@@ -366,6 +370,9 @@ class Ships(unittest.TestCase):
             ),
             "a stop in a C file",
         )
+        (folder / "-c.c").write_text(ADDS)
+        for words in (["./-c.c", "@pair"], ["--fuel", "7", "--", "-c.c", "@pair"]):
+            self.assertEqual(ship(*words, folder=folder), (0, shown, ""), "a name that begins as an option does")
         source.write_text(SECTIONS)
         self.assertEqual(ship("c.c", "3", folder=folder), (0, "stopped 1 exit 000000000000002d\n34 instructions\n", ""), "functions of several sections")
         subprocess.run(

@@ -4,7 +4,7 @@ from __future__ import annotations
 import argparse
 from typing import Callable, Optional, Sequence
 
-from ..commands import guarded, place_of
+from ..commands import guarded, parsed, place_of
 from ..image import Unloadable
 from ..limits import MACHINES
 from ..replies import Broken, Refused
@@ -90,7 +90,7 @@ def debug(given: argparse.Namespace) -> None:
 def main(words: Optional[Sequence[str]] = None) -> None:
     """The command line."""
     options = parser()
-    given = options.parse_intermixed_args(words)
+    given = parsed(options, words)
     if why := wrong(given):
         options.error(why)
     guarded("bpfagent-debug", lambda: debug(given), Impossible, Unshippable, Unloadable, NoDwarf, NoMessage, Broken, Refused)
