@@ -16,6 +16,7 @@ import sys
 import tempfile
 from typing import Iterable, Iterator
 
+from lib.calls import need_toolchain
 from lib.sources import ROOT, crates
 
 # Outside the repository, since `rt ci` refuses a second crates.txt below it. What its checks have kept stays there.
@@ -137,4 +138,9 @@ if __name__ == "__main__":
     unknown = [name for name in names if name not in known]
     if unknown:
         sys.exit(f"edits: {', '.join(unknown)}: no crate with a folder edits/")
-    sys.exit(1 if try_edits(rt, names or [*changed(), *new()]) else 0)
+    chosen = names or [*changed(), *new()]
+    if not chosen:
+        print("edits: no crate has changed since its edits were tried")
+        sys.exit()
+    need_toolchain(rt)
+    sys.exit(1 if try_edits(rt, chosen) else 0)

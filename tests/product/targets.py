@@ -37,10 +37,11 @@ def show_program(rt: str) -> None:
 
 def show_missing(rt: str) -> None:
     """Without the toolchain a target that builds says in a line what is missing."""
-    for target in ("try", "run", "program", "lib"):
-        done = subprocess.run(["make", "--no-print-directory", "RT=/none/rt", target], cwd=ROOT, stdin=subprocess.DEVNULL, capture_output=True, text=True, timeout=60)
+    builds = {target: " (No such file or directory)" for target in ("try", "run", "program", "lib")}
+    for target, why in {**builds, "edits NAME=scopes": "", "test": "", "prove": ""}.items():
+        done = subprocess.run(["make", "--no-print-directory", "RT=/none/rt", *target.split()], cwd=ROOT, stdin=subprocess.DEVNULL, capture_output=True, text=True, timeout=60)
         lines = done.stderr.splitlines()
-        want(done.returncode == 2 and len(lines) == 2 and "/none/rt can't be run (No such file or directory)" in lines[0], f"make {target} without rt says {done.stderr}")
+        want(done.returncode == 2 and len(lines) == 2 and f"/none/rt can't be run{why}: it belongs to the Rattle toolchain" in lines[0], f"make {target} without rt says {done.stderr}")
 
 
 def show_run(rt: str) -> None:
