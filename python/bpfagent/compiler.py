@@ -17,7 +17,7 @@ SECONDS = 60
 
 # What clang says, and what to do about it.
 ADVICE = [
-    (r"bits/libc-header-start\.h|gnu/stubs-32\.h", "compile with -ffreestanding: there is no C library for BPF"),
+    (r"bits/libc-header-start\.h|gnu/stubs-32\.h", "include bpfagent.h instead: there is no C library for BPF"),
     (r"Invalid usage of the XADD return value|please use 64 bit version", "compile with -mcpu=v3, which has atomic operations on 32 bits"),
     (r"please use 32/64 bit version", "use a field of 32 or 64 bits"),
     (r"Cannot select: .*AtomicLoad<", "use atomic_read and atomic_write of bpfagent.h"),

@@ -53,6 +53,8 @@ def load(file: PathLike, entry: Optional[str] = None, flags: Sequence[str] = (),
     elif path.suffix == ".asm":
         content = assembled(path, content, program_path(bpfagent))
     if not is_object_file(content):
+        if is_text(content):
+            raise Unloadable(f"{path}: is a text, and no code: the name of a C file ends in .c, and that of assembly in .asm")
         if entry is not None:
             raise Unloadable(f"{path}: raw code has no names, so --entry can't choose one")
         return Image(path, content)
@@ -61,6 +63,14 @@ def load(file: PathLike, entry: Optional[str] = None, flags: Sequence[str] = (),
     except Unlinkable as why:
         raise Unloadable(f"{place_of(path, content, why)}: {why}") from None
     return Image(path, linked.code, linked, content)
+
+
+def is_text(content: bytes) -> bool:
+    """Whether these bytes are a text. Raw code has zeros, since its last instruction has."""
+    try:
+        return bool(content.decode()) and 0 not in content
+    except UnicodeDecodeError:
+        return False
 
 
 def content_of(path: pathlib.Path) -> bytes:

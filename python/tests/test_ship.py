@@ -278,6 +278,10 @@ class Ships(unittest.TestCase):
                 f"{content[:20]!r} ends with {status}, {output}, {errors}",
             )
         self.want_said(["none.c"], 1, "", "bpfagent-ship: none.c: No such file or directory\n")
+        for name in ("c.cpp", "text.s"):
+            (folder / name).write_text("é exit\n")
+            why = "is a text, and no code: the name of a C file ends in .c, and that of assembly in .asm"
+            self.want_said([str(folder / name)], 1, "", f"bpfagent-ship: {folder / name}: {why}\n")
         self.want_said(
             ["--bpfagent", f"{folder}/none", str(path.with_name("exit.code"))],
             1,
@@ -403,6 +407,8 @@ class Ships(unittest.TestCase):
             (status, output) == (1, "") and errors.endswith("\nadvice: use atomic_read and atomic_write of bpfagent.h\n") and "Stack dump" not in errors,
             f"what clang can't compile: {errors}",
         )
+        source.write_text("#include <string.h>\nunsigned long program(void) { return 0; }\n")
+        self.assertTrue(ship("c.c", folder=folder)[2].endswith("\nadvice: include bpfagent.h instead: there is no C library for BPF\n"))
         source.write_text("unsigned long program(unsigned long n) { unsigned long sum = 0; for (unsigned long i = 1; i <= n; i++) sum += i; return sum; }\n")
         status, output, errors = ship("c.c", folder=folder)
         self.assertTrue((status, output) == (1, "") and errors.endswith("needs compiler_barrier() inside\n"), f"a loop that clang makes a product of: {errors}")
