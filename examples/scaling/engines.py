@@ -80,6 +80,14 @@ def number_from(least: float, most: float = float("inf"), kind: Callable[[str], 
     return number
 
 
+def program(text: str) -> str:
+    """The path of bpfagent, as an argument."""
+    path = shutil.which(text)
+    if not path:
+        raise argparse.ArgumentTypeError(f"{text} can't be run")
+    return os.path.abspath(path)
+
+
 def results(client, futures: list, seconds: float = PATIENCE) -> list:
     """What all these futures give within so many seconds."""
     import distributed

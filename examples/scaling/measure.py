@@ -23,7 +23,7 @@ from typing import Callable, Iterator
 
 sys.path.append(str(pathlib.Path(__file__).resolve().parents[2] / "python"))
 from bpfagent import Agent, Broken, Refused, Service, address, patiently
-from engines import number_from
+from engines import number_from, program
 
 MACHINES, SLOTS = 48, 4096
 OBJECTS, LENGTH, PIECE = 1024, 65_536, 4096
@@ -171,7 +171,7 @@ def of_service(program: str, count: int, seconds: float) -> Iterator[tuple[float
 
 def main() -> None:
     options = argparse.ArgumentParser(description="Measures what one agent holds.")
-    options.add_argument("program")
+    options.add_argument("program", type=program)
     options.add_argument("--objects", type=number_from(0, OBJECTS), default=OBJECTS)
     options.add_argument("--trips", type=number_from(1), default=2000)
     options.add_argument("--seconds", type=number_from(0, kind=float), default=1.0)

@@ -203,7 +203,7 @@ def measured(part: str, program: str, size: float) -> object:
 def parser() -> argparse.ArgumentParser:
     """The options of the command line."""
     options = argparse.ArgumentParser(description="Measures a fleet on this machine.")
-    options.add_argument("program")
+    options.add_argument("program", type=engines.program)
     options.add_argument("--output", type=pathlib.Path, metavar="FILE", help="where the figures are kept")
     options.add_argument("--note", default="", metavar="TEXT", help="what PROGRAM is; it is kept with the figures")
     options.add_argument("--part", action="append", choices=figures.PARTS, help="only this part; may be repeated")

@@ -66,7 +66,7 @@ def run(given: argparse.Namespace) -> dict:
 def options() -> argparse.ArgumentParser:
     """The options of the command line."""
     made = argparse.ArgumentParser(description="Moves money between accounts by jobs at once.")
-    made.add_argument("program")
+    made.add_argument("program", type=engines.program)
     made.add_argument("--accounts", type=engines.number_from(2), default=1000)
     made.add_argument("--jobs", type=engines.number_from(1), default=10_000)
     made.add_argument("--agents", type=engines.number_from(1), default=8)

@@ -120,7 +120,7 @@ def shown(figures: dict) -> dict:
 def options() -> argparse.ArgumentParser:
     """The options of the command line."""
     made = argparse.ArgumentParser(description="Counts words by agents on a Redis Cluster.")
-    made.add_argument("program")
+    made.add_argument("program", type=engines.program)
     made.add_argument("--objects", type=engines.number_from(1), default=4096)
     made.add_argument("--length", type=engines.number_from(1, LENGTH), default=LENGTH)
     made.add_argument("--agents", type=engines.number_from(1), default=8)

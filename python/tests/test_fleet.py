@@ -138,6 +138,8 @@ class FleetTest(unittest.TestCase):
                 done = subprocess.run([sys.executable, str(ROOT / f"examples/scaling/{name}.py"), PROGRAM, *option.split()], capture_output=True, text=True, timeout=SECONDS)
                 why = f"error: argument {option.split()[0]}: {option.split()[1]} is no number from "
                 self.assertTrue((done.returncode, done.stdout) == (2, "") and why in done.stderr, f"{name}.py {option}: {done}")
+            done = subprocess.run([sys.executable, str(ROOT / f"examples/scaling/{name}.py"), "/none"], capture_output=True, text=True, timeout=SECONDS)
+            self.assertTrue((done.returncode, done.stdout) == (2, "") and done.stderr.endswith("error: argument program: /none can't be run\n"), f"{name}.py: {done}")
 
     def test_one_owner(self) -> None:
         """Results, objects and stops of one agent, by itself."""
