@@ -117,7 +117,7 @@ class FarTest(unittest.TestCase):
                 with self.assertRaises(Broken):
                     store.put(b"a")
         with stand_in.answering(lambda stream: stream.recv(100) and stream.recv(100)) as port, Store(port, timeout=0.1) as store:
-            for error in (TimeoutError, Broken):
+            for error in (OSError, Broken):
                 with self.assertRaises(error):
                     store.put(b"a")
 
