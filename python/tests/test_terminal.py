@@ -12,7 +12,7 @@ import unittest
 import bpfagent
 from bpfagent import Service, patiently
 from bpfagent.debug.main import main
-from support import DEBUGGER, ENDLESS, PROGRAM, ROOT, SECONDS, SIGNALS, TABLE, Pseudoterminal, changes, endless_service, needs_debugger, usage_of, with_signals
+from support import DEBUGGER, ENDLESS, PROGRAM, ROOT, SECONDS, SIGNALS, TABLE, Pseudoterminal, changes, endless_service, needs_debugger, program_of, usage_of, with_signals
 
 DEEP = """#include "bpfagent.h"
 CALLED uint64_t sum(uint64_t n)
@@ -467,6 +467,17 @@ class Arguments(unittest.TestCase):
             status, output, errors = self.said(*words)
             self.assertEqual((status, output, errors.count("\n")), (1, "", 1), (words, errors))
             self.assertTrue(errors.startswith("bpfagent-debug: "), errors)
+
+    def test_agent_that_ends(self) -> None:
+        """An agent that ends in a session ends the debugger with a line and status 1."""
+        with tempfile.TemporaryDirectory() as folder:
+            text = (
+                f"import subprocess\nagent = subprocess.Popen([{PROGRAM!r}, *sys.argv[1:]], stdin=subprocess.PIPE)\nfor line in sys.stdin.buffer:\n"
+                "    if line.startswith(b'get 9'):\n        break\n    agent.stdin.write(line)\n    agent.stdin.flush()\nagent.stdin.close()\nagent.wait()"
+            )
+            words = ["--bpfagent", str(program_of(pathlib.Path(folder) / "ends", text)), str(ROOT / "examples/c/counter.code"), "+8", "3"]
+            done = subprocess.run([*DEBUGGER, *words], input="tell get 9 0 1\nquit\n", capture_output=True, text=True, timeout=SECONDS)
+            self.assertEqual((done.returncode, done.stderr), (1, "bpfagent-debug: the agent ended the conversation\n"), done.stdout)
 
     def test_closed_streams(self) -> None:
         """A standard stream that is closed is taken as the null device, also by the adapter for editors."""

@@ -13,7 +13,7 @@ from typing import Any, Callable, Iterator, Optional
 from ..accesses import place_text
 from ..agent import pauses
 from ..commands import fault_text
-from ..replies import Broken, Refused
+from ..replies import Refused
 from . import views
 from .ending import Ending
 from .engine import Engine, Goal, Impossible, Stop
@@ -429,7 +429,7 @@ for short, command in SHORT.items():
 
 
 def run(engine: Engine, commands: list[str], ending: Ending) -> None:
-    """Does these commands, and then those that are typed, until the debugger is left."""
+    """Does these commands, and then those that are typed, until the debugger is left. Raises `Broken` if the agent ends."""
     terminal = Terminal(engine, ending)
     terminal.greet()
     for line in commands:
@@ -444,6 +444,3 @@ def run(engine: Engine, commands: list[str], ending: Ending) -> None:
             return
         except KeyboardInterrupt:
             print("^C (quit leaves the debugger)")
-        except Broken as why:
-            print(f"the conversation is over: {why}")
-            return
