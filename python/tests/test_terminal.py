@@ -12,7 +12,8 @@ import unittest
 import bpfagent
 from bpfagent import Service, patiently
 from bpfagent.debug.main import main
-from support import DEBUGGER, ENDLESS, PROGRAM, ROOT, SECONDS, SIGNALS, TABLE, Pseudoterminal, changes, endless_service, needs_debugger, program_of, usage_of, with_signals
+from support import DEBUGGER, ENDLESS, PROGRAM, ROOT, SECONDS, SIGNALS, TABLE
+from support import Pseudoterminal, changes, endless_service, needs_debugger, program_of, usage_of, with_signals
 
 DEEP = """#include "bpfagent.h"
 CALLED uint64_t sum(uint64_t n)
