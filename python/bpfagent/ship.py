@@ -367,7 +367,7 @@ def main(words: Optional[Sequence[str]] = None) -> None:
         each_of(given.arguments, reader_of(given))
     except WrongArgument as why:
         options.error(str(why))
-    guarded("bpfagent-ship", lambda: ship(given), Unshippable, Unloadable, Broken)
+    guarded("bpfagent-ship", lambda: ship(given), Unshippable, Unloadable, Broken, Refused)
 
 
 if __name__ == "__main__":

@@ -10,6 +10,7 @@ import os
 import pathlib
 import shutil
 import signal
+import socket
 import struct
 import subprocess
 import sys
@@ -20,6 +21,7 @@ from typing import Optional, Sequence
 from unittest import mock
 
 import bpfagent
+import stand_in
 from bpfagent import Service, Unloadable, address, image, load
 from bpfagent.ship import main
 from support import PROGRAM, ROOT, SECONDS, has_elftools, program_of, usage_of
@@ -242,6 +244,17 @@ class Ships(unittest.TestCase):
                 self.want_usage([loads, "--connect", at, "+8"], "argument 1, `+8`: is neither a number nor :N, an object of the service")
                 self.want_usage([loads, "--connect", at, ":1025"], "argument 1, `:1025`: isn't from :1 to :1024, the numbers of objects")
         self.want_said([loads, "--connect", at], 1, "", f"bpfagent-ship: the service at {at} can't be reached: Connection refused\n")
+
+    def test_refused(self) -> None:
+        """A later command that an agent refuses, as where memory runs out, is a line and no traceback."""
+
+        def refuse(stream: socket.socket) -> None:
+            for reply in (b"shipped 1\n", b"nomem\n"):
+                stream.recv(1 << 16)
+                stream.sendall(reply)
+
+        with stand_in.answering(refuse) as port:
+            self.want_said([self.codes["exit"], "--connect", f"127.0.0.1:{port}"], 1, "", "bpfagent-ship: nomem\n")
 
     def test_waiting(self) -> None:
         """A program that waits for an object which its service doesn't get back says so, and ends by an interrupt."""
