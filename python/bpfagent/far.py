@@ -8,13 +8,13 @@ from __future__ import annotations
 import argparse
 import hashlib
 import os
-import socket
 import struct
 from types import TracebackType
 from typing import Optional
 
 from .commands import add_version, fault_text, guarded, port_of
 from .replies import Broken
+from .streams import connected
 
 HEAD = struct.Struct(">BQI")
 PUT, GET, FORGET = 1, 2, 3
@@ -36,7 +36,7 @@ class Store:
     def __init__(self, port: int, host: str = "127.0.0.1", timeout: Optional[float] = None) -> None:
         """Connects. `timeout`, in seconds, bounds the connecting, each write and each read."""
         # The connection is closed when the file is.
-        with socket.create_connection((host, port), timeout) as connection:
+        with connected(host, port, timeout) as connection:
             self.stream = connection.makefile("rwb")
         self.puts = 0
         self._is_over = False

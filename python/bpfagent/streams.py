@@ -13,6 +13,7 @@ import time
 from typing import Optional, Protocol
 
 PIECE = 1 << 16
+LAST_PORT = 65_535
 
 
 class Stream(Protocol):
@@ -84,11 +85,18 @@ class Pipes:
         self._output.close()
 
 
+def connected(host: str, port: int, timeout: Optional[float]) -> socket.socket:
+    """A connected socket. The system would take a number above the last port for another port."""
+    if not 0 <= port <= LAST_PORT:
+        raise ValueError(f"a port is a number from 0 to {LAST_PORT}, and not {port}")
+    return socket.create_connection((host, port), timeout)
+
+
 class Connection:
     """A TCP connection."""
 
     def __init__(self, host: str, port: int, timeout: Optional[float]) -> None:
-        self._socket = socket.create_connection((host, port), timeout)
+        self._socket = connected(host, port, timeout)
         self._socket.setsockopt(socket.IPPROTO_TCP, socket.TCP_NODELAY, 1)
 
     def send(self, content: bytes, until: Optional[float]) -> None:

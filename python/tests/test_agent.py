@@ -416,6 +416,7 @@ class Conversations(Case):
                 lambda: agent.tell("é"),
                 lambda: agent.ship2(EXIT, 1, {1: "r1\nstep 1 w"}),
                 lambda: agent.ship(b"\x95", 1, 1, 2, 3, 4, 5, 6),
+                lambda: Agent.connect("127.0.0.1", 65_536 + 80),
             ]
             for call in wrong:
                 with self.assertRaises(ValueError):

@@ -13,6 +13,7 @@ from ..commands import fault_text
 from ..image import Unloadable
 from ..replies import PAUSED, RUNNING, Broken, Refused
 from ..ship import FUEL, Unshippable
+from ..streams import LAST_PORT
 from .channel import Channel, Ended
 from .ending import Ending
 from .engine import Engine, Goal, Impossible, Stop
@@ -59,8 +60,8 @@ FIRST, LAST, NOTHING = 0.002, 0.05, 0.5
 CODE = 0xC0DE << 48
 SLOTS = 1 << 32
 LEVELS = 1 << 16
-# The greatest TCP port, and how many instructions are shown at a time.
-MOST_PORT, MOST_INSTRUCTIONS = 65_535, 1 << 16
+# How many instructions are shown at a time.
+MOST_INSTRUCTIONS = 1 << 16
 
 
 class Adapter:
@@ -188,7 +189,7 @@ class Adapter:
 
     def on_attach(self, arguments: Body) -> None:
         """Connects to a service."""
-        self._open(arguments, number_of({"port": int(arguments["port"])}, "port", 0, 1, MOST_PORT))
+        self._open(arguments, number_of({"port": int(arguments["port"])}, "port", 0, 1, LAST_PORT))
 
     def _open(self, given: Body, port: Optional[int]) -> None:
         if self._session:
