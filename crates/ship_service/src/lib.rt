@@ -5,6 +5,7 @@ mod cells;
 mod closing;
 mod closing_lines;
 mod connection;
+mod guests;
 mod journal;
 mod laws;
 mod lent;
