@@ -4,7 +4,7 @@
 The conversations of docs/PROTOCOL.md and examples/serve with their clients, workers and the mover at work, eight clients at once over a counter
 that leaves and returns, over machines that they debug and over accounts under a lock, whose object is away while machines are
 within their loops, conversations that are cut off, objects that are kept by `bpfagent store`, to their last byte, also when that is
-killed, each status, too few threads, too few files, and what is left when the service has closed.
+killed, each status, too few threads, and what is left when the service has closed.
 """
 from __future__ import annotations
 
@@ -13,7 +13,6 @@ import hashlib
 import pathlib
 import re
 import resource
-import select
 import socket
 import subprocess
 import sys
@@ -23,7 +22,7 @@ from typing import Any, Callable
 
 sys.path.insert(0, str(pathlib.Path(__file__).resolve().parents[1]))
 from lib.checks import Failed, run_parts, want, want_equal
-from lib.programs import LONG, SECONDS, Client, Server, Service, break_listener, ended, free_port, is_heard, object_line, opened, processor_time, room_for, unreadable, until
+from lib.programs import LONG, SECONDS, Client, Server, Service, ended, free_port, is_heard, object_line, opened, room_for, unreadable, until
 from lib.scripts import Talk, talks_of
 from lib.sources import ROOT
 
@@ -37,10 +36,6 @@ MONEY = 2_000
 READER = 99
 # more than machines use up that run as long as a reader lets them
 FUEL = 1 << 60
-# how many files a service has open beside those of its clients, how long it is to rest without them, and may run meanwhile, in seconds
-OWN_FILES = 4
-REST = 0.5
-IDLE = 0.05
 # how many bytes one `put` or `get` has at most, and how long objects are that leave whole
 PIECE = 4_096
 LENGTHS = {1: 9, 2: 64, 3: 4_097, 4: 65_536}
@@ -586,39 +581,16 @@ def show_few_threads(program: str) -> None:
 
 
 def show_few_files(program: str) -> None:
-    """A client that can't be accepted, or of whose stream there can be no second, waits, while the other one is served and the service
-    sleeps. It is served once that one has gone, or once there may be more files: the service has three streams, listens by a fourth file,
-    and takes two for each client that is there."""
+    """A client that can't be accepted, or of whose stream there can be no second, ends the service, and those that are connected hear the
+    end: it has three streams, listens by a fourth file, and takes two for each client."""
     for files in (4, 5, 6, 7):
-        others = (files - OWN_FILES) // 2
-        service = Service(program, "--connections", others + 1, setup=["make 8"], limits={resource.RLIMIT_NOFILE: files})
+        service = Service(program, "--connections", 2, setup=["make 8", f"ship 100000 0 0 0 0 0 {COUNTS}"], limits={resource.RLIMIT_NOFILE: files})
         with contextlib.ExitStack() as held:
-            clients = [held.enter_context(Client(service)) for _ in range(others)]
-            for client in clients:
-                want_equal(client.ask("get 1 0 1"), "bytes 00", "a client before one that waits")
-            late = held.enter_context(Client(service))
-            late.stream.sendall(b"get 1 0 1\n")
-            before = processor_time(service.process.pid)
-            want(not select.select([late.stream], [], [], REST)[0], f"a service that may open {files} files answers a client, or lets it go")
-            used = processor_time(service.process.pid) - before
-            want(used < IDLE, f"a service that may open {files} files runs for {used:.3f} s in {REST} s")
-            for client in clients:
-                want_equal((client.ask("get 1 0 1"), client.end()), ("bytes 00", ""), "a client beside one that waits")
-            if not clients:
-                resource.prlimit(service.process.pid, resource.RLIMIT_NOFILE, (OWN_FILES + 2, OWN_FILES + 2))
-            want_equal(late.replies.readline(), "bytes 00\n", "a client that has waited")
-            want_equal(late.end(), "", "the end of a client that has waited")
-        want(service.ends_well({1: of_eight(0)}), f"the end of a service that may open {files} files")
-
-
-def show_broken_listener(program: str) -> None:
-    """A listener that can't accept a client any more ends the service, and those that are connected hear the end."""
-    service = Service(program, "--connections", 2, setup=["make 8", f"ship 100000 0 0 0 0 0 {COUNTS}"])
-    with Client(service) as client:
-        want_equal(client.ask("get 1 0 1"), "bytes 00", "a client before the listener breaks")
-        break_listener(service.process.pid)
-        want_equal(client.replies.read(), "", "what a client hears when the listener has broken")
-    want_equal(service.texts(), (3, "", "net fault\n"), "a service whose listener broke")
+            clients = [held.enter_context(Client(service)) for _ in range((files - 4) // 2)]
+            want(files < 7 or clients[0].ask("get 1 0 1") == "bytes 00", "a client that is served")
+            want(files % 2 == 0 or is_heard("127.0.0.1", service.port), "one client more")
+            want([client.replies.read() for client in clients] == [""] * len(clients), "the end of those that are connected")
+        want(service.texts() == (3, "", "net fault\n"), f"a service that may open {files} files")
 
 
 def served(program: str, *arguments: object, setup: str = "", **streams: Any) -> tuple[int, str, str]:
@@ -664,7 +636,7 @@ def show_port(program: str) -> None:
     want(again.port == port and Client(again).end() == "" and again.ends_well(), "the port that is asked for")
 
 
-SHOWN = [show_protocol, show_examples, show_row, close_two, show_sweep, show_crowd, show_debuggers, show_breakpoint, show_locks, show_lost, show_first_end, show_few_threads, show_few_files, show_broken_listener, show_far, show_far_bytes, show_lost_server, show_unreached, show_statuses, show_port]
+SHOWN = [show_protocol, show_examples, show_row, close_two, show_sweep, show_crowd, show_debuggers, show_breakpoint, show_locks, show_lost, show_first_end, show_few_threads, show_few_files, show_far, show_far_bytes, show_lost_server, show_unreached, show_statuses, show_port]
 
 
 if __name__ == "__main__":

@@ -1,13 +1,11 @@
 #!/usr/bin/env python3
 """Reads what `bpfagent serve -v` writes to standard error: verbose.py PROGRAM
 
-A whole session over a far store, a port that is taken, a far server that isn't there, a client for which there is no file; without `-v`
-nothing.
+A whole session over a far store, a port that is taken, a far server that isn't there; without `-v` nothing.
 """
 from __future__ import annotations
 
 import pathlib
-import resource
 import socket
 import struct
 import sys
@@ -15,13 +13,12 @@ import time
 
 sys.path.insert(0, str(pathlib.Path(__file__).resolve().parents[1]))
 from lib.checks import run_parts, want, want_equal
-from lib.programs import SECONDS, Client, Server, Service, ended, noted, opened
+from lib.programs import SECONDS, Server, Service, ended, noted, opened
 
 # Closing such a socket breaks its connection.
 AT_ONCE = struct.pack("ii", 1, 0)
 SETUP = ["make 8", "put 1 0 2a", "make 24", "make 1"]
 FAILED = "object 2 couldn't return: the store's device failed"
-SHORT = "no client can be accepted for now: too many files are open"
 END = "the service ends: 2 objects of 9 bytes here, 1 object of 24 bytes far"
 
 
@@ -131,23 +128,5 @@ def show_refusals(program: str) -> None:
         want_equal((status, noted(errors)), (3, (notes, ["far server can't be reached"])), "a server that isn't there")
 
 
-def show_shortage(program: str) -> None:
-    """A client for which there is no file, since another has it: told of once, however often it is tried. A service has three streams, its
-    listener, and two files for each client that is there."""
-    service = Service(program, "-v", "--connections", 2, limits={resource.RLIMIT_NOFILE: 7})
-    told = Told(service, True)
-    first = Client(service)
-    want_equal(first.ask("get 1 0 1"), "outside", "the first client")
-    second = Client(service)
-    told.hear(SHORT)
-    time.sleep(0.2)
-    want_equal((first.end(), second.ask("get 1 0 1"), second.end()), ("", "outside", ""), "the second client after the first")
-    wanted = [
-        f"listening on 127.0.0.1:{service.port}", "client 1 came", SHORT, "client 1 went", "client 2 came", "client 2 went",
-        "the service ends: 0 objects of 0 bytes here, 0 objects of 0 bytes far",
-    ]
-    want_equal(noted(told.end()), (wanted, []), "the notes of a service with too few files")
-
-
 if __name__ == "__main__":
-    run_parts("verbose", [show_session, show_silence, show_slow_server, show_refusals, show_shortage])
+    run_parts("verbose", [show_session, show_silence, show_slow_server, show_refusals])

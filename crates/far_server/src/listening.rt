@@ -53,8 +53,9 @@ fn tell_all<R: Wait, E: Write>(rt: &R, ends: &Receiver<ClientEnd, Global>, error
 /// Listens on this port of 127.0.0.1, or on any free one where it is 0, says which on the writer, and serves clients until the
 /// input ends: [`CLIENT_LIMIT`](crate::CLIENT_LIMIT) at the same time, each on a thread of its own and from a store of its own
 /// that is empty at first. One more finds its socket closed. Who is served when the input ends is cut off. A client that can't be
-/// accepted for now, for want of descriptors or memory, waits in the system's queue, and [`accept`](listener::accept) says when
-/// it is tried again. Only a listener that is broken ends the server before its input does.
+/// accepted for now, for want of descriptors or memory, waits in the system's queue, and
+/// [`accept_or_rest`](listener::accept_or_rest) says when it is tried again. Only a listener that is broken ends the server before
+/// its input does.
 ///
 /// Why a client was given up is told on `errors`, in the order in which they end, by its number: clients are numbered from 1
 /// as they are let in. What a client sends and is sent is `serve_store`'s; of a socket's bytes no clause can speak.

@@ -6,7 +6,7 @@ use crate::ended::ClientEnd;
 use crate::hall::{Admission, Hall};
 use crate::journal::{Journal, Refusal};
 use crossbeam_channel::{Receiver, Sender, bounded};
-use listener::{Bell, accept};
+use listener::{Bell, accept_or_rest};
 use std::alloc::{AllocError, Global};
 use std::io::{Error, Read};
 use std::net::{TcpListener, TcpStream};
@@ -81,7 +81,7 @@ fn next_client<R: Wait, J: Journal>(
     listener: &TcpListener,
 ) -> Result<Option<(u64, TcpStream)>, NetFault> {
     for _ in tools.rt.forever() {
-        let Ok(accepted) = accept(tools.rt, listener, tools.hall.bell(), tools) else {
+        let Ok(accepted) = accept_or_rest(tools.rt, listener, tools.hall.bell(), tools) else {
             return Err(NetFault);
         };
         let Some((stream, shown)) = accepted else {

@@ -30,6 +30,31 @@ fn is_passing(error: &Error) -> bool
     )
 }
 
+/// The next client's stream.
+fn next_stream<R: Wait>(rt: &R, listener: &TcpListener) -> io::Result<TcpStream>
+    ensures { IfErr result (λ error. ¬ (Passes (error_kind error))) }
+{
+    for _ in rt.forever() {
+        match listener.accept() {
+            Ok((stream, _)) => {
+                let _ = stream.set_nodelay(true);
+                return Ok(stream);
+            }
+            Err(error) if is_passing(&error) => {}
+            Err(error) => return Err(error),
+        }
+    }
+    unreachable!()
+}
+
+/// The next client's stream, twice: one to be served, and one by which it can be cut off. A client that went before it was
+/// accepted is passed over.
+pub fn accept<R: Wait>(rt: &R, listener: &TcpListener) -> io::Result<(TcpStream, TcpStream)> {
+    let stream = next_stream(rt, listener)?;
+    let shown = stream.try_clone()?;
+    Ok((stream, shown))
+}
+
 /// Whether the listener is broken: it isn't open, doesn't wait for clients, doesn't listen any more, or is no socket.
 fn is_broken(error: &Error) -> bool
     ensures broken { result ≡ true → IsBroken error.now }
@@ -43,7 +68,7 @@ fn is_broken(error: &Error) -> bool
 
 /// The next client's stream; none if the bell has rung. After an error that neither passes at once nor means that the listener is
 /// broken, this thread rests and tries again.
-fn next_stream<R: Wait, J: Journal>(
+fn next_stream_or_rest<R: Wait, J: Journal>(
     rt: &R,
     listener: &TcpListener,
     bell: &Bell,
@@ -53,9 +78,8 @@ fn next_stream<R: Wait, J: Journal>(
     ensures { IfErr result GivesUp }
 {
     for _ in rt.forever() {
-        match listener.accept() {
-            Ok((stream, _)) => return Ok(Some(stream)),
-            Err(error) if is_passing(&error) => {}
+        match next_stream(rt, listener) {
+            Ok(stream) => return Ok(Some(stream)),
             Err(error) if is_broken(&error) => {
                 return if bell.has_rung() {
                     Ok(None)
@@ -74,7 +98,7 @@ fn next_stream<R: Wait, J: Journal>(
 }
 
 /// A second handle of a client's stream; none if the bell has rung. This thread rests and tries again until it has one.
-fn second<R: Wait, J: Journal>(
+fn second_or_rest<R: Wait, J: Journal>(
     rt: &R,
     stream: &TcpStream,
     bell: &Bell,
@@ -94,13 +118,12 @@ fn second<R: Wait, J: Journal>(
     unreachable!()
 }
 
-/// The next client's stream, twice: one to be served, and one by which it can be cut off; none if the bell has rung. A client that
-/// went before it was accepted is passed over.
+/// The same as [`accept`], but a client that can't be accepted for now waits; none if the bell has rung.
 ///
 /// If a client can't be accepted for want of descriptors or of memory, or for any other reason that isn't the listener's own, this
 /// thread tells the journal and rests: for 10 ms, doubled for each try that fails up to a second. Meanwhile clients wait in the
 /// system's queue. It tries until one is accepted or the bell rings. An error means that the listener is broken.
-pub fn accept<R: Wait, J: Journal>(
+pub fn accept_or_rest<R: Wait, J: Journal>(
     rt: &R,
     listener: &TcpListener,
     bell: &Bell,
@@ -109,13 +132,12 @@ pub fn accept<R: Wait, J: Journal>(
     ensures { IfErr result GivesUp }
 {
     let mut patience = Patience::new();
-    let stream = match next_stream(rt, listener, bell, journal, &mut patience) {
+    let stream = match next_stream_or_rest(rt, listener, bell, journal, &mut patience) {
         Ok(Some(stream)) => stream,
         Ok(None) => return Ok(None),
         Err(error) => return Err(error),
     };
-    let _ = stream.set_nodelay(true);
-    match second(rt, &stream, bell, journal, &mut patience) {
+    match second_or_rest(rt, &stream, bell, journal, &mut patience) {
         Some(shown) => Ok(Some((stream, shown))),
         None => Ok(None),
     }

@@ -12,35 +12,26 @@ use std::time::Duration;
 pub struct Bell {
     // 0 until it rings
     rung: AtomicU64,
-    socket: Option<TcpStream>,
+    socket: TcpStream,
 }
 
 impl Bell {
-    /// A bell that never rings.
-    pub fn silent() -> Bell {
-        Bell {
-            rung: AtomicU64::new(0),
-            socket: None,
-        }
-    }
-
     /// A bell for this listener. It takes a descriptor now, so that ringing needs none: they may have run out then.
     pub fn of(listener: &TcpListener) -> io::Result<Bell> {
         let handle = listener.try_clone()?;
         Ok(Bell {
             rung: AtomicU64::new(0),
             // The call that shuts a socket down is a stream's. The system takes it for a listener too.
-            socket: Some(TcpStream::from(OwnedFd::from(handle))),
+            socket: TcpStream::from(OwnedFd::from(handle)),
         })
     }
 
-    /// From now on no client is accepted. A thread that waits for one in [`accept`](crate::accept), or rests there, returns.
+    /// From now on no client is accepted. A thread that waits for one in [`accept_or_rest`](crate::accept_or_rest), or rests there,
+    /// returns.
     pub fn ring(&self) {
         self.rung.store(1, Ordering::SeqCst);
         self.rung.wake_all();
-        if let Some(socket) = &self.socket {
-            let _ = socket.shutdown(Shutdown::Both);
-        }
+        let _ = self.socket.shutdown(Shutdown::Both);
     }
 
     /// Whether it has rung.

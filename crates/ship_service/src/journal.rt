@@ -1,7 +1,6 @@
 //! What whoever runs a service may want to know.
 
 use console::DriveFault;
-use std::io::Error;
 use workers::{Moved, Request};
 
 /// So many objects, and their bytes in all.
@@ -36,9 +35,6 @@ pub trait Journal {
 
     /// It went, or was given up.
     fn went(&self, _client: u64, _outcome: Result<(), DriveFault>) {}
-
-    /// No client can be accepted for now, for this reason. Told once until one is accepted.
-    fn short(&self, _error: &Error) {}
 
     /// This became of an object that was asked to move.
     fn moved(&self, _request: Request, _moved: Moved) {}

@@ -5,7 +5,6 @@ mod cells;
 mod closing;
 mod closing_lines;
 mod connection;
-mod guests;
 mod journal;
 mod laws;
 mod lent;

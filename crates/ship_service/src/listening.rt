@@ -34,7 +34,7 @@ pub enum ListenFault {
     /// Out of memory, or a thread can't be made.
     #[error("no memory")]
     Memory,
-    /// The listener is broken, so no connection can be accepted.
+    /// A connection can't be accepted.
     #[error("net fault")]
     Net,
     /// The output failed.
@@ -125,8 +125,8 @@ where
 /// beside so many workers and a mover, and when all have ended closes and says what is left: a line for each object, in order,
 /// and then the `regs` line of each machine. With `sweep` the mover takes objects away of its own accord.
 ///
-/// What goes wrong with a connection ends that connection alone. One that can't be accepted for now, for want of descriptors or
-/// memory, is tried again after a rest. If the listener is broken or a thread can't be made, connections, workers and mover end first.
+/// What goes wrong with a connection ends that connection alone. Where one can't be accepted or a thread can't be made,
+/// connections, workers and mover end first.
 pub fn listen<F: FarStore + Drop + Send + Sync, W: Write, R: Threads + Wait + Sync>(
     rt: &R,
     alloc: Global,

@@ -3,14 +3,12 @@ ghost use Rattle.std.specs.Prelude.{◌≡◌, length, IfOk};
 ghost use denote.Param.Send.{IsSend};
 
 use crate::connection::Connection;
-use crate::guests::Guests;
 use crate::journal::Journal;
 use crate::serving::serve;
 use crate::shared_agent::Agent;
 use far_store::FarStore;
-use listener::{Bell, accept};
+use listener::accept;
 use std::alloc::{AllocError, Global};
-use std::io::Error;
 use std::net::{Shutdown, TcpListener, TcpStream};
 use std::sync::atomic::{AtomicBool, Ordering};
 use std::sync::{Mutex, Wait};
@@ -21,7 +19,7 @@ use workers::{Gate, Moved, Mover, Request, TableName, mover, work};
 /// Why a service ended before all its connections had.
 #[derive(Clone, Copy, Drop, Debug, PartialEq, Eq)]
 pub enum ThreadFault {
-    /// The listener is broken, so no connection can be accepted.
+    /// A connection can't be accepted.
     Net,
     /// A thread can't be made.
     Memory,
@@ -77,19 +75,12 @@ impl<'a, J: Journal> Gate for UntilEnd<'a, J> {
     }
 }
 
-impl<'a, J: Journal> listener::Journal for UntilEnd<'a, J> {
-    fn short(&self, error: &Error) {
-        self.journal.short(error);
-    }
-}
-
 /// What all threads of a service share.
 #[derive(Drop)]
 struct Tools<'a, R: Wait, F: FarStore, K: TableName, J: Journal> {
     rt: &'a R,
     gate: &'a UntilEnd<'a, J>,
     agent: &'a Agent<F, K>,
-    guests: Guests,
     sweep: bool,
 }
 
@@ -107,6 +98,7 @@ impl<'a, R: Wait, F: FarStore, K: TableName, J: Journal> Tools<'a, R, F, K, J> {
 /// Where connections come from, and what serves them.
 #[derive(Drop)]
 struct Front<'a, K: TableName> {
+    alloc: Global,
     listener: TcpListener,
     locks: &'a [Mutex<Connection<K>>],
     // the stream of the far store, if it has one
@@ -133,12 +125,18 @@ fn serve_client<R: Wait, F: FarStore, K: TableName, J: Journal>(
     );
     let _ = stream.shutdown(Shutdown::Both);
     tools.gate.journal.went(client, outcome);
-    tools.guests.remove(tools.rt, client);
+}
+
+/// Ends the connections of these streams.
+fn cut_off(streams: &[TcpStream]) {
+    for stream in streams {
+        let _ = stream.shutdown(Shutdown::Both);
+    }
 }
 
 /// Accepts one client for each connection of the front, each served on a thread of its own, and waits for the ends of all.
-/// The listener is closed with the last of them, so that a client too many is refused at once. One that can't be accepted for now
-/// waits in the system's queue. If the listener is broken, those that are there are cut off.
+/// The listener is closed with the last of them, so that a client too many is refused at once. Where one can't be accepted, those
+/// that are there are cut off.
 fn serve_clients<
     F: FarStore + Send + Sync,
     K: TableName + Send + Sync,
@@ -146,6 +144,7 @@ fn serve_clients<
     J: Journal + Sync,
 >(
     tools: &Tools<R, F, K, J>,
+    alloc: Global,
     listener: TcpListener,
     locks: &[Mutex<Connection<K>>],
 ) -> Result<(), ThreadFault>
@@ -156,22 +155,21 @@ where
         thread::scope_env(),
         tools.rt,
         |scope| -> Result<(), ThreadFault> {
-            // only the last connection ends a service
-            let bell = Bell::silent();
+            let mut streams = Vec::new(alloc);
             let mut client: u64 = 0;
             for lock in locks {
-                let Ok(Some((stream, shown))) = accept(tools.rt, &listener, &bell, tools.gate)
-                else {
-                    tools.guests.cut_off(tools.rt);
+                let Ok((stream, shown)) = accept(tools.rt, &listener) else {
+                    cut_off(&streams);
                     return Err(ThreadFault::Net);
                 };
                 client = client.wrapping_add(1);
-                if !tools.guests.add(tools.rt, client, shown)
+                let room = streams.push(shown).is_ok();
+                if !room
                     || scope
                         .spawn(move || serve_client(tools, client, lock, stream))
                         .is_err()
                 {
-                    tools.guests.cut_off(tools.rt);
+                    cut_off(&streams);
                     return Err(ThreadFault::Memory);
                 }
             }
@@ -212,6 +210,7 @@ where
     F::Parcel: Send,
 {
     let Front {
+        alloc,
         listener,
         locks,
         far,
@@ -228,7 +227,7 @@ where
                     return Err(ThreadFault::Memory);
                 }
             }
-            let outcome = serve_clients(tools, listener, locks);
+            let outcome = serve_clients(tools, alloc, listener, locks);
             tools.end(&far);
             outcome
         },
@@ -294,7 +293,7 @@ fn unlocked<K: TableName>(
 }
 
 /// Serves as many clients as are planned, one after another as they come and each on a thread of its own, beside workers and
-/// mover, until all have ended. If the listener is broken or a thread can't be made, those that are there are cut off. A move
+/// mover, until all have ended. Where a client can't be accepted or a thread can't be made, those that are there are cut off. A move
 /// that still waits for the far store then is cut off by `far`, which is its stream, if it has one.
 /// The journal is told of clients and moves. All threads have ended then, so agent and mover can be closed, with all
 /// connections, which come back. Out of memory
@@ -325,10 +324,10 @@ where
         rt,
         gate: &gate,
         agent,
-        guests: Guests::new(alloc),
         sweep: plan.sweep,
     };
     let front = Front {
+        alloc,
         listener,
         locks: &locks[..plan.connections.min(locks.len())],
         far,

@@ -199,10 +199,6 @@ impl<R: Clock + Eprint> ship_service::Journal for Notes<R> {
         });
     }
 
-    fn short(&self, error: &Error) {
-        self.write(Note::Short(error.raw_os_error()));
-    }
-
     fn moved(&self, request: Request, moved: Moved) {
         let object = request.number;
         self.write(match (request.direction, moved) {
