@@ -103,7 +103,7 @@ static double now(void)
 static struct timespec in(long milliseconds)
 {
     struct timespec t;
-    clock_gettime(CLOCK_REALTIME, &t);
+    clock_gettime(CLOCK_MONOTONIC, &t);
     t.tv_sec += milliseconds / 1000;
     t.tv_nsec += milliseconds % 1000 * 1000000;
     if (t.tv_nsec >= 1000000000) {
@@ -111,6 +111,18 @@ static struct timespec in(long milliseconds)
         t.tv_sec++;
     }
     return t;
+}
+
+/* A condition whose waits end by the clock of `in`. That of the default, CLOCK_REALTIME, jumps when somebody sets it. */
+static void init_condition(pthread_cond_t *condition)
+{
+    pthread_condattr_t attributes;
+    if (pthread_condattr_init(&attributes) || pthread_condattr_setclock(&attributes, CLOCK_MONOTONIC) ||
+        pthread_cond_init(condition, &attributes)) {
+        fprintf(stderr, "no condition can be made\n");
+        exit(1);
+    }
+    pthread_condattr_destroy(&attributes);
 }
 
 /* Waits until an object came or went, but not for ever. */
@@ -507,8 +519,8 @@ int main(int count, char **words)
     for (unsigned long k = 0; k < agents; k++) {
         runtimes[k].lookups = lookups;
         pthread_mutex_init(&runtimes[k].lock, NULL);
-        pthread_cond_init(&runtimes[k].moved, NULL);
-        pthread_cond_init(&runtimes[k].asked, NULL);
+        init_condition(&runtimes[k].moved);
+        init_condition(&runtimes[k].asked);
         if (pthread_create(&threads[k], NULL, run, &runtimes[k]))
             return 1;
     }

@@ -3,6 +3,7 @@ from __future__ import annotations
 
 import atexit
 import contextlib
+import ctypes
 import datetime
 import functools
 import hashlib
@@ -27,6 +28,8 @@ LONG = 180
 SLOWER = 20
 # What the stack of a thread takes where there are to be few of them: more than all else that a thread takes.
 STACK = 1 << 30
+# Linux' number of the call that takes a file of another process.
+PIDFD_GETFD = 438
 LISTENING = re.compile(r"listening (\d+)\n")
 # A line that a server writes with `-v`.
 NOTED = re.compile(r"(\d{4}-\d{2}-\d{2}T\d{2}:\d{2}:\d{2}\.\d{3})Z (.*)")
@@ -88,6 +91,28 @@ def of_data(program: str, data: int) -> dict[int, int]:
 def size_of(pid: int | str, field: str) -> int:
     """How many bytes of this kind a process has, by its status."""
     return int(re.search(rf"{field}:\s*(\d+) kB", pathlib.Path(f"/proc/{pid}/status").read_text())[1]) << 10
+
+
+def threads_of(pid: int) -> dict[str, tuple[float, float]]:
+    """For how many seconds each thread of a process has run, and for how many it waited for a processor."""
+    words = {thread: pathlib.Path(f"/proc/{pid}/task/{thread}/schedstat").read_text().split() for thread in os.listdir(f"/proc/{pid}/task")}
+    return {thread: (int(ran) / 1e9, int(waited) / 1e9) for thread, (ran, waited, _) in words.items()}
+
+
+def processor_time(pid: int) -> float:
+    """The seconds that all threads of a process have run."""
+    return sum(ran for ran, _ in threads_of(pid).values())
+
+
+def break_listener(pid: int) -> None:
+    """Shuts down the first socket of a process, its listener: it can't accept a client any more."""
+    sockets = [int(file.name) for file in pathlib.Path(f"/proc/{pid}/fd").iterdir() if os.readlink(file).startswith("socket:")]
+    process = os.pidfd_open(pid)
+    taken = ctypes.CDLL(None, use_errno=True).syscall(PIDFD_GETFD, process, min(sockets), 0)
+    os.close(process)
+    want(taken >= 0, f"the listener of a process can't be had: {os.strerror(ctypes.get_errno())}")
+    with socket.socket(fileno=taken) as listener:
+        listener.shutdown(socket.SHUT_RDWR)
 
 
 def room_for(program: str, threads: int) -> dict[int, int]:

@@ -2,7 +2,7 @@
 """Runs `bpfagent store` with clients of another language: store.py PROGRAM
 
 Byte for byte what docs/FAR-MEMORY.md shows, clients that break the protocol, 1025 parcels of each of 64 clients, the 65th, memory that
-is given back, too few threads, the end of standard input while clients are connected, what `-v` writes, each status, and that it
+is given back, too few threads, too few files, the end of standard input while clients are connected, what `-v` writes, each status, and that it
 listens on 127.0.0.1 alone.
 """
 from __future__ import annotations
@@ -11,15 +11,17 @@ import contextlib
 import pathlib
 import re
 import resource
+import select
 import socket
 import subprocess
 import sys
 import threading
+import time
 
 sys.path.insert(0, str(pathlib.Path(__file__).resolve().parents[1]))
 from lib.checks import run_parts, want, want_equal
 from lib.far import DONE, FORGET, GET, HEAD, LIMIT, NO_ROOM, PUT, REFUSED_ID
-from lib.programs import SECONDS, Server, ended, has_checks, is_heard, noted, room_for, size_of, unreadable, until
+from lib.programs import SECONDS, Server, break_listener, ended, has_checks, is_heard, noted, processor_time, room_for, size_of, unreadable, until
 
 KEPT = 1024
 CLIENTS = 64
@@ -27,6 +29,13 @@ CLIENTS = 64
 MUCH = 128 << 20
 LITTLE = 16 << 20
 ENDS_WELL = (0, b"", b"")
+# How many files a server has open beside those of its clients; what it tells if it can't have more; how long a test lets it rest, in
+# seconds, which is within the rest from 1.27 to 2.27 seconds after the first try; and for how long it may run meanwhile, and take to end.
+OWN_FILES = 5
+SHORT = "no client can be accepted for now: too many files are open"
+LONG_REST = 1.2
+IDLE = 0.05
+AT_ONCE = 0.5
 
 
 def hear(stream: socket.socket, count: float = float("inf")) -> bytes:
@@ -240,16 +249,92 @@ def show_address(program: str) -> None:
     want_equal(server.end(), ENDS_WELL, "a server that is asked for at another address")
 
 
+def few_files(program: str, more: int) -> Server:
+    """A server that may have so many files open beside its own: three streams, the listener, and the handle that closes it."""
+    return Server(program, "-v", limits={resource.RLIMIT_NOFILE: OWN_FILES + more})
+
+
+def ask(stream: socket.socket, what: str) -> None:
+    """A client asks for a parcel that isn't there, and is answered."""
+    want_equal(asked(stream, frame(GET, 1)), frame(REFUSED_ID, 1), what)
+
+
+def want_left_waiting(stream: socket.socket, seconds: float, what: str) -> None:
+    """A client that asks the same is neither answered nor let go for so long."""
+    stream.sendall(frame(GET, 1))
+    want(not select.select([stream], [], [], seconds)[0], what)
+
+
+def want_end(server: Server, clients: int, shortages: int, what: str) -> None:
+    """The server ends at once with its input, and has told of so many clients and shortages of files."""
+    began = time.monotonic()
+    status, output, errors = server.end()
+    took = time.monotonic() - began
+    told = [f"listening on 127.0.0.1:{server.port}", *[SHORT] * shortages, *(f"client {k + 1} {did}" for k in range(clients) for did in ("came", "went"))]
+    notes, others = noted(errors)
+    want_equal((status, output, others, sorted(notes)), (0, b"", [], sorted(told)), what)
+    want(took < AT_ONCE, f"{what} takes {took:.2f} s")
+
+
 def show_few_files(program: str) -> None:
-    """A client that can't be accepted, since the listener is the last file that may be open, or of whose stream there can be no second."""
-    for files in (4, 5):
-        server = Server(program, limits={resource.RLIMIT_NOFILE: files})
-        with contextlib.suppress(OSError), server.connect():
-            pass
-        want_equal(server.end(), (3, b"", b"net fault\n"), f"a server that may open {files} files")
+    """A server without a file for a client ends well, and so does one whose last file is kept for the client that it waits for. It doesn't
+    listen if it can't have its own."""
+    limits = {resource.RLIMIT_NOFILE: OWN_FILES - 1}
+    want_equal(ended(program, "store", limits=limits), (3, b"", b"net fault\n"), "a server without all of its own files")
+    for more in range(3):
+        server = few_files(program, more)
+        time.sleep(0.1)
+        want_end(server, 0, 1 if more == 0 else 0, f"the end of a server that may open {more} files for clients")
 
 
-SHOWN = [show_frames, show_limits, show_many, show_memory, show_few_threads, show_notes, show_broken_clients, show_end, show_statuses, show_address, show_few_files]
+def show_rest(program: str) -> None:
+    """While a client can't be accepted, or there can be no second handle of its stream, it waits: others are served, and the server sleeps
+    before it tries again. At the end of its input it wakes."""
+    for clients, spare in ((0, 0), (0, 1), (2, 0), (2, 1)):
+        server, what = few_files(program, 2 * clients + spare), f"a server of {clients} clients that may open {spare} files more"
+        with contextlib.ExitStack() as held:
+            streams = [held.enter_context(server.connect()) for _ in range(clients)]
+            for stream in streams:
+                ask(stream, f"a client before the others of {what}")
+            late = held.enter_context(server.connect())
+            want_left_waiting(late, 0.2, f"a client for which there is no file is answered or let go by {what}")
+            before = processor_time(server.process.pid)
+            want_left_waiting(late, LONG_REST, f"a client that waits is answered or let go by {what}")
+            used = processor_time(server.process.pid) - before
+            want(used < IDLE, f"{what} runs for {used:.3f} s in {LONG_REST} s")
+            for stream in streams:
+                ask(stream, f"a client beside one that waits, of {what}")
+            want_end(server, clients, 1, f"the end of {what}")
+
+
+def show_late(program: str) -> None:
+    """A client that waits is served once another has gone, and another one once the server may open more files."""
+    server = few_files(program, 3)
+    with server.connect() as first, server.connect() as second, server.connect() as third:
+        ask(first, "the first client")
+        want_left_waiting(second, 0.5, "a second client for which there is one file is answered or let go")
+        ask(first, "the first client beside one that waits")
+        first.close()
+        want_equal(hear(second, HEAD.size), frame(REFUSED_ID, 1), "the second client after the first")
+        want_left_waiting(third, 0.5, "a third client for which there is one file is answered or let go")
+        resource.prlimit(server.process.pid, resource.RLIMIT_NOFILE, (OWN_FILES + 5, OWN_FILES + 5))
+        want_equal(hear(third, HEAD.size), frame(REFUSED_ID, 1), "the third client, once there may be files for it")
+        ask(second, "the second client beside the third")
+        want_end(server, 3, 2, "the end of a server whose clients waited")
+
+
+def show_broken_listener(program: str) -> None:
+    """A listener that can't accept a client any more ends the server, which cuts off who is served."""
+    server = Server(program)
+    with server.connect() as stream:
+        ask(stream, "a client before the listener breaks")
+        break_listener(server.process.pid)
+        want_equal(hear(stream), b"", "what a client hears when the listener has broken")
+    want_equal(server.process.wait(SECONDS), 3, "the status of a server whose listener broke")
+    want_equal(server.end(), (3, b"", b"net fault\n"), "a server whose listener broke")
+
+
+SHOWN = [show_frames, show_limits, show_many, show_memory, show_few_threads, show_notes, show_broken_clients, show_end, show_statuses, show_address, show_few_files, show_rest, show_late, show_broken_listener]
 
 
 if __name__ == "__main__":

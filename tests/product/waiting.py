@@ -22,7 +22,7 @@ from typing import Callable, NamedTuple
 sys.path.insert(0, str(pathlib.Path(__file__).resolve().parents[1]))
 from lib.checks import Failed, run_parts, want
 from lib.far import NEVER, Far
-from lib.programs import Client, Server, Service, has_checks, is_heard, until
+from lib.programs import Client, Server, Service, has_checks, is_heard, processor_time, threads_of, until
 
 TRIES = 6
 # in how many turns processor time is measured
@@ -88,17 +88,6 @@ class Killed(Server):
     def manner(self, _: str) -> None:
         self.process.kill()
         self.process.wait()
-
-
-def threads_of(pid: int) -> dict[str, tuple[float, float]]:
-    """For how many seconds each thread of a process has run, and for how many it waited for a processor."""
-    words = {thread: pathlib.Path(f"/proc/{pid}/task/{thread}/schedstat").read_text().split() for thread in os.listdir(f"/proc/{pid}/task")}
-    return {thread: (int(ran) / 1e9, int(waited) / 1e9) for thread, (ran, waited, _) in words.items()}
-
-
-def processor_time(pid: int) -> float:
-    """The seconds that all threads of a process have run."""
-    return sum(ran for ran, _ in threads_of(pid).values())
 
 
 def put_on(pid: int, processors: set[int]) -> None:

@@ -1,5 +1,5 @@
 -- What is told of one client more.
-use Rattle.std.proofs.Common.{◌≡◌, ℕ, List, [], ◌∷◌, ◌++◌, Option, Result, refl, sym, subst}
+use Rattle.std.proofs.Common.{ℕ, List, [], ◌∷◌, ◌++◌, Option, Result, refl, subst}
 use Rattle.std.specs.Prelude.{⊤}
 use Rattle.far_stream.specs.declared.fault.StreamFault.{StreamFault}
 use Rattle.far_server.specs.Told.{End, Tells, TellsEnd, TellsEnds}

@@ -8,7 +8,7 @@ use thiserror::Error;
 #[derive(Clone, Copy, Drop, Debug, PartialEq, Eq, Error)]
 #[error("{}", self.name())]
 pub enum ServerFault {
-    /// The port can't be listened on, or clients can't be accepted any more.
+    /// The port can't be listened on, or the listener is broken.
     Net,
     /// The input failed.
     Read,

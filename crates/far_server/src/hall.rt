@@ -1,5 +1,6 @@
 //! The clients that are there.
 
+use listener::Bell;
 use std::alloc::{AllocError, Global};
 use std::net::{Shutdown, TcpStream};
 use std::sync::{Mutex, Wait};
@@ -37,11 +38,12 @@ pub(crate) enum Admission {
 #[derive(Drop)]
 pub(crate) struct Hall {
     room: Mutex<Room>,
+    bell: Bell,
 }
 
 impl Hall {
-    /// A hall that is open and empty. All the memory that it needs is taken here.
-    pub fn new(alloc: Global) -> Result<Hall, AllocError> {
+    /// A hall that is open and empty, and the bell of its listener. All the memory that it needs is taken here.
+    pub fn new(alloc: Global, bell: Bell) -> Result<Hall, AllocError> {
         let guests = Vec::with_capacity(alloc, CLIENT_LIMIT)?;
         Ok(Hall {
             room: Mutex::new(Room {
@@ -49,7 +51,13 @@ impl Hall {
                 came: 0,
                 guests,
             }),
+            bell,
         })
+    }
+
+    /// What ends the wait for the next client.
+    pub fn bell(&self) -> &Bell {
+        &self.bell
     }
 
     /// Lets a client in, if there is room. By its stream it can be cut off.
@@ -78,12 +86,13 @@ impl Hall {
         room.guests.retain(|guest| guest.client != client);
     }
 
-    /// Closes the hall for good: who is there is cut off.
+    /// Closes the hall for good: no client is accepted any more, and who is there is cut off.
     pub fn close<R: Wait>(&self, rt: &R) {
         let mut room = self.room.lock(rt);
         room.is_closed = true;
         for guest in &room.guests {
             let _ = guest.stream.shutdown(Shutdown::Both);
         }
+        self.bell.ring();
     }
 }

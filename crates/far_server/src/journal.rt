@@ -28,6 +28,9 @@ pub trait Journal {
 
     /// A client was refused.
     fn refused(&self, _why: Refusal) {}
+
+    /// No client can be accepted for now, for this reason. Told once until one is accepted.
+    fn short(&self, _error: &Error) {}
 }
 
 /// No journal: nothing is written down.

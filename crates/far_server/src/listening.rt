@@ -10,10 +10,10 @@ use crate::fault::ServerFault;
 use crate::journal::Journal;
 use crate::threads::Server;
 use crossbeam_channel::Receiver;
-use listener::{announce, bind};
+use listener::{Bell, announce, bind};
 use std::alloc::Global;
-use std::io::{Read, Write};
-use std::net::{Net, TcpListener, TcpStream};
+use std::io::{self, Read, Write};
+use std::net::{Net, SocketAddr, TcpListener, TcpStream};
 use std::sync::Wait;
 use std::thread::Threads;
 use streams::{ReadFault, WriteFault};
@@ -25,6 +25,16 @@ fn announce_asked<W: Write>(asked: u16, bound: u16, writer: &mut W) -> Result<()
 {
     let port = if asked == 0 { bound } else { asked };
     announce(port, writer)
+}
+
+/// A listener on this port, its address, and its bell.
+fn bind_with_bell<R: Net<Listener = TcpListener, Stream = TcpStream>>(
+    rt: &R,
+    port: u16,
+) -> io::Result<(TcpListener, SocketAddr, Bell)> {
+    let (listener, address) = bind(rt, port)?;
+    let bell = Bell::of(&listener)?;
+    Ok((listener, address, bell))
 }
 
 /// Says why clients were given up, as they end, until the last has gone.
@@ -42,7 +52,10 @@ fn tell_all<R: Wait, E: Write>(rt: &R, ends: &Receiver<ClientEnd, Global>, error
 
 /// Listens on this port of 127.0.0.1, or on any free one where it is 0, says which on the writer, and serves clients until the
 /// input ends: [`CLIENT_LIMIT`](crate::CLIENT_LIMIT) at the same time, each on a thread of its own and from a store of its own
-/// that is empty at first. One more finds its socket closed. Who is served when the input ends is cut off.
+/// that is empty at first. One more finds its socket closed. Who is served when the input ends is cut off. A client that can't be
+/// accepted for now, for want of descriptors or memory, waits in the system's queue, and
+/// [`accept_or_rest`](listener::accept_or_rest) says when it is tried again. Only a listener that is broken ends the server before
+/// its input does.
 ///
 /// Why a client was given up is told on `errors`, in the order in which they end, by its number: clients are numbered from 1
 /// as they are let in. What a client sends and is sent is `serve_store`'s; of a socket's bytes no clause can speak.
@@ -69,14 +82,14 @@ where
     ensures announced { AnnouncesAs port (W.contents writer.old) (W.contents writer.new) result }
     ensures told { Tells (E.contents errors.old) (E.contents errors.new) }
 {
-    let (listener, address) = match bind(rt, port) {
+    let (listener, address, bell) = match bind_with_bell(rt, port) {
         Ok(bound) => bound,
         Err(error) => {
             journal.refused_port(port, &error);
             return Err(ServerFault::Net);
         }
     };
-    let Ok(server) = Server::start(*rt, alloc, listener, address, journal) else {
+    let Ok(server) = Server::start(*rt, alloc, listener, bell, journal) else {
         return Err(ServerFault::NoMemory);
     };
     let Ok(watcher) = server.end_with(*rt, input) else {

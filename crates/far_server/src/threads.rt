@@ -6,10 +6,10 @@ use crate::ended::ClientEnd;
 use crate::hall::{Admission, Hall};
 use crate::journal::{Journal, Refusal};
 use crossbeam_channel::{Receiver, Sender, bounded};
-use listener::accept;
+use listener::{Bell, accept_or_rest};
 use std::alloc::{AllocError, Global};
-use std::io::Read;
-use std::net::{Net, SocketAddr, TcpListener, TcpStream};
+use std::io::{Error, Read};
+use std::net::{TcpListener, TcpStream};
 use std::sync::{Arc, Wait};
 use std::thread::{self, JoinHandle, Threads};
 use streams::ReadFault;
@@ -39,22 +39,11 @@ fn drain<I: Read>(input: &mut I) -> Result<(), ReadFault>
     Err(ReadFault)
 }
 
-/// Closes the hall. A connection of its own wakes whoever waits for the next client.
-fn close<R: Net + Wait>(rt: &R, hall: &Hall, address: SocketAddr) {
-    hall.close(rt);
-    drop(TcpStream::connect(rt, address));
-}
-
 /// Waits for the end of the input, and closes the hall.
-fn watch<R: Net + Wait, I: Read + Drop>(
-    rt: &R,
-    hall: &Hall,
-    address: SocketAddr,
-    input: I,
-) -> Result<(), ReadFault> {
+fn watch<R: Wait, I: Read + Drop>(rt: &R, hall: &Hall, input: I) -> Result<(), ReadFault> {
     let mut input = input;
     let outcome = drain(&mut input);
-    close(rt, hall, address);
+    hall.close(rt);
     outcome
 }
 
@@ -66,6 +55,12 @@ struct Tools<'a, R: Wait, J: Journal> {
     hall: &'a Hall,
     ends: &'a Sender<ClientEnd, Global>,
     journal: &'a J,
+}
+
+impl<'a, R: Wait, J: Journal> listener::Journal for Tools<'a, R, J> {
+    fn short(&self, error: &Error) {
+        self.journal.short(error);
+    }
 }
 
 /// Serves a client, and hands on how that ended, unless it was cut off by the end of the input.
@@ -86,8 +81,11 @@ fn next_client<R: Wait, J: Journal>(
     listener: &TcpListener,
 ) -> Result<Option<(u64, TcpStream)>, NetFault> {
     for _ in tools.rt.forever() {
-        let Ok((stream, shown)) = accept(tools.rt, listener) else {
+        let Ok(accepted) = accept_or_rest(tools.rt, listener, tools.hall.bell(), tools) else {
             return Err(NetFault);
+        };
+        let Some((stream, shown)) = accepted else {
+            return Ok(None);
         };
         match tools.hall.admit(tools.rt, shown) {
             Admission::Admitted(client) => {
@@ -102,7 +100,7 @@ fn next_client<R: Wait, J: Journal>(
 }
 
 /// Serves each client that comes on a thread of its own, until the input has ended and all have gone. One for which no thread
-/// can be made finds its socket closed. Where no more can be accepted, those that are there are cut off.
+/// can be made finds its socket closed. If the listener is broken, those that are there are cut off.
 fn serve_clients<R: Threads + Wait + Sync, J: Journal + Sync>(
     tools: &Tools<R, J>,
     listener: &TcpListener,
@@ -155,37 +153,31 @@ fn host<R: Threads + Wait + Sync + Copy, J: Journal + Sync + Copy>(
 #[derive(Drop)]
 pub(crate) struct Server {
     hall: Arc<Hall>,
-    address: SocketAddr,
     host: JoinHandle<Result<(), NetFault>>,
     /// How clients ended, one after the other, until the last has gone.
     pub ends: Receiver<ClientEnd, Global>,
 }
 
 impl Server {
-    /// Starts to serve all clients that come to this listener.
+    /// Starts to serve all clients that come to this listener, until its bell rings.
     pub fn start<R, J>(
         rt: R,
         alloc: Global,
         listener: TcpListener,
-        address: SocketAddr,
+        bell: Bell,
         journal: J,
     ) -> Result<Server, AllocError>
     where
         R: Threads + Wait + Sync + Copy + Send + 'static,
         J: Journal + Copy + Sync + Send + 'static,
     {
-        let hall = Arc::new(alloc, Hall::new(alloc)?)?;
+        let hall = Arc::new(alloc, Hall::new(alloc, bell)?)?;
         let theirs = Arc::try_clone(&hall)?;
         let (sender, ends) = bounded(alloc, UNTOLD_LIMIT)?;
         let host = thread::spawn(&rt, move || {
             host(rt, alloc, theirs, listener, sender, journal)
         })?;
-        Ok(Server {
-            hall,
-            address,
-            host,
-            ends,
-        })
+        Ok(Server { hall, host, ends })
     }
 
     /// Starts to wait for the end of the input, which ends the server.
@@ -195,17 +187,16 @@ impl Server {
         input: I,
     ) -> Result<JoinHandle<Result<(), ReadFault>>, AllocError>
     where
-        R: Net<Listener = TcpListener, Stream = TcpStream> + Threads + Wait + Copy + Send + 'static,
+        R: Threads + Wait + Copy + Send + 'static,
         I: Read + Send + Drop + 'static,
     {
         let theirs = Arc::try_clone(&self.hall)?;
-        let address = self.address;
-        Ok(thread::spawn(&rt, move || { watch(&rt, &theirs, address, input) })?)
+        Ok(thread::spawn(&rt, move || { watch(&rt, &theirs, input) })?)
     }
 
     /// Cuts off all clients, and waits for the threads that served them.
-    pub fn stop<R: Net + Threads + Wait>(self, rt: &R) {
-        close(rt, &self.hall, self.address);
+    pub fn stop<R: Threads + Wait>(self, rt: &R) {
+        self.hall.close(rt);
         let _ = self.join(rt);
     }
 

@@ -3,8 +3,13 @@
 
 mod accepting;
 mod announcing;
+mod bell;
 mod binding;
+mod journal;
+mod patience;
 
-pub use accepting::accept;
+pub use accepting::{accept, accept_or_rest};
 pub use announcing::announce;
+pub use bell::Bell;
 pub use binding::bind;
+pub use journal::Journal;
