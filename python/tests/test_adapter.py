@@ -200,6 +200,11 @@ class Sessions(unittest.TestCase):
         found = self.ask("setBreakpoints", source=SOURCE, breakpoints=[{"line": 999}, {"line": 14}])["breakpoints"]
         self.assertEqual((found[0]["verified"], found[1]["verified"], found[1]["line"]), (False, True, 15))
         self.assertIn("no code is at or after line 999", found[0]["message"])
+        for condition, why in (("i == (", "the expression ends too early"), ("i +* ", "the expression ends too early"), ("(struct nope *)i", "the program has no type struct nope")):
+            found = self.ask("setFunctionBreakpoints", breakpoints=[{"name": "find", "condition": condition}, {"name": "find", "condition": "nothing + 1 / 0"}])["breakpoints"]
+            self.assertEqual(found[0], {"verified": False, "message": f"the condition `{condition}` can't be read: {why}"})
+            self.assertTrue(found[1]["verified"], "a name may mean something later")
+        self.ask("setFunctionBreakpoints", breakpoints=[])
         self.assertIn("there is no source file", self.ask("setBreakpoints", source={"path": "/none.c"}, breakpoints=[{"line": 1}])["breakpoints"][0]["message"])
         self.ask("configurationDone")
         frames = self.stopped(1, "breakpoint")

@@ -330,7 +330,7 @@ class Adapter:
             try:
                 made = self._engine.set_breakpoint(program, text, program.place(text), condition=str(wanted.get("condition") or ""))
                 return {"id": made.number, "verified": True, **line_of(made.place)}
-            except (NoPlace, Impossible) as wrong:
+            except (NoPlace, Impossible, Invalid) as wrong:
                 why = str(wrong)
         return {"verified": False, "message": why}
 

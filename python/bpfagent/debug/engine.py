@@ -13,7 +13,7 @@ from typing import Callable, Generator, Optional, Sequence
 from ..agent import PIECE, STACK, Agent, patiently, pauses
 from ..limits import LONGEST, MACHINES, OBJECTS, SLOTS, STACK_SIZE
 from ..replies import PAUSED, RUNNING, Refused, Registers
-from .expressions import Invalid, Value, evaluate, integer
+from .expressions import Invalid, Value, evaluate, integer, parse
 from .frames import CallSite, Frame, FrameContext, Unreadable, Unwinder, depth_of
 from .lines import SourceLine
 from .program import NoPlace, Place, Program
@@ -257,7 +257,13 @@ class Engine:
         return self._numbers
 
     def set_breakpoint(self, program: Program, text: str, place: Place, is_temporary: bool = False, condition: str = "") -> Breakpoint:
-        """Sets a breakpoint on all machines that run a program. It stops one if the condition isn't 0, or can't be told."""
+        """Sets a breakpoint on all machines that run a program. It stops one if the condition isn't 0, or can't be told.
+        Raises `Invalid` if the condition can't be parsed."""
+        if condition:
+            try:
+                parse(condition, program.symbols.named_types if program.symbols else {})
+            except Invalid as why:
+                raise Invalid(f"the condition `{condition}` can't be read: {why}") from None
         made = Breakpoint(self._number(), text, program, place, is_temporary, condition)
         done: list[int] = []
         for machine in self.machines.values():
