@@ -12,8 +12,8 @@ import unittest
 import bpfagent
 from bpfagent import Service, patiently
 from bpfagent.debug.main import main
-from support import DEBUGGER, ENDLESS, PROGRAM, ROOT, SECONDS, SIGNALS, TABLE
-from support import Pseudoterminal, changes, endless_service, needs_debugger, program_of, usage_of, with_signals
+from support import DEBUGGER, ENDLESS, PROGRAM, ROOT, SECONDS, SIGNALS, SOON, TABLE
+from support import Pseudoterminal, changes, endless_service, hang, needs_debugger, program_of, usage_of, with_signals
 
 DEEP = """#include "bpfagent.h"
 CALLED uint64_t sum(uint64_t n)
@@ -244,6 +244,43 @@ class Sessions(unittest.TestCase):
                         self.assertEqual(terminal.process.wait(SECONDS), 128 + number, commands)
                     self.assertEqual(other.regs(1).state, "run", commands)
                     self.assertEqual([other.tell(f"unbreak 1 {slot}") for slot in range(40)], ["noslot"] * 40, commands)
+
+    def test_hung(self) -> None:
+        """The debugger leaves a service that has hung, and says what may stay there. One that it started ends with it."""
+        with_signals(self)
+        wanted = "bpfagent-debug: the service doesn't answer, and may keep watchpoint 2, breakpoint 1, the pause of machine 1"
+        path = self.source(ENDLESS)
+        for is_signal, status in ((False, 1), (True, 143)):
+            with endless_service(pathlib.Path(path)) as service:
+                with self.debugger("--connect", f"127.0.0.1:{service.port}", path) as terminal:
+                    terminal.ask("pause")
+                    terminal.ask("break more")
+                    terminal.ask("watch *(uint64_t *)0x100000000")
+                    terminal.ask("continue")
+                    hang(service)
+                    start = time.monotonic()
+                    if is_signal:
+                        terminal.press("info registers\n")
+                        time.sleep(0.5)
+                        terminal.process.send_signal(signal.SIGTERM)
+                    else:
+                        terminal.press("quit\n")
+                    shown = terminal._until(lambda got: False)
+                    self.assertEqual(terminal.process.wait(SECONDS), status)
+                    self.assertLess(time.monotonic() - start, SOON)
+                    self.assertIn(wanted, shown.splitlines())
+                    service._process.send_signal(signal.SIGCONT)
+        note = pathlib.Path(self.folder.name) / "number"
+        program = program_of(note.with_name("starts"), f"import os\nopen({str(note)!r}, 'w').write(str(os.getpid()))\nos.execv({PROGRAM!r}, [{PROGRAM!r}, *sys.argv[1:]])")
+        ways: list[list[str]] = [[], ["--serve"]]
+        for options in ways:
+            with self.debugger("--bpfagent", str(program), *options, path, "+8") as terminal:
+                os.kill(int(note.read_text()), signal.SIGSTOP)
+                start = time.monotonic()
+                self.assertEqual(terminal.close(), 0)
+                self.assertLess(time.monotonic() - start, SOON)
+                with self.assertRaises(ProcessLookupError):
+                    os.kill(int(note.read_text()), 0)
 
     def test_recognition(self) -> None:
         """Machines of two programs, one with other code of the same shape, and one that isn't known."""
