@@ -9,9 +9,10 @@ from __future__ import annotations
 
 import os
 import pathlib
+import shutil
 import subprocess
 import sys
-from typing import Callable
+from typing import Callable, Iterable
 
 from bars import draw
 from rows import Row, joined, read_rows, store_figures, words
@@ -109,6 +110,16 @@ def stores(bench: Bench) -> None:
 
 
 PARTS: list[Callable[[Bench], None]] = [steps, library, lines, assembly, shared, far, service, turns, stores]
+# The parts without a side in C.
+WITHOUT_C = {"assembly", "turns", "stores"}
+
+
+def missing_compiler(parts: Iterable[str]) -> str:
+    """What is missing for these parts, and how to get it; empty if nothing is."""
+    compiler = COMPILER[0]
+    if WITHOUT_C.issuperset(parts) or shutil.which(compiler):
+        return ""
+    return f"there is no C compiler {compiler}: apt-get install gcc, or set CC to the path of one"
 
 
 def main() -> None:
@@ -118,6 +129,8 @@ def main() -> None:
     if unknown:
         print(f"bench: no part is called {', '.join(unknown)}; there are {', '.join(parts)}", file=sys.stderr)
         sys.exit(2)
+    if why := missing_compiler(named or parts):
+        sys.exit(f"bench: {why}")
     MADE.mkdir(parents=True, exist_ok=True)
     bench = Bench(rt, program)
     try:

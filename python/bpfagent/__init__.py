@@ -26,6 +26,7 @@ A refusal says why. The command changed nothing, and the conversation goes on:
 `Agent.connect(host, port)` talks to a service in the same way, and `Service` starts one. README.md of this package shows two
 clients of one service. An agent isn't for several threads at once: give each its own connection.
 """
+from . import interrupt as _interrupt  # noqa: F401, I001 - it is heard during the other imports
 from .agent import ARGUMENTS, PIECE, REPLY, STACK, Agent, address, patiently
 from .image import Image, Unloadable, load
 from .replies import Broken, Hit, Move, NotExited, Paused, Ran, Refused, Registers, Run, Step, Stopped, Waiting

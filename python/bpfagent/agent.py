@@ -8,6 +8,7 @@ from __future__ import annotations
 import contextlib
 import os
 import re
+import socket
 import subprocess
 import time
 from collections import deque
@@ -30,6 +31,8 @@ AHEAD = 1 << 15
 AT_ONCE = 256
 # How long the end of a started program may take, and that of one that was killed, in seconds.
 PATIENCE, GRACE = 10.0, 0.5
+# How often `idle` is called while a reply is awaited, in seconds.
+TURN = 0.1
 # What is asked for again is asked after the first pause, and each further pause is twice as long, up to the last, in seconds.
 FIRST_PAUSE, LAST_PAUSE = 0.001, 0.05
 
@@ -88,6 +91,12 @@ class Agent:
         self._fault: Optional[str] = None
         self._is_alone = False
         self.timeout: Optional[float] = timeout
+        # How long the end of a started program may take, in seconds; and whether the other side has ended the conversation.
+        self.patience: float = PATIENCE
+        self.has_ended: bool = False
+        # Called again and again while a reply is awaited. It may call `hurry`.
+        self.idle: Optional[Callable[[], None]] = None
+        self._deadline: Optional[float] = None
 
     @classmethod
     def run(cls: type[A], program: PathLike, *arguments: str, timeout: Optional[float] = None) -> A:
@@ -102,7 +111,7 @@ class Agent:
             with killing(process):
                 pipes.drain(time.monotonic() + GRACE)
                 pipes.close()
-                status = wait_or_end(process, PATIENCE)
+                status = wait_or_end(process, agent.patience)
             if status is None:
                 raise Broken("the program didn't end, and was killed")
             if status:
@@ -158,28 +167,52 @@ class Agent:
             rest = rest[count:]
         return answers
 
+    def hurry(self, seconds: float) -> None:
+        """All replies together may take so many seconds from now on, that of which is awaited included."""
+        last = time.monotonic() + seconds
+        self._deadline = last if self._deadline is None else min(last, self._deadline)
+
+    def _until(self, since: float) -> Optional[float]:
+        """The deadline of replies that are awaited since this time."""
+        ends = [end for end in (self._deadline, None if self.timeout is None else since + self.timeout) if end is not None]
+        return min(ends, default=None)
+
     def _exchange(self, content: bytes, count: int) -> list[str]:
         """Sends these bytes, and reads so many replies."""
-        until = None if self.timeout is None else time.monotonic() + self.timeout
+        since = time.monotonic()
         try:
-            self._stream.send(content, until)
-            return [self._reply(until) for _ in range(count)]
+            self._stream.send(content, self._until(since))
+            return [self._reply(since) for _ in range(count)]
         except TimeoutError:
-            raise self._broken(f"no reply came within {self.timeout:g} seconds") from None
+            raise self._broken("no reply came in time" if self._deadline is not None else f"no reply came within {self.timeout:g} seconds") from None
         except OSError as error:
+            self.has_ended = True
             raise self._broken(f"the stream failed: {error.strerror or error}") from None
         except (KeyboardInterrupt, SystemExit):
             # What is still to come would be taken for the reply to a later line.
             self._broken("it was interrupted while a reply was awaited")
             raise
 
-    def _reply(self, until: Optional[float]) -> str:
-        """The next line, which ends within the deadline."""
+    def _piece(self, since: float) -> bytes:
+        """The next bytes. As long as none come `idle` has its turns, and may bring the deadline forward."""
+        while self.idle:
+            until, turn = self._until(since), time.monotonic() + TURN
+            if until is not None and until <= turn:
+                break
+            try:
+                return self._stream.receive(turn)
+            except (TimeoutError, socket.timeout):
+                self.idle()
+        return self._stream.receive(self._until(since))
+
+    def _reply(self, since: float) -> str:
+        """The next line of those that are awaited since this time."""
         while not self._lines:
             if len(self._rest) >= REPLY:
                 raise self._broken("a reply is too long")
-            piece = self._stream.receive(until)
+            piece = self._piece(since)
             if not piece:
+                self.has_ended = True
                 raise self._broken("the agent ended the conversation")
             *lines, self._rest = (self._rest + piece).split(b"\n")
             self._lines.extend(lines)

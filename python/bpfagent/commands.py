@@ -6,7 +6,7 @@ import os
 import sys
 from typing import Callable, Optional, Sequence
 
-from . import __version__
+from . import __version__, interrupt
 
 
 def guarded(name: str, call: Callable[[], None], *faults: type[BaseException]) -> None:
@@ -20,7 +20,10 @@ def guarded(name: str, call: Callable[[], None], *faults: type[BaseException]) -
     for stream in (sys.stdout, sys.stderr):
         if hasattr(stream, "reconfigure"):
             stream.reconfigure(errors="backslashreplace")
+    is_kept = interrupt.is_kept()
     try:
+        if is_kept:
+            interrupt.let()
         call()
         if sys.stdout:
             sys.stdout.flush()
@@ -28,9 +31,13 @@ def guarded(name: str, call: Callable[[], None], *faults: type[BaseException]) -
         os.dup2(os.open(os.devnull, os.O_WRONLY), sys.stdout.fileno())
         sys.exit(1)
     except KeyboardInterrupt:
-        sys.exit(130)
+        sys.exit(interrupt.INTERRUPTED)
     except known as why:
         sys.exit(f"{name}: {fault_text(why)}")
+    finally:
+        # Nothing is left to be done, and Python's own end would show a traceback.
+        if is_kept:
+            interrupt.keep()
 
 
 def open_standard_streams() -> None:

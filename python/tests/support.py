@@ -30,6 +30,8 @@ PROGRAM = os.environ.get("BPFAGENT", "")
 DEBUGGER = [sys.executable, "-m", "bpfagent.debug.main"]
 # How long an answer may take, also on a busy machine.
 SECONDS = 180.0
+# Within this time the debugger leaves, on a busy machine too. Otherwise a reply may take 30 s, and the end of a started program 10 s.
+SOON = 8.0
 PROMPT = "(bpfagent) "
 # What the debugger shows when an interrupt gives up the line that was typed.
 GIVEN_UP = "^C (quit leaves the debugger)"
@@ -115,6 +117,12 @@ def endless_service(source: pathlib.Path) -> Iterator[Service]:
         service.setup.ship(code.read_bytes(), 2**63, service.setup.make(8) << 32)
         service.listen()
         yield service
+
+
+def hang(service: Service) -> None:
+    """Stops a service: none of its threads answers when this returns."""
+    service._process.send_signal(signal.SIGSTOP)
+    os.waitpid(service._process.pid, os.WUNTRACED)
 
 
 def take_terminal() -> None:

@@ -14,7 +14,7 @@ from typing import Any
 
 from bpfagent import patiently
 from bpfagent.agent import pauses
-from support import DEBUG, DEBUGGER, ENDLESS, PROGRAM, SECONDS, SIGNALS, TABLE, changes, editor_module, endless_service, needs_debugger, program_of, with_signals
+from support import DEBUG, DEBUGGER, ENDLESS, PROGRAM, SECONDS, SIGNALS, SOON, TABLE, changes, editor_module, endless_service, hang, needs_debugger, program_of, with_signals
 
 Body = dict[str, Any]
 SOURCE = {"path": str(DEBUG / "table.c")}
@@ -200,6 +200,11 @@ class Sessions(unittest.TestCase):
         found = self.ask("setBreakpoints", source=SOURCE, breakpoints=[{"line": 999}, {"line": 14}])["breakpoints"]
         self.assertEqual((found[0]["verified"], found[1]["verified"], found[1]["line"]), (False, True, 15))
         self.assertIn("no code is at or after line 999", found[0]["message"])
+        for condition, why in (("i == (", "the expression ends too early"), ("i +* ", "the expression ends too early"), ("(struct nope *)i", "the program has no type struct nope")):
+            found = self.ask("setFunctionBreakpoints", breakpoints=[{"name": "find", "condition": condition}, {"name": "find", "condition": "nothing + 1 / 0"}])["breakpoints"]
+            self.assertEqual(found[0], {"verified": False, "message": f"the condition `{condition}` can't be read: {why}"})
+            self.assertTrue(found[1]["verified"], "a name may mean something later")
+        self.ask("setFunctionBreakpoints", breakpoints=[])
         self.assertIn("there is no source file", self.ask("setBreakpoints", source={"path": "/none.c"}, breakpoints=[{"line": 1}])["breakpoints"][0]["message"])
         self.ask("configurationDone")
         frames = self.stopped(1, "breakpoint")
@@ -295,6 +300,28 @@ class Sessions(unittest.TestCase):
             + self.refused("evaluate", expression="*table", frameId=frames[0]["id"]),
         )
         self.ask("disconnect")
+
+    def test_hung(self) -> None:
+        """An editor that disconnects from a service that has hung hears what may stay there, and isn't kept waiting."""
+        path = self.folder / "endless.c"
+        path.write_text(ENDLESS)
+        with endless_service(path) as service:
+            self.ask("initialize")
+            self.ask("attach", port=service.port, program=str(path))
+            self.ask("setFunctionBreakpoints", breakpoints=[{"name": "more"}])
+            self.ask("configurationDone")
+            self.editor.wait("stopped")
+            hang(service)
+            # By then the adapter awaits a reply: it looks for new machines.
+            time.sleep(1.5)
+            start = time.monotonic()
+            self.ask("disconnect")
+            self.assertLess(time.monotonic() - start, SOON)
+            self.assertEqual(self.editor.process.wait(SECONDS), 0)
+            self.assertLess(time.monotonic() - start, SOON)
+            told = [event["body"]["output"] for event in self.editor.events if event["event"] == "output"]
+            self.assertEqual(told[-1], "the service doesn't answer, and may keep breakpoint 1, the pause of machine 1\n")
+            service._process.send_signal(signal.SIGCONT)
 
     def test_garbage(self) -> None:
         """What is no message ends the adapter, which says why."""

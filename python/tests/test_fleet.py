@@ -126,6 +126,22 @@ class FleetTest(unittest.TestCase):
             wanted = f"{name}.py: skipped, for it needs Debian's python3-distributed, python3-redis\n"
             self.assertEqual((done.returncode, done.stdout), (0, wanted), f"{name}.py without packages")
 
+    def test_modules(self) -> None:
+        """Without a module the import says which package has it."""
+        for name in ("distributed", "redis"):
+            text = f"import sys\nsys.modules[{name!r}] = None\ntry:\n    import bpfagent.fleet\nexcept ImportError as why:\n    print(type(why).__name__, why.name, why)"
+            done = subprocess.run([sys.executable, "-c", text], stdout=subprocess.PIPE, text=True, timeout=SECONDS)
+            wanted = f"ImportError {name} bpfagent.fleet needs {name}: apt-get install python3-{name}, or pip install 'bpfagent[fleet]'\n"
+            self.assertEqual((done.returncode, done.stdout), (0, wanted))
+
+    def test_contents(self) -> None:
+        """An object has bytes alone: Redis isn't asked to keep anything else."""
+        store = Store(Setting(("redis://127.0.0.1:1",), False, PROGRAM, 0, 1))
+        put: Callable[[str, Any], None] = store.put
+        for content, kind in (("abc", "str"), (5, "int"), (None, "NoneType"), ([1], "list")):
+            self.fails(lambda: put("x", content), TypeError, f"an object has bytes, and not a {kind}: encode it")
+        self.fails(lambda: put("x", bytearray()), ValueError, "an object has 1 to 65536 bytes, and not 0")
+
     def test_options(self) -> None:
         """A number out of its range gets the usage, before anything is started."""
         wrong = {

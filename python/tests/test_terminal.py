@@ -12,8 +12,8 @@ import unittest
 import bpfagent
 from bpfagent import Service, patiently
 from bpfagent.debug.main import main
-from support import DEBUGGER, ENDLESS, PROGRAM, ROOT, SECONDS, SIGNALS, TABLE
-from support import Pseudoterminal, changes, endless_service, needs_debugger, program_of, usage_of, with_signals
+from support import DEBUGGER, ENDLESS, PROGRAM, ROOT, SECONDS, SIGNALS, SOON, TABLE
+from support import Pseudoterminal, changes, endless_service, hang, needs_debugger, program_of, usage_of, with_signals
 
 DEEP = """#include "bpfagent.h"
 CALLED uint64_t sum(uint64_t n)
@@ -77,6 +77,9 @@ VALUES = {
     "all->minus / 2": "-3",
     "$r10": str(0xFFFFFFFF00001000),
     "copy.name": '"name"',
+    "(void *)all": "(void *) 0x100000000 <object 1>",
+    "(byte) * 2": "220",
+    "(byte * 2)": "220",
 }
 VALUELESS = {
     "nothing": "there is no variable nothing in program",
@@ -87,6 +90,14 @@ VALUELESS = {
     "*(uint64_t *)0x900000000": "there is no object 9, or it ends before offset 8",
     "*(uint64_t *)8": "0x8 is in no object",
     "1 / 0": "division by zero",
+    "(struct nope *)5": "the program has no type struct nope",
+    "*(nope_t *)all": "the program has no type nope_t",
+    "(enum nope)1": "the program has no type enum nope",
+    "(struct)1": "the program has no type struct",
+    "(struct all * 5": "`)` is missing",
+    "*(void *)all": "void has no size",
+    "(void)1": "a cast to void isn't possible: cast a pointer",
+    "all->": "the name of a member is missing",
     "all ; 1": "`; 1` is no expression",
     "$r11": "$r11 isn't shown by the protocol here: there are $r0 to $r10, $slot and $fuel",
 }
@@ -233,6 +244,43 @@ class Sessions(unittest.TestCase):
                         self.assertEqual(terminal.process.wait(SECONDS), 128 + number, commands)
                     self.assertEqual(other.regs(1).state, "run", commands)
                     self.assertEqual([other.tell(f"unbreak 1 {slot}") for slot in range(40)], ["noslot"] * 40, commands)
+
+    def test_hung(self) -> None:
+        """The debugger leaves a service that has hung, and says what may stay there. One that it started ends with it."""
+        with_signals(self)
+        wanted = "bpfagent-debug: the service doesn't answer, and may keep watchpoint 2, breakpoint 1, the pause of machine 1"
+        path = self.source(ENDLESS)
+        for is_signal, status in ((False, 1), (True, 143)):
+            with endless_service(pathlib.Path(path)) as service:
+                with self.debugger("--connect", f"127.0.0.1:{service.port}", path) as terminal:
+                    terminal.ask("pause")
+                    terminal.ask("break more")
+                    terminal.ask("watch *(uint64_t *)0x100000000")
+                    terminal.ask("continue")
+                    hang(service)
+                    start = time.monotonic()
+                    if is_signal:
+                        terminal.press("info registers\n")
+                        time.sleep(0.5)
+                        terminal.process.send_signal(signal.SIGTERM)
+                    else:
+                        terminal.press("quit\n")
+                    shown = terminal._until(lambda got: False)
+                    self.assertEqual(terminal.process.wait(SECONDS), status)
+                    self.assertLess(time.monotonic() - start, SOON)
+                    self.assertIn(wanted, shown.splitlines())
+                    service._process.send_signal(signal.SIGCONT)
+        note = pathlib.Path(self.folder.name) / "number"
+        program = program_of(note.with_name("starts"), f"import os\nopen({str(note)!r}, 'w').write(str(os.getpid()))\nos.execv({PROGRAM!r}, [{PROGRAM!r}, *sys.argv[1:]])")
+        ways: list[list[str]] = [[], ["--serve"]]
+        for options in ways:
+            with self.debugger("--bpfagent", str(program), *options, path, "+8") as terminal:
+                os.kill(int(note.read_text()), signal.SIGSTOP)
+                start = time.monotonic()
+                self.assertEqual(terminal.close(), 0)
+                self.assertLess(time.monotonic() - start, SOON)
+                with self.assertRaises(ProcessLookupError):
+                    os.kill(int(note.read_text()), 0)
 
     def test_recognition(self) -> None:
         """Machines of two programs, one with other code of the same shape, and one that isn't known."""
@@ -408,6 +456,15 @@ class Sessions(unittest.TestCase):
                 "jump 3": "jump: no such command; help lists them",
                 "x/q": "x takes a form and an address",
                 "break": "break takes FILE:LINE, LINE, FUNCTION or *SLOT",
+                "break 23 if": "a condition is missing behind `if`",
+                "break 23 if (": "the condition `(` can't be read: the expression ends too early",
+                "break 23 if i == ": "the condition `i ==` can't be read: the expression ends too early",
+                "break 23 if i = 1": "the condition `i = 1` can't be read: `= 1` is no expression",
+                "break 23 if table->": "the condition `table->` can't be read: the name of a member is missing",
+                "break 23 if table[1": "the condition `table[1` can't be read: `]` is missing",
+                "break 23 if (struct nope *)5": "the condition `(struct nope *)5` can't be read: the program has no type struct nope",
+                "break 23 if " + "(" * 900: "the condition `((((",
+                "info breakpoints": "no breakpoints",
                 "step x": "a repeated step takes a number",
                 "step \u00b2": "a repeated step takes a number",
                 "print": "there is no expression",

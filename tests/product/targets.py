@@ -72,6 +72,14 @@ def show_c(rt: str) -> str | None:
     return None
 
 
+def show_no_compiler() -> None:
+    """Without a C compiler bench says at once which package is missing."""
+    command = [sys.executable, "-B", "bench/run.py", "/none/rt", "/none/bpfagent"]
+    done = subprocess.run(command, cwd=ROOT, env={**os.environ, "CC": "/none/cc"}, stdin=subprocess.DEVNULL, capture_output=True, text=True, timeout=60)
+    wanted = (1, "", "bench: there is no C compiler /none/cc: apt-get install gcc, or set CC to the path of one\n")
+    want_equal((done.returncode, done.stdout, done.stderr), wanted, "what bench says without a C compiler")
+
+
 def show_bench(rt: str) -> str | None:
     """What `make bench` names is there, and compiles."""
     named = re.findall(r'"((?:bench/)?\w+\.(?:py|c))"', (ROOT / "bench/run.py").read_text())
@@ -79,6 +87,7 @@ def show_bench(rt: str) -> str | None:
     want(named and not gone, f"bench/run.py names {gone or named}")
     for path in sorted((ROOT / "bench").glob("*.py")):
         compile(path.read_text(), path.name, "exec")
+    show_no_compiler()
     if not shutil.which("cc"):
         return "skipped what make bench compiles, since there is no C compiler"
     for path in sorted((ROOT / "bench").glob("*.c")):

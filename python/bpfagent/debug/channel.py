@@ -33,10 +33,27 @@ class Channel:
         while rest:
             rest = rest[os.write(self._writes, rest) :]
 
+    def is_leaving(self) -> bool:
+        """Whether the editor has gone, or asks to leave by a message that is still to be received. This doesn't wait."""
+        try:
+            if select.select([self._reads], [], [], 0)[0]:
+                piece = os.read(self._reads, PIECE)
+                if not piece:
+                    return True
+                self._rest += piece
+            message, rest = first_of(self._rest)
+            while message is not None:
+                if message.get("command") in ("disconnect", "terminate"):
+                    return True
+                message, rest = first_of(rest)
+        except NoMessage:
+            pass  # It is told when it is received.
+        return False
+
     def receive(self, seconds: Optional[float]) -> Optional[dict[str, Any]]:
         """The next message; None if none comes within so many seconds."""
         while True:
-            found = self._whole()
+            found, self._rest = first_of(self._rest)
             if found is not None:
                 return found
             if not select.select([self._reads], [], [], seconds)[0]:
@@ -46,26 +63,26 @@ class Channel:
                 raise Ended("the editor has gone")
             self._rest += piece
 
-    def _whole(self) -> Optional[dict[str, Any]]:
-        """The first message, if all of it is there."""
-        head, separator, rest = self._rest.partition(b"\r\n\r\n")
-        if not separator:
-            if len(head) > PIECE:
-                raise NoMessage("this is no message of the Debug Adapter Protocol")
-            return None
-        length = length_of(head)
-        if len(rest) < length:
-            return None
-        self._rest = rest[length:]
-        try:
-            found = json.loads(rest[:length])
-        except ValueError:
-            raise NoMessage("a message is no JSON") from None
-        except RecursionError:
-            raise NoMessage("a message is nested too deeply") from None
-        if not isinstance(found, dict):
-            raise NoMessage("a message is no object")
-        return found
+
+def first_of(content: bytes) -> tuple[Optional[dict[str, Any]], bytes]:
+    """The first message, if all of it is there, and what follows on it."""
+    head, separator, rest = content.partition(b"\r\n\r\n")
+    if not separator:
+        if len(head) > PIECE:
+            raise NoMessage("this is no message of the Debug Adapter Protocol")
+        return None, content
+    length = length_of(head)
+    if len(rest) < length:
+        return None, content
+    try:
+        found = json.loads(rest[:length])
+    except ValueError:
+        raise NoMessage("a message is no JSON") from None
+    except RecursionError:
+        raise NoMessage("a message is nested too deeply") from None
+    if not isinstance(found, dict):
+        raise NoMessage("a message is no object")
+    return found, rest[length:]
 
 
 def length_of(head: bytes) -> int:

@@ -22,7 +22,7 @@ from .frames import Frame
 from .lines import NoDwarf, SourceLine
 from .program import NoPlace, Place
 from .running import Runner
-from .session import MOST_WORKERS, WORKERS, Plan, Session
+from .session import LEAVING, MOST_WORKERS, WORKERS, Plan, Session
 from .types import INTEGER
 from .variables import Tree
 from .views import STOPS
@@ -103,6 +103,8 @@ class Adapter:
         except Broken as why:
             self._event("output", category="stderr", output=f"{why}\n")
             self._event("terminated")
+            self._ending.check()
+            self._part()
         finally:
             self._close()
 
@@ -110,8 +112,22 @@ class Adapter:
         """Ends what is debugged, if something is."""
         session, self._session = self._session, None
         self._begin_anew()
-        if session:
-            session.close()
+        if session and (left := session.close()):
+            # At once: an editor doesn't listen behind the response to its disconnection.
+            with contextlib.suppress(OSError):
+                self._channel.send("event", event="output", body={"category": "stderr", "output": f"{left}\n"})
+
+    def _part(self) -> None:
+        """Answers a disconnection that has come while a reply was awaited."""
+        with contextlib.suppress(Ended):
+            while (message := self._channel.receive(0)) is not None:
+                if message.get("type") == "request" and message.get("command") == "disconnect":
+                    self._answer(message)
+
+    def _look_up(self) -> None:
+        """While a reply is awaited: if the debugger is to end, the agent has little time."""
+        if self._session and (self._ending.has_come or self._channel.is_leaving()):
+            self._engine.agent.hurry(LEAVING)
 
     def _patience(self) -> Optional[float]:
         """How long a request is waited for before machines go on, and new ones are looked for; None if neither can be."""
@@ -200,6 +216,7 @@ class Adapter:
         plan = Plan(given.get("program"), words_of(given, "arguments"), flags=words_of(given, "flags"), port=port, **rest)
         self._stops_on_entry = bool(given.get("stopOnEntry", False))
         self._session = Session(plan)
+        self._engine.agent.idle = self._look_up
 
     def _start(self) -> None:
         """Lets the machines go on, or tells the editor that they stand at their beginning."""
@@ -229,6 +246,7 @@ class Adapter:
     def on_disconnect(self, arguments: Body) -> None:
         """The editor goes."""
         self._is_over = True
+        self._close()
 
     # ---- machines that run
 
@@ -330,7 +348,7 @@ class Adapter:
             try:
                 made = self._engine.set_breakpoint(program, text, program.place(text), condition=str(wanted.get("condition") or ""))
                 return {"id": made.number, "verified": True, **line_of(made.place)}
-            except (NoPlace, Impossible) as wrong:
+            except (NoPlace, Impossible, Invalid) as wrong:
                 why = str(wrong)
         return {"verified": False, "message": why}
 

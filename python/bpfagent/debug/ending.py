@@ -48,6 +48,11 @@ class Ending:
         if self._is_open or len(self._came) > 1:
             self.check()
 
+    @property
+    def has_come(self) -> bool:
+        """Whether a signal has come."""
+        return bool(self._came)
+
     def check(self) -> None:
         """Ends the debugger if a signal has come."""
         if self._came:

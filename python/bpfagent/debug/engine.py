@@ -6,14 +6,15 @@ has stopped.
 """
 from __future__ import annotations
 
+import contextlib
 import time
 from dataclasses import dataclass, field
 from typing import Callable, Generator, Optional, Sequence
 
 from ..agent import PIECE, STACK, Agent, patiently, pauses
 from ..limits import LONGEST, MACHINES, OBJECTS, SLOTS, STACK_SIZE
-from ..replies import PAUSED, RUNNING, Refused, Registers
-from .expressions import Invalid, Value, evaluate, integer
+from ..replies import PAUSED, RUNNING, Broken, Refused, Registers
+from .expressions import Invalid, Value, evaluate, integer, parse
 from .frames import CallSite, Frame, FrameContext, Unreadable, Unwinder, depth_of
 from .lines import SourceLine
 from .program import NoPlace, Place, Program
@@ -24,6 +25,8 @@ from .types import BYTE, INTEGERS, Type
 LOOK = 0.5
 # How long a byte is asked for while the object comes back, or another has its turn on it, in seconds.
 BUSY = 3.0
+# The stops after which a machine doesn't go on.
+ENDS = ("exit", "stopped")
 
 
 class Impossible(Exception):
@@ -257,7 +260,13 @@ class Engine:
         return self._numbers
 
     def set_breakpoint(self, program: Program, text: str, place: Place, is_temporary: bool = False, condition: str = "") -> Breakpoint:
-        """Sets a breakpoint on all machines that run a program. It stops one if the condition isn't 0, or can't be told."""
+        """Sets a breakpoint on all machines that run a program. It stops one if the condition isn't 0, or can't be told.
+        Raises `Invalid` if the condition can't be parsed."""
+        if condition:
+            try:
+                parse(condition, program.symbols.named_types if program.symbols else {})
+            except Invalid as why:
+                raise Invalid(f"the condition `{condition}` can't be read: {why}") from None
         made = Breakpoint(self._number(), text, program, place, is_temporary, condition)
         done: list[int] = []
         for machine in self.machines.values():
@@ -413,16 +422,42 @@ class Engine:
             machine.goal.close()
         machine.goal = machine.early = None
 
-    def leave(self) -> None:
-        """Clears all that was set. In a service, machines that the debugger has paused go on."""
-        for number in list(self.watches):
-            self.delete_watch(number)
-        for number in list(self.breakpoints):
-            self.delete_breakpoint(number)
-        for machine in self.machines.values():
-            self._give_up(machine)
-            if self.is_service and not machine.was_paused and self.registers(machine.number).state == PAUSED:
-                self.agent.resume(machine.number)
+    def leave(self, seconds: float) -> str:
+        """Clears all that was set. In a service, machines that the debugger has paused go on. Says what may stay if the agent doesn't
+        answer within so many seconds; empty if nothing does."""
+        left = [self._named(number) for number in (*self.watches, *self.breakpoints)]
+        left += [f"the pause of machine {machine.number}" for machine in self.machines.values() if self._stands(machine)]
+        self.agent.hurry(seconds)
+        try:
+            for number in (*self.watches, *self.breakpoints):
+                name = self._named(number)
+                if number in self.watches:
+                    self.delete_watch(number)
+                else:
+                    self.delete_breakpoint(number)
+                left.remove(name)
+            for machine in self.machines.values():
+                self._let_go(machine)
+                with contextlib.suppress(ValueError):
+                    left.remove(f"the pause of machine {machine.number}")
+        except Broken:
+            # With the agent all that was set has ended.
+            return f"the service doesn't answer, and may keep {', '.join(left)}" if left and not self.agent.has_ended else ""
+        return ""
+
+    def _named(self, number: int) -> str:
+        """A breakpoint or a watched value, by its number."""
+        return f"{'watchpoint' if number in self.watches else 'breakpoint'} {number}"
+
+    def _stands(self, machine: Machine) -> bool:
+        """Whether a machine of a service was last seen paused by the debugger."""
+        return self.is_service and not machine.was_paused and machine.goal is None and machine.last is not None and machine.last.reason not in ENDS
+
+    def _let_go(self, machine: Machine) -> None:
+        """Ends what a machine was told to do, and its pause, if the debugger paused it."""
+        self._give_up(machine)
+        if self.is_service and not machine.was_paused and self.registers(machine.number).state == PAUSED:
+            self.agent.resume(machine.number)
 
     def result(self, number: int) -> Value:
         """R0, as a number."""

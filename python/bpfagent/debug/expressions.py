@@ -4,10 +4,10 @@ from __future__ import annotations
 import operator
 import re
 from dataclasses import dataclass
-from typing import Callable, Optional, Protocol
+from typing import Callable, Mapping, Optional, Protocol
 
 from ..limits import LONGEST, WORD
-from .types import ARRAY, INTEGER, POINTER, UNSIGNED, Type, member_bytes, number_of, pointer_to, shown
+from .types import ARRAY, INTEGER, POINTER, UNSIGNED, VOID_TYPE, Type, member_bytes, number_of, pointer_to, shown
 
 TOKEN = re.compile(r"\s*(?:(0[xX][0-9a-fA-F]+|[0-9]+)|(\$?[A-Za-z_]\w*)|(->|[=!<>]=|&&|\|\||[-+*/%&.()\[\]<>!]))")
 # The digits of the greatest word, in each base.
@@ -20,6 +20,8 @@ COMPARISONS: dict[str, Callable[[int, int], bool]] = {
     ">": operator.gt,
     ">=": operator.ge,
 }
+# A name behind one of these is that of a type.
+TAGS = ("struct", "union", "enum")
 # How deeply brackets and operators of one operand may be nested.
 NESTED = 50
 
@@ -81,11 +83,34 @@ def literal(token: str) -> Value:
     return integer(int(digits, base))
 
 
-class Parser:
-    """Evaluates one expression in a context."""
+# What stands for each value while an expression is only parsed.
+NOTHING = Value(VOID_TYPE, why="it isn't computed")
 
-    def __init__(self, text: str, context: Context) -> None:
-        self._context = context
+
+class Unvalued:
+    """The context of an expression that is only parsed: it has types, and no values."""
+
+    def __init__(self, types: Mapping[str, Type]) -> None:
+        self._types = types
+
+    def named(self, name: str) -> Value:
+        """A name may mean something later."""
+        return NOTHING
+
+    def type_named(self, name: str) -> Optional[Type]:
+        """The type of this name."""
+        return self._types.get(name)
+
+    def memory(self, address: int, length: int) -> bytes:
+        """There is no memory."""
+        raise Invalid(NOTHING.why)
+
+
+class Parser:
+    """Evaluates one expression in a context, or only parses it."""
+
+    def __init__(self, text: str, context: Context, is_evaluated: bool = True) -> None:
+        self._context, self._is_evaluated = context, is_evaluated
         self._tokens, at = [], 0
         text = text.strip()
         while at < len(text):
@@ -105,23 +130,26 @@ class Parser:
             raise Invalid(f"`{self._tokens[self._at]}` isn't expected there")
         return found
 
+    def _made(self, make: Callable[..., Value], *parts: object) -> Value:
+        """What an operation makes of its operands, which are parsed."""
+        return make(*parts) if self._is_evaluated else NOTHING
+
     def _either(self) -> Value:
-        return self._joined("||", self._both, lambda one, other: bool(one.number or other.number))
+        return self._joined("||", self._both, either)
 
     def _both(self) -> Value:
-        return self._joined("&&", self._comparison, lambda one, other: bool(one.number and other.number))
+        return self._joined("&&", self._comparison, both)
 
-    def _joined(self, sign: str, operand: Callable[[], Value], holds: Callable[[Value, Value], bool]) -> Value:
+    def _joined(self, sign: str, operand: Callable[[], Value], join: Callable[[Value, Value], Value]) -> Value:
         found = operand()
         while self._takes(sign):
-            found = integer(int(holds(found, operand())))
+            found = self._made(join, found, operand())
         return found
 
     def _comparison(self) -> Value:
         found = self._sum()
         while self._next() in COMPARISONS:
-            compare, other = COMPARISONS[self._take()], self._sum()
-            found = integer(int(compare(*compared(found, other))))
+            found = self._made(comparison, self._take(), found, self._sum())
         return found
 
     def _next(self) -> str:
@@ -146,19 +174,13 @@ class Parser:
         found = self._product()
         while self._next() in ("+", "-"):
             sign = -1 if self._take() == "-" else 1
-            found = added(found, self._product(), sign)
+            found = self._made(added, found, self._product(), sign)
         return found
 
     def _product(self) -> Value:
         found = self._unary()
         while self._next() in ("*", "/", "%"):
-            sign, other = self._take(), self._unary()
-            first, second = found.number, other.number
-            if sign == "*":
-                found = integer(first * second)
-            else:
-                whole = quotient(first, second)
-                found = integer(whole if sign == "/" else first - second * whole)
+            found = self._made(product, self._take(), found, self._unary())
         return found
 
     def _unary(self) -> Value:
@@ -171,18 +193,15 @@ class Parser:
 
     def _operand(self) -> Value:
         if self._takes("*"):
-            return self._pointed(self._unary())
+            return self._made(self._pointed, self._unary())
         if self._takes("&"):
-            found = self._unary()
-            if found.address is None:
-                raise Invalid("this value is in no memory, so it has no address")
-            return Value(pointer_to(found.type), found.address.to_bytes(8, "little"))
+            return self._made(pointer_at, self._unary())
         if self._takes("!"):
-            return integer(int(not self._unary().number))
+            return self._made(lambda value: integer(int(not value.number)), self._unary())
         if self._takes("-"):
-            return integer(-self._unary().number)
+            return self._made(lambda value: integer(-value.number), self._unary())
         if self._next() == "(" and (cast := self._cast()):
-            return self._converted(self._unary(), cast)
+            return self._made(converted, self._unary(), cast)
         return self._postfix()
 
     def _cast(self) -> Optional[Type]:
@@ -192,30 +211,40 @@ class Parser:
         words = []
         while re.match(r"[A-Za-z_]", self._next()):
             words.append(self._take())
-        found = self._context.type_named(" ".join(words)) if words else None
-        while found and self._takes("*"):
+        name, stars = " ".join(words), 0
+        found = VOID_TYPE if name == "void" else self._context.type_named(name) if words else None
+        while self._takes("*"):
+            stars += 1
+        is_closed = self._takes(")")
+        if words and (len(words) > 1 or name in TAGS or (stars and is_closed)):
+            # no value can be written like this
+            if found is None:
+                raise Invalid(f"the program has no type {name}")
+            if not is_closed:
+                raise Invalid("`)` is missing")
+        if not found or not is_closed:
+            self._at = at
+            return None
+        for _ in range(stars):
             found = pointer_to(found)
-        if found and self._takes(")"):
-            return found
-        self._at = at
-        return None
-
-    def _converted(self, value: Value, to: Type) -> Value:
-        if to.is_record or to.bare.kind == ARRAY:
-            raise Invalid(f"a cast to {to} isn't possible: cast a pointer")
-        return Value(to, (address_of(value) & ((1 << 8 * to.size) - 1)).to_bytes(to.size, "little"))
+        return found
 
     def _postfix(self) -> Value:
         found = self._primary()
         while self._next() in (".", "->", "["):
             token = self._take()
             if token == "[":
-                place = added(found, self._sum(), 1)
+                place = self._made(added, found, self._sum(), 1)
                 self._expect("]")
-                found = self._pointed(place)
+                found = self._made(self._pointed, place)
             else:
-                found = self._member(self._pointed(found) if token == "->" or found.type.bare.kind == POINTER else found, self._take())
+                found = self._made(self._member, found, token, self._member_name())
         return found
+
+    def _member_name(self) -> str:
+        if not re.match(r"[A-Za-z_]", self._next()):
+            raise Invalid("the name of a member is missing")
+        return self._take()
 
     def _primary(self) -> Value:
         token = self._take()
@@ -243,15 +272,54 @@ class Parser:
             raise Invalid(f"{type_} has no size")
         return Value(type_, self._context.memory(address, type_.size), address)
 
-    def _member(self, value: Value, name: str) -> Value:
+    def _member(self, value: Value, sign: str, name: str) -> Value:
+        if sign == "->" or value.type.bare.kind == POINTER:
+            value = self._pointed(value)
         if not value.type.is_record:
             raise Invalid(f"{value.type} has no members")
         member = value.type.member(name)
         if not member:
             names = ", ".join(member.name for member in value.type.bare.members if member.name)
-            raise Invalid(f"{value.type} has no member {name or 'without a name'}; it has {names}")
+            raise Invalid(f"{value.type} has no member {name}; it has {names}")
         address = None if value.address is None else value.address + member.offset
         return Value(member.type, member_bytes(member, value.bytes), address, is_part=bool(member.bits))
+
+
+def pointer_at(value: Value) -> Value:
+    """The pointer to a value."""
+    if value.address is None:
+        raise Invalid("this value is in no memory, so it has no address")
+    return Value(pointer_to(value.type), value.address.to_bytes(8, "little"))
+
+
+def converted(value: Value, to: Type) -> Value:
+    """A value cast to a type."""
+    if to.is_record or to.bare.kind == ARRAY or not to.size:
+        raise Invalid(f"a cast to {to} isn't possible: cast a pointer")
+    return Value(to, (address_of(value) & ((1 << 8 * to.size) - 1)).to_bytes(to.size, "little"))
+
+
+def either(first: Value, second: Value) -> Value:
+    """Whether one of two values isn't 0."""
+    return integer(int(bool(first.number or second.number)))
+
+
+def both(first: Value, second: Value) -> Value:
+    """Whether neither of two values is 0."""
+    return integer(int(bool(first.number and second.number)))
+
+
+def comparison(sign: str, first: Value, second: Value) -> Value:
+    """Whether a comparison holds."""
+    return integer(int(COMPARISONS[sign](*compared(first, second))))
+
+
+def product(sign: str, first: Value, second: Value) -> Value:
+    """A product, a quotient, or what a division leaves."""
+    if sign == "*":
+        return integer(first.number * second.number)
+    whole = quotient(first.number, second.number)
+    return integer(whole if sign == "/" else first.number - second.number * whole)
 
 
 def address_of(value: Value) -> int:
@@ -293,3 +361,8 @@ def added(first: Value, second: Value, sign: int) -> Value:
 def evaluate(text: str, context: Context) -> Value:
     """The value of an expression in a context."""
     return Parser(text, context).value()
+
+
+def parse(text: str, types: Mapping[str, Type]) -> None:
+    """Raises `Invalid` if an expression has no value whatever its names mean: it can't be parsed, or names a type that isn't there."""
+    Parser(text, Unvalued(types), is_evaluated=False).value()

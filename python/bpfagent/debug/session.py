@@ -3,6 +3,7 @@ from __future__ import annotations
 
 import contextlib
 import pathlib
+import sys
 from dataclasses import dataclass, field
 from types import TracebackType
 from typing import Iterator, Optional, Sequence, Union
@@ -22,6 +23,8 @@ DEBUG_FLAGS = ("-O0",)
 WORKERS, MOST_WORKERS = 2, 16
 # How long an agent may take for a reply, in seconds.
 TIMEOUT = 30.0
+# How long a service may take to undo what was set, and the end of what was started, in seconds: the debugger leaves within two.
+LEAVING, ENDING = 1.8, 1.0
 
 
 @dataclass
@@ -113,19 +116,26 @@ class Session:
             service.kill()
             raise
 
-    def close(self) -> None:
-        """Ends the conversation, and what was started. Machines of a service to which it is attached go on, without breakpoints."""
+    def close(self) -> str:
+        """Ends the conversation, and what was started. Machines of a service to which it is attached go on, without breakpoints. Says
+        what may stay because the service doesn't answer; empty if nothing does."""
+        left = ""
         with contextlib.suppress(Broken, Refused):
             if not self.is_started:
-                self.engine.leave()
+                left = self.engine.leave(LEAVING)
+        self.engine.agent.patience = ENDING
         with contextlib.suppress(Broken):
             self.engine.agent.close()
         if self._service:
             with contextlib.suppress(Broken):
-                self._service.close()
+                self._service.close(ENDING)
+        return left
 
     def __enter__(self) -> Session:
         return self
 
     def __exit__(self, kind: Optional[type[BaseException]], error: Optional[BaseException], trace: Optional[TracebackType]) -> None:
-        self.close()
+        if left := self.close():
+            print(f"bpfagent-debug: {left}", file=sys.stderr)
+            if error is None:
+                sys.exit(1)

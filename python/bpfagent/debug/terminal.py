@@ -250,12 +250,14 @@ class Terminal(cmd.Cmd):
 
     def do_break(self, argument: str, is_temporary: bool = False) -> None:
         """break FILE:LINE | LINE | FUNCTION | *SLOT [if EXPRESSION]: a breakpoint on all machines that run the program."""
-        text, _, condition = argument.partition(" if ")
-        if not text:
+        text, has_condition, condition = f"{argument} ".partition(" if ")
+        if not text.strip():
             raise Impossible("break takes FILE:LINE, LINE, FUNCTION or *SLOT")
+        if has_condition and not condition.strip():
+            raise Impossible("a condition is missing behind `if`")
         program = self._program()
         place = program.place(text.strip(), self.engine.here(self.selected) if self.selected in self.engine.machines else None)
-        made = self.engine.set_breakpoint(program, text, place, is_temporary, condition.strip())
+        made = self.engine.set_breakpoint(program, text.strip(), place, is_temporary, condition.strip())
         print(f"breakpoint {made.number} at {made}")
 
     def do_tbreak(self, argument: str) -> None:

@@ -24,11 +24,18 @@ from __future__ import annotations
 import functools
 from typing import Any, Callable, Iterable, Union
 
-import distributed
-
 from .jobs import Job, JobRefused, JobStopped, Result, lines_of
-from .owner import Owner
-from .store import Setting, Store, Unconfirmed
+
+try:
+    import distributed
+
+    from .owner import Owner
+    from .store import Setting, Store, Unconfirmed
+except ModuleNotFoundError as missing:
+    if missing.name not in ("distributed", "redis"):
+        raise
+    why = f"bpfagent.fleet needs {missing.name}: apt-get install python3-{missing.name}, or pip install 'bpfagent[fleet]'"
+    raise ImportError(why, name=missing.name) from None
 
 __all__ = ["Fleet", "Job", "JobRefused", "JobStopped", "Owner", "Result", "Setting", "Store", "Unconfirmed", "lines_of"]
 # How long the record of a job is kept, in seconds.

@@ -69,6 +69,10 @@ class Store:
 
     def put(self, key: str, content: bytes) -> None:
         """Writes an object of 1 to 65,536 bytes."""
+        # redis-py would encode a text.
+        if not isinstance(content, (bytes, bytearray, memoryview)):
+            raise TypeError(f"an object has bytes, and not a {type(content).__name__}: encode it")
+        content = bytes(content)
         if not 0 < len(content) <= LONGEST:
             raise ValueError(f"an object has 1 to {LONGEST} bytes, and not {len(content)}")
         self.once(Job(b"", {key: "w"}), lambda read: (Result(0, ()), {key: content}))
