@@ -26,9 +26,8 @@ from bpfagent import __version__
 from bpfagent.far import DONE, FORGET, GET, LIMIT, NO_ROOM, PUT, REFUSED_ID, Store
 from support import PROGRAM, ROOT, SECONDS
 
-from lib.programs import Client, Listener, Server, Service, ended, free_port, object_line, redis_server
+from lib.programs import Client, Listener, Server, Service, ended, free_port, object_line, processor_time, redis_server
 from product.store import KEPT, frame, talk, unanswered
-from product.waiting import processor_time
 
 GATEWAY = [sys.executable, "-m", "bpfagent.gateway"]
 CLIENT = [sys.executable, "-m", "bpfagent.far"]
