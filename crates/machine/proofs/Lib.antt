@@ -21,4 +21,3 @@ pub mod Executing
 pub mod Running
 pub mod GrantedWork
 pub mod Dispatching
-mod Past

@@ -2,14 +2,12 @@
 #![tactic(auto)]
 
 mod accesses;
-mod entries;
 mod grants;
 mod jumps;
 mod laws;
 mod machine;
 mod outcomes;
 mod pairs;
-mod processor;
 mod registers;
 mod rights;
 mod rows;
