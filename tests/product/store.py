@@ -29,10 +29,9 @@ CLIENTS = 64
 MUCH = 128 << 20
 LITTLE = 16 << 20
 ENDS_WELL = (0, b"", b"")
-# How many files a server has open beside those of its clients; what it tells if it can't have more; how long a test lets it rest, in
+# How many files a server has open beside those of its clients; how long a test lets it rest, in
 # seconds, which is within the rest from 1.27 to 2.27 seconds after the first try; and for how long it may run meanwhile, and take to end.
 OWN_FILES = 5
-SHORT = "no client can be accepted for now: too many files are open"
 LONG_REST = 1.2
 IDLE = 0.05
 AT_ONCE = 0.5
@@ -265,12 +264,12 @@ def want_left_waiting(stream: socket.socket, seconds: float, what: str) -> None:
     want(not select.select([stream], [], [], seconds)[0], what)
 
 
-def want_end(server: Server, clients: int, shortages: int, what: str) -> None:
-    """The server ends at once with its input, and has told of so many clients and shortages of files."""
+def want_end(server: Server, clients: int, what: str) -> None:
+    """The server ends at once with its input, and has told of so many clients."""
     began = time.monotonic()
     status, output, errors = server.end()
     took = time.monotonic() - began
-    told = [f"listening on 127.0.0.1:{server.port}", *[SHORT] * shortages, *(f"client {k + 1} {did}" for k in range(clients) for did in ("came", "went"))]
+    told = [f"listening on 127.0.0.1:{server.port}", *(f"client {k + 1} {did}" for k in range(clients) for did in ("came", "went"))]
     notes, others = noted(errors)
     want_equal((status, output, others, sorted(notes)), (0, b"", [], sorted(told)), what)
     want(took < AT_ONCE, f"{what} takes {took:.2f} s")
@@ -284,7 +283,7 @@ def show_few_files(program: str) -> None:
     for more in range(3):
         server = few_files(program, more)
         time.sleep(0.1)
-        want_end(server, 0, 1 if more == 0 else 0, f"the end of a server that may open {more} files for clients")
+        want_end(server, 0, f"the end of a server that may open {more} files for clients")
 
 
 def show_rest(program: str) -> None:
@@ -304,7 +303,7 @@ def show_rest(program: str) -> None:
             want(used < IDLE, f"{what} runs for {used:.3f} s in {LONG_REST} s")
             for stream in streams:
                 ask(stream, f"a client beside one that waits, of {what}")
-            want_end(server, clients, 1, f"the end of {what}")
+            want_end(server, clients, f"the end of {what}")
 
 
 def show_late(program: str) -> None:
@@ -320,7 +319,7 @@ def show_late(program: str) -> None:
         resource.prlimit(server.process.pid, resource.RLIMIT_NOFILE, (OWN_FILES + 5, OWN_FILES + 5))
         want_equal(hear(third, HEAD.size), frame(REFUSED_ID, 1), "the third client, once there may be files for it")
         ask(second, "the second client beside the third")
-        want_end(server, 3, 2, "the end of a server whose clients waited")
+        want_end(server, 3, "the end of a server whose clients waited")
 
 
 def show_broken_listener(program: str) -> None:

@@ -24,8 +24,6 @@ pub(crate) enum Note {
     Unheard(u64, DriveFault),
     TooMany,
     NoThread,
-    /// No client can be accepted for now: the system's number of the error, if it has one.
-    Short(Option<i32>),
     Connected(SocketAddr),
     Unanswered(SocketAddr),
     Unreached(SocketAddr),
@@ -36,24 +34,6 @@ pub(crate) enum Note {
     Returned(u32),
     StayedFar(u32, StoreFault),
     Kept(Tally, Tally),
-}
-
-/// Linux' numbers of errors that say what there is too little of.
-const ENOMEM: i32 = 12;
-
-const ENFILE: i32 = 23;
-
-const EMFILE: i32 = 24;
-
-const ENOBUFS: i32 = 105;
-
-/// Why no client can be accepted for now.
-fn shortage_of(code: Option<i32>) -> &'static str {
-    match code {
-        Some(code) if code == EMFILE || code == ENFILE => "too many files are open",
-        Some(code) if code == ENOMEM || code == ENOBUFS => "out of memory",
-        _ => "device error",
-    }
 }
 
 /// Why the stream of a far server broke.
@@ -97,10 +77,6 @@ impl Display for Note {
             Note::Unheard(client, fault) => write!(f, "client {client} is given up: {fault}"),
             Note::TooMany => write!(f, "a client is refused: {CLIENT_LIMIT} are served"),
             Note::NoThread => write!(f, "a client is refused: no thread can be made"),
-            Note::Short(code) => {
-                let reason = shortage_of(*code);
-                write!(f, "no client can be accepted for now: {reason}")
-            }
             Note::Connected(far) => write!(f, "connected to the far server {far}"),
             Note::Unanswered(far) => write!(f, "the far server {far} doesn't answer in time"),
             Note::Unreached(far) => write!(f, "the far server {far} can't be reached"),
@@ -180,10 +156,6 @@ impl<R: Clock + Eprint> Journal for Notes<R> {
             Refusal::TooMany => Note::TooMany,
             Refusal::NoThread => Note::NoThread,
         });
-    }
-
-    fn short(&self, error: &Error) {
-        self.write(Note::Short(error.raw_os_error()));
     }
 }
 
