@@ -11,6 +11,6 @@ mod writing;
 
 pub use laws::{refused_for_one_reason, valid_code_is_taken};
 pub use loading::{CODE_LIMIT, LoadError, Why, load};
-pub use program::Program;
+pub use program::{CodeEntry, Program};
 pub use rows::{Fields, Row};
 pub use writing::encode_all;

@@ -21,3 +21,4 @@ pub mod Executing
 pub mod Running
 pub mod GrantedWork
 pub mod Dispatching
+mod Past

@@ -2,12 +2,14 @@
 #![tactic(auto)]
 
 mod accesses;
+mod entries;
 mod grants;
 mod jumps;
 mod laws;
 mod machine;
 mod outcomes;
 mod pairs;
+mod processor;
 mod registers;
 mod rights;
 mod rows;

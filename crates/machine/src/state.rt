@@ -102,25 +102,55 @@ pub struct Done {
     pub closes: bool,
 }
 
-/// What one dispatch of a run did: one instruction ran and closes no scope, or two, and the slot where the machine is then; or
-/// whatever else one came to.
+/// What one dispatch of a run did.
 #[derive(Clone, Copy, Drop)]
 pub enum Dispatched {
+    /// One instruction ran and closes no scope. The machine goes on at the next slot.
+    Past,
+    /// The same, but the machine goes on at this slot.
     One(usize),
+    /// Two instructions ran and close no scope. The machine goes on at the slot after the next one.
+    PastTwo,
+    /// The same, but the machine goes on at this slot.
     Two(usize),
+    /// Whatever else one instruction came to.
     Other(Done),
 }
 
 impl Dispatched {
-    ghost use Rattle.machine.specs.Dispatches.{IsOf};
+    ghost use Rattle.std.specs.Prelude.{ℕ, ◌+◌, Some};
+    ghost use Rattle.machine.specs.Dispatches.{IsOf, IsRan, goes_to, two_go_to};
 
     /// What is kept of an instruction that was done: mostly it ran and closes no scope, and then its slot tells all.
     #[inline(always)]
     pub(crate) fn of(done: Done) -> Dispatched
-        ensures { IsOf result done }
+        ensures { (slot : ℕ) → IsOf slot result done }
     {
         match done.answer {
             Stepped::Ran(_) if !done.closes => Dispatched::One(done.slot),
+            _ => Dispatched::Other(done),
+        }
+    }
+
+    /// What it is of two instructions, of which this is the second.
+    #[inline(always)]
+    pub(crate) fn second(self) -> Dispatched
+        ensures { (slot to : ℕ) → goes_to (slot + 1) self ≡ Some to → two_go_to slot result ≡ Some to }
+    {
+        match self {
+            Dispatched::Past => Dispatched::PastTwo,
+            Dispatched::One(slot) => Dispatched::Two(slot),
+            other => other,
+        }
+    }
+
+    /// The same of an instruction after which the machine goes on at the next slot.
+    #[inline(always)]
+    pub(crate) fn past(done: Done) -> Dispatched
+        ensures { (slot : ℕ) → (IsRan done.answer → done.slot ≡ slot + 1) → IsOf slot result done }
+    {
+        match done.answer {
+            Stepped::Ran(_) if !done.closes => Dispatched::Past,
             _ => Dispatched::Other(done),
         }
     }

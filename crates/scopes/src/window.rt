@@ -9,8 +9,11 @@ use std::mem;
 /// The greatest number of a machine, each of which has a window (this project's choice).
 pub const MACHINE_LIMIT: usize = 48;
 
-/// What stands at a place without a number. It is no number of 32 bits.
-const NO_NUMBER: u64 = 0x1_0000_0000;
+/// The greatest number.
+const GREATEST: u64 = 0xffff_ffff;
+
+/// What stands at a place without a number: above the greatest, and stored by a machine instruction that has it within.
+const NO_NUMBER: u64 = u64::MAX;
 
 /// The numbers of the objects that a machine reached last: at most four distinct ones, the oldest first. An object whose
 /// number is held is in scope, so it stays where it is. Takes no memory.
@@ -107,11 +110,11 @@ impl Window {
         ensures some { IfSome result (λ n. self.old ≡ n ∷ self.new) }
         ensures window { IsWindow self.old }
     {
-        let out = if self.oldest < NO_NUMBER {
+        let out = if self.oldest <= GREATEST {
             mem::replace(&mut self.oldest, NO_NUMBER)
-        } else if self.third < NO_NUMBER {
+        } else if self.third <= GREATEST {
             mem::replace(&mut self.third, NO_NUMBER)
-        } else if self.second < NO_NUMBER {
+        } else if self.second <= GREATEST {
             mem::replace(&mut self.second, NO_NUMBER)
         } else {
             mem::replace(&mut self.newest, NO_NUMBER)
@@ -125,7 +128,7 @@ impl Window {
 fn number_of(place: u64) -> Option<u32>
     ensures { result ≡ number_at place }
 {
-    if place < NO_NUMBER {
+    if place <= GREATEST {
         Some(place as u32)
     } else {
         None
