@@ -7,7 +7,7 @@ use Rattle.object_store.proofs.stores.ObjectStore.forget.Goals as goal
 
 pub invariant_of-self : goal.invariant_of-self
 invariant_of-self g c =
-    let there = found c.self.inside.bodies.items c.args.number Far (rw (c.in-Some-Far.field-0-is, ← c.self.view_is) at c.in-Some-Far.ensures.some) in
+    let there = found c.self.view_is c.in-Some-Far.field-0-is c.in-Some-Far.ensures.some in
     let value = c.as_mut_slice-bodies.ensures.value in
     rw (with_items_is c.self.inside.bodies c.free_far_at.new.bodies (c.free_far_at.auto.bodies ∙ c.as_mut_slice-bodies.ensures.len)) (
       forgotten c.self.inside.bodies.items c.free_far_at.new.bodies _ _ _ c.args.number c.self.invariant.0 there.inside

@@ -3,21 +3,14 @@ use Rattle.std.proofs.lemmas.List.{with_items_is}
 use Rattle.placement.specs.declared.places.Place.TheVariants.{Here}
 use Rattle.object_store.specs.Bodies.{scopes_in}
 use Rattle.object_store.proofs.Keeping.{emptied}
-use Rattle.object_store.proofs.Placing.{found, fits_word}
+use Rattle.object_store.proofs.Placing.{found, fits_back}
 use Rattle.object_store.proofs.stores.ObjectStore.free.Goals as goal
 
 pub overflow_add-self : goal.overflow_add-self
-overflow_add-self g c = fits_word _ _ _ _ c.args.number _ Here c.self.invariant.0 (rw (
-  c.in-Some-Here.field-0-is,
-  ← c.self.view_is,
-) at c.in-Some-Here.ensures.some)
-    (rw (← c.self.view_is) at c.length-freed.ensures.length) (omega (arith, c.self.ranges))
+overflow_add-self g c = omega (arith, fits_back c.self.invariant.0 (found c.self.view_is c.in-Some-Here.field-0-is c.in-Some-Here.ensures.some) refl)
 
 pub invariant_of-self : goal.invariant_of-self
-invariant_of-self g c = let there = found c.self.inside.bodies.items c.args.number Here (rw (
-  c.in-Some-Here.field-0-is,
-  ← c.self.view_is,
-) at c.in-Some-Here.ensures.some) in
+invariant_of-self g c = let there = found c.self.view_is c.in-Some-Here.field-0-is c.in-Some-Here.ensures.some in
     let count = rw (← c.self.view_is) at c.length-freed.ensures.length in
     let value = c.as_mut_slice-bodies.ensures.value in
     rw (with_items_is c.self.inside.bodies c.free_at.new.bodies (c.free_at.auto.bodies ∙ c.as_mut_slice-bodies.ensures.len)) (

@@ -2,29 +2,22 @@ use Rattle.std.proofs.Common.{◌∙◌, arith}
 use Rattle.std.proofs.lemmas.List.{with_items_is, length-map, get_or-set_same}
 use Rattle.placement.specs.declared.places.Place.TheVariants.{Here, Leaving, Far}
 use Rattle.object_store.specs.Bodies.{place_in}
-use Rattle.object_store.proofs.Placing.{found, fits_word, placed_back}
+use Rattle.object_store.proofs.Placing.{found, fits_back, placed_back}
 use Rattle.object_store.proofs.stores.ObjectStore.left_into.Goals as goal
 
 pub overflow_add-self : goal.overflow_add-self
-overflow_add-self g c = fits_word _ _ _ _ c.args.number _ Leaving c.self.invariant.0 (rw (
-  c.in-Some-Leaving.field-0-is,
-  ← c.self.view_is,
-) at c.in-Some-Leaving.ensures.some)
-    (rw (← c.self.view_is) at c.length-gained.ensures.length) (omega (arith, c.self.ranges))
+overflow_add-self g c = omega (arith, fits_back c.self.invariant.0 (found c.self.view_is c.in-Some-Leaving.field-0-is c.in-Some-Leaving.ensures.some) refl)
 
 pub invariant_of-self : goal.invariant_of-self
-invariant_of-self g c = placed_back c.self.inside.bodies _ c.end_leave_into_at.new.bodies _ _ _ _ c.args.number Leaving Far c.self.invariant
-    (rw (c.in-Some-Leaving.field-0-is, ← c.self.view_is) at c.in-Some-Leaving.ensures.some)
+invariant_of-self g c = placed_back c.self.inside.bodies c.end_leave_into_at.new.bodies Far c.self.invariant
+    (found c.self.view_is c.in-Some-Leaving.field-0-is c.in-Some-Leaving.ensures.some)
     c.as_mut_slice-bodies.ensures.value c.end_leave_into_at.auto.bodies c.as_mut_slice-bodies.ensures.len c.end_leave_into_at.ensures.bytes
     c.end_leave_into_at.ensures.far c.end_leave_into_at.ensures.counts (let count = rw (← c.self.view_is) at c.length-gained.ensures.length in
     omega (arith, count))
 
 pub returns-in-Some-Leaving-clause-far : goal.returns-in-Some-Leaving-clause-far
 returns-in-Some-Leaving-clause-far g c = λ done.
-    let there = found c.self.inside.bodies.items c.args.number Leaving (rw (
-      c.in-Some-Leaving.field-0-is,
-      ← c.self.view_is,
-    ) at c.in-Some-Leaving.ensures.some) in
+    let there = found c.self.view_is c.in-Some-Leaving.field-0-is c.in-Some-Leaving.ensures.some in
     let live = rw (← c.self.view_is) at c.in-Some-Leaving.ensures.some.0 in
     let count = length-map c.self.inside.bodies.items place_in in
     rw (

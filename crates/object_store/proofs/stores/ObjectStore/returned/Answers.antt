@@ -5,21 +5,14 @@ use Rattle.object_store.specs.Stores.{StoreState}
 use Rattle.object_store.specs.Bodies.{bytes_in, place_in}
 use Rattle.object_store.proofs.Keeping.{came_back}
 use Rattle.object_store.proofs.Returning.{comes_back}
-use Rattle.object_store.proofs.Placing.{found, fits_word, placed_back, seen_placed}
+use Rattle.object_store.proofs.Placing.{found, fits_back, placed_back, seen_placed}
 use Rattle.object_store.proofs.stores.ObjectStore.returned.Goals as goal
 
 pub overflow_add-self : goal.overflow_add-self
-overflow_add-self g c = fits_word _ _ _ _ c.args.number _ Returning c.self.invariant.0 (rw (
-  c.in-Some-Returning.field-0-is,
-  ← c.self.view_is,
-) at c.in-Some-Returning.ensures.some)
-    (rw (← c.self.view_is) at c.length-length.ensures.length) (omega (arith, c.self.ranges))
+overflow_add-self g c = omega (arith, fits_back c.self.invariant.0 (found c.self.view_is c.in-Some-Returning.field-0-is c.in-Some-Returning.ensures.some) refl)
 
 pub invariant_of-self : goal.invariant_of-self
-invariant_of-self g c = let there = found c.self.inside.bodies.items c.args.number Returning (rw (
-  c.in-Some-Returning.field-0-is,
-  ← c.self.view_is,
-) at c.in-Some-Returning.ensures.some) in
+invariant_of-self g c = let there = found c.self.view_is c.in-Some-Returning.field-0-is c.in-Some-Returning.ensures.some in
     let value = c.as_mut_slice-bodies.ensures.value in
     rw (with_items_is c.self.inside.bodies c.end_return_at.new.bodies (c.end_return_at.auto.bodies ∙ c.as_mut_slice-bodies.ensures.len)) (
       came_back g.F.FarStore.RETURNS c.self.inside.bodies.items c.end_return_at.new.bodies _ _ _ c.args.number c.self.invariant.0 there.inside there.place
@@ -28,8 +21,8 @@ invariant_of-self g c = let there = found c.self.inside.bodies.items c.args.numb
     )
 
 pub invariant_of-self-in-Err : goal.invariant_of-self-in-Err
-invariant_of-self-in-Err g c = placed_back c.self.inside.bodies _ c.end_return_at.new.bodies _ _ _ _ c.args.number Returning Far c.self.invariant
-    (rw (c.in-Some-Returning.field-0-is, ← c.self.view_is) at c.in-Some-Returning.ensures.some)
+invariant_of-self-in-Err g c = placed_back c.self.inside.bodies c.end_return_at.new.bodies Far c.self.invariant
+    (found c.self.view_is c.in-Some-Returning.field-0-is c.in-Some-Returning.ensures.some)
     c.as_mut_slice-bodies.ensures.value c.end_return_at.auto.bodies c.as_mut_slice-bodies.ensures.len c.in-Err.ensures.same c.in-Err.ensures.far
     c.in-Err.ensures.counts (let count = rw (← c.self.view_is) at c.length-length.ensures.length in omega (arith, count))
 
@@ -58,14 +51,8 @@ returns-in-Ok g c =
     })
 
 pub returns-in-Err : goal.returns-in-Err
-returns-in-Err g c = rw (← c.self.view_is) (record {
-  ends = seen_placed c.self.inside.bodies _ c.end_return_at.new.bodies _ _ _ c.args.number Returning Far (rw (
-    c.in-Some-Returning.field-0-is,
-    ← c.self.view_is,
-  ) at c.in-Some-Returning.ensures.some) c.in-Err.ensures.fault
-      c.as_mut_slice-bodies.ensures.value c.end_return_at.auto.bodies c.as_mut_slice-bodies.ensures.len c.in-Err.ensures.same c.in-Err.ensures.far;
-  asks = rw (
-    with_items_is c.self.inside.bodies c.end_return_at.new.bodies (c.end_return_at.auto.bodies ∙ c.as_mut_slice-bodies.ensures.len),
-    ← c.as_mut_slice-bodies.ensures.value,
-  ) (c.in-Err.ensures.vain, c.in-Err.ensures.kept);
+returns-in-Err g c = rw (← c.self.view_is, with_items_is c.self.inside.bodies _ (c.end_return_at.auto.bodies ∙ c.as_mut_slice-bodies.ensures.len)) (record {
+  ends = seen_placed _ Far (found c.self.view_is c.in-Some-Returning.field-0-is c.in-Some-Returning.ensures.some) c.in-Err.ensures.fault
+      c.as_mut_slice-bodies.ensures.value c.in-Err.ensures.same c.in-Err.ensures.far;
+  asks = rw (← c.as_mut_slice-bodies.ensures.value) (c.in-Err.ensures.vain, c.in-Err.ensures.kept);
 })
