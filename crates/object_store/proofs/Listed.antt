@@ -90,6 +90,27 @@ counted_at bodies i d b f h e = record {
   sent = sent_same bodies i b d (ap sent_in e);
 }
 
+-- with other bytes, of which the far store has something else
+pub record IsChanged (old : List Kept) (n : ℕ) (f : List ℕ → List ℕ) (g : Sent → Sent) (new : List Kept) : Type 0 where
+  pub bytes : map bytes_in new ≡ set (map bytes_in old) n (f (get_or (map bytes_in old) n []))
+  pub places : map place_in new ≡ map place_in old
+  pub counts : map scopes_in new ≡ map scopes_in old
+  pub sent : map sent_in new ≡ set (map sent_in old) n (g (get_or (map sent_in old) n unsent))
+
+pub changed_at : (bodies : List Kept) (i : ℕ) (d b : Kept) (f : List ℕ → List ℕ) (g : Sent → Sent) → i < length bodies
+    → b ≡ record (get_or bodies i d) {
+      bytes = f (get_or bodies i d).bytes;
+      parcel = (g (sent_in (get_or bodies i d))).parcel;
+      clean = (g (sent_in (get_or bodies i d))).clean;
+    }
+    → IsChanged bodies i f g (set bodies i b)
+changed_at bodies i d b f g h e = record {
+  bytes = bytes_by bodies i d b f h (ap bytes_in e);
+  places = places_same bodies i b d (ap place_in e);
+  counts = scopes_same bodies i b d (ap scopes_in e);
+  sent = sent_by bodies i d b g h (ap sent_in e);
+}
+
 -- an access
 pub ruleset at_steps = (bytes_at, no_bytes_at, place_at, scopes_at, bytes_set, places_same, scopes_same, parcel_at, clean_at, sent_set)
 

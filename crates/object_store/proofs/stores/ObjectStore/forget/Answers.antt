@@ -1,6 +1,5 @@
 use Rattle.std.proofs.Common.{◌∙◌}
 use Rattle.std.proofs.lemmas.List.{with_items_is}
-use Rattle.placement.specs.declared.places.Place.TheVariants.{Far}
 use Rattle.object_store.proofs.Forgetting.{forgotten}
 use Rattle.object_store.proofs.Placing.{found}
 use Rattle.object_store.proofs.stores.ObjectStore.forget.Goals as goal

@@ -1,6 +1,5 @@
 use Rattle.std.proofs.Common.{◌≡◌, get_or, map, refl, ◌∙◌, arith}
 use Rattle.std.proofs.lemmas.List.{with_items_is}
-use Rattle.placement.specs.declared.places.Place.TheVariants.{Here}
 use Rattle.object_store.specs.Bodies.{scopes_in}
 use Rattle.object_store.proofs.Keeping.{emptied}
 use Rattle.object_store.proofs.Placing.{found, fits_back}

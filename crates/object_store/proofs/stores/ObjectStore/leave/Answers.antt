@@ -1,5 +1,5 @@
 use Rattle.std.proofs.Common.{refl}
-use Rattle.placement.specs.declared.places.Place.TheVariants.{Here, Leaving}
+use Rattle.placement.specs.declared.places.Place.TheVariants.{Leaving}
 use Rattle.object_store.proofs.Placing.{found, placed_back}
 use Rattle.object_store.proofs.stores.ObjectStore.leave.Goals as goal
 

@@ -1,6 +1,6 @@
 use Rattle.std.proofs.Common.{refl, ◌∙◌, arith}
 use Rattle.std.proofs.lemmas.List.{with_items_is}
-use Rattle.placement.specs.declared.places.Place.TheVariants.{Here, Leaving, Far}
+use Rattle.placement.specs.declared.places.Place.TheVariants.{Here, Far}
 use Rattle.object_store.proofs.Leaving.{not_clean}
 use Rattle.object_store.proofs.Placing.{found, fits_back, placed_back, seen_placed}
 use Rattle.object_store.proofs.stores.ObjectStore.left.Goals as goal

@@ -1,6 +1,6 @@
-use Rattle.std.proofs.Common.{◌∙◌, arith}
+use Rattle.std.proofs.Common.{refl, ◌∙◌, arith}
 use Rattle.std.proofs.lemmas.List.{with_items_is, length-map, get_or-set_same}
-use Rattle.placement.specs.declared.places.Place.TheVariants.{Here, Leaving, Far}
+use Rattle.placement.specs.declared.places.Place.TheVariants.{Here, Far}
 use Rattle.object_store.specs.Bodies.{place_in}
 use Rattle.object_store.proofs.Placing.{found, fits_back, placed_back}
 use Rattle.object_store.proofs.stores.ObjectStore.left_into.Goals as goal

@@ -1,6 +1,6 @@
 use Rattle.std.proofs.Common.{refl, ◌∙◌, arith}
 use Rattle.std.proofs.lemmas.List.{with_items_is}
-use Rattle.placement.specs.declared.places.Place.TheVariants.{Far, Returning}
+use Rattle.placement.specs.declared.places.Place.TheVariants.{Returning}
 use Rattle.object_store.proofs.Placing.{found, placed_back, seen_placed}
 use Rattle.object_store.proofs.stores.ObjectStore.return_.Goals as goal
 

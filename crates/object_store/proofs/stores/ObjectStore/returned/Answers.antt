@@ -1,6 +1,6 @@
-use Rattle.std.proofs.Common.{map, ◌∙◌, arith}
+use Rattle.std.proofs.Common.{map, refl, ◌∙◌, arith}
 use Rattle.std.proofs.lemmas.List.{with_items_is}
-use Rattle.placement.specs.declared.places.Place.TheVariants.{Far, Returning}
+use Rattle.placement.specs.declared.places.Place.TheVariants.{Far}
 use Rattle.object_store.specs.Stores.{StoreState}
 use Rattle.object_store.specs.Bodies.{bytes_in, place_in}
 use Rattle.object_store.proofs.Keeping.{came_back}

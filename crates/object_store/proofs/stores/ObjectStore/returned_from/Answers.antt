@@ -1,5 +1,5 @@
 use Rattle.std.proofs.Common.{refl, arith}
-use Rattle.placement.specs.declared.places.Place.TheVariants.{Here, Far, Returning}
+use Rattle.placement.specs.declared.places.Place.TheVariants.{Here, Far}
 use Rattle.object_store.proofs.Placing.{found, fits_back, placed_back}
 use Rattle.object_store.proofs.stores.ObjectStore.returned_from.Goals as goal
 
