@@ -1,5 +1,5 @@
 -- A seat after a call of its actor.
-use Rattle.std.proofs.Common.{◌≡◌, ℕ, ◌+◌, ◌<◌, ◌≤◌, List, [], ◌∷◌, length, sym, refl, ap, ◌∙◌, subst, arith, None, zero, map, suc, ◌++◌, take, drop}
+use Rattle.std.proofs.Common.{◌≡◌, ℕ, ◌+◌, ◌<◌, ◌≤◌, List, [], ◌∷◌, length, sym, refl, ap, ◌∙◌, ◌^◌, max, subst, arith, None, zero, map, suc, ◌++◌, take, drop}
 use Rattle.std.proofs.Common.{length-take, length-drop}
 use Rattle.std.proofs.lemmas.List.{length-map}
 use Rattle.atomic_table.specs.Table.{rest}
@@ -10,12 +10,14 @@ use Rattle.memory.specs.declared.access.Op.{Op}
 use Rattle.memory.specs.Access.{size_of, count_of, part}
 use Rattle.shared_objects.specs.declared.body.Body.{Body}
 use Rattle.memory.specs.Objects.{bytes_of}
-use Rattle.shared_objects.specs.Kinds.{Sat, shut, looking, marked, holding, recorded, worn_out}
+use Rattle.shared_objects.specs.Kinds.{Sat, shut, looking, marked, recorded, worn_out}
 use Rattle.scopes.specs.Windows.{noted}
 use Rattle.shared_objects.specs.History.{top, entry}
 use Rattle.memory.specs.declared.deeds.Deed.{Deed}
 use Rattle.memory.specs.declared.deeds.Given.{Given}
 use Rattle.memory.specs.Deeds.{EndsInside, given_by, left_by}
+use Rattle.shared_objects.specs.Beginnings.{Begins}
+use Rattle.shared_objects.specs.declared.touching.Begun.TheVariants.{Turn}
 use Rattle.shared_objects.specs.declared.view.SharedEntry.{SharedEntry}
 use Rattle.shared_objects.specs.declared.view.Mark.TheVariants.{Busy}
 use Rattle.shared_objects.proofs.Logs.{top-snoc}
@@ -74,27 +76,31 @@ noted_seat old new w window after n stamp r opens near is then scopes t a b c d 
 opened_at : (lengths : List ℕ) (key opening : List (List ℕ)) (n : ℕ) → lengths ≡ map length key → opening ≡ key → n < length lengths → n < length opening
 opened_at lengths key opening n sizes same lt = omega (arith, ap length sizes, length-map key length, ap length same)
 
--- a call of an actor of the table on one of its objects, which it noted
-module _ (shared : SharedTable) (a : ActorSeat) (of : IsActorOf shared a) (new : Sat) (after : List ℕ) (n : ℕ) (near : n < length shared.lengths.items)
-    (then : after ≡ noted n a.window) where
+-- a call of an actor of the table on one of its objects, by how far it came
+module _ (shared : SharedTable) (a : ActorSeat) (of : IsActorOf shared a) (n : ℕ) (near : n < length shared.lengths.items) where
   lt : n < length a.seat.me.0.opening
   lt = opened_at shared.lengths.items (table_opening shared) a.seat.me.0.opening n shared.sizes of.1 near
 
   -- another had the turn
-  pub busy_seat : new ≡ (marked (Busy n) (looking n a.seat.me.0), []) → ActorFits new after a.stamp
-  busy_seat is = noted_seat a.seat.me new _ a.window after n a.stamp a.rests a.opens a.near is then refl a.rests.1 refl refl refl refl refl refl lt a.stamped
+  pub busy_seat : {new : Sat} {after : List ℕ} → (new ≡ (marked (Busy n) (looking n a.seat.me.0), [])) × (after ≡ noted n a.window)
+      → ActorFits new after a.stamp
+  busy_seat {new} {after} b =
+      noted_seat a.seat.me new _ a.window after n a.stamp a.rests a.opens a.near b.0 b.1 refl a.rests.1 refl refl refl refl refl refl lt a.stamped
 
   -- the stamps have run out
-  pub worn_seat : (found : ℕ) → new ≡ (worn_out n found (looking n a.seat.me.0), []) → ActorFits new after a.stamp
-  worn_seat found is = noted_seat a.seat.me new _ a.window after n a.stamp a.rests a.opens a.near is then refl refl refl refl refl refl refl refl lt a.stamped
+  pub worn_seat : {new : Sat} {after : List ℕ} → ((found : ℕ) × (2 ^ 48 ≤ max a.stamp found + 1) × (new ≡ (worn_out n found (looking n a.seat.me.0), [])))
+      × (after ≡ noted n a.window) → ActorFits new after a.stamp
+  worn_seat {new} {after} b =
+      noted_seat a.seat.me new _ a.window after n a.stamp a.rests a.opens a.near b.0.2 b.1 refl refl refl refl refl refl refl refl lt a.stamped
 
-  -- it had the turn, and there is one entry more
-  pub done_seat : (found stamp : ℕ) (bytes : List ℕ) (v : View) (deed : Deed) (given : Given) → v ≡ holding n found bytes (looking n a.seat.me.0)
-      → new ≡ (recorded (entry v.actor stamp found n deed given) v, []) → ActorFits new after stamp
-  done_seat found stamp bytes v deed given held is =
-      let told = is ∙ ap (λ (u : View). (recorded (entry u.actor stamp found n deed given) u, [])) held in
-      noted_seat a.seat.me new _ a.window after n stamp a.rests a.opens a.near told then refl refl refl refl refl refl refl refl lt
-      (omega (arith, top-snoc 0 a.seat.me.0.entries (entry a.seat.me.0.actor stamp found n deed given)))
+-- it had the turn, and there is one entry more
+pub done_seat : {new : Sat} {after : List ℕ} (deed : Deed) (given : Given) (shared : SharedTable) (a : ActorSeat) (of : IsActorOf shared a) (n : ℕ)
+    (near : n < length shared.lengths.items) (found stamp : ℕ) (m : Sat) (v : View) → Begins a.seat.me.0 a.window a.stamp n (Turn found stamp) m after
+    → v ≡ m.0 → new ≡ (recorded (entry v.actor stamp found n deed given) v, []) → ActorFits new after stamp
+done_seat {new} {after} deed given shared a of n near found stamp m v b same is =
+    let told = is ∙ ap (λ (u : View). (recorded (entry u.actor stamp found n deed given) u, [])) (same ∙ b.2.2.0) in
+    noted_seat a.seat.me new _ a.window after n stamp a.rests a.opens a.near told b.3 refl refl refl refl refl refl refl refl (lt shared a of n near)
+    (omega (arith, top-snoc 0 a.seat.me.0.entries (entry a.seat.me.0.actor stamp found n deed given)))
 
 -- the body that a seat has is its first
 pub first_held : (m : Sat) (n : ℕ) (P : Body → Type 0) → HoldsBody m n P → (body : Body) × (m.1 ≡ (n, body) ∷ rest m.1)

@@ -1,7 +1,7 @@
 -- The slots that are with the mover, in turns, and its phases.
 use Rattle.std.proofs.Common.{◌≡◌, ℕ, zero, suc, ◌+◌, ◌<◌, ◌≤◌, ◌≢◌, List, [], ◌∷◌, ◌++◌, length, set, map, take, drop, get_or, replicate, sym, refl, ap, ◌∙◌}
 use Rattle.std.proofs.Common.{arith, cond, eq-eqb, ne_eqb, length-append, length-set, subst, Some}
-use Rattle.std.specs.Prelude.{slice_index_or, slice_set}
+use Rattle.std.specs.Prelude.{slice_index_or, slice_set, vec_capacity}
 use Rattle.std.proofs.lemmas.List.{map-set}
 use mathlib.Core.Logic.{dite}
 use native.Mathlib.Decide.{ℕ_discrete}
@@ -12,6 +12,7 @@ use Rattle.shared_objects.specs.Phases.{phase_of, place_in, Makes}
 use Rattle.shared_objects.specs.declared.body.Body.{Body}
 use Rattle.shared_objects.specs.declared.view.Whereabouts.{Whereabouts}
 use Rattle.shared_objects.specs.declared.view.Whereabouts.TheVariants.{Here, Moving, Far}
+use Rattle.shared_objects.specs.declared.seats.MoverSeat.{MoverSeat}
 use Rattle.shared_objects.specs.declared.seats.Phase.{Phase}
 use Rattle.shared_objects.specs.declared.seats.Phase.TheVariants as phases
 use Rattle.shared_objects.specs.declared.view.View.{View}
@@ -175,38 +176,47 @@ held_landed v n p order before rest wide still is same_times held m e = dite (�
     ∙ still in omega (arith, z, e)))
     (λ ne. let old = held m (sym (ap is_moving (placed_else v n p m (λ q. ne (sym q)))) ∙ e) in omega (arith, same_times m, ap (times m) is, is_else n m ne))
 
--- a mover: its view, its slots, its phases, and the numbers of its slots, with room for so many
+-- a mover's seat: its view, its slots, its phases, and the numbers of its slots, with room for so many
 abbrev MoverFits : View → List (ℕ × Body) → List Phase → List ℕ → ℕ → Type 0
-MoverFits v slots named order room = Makes v × (named ≡ map phase_of v.out) × (length v.out ≡ length v.opening) × (order ≡ numbers slots)
-    × ((m : ℕ) → is_moving (place_of v m) ≡ 1 → 0 < times m order) × (length order ≡ total is_moving v.out) × (length v.opening ≤ room)
+MoverFits v slots named order most = record {
+  makes : Makes v;
+  phased : named ≡ map phase_of v.out;
+  wide : length v.out ≡ length v.opening;
+  ordered : order ≡ numbers slots;
+  held : (m : ℕ) → is_moving (place_of v m) ≡ 1 → 0 < times m order;
+  counted : length order ≡ total is_moving v.out;
+  room : length v.opening ≤ most;
+}
 
-module _ (v w : View) (n : ℕ) (p : Whereabouts) (old new : List (ℕ
-    × Body)) (named : List Phase) (phase : Phase) (order after : List ℕ) (room wider : ℕ) (fits : MoverFits v old named order room)
-    (wide : n < length v.out) (is : w ≡ placed n p v) (is_phase : phase_of p ≡ phase) (slots : after ≡ numbers new) (roomy : room ≤ wider) where
-  placed_fits : ((m : ℕ) → is_moving (place_of (placed n p v) m) ≡ 1 → 0 < times m after)
-      → length after + is_moving (place_of v n) ≡ length order + is_moving p → MoverFits w new (slice_set named n phase) after wider
-  placed_fits held count = subst (λ u. MoverFits u new (slice_set named n phase) after wider) (sym is) (
-    fits.0,
-    phased_after named v.out n p phase fits.1 is_phase,
-    length-set v.out n p ∙ fits.2,
-    slots,
-    held,
-    omega (arith, count, fits.5, total_placed v.out n p wide),
-    omega (arith, fits.6),
-  )
+module _ (m : MoverSeat) (w : View) (n : ℕ) (p : Whereabouts) (new : List (ℕ × Body)) (phase : Phase) (after : List ℕ) (most : ℕ)
+    (within : n < length m.seat.me.0.out) (is : w ≡ placed n p m.seat.me.0) (is_phase : phase_of p ≡ phase) (slots : after ≡ numbers new)
+    (roomy : vec_capacity m.order ≤ most) where
+  placed_fits : ((k : ℕ) → is_moving (place_of (placed n p m.seat.me.0) k) ≡ 1 → 0 < times k after)
+      → length after + is_moving (place_of m.seat.me.0 n) ≡ length m.order.items + is_moving p → MoverFits w new (slice_set m.phases.items n phase) after most
+  placed_fits held count = subst (λ u. MoverFits u new (slice_set m.phases.items n phase) after most) (sym is) (record {
+    makes = m.makes;
+    phased = phased_after m.phases.items m.seat.me.0.out n p phase m.phased is_phase;
+    wide = length-set m.seat.me.0.out n p ∙ m.wide;
+    ordered = slots;
+    held = held;
+    counted = omega (arith, count, m.counted, total_placed m.seat.me.0.out n p within);
+    room = omega (arith, m.room);
+  })
 
   -- one more is on its way, behind the others
-  pub taken_fits : after ≡ order ++ n ∷ [] → is_moving (place_of v n) ≡ 0 → is_moving p ≡ 1 → MoverFits w new (slice_set named n phase) after wider
-  taken_fits longer was still = placed_fits (subst (λ l. (m : ℕ) → is_moving (place_of (placed n p v) m) ≡ 1
-      → 0 < times m l) (sym longer) (held_taken v n p order fits.4))
-      (omega (arith, ap length longer, length-append order (n ∷ []), was, still))
+  pub taken_fits : after ≡ m.order.items ++ n ∷ [] → is_moving (place_of m.seat.me.0 n) ≡ 0 → is_moving p ≡ 1
+      → MoverFits w new (slice_set m.phases.items n phase) after most
+  taken_fits longer was still = placed_fits (subst (λ l. (k : ℕ) → is_moving (place_of (placed n p m.seat.me.0) k) ≡ 1
+      → 0 < times k l) (sym longer) (held_taken m.seat.me.0 n p m.order.items m.held))
+      (omega (arith, ap length longer, length-append m.order.items (n ∷ []), was, still))
 
   -- the first of them is on its way no more
-  pub landed_fits : (before : List ℕ) → before ≡ n ∷ after → ((m : ℕ) → times m before ≡ times m order) → length before ≡ length order
-      → is_moving (place_of v n) ≡ 1 → is_moving p ≡ 0
-      → MoverFits w new (slice_set named n phase) after wider
+  pub landed_fits : (before : List ℕ) → before ≡ n ∷ after → ((k : ℕ) → times k before ≡ times k m.order.items) → length before ≡ length m.order.items
+      → is_moving (place_of m.seat.me.0 n) ≡ 1 → is_moving p ≡ 0
+      → MoverFits w new (slice_set m.phases.items n phase) after most
   landed_fits before first same_times as_long was still =
-      placed_fits (held_landed v n p order before after wide still first same_times fits.4) (omega (arith, ap length first, as_long, was, still))
+      placed_fits (held_landed m.seat.me.0 n p m.order.items before after within still first same_times m.held)
+      (omega (arith, ap length first, as_long, was, still))
 
 abbrev pub zeros : ℕ → List ℕ
 zeros k = replicate k 0

@@ -63,15 +63,6 @@ invariant_of-mover-2 c = let m = c.args.mover.now in let v : View = m.seat.me.0 
     ∙ map-append (rest c.compare_exchange-found.new.seat.me.1) ((n, record { bytes = c.new.result }) ∷ [])
     ∙ ap (λ y. numbers (rest y.1) ++ n ∷ []) t.1 in
     let is = c.push_reserved.ensures.items in
-    let q = taken_fits v _ n p m.seat.me.1 c.turn.new.self.me.1 m.phases.items phases.Moving m.order.items c.push_reserved.new.self.items
-    (vec_capacity m.order) (vec_capacity c.push_reserved.new.self) (
-      m.makes,
-      m.phased,
-      m.wide,
-      m.ordered,
-      m.held,
-      m.counted,
-      m.room,
-    ) wide e refl (is ∙ ap (λ l. l ++ n ∷ []) m.ordered
-    ∙ sym slots) (omega (arith, c.push_reserved.ensures.capacity)) is (ap is_moving (c.if-not-is_here.ensures.here refl)) refl in
-    record { makes = q.0; phased = q.1; wide = q.2; ordered = q.3; held = q.4; counted = q.5; room = q.6 }
+    taken_fits m _ n p c.turn.new.self.me.1 phases.Moving c.push_reserved.new.self.items (vec_capacity c.push_reserved.new.self) wide e refl
+    (is ∙ ap (λ l. l ++ n ∷ []) m.ordered ∙ sym slots)
+    (omega (arith, c.push_reserved.ensures.capacity)) is (ap is_moving (c.if-not-is_here.ensures.here refl)) refl

@@ -44,15 +44,6 @@ invariant_of-mover c = let m = c.args.mover.now in let v : View = m.seat.me.0 in
     ap (λ y. numbers y.1) r ∙ ap (λ y. numbers (turned y.1)) f.1 ∙ map-append m.seat.me.1 ((object_at (n * 16), f.0) ∷ [])
     ∙ ap (λ k. numbers m.seat.me.1 ++ k ∷ []) (object_home n) in
     let is = c.push_reserved.ensures.items in
-    let q = taken_fits v _ n p m.seat.me.1 c.turn.new.self.me.1 m.phases.items phases.Moving m.order.items c.push_reserved.new.self.items
-    (vec_capacity m.order) (vec_capacity c.push_reserved.new.self) (
-      m.makes,
-      m.phased,
-      m.wide,
-      m.ordered,
-      m.held,
-      m.counted,
-      m.room,
-    ) wide e (ap (λ (y : Whereabouts). phase_of (called y)) t.1) (is ∙ ap (λ l. l ++ n ∷ []) m.ordered
-    ∙ sym slots) (omega (arith, c.push_reserved.ensures.capacity)) is (ap is_moving t.1) (ap (λ (y : Whereabouts). is_moving (called y)) t.1) in
-    record { makes = q.0; phased = q.1; wide = q.2; ordered = q.3; held = q.4; counted = q.5; room = q.6 }
+    taken_fits m _ n p c.turn.new.self.me.1 phases.Moving c.push_reserved.new.self.items (vec_capacity c.push_reserved.new.self) wide e
+    (ap (λ (y : Whereabouts). phase_of (called y)) t.1) (is ∙ ap (λ l. l ++ n ∷ []) m.ordered ∙ sym slots)
+    (omega (arith, c.push_reserved.ensures.capacity)) is (ap is_moving t.1) (ap (λ (y : Whereabouts). is_moving (called y)) t.1)

@@ -47,16 +47,7 @@ invariant_of-mover c = let m = c.args.mover.now in let v : View = m.seat.me.0 in
     let slots : numbers c.fetch_add.new.seat.me.1 ≡ numbers (rest c.bring.new.seat.me.1) = ap (λ y. numbers y.1) f in
     let is = c.remove.ensures.items in
     let less : c.remove.new.self.items ≡ b.first.0 = is ∙ ap (drop 1) b.first.1 in
-    let q = landed_fits v _ n p m.seat.me.1 c.fetch_add.new.seat.me.1 m.phases.items phases.Far m.order.items c.remove.new.self.items (vec_capacity m.order)
-    (vec_capacity c.remove.new.self) (
-      m.makes,
-      m.phased,
-      m.wide,
-      m.ordered,
-      m.held,
-      m.counted,
-      m.room,
-    ) wide e (ap (λ (y : Whereabouts). phase_of (sent y)) t.1) (is ∙ ap (drop 1) b.ordered ∙ numbers_rest c.bring.new.seat.me.1
-    ∙ sym slots) (omega (arith, b.room.1, c.remove.ensures.capacity))
-    c.bring.new.order.items (b.first.1 ∙ ap (λ l. n ∷ l) (sym less)) b.held b.room.0 (ap is_moving t.1) (ap (λ (y : Whereabouts). is_moving (sent y)) t.1) in
-    record { makes = q.0; phased = q.1; wide = q.2; ordered = q.3; held = q.4; counted = q.5; room = q.6 }
+    landed_fits m _ n p c.fetch_add.new.seat.me.1 phases.Far c.remove.new.self.items (vec_capacity c.remove.new.self) wide e
+    (ap (λ (y : Whereabouts). phase_of (sent y)) t.1) (is ∙ ap (drop 1) b.ordered ∙ numbers_rest c.bring.new.seat.me.1 ∙ sym slots)
+    (omega (arith, b.room.1, c.remove.ensures.capacity))
+    c.bring.new.order.items (b.first.1 ∙ ap (λ l. n ∷ l) (sym less)) b.held b.room.0 (ap is_moving t.1) (ap (λ (y : Whereabouts). is_moving (sent y)) t.1)

@@ -9,17 +9,14 @@ use Rattle.shared_objects.proofs.Acting.{busy_seat, worn_seat, done_seat, same_b
 use Rattle.shared_objects.proofs.table.SharedTable.put.Goals as goal
 
 pub invariant_of-actor-in-Busy : goal.invariant_of-actor-in-Busy
-invariant_of-actor-in-Busy c = let b = c.in-Busy.ensures.begins in
-    busy_seat c.args.self.now c.args.actor.now c.requires _ _ c.args.number (c.if-not-has_range.ensures.object refl) b.1 b.0
+invariant_of-actor-in-Busy c = busy_seat c.args.self.now c.args.actor.now c.requires _ (c.if-not-has_range.ensures.object refl) c.in-Busy.ensures.begins
 
 pub invariant_of-actor-in-Worn : goal.invariant_of-actor-in-Worn
-invariant_of-actor-in-Worn c = let b = c.in-Worn.ensures.begins in
-    worn_seat c.args.self.now c.args.actor.now c.requires _ _ c.args.number (c.if-not-has_range.ensures.object refl) b.1 b.0.0 b.0.2
+invariant_of-actor-in-Worn c = worn_seat c.args.self.now c.args.actor.now c.requires _ (c.if-not-has_range.ensures.object refl) c.in-Worn.ensures.begins
 
 pub invariant_of-actor-in-Turn : goal.invariant_of-actor-in-Turn
-invariant_of-actor-in-Turn c = let b = c.in-Turn.ensures.begins in
-    done_seat c.args.self.now c.args.actor.now c.requires _ _ c.args.number (c.if-not-has_range.ensures.object refl) b.3 c.in-Turn.found c.in-Turn.stamp _ _
-    (Writes c.args.offset c.args.bytes.now) Nothing (c.write.ensures.view ∙ b.2.2.0) c.record_write.ensures.me
+invariant_of-actor-in-Turn c = done_seat (Writes c.args.offset c.args.bytes.now) Nothing c.args.self.now c.args.actor.now c.requires _
+    (c.if-not-has_range.ensures.object refl) _ _ _ _ c.in-Turn.ensures.begins c.write.ensures.view c.record_write.ensures.me
 
 pub write-requires-clause-held : goal.write-requires-clause-held
 write-requires-clause-held c = let t = c.in-Turn.ensures.begins.2 in let h = c.if-not-has_range.ensures.value.0 refl in

@@ -7,23 +7,20 @@ use Rattle.shared_objects.proofs.Acting.{busy_seat, worn_seat, done_seat, reache
 use Rattle.shared_objects.proofs.table.SharedTable.touch.Goals as goal
 
 pub invariant_of-actor-in-Busy : goal.invariant_of-actor-in-Busy
-invariant_of-actor-in-Busy c = let b = c.in-Busy.ensures.begins in
-    busy_seat c.args.self.now c.args.actor.now c.requires _ _ c.args.number
+invariant_of-actor-in-Busy c = busy_seat c.args.self.now c.args.actor.now c.requires c.args.number
     (c.length.ensures.object (let i : IsInside c.args.op.now c.length.result = c.if-not-is_inside.ensures.inside.0 refl in
-    omega (arith, reaches_some c.args.op.now))) b.1 b.0
+    omega (arith, reaches_some c.args.op.now))) c.in-Busy.ensures.begins
 
 pub invariant_of-actor-in-Worn : goal.invariant_of-actor-in-Worn
-invariant_of-actor-in-Worn c = let b = c.in-Worn.ensures.begins in
-    worn_seat c.args.self.now c.args.actor.now c.requires _ _ c.args.number
+invariant_of-actor-in-Worn c = worn_seat c.args.self.now c.args.actor.now c.requires c.args.number
     (c.length.ensures.object (let i : IsInside c.args.op.now c.length.result = c.if-not-is_inside.ensures.inside.0 refl in
-    omega (arith, reaches_some c.args.op.now))) b.1 b.0.0 b.0.2
+    omega (arith, reaches_some c.args.op.now))) c.in-Worn.ensures.begins
 
 pub invariant_of-actor-in-Turn : goal.invariant_of-actor-in-Turn
-invariant_of-actor-in-Turn c = let b = c.in-Turn.ensures.begins in
-    done_seat c.args.self.now c.args.actor.now c.requires _ _ c.args.number
+invariant_of-actor-in-Turn c = done_seat (Accesses c.args.op.now) (Number c.act-reply.result) c.args.self.now c.args.actor.now c.requires c.args.number
     (c.length.ensures.object (let i : IsInside c.args.op.now c.length.result = c.if-not-is_inside.ensures.inside.0 refl in
-    omega (arith, reaches_some c.args.op.now))) b.3 c.in-Turn.found c.in-Turn.stamp _ _ (Accesses c.args.op.now) (Number c.act-reply.result)
-    (c.act-reply.ensures.view ∙ b.2.2.0) c.record_access.ensures.me
+    omega (arith, reaches_some c.args.op.now)))
+    _ _ _ _ c.in-Turn.ensures.begins c.act-reply.ensures.view c.record_access.ensures.me
 
 pub act-reply-requires-clause-held : goal.act-reply-requires-clause-held
 act-reply-requires-clause-held c = let t = c.in-Turn.ensures.begins.2 in
