@@ -72,30 +72,16 @@ module _ (returns : Bool) (key : List (List ℕ)) (s : St) (o : Kept returns key
   -- the step adds no entry
   unlogged : (w : View) (hs : List (maybe.Option Body)) → SameSeat v w → w.entries ≡ v.entries → length hs ≡ length s.homes
       → ((m : ℕ) → m ≢ n → get_elem? hs m ≡ get_elem? s.homes m) → ((m : ℕ) → m ≢ n → Alike m v w)
-      → WordIs (tally n (set s.views id w)) → (tally n (set s.views id w)).turns ≤ 1
-      → (tally n (set s.views id w)).moving + (tally n (set s.views id w)).far ≤ 1 → RestsOut (tally n (set s.views id w))
-      → SlotFits returns (bytes_of key n) (tally n (set s.views id w)) (get_elem? hs n) (o.logs n)
+      → Fits returns (bytes_of key n) (tally n (set s.views id w)) x (get_elem? hs n) (o.logs n)
       → (id ≡ 0 → (0 < w.made) × (w.scopes ≡ []) × (w.passing ≡ [])) → ((m : ℕ) → has_open m w + has_pass m w ≤ 1)
       → ((t : Turn) → w.turn ≡ Some t → TurnFits returns key o.logs w.scopes t)
       → ((m : ℕ) (bytes : List ℕ) → bytes_taken (place_of w m) ≡ Some bytes → Stands returns (bytes_of key m) (o.logs m) bytes)
       → ((m : Mark) → Has w.marks m → MarkFits o.logs m)
       → Kept returns key (state (set s.words (word_of n) x) hs (set s.views id w))
-  unlogged w hs made wrote long homes alike word_is one_turn one_out here slot first once turn out marks =
-      let f = o.objects.fits n near in let k = o.seats.knows id v me in
+  unlogged w hs made wrote long homes alike fits first once turn out marks =
+      let k = o.seats.knows id v me in
       moves returns key s o id v w n x hs (o.logs n) me near alive_ long homes alike made
-      (record {
-        hot = hot;
-        one_hot = one_hot;
-        word_is = word_is;
-        one_turn = one_turn;
-        one_out = one_out;
-        here = here;
-        small = f.small;
-        chained = f.chained;
-        inside = f.inside;
-        answers = f.answers;
-        slot = slot;
-      })
+      fits
       (subst (λ l. Knows returns key l id w) (grown_same o.logs n) (record {
         actor = λ _. made.4 ∙ k.actor alive_;
         opening_is = λ _. made.5 ∙ k.opening_is alive_;
@@ -136,8 +122,19 @@ module _ (returns : Bool) (key : List (List ℕ)) (s : St) (o : Kept returns key
         refl,
         refl,
       ) refl refl (λ _ _. refl) (λ m ne. record { turns = refl; opens = (apart m ne).0; passes = (apart m ne).1; moving = refl; far = refl })
-      (omega (arith, h.0)) (omega (arith, f.one_turn)) (omega (arith, f.one_out)) (λ out. let r = h.1 (omega arith) in
-      omega arith) (same_slot (omega arith) (omega arith) (omega arith) f.slot)
+      (record {
+        hot = hot;
+        word_is = omega (arith, h.0);
+        one_hot = one_hot;
+        one_turn = omega (arith, f.one_turn);
+        one_out = omega (arith, f.one_out);
+        here = λ out. let r = h.1 (omega arith) in omega arith;
+        small = f.small;
+        chained = f.chained;
+        inside = f.inside;
+        answers = f.answers;
+        slot = same_slot (omega arith) (omega arith) (omega arith) f.slot;
+      })
       first (λ m. dite (ℕ_discrete m n) (λ e. subst (λ i. times i scopes + times i passing ≤ 1) (sym e) once) (λ ne. omega (
         arith,
         (apart m ne).0,
@@ -165,9 +162,20 @@ module _ (returns : Bool) (key : List (List ℕ)) (s : St) (o : Kept returns key
       (total-set (has_moving n) s.views id v w me) (total-set (has_far n) s.views id v w me) in
       unlogged w (set s.homes n slot) (refl, refl, refl, refl, refl, refl, refl) refl (length-set s.homes n slot) (λ m ne. set_else s.homes n m slot ne)
       (λ m ne. record { turns = (apart m ne).0; opens = refl; passes = refl; moving = ap is_moving (apart m ne).1; far = ap is_far (apart m ne).1 })
-      (omega (arith, h.0)) h.1 h.2 (λ away. let r = h.3 (omega arith) in omega arith)
-      (subst (λ home. SlotFits returns (bytes_of key n) (tally n vs) home (o.logs n)) (sym (set_here s.homes n slot (omega (arith, o.objects.slots))))
-      (same_slot refl refl refl h.4))
+      (record {
+        hot = hot;
+        word_is = omega (arith, h.0);
+        one_hot = one_hot;
+        one_turn = h.1;
+        one_out = h.2;
+        here = λ away. let r = h.3 (omega arith) in omega arith;
+        small = f.small;
+        chained = f.chained;
+        inside = f.inside;
+        answers = f.answers;
+        slot = subst (λ home. SlotFits returns (bytes_of key n) (tally n vs) home (o.logs n)) (sym (set_here s.homes n slot (omega (arith, o.objects.slots))))
+            (same_slot refl refl refl h.4);
+      })
       k.first k.opens_once held
       (λ m bytes e. dite (ℕ_discrete m n)
       (λ here. subst (λ i. Stands returns (bytes_of key i) (o.logs i) bytes) (sym here)
