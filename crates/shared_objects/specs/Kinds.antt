@@ -10,7 +10,7 @@ use Rattle.memory.specs.Objects.{bytes_of}
 use Rattle.memory.specs.declared.deeds.Deed.TheVariants.{Reads}
 use Rattle.memory.specs.declared.deeds.Given.TheVariants.{Nothing}
 use Rattle.scopes.specs.Windows.{noted}
-use Rattle.shared_objects.specs.Rule.{place_of, word_of, Kept}
+use Rattle.shared_objects.specs.Rule.{place_of, word_of, spent, Kept}
 use Rattle.shared_objects.specs.declared.body.Body.{Body}
 use Rattle.shared_objects.specs.declared.view.SharedEntry.{SharedEntry}
 use Rattle.shared_objects.specs.declared.view.Turn.{Turn}
@@ -61,47 +61,17 @@ without n (x ∷ xs) = if x == n then xs else x ∷ without n xs
 
 -- ---- views
 
--- the first seat of a table, with each object here, of which none was cooled
+-- the first seat of a table, with each object here, of which none was cooled. It has done as little as a spent seat has left.
 abbrev pub dealer : Bool → List (List ℕ) → View
-dealer returns opening = record {
-  made = 1;
-  alive = 1;
-  live = true;
-  gathered = [];
-  actor = 0;
-  opening = opening;
-  returns = returns;
-  scopes = [];
-  passing = [];
-  turn = None;
-  entries = [];
-  marks = [];
-  out = map (λ _. Here) opening;
-  coolings = [];
-}
+dealer returns opening = record spent { made = 1; alive = 1; live = true; opening = opening; returns = returns; out = map (λ _. Here) opening }
 
 -- the first seat made one more
 abbrev pub dealt : View → View
 dealt v = record v { made = v.made + 1; alive = v.alive + 1 }
 
--- the seat that the first one makes next: its actor is the number of seats before it
+-- the seat that the first one makes next: its actor is the number of seats before it. It has done nothing either.
 abbrev pub newcomer : View → View
-newcomer v = record {
-  made = 0;
-  alive = 0;
-  live = true;
-  gathered = [];
-  actor = v.made;
-  opening = v.opening;
-  returns = v.returns;
-  scopes = [];
-  passing = [];
-  turn = None;
-  entries = [];
-  marks = [];
-  out = [];
-  coolings = [];
-}
+newcomer v = record spent { live = true; actor = v.made; opening = v.opening; returns = v.returns }
 
 -- what an actor did
 abbrev pub part : ℕ → List SharedEntry → List Mark → Part
