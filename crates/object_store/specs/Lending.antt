@@ -7,6 +7,7 @@ use Rattle.memory.specs.Memories.{Memories}
 use Rattle.memory.specs.Objects.{bytes_of}
 use Rattle.object_store.specs.Asking.{AsksNothing, sent_after}
 use Rattle.object_store.specs.Stores.{StoreWithin, Touches, with_window}
+pub use Rattle.object_store.specs.Stores.{HasWindow, store_memory}
 
 -- One access by a machine. The far store is asked nothing; an object that is written isn't clean.
 pub record TouchesWithin {X : Type 0} (who : ℕ) (old : StoreWithin X) (n : ℕ) (op : Op) (r : Reach) (new : StoreWithin X) : Type 0 where

@@ -3,6 +3,8 @@ use Rattle.std.specs.Prelude.{◌≡◌, ℕ, ◌+◌, List}
 use mathlib.Core.Option.{some}
 use lib.ListN.{get_elem?}
 use Rattle.shared_objects.specs.Kinds.{newcomer}
+pub use Rattle.shared_objects.specs.Kinds.{dealer}
+pub use Rattle.shared_objects.specs.Tables.{IsActorOf, IsMoverOf}
 use Rattle.shared_objects.specs.declared.view.View.{View}
 use Rattle.shared_objects.specs.declared.seats.ActorSeat.{ActorSeat}
 

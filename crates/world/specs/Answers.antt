@@ -16,12 +16,13 @@ use Rattle.object_store.specs.declared.errors.GetError.TheVariants as get_error
 use Rattle.debugger.specs.declared.start.Start.{Start}
 use Rattle.debugger.specs.declared.debuggee.Debuggee.{Debuggee}
 use Rattle.debugger.specs.Debuggees.{debuggee_start}
-use Rattle.world.specs.declared.replies.Reply.{Reply}
+pub use Rattle.world.specs.declared.replies.Reply.{Reply}
 use Rattle.world.specs.declared.replies.Reply.TheVariants.{Made, Freed, Done, Bytes, Shipped, NoMemory, Full, NoRoom, Outside, Away, Misplaced, Scoped, Faulted}
 use Rattle.world.specs.declared.replies.Reply.TheVariants.{Refused, Missing}
-use Rattle.world.specs.declared.events.Event.{Event}
+pub use Rattle.world.specs.declared.events.Event.{Event}
 use Rattle.world.specs.declared.events.Event.TheVariants as event
-use Rattle.world.specs.declared.events.ObjectCommand.{ObjectCommand}
+pub use Rattle.world.specs.declared.events.ObjectCommand.{ObjectCommand}
+pub use Rattle.world.specs.declared.world.moving.Move.{Move}
 use Rattle.world.specs.declared.events.ObjectCommand.TheVariants as object
 use Rattle.world.specs.WorldState.{WorldState, AreAllShipped}
 use Rattle.world.specs.Machines.{AnswersMachine}

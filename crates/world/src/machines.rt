@@ -1,7 +1,6 @@
 //! Commands on machines, by their numbers.
 ghost use Rattle.std.specs.Prelude.{◌≡◌, ◌≤◌, ◌<◌, suc, None, length, IfSome, IfNone};
-ghost use Rattle.object_store.specs.Lending.{within_memory};
-ghost use Rattle.object_store.specs.Stores.{HasWindow, store_memory};
+ghost use Rattle.object_store.specs.Lending.{HasWindow, within_memory, store_memory};
 ghost use Rattle.scopes.specs.Windows.{machine_limit};
 ghost use Rattle.debugger.specs.declared.commands.MachineCommand.{MachineCommand};
 ghost use Rattle.debugger.specs.Debuggees.{AnswersStep};

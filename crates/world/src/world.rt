@@ -2,15 +2,12 @@
 ghost use Rattle.std.specs.Prelude.{◌≡◌, ◌≢◌, ◌≤◌, ◌++◌, List, map, true, length, IfOk, IfErr, OnOk, OnErr};
 ghost use Rattle.far_store.specs.Calls.{Calls};
 ghost use Rattle.memory.specs.Objects.{object_limit};
-ghost use Rattle.object_store.specs.Lending.{within_memory};
-ghost use Rattle.object_store.specs.Stores.{store_memory};
+ghost use Rattle.object_store.specs.Lending.{within_memory, store_memory};
 ghost use Rattle.scopes.specs.Windows.{machine_limit};
 ghost use Rattle.object_store.specs.Calls.{Frees};
 ghost use Rattle.object_store.specs.Asking.{AsksToFree};
 ghost use Rattle.object_store.specs.Parts.{AllHere, RefusesParts, bodies_of, forgets_all};
 ghost use Rattle.debugger.specs.declared.commands.MachineCommand.{MachineCommand};
-ghost use Rattle.world.specs.declared.replies.Reply.{Reply};
-ghost use Rattle.world.specs.declared.events.Event.{Event};
 ghost use Rattle.world.specs.Run.{Runs};
 ghost use Rattle.world.specs.WorldState.{opened_world, state_of};
 ghost use Rattle.world.specs.Asking.{AsksToMake, AsksToPut, AsksMove, AsksObject, Asks, AnswersWithin};
@@ -19,7 +16,7 @@ ghost use Rattle.world.specs.Machines.{AnswersMachine, reply_of, refused_stack};
 ghost use Rattle.world.specs.Running.{RunsMachine, RunAsks};
 ghost use Rattle.world.specs.Unseen.{IsPlainRun};
 ghost use Rattle.object_store.specs.declared.errors.GetError.{GetError};
-ghost use Rattle.world.specs.Answers.{Answers, AnswersMake, AnswersPut, AnswersGet, refused_get, AnswersMove, AnswersObject, AnswersShip};
+ghost use Rattle.world.specs.Answers.{Event, Reply, Answers, AnswersMake, AnswersPut, AnswersGet, refused_get, AnswersMove, AnswersObject, AnswersShip};
 ghost use Rattle.world.specs.Moves.{MoveAsks, Moves, moved_reply, place_before};
 
 mod handing;

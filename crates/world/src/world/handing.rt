@@ -8,11 +8,7 @@ ghost use Rattle.placement.specs.declared.places.Place.TheVariants as place;
 ghost use Rattle.object_store.specs.Asking.{AsksToFree, AsksToLeave, AsksToReturn};
 ghost use Rattle.object_store.specs.Stores.{StandsAt};
 ghost use Rattle.object_store.specs.Handing.{FreesFar};
-ghost use Rattle.world.specs.declared.events.Event.{Event};
-ghost use Rattle.world.specs.declared.events.ObjectCommand.{ObjectCommand};
-ghost use Rattle.world.specs.declared.world.moving.Move.{Move};
-ghost use Rattle.world.specs.declared.replies.Reply.{Reply};
-ghost use Rattle.world.specs.Answers.{Answers, reply_to_move};
+ghost use Rattle.world.specs.Answers.{Event, ObjectCommand, Move, Reply, Answers, reply_to_move};
 ghost use Rattle.world.specs.Plain.{PlainAnswers, plain_of};
 ghost use Rattle.world.specs.WorldState.{state_of};
 
