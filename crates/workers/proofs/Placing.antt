@@ -13,6 +13,7 @@ use Rattle.shared_objects.specs.Rule.{place_of}
 use Rattle.shared_objects.specs.declared.view.Whereabouts.{Whereabouts}
 use Rattle.shared_objects.specs.declared.view.Whereabouts.TheVariants.{Here, Moving, Far}
 use Rattle.shared_objects.specs.declared.view.View.{View}
+use Rattle.shared_objects.specs.declared.seats.MoverSeat.{MoverSeat}
 use Rattle.placement.specs.declared.places.Moved.TheVariants.{NoObject}
 use Rattle.workers.specs.declared.job.Direction.{Direction}
 use Rattle.workers.specs.declared.job.Direction.TheVariants.{Leave, Return}
@@ -162,6 +163,18 @@ module _ {P : Type 0} (bytes_in : P → List ℕ) (v : View) (n : ℕ) (items : 
   lacks d o is none = none_here (bytes_of v.opening n) (place_of v n)
       (subst (λ (q : Option (List ℕ)). KeepsParcel (bytes_of v.opening n) (place_of v n) q)
       (parcel_at bytes_in items n d None (at_n o) (sym is ∙ none)) (keeps.1 n))
+
+-- an object of the opening of which a parcel is kept is far, and the parcel stands for its bytes
+pub found_far : {P : Type 0} {opening : List (List ℕ)} (bytes_in : P → List ℕ) (seat : MoverSeat) (n : ℕ) (items : List (Option P)) (d : Option P) (parcel : P)
+    → seat.seat.me.0.opening ≡ opening → IsObject opening n → KeepsParcels seat.seat.me.0 (map (parcel_bytes bytes_in) items)
+    → d ≡ get_or items n d → Some parcel ≡ d
+    → IsObject seat.seat.me.0.opening n × (place_of seat.seat.me.0 n ≡ Far (bytes_in parcel))
+    × (length (bytes_in parcel) ≡ length (bytes_of seat.seat.me.0.opening n))
+found_far bytes_in seat n items d parcel same object keeps is some =
+    let v : View = seat.seat.me.0 in
+    let o = subst (λ x. IsObject x n) (sym same) object in
+    let far = found bytes_in v n items (inside v n o seat.wide) seat.wide keeps d parcel o is some in
+    (o, far.0, far.1)
 
 -- ---- requests
 

@@ -10,15 +10,14 @@ use Rattle.shared_objects.specs.Rule.{place_of}
 use Rattle.shared_objects.specs.declared.view.Whereabouts.TheVariants.{Here, Far}
 use Rattle.shared_objects.specs.declared.view.View.{View}
 use Rattle.workers.specs.Moves.{MoverState, IsMoverView, KeepsParcels, LeavesFor, ReturnsFrom, AsksToLeave, AsksToReturn}
-use Rattle.workers.proofs.Placing.{inside, found, kept_here}
+use Rattle.workers.proofs.Placing.{inside, found_far, kept_here}
 use Rattle.workers.proofs.movers.Mover.bring_back.Goals as goal
 
 pub fetch-requires-clause-long : goal.fetch-requires-clause-long
 fetch-requires-clause-long g c =
-    let m = c.self.inside in let v : View = m.seat.seat.me.0 in let n : ℕ = c.args.number in let inv = c.self.invariant in
-    let o = subst (λ x. IsObject x n) (sym inv.0.1.0) c.requires.object in
-    let far = found g.F.FarStore.bytes_in v n m.parcels.items (inside v n o m.seat.wide) m.seat.wide inv.1 c.index_mut.result.now c.in-Some.kept o
-    c.index_mut.ensures.value c.in-Some.ensures.value in far.1
+    let m = c.self.inside in let inv = c.self.invariant in
+    let far = found_far g.F.FarStore.bytes_in m.seat c.args.number m.parcels.items c.index_mut.result.now c.in-Some.kept inv.0.1.0 c.requires.object inv.1
+    c.index_mut.ensures.value c.in-Some.ensures.value in far.2
 
 pub invariant_of-self-in-Ok : goal.invariant_of-self-in-Ok
 invariant_of-self-in-Ok g c =
@@ -52,15 +51,14 @@ invariant_of-self-in-Err g c =
 
 pub returns-in-Ok-clause-asks : goal.returns-in-Ok-clause-asks
 returns-in-Ok-clause-asks g c =
-    let m = c.self.inside in let v : View = m.seat.seat.me.0 in let n : ℕ = c.args.number in let inv = c.self.invariant in
-    let o = subst (λ x. IsObject x n) (sym inv.0.1.0) c.requires.object in
-    let far = found g.F.FarStore.bytes_in v n m.parcels.items (inside v n o m.seat.wide) m.seat.wide inv.1 c.index_mut.result.now c.in-Some.kept o
+    let m = c.self.inside in let inv = c.self.invariant in
+    let far = found_far g.F.FarStore.bytes_in m.seat c.args.number m.parcels.items c.index_mut.result.now c.in-Some.kept inv.0.1.0 c.requires.object inv.1
     c.index_mut.ensures.value c.in-Some.ensures.value in
     let f = c.in-Ok.ensures.fetched in
     subst (λ (s : MoverState g.row.F.Denot).
-    AsksToReturn g.F.FarStore.RETURNS g.F.FarStore.called g.F.FarStore.faults_of s.view s.store n Done c.forget.new.self) c.self.view_is record {
+    AsksToReturn g.F.FarStore.RETURNS g.F.FarStore.called g.F.FarStore.faults_of s.view s.store c.args.number Done c.forget.new.self) c.self.view_is record {
       bytes = g.F.FarStore.bytes_in c.in-Some.kept;
-      was_far = far.0;
+      was_far = far.1;
       came = f.1.0;
       as_many = f.1.1;
       calls = (
@@ -77,28 +75,25 @@ returns-in-Ok-clause-asks g c =
 
 pub returns-in-Err-clause-moves : goal.returns-in-Err-clause-moves
 returns-in-Err-clause-moves g c =
-    let m = c.self.inside in let v : View = m.seat.seat.me.0 in let n : ℕ = c.args.number in let inv = c.self.invariant in
-    let o = subst (λ x. IsObject x n) (sym inv.0.1.0) c.requires.object in
-    let far = found g.F.FarStore.bytes_in v n m.parcels.items (inside v n o m.seat.wide) m.seat.wide inv.1 c.index_mut.result.now c.in-Some.kept o
+    let m = c.self.inside in let inv = c.self.invariant in
+    let far = found_far g.F.FarStore.bytes_in m.seat c.args.number m.parcels.items c.index_mut.result.now c.in-Some.kept inv.0.1.0 c.requires.object inv.1
     c.index_mut.ensures.value c.in-Some.ensures.value in
-    subst (λ (s : MoverState g.row.F.Denot). ReturnsFrom s.view n (Fault c.in-Err.fault) c.fetch.new.seat.seat.me.0) c.self.view_is (
-      o,
-      ap phase_of far.0,
+    subst (λ (s : MoverState g.row.F.Denot). ReturnsFrom s.view c.args.number (Fault c.in-Err.fault) c.fetch.new.seat.seat.me.0) c.self.view_is (
+      far.0,
+      ap phase_of far.1,
       c.in-Err.ensures.fetched.0,
     )
 
 pub returns-in-Err-clause-asks : goal.returns-in-Err-clause-asks
 returns-in-Err-clause-asks g c =
-    let m = c.self.inside in let v : View = m.seat.seat.me.0 in let n : ℕ = c.args.number in let inv = c.self.invariant in
-    let o = subst (λ x. IsObject x n) (sym inv.0.1.0) c.requires.object in
-    let far = found g.F.FarStore.bytes_in v n m.parcels.items (inside v n o m.seat.wide) m.seat.wide inv.1 c.index_mut.result.now c.in-Some.kept o
+    let m = c.self.inside in let inv = c.self.invariant in
+    let far = found_far g.F.FarStore.bytes_in m.seat c.args.number m.parcels.items c.index_mut.result.now c.in-Some.kept inv.0.1.0 c.requires.object inv.1
     c.index_mut.ensures.value c.in-Some.ensures.value in
-    let f = c.in-Err.ensures.fetched in
     subst (λ (s : MoverState g.row.F.Denot).
-    AsksToReturn g.F.FarStore.RETURNS g.F.FarStore.called g.F.FarStore.faults_of s.view s.store n (Fault c.in-Err.fault) c.fetch.new.store) c.self.view_is
+    AsksToReturn g.F.FarStore.RETURNS g.F.FarStore.called g.F.FarStore.faults_of s.view s.store c.args.number (Fault c.in-Err.fault) c.fetch.new.store) c.self.view_is
     record {
       bytes = g.F.FarStore.bytes_in c.in-Some.kept;
-      was_far = far.0;
-      asked = f.1;
-      faults_are = f.2;
+      was_far = far.1;
+      asked = c.in-Err.ensures.fetched.1;
+      faults_are = c.in-Err.ensures.fetched.2;
     }
