@@ -1,11 +1,7 @@
 //! One machine, run by one worker until it stops.
 ghost use Rattle.std.specs.Prelude.{◌≡◌, ◌≤◌, length, All, IfOk, IfSome};
-ghost use Rattle.shared_objects.specs.Kinds.{dealer};
-ghost use Rattle.shared_objects.specs.Opened.{AreFresh};
-ghost use Rattle.shared_objects.specs.Tables.{IsActorOf};
-ghost use Rattle.workers.specs.Cells.{IsTableOf};
-ghost use Rattle.workers.specs.TableNames.{each_lent};
-ghost use Rattle.workers.specs.Pools.{machines_of};
+ghost use Rattle.shared_objects.specs.Opened.{AreFresh, IsActorOf, dealer};
+ghost use Rattle.workers.specs.Pools.{IsTableOf, each_lent, machines_of};
 
 use debugger::{Debuggee, Start};
 use far_store::{FarStore, OwnStore};

@@ -1,10 +1,15 @@
 -- What a pool is made of.
 use Rattle.std.specs.Prelude.{◌≡◌, ℕ, ◌+◌, Bool, true, List, [], ◌∷◌, map, Option, Some, None}
 use Rattle.atomic_table.specs.Seated.{TableId}
+use Rattle.shared_objects.specs.Tables.{table_opening}
 use Rattle.shared_objects.specs.declared.seats.ActorSeat.{ActorSeat}
+use Rattle.shared_objects.specs.declared.table.SharedTable.{SharedTable}
 use Rattle.machine.specs.MachineState.{MachineState}
 use Rattle.debugger.specs.declared.debuggee.Debuggee.{Debuggee}
+use Rattle.workers.specs.declared.table_name.TableName.{Ghosts}
 use Rattle.workers.specs.Cells.{IsSeatOf, CellState}
+pub use Rattle.workers.specs.Cells.{IsTableOf}
+pub use Rattle.workers.specs.TableNames.{each_lent}
 
 -- The seat of the actor of this number, which has done nothing.
 abbrev pub IsNewSeat : TableId → List (List ℕ) → ℕ → ActorSeat → Type 0
@@ -23,6 +28,16 @@ machines_of ds = map (λ (d : Debuggee). d.machine) ds
 abbrev pub machine_of : Option Debuggee → Option MachineState
 machine_of None = None
 machine_of (Some d) = Some d.machine
+
+-- What a call that opens a table picks for its name: that table, the machines there, and how many actors have seats.
+abbrev pub named : {Name : Type 0} → SharedTable → List Debuggee → ℕ → Ghosts Name
+named shared ds seats = record {
+  table = shared.table.shared.table_id;
+  opening = table_opening shared;
+  starts = machines_of ds;
+  seats = seats;
+  lent = each_lent;
+}
 
 -- The machine's number is put into the queue, or not: nothing else changes, and where it is there already nothing at all.
 abbrev pub QueuesCell : CellState → CellState → Type 0
