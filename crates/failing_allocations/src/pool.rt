@@ -1,11 +1,7 @@
 //! A pool with one machine, and a mover that takes the machine's object away and brings it back.
 ghost use Rattle.std.specs.Prelude.{◌≡◌, ◌≤◌, length, All, IfSome};
-ghost use Rattle.shared_objects.specs.Kinds.{dealer};
-ghost use Rattle.shared_objects.specs.Opened.{AreFresh, seated};
-ghost use Rattle.shared_objects.specs.Tables.{IsActorOf};
-ghost use Rattle.workers.specs.Cells.{IsTableOf};
-ghost use Rattle.workers.specs.TableNames.{each_lent};
-ghost use Rattle.workers.specs.Pools.{machines_of};
+ghost use Rattle.shared_objects.specs.Opened.{AreFresh, seated, IsActorOf, dealer};
+ghost use Rattle.workers.specs.Pools.{IsTableOf, each_lent, machines_of};
 
 use crate::bodies::bodies;
 use debugger::{Debuggee, Start, StepReply, Way};

@@ -2,7 +2,7 @@
 use Rattle.std.specs.Prelude.{◌≡◌, ℕ, ◌+◌, Bool, true, List, [], ◌∷◌, length, map, replicate, None}
 use Rattle.atomic_table.specs.Seated.{TableId}
 use Rattle.object_store.specs.Parts.{AllHere, IsFirstAway, bodies_of}
-use Rattle.scopes.specs.Windows.{machine_limit}
+pub use Rattle.scopes.specs.Windows.{machine_limit}
 use Rattle.shared_objects.specs.declared.seats.ActorSeat.{ActorSeat}
 use Rattle.shared_objects.specs.declared.table.SharedTable.{SharedTable}
 use Rattle.shared_objects.specs.declared.view.Whereabouts.TheVariants.{Here}

@@ -4,14 +4,12 @@ ghost use Rattle.console.specs.Held.{nothing_held};
 ghost use Rattle.far_store.specs.Calls.{Calls};
 ghost use Rattle.object_store.specs.Parts.{AllHere, forgets_all};
 ghost use Rattle.world.specs.WorldState.{state_of};
-ghost use Rattle.scopes.specs.Windows.{machine_limit};
 ghost use Rattle.memory.specs.Objects.{object_limit};
-ghost use Rattle.shared_objects.specs.Kinds.{dealer};
-ghost use Rattle.shared_objects.specs.Opened.{AreFresh, seated};
+ghost use Rattle.shared_objects.specs.Opened.{AreFresh, IsActorOf, IsMoverOf, dealer, seated};
 ghost use Rattle.shared_objects.specs.Opening.{opening_bytes};
-ghost use Rattle.shared_objects.specs.Tables.{IsActorOf, IsMoverOf, table_opening};
+ghost use Rattle.shared_objects.specs.Tables.{table_opening};
 ghost use Rattle.workers.specs.Cells.{IsSeatOf};
-ghost use Rattle.ship_service.specs.Opening.{AreFreshSeats, IsNamed, RefusesWorld, connection_limit, first_mover, opened_bytes, seat_count};
+ghost use Rattle.ship_service.specs.Opening.{machine_limit, AreFreshSeats, IsNamed, RefusesWorld, connection_limit, first_mover, opened_bytes, seat_count};
 
 use crate::connection::Connection;
 use crate::shared_agent::Agent;
