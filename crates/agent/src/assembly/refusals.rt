@@ -3,7 +3,7 @@ ghost use Rattle.std.specs.Prelude.{◌≡◌, ◌⊎◌, ◌*◌, ◌++◌, Lis
 ghost use Rattle.std.specs.Fmt.{signed_decimal};
 ghost use Rattle.bpf_codec.specs.Faults.{IsLeastFault};
 ghost use Rattle.loader.specs.Instructions.{target};
-ghost use Rattle.agent.specs.CodeExplained.{ReportsRefusal, Says, SaysAt, SaysOfCode, bytes_text, instruction_text, is_about_slot, is_about_target, is_elf};
+ghost use Rattle.agent.specs.CodeExplained.{ReportsRefusal, SaysAt, SaysOfCode, bytes_text, instruction_text, is_about_slot, is_about_target};
 ghost use Rattle.agent.specs.CodeExplained.{lead_text, rule_line, rule_text};
 ghost use Rattle.agent.specs.Failures.{failure_line};
 ghost use Rattle.agent.specs.Reports.{Reports};
