@@ -7,3 +7,4 @@ pub mod Complaints
 pub mod Plain
 pub mod CheckedEntries
 pub mod ValidEntries
+pub mod Crossing

@@ -22,3 +22,4 @@ pub mod Running
 pub mod GrantedWork
 pub mod Dispatching
 mod Past
+pub mod Crossing

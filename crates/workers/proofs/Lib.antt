@@ -1,3 +1,4 @@
+pub mod Crossing
 pub mod Seated
 pub mod Replayed
 pub mod Coming
