@@ -1,5 +1,5 @@
 //! Workers and the mover, on threads of their own.
-ghost use denote.Param.Send.{IsSend};
+ghost use denote.Param.Send.{IsSend, IsSync};
 ghost use Rattle.std.specs.Prelude.{length};
 ghost use Rattle.workers.specs.Turning.{MovesOn};
 
@@ -192,7 +192,7 @@ where
         thread::scope_env(),
         tools.rt,
         |scope| -> usize
-            requires { IsSend F.row × IsSend K.row × IsSend F.Parcel.row }
+            requires { IsSend F.row × IsSend K.row × IsSend F.Parcel.row × IsSync R.row × IsSync G.row }
         {
             let moves = scope.spawn(move || serve_moves(tools, served)).is_ok();
             let made = run_workers(tools.rt, tools.gate, tools.pool, workers);
