@@ -1,3 +1,4 @@
+pub mod Crossing
 mod Short
 mod Tried
 mod Told

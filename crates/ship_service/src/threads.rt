@@ -1,6 +1,6 @@
 //! The threads of a service: one for each connection, its workers and its mover.
 ghost use Rattle.std.specs.Prelude.{◌≡◌, length, IfOk};
-ghost use denote.Param.Send.{IsSend};
+ghost use denote.Param.Send.{IsSend, IsSync};
 
 use crate::connection::Connection;
 use crate::journal::Journal;
@@ -154,7 +154,9 @@ where
     thread::scope(
         thread::scope_env(),
         tools.rt,
-        |scope| -> Result<(), ThreadFault> {
+        |scope| -> Result<(), ThreadFault>
+            requires { IsSend K.row × IsSync R.row × IsSync J.row }
+        {
             let mut streams = Vec::new(alloc);
             let mut client: u64 = 0;
             for lock in locks {
@@ -219,7 +221,7 @@ where
         thread::scope_env(),
         tools.rt,
         |scope| -> Result<(), ThreadFault>
-            requires { IsSend F.row × IsSend K.row × IsSend F.Parcel.row }
+            requires { IsSend F.row × IsSend K.row × IsSend F.Parcel.row × IsSync R.row × IsSync J.row }
         {
             for worker in 0..workers {
                 if scope.spawn(move || step_machines(tools, worker)).is_err() {
@@ -254,7 +256,7 @@ where
         thread::scope_env(),
         tools.rt,
         |scope| -> Result<(), ThreadFault>
-            requires { IsSend F.row × IsSend K.row × IsSend F.Parcel.row }
+            requires { IsSend F.row × IsSend K.row × IsSend F.Parcel.row × IsSync R.row × IsSync J.row }
         {
             if scope.spawn(move || move_objects(tools, served)).is_err() {
                 return Err(ThreadFault::Memory);

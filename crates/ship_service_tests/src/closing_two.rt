@@ -6,7 +6,7 @@ ghost use Rattle.shared_objects.specs.Tables.{IsActorOf};
 ghost use Rattle.workers.specs.Cells.{IsSeatOf, IsTableOf};
 ghost use Rattle.workers.specs.TableNames.{each_lent};
 ghost use Rattle.workers.specs.Pools.{machines_of};
-ghost use denote.Param.Send.{IsSend};
+ghost use denote.Param.Send.{IsSend, IsSync};
 
 use crate::closing::{Parts, Service, closed_of, fetched, service_of};
 use crate::compared::same;
@@ -108,7 +108,7 @@ where
         thread::scope_env(),
         tools.rt,
         |scope| -> bool
-            requires { IsSend F.row × IsSend K.row × IsSend F.Parcel.row }
+            requires { IsSend F.row × IsSend K.row × IsSend F.Parcel.row × IsSync R.row }
         {
             let moves = scope.spawn(move || serve_moves(tools, served)).is_ok();
             let ended = run_workers(tools);

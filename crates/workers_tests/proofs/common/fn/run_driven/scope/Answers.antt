@@ -1,0 +1,7 @@
+use denote.Param.Send.{sendable}
+use Rattle.std.proofs.Crossing.{crosses}
+use Rattle.workers.proofs.Crossing.{pool_sync}
+use Rattle.workers_tests.proofs.common.fn.run_driven.scope.Goals as goal
+
+pub spawn-requires-send-F : goal.spawn-requires-send-F
+spawn-requires-send-F g c = search (pool_sync, sendable, crosses) depth 60 fits 20000
