@@ -61,9 +61,22 @@ module _ (F K P : RattleType) (gF : FarStores.Ghosts F.Denot P.Denot) (gK : Ghos
   shared_sync = declared_sync (Shared.the_type F P gF) (table_sync, (search sendable depth 20, tt))
 
   pub pool_sync : IsSync (Pool.the_row F K P gF gK)
-  pool_sync = declared_sync (Pool.the_type F K P gF gK) (shared_sync, (search (cell_sync, sendable, crosses) depth 20, (search (occupied_send, sendable, crosses) depth 20,
-      (search (sendable, crosses, shared.the_sync, lease.the_sync) depth 60 fits 5000, (search (sendable, crosses, shared.the_send, lease.the_send) depth 60 fits 5000,
-      (requests_sync, (search crosses, (search crosses, tt))))))))
+  pool_sync = declared_sync (Pool.the_type F K P gF gK) (
+    shared_sync,
+    (
+      search (cell_sync, sendable, crosses) depth 20,
+      (
+        search (occupied_send, sendable, crosses) depth 20,
+        (
+          search (sendable, crosses, shared.the_sync, lease.the_sync) depth 60 fits 5000,
+          (
+            search (sendable, crosses, shared.the_send, lease.the_send) depth 60 fits 5000,
+            (requests_sync, (search crosses, (search crosses, tt))),
+          ),
+        ),
+      ),
+    ),
+  )
 
 module _ (F K P : RattleType) (gF : FarStores.Ghosts F.Denot P.Denot) (gK : Ghosts K.Denot) (f : IsSend F) (p : IsSend P) where
   parcel_send : IsSend (Options.the_row P)
@@ -73,8 +86,16 @@ module _ (F K P : RattleType) (gF : FarStores.Ghosts F.Denot P.Denot) (gK : Ghos
   parcels_send = search (parcel_send, crosses)
 
   mover_inside_send : IsSend (MoverInside.the_row F K P gF gK)
-  mover_inside_send = declared_send (MoverInside.the_type F K P gF gK) (mover_seat_send, (as_row_send (row_field F) f, (search (parcels_send, as_row_send),
-      (search sendable, (search sendable, tt)))))
+  mover_inside_send = declared_send (MoverInside.the_type F K P gF gK) (
+    mover_seat_send,
+    (
+      as_row_send (row_field F) f,
+      (
+        search (parcels_send, as_row_send),
+        (search sendable, (search sendable, tt)),
+      ),
+    ),
+  )
 
   pub mover_send : IsSend (Mover.the_row F K P gF gK)
   mover_send = search (mover_inside_send, view_send)
