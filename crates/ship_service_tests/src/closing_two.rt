@@ -78,21 +78,27 @@ fn run_workers<F: FarStore + Send + Sync, K: TableName + Send + Sync, R: Threads
 where
     F::Parcel: Send,
 {
-    thread::scope(thread::scope_env(), tools.rt, |scope| {
-        let mut made: usize = 0;
-        for worker in 0..2 {
-            if scope
-                .spawn(move || work(tools.rt, tools.gate, tools.agent.pool(), worker))
-                .is_ok()
-            {
-                made = made.wrapping_add(1);
+    thread::scope(
+        thread::scope_env(),
+        tools.rt,
+        |scope| -> bool
+            requires { IsSync R.row }
+        {
+            let mut made: usize = 0;
+            for worker in 0..2 {
+                if scope
+                    .spawn(move || work(tools.rt, tools.gate, tools.agent.pool(), worker))
+                    .is_ok()
+                {
+                    made = made.wrapping_add(1);
+                }
             }
-        }
-        let ended = converses(tools);
-        tools.gate.ended.store(true, Ordering::SeqCst);
-        tools.agent.pool().wake_all();
-        made == 2 && ended
-    })
+            let ended = converses(tools);
+            tools.gate.ended.store(true, Ordering::SeqCst);
+            tools.agent.pool().wake_all();
+            made == 2 && ended
+        },
+    )
 }
 
 /// Runs the mover, too.
