@@ -1,5 +1,6 @@
 //! Two workers and the mover, each on a thread of its own, while objects leave and return. Expected sums are worked out by hand.
 ghost use Rattle.std.specs.Prelude.{◌≡◌, true};
+ghost use denote.Param.Send.{IsSync};
 ghost use Rattle.shared_objects.specs.Kinds.{dealer};
 ghost use Rattle.shared_objects.specs.Opened.{seated};
 
@@ -142,13 +143,19 @@ fn run_moves<K: TableName + Send + Sync, R: Threads + Wait + Sync>(
     served: &mut Mover<OwnStore, K>,
     program: Program,
 ) -> (usize, (bool, bool)) {
-    thread::scope(thread::scope_env(), rt, |scope| {
-        let Ok(driver) = scope.spawn(move || drive(rt, gate, pool, program)) else {
-            return (0, (false, false));
-        };
-        let made = run_all(rt, gate, pool, served, 2, false);
-        (made, driver.join(rt))
-    })
+    thread::scope(
+        thread::scope_env(),
+        rt,
+        |scope| -> (usize, (bool, bool))
+            requires { IsSync R.row }
+        {
+            let Ok(driver) = scope.spawn(move || drive(rt, gate, pool, program)) else {
+                return (0, (false, false));
+            };
+            let made = run_all(rt, gate, pool, served, 2, false);
+            (made, driver.join(rt))
+        },
+    )
 }
 
 /// Whether an object is far, now that it is asked to leave.

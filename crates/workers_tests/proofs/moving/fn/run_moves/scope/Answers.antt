@@ -5,4 +5,4 @@ use Rattle.workers.proofs.Crossing.{pool_sync}
 use Rattle.workers_tests.proofs.moving.fn.run_moves.scope.Goals as goal
 
 pub spawn-requires-send-F : goal.spawn-requires-send-F
-spawn-requires-send-F g c = search (pool_sync, program_send, sendable, crosses) depth 60 fits 20000
+spawn-requires-send-F g c κs within = let r = c.requires in search (pool_sync, program_send, sendable, crosses) depth 60 fits 20000
