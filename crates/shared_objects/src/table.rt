@@ -111,6 +111,7 @@ impl SharedTable {
 
     /// Give turn, with the entry that the caller picks.
     #[tactic(auto, using(crate::proofs::Logs::object_home))]
+    #[inline(always)]
     pub(crate) fn give_turn<T: Told>(&self, seat: &mut Seat, n: usize, found: u64, stamp: u64)
         requires seat { seat.old.table_id ≡ self.now.table.shared.table_id }
         requires live { (seat.old.me.0.live ≡ true) × (seat.old.me.0.made ≡ 0) }

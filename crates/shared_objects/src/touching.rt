@@ -112,6 +112,7 @@ impl SharedTable {
     }
 
     /// The access, on the body that the seat has.
+    #[inline(always)]
     fn act(&self, seat: &mut Seat, n: usize, op: &Op) -> u64
         requires seat { seat.old.table_id ≡ self.now.table.shared.table_id }
         requires held { HoldsBody seat.old.me n (λ body. IsInside op.now (length body.bytes.items)) }
@@ -148,6 +149,7 @@ impl SharedTable {
     }
 
     /// Records the access, with the entry that the caller picks.
+    #[inline(always)]
     fn record_access<T: Told>(
         &self,
         seat: &mut Seat,
@@ -218,6 +220,7 @@ impl SharedTable {
     }
 
     /// One access to one object, as one entry.
+    #[inline(always)]
     pub fn touch(&self, actor: &mut ActorSeat, number: u32, op: &Op) -> Reach
         requires { IsActorOf self.now actor.old }
         ensures actor { IsActorOf self.now actor.new }
