@@ -46,8 +46,8 @@ class Editor:
         message: Body = json.loads(self.process.stdout.read(length))
         return message
 
-    def ask(self, command: str, **arguments: Any) -> Body:
-        """The body of the response to a request. Events on the way are kept."""
+    def send(self, command: str, **arguments: Any) -> None:
+        """Sends a request."""
         assert self.process.stdin
         if not self.is_quiet:
             print("->", command, *[f"{name}={value}" for name, value in arguments.items() if isinstance(value, (int, str))])
@@ -55,6 +55,10 @@ class Editor:
         content = json.dumps({"seq": self.sequence, "type": "request", "command": command, "arguments": arguments}).encode()
         self.process.stdin.write(b"Content-Length: %d\r\n\r\n%b" % (len(content), content))
         self.process.stdin.flush()
+
+    def ask(self, command: str, **arguments: Any) -> Body:
+        """The body of the response to a request. Events on the way are kept."""
+        self.send(command, **arguments)
         while (message := self.receive())["type"] == "event":
             self.events.append(message)
         if not message["success"]:

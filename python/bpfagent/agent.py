@@ -8,7 +8,6 @@ from __future__ import annotations
 import contextlib
 import os
 import re
-import socket
 import subprocess
 import time
 from collections import deque
@@ -17,7 +16,7 @@ from typing import Callable, Iterable, Iterator, Mapping, Optional, Sequence, Ty
 
 from . import replies
 from .replies import RUNNING, Broken, Hit, Move, Ran, Refused, Registers, Run, Step, Waiting, step_of, words_of
-from .streams import Connection, Pipes, Stream
+from .streams import Connection, Idle, Pipes, Stream, awaited
 
 # The most bytes of one `put` or `get`, the number of a program's arguments, and the longest reply with its line end.
 PIECE = 4096
@@ -31,8 +30,6 @@ AHEAD = 1 << 15
 AT_ONCE = 256
 # How long the end of a started program may take, and that of one that was killed, in seconds.
 PATIENCE, GRACE = 10.0, 0.5
-# How often `idle` is called while a reply is awaited, in seconds.
-TURN = 0.1
 # What is asked for again is asked after the first pause, and each further pause is twice as long, up to the last, in seconds.
 FIRST_PAUSE, LAST_PAUSE = 0.001, 0.05
 
@@ -94,9 +91,10 @@ class Agent:
         # How long the end of a started program may take, in seconds; and whether the other side has ended the conversation.
         self.patience: float = PATIENCE
         self.has_ended: bool = False
-        # Called again and again while a reply is awaited. It may call `hurry`.
-        self.idle: Optional[Callable[[], None]] = None
+        # Called again and again while a reply is awaited. It may call `hurry`, or raise what ends the conversation.
+        self.idle: Optional[Idle] = None
         self._deadline: Optional[float] = None
+        self._heard = 0.0
 
     @classmethod
     def run(cls: type[A], program: PathLike, *arguments: str, timeout: Optional[float] = None) -> A:
@@ -122,10 +120,13 @@ class Agent:
         return agent
 
     @classmethod
-    def connect(cls: type[A], host: str, port: int, timeout: Optional[float] = None) -> A:
-        """Connects to a service, or raises an `OSError`. `timeout`, in seconds, bounds the connecting and each reply."""
-        connection = Connection(host, port, timeout)
-        return cls(connection, connection.close, timeout)
+    def connect(cls: type[A], host: str, port: int, timeout: Optional[float] = None, idle: Optional[Idle] = None) -> A:
+        """Connects to a service, or raises an `OSError`. `timeout`, in seconds, bounds the connecting and each reply. `idle` is called
+        again and again meanwhile."""
+        connection = Connection(host, port, timeout, idle)
+        agent = cls(connection, connection.close, timeout)
+        agent.idle = idle
+        return agent
 
     def close(self) -> None:
         """Ends the conversation. A program that was started ends with it; `Broken` says that it failed, or was killed after 10 s."""
@@ -172,6 +173,11 @@ class Agent:
         last = time.monotonic() + seconds
         self._deadline = last if self._deadline is None else min(last, self._deadline)
 
+    @property
+    def silence(self) -> float:
+        """How long nothing has come since a line was sent, in seconds."""
+        return time.monotonic() - self._heard
+
     def _until(self, since: float) -> Optional[float]:
         """The deadline of replies that are awaited since this time."""
         ends = [end for end in (self._deadline, None if self.timeout is None else since + self.timeout) if end is not None]
@@ -179,7 +185,7 @@ class Agent:
 
     def _exchange(self, content: bytes, count: int) -> list[str]:
         """Sends these bytes, and reads so many replies."""
-        since = time.monotonic()
+        since = self._heard = time.monotonic()
         try:
             self._stream.send(content, self._until(since))
             return [self._reply(since) for _ in range(count)]
@@ -188,29 +194,18 @@ class Agent:
         except OSError as error:
             self.has_ended = True
             raise self._broken(f"the stream failed: {error.strerror or error}") from None
-        except (KeyboardInterrupt, SystemExit):
+        except BaseException:
             # What is still to come would be taken for the reply to a later line.
-            self._broken("it was interrupted while a reply was awaited")
+            self._fault = self._fault or "it was interrupted while a reply was awaited"
             raise
-
-    def _piece(self, since: float) -> bytes:
-        """The next bytes. As long as none come `idle` has its turns, and may bring the deadline forward."""
-        while self.idle:
-            until, turn = self._until(since), time.monotonic() + TURN
-            if until is not None and until <= turn:
-                break
-            try:
-                return self._stream.receive(turn)
-            except (TimeoutError, socket.timeout):
-                self.idle()
-        return self._stream.receive(self._until(since))
 
     def _reply(self, since: float) -> str:
         """The next line of those that are awaited since this time."""
         while not self._lines:
             if len(self._rest) >= REPLY:
                 raise self._broken("a reply is too long")
-            piece = self._piece(since)
+            piece = awaited(self._stream.receive, lambda: self._until(since), self.idle)
+            self._heard = time.monotonic()
             if not piece:
                 self.has_ended = True
                 raise self._broken("the agent ended the conversation")

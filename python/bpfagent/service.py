@@ -11,7 +11,7 @@ from typing import Optional
 
 from .agent import Agent, PathLike, started, wait_or_end
 from .replies import Broken
-from .streams import Pipes
+from .streams import Idle, Pipes, awaited
 
 LISTENING = re.compile(r"listening ([0-9]+)")
 HOST = "127.0.0.1"
@@ -50,12 +50,12 @@ class Service:
         if self.port:
             return self.port
         self.setup.close()
-        return self._listen(None if self._timeout is None else time.monotonic() + self._timeout)
+        return self._listen(None if self._timeout is None else time.monotonic() + self._timeout, self.setup.idle)
 
-    def _listen(self, until: Optional[float]) -> int:
+    def _listen(self, until: Optional[float], idle: Optional[Idle] = None) -> int:
         """The port, which the service tells by the deadline."""
         while b"\n" not in self._rest:
-            piece = self._receive(until)
+            piece = self._receive(until, idle)
             if not piece:
                 break
             self._rest += piece
@@ -75,9 +75,9 @@ class Service:
         except subprocess.TimeoutExpired:
             return "has closed its output"
 
-    def _receive(self, until: Optional[float]) -> bytes:
+    def _receive(self, until: Optional[float], idle: Optional[Idle] = None) -> bytes:
         try:
-            return self._pipes.receive(until)
+            return awaited(self._pipes.receive, lambda: until, idle)
         except TimeoutError:
             raise Broken("the service didn't answer in time") from None
 

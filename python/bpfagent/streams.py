@@ -5,15 +5,22 @@ A deadline is a time of `time.monotonic`, or None. After it `send` and `receive`
 from __future__ import annotations
 
 import contextlib
+import errno
 import os
 import select
 import socket
 import subprocess
 import time
-from typing import Optional, Protocol
+from typing import Any, Callable, Optional, Protocol, TypeVar
 
 PIECE = 1 << 16
 LAST_PORT = 65_535
+# How often `idle` is called while something is awaited, in seconds.
+TURN = 0.1
+
+# It may raise what ends the waiting.
+Idle = Callable[[], None]
+T = TypeVar("T")
 
 
 class Stream(Protocol):
@@ -37,6 +44,19 @@ def left_of(until: Optional[float]) -> Optional[float]:
     if left <= 0:
         raise TimeoutError("timed out")
     return left
+
+
+def awaited(wait: Callable[[Optional[float]], T], until: Callable[[], Optional[float]], idle: Optional[Idle]) -> T:
+    """What is awaited, by a call that takes a deadline. As long as it doesn't come `idle` has its turns, and may bring the deadline forward."""
+    while idle:
+        end, turn = until(), time.monotonic() + TURN
+        if end is not None and end <= turn:
+            break
+        try:
+            return wait(turn)
+        except (TimeoutError, socket.timeout):
+            idle()
+    return wait(until())
 
 
 class Pipes:
@@ -85,18 +105,51 @@ class Pipes:
         self._output.close()
 
 
-def connected(host: str, port: int, timeout: Optional[float]) -> socket.socket:
+def connected(host: str, port: int, timeout: Optional[float], idle: Optional[Idle] = None) -> socket.socket:
     """A connected socket. The system would take a number above the last port for another port."""
     if not 0 <= port <= LAST_PORT:
         raise ValueError(f"a port is a number from 0 to {LAST_PORT}, and not {port}")
-    return socket.create_connection((host, port), timeout)
+    *others, last = socket.getaddrinfo(host, port, type=socket.SOCK_STREAM)
+    for other in others:
+        with contextlib.suppress(OSError):
+            return connected_at(other, timeout, idle)
+    return connected_at(last, timeout, idle)
+
+
+def connected_at(found: tuple[Any, ...], timeout: Optional[float], idle: Optional[Idle]) -> socket.socket:
+    """A socket that is connected to an address, as `getaddrinfo` has found it."""
+    family, kind, protocol, _, address = found
+    until = None if timeout is None else time.monotonic() + timeout
+    made = socket.socket(family, kind, protocol)
+    try:
+        made.setblocking(False)
+        fault = made.connect_ex(address)
+        if fault == errno.EINPROGRESS:
+            awaited(lambda end: wait_writable(made, end), lambda: until, idle)
+            fault = made.getsockopt(socket.SOL_SOCKET, socket.SO_ERROR)
+        if fault:
+            raise OSError(fault, os.strerror(fault))
+        made.settimeout(timeout)
+    except BaseException:
+        made.close()
+        raise
+    return made
+
+
+def wait_writable(stream: socket.socket, until: Optional[float]) -> None:
+    """Waits until a socket can be written to, or its connecting has failed."""
+    polled = select.poll()
+    polled.register(stream, select.POLLOUT)
+    left = left_of(until)
+    if not polled.poll(None if left is None else 1000 * left):
+        raise TimeoutError("timed out")
 
 
 class Connection:
     """A TCP connection."""
 
-    def __init__(self, host: str, port: int, timeout: Optional[float]) -> None:
-        self._socket = connected(host, port, timeout)
+    def __init__(self, host: str, port: int, timeout: Optional[float], idle: Optional[Idle] = None) -> None:
+        self._socket = connected(host, port, timeout, idle)
         self._socket.setsockopt(socket.IPPROTO_TCP, socket.TCP_NODELAY, 1)
 
     def send(self, content: bytes, until: Optional[float]) -> None:

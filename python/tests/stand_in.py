@@ -11,7 +11,8 @@ import socket
 import sys
 import tempfile
 import threading
-from typing import IO, TYPE_CHECKING, Callable, Iterator, Sequence, Union
+import time
+from typing import IO, TYPE_CHECKING, Callable, ContextManager, Iterator, Sequence, Union
 
 if TYPE_CHECKING:
     from lib.scripts import Talk
@@ -20,6 +21,10 @@ if TYPE_CHECKING:
 Binary = Union[IO[bytes], io.BufferedRWPair]
 # What is answered to a line that doesn't stand there: no reply of the protocol.
 UNEXPECTED = "unexpected, and not"
+# A stand-in that doesn't answer: its port, and what waits until somebody tries.
+StandIn = Callable[[], ContextManager[tuple[int, Callable[[], None]]]]
+# How long something that is to be asked may take to come.
+SECONDS = 180.0
 
 
 def converse(talk: Talk, reader: Binary, writer: Binary) -> bool:
@@ -67,6 +72,33 @@ def answering(answer: Callable[[socket.socket], object]) -> Iterator[int]:
             yield listener.getsockname()[1]
         finally:
             server.join()
+
+
+@contextlib.contextmanager
+def silent() -> Iterator[tuple[int, Callable[[], None]]]:
+    """The port of a stand-in that hears its one client out and never answers, and what waits until something was asked."""
+    asked = threading.Event()
+
+    def hear(connection: socket.socket) -> None:
+        with contextlib.suppress(ConnectionResetError):
+            while connection.recv(1 << 16):
+                asked.set()
+
+    with answering(hear) as port:
+        yield port, lambda: None if asked.wait(SECONDS) else sys.exit("nothing was asked")
+
+
+@contextlib.contextmanager
+def full() -> Iterator[tuple[int, Callable[[], None]]]:
+    """The port of a stand-in to which nobody gets through, since others wait there already, and what waits until somebody tries."""
+    with contextlib.ExitStack() as closing:
+        listener = closing.enter_context(socket.create_server(("127.0.0.1", 0), backlog=0))
+        for _ in range(3):
+            other = closing.enter_context(socket.socket())
+            other.setblocking(False)
+            other.connect_ex(listener.getsockname())
+        # Nothing shows here that somebody tries.
+        yield listener.getsockname()[1], lambda: time.sleep(0.5)
 
 
 def main(program: str, path: str) -> None:

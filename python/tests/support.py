@@ -32,6 +32,8 @@ DEBUGGER = [sys.executable, "-m", "bpfagent.debug.main"]
 SECONDS = 180.0
 # Within this time the debugger leaves, on a busy machine too. Otherwise a reply may take 30 s, and the end of a started program 10 s.
 SOON = 8.0
+# Within this time it leaves where it has nothing to wait for, if nothing delays it.
+AT_ONCE = 1.5
 PROMPT = "(bpfagent) "
 # What the debugger shows when an interrupt gives up the line that was typed.
 GIVEN_UP = "^C (quit leaves the debugger)"
@@ -125,9 +127,48 @@ def hang(service: Service) -> None:
     os.waitpid(service._process.pid, os.WUNTRACED)
 
 
+def silent_program(folder: pathlib.Path, *answers: str) -> tuple[str, Callable[[], int]]:
+    """The path of a program that answers so many lines, then nothing, and doesn't end; and what waits for that and gives its number."""
+    note = folder / f"silent{len(answers)}.number"
+    text = f"import os, time\nfor answer in {answers}:\n    sys.stdin.readline()\n    print(answer, flush=True)\n"
+    text += f"with open({str(note)!r}, 'w') as note:\n    print(os.getpid(), file=note)\ntime.sleep({SECONDS})"
+    path = program_of(note.with_suffix(""), text)
+
+    def begun() -> int:
+        end = time.monotonic() + SECONDS
+        while not (note.exists() and note.read_text().endswith("\n")):
+            if time.monotonic() > end:
+                raise AssertionError(f"{path} doesn't begin")
+            time.sleep(0.01)
+        number = int(note.read_text())
+        note.unlink()
+        return number
+
+    return str(path), begun
+
+
+def has_gone(number: int) -> bool:
+    """Whether there is no such process."""
+    try:
+        os.kill(number, 0)
+    except ProcessLookupError:
+        return True
+    return False
+
+
+def is_at_once(leave: Callable[..., float], *arguments: object, **options: object) -> bool:
+    """Whether a call that gives how long it took takes no time. A busy machine may delay it, so it is tried three times."""
+    return any(leave(*arguments, **options) < AT_ONCE for _ in range(3))
+
+
+def heard() -> None:
+    """Interrupts are heard, also where the test itself ignores them."""
+    signal.signal(signal.SIGINT, signal.SIG_DFL)
+
+
 def take_terminal() -> None:
     """Makes standard input the terminal from which a new session is interrupted."""
-    signal.signal(signal.SIGINT, signal.SIG_DFL)
+    heard()
     fcntl.ioctl(0, termios.TIOCSCTTY, 0)
 
 

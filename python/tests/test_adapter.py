@@ -10,11 +10,13 @@ import subprocess
 import tempfile
 import time
 import unittest
-from typing import Any
+from typing import Any, Callable, Optional
 
+import stand_in
 from bpfagent import patiently
 from bpfagent.agent import pauses
 from support import DEBUG, DEBUGGER, ENDLESS, PROGRAM, SECONDS, SIGNALS, SOON, TABLE, changes, editor_module, endless_service, hang, needs_debugger, program_of, with_signals
+from support import has_gone, is_at_once, silent_program
 
 Body = dict[str, Any]
 SOURCE = {"path": str(DEBUG / "table.c")}
@@ -322,6 +324,40 @@ class Sessions(unittest.TestCase):
             told = [event["body"]["output"] for event in self.editor.events if event["event"] == "output"]
             self.assertEqual(told[-1], "the service doesn't answer, and may keep breakpoint 1, the pause of machine 1\n")
             service._process.send_signal(signal.SIGCONT)
+
+    def left(self, begun: Callable[[], Optional[int]], is_gone: bool, command: str, **arguments: Any) -> float:
+        """An editor disconnects, or is gone, while what it asked for doesn't begin to answer. Gives how long the adapter takes to end."""
+        editor = editor_module().Editor([*DEBUGGER, "--dap"], is_quiet=True)
+        self.addCleanup(editor.__exit__)
+        editor.ask("initialize")
+        editor.send(command, **arguments)
+        number = begun()
+        start = time.monotonic()
+        if is_gone:
+            editor.process.stdin.close()
+        else:
+            editor.send("disconnect")
+        expected = [(2, command, False, "the session was ended before a reply came"), (3, "disconnect", True, None)][: 1 if is_gone else 2]
+        heard = [editor.receive() for _ in expected]
+        self.assertEqual({message["type"] for message in heard}, {"response"})
+        self.assertEqual([(message["request_seq"], message["command"], message["success"], message.get("message")) for message in heard], expected)
+        self.assertEqual((editor.process.wait(SECONDS), editor.process.stdout.read()), (0, b""))
+        self.assertTrue(number is None or has_gone(number), "what was started goes on")
+        return time.monotonic() - start
+
+    def left_service(self, service: stand_in.StandIn, is_gone: bool) -> float:
+        """The same of an editor that attaches to a service."""
+        with service() as (port, begun):
+            return self.left(begun, is_gone, "attach", port=port)
+
+    def test_silent(self) -> None:
+        """An editor may leave at once while a session begins with a service or a program that doesn't answer."""
+        started = {serve: silent_program(self.folder, *answers) for serve, answers in ((False, ()), (True, ("shipped 1", "ok")))}
+        for is_gone in (False, True):
+            for service in (stand_in.silent, stand_in.full):
+                self.assertTrue(is_at_once(self.left_service, service, is_gone), service.__name__)
+            for serve, (path, begun) in started.items():
+                self.assertTrue(is_at_once(self.left, begun, is_gone, "launch", program=TABLE[0], bpfagent=path, serve=serve), f"launch, {serve}")
 
     def test_garbage(self) -> None:
         """What is no message ends the adapter, which says why."""

@@ -11,18 +11,13 @@ import unittest
 from typing import Callable
 
 from bpfagent.interrupt import module_of
-from support import ROOT, SECONDS
+from support import ROOT, SECONDS, heard
 
 MODULES = ("ship", "far", "gateway", "debug.main")
 SCRIPTS = {"bpfagent-ship": "ship", "bpfagent-debug": "debug.main", "bpfagent-redis": "gateway"}
 # Modules of Python that the package imports, and that its commands do.
 IMPORTED = ("tempfile", "argparse")
 INTERRUPTING = "import os, signal\nos.kill(os.getpid(), signal.SIGINT)\nfor _ in range(1000): pass\nraise SystemExit(3)\n"
-
-
-def heard() -> None:
-    """Interrupts are heard, also where the test itself ignores them."""
-    signal.signal(signal.SIGINT, signal.SIG_DFL)
 
 
 class Interrupts(unittest.TestCase):

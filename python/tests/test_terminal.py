@@ -8,12 +8,14 @@ import subprocess
 import tempfile
 import time
 import unittest
+from typing import Callable, Optional
 
 import bpfagent
+import stand_in
 from bpfagent import Service, patiently
 from bpfagent.debug.main import main
 from support import DEBUGGER, ENDLESS, PROGRAM, ROOT, SECONDS, SIGNALS, SOON, TABLE
-from support import Pseudoterminal, changes, endless_service, hang, needs_debugger, program_of, usage_of, with_signals
+from support import Pseudoterminal, changes, endless_service, hang, has_gone, heard, is_at_once, needs_debugger, program_of, silent_program, usage_of, with_signals
 
 DEEP = """#include "bpfagent.h"
 CALLED uint64_t sum(uint64_t n)
@@ -281,6 +283,93 @@ class Sessions(unittest.TestCase):
                 self.assertLess(time.monotonic() - start, SOON)
                 with self.assertRaises(ProcessLookupError):
                     os.kill(int(note.read_text()), 0)
+
+    def interrupted(self, terminal: Pseudoterminal, said: str) -> float:
+        """An interrupt while a reply is awaited that doesn't come: the debugger says so and ends. Gives how long that takes."""
+        time.sleep(1.0)
+        start = time.monotonic()
+        terminal.press("\x03")
+        shown = terminal._until(lambda got: False).splitlines()
+        self.assertEqual((terminal.process.wait(SECONDS), shown[-1]), (1, f"bpfagent-debug: {said}"), shown)
+        return time.monotonic() - start
+
+    def interrupted_at_service(self, commands: list[str], before: str, after: str, kept: str) -> float:
+        """The same of a service that hangs between what is typed before and what is typed after."""
+        path = self.source(ENDLESS)
+        with endless_service(pathlib.Path(path)) as service, self.debugger("--connect", f"127.0.0.1:{service.port}", path) as terminal:
+            for command in commands:
+                terminal.ask(command)
+            terminal.press(before)
+            time.sleep(0.3)
+            hang(service)
+            terminal.press(after)
+            try:
+                return self.interrupted(terminal, f"the service doesn't answer{kept}")
+            finally:
+                service._process.send_signal(signal.SIGCONT)
+
+    def interrupted_at_program(self, options: list[str], said: str) -> float:
+        """The same of a program that the debugger started."""
+        note = pathlib.Path(self.folder.name) / "number"
+        program = program_of(note.with_name("starts"), f"import os\nopen({str(note)!r}, 'w').write(str(os.getpid()))\nos.execv({PROGRAM!r}, [{PROGRAM!r}, *sys.argv[1:]])")
+        with self.debugger("--bpfagent", str(program), *options, self.source(ENDLESS), "+8") as terminal:
+            os.kill(int(note.read_text()), signal.SIGSTOP)
+            terminal.press("stepi\n")
+            took = self.interrupted(terminal, said)
+            self.assertTrue(has_gone(int(note.read_text())), "it goes on")
+            return took
+
+    def test_interrupts_hung(self) -> None:
+        """An interrupt ends a debugger that awaits a reply of a service, or of a program that it started, which has hung."""
+        kept = ", and may keep breakpoint 1, the pause of machine 1"
+        self.assertTrue(is_at_once(self.interrupted_at_service, ["pause", "break more", "continue"], "", "info registers\n", kept), "a machine that stands")
+        self.assertTrue(is_at_once(self.interrupted_at_service, ["pause"], "continue\n", "", ""), "a machine that runs")
+        self.assertTrue(is_at_once(self.interrupted_at_program, [], "bpfagent doesn't answer"), "run")
+        self.assertTrue(is_at_once(self.interrupted_at_program, ["--serve"], "the service doesn't answer"), "serve")
+
+    def is_paused_late(self) -> bool:
+        """Whether an interrupt pauses a machine though the service is late with its replies, and the session goes on."""
+        path = self.source(ENDLESS)
+        with endless_service(pathlib.Path(path)) as service, self.debugger("--connect", f"127.0.0.1:{service.port}", path) as terminal:
+            terminal.ask("pause")
+            terminal.press("continue\n")
+            time.sleep(0.3)
+            hang(service)
+            terminal.press("\x03")
+            time.sleep(0.3)
+            service._process.send_signal(signal.SIGCONT)
+            shown = terminal.wait("machine 1: pause")
+            return "machine 1: pause" in shown and terminal.ask("print 1 + 1") == ["1 + 1 = 2"] and terminal.close() == 0
+
+    def test_interrupts_late(self) -> None:
+        """An interrupt doesn't end a debugger whose service is only late. A busy machine may delay it too long, so it is tried again."""
+        self.assertTrue(any(self.is_paused_late() for _ in range(3)))
+
+    def ended(self, number: int, begun: Callable[[], Optional[int]], *words: str) -> float:
+        """A signal ends a debugger whose session doesn't begin, with its status and without a word. Gives how long that takes."""
+        with subprocess.Popen([*DEBUGGER, *words], stdin=subprocess.PIPE, stdout=subprocess.PIPE, stderr=subprocess.PIPE, preexec_fn=heard) as debugger:
+            process = begun()
+            start = time.monotonic()
+            debugger.send_signal(number)
+            self.assertEqual((*debugger.communicate(timeout=SECONDS), debugger.returncode), (b"", b"", 128 + number), words)
+            self.assertTrue(process is None or has_gone(process), "what was started goes on")
+            return time.monotonic() - start
+
+    def ended_at_service(self, number: int, service: stand_in.StandIn) -> float:
+        """The same of a debugger that is to connect to a service."""
+        with service() as (port, begun):
+            return self.ended(number, begun, "--connect", f"127.0.0.1:{port}")
+
+    def test_silent(self) -> None:
+        """A signal ends the debugger at once while it waits for the first reply of a service, or of a program that it started."""
+        with_signals(self)
+        folder = pathlib.Path(self.folder.name)
+        started: dict[tuple[str, ...], tuple[str, Callable[[], int]]] = {(): silent_program(folder), ("--serve",): silent_program(folder, "shipped 1", "ok")}
+        for number in (signal.SIGINT, *SIGNALS):
+            for service in (stand_in.silent, stand_in.full):
+                self.assertTrue(is_at_once(self.ended_at_service, number, service), f"{service.__name__}, {number}")
+            for options, (path, begun) in started.items():
+                self.assertTrue(is_at_once(self.ended, number, begun, "--bpfagent", path, *options, TABLE[0]), f"{options}, {number}")
 
     def test_recognition(self) -> None:
         """Machines of two programs, one with other code of the same shape, and one that isn't known."""

@@ -124,9 +124,18 @@ class Adapter:
                 if message.get("type") == "request" and message.get("command") == "disconnect":
                     self._answer(message)
 
+    def _is_leaving(self) -> bool:
+        """Whether the debugger is to end."""
+        return self._ending.has_come or self._channel.is_leaving()
+
+    def _give_up(self) -> None:
+        """While the first replies are awaited: if the debugger is to end, it does so at once, for nothing is set yet."""
+        if self._is_leaving():
+            raise Impossible("the session was ended before a reply came")
+
     def _look_up(self) -> None:
         """While a reply is awaited: if the debugger is to end, the agent has little time."""
-        if self._session and (self._ending.has_come or self._channel.is_leaving()):
+        if self._session and self._is_leaving():
             self._engine.agent.hurry(LEAVING)
 
     def _patience(self) -> Optional[float]:
@@ -215,7 +224,7 @@ class Adapter:
         rest.update({name: number_of(given, name, *numbers) for name, numbers in NUMBERS.items()})
         plan = Plan(given.get("program"), words_of(given, "arguments"), flags=words_of(given, "flags"), port=port, **rest)
         self._stops_on_entry = bool(given.get("stopOnEntry", False))
-        self._session = Session(plan)
+        self._session = Session(plan, self._give_up)
         self._engine.agent.idle = self._look_up
 
     def _start(self) -> None:

@@ -33,6 +33,10 @@ class Impossible(Exception):
     """Why the debugger can't do something."""
 
 
+class Unanswered(Broken):
+    """An interrupt came while the agent didn't answer."""
+
+
 @dataclass(frozen=True)
 class Stop:
     """A machine stands still: why, at which slot, and what else there is to say of it."""

@@ -13,7 +13,7 @@ from .channel import NoMessage
 from .ending import Ending
 from .engine import Impossible
 from .lines import NoDwarf
-from .session import LEAVING, MOST_WORKERS, WORKERS, Plan, Session
+from .session import MOST_WORKERS, WORKERS, Plan, Session
 
 USAGE = """%(prog)s [OPTION ..] FILE [ARGUMENT ..]
        %(prog)s [OPTION ..] --connect HOST:PORT [FILE]
@@ -83,9 +83,7 @@ def debug(given: argparse.Namespace) -> None:
     plan = Plan(
         given.file, given.arguments, given.bpfagent, given.fuel, given.entry, given.flag, given.serve, workers, given.machines, host, port, given.others
     )
-    with Session(plan) as session:
-        agent = session.engine.agent
-        agent.idle = lambda: agent.hurry(LEAVING) if ending.has_come else None
+    with Session(plan, ending.check) as session:
         try:
             terminal.run(session.engine, given.execute, ending)
         except Broken:

@@ -14,7 +14,8 @@ from ..image import load, program_path
 from ..replies import Broken, Refused
 from ..service import Service
 from ..ship import FUEL, make_objects, shipped, values_of
-from .engine import Engine, Impossible
+from ..streams import Idle
+from .engine import Engine, Impossible, Unanswered
 from .program import Program
 
 # By default C is compiled so that all variables are there; a flag that is given comes later, and wins.
@@ -47,19 +48,20 @@ class Plan:
 
 @contextlib.contextmanager
 def closed_at_a_fault(agent: Agent) -> Iterator[None]:
-    """Ends a conversation if its block raises."""
+    """Ends a conversation if its block raises. A program that was started has nothing to do then, and gets no time for its end."""
     try:
         yield
     except BaseException:
+        agent.patience = 0.0
         with contextlib.suppress(Broken):
             agent.close()
         raise
 
 
-def attached(host: str, port: int, programs: Sequence[Program]) -> Engine:
+def attached(host: str, port: int, programs: Sequence[Program], idle: Idle) -> Engine:
     """A debugger of the machines of a service that runs."""
     try:
-        agent = Agent.connect(host, port, TIMEOUT)
+        agent = Agent.connect(host, port, TIMEOUT, idle)
     except OSError as why:
         raise Impossible(f"no service can be reached at {address_text(host, port)}: {fault_text(why)}") from None
     with closed_at_a_fault(agent):
@@ -71,20 +73,22 @@ def attached(host: str, port: int, programs: Sequence[Program]) -> Engine:
 class Session:
     """A debugger with what it started. It is a context manager that ends both."""
 
-    def __init__(self, plan: Plan) -> None:
+    def __init__(self, plan: Plan, idle: Idle) -> None:
+        """`idle` is called again and again while the first replies are awaited, and may raise what ends this."""
         values = values_of(plan.arguments)
         self._service: Optional[Service] = None
         self.is_started = plan.port is None
         files = [file for file in (plan.file, *plan.others) if file]
         programs = [Program(load(pathlib.Path(file), plan.entry, [*DEBUG_FLAGS, *plan.flags], plan.bpfagent)) for file in files]
         if plan.port is not None:
-            self.engine = attached(plan.host, plan.port, programs)
+            self.engine = attached(plan.host, plan.port, programs, idle)
         elif not programs:
             raise Impossible("there is no program to debug: name a file, or connect to a service")
         elif plan.serve:
-            self.engine = self._serve(plan, programs, values)
+            self.engine = self._serve(plan, programs, values, idle)
         else:
             self.engine = Engine(Agent.run(program_path(plan.bpfagent), timeout=TIMEOUT), False, programs)
+            self.engine.agent.idle = idle
             with closed_at_a_fault(self.engine.agent):
                 self._ship(self.engine, plan, programs, values)
 
@@ -97,9 +101,10 @@ class Session:
             for _ in range(plan.machines):
                 engine.add(shipped(engine.agent, program.image, plan.fuel, numbers, plan.bpfagent), program)
 
-    def _serve(self, plan: Plan, programs: Sequence[Program], values: Sequence[Union[int, bytes]]) -> Engine:
+    def _serve(self, plan: Plan, programs: Sequence[Program], values: Sequence[Union[int, bytes]], idle: Idle) -> Engine:
         """Starts a service whose machines stand at their beginning."""
         service = self._service = Service(program_path(plan.bpfagent), "--workers", str(plan.workers), timeout=TIMEOUT)
+        service.setup.idle = idle
         try:
             engine = Engine(service.setup, True, programs)
             self._ship(engine, plan, programs, values)
@@ -107,6 +112,7 @@ class Session:
                 service.setup.break_(number, 0)
             service.listen()
             engine.agent = service.connect(TIMEOUT)
+            engine.agent.idle = idle
             for number in engine.machines:
                 # This pauses it at its breakpoint, also if no worker has come to it yet.
                 engine.agent.step(number)
@@ -116,26 +122,28 @@ class Session:
             service.kill()
             raise
 
-    def close(self) -> str:
-        """Ends the conversation, and what was started. Machines of a service to which it is attached go on, without breakpoints. Says
-        what may stay because the service doesn't answer; empty if nothing does."""
+    def close(self, seconds: float = ENDING) -> str:
+        """Ends the conversation, and what was started, which may take so long. Machines of a service to which it is attached go on, without
+        breakpoints. Says what may stay because the service doesn't answer; empty if nothing does."""
         left = ""
         with contextlib.suppress(Broken, Refused):
             if not self.is_started:
                 left = self.engine.leave(LEAVING)
-        self.engine.agent.patience = ENDING
+        self.engine.agent.patience = seconds
         with contextlib.suppress(Broken):
             self.engine.agent.close()
         if self._service:
             with contextlib.suppress(Broken):
-                self._service.close(ENDING)
+                self._service.close(seconds)
         return left
 
     def __enter__(self) -> Session:
         return self
 
     def __exit__(self, kind: Optional[type[BaseException]], error: Optional[BaseException], trace: Optional[TracebackType]) -> None:
-        if left := self.close():
+        is_unanswered = isinstance(error, Unanswered)
+        if left := self.close(0.0 if is_unanswered else ENDING):
             print(f"bpfagent-debug: {left}", file=sys.stderr)
-            if error is None:
+            # The line says all that the error does.
+            if error is None or is_unanswered:
                 sys.exit(1)

@@ -16,18 +16,21 @@ from ..commands import fault_text
 from ..replies import Refused
 from . import views
 from .ending import Ending
-from .engine import Engine, Goal, Impossible, Stop
+from .engine import Engine, Goal, Impossible, Stop, Unanswered
 from .expressions import Invalid, Value, evaluate
 from .frames import Frame
 from .lines import NoDwarf, SourceLine
 from .program import NoPlace, Program
 from .running import Runner
+from .session import LEAVING
 from .symbols import Nowhere
 
 # Where no home is known, this stays a path that can't be read or written.
 HISTORY = pathlib.Path(os.path.expanduser("~/.bpfagent_history"))
 HISTORY_LENGTH = 1000
 PROMPT = "(bpfagent) "
+# How long an agent may say nothing once an interrupt has come, in seconds. A slow one answers sooner, and its machine is paused.
+SILENCE = 1.0
 # No number that the debugger takes has more digits.
 DIGITS = 20
 FAULTS = (Impossible, Invalid, Nowhere, NoPlace, NoDwarf, Refused, OSError)
@@ -82,6 +85,15 @@ class Terminal(cmd.Cmd):
         self.is_asked = sys.stdin.isatty()
         if not self.is_asked:
             self.use_rawinput, self.prompt = False, ""
+
+    def look_up(self) -> None:
+        """While a reply is awaited: if the debugger is to end, the agent has little time. An interrupt gives up one that is silent."""
+        agent = self.engine.agent
+        if self.ending.has_come:
+            agent.hurry(LEAVING)
+        elif self.interrupts.count and agent.silence > SILENCE:
+            print()
+            raise Unanswered(f"{'the service' if self.engine.is_service else 'bpfagent'} doesn't answer")
 
     # ---- the loop
 
@@ -433,6 +445,7 @@ for short, command in SHORT.items():
 def run(engine: Engine, commands: list[str], ending: Ending) -> None:
     """Does these commands, and then those that are typed, until the debugger is left. Raises `Broken` if the agent ends."""
     terminal = Terminal(engine, ending)
+    engine.agent.idle = terminal.look_up
     terminal.greet()
     for line in commands:
         print(f"{PROMPT}{line}")
