@@ -1,5 +1,6 @@
 #!/usr/bin/env python3
 """Checks that every definition that a public clause depends on has a comment, and that docs/DEFINITIONS.md names each crate that has one.
+The other files of the product's specs/ say in their first line that they are private.
 
 A public clause is one of a `pub fn`, of an export to C, of a method of a trait's impl, or of a `pub trait`, and what a public type says of itself (its
 Model, its ghost items). From the names in these clauses the script follows the `ghost use` lines of src/, then the `use` lines of specs/. With --write
@@ -13,6 +14,7 @@ import sys
 from typing import Collection, Iterator, Sequence, Tuple
 
 sys.path.insert(0, str(pathlib.Path(__file__).resolve().parents[1]))
+from form.documents import FOR_TESTS
 from lib.checks import report
 from lib.sources import ROOT, blanked, block, crates, function_places
 
@@ -20,6 +22,7 @@ from lib.sources import ROOT, blanked, block, crates, function_places
 Place = Tuple[str, str, str]
 GUIDE = "docs/DEFINITIONS.md"
 INDEX = "out/DEFINITIONS-INDEX.md"
+PRIVATE = "-- For private functions and proofs alone: "
 NAME = re.compile(r"[^\s(){}\[\],;.`\"]+")
 USE = re.compile(r"(?:pub )?use\s+(Rattle\.(\w+)\.specs\.([\w.]+))\.\{([^}]*)\}", re.S)
 DEFINITION = re.compile(r"^(?:(?:abbrev|unfoldable|opaque|pub|data|record)\s+)*([^\s:(){}]+)\s*(?:[({][^\n]*)?:(?=\s)")
@@ -168,14 +171,28 @@ def table(crate: str, found: Sequence[Place], specs: dict[tuple[str, str], Specs
         yield from (f"| [{module}](../crates/{crate}/specs/{module}.antt) | `{name}` | {comment} |\n" for name, comment in says.items())
 
 
-def unneeded(own: Sequence[str], found: Sequence[Place]) -> Iterator[str]:
+def modules_of(crate: str) -> list[str]:
+    """The files of a crate's specs/."""
+    folder = ROOT / f"crates/{crate}/specs"
+    return [str(path.relative_to(folder).with_suffix("")) for path in sorted(folder.rglob("*.antt")) if path.name != "Lib.antt"]
+
+
+def wrong_first_lines(own: Sequence[str], needed: Collection[tuple[str, str]]) -> Iterator[str]:
+    """The files of the product's specs/ whose first line says wrongly that they are private, or doesn't say it."""
+    for crate, module in [(crate, module) for crate in own if not FOR_TESTS.search(crate) for module in modules_of(crate)]:
+        file = f"crates/{crate}/specs/{module}.antt"
+        marked = (ROOT / file).read_text().startswith(PRIVATE)
+        if marked and (crate, module) in needed:
+            yield f"{file}: a public clause depends on it, but it begins with '{PRIVATE}'"
+        if not marked and (crate, module) not in needed:
+            yield f"{file}: no public clause depends on it, but it doesn't begin with '{PRIVATE}'"
+
+
+def unneeded(own: Sequence[str], needed: Collection[tuple[str, str]]) -> Iterator[str]:
     """A line for each crate with files on which no public clause depends."""
-    needed = {(crate, module) for crate, module, _ in found}
     yield "\n## Files that need not be believed\n\nNo clause of a public call depends on them.\n\n"
     for crate in own:
-        folder = ROOT / f"crates/{crate}/specs"
-        modules = [str(path.relative_to(folder).with_suffix("")) for path in sorted(folder.rglob("*.antt")) if path.name != "Lib.antt"]
-        if private := [f"[{module}](../crates/{crate}/specs/{module}.antt)" for module in modules if (crate, module) not in needed]:
+        if private := [f"[{module}](../crates/{crate}/specs/{module}.antt)" for module in modules_of(crate) if (crate, module) not in needed]:
             yield f"- `{crate}`: {', '.join(private)}\n"
 
 
@@ -183,12 +200,13 @@ if __name__ == "__main__":
     own, rows = libraries(), guide_rows()
     order = [crate for names, _ in rows for crate in names]
     found, specs = reached(own)
+    needed = {(crate, module) for crate, module, _ in found}
     unnamed = sorted({crate for crate, _, _ in found} - set(order))
     wrong = [f"{GUIDE}: its table doesn't name `{crate}`, which has definitions" for crate in unnamed]
     wrong += [f"crates/{c}/specs/{m}.antt: `{n}` has no comment of its own" for c, m, n in found if not specs[c, m].comments[n]]
-    wrong += missing_files(rows)
+    wrong += [*missing_files(rows), *wrong_first_lines(own, needed)]
     if sys.argv[1:] == ["--write"]:
         (ROOT / INDEX).parent.mkdir(exist_ok=True)
         lines = [line for crate in order + unnamed for line in table(crate, found, specs)]
-        (ROOT / INDEX).write_text(HEAD + "".join([*lines, *unneeded(own, found)]))
-    report(wrong, f"each of the {len(found)} definitions that public clauses depend on has a comment")
+        (ROOT / INDEX).write_text(HEAD + "".join([*lines, *unneeded(own, needed)]))
+    report(wrong, f"each of the {len(found)} definitions that public clauses depend on has a comment, and the private files say so")

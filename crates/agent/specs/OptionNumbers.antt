@@ -33,7 +33,7 @@ pub record HasNumber (bits : ℕ) (name : Text) (rows : List Row) : Type 0 where
 abbrev pub IsWithin : ℕ → Text → Type 0
 IsWithin bits text = IsNumeral 10 (without_leading_plus text) × (digits_value 10 (without_leading_plus text) < 2 ^ bits)
 
--- It is read as one, of which this is the value, exactly where it is one.
+-- The result of reading the text as a number of so many bits: its value if the text is such a number, otherwise an error.
 abbrev pub ParsesAs : {N E : Type 0} → ℕ → (N → ℕ) → Text → Result N E → Type 0
 ParsesAs bits value text (Ok n) = IsWithin bits text × (value n ≡ digits_value 10 (without_leading_plus text))
 ParsesAs bits value text (Err error) = ¬ (IsWithin bits text)

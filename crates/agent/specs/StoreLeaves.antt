@@ -14,7 +14,8 @@ abbrev pub ReportsServer : Option (List ℕ) → Option (List ℕ) → Result �
 ReportsServer before after (Ok ended) number = Keeps before after × (number ≡ status_number Done)
 ReportsServer before after (Err fault) number = AppendsSome before after (server_fault_name fault ++ 10 ∷ []) × (number ≡ status_number Failed)
 
--- The output has the line of the port, standard error what was told of clients and then how the server ended, and so has the status.
+-- The streams and the status for one outcome of the server. The output has the line of the port, as far as the outcome allows.
+-- Standard error has the lines about clients, and after them the line of a fault that ended the server. The status is Failed after such a fault.
 pub record StoreLeaves (port : ℕ) (out_before out_after before after : Option (List ℕ)) (number : ℕ) : Type 0 where
   pub outcome : Result ⊤ ServerFault
   pub between : Option (List ℕ)

@@ -1,4 +1,4 @@
--- How the canonical spelling writes an operand.
+-- For private functions and proofs alone: how the canonical spelling writes an operand.
 use Rattle.std.specs.Prelude.{zero, suc, pos, negsuc, Some}
 use Rattle.asm_table.specs.declared.operands.AsmOperand.{AsmOperand}
 use Rattle.asm_table.specs.declared.operands.AsmOperand.TheVariants as operand

@@ -1,4 +1,4 @@
-//! Operands of assembly.
+//! Operands as values, between the spelling of a line and the fields of an instruction.
 use arrayvec::ArrayVec;
 use isa_table::Reg;
 

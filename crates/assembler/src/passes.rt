@@ -1,4 +1,4 @@
-//! The two passes.
+//! The first pass finds the slot of each label, so that the second can make jumps to labels that come later.
 ghost use Rattle.std.specs.Prelude.{◌≡◌, ◌≤◌, ◌+◌, ◌<◌, ◌^◌, MatchResult, Some, None, Ok, length, OnOk, IfOk, IfErr, OnErr};
 ghost use Rattle.std.specs.Str.Lines.{lines};
 ghost use Rattle.asm_text.specs.Tokens.{tokens};

@@ -42,7 +42,7 @@ impl Fault {
     }
 
     /// The same as a text.
-    fn text(self) -> &'static str
+    pub fn text(self) -> &'static str
         ensures name { result.now ≡ fault_name self }
         ensures short { length result.now ≤ 10 }
     {

@@ -1,5 +1,5 @@
 //! The commands on objects.
-ghost use Rattle.std.specs.Prelude.{◌≡◌, ◌≢◌, ◌≤◌, min, length, Option};
+ghost use Rattle.std.specs.Prelude.{◌≡◌, ◌≢◌, ◌≤◌, ◌+◌, min, length, Option};
 ghost use Rattle.memory.specs.Objects.{object_bytes};
 ghost use Rattle.world.specs.declared.events.Event.{Event};
 ghost use Rattle.world.specs.declared.events.ObjectCommand.{ObjectCommand};
@@ -12,11 +12,12 @@ ghost use Rattle.bpfagent_c.specs.Shown.{made_of, bytes_of};
 use crate::codes::{Code, code_of, code_of_get};
 use crate::handle::{Agent, give, take};
 use crate::telling::{command, tell_move, tell_object};
+use memory::OBJECT_BYTES;
 use std::alloc::Global;
 use world::{Event, Move, ObjectCommand, ObjectLength, Reply};
 
 /// One byte more than any object has: for more a command asks for so many.
-const TOO_MANY: usize = 65_537;
+const TOO_MANY: usize = OBJECT_BYTES + 1;
 
 /// Makes an object.
 #[unsafe(no_mangle)]
@@ -132,7 +133,7 @@ pub extern "C" fn bpfagent_get(
     offset: u32,
     bytes: &mut [u8],
 ) -> u32
-    ensures told { (given : Option Reply) × Commanded agent.old (Event.Object object (ObjectCommand.Get offset (min (length bytes.old) 65537))) given
+    ensures told { (given : Option Reply) × Commanded agent.old (Event.Object object (ObjectCommand.Get offset (min (length bytes.old) (object_bytes + 1)))) given
         agent.new × (result ≡ code_of given) × (bytes.new ≡ bytes_of given bytes.old) }
     ensures memory { result ≢ 10 }
 {

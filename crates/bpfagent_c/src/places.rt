@@ -1,5 +1,6 @@
 //! Where objects are.
 ghost use Rattle.std.specs.Prelude.{◌≡◌, ◌⊎◌, true, false, length, None, Some};
+ghost use Rattle.memory.specs.Objects.{object_limit};
 ghost use Rattle.placement.specs.declared.places.Place.{Place};
 ghost use Rattle.bpfagent_c.specs.Codes.{number_of_place, place_numbered};
 ghost use Rattle.bpfagent_c.specs.Told.{HasNone};
@@ -58,7 +59,7 @@ fn is_at(world: &World<LibraryStore>, place: Place, object: u32) -> bool
 /// The objects in a place, by rising numbers.
 #[tactic(auto, using(crate::proofs::Standing::standing_steps))]
 fn objects_in(world: &World<LibraryStore>, place: Place) -> ArrayVec<u32, OBJECT_LIMIT>
-    ensures { result.items ≡ standing place world.now.store.state 1024 }
+    ensures { result.items ≡ standing place world.now.store.state object_limit }
 {
     let mut found = ArrayVec::new();
     for index in 0..OBJECT_LIMIT {
@@ -80,8 +81,8 @@ pub extern "C" fn bpfagent_objects(
     count: &mut usize,
 ) -> u32
     ensures told { (p : Place) → place_numbered place ≡ Some p → agent.old.live ≡ true
-        → (result ≡ 0) × IsCalm agent.old agent.new × (objects.new ≡ over (standing p agent.old.held.state.store.state 1024) objects.old)
-        × (count.new ≡ length (standing p agent.old.held.state.store.state 1024)) }
+        → (result ≡ 0) × IsCalm agent.old agent.new × (objects.new ≡ over (standing p agent.old.held.state.store.state object_limit) objects.old)
+        × (count.new ≡ length (standing p agent.old.held.state.store.state object_limit)) }
     ensures bad { place_numbered place ≡ None → (result ≡ 31) × (agent.new ≡ agent.old) × (objects.new ≡ objects.old) × (count.new ≡ count.old) }
     ensures none { (p : Place) → place_numbered place ≡ Some p → agent.old.live ≡ false
         → (result ≡ 30) × HasNone agent.old agent.new × (objects.new ≡ objects.old) × (count.new ≡ count.old) }

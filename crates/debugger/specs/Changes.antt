@@ -12,7 +12,7 @@ use Rattle.debugger.specs.Refusals.{Decides}
 
 -- ---- changes
 
--- one that is set already is not set twice
+-- a breakpoint is set at the slot: nothing changes if one is set there already
 abbrev pub with_break : ℕ → DebugState → DebugState
 with_break slot d = cond (has_break slot d) d (record d { breakpoints = d.breakpoints ++ slot ∷ [] })
 
@@ -20,7 +20,7 @@ with_break slot d = cond (has_break slot d) d (record d { breakpoints = d.breakp
 abbrev pub without_break : ℕ → DebugState → DebugState
 without_break slot d = record d { breakpoints = filter (λ other. not (nat_eq slot other)) d.breakpoints }
 
--- one that is set already is not set twice
+-- the range is watched: nothing changes if it is watched already
 abbrev pub with_watch : Watch → DebugState → DebugState
 with_watch r d = cond (has_watch r d) d (record d { watches = d.watches ++ r ∷ [] })
 

@@ -1,4 +1,4 @@
--- A memory that is lent to a machine that runs.
+-- For private functions and proofs alone: a memory that is lent to a machine that runs.
 use Rattle.std.specs.Prelude.{◌≡◌, ℕ}
 use Rattle.memory.specs.Memories.{Memories, KeepsPromises}
 

@@ -1,4 +1,4 @@
-//! Watched ranges.
+//! Watched ranges: a machine pauses after it writes a byte of one.
 ghost use Rattle.std.specs.Prelude.{◌≡◌};
 ghost use Rattle.debugger.specs.DebugState.{watch_at, ends_within, is_same_watch, overlaps};
 

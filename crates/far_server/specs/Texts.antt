@@ -5,7 +5,7 @@ use Rattle.far_stream.specs.declared.fault.StreamFault.TheVariants.{Io, Damaged,
 use Rattle.far_server.specs.declared.fault.ServerFault.{ServerFault}
 use Rattle.far_server.specs.declared.fault.ServerFault.TheVariants.{Net, Read, Write, NoMemory}
 
--- what came of a client
+-- why a client was given up
 abbrev pub fault_name : StreamFault → List ℕ
 fault_name Io = codes "stream fault"
 fault_name Damaged = codes "damaged bytes"

@@ -7,7 +7,7 @@ use far_stream::StreamFault;
 use std::io::Write;
 use streams::{Line, put_all};
 
-/// What came of a client.
+/// Why a client was given up.
 fn name_of(fault: StreamFault) -> &'static [u8]
     ensures name { result.now ≡ fault_name fault }
     ensures short { length result.now ≤ 14 }

@@ -8,7 +8,7 @@ use Rattle.far_store.specs.declared.fault.StoreFault.TheVariants.{Io, Damaged, P
 use Rattle.far_stream.specs.Frames.{head, frame, head_length, IsHead, payload_limit, done, refused_id, no_room}
 use Rattle.far_stream.specs.Sent.{Sent}
 
--- what a call gave, of which this is seen
+-- the result of a call, with what `view` shows of its value in place of the value
 abbrev pub seen : {V A E : Type 0} → (V → A) → Result V E → Result A E
 seen view (Ok value) = Ok (view value)
 seen view (Err fault) = Err fault

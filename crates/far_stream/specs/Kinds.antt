@@ -1,4 +1,4 @@
--- The numbers of kinds and of status.
+-- For private functions and proofs alone: the numbers of kinds and of status.
 use Rattle.std.specs.Prelude.{◌≡◌, ◌<◌, ◌≤◌, ℕ}
 use Rattle.far_stream.specs.Frames.{payload_limit, put_kind, get_kind, forget_kind, done, refused_id, no_room}
 use Rattle.far_stream.specs.declared.frame.FrameKind.{FrameKind}

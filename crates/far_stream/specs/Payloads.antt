@@ -1,4 +1,4 @@
--- Frames that end too early.
+-- For private functions and proofs alone: frames that end too early.
 use Rattle.std.specs.Prelude.{ℕ, ◌<◌, List, length, Option}
 use Rattle.std.specs.Io.KnownBytes.{Consumes, IsAtEnd}
 use Rattle.streams.specs.Streams.{ConsumesCounted, ConsumesFewer}

@@ -1,4 +1,4 @@
--- One request, when some of its bytes have come.
+-- For private functions and proofs alone: one request, when some of its bytes have come.
 use Rattle.std.specs.Prelude.{◌≡◌, ◌<◌, ◌⊎◌, ⊤, ℕ, List, [], ◌++◌, length, Option, Result, Ok, Err}
 use Rattle.std.specs.Io.KnownBytes.{Appends, Consumes, IsAtEnd}
 use Rattle.streams.specs.Streams.{AppendsPart}

@@ -1,4 +1,4 @@
-//! What can go wrong with a stream.
+//! Why a conversation or a frame breaks off.
 ghost use Rattle.std.specs.Prelude.{◌≡◌};
 ghost use Rattle.far_stream.specs.declared.fault.PayloadFault.TheVariants.{CutOff};
 ghost use Rattle.far_stream.specs.Faults.{stream_fault_number, of_cut};

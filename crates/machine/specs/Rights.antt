@@ -1,4 +1,4 @@
--- What grants come to for each number.
+-- For private functions and proofs alone: the right that grants give on each object, as a table.
 use Rattle.std.specs.Prelude.{◌≡◌, ◌≤◌, ℕ, Bool, true, false, not, ◌||◌, List, get_or, replicate}
 use Rattle.memory.specs.Objects.{object_limit}
 use Rattle.machine.specs.declared.grants.Grant.{Grant}

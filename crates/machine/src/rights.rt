@@ -10,7 +10,7 @@ use memory::OBJECT_LIMIT;
 use std::marker::Model;
 
 /// How many numbers are looked up: 0, which is no object's, and those of objects.
-const NUMBERS: usize = 1025;
+const NUMBERS: usize = OBJECT_LIMIT + 1;
 
 /// What a machine may do with an object.
 #[derive(Clone, Copy, Drop, Debug, PartialEq, Eq)]

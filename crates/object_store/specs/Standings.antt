@@ -1,4 +1,4 @@
--- Whether an access can be done.
+-- For private functions and proofs alone: whether an access can be done.
 use Rattle.std.specs.Prelude.{◌≡◌, ℕ, List}
 use Rattle.memory.specs.declared.access.Op.{Op}
 use Rattle.placement.specs.declared.places.Place.{Place}

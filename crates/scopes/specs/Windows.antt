@@ -26,7 +26,7 @@ abbrev pub without_oldest : List ℕ → List ℕ
 without_oldest [] = []
 without_oldest (x ∷ xs) = cond (nat_le window_limit (length (x ∷ xs))) xs (x ∷ xs)
 
--- the number that is pushed out then
+-- the oldest number of a full window, which a fifth pushes out
 abbrev pub oldest_out : List ℕ → Option ℕ
 oldest_out [] = None
 oldest_out (x ∷ xs) = cond (nat_le window_limit (length (x ∷ xs))) (Some x) None
@@ -35,7 +35,7 @@ oldest_out (x ∷ xs) = cond (nat_le window_limit (length (x ∷ xs))) (Some x) 
 abbrev pub noted : ℕ → List ℕ → List ℕ
 noted n w = cond (holds n w) w (without_oldest w ++ n ∷ [])
 
--- the number that is pushed out then
+-- the number that leaves the window when n is noted, if one does
 abbrev pub pushed_out : ℕ → List ℕ → Option ℕ
 pushed_out n w = cond (holds n w) None (oldest_out w)
 

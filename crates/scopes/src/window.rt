@@ -1,4 +1,4 @@
-//! Windows.
+//! Which objects must stay because a machine reached them last, and which one a new access lets go.
 ghost use Rattle.std.specs.Prelude.{◌≡◌, [], ◌∷◌, false, None, IfSome};
 ghost use Rattle.scopes.specs.Windows.{IsWindow, holds, noted, pushed_out};
 ghost use Rattle.scopes.specs.Places.{number_at};

@@ -1,4 +1,4 @@
--- How far an access came before its deed.
+-- For private functions and proofs alone: how far an access came before its deed.
 use Rattle.std.specs.Prelude.{◌≡◌, ℕ, ◌+◌, ◌^◌, ◌<◌, ◌≤◌, max, List, [], length}
 use Rattle.memory.specs.Objects.{bytes_of}
 use Rattle.scopes.specs.Windows.{noted}

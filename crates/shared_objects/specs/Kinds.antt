@@ -61,7 +61,7 @@ without n (x ∷ xs) = if x == n then xs else x ∷ without n xs
 
 -- ---- views
 
--- the first seat of a table, with each object here, of which none was cooled. It has done as little as a spent seat has left.
+-- the first seat of a table: it has done nothing, each object is here, and none was cooled
 abbrev pub dealer : Bool → List (List ℕ) → View
 dealer returns opening = record spent { made = 1; alive = 1; live = true; opening = opening; returns = returns; out = map (λ _. Here) opening }
 

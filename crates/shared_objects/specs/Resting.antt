@@ -1,4 +1,4 @@
--- A seat between two calls.
+-- For private functions and proofs alone: a seat between two calls.
 use Rattle.std.specs.Prelude.{◌≡◌, ℕ, ◌<◌, true, List, [], ◌∷◌, None}
 use Rattle.scopes.specs.Windows.{holds}
 use Rattle.shared_objects.specs.Kinds.{Sat}

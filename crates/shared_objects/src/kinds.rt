@@ -44,28 +44,28 @@ impl Join<View> for Gathers {
     ghost spent = { spent };
 }
 
-/// Open scope.
+/// Adds one to the count: the object is open if it was here, otherwise `LeavesPass` has to take the one back.
 pub struct OpensScope;
 
 impl Play<Body, View> for OpensScope {
     ghost then = { opens_scope };
 }
 
-/// Close scope.
+/// Takes one from the count: the object was open.
 pub struct ClosesScope;
 
 impl Play<Body, View> for ClosesScope {
     ghost then = { closes_scope };
 }
 
-/// Close scope, of an object that was found away.
+/// Takes one from the count: `OpensScope` had found the object away.
 pub struct LeavesPass;
 
 impl Play<Body, View> for LeavesPass {
     ghost then = { leaves_pass };
 }
 
-/// Take turn.
+/// Sets the marks of a turn and of heat. If nobody had the turn, the seat has it now, with the bytes.
 pub struct TakesTurn;
 
 impl Play<Body, View> for TakesTurn {
@@ -85,49 +85,49 @@ impl Told for Brand {
     ghost entry = { no_entry };
 }
 
-/// Give turn, with an entry.
+/// Clears the mark of the turn and puts the entry's stamp into the word.
 pub struct GivesTurn<T>(PhantomData<T>);
 
 impl<T: Told> Play<Body, View> for GivesTurn<T> {
     ghost then = { gives_turn T.entry };
 }
 
-/// Give turn, without an entry.
+/// Clears the mark of the turn without an entry, since the stamps have run out.
 pub struct GivesUpTurn;
 
 impl Play<Body, View> for GivesUpTurn {
     ghost then = { gives_up_turn };
 }
 
-/// Begin leave.
+/// From here to on its way, if the word is still the one that was read. The mover has the bytes then.
 pub struct BeginsLeave;
 
 impl Play<Body, View> for BeginsLeave {
     ghost then = { begins_leave };
 }
 
-/// End leave.
+/// From on its way to far, when the far store has the bytes.
 pub struct EndsLeave;
 
 impl Play<Body, View> for EndsLeave {
     ghost then = { ends_leave };
 }
 
-/// Begin return.
+/// From far to on its way: the mover has the slot, to fetch the bytes into it.
 pub struct BeginsReturn;
 
 impl Play<Body, View> for BeginsReturn {
     ghost then = { begins_return };
 }
 
-/// End return.
+/// From on its way to here, when the bytes are in the slot again.
 pub struct EndsReturn;
 
 impl Play<Body, View> for EndsReturn {
     ghost then = { ends_return };
 }
 
-/// Cool.
+/// Clears the mark of heat and finds whether it was set, so that hot objects stay.
 pub struct Cools;
 
 impl Play<Body, View> for Cools {

@@ -10,7 +10,7 @@ use Rattle.ship_service.specs.declared.replies.ServiceReply.TheVariants.{Busy}
 use Rattle.ship_service.specs.Replies.{is_busy}
 use Rattle.ship_service.specs.Ranges.{reply_to_put, reply_to_get, PutsOnce, GetsOnce, FoundBusy, InTries, retry_limit}
 
--- a reply that isn't `busy` is not
+-- a reply that is `busy` and one that isn't are never equal
 unlike : (told other : ServiceReply) → told ≡ other → is_busy told ≡ true → is_busy other ≡ false → ⊥
 unlike told other e b f = let g : true ≡ false = sym b ∙ ap is_busy e ∙ f in absurd (cc)
 

@@ -1,4 +1,4 @@
-//! Readers.
+//! Readers that give little in a call, or fail, at a place that the test picks.
 
 use std::io::{Error, ErrorKind, Read, Result};
 

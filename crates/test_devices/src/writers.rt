@@ -1,4 +1,4 @@
-//! Writers.
+//! Writers that take little in a call, or fail, at a place that the test picks.
 
 use std::alloc::Global;
 use std::io::{Error, ErrorKind, Result, Write};

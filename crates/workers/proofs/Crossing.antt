@@ -45,7 +45,8 @@ requests_sync = search (sendable, crosses, shared.the_send, shared.the_sync, sea
 
 module _ (K : RattleType) (g : Ghosts K.Denot) where
   inside_send : IsSend (Inside.the_row K g)
-  inside_send = declared_send (Inside.the_type K g) (search sendable, (seat_send, (search (running_send, sendable) depth 20, (search sendable, (search (sendable, crosses) depth 20, tt)))))
+  inside_send = declared_send (Inside.the_type K g)
+      (search sendable, (seat_send, (search (running_send, sendable) depth 20, (search sendable, (search (sendable, crosses) depth 20, tt)))))
 
   pub locked_send : IsSend (Locked.the_row K g)
   locked_send = search (inside_send, view_send)

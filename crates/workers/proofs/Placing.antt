@@ -183,7 +183,7 @@ pub none_moved : (direction : Direction) (v : View) (n : ℕ) → (IsObject v.op
 none_moved Leave v n h = (h, refl)
 none_moved Return v n h = (h, refl)
 
--- a truth that leads nowhere is false
+-- a Boolean that cannot be true is false
 pub false_or : (b : Bool) → (b ≡ true → ⊥) → b ≡ false
 false_or true h = absurd (h refl)
 false_or false h = refl

@@ -93,6 +93,7 @@ impl Requests {
     pub(crate) fn next<R: Wait>(&self, rt: &R) -> Option<Request> {
         match self.queue.pop(rt) {
             Some(Job::Move(request)) => Some(request),
+            // only `ask` fills this queue
             _ => None,
         }
     }

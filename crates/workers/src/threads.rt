@@ -39,7 +39,7 @@ pub fn mover<F: FarStore, K: TableName, R: Wait, G: Gate>(
         }
         turn = !turn;
         match next_request(rt, pool, turn) {
-            Some(request) => serve(rt, gate, pool, served, request),
+            Some(request) => serve_request(rt, gate, pool, served, request),
             None => rest(rt, gate, pool, served, seen, sweep),
         }
     }
@@ -61,7 +61,8 @@ fn next_request<F: FarStore, K: TableName, R: Wait>(
     }
 }
 
-fn serve<F: FarStore, K: TableName, R: Wait, G: Gate>(
+/// Serves a request, tells the gate, and leaves the far store alone for a while if it failed.
+fn serve_request<F: FarStore, K: TableName, R: Wait, G: Gate>(
     rt: &R,
     gate: &G,
     pool: &Pool<F, K>,

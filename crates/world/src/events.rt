@@ -1,4 +1,4 @@
-//! Commands.
+//! Commands as data, so that a front end builds them and a world runs them.
 
 ghost use Rattle.std.specs.Prelude.{◌≡◌, ◌≤◌, IfSome, IfNone};
 ghost use Rattle.memory.specs.Objects.{object_bytes};

@@ -1,4 +1,4 @@
-//! Replies.
+//! Replies to commands, and which reply each answer of a machine, of the debugger or of the object store becomes.
 
 ghost use Rattle.std.specs.Prelude.{◌≡◌};
 ghost use Rattle.world.specs.Answers.{refused_get, reply_to_move};

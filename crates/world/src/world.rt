@@ -150,7 +150,7 @@ impl<F: FarStore> World<F> {
             ObjectCommand::Free => self.free(object),
             ObjectCommand::Put { offset, bytes } => self.put(object, offset, bytes.as_slice()),
             ObjectCommand::Get { offset, length } => self.get(object, offset, length),
-            ObjectCommand::Move(kind) => self.move_(object, kind),
+            ObjectCommand::Move(kind) => self.answer_move(object, kind),
         }
     }
 
@@ -211,12 +211,12 @@ impl<F: FarStore> World<F> {
 
     // ---- moves
 
-    /// Does a move of an object, or ends it.
-    fn move_(&mut self, object: u32, kind: Move) -> Reply
+    /// Does a move of an object, or ends it, and answers it.
+    fn answer_move(&mut self, object: u32, kind: Move) -> Reply
         ensures answers { AnswersMove (Moves kind) (moved_reply kind object) (place_before kind) (state_of self.old) object result (state_of self.new) }
         ensures asks { AsksMove (MoveAsks F.called kind) (moved_reply kind object) (place_before kind) self.old.store object result self.new.store }
     {
-        let moved = self.moved(object, kind);
+        let moved = self.move_object(object, kind);
         Reply::to_move(kind.reply(object), kind.back(), object, moved)
     }
 

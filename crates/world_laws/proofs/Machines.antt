@@ -1,4 +1,4 @@
--- Machines by number.
+-- What writing a machine back changes: the machine of that number, and no other.
 use Rattle.std.proofs.Common.{◌≡◌, ◌≢◌, ℕ, zero, suc, ◌-◌, List, [], ◌∷◌, map, Option, Some, None, refl, sym, ap, subst, arith}
 use Rattle.std.specs.Prelude.{slice_get, slice_set}
 use Rattle.debugger.specs.declared.debuggee.Debuggee.{Debuggee}

@@ -2,14 +2,13 @@
 
 use crate::common::{AMPLE, EXIT, FIRST, Say, Told, tells};
 use crate::compared::same;
-use crate::counting::Counting;
 use far_store::{Failing, OwnStore};
 use machine::Stop;
 use std::alloc::{AllocError, Global};
-use std::cell::Cell;
 use std::process::Abort;
 use std::rc::Rc;
 use std::test::Fail;
+use test_devices::{Asked, Counting};
 use world::{Move, Place, World};
 
 /// `acmpxchg [r1], r2`, which finds no 0 where R0 is 1.
@@ -77,16 +76,12 @@ const AGAIN: &[(Say, Told)] = &[
 
 /// How often an object was put in the far store that was away, met this, and was away again.
 fn puts_of(rt: &impl Abort, alloc: Global, between: &[(Say, Told)]) -> Result<u32, AllocError> {
-    let puts = Rc::new(alloc, Cell::new(0))?;
-    let counting = Counting {
-        store: OwnStore::new(alloc),
-        puts: puts.clone()?,
-    };
-    let mut world = World::new(alloc, AMPLE, counting)?;
+    let asked = Rc::new(alloc, Asked::new())?;
+    let mut world = World::new(alloc, AMPLE, Counting::new(alloc, &asked)?)?;
     tells(rt, alloc, &mut world, TRAVELLED)?;
     tells(rt, alloc, &mut world, between)?;
     tells(rt, alloc, &mut world, AGAIN)?;
-    Ok(puts.get())
+    Ok(asked.counts().0)
 }
 
 #[test]

@@ -6,7 +6,6 @@ mod common;
 #[cfg(test)]
 mod compared;
 #[cfg(test)]
-mod counting;
 #[cfg(test)]
 mod debugging;
 #[cfg(test)]

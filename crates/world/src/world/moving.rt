@@ -22,7 +22,7 @@ pub enum Move {
 
 impl<F: FarStore> World<F> {
     /// What the store does at a move.
-    pub(super) fn moved(&mut self, object: u32, kind: Move) -> Moved
+    pub(super) fn move_object(&mut self, object: u32, kind: Move) -> Moved
         ensures store { Moves kind self.old.store.state object result self.new.store.state }
         ensures asks { MoveAsks F.called kind self.old.store object result self.new.store }
         ensures machines { self.new.machines ≡ self.old.machines }

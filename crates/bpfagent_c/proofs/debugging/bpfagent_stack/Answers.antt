@@ -12,7 +12,6 @@ use Rattle.bpfagent_c.proofs.Reading.{over_as_many, stack_shows_nothing}
 use Rattle.bpfagent_c.proofs.debugging.bpfagent_stack.Goals as goal
 use Rattle.bpfagent_c.proofs.debugging.bpfagent_stack.Goals.{in-Ok, in-Err}
 
--- src/debugging.rt:54:1
 pub returns-clause-told : goal.returns-clause-told
 returns-clause-told c =
     let same : c.deref.result.now ≡ c.args.agent.now.held.state = search rules in

@@ -8,7 +8,6 @@ use Rattle.bpfagent_c.proofs.Reading.{over_as_many, refused_shows_nothing}
 use Rattle.bpfagent_c.proofs.objects.get.Goals as goal
 use Rattle.bpfagent_c.proofs.objects.get.Goals.{in-Ok, in-Err}
 
--- src/objects.rt:108:1
 pub returns : goal.returns
 returns c =
     let same : c.deref.result.now ≡ c.args.agent.now.held.state = search rules in

@@ -3,7 +3,6 @@ use Rattle.std.proofs.lemmas.Option.{slice_get-get_or}
 use Rattle.world.proofs.StackRead.{stack_read, stack_refused}
 use Rattle.world.proofs.stack.read_stack.Goals as goal
 
--- src/stack.rt:41:1
 pub returns-clause-shown : goal.returns-clause-shown
 returns-clause-shown c =
     let found = slice_get-get_or c.args.machines.now c.in-Some.index c.index-machines-index.result c.in-Some.ensures.some.1 in
@@ -11,7 +10,6 @@ returns-clause-shown c =
     c.read_range.new.into c.read_range.result
     c.in-Some.ensures.some.0 found c.stack.ensures c.read_range.ensures.shown
 
--- src/stack.rt:41:1
 pub returns-clause-refused : goal.returns-clause-refused
 returns-clause-refused c =
     let found = slice_get-get_or c.args.machines.now c.in-Some.index c.index-machines-index.result c.in-Some.ensures.some.1 in

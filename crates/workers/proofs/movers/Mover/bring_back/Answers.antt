@@ -90,7 +90,8 @@ returns-in-Err-clause-asks g c =
     let far = found_far g.F.FarStore.bytes_in m.seat c.args.number m.parcels.items c.index_mut.result.now c.in-Some.kept inv.0.1.0 c.requires.object inv.1
     c.index_mut.ensures.value c.in-Some.ensures.value in
     subst (λ (s : MoverState g.row.F.Denot).
-    AsksToReturn g.F.FarStore.RETURNS g.F.FarStore.called g.F.FarStore.faults_of s.view s.store c.args.number (Fault c.in-Err.fault) c.fetch.new.store) c.self.view_is
+    AsksToReturn g.F.FarStore.RETURNS g.F.FarStore.called g.F.FarStore.faults_of s.view s.store c.args.number
+    (Fault c.in-Err.fault) c.fetch.new.store) c.self.view_is
     record {
       bytes = g.F.FarStore.bytes_in c.in-Some.kept;
       was_far = far.1;

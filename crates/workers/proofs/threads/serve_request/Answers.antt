@@ -1,6 +1,6 @@
 use Rattle.std.specs.Prelude.{length}
 use Rattle.workers.proofs.Turned.{serves}
-use Rattle.workers.proofs.threads.serve.Goals as goal
+use Rattle.workers.proofs.threads.serve_request.Goals as goal
 
 pub returns : goal.returns
 returns g c = record {
