@@ -4,8 +4,8 @@ use Rattle.workers.proofs.threads.mover.Goals as goal
 
 pub loop-preserved-in-Some-next_request : goal.loop-preserved-in-Some-next_request
 loop-preserved-in-Some-next_request g c =
-    goes_on g.F.FarStore.RETURNS g.F.FarStore.called g.F.FarStore.faults_of (length g.K.TableName.opening) c.args.served.now c.loop.served c.serve.new.mover
-    c.loop.invariant c.serve.ensures.chain
+    goes_on g.F.FarStore.RETURNS g.F.FarStore.called g.F.FarStore.faults_of (length g.K.TableName.opening) c.args.served.now c.loop.served
+    c.serve_request.new.mover c.loop.invariant c.serve_request.ensures.chain
 
 pub loop-preserved : goal.loop-preserved
 loop-preserved g c = goes_on g.F.FarStore.RETURNS g.F.FarStore.called g.F.FarStore.faults_of (length g.K.TableName.opening) c.args.served.now c.loop.served
