@@ -6,6 +6,7 @@ use crate::connection::Connection;
 use crate::journal::Journal;
 use crate::serving::serve;
 use crate::shared_agent::Agent;
+use crossbeam_utils::CachePadded;
 use far_store::FarStore;
 use listener::accept;
 use std::alloc::{AllocError, Global};
@@ -95,12 +96,15 @@ impl<'a, R: Wait, F: FarStore, K: TableName, J: Journal> Tools<'a, R, F, K, J> {
     }
 }
 
+/// A connection behind a lock. Neighbouring ones share no cache line, since each writes its seat and its line at every command.
+type Lock<K> = CachePadded<Mutex<Connection<K>>>;
+
 /// Where connections come from, and what serves them.
 #[derive(Drop)]
 struct Front<'a, K: TableName> {
     alloc: Global,
     listener: TcpListener,
-    locks: &'a [Mutex<Connection<K>>],
+    locks: &'a [Lock<K>],
     // the stream of the far store, if it has one
     far: Option<TcpStream>,
 }
@@ -109,7 +113,7 @@ struct Front<'a, K: TableName> {
 fn serve_client<R: Wait, F: FarStore, K: TableName, J: Journal>(
     tools: &Tools<R, F, K, J>,
     client: u64,
-    lock: &Mutex<Connection<K>>,
+    lock: &Lock<K>,
     stream: TcpStream,
 ) {
     tools.gate.journal.came(client);
@@ -146,7 +150,7 @@ fn serve_clients<
     tools: &Tools<R, F, K, J>,
     alloc: Global,
     listener: TcpListener,
-    locks: &[Mutex<Connection<K>>],
+    locks: &[Lock<K>],
 ) -> Result<(), ThreadFault>
 where
     F::Parcel: Send,
@@ -270,12 +274,12 @@ where
 fn locked<K: TableName>(
     alloc: Global,
     connections: Vec<Connection<K>>,
-) -> Result<Vec<Mutex<Connection<K>>>, AllocError>
+) -> Result<Vec<Lock<K>>, AllocError>
     ensures { IfOk result (λ locks. length locks.items ≡ length connections.items) }
 {
     let mut locks = Vec::new(alloc);
     for connection in connections {
-        locks.push(Mutex::new(connection))?;
+        locks.push(CachePadded::new(Mutex::new(connection)))?;
     }
     Ok(locks)
 }
@@ -283,13 +287,13 @@ fn locked<K: TableName>(
 /// The connections without their locks, which nobody holds.
 fn unlocked<K: TableName>(
     alloc: Global,
-    locks: Vec<Mutex<Connection<K>>>,
+    locks: Vec<Lock<K>>,
 ) -> Result<Vec<Connection<K>>, AllocError>
     ensures { IfOk result (λ connections. length connections.items ≡ length locks.items) }
 {
     let mut connections = Vec::new(alloc);
     for lock in locks {
-        connections.push(lock.into_inner())?;
+        connections.push(lock.into_inner().into_inner())?;
     }
     Ok(connections)
 }
