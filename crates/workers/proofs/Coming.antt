@@ -1,16 +1,16 @@
 -- Seats and machines that come one after the other.
-use Rattle.std.proofs.Common.{◌≡◌, ℕ, zero, suc, ◌+◌, ◌-◌, List, [], ◌∷◌, ◌++◌, length, map, drop, All, Some, None, refl, sym, ap, ◌∙◌, subst, arith}
+use Rattle.std.proofs.Common.{◌≡◌, ℕ, zero, suc, ◌+◌, ◌-◌, List, [], ◌∷◌, length, drop, All, Some, None, refl, sym, ap, ◌∙◌, subst, arith}
 use Rattle.std.proofs.lemmas.List.Elements.{All-head, All-tail}
 use Rattle.std.specs.Prelude.{Option, slice_get, IfSome, IfNone, Bool}
 use Rattle.std.specs.declared.alloc.Global.{Global}
 use Rattle.std.specs.declared.vec.IntoIter.{IntoIter}
-use Rattle.std.specs.Vec.Iter.{into_iter_items, into_iter_len, into_iter_steps}
+use Rattle.std.specs.Vec.Iter.{into_iter_items, into_iter_steps}
 use Rattle.atomic_table.specs.Seated.{TableId}
 use mathlib.Core.Option.{some}
 use lib.ListN.{get_elem?}
 use Rattle.shared_objects.specs.Kinds.{dealer, newcomer}
 use Rattle.shared_objects.specs.Opened.{AreFresh, seated}
-use Rattle.shared_objects.specs.Tables.{IsActorOf, table_opening}
+use Rattle.shared_objects.specs.Tables.{IsActorOf}
 use Rattle.shared_objects.specs.declared.seats.ActorSeat.{ActorSeat}
 use Rattle.shared_objects.specs.declared.table.SharedTable.{SharedTable}
 use Rattle.shared_objects.specs.declared.view.View.{View}

@@ -1,5 +1,5 @@
 -- What the mover knows after one object went there and back, and its parcels.
-use Rattle.std.proofs.Common.{◌≡◌, true, false, ℕ, zero, suc, ◌+◌, ◌<◌, ◌≢◌, List, [], ◌∷◌, ◌++◌, length, map, set, get_or, sym, refl, ap, ◌∙◌, subst, arith}
+use Rattle.std.proofs.Common.{◌≡◌, true, false, ℕ, zero, suc, ◌<◌, ◌≢◌, List, [], ◌∷◌, ◌++◌, length, map, set, get_or, sym, refl, ap, ◌∙◌, subst, arith}
 use Rattle.std.proofs.Common.{length-set, get_or-set_other, get_or-set_same, Some, None}
 use Rattle.std.proofs.lemmas.List.{set-set, set-get_or, get_or-map, map-set, length-map}
 use Rattle.std.specs.Prelude.{Bool, Option, slice_index_or}

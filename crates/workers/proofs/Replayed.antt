@@ -1,15 +1,12 @@
 -- A machine stays the replay of its seat's entries, and keeps what it started as.
 use Rattle.std.proofs.Common.{◌≡◌, ℕ, zero, suc, nat_eq, Bool, true, false, ◌||◌, List, [], ◌∷◌, length, map, Option, Some, None, refl, sym, ap, ◌∙◌, subst}
 use Rattle.std.proofs.Common.{arith, inl, inr, ◌⊎◌}
-use Rattle.std.specs.List.{list_any}
 use Rattle.std.proofs.lemmas.Bool.Decides.{nat_tests}
 use mathlib.Core.Option.{some, some-injective, some-ne-none}
-use lib.ListN.{get_elem?}
 use Rattle.memory.specs.declared.access.Op.{Op}
 use Rattle.memory.specs.declared.access.Reach.{Reach}
 use Rattle.memory.specs.declared.access.Reach.TheVariants as reach
 use Rattle.memory.specs.declared.deeds.Entry.{Entry}
-use Rattle.memory.specs.Memories.{Memories}
 use Rattle.memory.specs.Objects.{bytes_of}
 use Rattle.shared_objects.specs.History.{Has}
 use Rattle.shared_objects.specs.SeatMemories.{own_entry}
@@ -38,7 +35,6 @@ use Rattle.debugger.specs.Debuggees.{Walks, AnswersStep, debuggee_start}
 use Rattle.debugger.specs.declared.start.Start.{Start}
 use Rattle.workers.specs.declared.running.Shipment.{Shipment}
 use Rattle.workers.specs.Cells.{SeatState, seat_acts, RunningState, shipped_as, opened_as, StartedAs, lengths_of, is_worn_mark, is_marked_worn, IsReplayed}
-use Rattle.workers.specs.Cells.{FitsCell}
 
 -- ---- marks
 

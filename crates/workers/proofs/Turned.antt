@@ -1,5 +1,5 @@
 -- What a mover does in turn, put together.
-use Rattle.std.proofs.Common.{◌≡◌, ℕ, zero, suc, ◌+◌, Bool, refl, subst, sym, inl, inr}
+use Rattle.std.proofs.Common.{ℕ, zero, suc, Bool, refl, subst, inl, inr}
 use Rattle.far_store.specs.Calls.{Call}
 use Rattle.workers.specs.Moves.{MoverState}
 use Rattle.workers.specs.Turning.{Serves, LooksOn, InTurn, MovesOn}

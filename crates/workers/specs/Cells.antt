@@ -1,5 +1,5 @@
 -- What a cell keeps under its lock: a seat of the table, and a machine that is the replay of the seat's entries.
-use Rattle.std.specs.Prelude.{◌≡◌, ◌<◌, ◌≤◌, ℕ, zero, suc, ◌-◌, ◌%◌, ◌==◌, nat_eq, Bool, true, false, List, [], length, map, Option, Some, None, is_some}
+use Rattle.std.specs.Prelude.{◌≡◌, ◌<◌, ◌≤◌, ℕ, zero, suc, ◌-◌, ◌%◌, ◌==◌, nat_eq, Bool, false, List, [], length, map, Option, Some, None, is_some}
 use Rattle.std.specs.Prelude.{is_none, not, ◌&&◌, slice_get}
 use Rattle.std.specs.List.{list_any}
 use Rattle.atomic_table.specs.Seated.{TableId}
@@ -13,7 +13,7 @@ use Rattle.shared_objects.specs.Tables.{table_opening}
 use Rattle.shared_objects.specs.declared.seats.ActorSeat.{ActorSeat}
 use Rattle.shared_objects.specs.declared.table.SharedTable.{SharedTable}
 use Rattle.shared_objects.specs.declared.view.Mark.{Mark}
-use Rattle.shared_objects.specs.declared.view.Mark.TheVariants.{Away, Busy, Worn}
+use Rattle.shared_objects.specs.declared.view.Mark.TheVariants.{Worn}
 use Rattle.shared_objects.specs.declared.view.View.{View}
 use Rattle.loader.specs.ValidCode.{ValidCode}
 use Rattle.machine.specs.Grants.{GrantState}

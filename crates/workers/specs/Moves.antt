@@ -11,7 +11,7 @@ use Rattle.far_store.specs.declared.fault.StoreFault.TheVariants.{Damaged}
 use Rattle.placement.specs.declared.places.Place.{Place}
 use Rattle.placement.specs.declared.places.Place.TheVariants as told
 use Rattle.placement.specs.declared.places.Moved.{Moved}
-use Rattle.placement.specs.declared.places.Moved.TheVariants.{Done, NoObject, Misplaced, Scoped, NoRoom, Fault}
+use Rattle.placement.specs.declared.places.Moved.TheVariants.{Done, NoObject, Misplaced, Scoped, Fault}
 use Rattle.shared_objects.specs.Kinds.{placed, with_cooling}
 use Rattle.shared_objects.specs.Phases.{IsObject, phase_of}
 use Rattle.shared_objects.specs.Rule.{place_of}

@@ -1,4 +1,4 @@
-use Rattle.std.proofs.Common.{◌≡◌, ◌∷◌, [], List, ℕ, length, Ok, Err, refl, sym, ap, ◌∙◌, inl, inr}
+use Rattle.std.proofs.Common.{◌≡◌, ℕ, length, Ok, Err, refl, sym, ap, ◌∙◌, inl, inr}
 use Rattle.memory.specs.Objects.{bytes_of}
 use Rattle.shared_objects.specs.Kinds.{placed, sent}
 use Rattle.shared_objects.specs.Rule.{place_of}

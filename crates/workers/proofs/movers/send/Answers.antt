@@ -1,4 +1,4 @@
-use Rattle.std.proofs.Common.{◌≡◌, ◌∷◌, [], List, ℕ, length, None, refl, sym, ap, ◌∙◌, subst}
+use Rattle.std.proofs.Common.{◌≡◌, List, ℕ, length, None, refl, sym, ap, ◌∙◌, subst}
 use Rattle.far_store.specs.Calls.Call.{Put}
 use Rattle.shared_objects.specs.Kinds.{placed, sent}
 use Rattle.shared_objects.specs.Rule.{place_of}

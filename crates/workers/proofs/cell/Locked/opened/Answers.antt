@@ -1,5 +1,4 @@
-use Rattle.std.proofs.Common.{sym, subst}
-use Rattle.workers.specs.Cells.{seat_state, RunningState, IsReplayed}
+use Rattle.workers.specs.Cells.{seat_state}
 use Rattle.workers.proofs.Replayed.{opened_replayed}
 use Rattle.workers.proofs.cell.Locked.opened.Goals as goal
 

@@ -1,4 +1,4 @@
-use Rattle.std.proofs.Common.{refl, sym, ap, ◌∙◌, subst, Some}
+use Rattle.std.proofs.Common.{sym, ap, ◌∙◌, subst, Some}
 use Rattle.debugger.specs.Debuggees.{AnswersStep}
 use Rattle.workers.specs.Cells.{SeatState, seat_state, seat_acts, CellState, FitsCell}
 use Rattle.workers.proofs.Replayed.{stays_replayed, answer_actor}

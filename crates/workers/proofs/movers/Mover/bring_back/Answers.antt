@@ -1,15 +1,14 @@
-use Rattle.std.proofs.Common.{◌≡◌, ◌≤◌, ℕ, List, length, map, Some, None, refl, sym, ap, ◌∙◌, subst}
-use Rattle.std.specs.Prelude.{Option, slice_set}
+use Rattle.std.proofs.Common.{◌≡◌, ◌≤◌, ℕ, map, Some, refl, sym, ap, ◌∙◌, subst}
+use Rattle.std.specs.Prelude.{slice_set}
 use Rattle.std.proofs.lemmas.List.{set-set, set-get_or}
 use Rattle.far_store.specs.Calls.Call.{Forget}
 use Rattle.far_store.specs.Stores.{parcel_bytes}
 use Rattle.placement.specs.declared.places.Moved.TheVariants.{Done, Fault}
 use Rattle.shared_objects.specs.Kinds.{placed}
 use Rattle.shared_objects.specs.Phases.{IsObject, phase_of}
-use Rattle.shared_objects.specs.Rule.{place_of}
-use Rattle.shared_objects.specs.declared.view.Whereabouts.TheVariants.{Here, Far}
+use Rattle.shared_objects.specs.declared.view.Whereabouts.TheVariants.{Here}
 use Rattle.shared_objects.specs.declared.view.View.{View}
-use Rattle.workers.specs.Moves.{MoverState, IsMoverView, KeepsParcels, LeavesFor, ReturnsFrom, AsksToLeave, AsksToReturn}
+use Rattle.workers.specs.Moves.{MoverState, IsMoverView, KeepsParcels, ReturnsFrom, AsksToReturn}
 use Rattle.workers.proofs.Placing.{inside, found_far, kept_here}
 use Rattle.workers.proofs.movers.Mover.bring_back.Goals as goal
 

@@ -1,15 +1,12 @@
-use Rattle.std.proofs.Common.{◌≡◌, ◌≤◌, ℕ, List, length, map, Some, None, refl, sym, ap, ◌∙◌, subst}
-use Rattle.std.specs.Prelude.{Option, slice_set}
-use Rattle.std.proofs.lemmas.List.{set-set, set-get_or}
-use Rattle.far_store.specs.Calls.Call.{Forget}
+use Rattle.std.proofs.Common.{ℕ, map, Some, sym, ap, ◌∙◌, subst}
+use Rattle.std.specs.Prelude.{slice_set}
 use Rattle.far_store.specs.Stores.{parcel_bytes}
-use Rattle.placement.specs.declared.places.Moved.TheVariants.{Done, Fault}
-use Rattle.shared_objects.specs.Kinds.{placed}
-use Rattle.shared_objects.specs.Phases.{IsObject, phase_of}
+use Rattle.placement.specs.declared.places.Moved.TheVariants.{Done}
+use Rattle.shared_objects.specs.Phases.{IsObject}
 use Rattle.shared_objects.specs.Rule.{place_of}
-use Rattle.shared_objects.specs.declared.view.Whereabouts.TheVariants.{Here, Far}
+use Rattle.shared_objects.specs.declared.view.Whereabouts.TheVariants.{Far}
 use Rattle.shared_objects.specs.declared.view.View.{View}
-use Rattle.workers.specs.Moves.{MoverState, IsMoverView, KeepsParcels, LeavesFor, ReturnsFrom, AsksToLeave, AsksToReturn}
+use Rattle.workers.specs.Moves.{MoverState, IsMoverView, KeepsParcels, LeavesFor, AsksToLeave}
 use Rattle.workers.proofs.Placing.{inside, lacks, kept_far, now_here}
 use Rattle.workers.proofs.movers.Mover.leave.Goals as goal
 

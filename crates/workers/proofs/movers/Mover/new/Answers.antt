@@ -1,4 +1,4 @@
-use Rattle.std.proofs.Common.{ℕ, List, length, map, sym, ap, ◌∙◌, arith}
+use Rattle.std.proofs.Common.{ℕ, List, map, sym, ap, ◌∙◌, arith}
 use Rattle.std.proofs.lemmas.List.{length-map}
 use Rattle.far_store.specs.Stores.{parcel_bytes}
 use Rattle.shared_objects.specs.declared.view.Whereabouts.TheVariants.{Here}

@@ -1,4 +1,4 @@
-use Rattle.std.proofs.Common.{rules, ◌≡◌, sym, ap, ◌∙◌}
+use Rattle.std.proofs.Common.{rules, ap, ◌∙◌}
 use Rattle.workers.specs.Cells.{RunningState}
 use Rattle.workers.proofs.Seated.{seat_answer}
 use Rattle.workers.proofs.Replayed.{answer_keeps}
