@@ -20,4 +20,4 @@ pub use conversation::{converse, converse_over, drive};
 pub use fault::{DriveFault, LineFault};
 pub use laws::{conversations_are_plain, one_command};
 pub use link::{Link, StdLink};
-pub use replies::{REPLY_LIMIT, ReplyLine, print_fault, print_reply, put_named};
+pub use replies::{REPLY_LIMIT, ReplyLine, print_bytes, print_fault, print_reply, put_named};

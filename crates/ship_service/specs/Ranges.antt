@@ -1,5 +1,6 @@
 -- Commands on objects: what they are answered, and what they do to the connection's seat.
-use Rattle.std.specs.Prelude.{◌≡◌, ◌⊎◌, ◌≤◌, ℕ, zero, suc, true, List}
+use Rattle.std.specs.Prelude.{◌≡◌, ◌⊎◌, ◌≤◌, ℕ, zero, suc, true, List, Result, Ok, Err}
+use Rattle.std.specs.declared.alloc.AllocError.{AllocError}
 use Rattle.memory.specs.declared.access.Reach.{Reach}
 use Rattle.memory.specs.declared.access.Reach.TheVariants as reach
 use Rattle.memory.specs.declared.deeds.Deed.TheVariants.{Reads}
@@ -30,6 +31,11 @@ reply_to_get n fetched.Away = Plain (reply.Away n)
 reply_to_get n fetched.Busy = Busy n
 reply_to_get n fetched.Outside = Plain reply.Outside
 reply_to_get n fetched.Worn = Worn
+
+-- the same, where there may be no memory for the bytes
+abbrev pub told_of_get : ℕ → Result Fetched AllocError → ServiceReply
+told_of_get n (Ok found) = reply_to_get n found
+told_of_get n (Err e) = Plain reply.NoMemory
 
 -- One try to put: the reply is what the table did with these bytes at the seat.
 pub record PutsOnce (old : SeatState) (n offset : ℕ) (bytes : List ℕ) (told : ServiceReply) (new : SeatState) : Type 0 where

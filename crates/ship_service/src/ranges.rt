@@ -3,12 +3,16 @@ ghost use Rattle.std.specs.Prelude.{◌≡◌};
 ghost use Rattle.workers.specs.Cells.{IsSeatOf, seat_state};
 ghost use Rattle.world.specs.declared.replies.Reply.TheVariants.{Away};
 ghost use Rattle.ship_service.specs.declared.replies.ServiceReply.TheVariants.{Plain};
-ghost use Rattle.ship_service.specs.Ranges.{PutsOnce, GetsOnce, ServesPut, ServesGet, AsksMover, reply_to_get};
+ghost use Rattle.ship_service.specs.Ranges.{PutsOnce, GetsOnce, ServesPut, ServesGet, AsksMover, told_of_get};
+ghost use Rattle.ship_service.specs.Replies.{IsShortReply, is_busy, service_text};
+ghost use Rattle.console.specs.Lines.{ended};
 
-use crate::replies::ServiceReply;
+use crate::replies::{ServiceReply, print_service_reply};
+use console::{ReplyLine, print_bytes};
 use far_store::FarStore;
 use memory::{Bytes, Reach};
 use shared_objects::{ActorSeat, Fetched};
+use std::alloc::AllocError;
 use std::sync::Wait;
 use workers::{Direction, Pool, TableName, give_time};
 use world::Reply;
@@ -69,44 +73,71 @@ pub(crate) fn put<F: FarStore, K: TableName, R: Wait>(
     put_once(rt, pool, seat, object, offset, bytes)
 }
 
+/// Whether another had its turn on the object whose bytes were to be read.
+fn found_busy(found: &Result<Fetched, AllocError>, _object: u32) -> bool
+    ensures { result ≡ is_busy (told_of_get _object found.now) }
+{
+    matches!(found, Ok(Fetched::Busy))
+}
+
 /// The reply to what became of a range that was to be read.
-fn fetched<F: FarStore, K: TableName, R: Wait>(
+fn told_of_get<F: FarStore, K: TableName, R: Wait>(
     rt: &R,
     pool: &Pool<F, K>,
     object: u32,
-    fetched: Fetched,
+    found: Result<Fetched, AllocError>,
 ) -> ServiceReply
-    ensures { result ≡ reply_to_get object fetched }
+    ensures { result ≡ told_of_get object found }
 {
-    match fetched {
-        Fetched::Done(bytes) => ServiceReply::Plain(Reply::Bytes(Bytes::new(bytes))),
-        Fetched::Away => call(rt, pool, object),
-        Fetched::Busy => ServiceReply::Busy { object },
-        Fetched::Outside => ServiceReply::Plain(Reply::Outside),
-        Fetched::Worn => ServiceReply::Worn,
+    match found {
+        Ok(Fetched::Done(bytes)) => ServiceReply::Plain(Reply::Bytes(Bytes::new(bytes))),
+        Ok(Fetched::Away) => call(rt, pool, object),
+        Ok(Fetched::Busy) => ServiceReply::Busy { object },
+        Ok(Fetched::Outside) => ServiceReply::Plain(Reply::Outside),
+        Ok(Fetched::Worn) => ServiceReply::Worn,
+        Err(_) => ServiceReply::Plain(Reply::NoMemory),
     }
 }
 
 /// Tries to read bytes of an object, once.
-fn get_once<F: FarStore, K: TableName, R: Wait>(
+fn fetch_once<F: FarStore, K: TableName>(
+    pool: &Pool<F, K>,
+    seat: &mut ActorSeat,
+    object: u32,
+    offset: u32,
+    length: u32,
+) -> Result<Fetched, AllocError>
+    requires { IsSeatOf K.table K.opening seat.old }
+    ensures of { IsSeatOf K.table K.opening seat.new }
+    ensures get { GetsOnce (seat_state seat.old) object offset length (told_of_get object result) (seat_state seat.new) }
+{
+    pool.table().get(seat, object, offset, length)
+}
+
+/// Reads bytes of an object, in as many tries.
+pub(crate) fn fetch<F: FarStore, K: TableName, R: Wait>(
     rt: &R,
     pool: &Pool<F, K>,
     seat: &mut ActorSeat,
     object: u32,
     offset: u32,
     length: u32,
-) -> ServiceReply
+) -> Result<Fetched, AllocError>
     requires { IsSeatOf K.table K.opening seat.old }
     ensures of { IsSeatOf K.table K.opening seat.new }
-    ensures get { GetsOnce (seat_state seat.old) object offset length result (seat_state seat.new) }
+    ensures get { ServesGet (seat_state seat.old) object offset length (told_of_get object result) (seat_state seat.new) }
 {
-    match pool.table().get(seat, object, offset, length) {
-        Ok(found) => fetched(rt, pool, object, found),
-        Err(_) => ServiceReply::Plain(Reply::NoMemory),
+    for retry in 0..RETRY_LIMIT {
+        let found = fetch_once(pool, seat, object, offset, length);
+        if !found_busy(&found, object) {
+            return found;
+        }
+        give_time(rt, retry);
     }
+    fetch_once(pool, seat, object, offset, length)
 }
 
-/// Reads bytes of an object, in as many tries.
+/// Reads bytes of an object, as a reply. A conversation makes the line of a `get` without one ([`print_found`]).
 pub(crate) fn get<F: FarStore, K: TableName, R: Wait>(
     rt: &R,
     pool: &Pool<F, K>,
@@ -119,14 +150,26 @@ pub(crate) fn get<F: FarStore, K: TableName, R: Wait>(
     ensures of { IsSeatOf K.table K.opening seat.new }
     ensures get { ServesGet (seat_state seat.old) object offset length result (seat_state seat.new) }
 {
-    for retry in 0..RETRY_LIMIT {
-        let told = get_once(rt, pool, seat, object, offset, length);
-        if !told.is_busy() {
-            return told;
-        }
-        give_time(rt, retry);
+    let found = fetch(rt, pool, seat, object, offset, length);
+    told_of_get(rt, pool, object, found)
+}
+
+/// Makes this the line of what became of a range. The bytes go into the line without a reply, which has room for much more and
+/// would be moved on its way.
+pub(crate) fn print_found<F: FarStore, K: TableName, R: Wait>(
+    rt: &R,
+    pool: &Pool<F, K>,
+    object: u32,
+    found: Result<Fetched, AllocError>,
+    line: &mut ReplyLine,
+)
+    requires { IsShortReply (told_of_get object found) }
+    ensures { line.new.items ≡ ended (service_text (told_of_get object found)) }
+{
+    match found {
+        Ok(Fetched::Done(bytes)) => print_bytes(&bytes, line),
+        found => print_service_reply(&told_of_get(rt, pool, object, found), line),
     }
-    get_once(rt, pool, seat, object, offset, length)
 }
 
 /// Asks the mover to move an object.

@@ -1,14 +1,20 @@
 //! Conversations with the service.
-ghost use Rattle.std.specs.Prelude.{◌≡◌, OnOk, IfSome};
+ghost use Rattle.std.specs.Prelude.{◌≡◌, ◌≤◌, OnOk, IfSome};
 ghost use Rattle.std.specs.Result.{IsErrOf};
 ghost use Rattle.console.specs.Held.{nothing_held};
 ghost use Rattle.console.specs.Conversations.{AnswersAll, StopsReading, StopsWriting};
 ghost use Rattle.workers.specs.Cells.{IsSeatOf, seat_state};
-ghost use Rattle.ship_service.specs.Served.{Serves, ServesObject, service};
+ghost use Rattle.console.specs.Lines.{ended};
+ghost use Rattle.console.specs.Commands.{range_limit};
+ghost use Rattle.world.specs.declared.events.Event.TheVariants.{Object};
+ghost use Rattle.world.specs.declared.events.ObjectCommand.TheVariants.{Get};
+ghost use Rattle.ship_service.specs.declared.replies.ServiceReply.{ServiceReply};
+ghost use Rattle.ship_service.specs.Replies.{service_text};
+ghost use Rattle.ship_service.specs.Served.{Serves, ServesObject, ServesTurn, service};
 
 use crate::cells::{answer_machine, ship};
 use crate::connection::{Connection, Post};
-use crate::ranges::{ask, get, put};
+use crate::ranges::{ask, fetch, get, print_found, put};
 use crate::replies::{ServiceReply, print_service_reply};
 use crate::shared_agent::Agent;
 use console::{Answerer, DriveFault, ReplyLine, converse};
@@ -71,6 +77,27 @@ fn answer<F: FarStore, K: TableName, R: Wait>(
     }
 }
 
+/// Answers `get` and makes the line of it.
+fn answer_get<'a, F: FarStore, K: TableName, R: Wait>(
+    shared: &Service<'a, R, F, K>,
+    seat: &mut ActorSeat,
+    object: u32,
+    offset: u32,
+    length: u32,
+    reply: &mut ReplyLine,
+)
+    requires seat { IsSeatOf K.table K.opening seat.old }
+    requires short { length ≤ range_limit }
+    ensures of { IsSeatOf K.table K.opening seat.new }
+    ensures serves { (told : ServiceReply) × ServesTurn K.opening K.starts K.lent (seat_state seat.old) (Object object (Get offset length)) told
+        (seat_state seat.new) × (reply.new.items ≡ ended (service_text told)) }
+{
+    let pool = shared.agent.pool();
+    let found = fetch(shared.rt, pool, seat, object, offset, length);
+    pool.table().close_scopes(seat);
+    print_found(shared.rt, pool, object, found, reply);
+}
+
 impl<'a, R: Wait, F: FarStore, K: TableName> Answerer<Service<'a, R, F, K>> for Post<K> {
     ghost use Rattle.workers.specs.Cells.{seat_state};
     ghost use Rattle.ship_service.specs.Served.{service};
@@ -80,6 +107,14 @@ impl<'a, R: Wait, F: FarStore, K: TableName> Answerer<Service<'a, R, F, K>> for 
     ghost state = { λ post. seat_state post.seat };
 
     fn perform(&mut self, shared: &Service<'a, R, F, K>, event: Event, reply: &mut ReplyLine) {
+        if let Event::Object {
+            object,
+            command: ObjectCommand::Get { offset, length },
+        } = event
+        {
+            answer_get(shared, &mut self.seat, object, offset, length, reply);
+            return;
+        }
         let pool = shared.agent.pool();
         let told = answer(shared.rt, self.alloc, shared.agent, &mut self.seat, event);
         pool.table().close_scopes(&mut self.seat);

@@ -1,4 +1,4 @@
-use Rattle.std.proofs.Common.{◌≡◌, sym, ◌∙◌, arith}
+use Rattle.std.proofs.Common.{sym, ◌∙◌, arith}
 use Rattle.ship_service.proofs.Tried.{put_again, tried, tried_all}
 use Rattle.ship_service.proofs.ranges.put.Goals as goal
 

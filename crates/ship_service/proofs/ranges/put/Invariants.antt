@@ -1,4 +1,4 @@
-use Rattle.std.proofs.Common.{◌≡◌, ◌≤◌}
+use Rattle.std.proofs.Common.{◌≤◌}
 use Rattle.workers.specs.Cells.{IsSeatOf, seat_state}
 use Rattle.ship_service.specs.Ranges.{PutsOnce, FoundBusy, retry_limit}
 use Rattle.ship_service.proofs.ranges.put.Given as goal

@@ -1,7 +1,7 @@
-use Rattle.std.proofs.Common.{◌≡◌, ◌≤◌}
+use Rattle.std.proofs.Common.{◌≤◌}
 use Rattle.workers.specs.Cells.{IsSeatOf, seat_state}
 use Rattle.ship_service.specs.Ranges.{GetsOnce, FoundBusy, retry_limit}
-use Rattle.ship_service.proofs.ranges.get.Given as goal
+use Rattle.ship_service.proofs.ranges.fetch.Given as goal
 
 abbrev pub invariant-loop-retry : goal.invariant-loop-retry
 invariant-loop-retry g l = IsSeatOf g.K.TableName.table g.K.TableName.opening l.seat × (l.retry ≤ retry_limit)
