@@ -88,12 +88,15 @@ fn make_option<'a>(alloc: Global, name: &'a str, value: &'a str) -> Arg<'a>
     Arg::new(alloc, name).long(name).value_name(value)
 }
 
+/// The greatest budget: 64 MiB.
+const BUDGET_LIMIT: u32 = 67_108_864;
+
 /// `--budget N`: the most bytes that the objects that aren't far may have.
 fn make_budget<'a>(alloc: Global) -> Arg<'a>
     ensures { rule_of result ≡ number_rule budget_option }
 {
     make_option(alloc, "budget", "N")
-        .value_parser(value_parser!(u32).range(0..=67_108_864))
+        .value_parser(value_parser!(u32).range(0..=BUDGET_LIMIT))
         .default_value("67108864")
         .help("The most bytes of objects that are not far, 0 to 67108864")
 }

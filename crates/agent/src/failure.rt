@@ -7,7 +7,7 @@ ghost use Rattle.agent.specs.declared.failure.Failure.TheVariants.{Read as ReadF
 use assembler::{AsmError, Why};
 use loader::LoadError;
 use std::alloc::AllocError;
-use streams::{InputFault, Line, WriteFault};
+use streams::{InputFault, Line, NO_MEMORY, READ_FAULT, WRITE_FAULT, WriteFault};
 use thiserror::Error;
 
 /// How the program ended.
@@ -34,15 +34,6 @@ impl ExitStatus {
 
 /// What is said of input that is too long.
 const INPUT_TOO_LONG: &str = "input too long";
-
-/// What is said of a reader that failed.
-const READ_FAULT: &str = "read fault";
-
-/// What is said of a writer that failed.
-pub(crate) const WRITE_FAULT: &str = "write fault";
-
-/// What is said where memory ran out.
-pub(crate) const NO_MEMORY: &str = "no memory";
 
 /// Why the program gave up.
 #[derive(Clone, Copy, Drop, Debug, PartialEq, Eq, Error)]

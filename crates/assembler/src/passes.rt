@@ -13,6 +13,9 @@ use isa_table::Instr;
 use std::alloc::Global;
 use std::collections::BTreeMap;
 
+/// The most slots that a text may have, as a loader takes them.
+const SLOT_LIMIT: usize = 4096;
+
 /// What is wrong with a line, if anything.
 fn complaint<'a>(labels: &Labels<'a>, n: usize, line: &'a [u8]) -> Option<Why>
     requires slots { AllBelow labels.now }
@@ -30,7 +33,7 @@ fn complaint<'a>(labels: &Labels<'a>, n: usize, line: &'a [u8]) -> Option<Why>
             return Some(Why::TwiceLabel);
         }
     }
-    if n + slots > 4096 {
+    if n + slots > SLOT_LIMIT {
         return Some(Why::TooLong);
     }
     None

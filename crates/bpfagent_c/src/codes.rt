@@ -152,18 +152,30 @@ pub(crate) fn code_of_end(end: Option<StepReply>) -> u32
     }
 }
 
+/// Why a machine is stopped, with the numbers of `enum bpfagent_stop`.
+#[derive(Clone, Copy, Drop)]
+enum StopCode {
+    Exit = 1,
+    Outside = 2,
+    Misaligned = 3,
+    Depth = 4,
+    Spent = 5,
+    Worn = 6,
+    NotGranted = 7,
+}
+
 /// The number of a stop.
 pub(crate) fn code_of_stop(stop: Stop) -> u32
     ensures { result ≡ code_of_stop stop }
 {
     match stop {
-        Stop::Exit(_) => 1,
-        Stop::Outside => 2,
-        Stop::Misaligned => 3,
-        Stop::Depth => 4,
-        Stop::Spent => 5,
-        Stop::Worn => 6,
-        Stop::NotGranted => 7,
+        Stop::Exit(_) => StopCode::Exit as u32,
+        Stop::Outside => StopCode::Outside as u32,
+        Stop::Misaligned => StopCode::Misaligned as u32,
+        Stop::Depth => StopCode::Depth as u32,
+        Stop::Spent => StopCode::Spent as u32,
+        Stop::Worn => StopCode::Worn as u32,
+        Stop::NotGranted => StopCode::NotGranted as u32,
     }
 }
 
@@ -177,14 +189,22 @@ pub(crate) fn value_of_stop(stop: Stop) -> u64
     }
 }
 
-/// Whether a machine goes on.
+/// Whether a machine goes on, with the numbers of `enum bpfagent_state`.
+#[derive(Clone, Copy, Drop)]
+enum StateCode {
+    Running = 0,
+    Paused = 1,
+    Stopped = 2,
+}
+
+/// The number of whether a machine goes on.
 pub(crate) fn code_of_state(state: State) -> u32
     ensures { result ≡ code_of_state state }
 {
     match state {
-        State::Running => 0,
-        State::Paused => 1,
-        State::Stopped(_) => 2,
+        State::Running => StateCode::Running as u32,
+        State::Paused => StateCode::Paused as u32,
+        State::Stopped(_) => StateCode::Stopped as u32,
     }
 }
 
@@ -222,15 +242,24 @@ pub(crate) fn code_of_back(moved: Moved) -> u32
     code_of_moved(moved, Place::Far)
 }
 
+/// Where an object is, with the numbers of `enum bpfagent_place`.
+#[derive(Clone, Copy, Drop)]
+enum PlaceCode {
+    Here = 0,
+    Leaving = 1,
+    Far = 2,
+    Returning = 3,
+}
+
 /// The number of a place.
 pub(crate) fn number_of_place(place: Place) -> u32
     ensures { result ≡ number_of_place place }
 {
     match place {
-        Place::Here => 0,
-        Place::Leaving => 1,
-        Place::Far => 2,
-        Place::Returning => 3,
+        Place::Here => PlaceCode::Here as u32,
+        Place::Leaving => PlaceCode::Leaving as u32,
+        Place::Far => PlaceCode::Far as u32,
+        Place::Returning => PlaceCode::Returning as u32,
     }
 }
 
@@ -238,11 +267,15 @@ pub(crate) fn number_of_place(place: Place) -> u32
 pub(crate) fn place_numbered(number: u32) -> Option<Place>
     ensures { result ≡ place_numbered number }
 {
+    const HERE: u32 = PlaceCode::Here as u32;
+    const LEAVING: u32 = PlaceCode::Leaving as u32;
+    const FAR: u32 = PlaceCode::Far as u32;
+    const RETURNING: u32 = PlaceCode::Returning as u32;
     match number {
-        0 => Some(Place::Here),
-        1 => Some(Place::Leaving),
-        2 => Some(Place::Far),
-        3 => Some(Place::Returning),
+        HERE => Some(Place::Here),
+        LEAVING => Some(Place::Leaving),
+        FAR => Some(Place::Far),
+        RETURNING => Some(Place::Returning),
         _ => None,
     }
 }

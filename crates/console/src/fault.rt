@@ -3,7 +3,7 @@ ghost use Rattle.std.specs.Prelude.{◌≡◌};
 ghost use Rattle.console.specs.Faults.{line_fault_number, drive_fault_number};
 ghost use Rattle.console.specs.declared.fault.DriveFault.TheVariants.{Write as WriteFailed};
 
-use streams::WriteFault;
+use streams::{NO_MEMORY, READ_FAULT, WRITE_FAULT, WriteFault};
 use thiserror::Error;
 
 /// Why a line gives no command.
@@ -13,7 +13,7 @@ pub enum LineFault {
     #[error("the line spells no command")]
     Bad = 1,
     /// It spells one, and there is no memory for the bytes that it carries.
-    #[error("no memory")]
+    #[error("{NO_MEMORY}")]
     NoMemory = 2,
 }
 
@@ -30,10 +30,10 @@ impl LineFault {
 #[derive(Clone, Copy, Drop, Debug, PartialEq, Eq, Error)]
 pub enum DriveFault {
     /// The reader failed, or its input had no end.
-    #[error("read fault")]
+    #[error("{READ_FAULT}")]
     Read = 1,
     /// The writer failed, or took no byte.
-    #[error("write fault")]
+    #[error("{WRITE_FAULT}")]
     Write = 2,
 }
 

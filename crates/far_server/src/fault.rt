@@ -2,6 +2,8 @@
 ghost use Rattle.std.specs.Prelude.{◌≡◌, ◌≤◌, length};
 ghost use Rattle.far_server.specs.Texts.{server_fault_name};
 
+use listener::NET_FAULT;
+use streams::{NO_MEMORY, READ_FAULT, WRITE_FAULT};
 use thiserror::Error;
 
 /// Why a server ended otherwise than with its input.
@@ -25,10 +27,10 @@ impl ServerFault {
         ensures short { length result.now ≤ 11 }
     {
         match self {
-            ServerFault::Net => "net fault",
-            ServerFault::Read => "read fault",
-            ServerFault::Write => "write fault",
-            ServerFault::NoMemory => "no memory",
+            ServerFault::Net => NET_FAULT,
+            ServerFault::Read => READ_FAULT,
+            ServerFault::Write => WRITE_FAULT,
+            ServerFault::NoMemory => NO_MEMORY,
         }
     }
 }

@@ -13,3 +13,6 @@ pub use announcing::announce;
 pub use bell::Bell;
 pub use binding::bind;
 pub use journal::Journal;
+
+/// What is said of a network that failed.
+pub const NET_FAULT: &str = "net fault";

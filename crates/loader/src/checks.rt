@@ -70,9 +70,7 @@ fn jump_complaint(entries: &[CodeEntry], slot: usize, instr: Instr) -> Option<Wh
     ensures { (code after : List Instr) → entries.now ≡ all_entries code
         → MatchOption result (LeadsInside code slot instr) (λ why. IsLeastComplaint code slot instr after why) }
 {
-    let Some(to) = target_of(slot, instr) else {
-        return None;
-    };
+    let to = target_of(slot, instr)?;
     let Some(to) = slot_of(to, entries.len()) else {
         return Some(Why::JumpOut);
     };
@@ -115,9 +113,7 @@ pub(crate) fn first_complaint(entries: &[CodeEntry]) -> Option<LoadError>
             slot += 1;
             continue 'instrs;
         }
-        let Some(instr) = entry_at(entries, slot) else {
-            return None;
-        };
+        let instr = entry_at(entries, slot)?;
         if let Some(why) = complaint(entries, slot, instr) {
             return Some(why.at(slot));
         }

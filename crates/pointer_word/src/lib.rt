@@ -7,4 +7,4 @@ mod tests;
 mod word;
 
 pub use laws::{one_number, scopes_keep_objects_here};
-pub use word::{FARTHER, HOT, PLACE, SCOPE, STAMP, STAMP_LIMIT, TURN, Word, WordPlace};
+pub use word::{FARTHER, HOT, PLACE, SCOPE, STAMP, STAMP_LIMIT, TURN, Word, WordPlace, is_away};

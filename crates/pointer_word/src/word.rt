@@ -1,5 +1,5 @@
 //! The word of an object in 64 bits, and its calls. Each is a few shifts and masks, so that a step can afford them.
-ghost use Rattle.std.specs.Prelude.{◌≡◌, ◌+◌, ◌-◌, ◌<◌, nat_eq, None, IfSome};
+ghost use Rattle.std.specs.Prelude.{◌≡◌, ◌+◌, ◌-◌, ◌<◌, ◌%◌, ◌==◌, not, nat_eq, None, IfSome};
 ghost use Rattle.pointer_word.specs.Words.{WordRecord, HasFields, place_number, where_it_applies, word_number, new_word, is_local, opened, closed, turn_taken};
 ghost use Rattle.pointer_word.specs.Words.{turn_given, cooled, leaving, gone_far, returning, home};
 ghost use Rattle.pointer_word.specs.Bits.{cold_bits, place_at};
@@ -219,7 +219,7 @@ impl Word {
 
     /// The object is in the place of this number, where it was in that one.
     #[inline(always)]
-    fn moved(&self, from: u64, to: u64) -> Option<Self>
+    fn placed(&self, from: u64, to: u64) -> Option<Self>
         requires { (from < 3) × (to < 3) }
         ensures { result ≡ where_it_applies (nat_eq (place_number self.now.place) from) (record self.now { place = place_at to }) }
     {
@@ -236,22 +236,29 @@ impl Word {
     pub fn left(&self) -> Option<Self>
         ensures { result ≡ gone_far self.now }
     {
-        self.moved(1, 2)
+        self.placed(1, 2)
     }
 
     /// The object that was far is moving.
     pub fn returning(&self) -> Option<Self>
         ensures { result ≡ returning self.now }
     {
-        self.moved(2, 1)
+        self.placed(2, 1)
     }
 
     /// The object that was moving is here.
     pub fn home(&self) -> Option<Self>
         ensures { result ≡ home self.now }
     {
-        self.moved(1, 0)
+        self.placed(1, 0)
     }
+}
+
+/// Whether a word of this number says that its object isn't here.
+pub fn is_away(number: u64) -> bool
+    ensures { result ≡ not (number % 4 == 0) }
+{
+    number & PLACE != 0
 }
 
 /// The bits, without the mark that the object is hot.

@@ -1,5 +1,6 @@
 //! A table is opened.
 ghost use Rattle.std.specs.Prelude.{◌≡◌, ◌+◌, ◌<◌, ◌≤◌, [], ◌∷◌, length, map, All, IfOk, true};
+ghost use Rattle.memory.specs.Objects.{object_limit};
 ghost use Rattle.shared_objects.specs.Kinds.{dealer, dealt, newcomer};
 ghost use Rattle.shared_objects.specs.Opened.{AreFresh, seated};
 ghost use Rattle.shared_objects.specs.Opening.{opening_bytes};
@@ -55,7 +56,7 @@ impl SharedTable {
         bodies: Vec<Vec<u8>>,
         returns: bool,
     ) -> Result<(SharedTable, MoverSeat), AllocError>
-        requires { length bodies.items ≤ 1024 }
+        requires { length bodies.items ≤ object_limit }
         ensures { IfOk result (λ r. IsMoverOf r.0 r.1 × (table_opening r.0 ≡ opening_bytes bodies) × (table_returns r.0 ≡ returns)
             × (r.1.seat.me.0 ≡ dealer returns (opening_bytes bodies))) }
     {
@@ -125,7 +126,7 @@ impl SharedTable {
         actors: usize,
         returns: bool,
     ) -> Result<(SharedTable, Vec<ActorSeat>, MoverSeat), AllocError>
-        requires bodies { length bodies.items ≤ 1024 }
+        requires bodies { length bodies.items ≤ object_limit }
         requires actors { actors ≤ 56 }
         ensures { IfOk result (λ r. IsMoverOf r.0 r.2 × All (IsActorOf r.0) r.1.items × (table_opening r.0 ≡ opening_bytes bodies)
             × (table_returns r.0 ≡ returns) × (length r.1.items ≡ actors)

@@ -1,5 +1,6 @@
 //! The table of a far store.
 ghost use Rattle.std.specs.Prelude.{◌≡◌, ◌+◌, ◌≤◌, [], length, map, All, IfOk};
+ghost use Rattle.memory.specs.Objects.{object_limit};
 ghost use Rattle.shared_objects.specs.Ends.{Closes};
 ghost use Rattle.shared_objects.specs.Kinds.{dealer};
 ghost use Rattle.shared_objects.specs.Opened.{AreFresh, seated};
@@ -39,7 +40,7 @@ impl<F: FarStore> Shared<F> {
         bodies: Vec<Vec<u8>>,
         actors: usize,
     ) -> Result<(Shared<F>, Vec<ActorSeat>, MoverSeat), OpenFault>
-        requires bodies { length bodies.items ≤ 1024 }
+        requires bodies { length bodies.items ≤ object_limit }
         requires actors { actors ≤ 56 }
         ensures { IfOk result (λ r. IsMoverOf r.0.table r.2 × All (IsActorOf r.0.table) r.1.items
             × (table_opening r.0.table ≡ opening_bytes bodies) × (length r.1.items ≡ actors)

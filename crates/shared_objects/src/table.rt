@@ -1,6 +1,6 @@
 //! The table, and the single steps of an actor.
 ghost use Rattle.std.specs.Prelude.{◌≡◌, ℕ, ◌^◌, ◌<◌, ◌≤◌, ◌+◌, true, List, [], length, map, None, Some, MatchOption, MatchBool, IfSome};
-ghost use Rattle.memory.specs.Objects.{bytes_of};
+ghost use Rattle.memory.specs.Objects.{bytes_of, number_count};
 ghost use Rattle.memory.specs.Deeds.{EndsInside, given_by, left_by};
 ghost use Rattle.shared_objects.specs.History.{top, entry};
 ghost use Rattle.shared_objects.specs.Opening.{opening_bytes};
@@ -32,7 +32,7 @@ pub struct SharedTable {
     ghost words: { table.shared.table_id.words ≡ word_of (length lengths.items) },
     ghost slots: { table.shared.table_id.slots ≡ length lengths.items },
     ghost sizes: { lengths.items ≡ map length (opening_bytes table.shared.key.bodies.value) },
-    ghost few: { (0 < length lengths.items) × (length lengths.items ≤ 1025) },
+    ghost few: { (0 < length lengths.items) × (length lengths.items ≤ number_count) },
 }
 
 impl SharedTable {

@@ -13,14 +13,14 @@ use crate::shared_agent::Agent;
 use crate::texts::closed_line;
 use crate::threads::{Plan, ThreadFault, serve_all};
 use far_store::FarStore;
-use listener::announce;
+use listener::{NET_FAULT, announce};
 use std::alloc::Global;
 use std::io::Write;
 use std::marker::Brand;
 use std::net::{TcpListener, TcpStream};
 use std::sync::Wait;
 use std::thread::Threads;
-use streams::put_all;
+use streams::{NO_MEMORY, WRITE_FAULT, put_all};
 use thiserror::Error;
 use workers::{Mover, TableName};
 use world::World;
@@ -32,13 +32,13 @@ pub enum ListenFault {
     #[error("object {0} isn't here")]
     NotHere(u32),
     /// Out of memory, or a thread can't be made.
-    #[error("no memory")]
+    #[error("{NO_MEMORY}")]
     Memory,
     /// A connection can't be accepted.
-    #[error("net fault")]
+    #[error("{NET_FAULT}")]
     Net,
     /// The output failed.
-    #[error("write fault")]
+    #[error("{WRITE_FAULT}")]
     Write,
 }
 

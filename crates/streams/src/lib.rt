@@ -8,7 +8,7 @@ mod reading;
 mod tests;
 mod writing;
 
-pub use fault::{InputFault, ReadFault, WriteFault};
+pub use fault::{InputFault, NO_MEMORY, READ_FAULT, ReadFault, WRITE_FAULT, WriteFault};
 pub use line::Line;
 pub use reading::{fill, read_at_most, skip};
 pub use writing::put_all;

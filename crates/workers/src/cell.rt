@@ -15,6 +15,7 @@ use debugger::{
     DebugCommand, Debugged, Debuggee, MachineRun, ShowCommand, ShowReply, Start, StepReply, Way,
 };
 use loader::Program;
+use pointer_word::is_away;
 use shared_objects::{ActorSeat, SharedTable};
 use std::alloc::Global;
 use std::marker::{Model, PhantomData};
@@ -342,7 +343,7 @@ impl<K: TableName> Locked<K> {
         if shared.length(object as u64) == 0 {
             return false;
         }
-        shared.look(&mut self.seat, object) % 4 != 0
+        is_away(shared.look(&mut self.seat, object))
     }
 
     /// What is shown of the machine, if it has come: its state, as it is.

@@ -3,7 +3,7 @@ ghost use Rattle.std.specs.Prelude.{◌≡◌, ◌++◌, ◌∷◌, [], option_m
 ghost use Rattle.agent.specs.ServeLeaves.{IsAddress, ReportsServe, ReportsService, ServeLeaves, ServesOver, Unconnected, listen_text, serve_status, serve_text};
 
 use crate::arguments::Serving;
-use crate::failure::{ExitStatus, Failure, FailureLine, NO_MEMORY, WRITE_FAULT, line_of};
+use crate::failure::{ExitStatus, Failure, FailureLine, line_of};
 use crate::reporting::say;
 use crate::running::do_commands;
 use crate::servers::noted_stream::NotedStream;
@@ -11,7 +11,7 @@ use crate::servers::notes::{Note, Notes};
 use far_server::Journal;
 use far_store::{FarStore, OwnStore};
 use far_stream::StreamStore;
-use listener::bind;
+use listener::{NET_FAULT, bind};
 use ship_service::{ListenFault, Plan, listen_over};
 use std::alloc::Global;
 use std::io::{self, Eprint, Read, Write};
@@ -19,6 +19,7 @@ use std::net::{Net, SocketAddr, TcpListener, TcpStream};
 use std::sync::Wait;
 use std::thread::Threads;
 use std::time::{Clock, Duration};
+use streams::{NO_MEMORY, WRITE_FAULT};
 use world::World;
 
 /// Why a service ended otherwise than with its connections.
@@ -35,9 +36,6 @@ pub enum ServeFault {
     /// It ended later, for this reason.
     Listen(ListenFault),
 }
-
-/// What is said of a network that failed.
-const NET_FAULT: &str = "net fault";
 
 /// The line of an object that isn't here.
 fn line_not_here(number: u32) -> FailureLine

@@ -11,14 +11,14 @@ use Rattle.loader.proofs.checks.first_complaint.Goals as goal
 pub complaint-requires : goal.complaint-requires
 complaint-requires c = record {
   short = c.requires;
-  room = omega (arith, entry_within c.args.entries.now c.instrs.slot c.in-Some.instr (sym c.in-Some.is ∙ c.entry_at.ensures));
+  room = omega (arith, entry_within c.args.entries.now c.instrs.slot c.in_ok-instr.instr (sym c.in_ok-instr.was ∙ c.entry_at.ensures));
 }
 
-pub returns-in-Some-complaint : goal.returns-in-Some-complaint
-returns-in-Some-complaint c = λ code e.
+pub returns-in-Some : goal.returns-in-Some
+returns-in-Some c = λ code e.
     let w = c.instrs.invariant code e in
-    let n = next_left c.args.entries.now c.instrs.slot c.in-Some.instr w.left w.entries (sym c.in-Some.is ∙ c.entry_at.ensures) in
-    let here = wrong_here _ _ _ code _ w n (rw c.in-Some-complaint.is at (c.complaint.ensures code n.after e n.last)) in
+    let n = next_left c.args.entries.now c.instrs.slot c.in_ok-instr.instr w.left w.entries (sym c.in_ok-instr.was ∙ c.entry_at.ensures) in
+    let here = wrong_here _ _ _ code _ w n (rw c.in-Some.is at (c.complaint.ensures code n.after e n.last)) in
     subst (λ (r : LoadError). IsFirstWrong code code 0 r.slot r.why) (sym c.at.ensures) here
 
 pub overflow_add-slot : goal.overflow_add-slot
@@ -38,24 +38,24 @@ pub overflow_add-slot-in-instrs : goal.overflow_add-slot-in-instrs
 overflow_add-slot-in-instrs c = omega (
   arith,
   c.slots_of-slot.ensures,
-  slots_at_most_two c.in-Some.instr,
-  entry_within c.args.entries.now c.instrs.slot c.in-Some.instr (sym c.in-Some.is ∙ c.entry_at.ensures),
+  slots_at_most_two c.in_ok-instr.instr,
+  entry_within c.args.entries.now c.instrs.slot c.in_ok-instr.instr (sym c.in_ok-instr.was ∙ c.entry_at.ensures),
 )
 
 pub instrs-smaller : goal.instrs-smaller
 instrs-smaller c = omega (
   arith,
   c.slots_of-slot.ensures,
-  slots_positive c.in-Some.instr,
-  entry_within c.args.entries.now c.instrs.slot c.in-Some.instr (sym c.in-Some.is ∙ c.entry_at.ensures),
+  slots_positive c.in_ok-instr.instr,
+  entry_within c.args.entries.now c.instrs.slot c.in_ok-instr.instr (sym c.in_ok-instr.was ∙ c.entry_at.ensures),
 )
 
 pub instrs-preserved : goal.instrs-preserved
 instrs-preserved c = λ code e.
     let w = c.instrs.invariant code e in
-    let n = next_left c.args.entries.now c.instrs.slot c.in-Some.instr w.left w.entries (sym c.in-Some.is ∙ c.entry_at.ensures) in
-    let sound = rw c.in_default-complaint.is at (c.complaint.ensures code n.after e n.last) in
+    let n = next_left c.args.entries.now c.instrs.slot c.in_ok-instr.instr w.left w.entries (sym c.in_ok-instr.was ∙ c.entry_at.ensures) in
+    let sound = rw c.in_default.is at (c.complaint.ensures code n.after e n.last) in
     subst (λ (k : ℕ). IsWalked c.args.entries.now (c.instrs.slot + k) code) (sym c.slots_of-slot.ensures) (walk_on _ _ _ code w n sound)
 
-pub returns-in_default : goal.returns-in_default
-returns-in_default c = λ code e. all_walked _ _ code (c.instrs.invariant code e) (sym c.in_default.is ∙ c.entry_at.ensures)
+pub returns-in_err-instr : goal.returns-in_err-instr
+returns-in_err-instr c = λ code e. rw c.from_residual.ensures (all_walked _ _ code (c.instrs.invariant code e) (sym c.in_err-instr.was ∙ c.entry_at.ensures))
