@@ -35,14 +35,22 @@ def can_count() -> bool:
     return shutil.which("valgrind") is not None
 
 
-def counted(command: Sequence[Union[str, Path]], script: Optional[bytes] = None) -> tuple[int, bytes]:
-    """How many machine instructions a command takes, and what it wrote."""
-    whole = ["valgrind", "--tool=callgrind", "--callgrind-out-file=/dev/null", *command]
-    done = subprocess.run(whole, input=script, stdout=subprocess.PIPE, stderr=subprocess.PIPE, check=True)
-    found = re.search(rb"Collected : (\d+)", done.stderr)
+def under_valgrind(command: Sequence[Union[str, Path]]) -> list[Union[str, Path]]:
+    """The command, with its machine instructions counted, which standard error tells at its end."""
+    return ["valgrind", "--tool=callgrind", "--callgrind-out-file=/dev/null", *command]
+
+
+def told_count(errors: bytes) -> int:
+    found = re.search(rb"Collected : (\d+)", errors)
     if found is None:
         raise OSError("valgrind tells no count")
-    return int(found[1]), done.stdout
+    return int(found[1])
+
+
+def counted(command: Sequence[Union[str, Path]], script: Optional[bytes] = None) -> tuple[int, bytes]:
+    """How many machine instructions a command takes, and what it wrote."""
+    done = subprocess.run(under_valgrind(command), input=script, stdout=subprocess.PIPE, stderr=subprocess.PIPE, check=True)
+    return told_count(done.stderr), done.stdout
 
 
 def of_a_step(steps: Union[str, Path], folder: str, side: str, name: str) -> float:

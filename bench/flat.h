@@ -1,15 +1,22 @@
 /* A flat interpreter of the instruction table in C, without a proof: what the same work costs. It decodes once, and trusts
    that the code is valid. Each instruction is dispatched once, by a switch with a jump table, in one loop that keeps the
-   registers; before each it tests the fuel, and it tests depth, alignment and bounds as the agent does. */
+   registers; before each it tests the fuel, and it tests depth, alignment and bounds as the agent does.
+
+   With -DFLAT_SHARED threads share the objects, as crates/shared_objects has them share: an access takes the object's turn by one
+   atomic operation on its word, and gives it back by another. */
 #ifndef FLAT_H
 #define FLAT_H
 #include <stddef.h>
 #include <stdint.h>
 
-enum flat_stop { FLAT_EXIT, FLAT_OUTSIDE, FLAT_MISALIGNED, FLAT_DEPTH, FLAT_SPENT };
+/* The last three are those of an access to a shared object: it is away, another has its turn, its stamp is the greatest. */
+enum flat_stop { FLAT_EXIT, FLAT_OUTSIDE, FLAT_MISALIGNED, FLAT_DEPTH, FLAT_SPENT, FLAT_AWAY, FLAT_BUSY, FLAT_WORN };
 
-/* The bytes of a number; length 0 where there is no object. */
+/* The bytes of a number; length 0 where there is no object. A shared one has its word beside them, on one cache line. */
 struct flat_object {
+#ifdef FLAT_SHARED
+    _Alignas(64) _Atomic uint64_t word;
+#endif
     uint8_t *bytes;
     uint64_t length;
 };
@@ -28,15 +35,31 @@ struct flat_frame {
     uint64_t saved[5];
 };
 
+#ifdef FLAT_SHARED
+/* Object n is entry n of the table. Entry 0 has no bytes. */
+#define FLAT_TABLE 1025
+
+/* The objects whose scopes a machine has open, the newest first, and the greatest stamp that it has seen. */
+struct flat_seat {
+    uint32_t window[4];
+    uint64_t stamp;
+};
+#else
 /* The stack is entry 0 of the table, number n is entry n + 1. */
 #define FLAT_TABLE 1026
+#endif
 
 struct flat_machine {
     const struct flat_instr *code;
     uint64_t registers[11], fuel;
     uint32_t slot, depth;
     struct flat_frame frames[8];
+#ifdef FLAT_SHARED
+    struct flat_object *table;
+    struct flat_seat seat;
+#else
     struct flat_object table[FLAT_TABLE];
+#endif
     uint8_t stack[4096];
 };
 

@@ -18,8 +18,6 @@ TOLD = re.compile(
 )
 # The library for C: a run in one call beside a step in a loop, once in nanoseconds and once in machine instructions.
 LIBRARY = re.compile(r"(\w+) +run +([\d.]+)( ns)?,.*? bare +([\d.]+)( ns)?")
-# A worker: machine instructions alone, all kinds in one line.
-WORKER = re.compile(r"machine instructions of one worker an instruction of one machine: (.*)")
 
 
 @dataclass
@@ -47,9 +45,6 @@ def rows_of_line(part: str, line: str) -> Iterator[Row]:
     if library := LIBRARY.match(line):
         ours, theirs = float(library[2]), float(library[4])
         yield Row(part, library[1], ratio=round(ours / theirs, 3)) if library[3] else Row(part, library[1], ours=ours, theirs=theirs)
-    elif worker := WORKER.match(line):
-        for name, count in re.findall(r"(\w+) ([\d.]+)", worker[1]):
-            yield Row(part, name, ours=float(count))
     elif name := NAME.match(line):
         told = {field: float(value) for found in TOLD.finditer(line) for field, value in found.groupdict().items() if value}
         if told:

@@ -55,6 +55,14 @@ class Bench:
         subprocess.run([self.rt, "run"], cwd=ROOT / "crates/bench_threads", stdout=subprocess.DEVNULL, check=True)
         return THREADS
 
+    def worker(self) -> pathlib.Path:
+        """A worker in C, whose objects are shared."""
+        return self.compile("worker", "-pthread", "-DFLAT_SHARED", "bench/worker.c", "bench/flat.c")
+
+    def replies(self) -> pathlib.Path:
+        """A service in C that answers `get`."""
+        return self.compile("replies", "-pthread", "-DFLAT_SHARED", "bench/replies.c")
+
     def compile(self, name: str, *arguments: object) -> pathlib.Path:
         """The program in C of this name, of these sources and with these options."""
         subprocess.run([*COMPILER, "-o", str(MADE / name), *(str(word) for word in arguments)], cwd=ROOT, check=True)
@@ -98,20 +106,24 @@ def far(bench: Bench) -> None:
 
 
 def service(bench: Bench) -> None:
-    bench.python("service", "service.py", bench.program, bench.compile("service", "-pthread", "bench/service.c", "bench/flat.c"))
+    bench.python("service", "service.py", bench.program, bench.worker(), bench.replies())
 
 
 def turns(bench: Bench) -> None:
-    bench.python("worker", "turns.py", bench.threads())
+    bench.python("worker", "turns.py", bench.threads(), bench.worker())
+
+
+def replies(bench: Bench) -> None:
+    bench.python("replies", "replies.py", bench.program, bench.replies())
 
 
 def stores(bench: Bench) -> None:
     bench.python("far store's server", "stores.py", bench.program)
 
 
-PARTS: list[Callable[[Bench], None]] = [steps, library, lines, assembly, shared, far, service, turns, stores]
+PARTS: list[Callable[[Bench], None]] = [steps, library, lines, assembly, shared, far, service, turns, replies, stores]
 # The parts without a side in C.
-WITHOUT_C = {"assembly", "turns", "stores"}
+WITHOUT_C = {"assembly", "stores"}
 
 
 def missing_compiler(parts: Iterable[str]) -> str:

@@ -1,27 +1,27 @@
 #!/usr/bin/env python3
-"""A service beside plain C, in one run: service.py PROGRAM C_PROGRAM
+"""A service beside plain C, in one run: service.py PROGRAM C_WORKER C_REPLIES
 
-An instruction of a machine that one worker runs, under the machine's lock, beside a flat interpreter that takes a mutex for a turn
-of as many instructions: processor time, as what the machine's fuel says was done between two looks at it. And the round trip of a
-`get` of eight bytes over TCP, beside a server that answers this command alone: the time that passed. Runs are interleaved, and of
-each the fastest counts.
+An instruction of a machine that one worker runs, under the machine's lock, beside a worker in C: processor time, as what the
+machine's fuel says was done between two looks at it. And the round trip of a `get` of eight bytes over TCP, beside a server that
+answers this command alone: the time that passed. Runs are interleaved, and of each the fastest counts.
 
 Then, of the service alone: how long `regs` of a running machine takes, and a program from `ship` to its `exit`, for 1, 4 and 16
 workers; and how many of 100 `get` are answered `busy`, for one and for eight clients, on an object that 1, 4 and 16 machines add to.
 """
 import contextlib
-import os
 import pathlib
 import socket
 import statistics
-import struct
-import subprocess
 import sys
 import threading
 import time
 
 sys.path.append(str(pathlib.Path(__file__).resolve().parents[1] / "tests"))
 from lib.programs import Listener
+from lib.programs import processor_time as used_by
+
+from rows import words
+from turns import KINDS, processor_time
 
 RUNS = 5
 SECONDS = 0.3
@@ -29,7 +29,7 @@ SHORT, LONG = 1_000_000, 11_000_000
 TRIPS = 5_000
 FUEL = 1 << 62
 # r1 += 7; goto -2
-ADDITIONS = struct.pack("<BBhi", 0x07, 1, 0, 7).hex() + struct.pack("<BBhi", 0x05, 0, -2, 0).hex()
+ADDITIONS = KINDS["a loop of two instructions"]
 LINE = b"get 1 0 8\n"
 # atomic r1[0] += r2; goto -2
 ADDS = "db21000000000000" "0500feff00000000"
@@ -68,31 +68,20 @@ def ask(client, line):
     return reply
 
 
-def processor_time(pid):
-    """The seconds that all threads of a process have run."""
-    return sum(int(pathlib.Path(f"/proc/{pid}/task/{thread}/schedstat").read_text().split()[0]) for thread in os.listdir(f"/proc/{pid}/task")) / 1e9
-
-
 def under_a_lock(program):
     """Nanoseconds of an instruction that a worker does."""
     looks = []
     with started([program, "serve", "--workers", "1"], f"ship {FUEL} 0 0 0 0 0 {ADDITIONS}\n") as (server, client):
         for pause in (0.05, SECONDS):
             time.sleep(pause)
-            looks.append((int(ask(client, b"regs 1\n").split()[3]), processor_time(server.process.pid)))
+            looks.append((int(ask(client, b"regs 1\n").split()[3]), used_by(server.process.pid)))
     return (looks[1][1] - looks[0][1]) / (looks[0][0] - looks[1][0]) * 1e9
 
 
 def under_a_mutex(program):
     """The same in C: a long run without a short one."""
-    spent = []
-    for count in (SHORT, LONG):
-        process = subprocess.Popen([program, "lock", str(count)], stdout=subprocess.DEVNULL)
-        _, status, used = os.wait4(process.pid, 0)
-        if status:
-            sys.exit(f"{program} lock: status {status}")
-        spent.append(used.ru_utime + used.ru_stime)
-    return (spent[1] - spent[0]) / (LONG - SHORT) * 1e9
+    short, long = (processor_time(program, count, ADDITIONS) for count in (SHORT, LONG))
+    return (long - short) / (LONG - SHORT) * 1e9
 
 
 def round_trip(command, setup=""):
@@ -156,11 +145,9 @@ def busy(program, machines, clients):
 
 
 def main():
-    if len(sys.argv) != 3:
-        print("usage: service.py PROGRAM C_PROGRAM", file=sys.stderr)
-        sys.exit(2)
-    program, c_program = sys.argv[1:3]
-    rounds = [(under_a_lock(program), under_a_mutex(c_program), round_trip([program, "serve", "--workers", "0"], "make 64\n"), round_trip([c_program, "trip"])) for _ in range(RUNS)]
+    program, c_worker, c_replies = words("service.py PROGRAM C_WORKER C_REPLIES", 3, 3)
+    served, c_served = [program, "serve", "--workers", "0"], [c_replies, "1"]
+    rounds = [(under_a_lock(program), under_a_mutex(c_worker), round_trip(served, "make 64\n"), round_trip(c_served)) for _ in range(RUNS)]
     ours, c, trip, c_trip = (min(values) for values in zip(*rounds))
     print(f"an instruction under a lock      {ours:7.2f} ns, C {c:7.2f} ns, ratio {ours / c:.2f}")
     print(f"round trip of a get of 8 bytes   {trip:7.2f} us, C {c_trip:7.2f} us, ratio {trip / c_trip:.2f}")

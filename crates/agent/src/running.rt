@@ -49,9 +49,6 @@ pub fn run<R: Read, W: Write>(
     ensures { IfSome (R.remaining reader.old)
         (λ input. RunLeaves budget input (W.contents writer.old) (W.contents writer.new) (R.remaining reader.new) result) }
 {
-    let _world = match do_commands(alloc, budget, reader, writer) {
-        Ok(world) => world,
-        Err(failure) => return Err(failure),
-    };
+    let _world = do_commands(alloc, budget, reader, writer)?;
     Ok(())
 }

@@ -109,10 +109,7 @@ impl<F: FarStore + Drop> Opened<F> {
         ensures store { IfOk result (λ opened. Calls F.called world.store.far (forgets_all world.store.sent) opened.store) }
         ensures refused { IfErr result (λ why. RefusesWorld (state_of world) why) }
     {
-        let parts = match take_apart(world) {
-            Ok(parts) => parts,
-            Err(why) => return Err(why),
-        };
+        let parts = take_apart(world)?;
         match open_parts(alloc, parts) {
             Ok(opened) => Ok(opened),
             Err(_) => Err(OpenAgent::Memory),
@@ -135,10 +132,7 @@ impl<F: FarStore + Drop> Opened<F> {
             machines,
             bodies,
             ..
-        } = match take_apart(world) {
-            Ok(parts) => parts,
-            Err(why) => return Err(why),
-        };
+        } = take_apart(world)?;
         let parts = WorldParts {
             machines,
             bodies,

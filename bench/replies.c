@@ -1,0 +1,143 @@
+/* A service in plain C that answers `get`, for bench/service.py and bench/replies.py: replies CONNECTIONS. It listens on 127.0.0.1,
+   says on which port, and answers each line `get NUMBER OFFSET LENGTH` of so many clients, each on a thread of its own, by one write.
+   There is an object of 64 bytes for each; threads share them, so a reply takes the object's turn. */
+#include "flat_shared.h"
+#include <arpa/inet.h>
+#include <netinet/tcp.h>
+#include <pthread.h>
+#include <stdio.h>
+#include <stdlib.h>
+#include <string.h>
+#include <sys/socket.h>
+#include <unistd.h>
+
+#define CONNECTIONS 8
+#define OBJECT_LENGTH 64
+#define LINE_LIMIT 70000
+#define RANGE_LIMIT 4096
+#define PIECE 4096
+
+static struct flat_object table[FLAT_TABLE];
+
+/* A client, with what it has open, the line that came in part, and the reply. */
+struct connection {
+    pthread_t thread;
+    int stream;
+    struct flat_machine actor;
+    char line[LINE_LIMIT + PIECE], reply[2 * RANGE_LIMIT + 16];
+};
+
+/* A decimal number up to a limit, with a blank before it; it is put past it. Says whether there is one. */
+static int number(const char **at, const char *end, uint64_t limit, uint64_t *found)
+{
+    const char *p = *at;
+    uint64_t value = 0;
+    if (p == end || *p++ != ' ' || p == end || *p < '0' || *p > '9') return 0;
+    for (; p < end && *p >= '0' && *p <= '9'; p++)
+        if ((value = 10 * value + (uint64_t)(*p - '0')) > limit) return 0;
+    *at = p;
+    *found = value;
+    return 1;
+}
+
+static size_t put(char *reply, const char *text)
+{
+    size_t length = strlen(text);
+    memcpy(reply, text, length);
+    return length;
+}
+
+/* `bytes`, and so many bytes in hex. */
+static size_t put_bytes(char *reply, const uint8_t *bytes, size_t length)
+{
+    static const char DIGITS[] = "0123456789abcdef";
+    char *at = reply + put(reply, "bytes ");
+    for (size_t k = 0; k < length; k++) {
+        *at++ = DIGITS[bytes[k] >> 4];
+        *at++ = DIGITS[bytes[k] & 15];
+    }
+    *at++ = '\n';
+    return (size_t)(at - reply);
+}
+
+static void close_scopes(struct flat_machine *actor)
+{
+    for (int k = 0; k < 4 && actor->seat.window[k]; k++) {
+        atomic_fetch_sub(&table[actor->seat.window[k]].word, SCOPE);
+        actor->seat.window[k] = 0;
+    }
+}
+
+/* The reply to a line, and its length. */
+static size_t answer(struct connection *c, const char *line, const char *end)
+{
+    uint64_t object, offset, length;
+    const char *at = line + 3;
+    if (end - line < 3 || memcmp(line, "get", 3) != 0 || !number(&at, end, FLAT_TABLE - 1, &object) || !number(&at, end, 65535, &offset)
+        || !number(&at, end, RANGE_LIMIT, &length) || at != end || object == 0 || length == 0)
+        return put(c->reply, "bad\n");
+    struct reached found = reach(&c->actor, object << 32 | offset, length);
+    size_t told;
+    if (found.bytes) {
+        told = put_bytes(c->reply, found.bytes, length);
+        leave(found);
+    } else
+        told = put(c->reply, found.stop == FLAT_OUTSIDE ? "outside\n" : found.stop == FLAT_AWAY ? "away\n" : "busy\n");
+    close_scopes(&c->actor);
+    return told;
+}
+
+/* Answers the lines that came, until the client ends. */
+static void *converse(void *of)
+{
+    struct connection *c = of;
+    size_t held = 0;
+    ssize_t got;
+    while (held < LINE_LIMIT && (got = read(c->stream, c->line + held, PIECE)) > 0) {
+        char *line = c->line, *end = c->line + held + got, *newline;
+        for (; (newline = memchr(line, '\n', (size_t)(end - line))); line = newline + 1) {
+            size_t length = answer(c, line, newline);
+            if (write(c->stream, c->reply, length) != (ssize_t)length) return NULL;
+        }
+        held = (size_t)(end - line);
+        memmove(c->line, line, held);
+    }
+    return NULL;
+}
+
+/* Serves so many clients, from their coming to their end. */
+static int serve(int listener, unsigned count)
+{
+    static struct connection all[CONNECTIONS];
+    int one = 1;
+    for (unsigned k = 0; k < count; k++) {
+        all[k].stream = accept(listener, NULL, NULL);
+        all[k].actor.table = table;
+        if (all[k].stream < 0 || setsockopt(all[k].stream, IPPROTO_TCP, TCP_NODELAY, &one, sizeof one)) return 3;
+        if (pthread_create(&all[k].thread, NULL, converse, &all[k])) return 3;
+    }
+    for (unsigned k = 0; k < count; k++) {
+        pthread_join(all[k].thread, NULL);
+        close(all[k].stream);
+    }
+    return 0;
+}
+
+int main(int words, char **given)
+{
+    static uint8_t bytes[CONNECTIONS][OBJECT_LENGTH];
+    unsigned count = words == 2 ? (unsigned)atoi(given[1]) : 0;
+    if (count == 0 || count > CONNECTIONS) return 2;
+    for (unsigned k = 0; k < count; k++) {
+        table[k + 1].bytes = bytes[k];
+        table[k + 1].length = OBJECT_LENGTH;
+    }
+    struct sockaddr_in address = {.sin_family = AF_INET, .sin_addr.s_addr = htonl(INADDR_LOOPBACK)};
+    socklen_t size = sizeof address;
+    int listener = socket(AF_INET, SOCK_STREAM, 0);
+    if (bind(listener, (struct sockaddr *)&address, size) || listen(listener, CONNECTIONS) || getsockname(listener, (struct sockaddr *)&address, &size))
+        return 3;
+    printf("listening %d\n", ntohs(address.sin_port));
+    fflush(stdout);
+    return serve(listener, count);
+}
