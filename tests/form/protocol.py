@@ -29,7 +29,10 @@ HEADER = ROOT / "include/bpfagent.h"
 # A row of the table: the command's name, its limits, and the fields in which it differs from a row of numbers alone.
 ROW = re.compile(r"Kind::\w+ => (?:Form \{(?P<fields>[^}]*?)\.\.)?numbered\(b\"(?P<name>\w+)\", &(?P<limits>\[[^\]]*\]|START)\)")
 # What the synopsis calls a number with these limits. `ANY` alone is an address, and six of it begin a machine.
-WORDS = {"OBJECT": "n", "MACHINE": "m", **dict.fromkeys(["OBJECT_LENGTH", "RANGE_LENGTH"], "LENGTH"), **dict.fromkeys(["OBJECT_OFFSET", "STACK_OFFSET"], "OFFSET"), "SLOT": "SLOT", "ANY": "ADDRESS"}
+WORDS = {
+    "OBJECT": "n", "MACHINE": "m", "OBJECT_LENGTH": "LENGTH", "RANGE_LENGTH": "LENGTH", "OBJECT_OFFSET": "OFFSET", "STACK_OFFSET": "OFFSET",
+    "SLOT": "SLOT", "ANY": "ADDRESS",
+}
 START = ["FUEL", "A1", "A2", "A3", "A4", "A5"]
 BYTES = {"RANGE_LIMIT": "BYTES", "LINE_LIMIT": "CODE"}
 # The export for a command that grants objects.
