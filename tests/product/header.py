@@ -109,12 +109,13 @@ def show_functions() -> str:
 
 
 def arms(text: str) -> dict[str, int]:
-    """The number of each arm of each function, and of each variant of Code."""
-    variants = re.search(r"(?s)enum Code \{(.*?)\n\}", text)[1]
-    numbers = {f"Code {name}": int(number) for name, number in re.findall(r"(\w+) = (\d+),", variants)}
+    """The number of each arm of each function, and of each variant of Code, StopCode and the like."""
+    numbers = {}
+    for code, body in re.findall(r"(?s)enum (\w*Code) \{(.*?)\n\}", text):
+        numbers.update({f"{code} {name}": int(number) for name, number in re.findall(r"(\w+) = (\d+),", body)})
     for name, body in re.findall(r"(?s)fn (\w+)\([^)]*\)[^{]*(?:ensures[^\n]*\n)*\{(.*?)\n\}", text):
-        for arm, variant, number in re.findall(r"(?:\w+::)?(\w+)(?: \{ \.\. \}|\(\w+\))? => (?:Code::(\w+) as u32|(\d+)),", body):
-            numbers[f"{name} {arm}"] = int(number) if number else numbers[f"Code {variant}"]
+        for arm, code, variant, number in re.findall(r"(?:\w+::)?(\w+)(?: \{ \.\. \}|\(\w+\))? => (?:(\w*Code)::(\w+) as u32|(\d+)),", body):
+            numbers[f"{name} {arm}"] = int(number) if number else numbers[f"{code} {variant}"]
     return numbers
 
 
