@@ -88,7 +88,9 @@ def copy_crates(names: Iterable[str]) -> None:
 
 def results(rt: str, names: list[str]) -> Iterator[tuple[str, str, str]]:
     """What comes of each edit: its crate, its name and whether it was refused. What `rt must-fail` says is passed on."""
-    process = subprocess.Popen([rt, "must-fail", *names], cwd=COPY, stdin=subprocess.DEVNULL, stdout=subprocess.PIPE, stderr=subprocess.STDOUT, text=True, errors="replace")
+    process = subprocess.Popen(
+        [rt, "must-fail", *names], cwd=COPY, stdin=subprocess.DEVNULL, stdout=subprocess.PIPE, stderr=subprocess.STDOUT, text=True, errors="replace"
+    )
     for line in process.stdout:
         print(line, end="", flush=True)
         if said := SAID.match(line):

@@ -53,7 +53,8 @@ def spent(start: float) -> str:
 def run_ci(rt: str, is_built: Callable[[], object]) -> tuple[int, str]:
     """Passes on what `rt ci` says, but for its last line, and gives its status and that line. Tells when the program is built."""
     start, proved, tests, last = time.monotonic(), 0, 0, ""
-    process = subprocess.Popen([rt, "ci"], cwd=ROOT, env={"RT_JOBS": str(jobs(OF_A_CHECK)), **os.environ}, stdout=subprocess.PIPE, stderr=subprocess.STDOUT, text=True, errors="replace")
+    environment = {"RT_JOBS": str(jobs(OF_A_CHECK)), **os.environ}
+    process = subprocess.Popen([rt, "ci"], cwd=ROOT, env=environment, stdout=subprocess.PIPE, stderr=subprocess.STDOUT, text=True, errors="replace")
     for line in process.stdout:
         if last:
             print(last, flush=True)

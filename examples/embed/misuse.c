@@ -13,7 +13,13 @@ static void wants(uint32_t reply, uint32_t wanted, const char *what)
 /* r0 = *(u64 *)r1; emit r0; exit: `ldxdw r0, [r1]`, `mov r1, r0`, `call 3`, `exit`. */
 static const uint8_t CODE[] = { 0x79, 0x10, 0, 0, 0, 0, 0, 0, 0xbf, 0x01, 0, 0, 0, 0, 0, 0, 0x85, 0, 0, 0, 3, 0, 0, 0, 0x95, 0, 0, 0, 0, 0, 0, 0 };
 /* *(u64 *)(r10 - 8) = 7; then three times *(u64 *)r1 = 7; exit. */
-static const uint8_t STORE[] = { 0x7a, 10, 0xf8, 0xff, 7, 0, 0, 0, 0x7a, 1, 0, 0, 7, 0, 0, 0, 0x7a, 1, 0, 0, 7, 0, 0, 0, 0x7a, 1, 0, 0, 7, 0, 0, 0, 0x95, 0, 0, 0, 0, 0, 0, 0 };
+static const uint8_t STORE[] = {
+    0x7a, 10, 0xf8, 0xff, 7, 0, 0, 0,
+    0x7a, 1, 0, 0, 7, 0, 0, 0,
+    0x7a, 1, 0, 0, 7, 0, 0, 0,
+    0x7a, 1, 0, 0, 7, 0, 0, 0,
+    0x95, 0, 0, 0, 0, 0, 0, 0,
+};
 
 static uint32_t ship(bpfagent *agent, const uint8_t *code, size_t length, uint64_t r1, size_t *machine, bpfagent_refusal *refusal)
 {

@@ -129,10 +129,11 @@ static void finish(bpfagent *agent, size_t machine, uint64_t *ran, uint64_t *wai
 /* Looks up keys of one part by a program, in place. */
 static void look_up(bpfagent *agent, const uint8_t *code, size_t length, unsigned part, uint64_t *keys, uint64_t count, uint64_t *ran, uint64_t *waits)
 {
+    uint64_t part_at = bpfagent_address(parts[part], 0), keys_at = bpfagent_address(batch, 0);
     size_t machine;
     bpfagent_refusal refusal;
     must(bpfagent_put(agent, batch, 0, (const uint8_t *)keys, count * 8), BPFAGENT_OK, "put");
-    must(bpfagent_ship(agent, code, length, 1u << 30, bpfagent_address(parts[part], 0), bpfagent_address(batch, 0), count, 0, 0, &machine, &refusal), BPFAGENT_OK, "ship");
+    must(bpfagent_ship(agent, code, length, 1u << 30, part_at, keys_at, count, 0, 0, &machine, &refusal), BPFAGENT_OK, "ship");
     finish(agent, machine, ran, waits);
     must(bpfagent_get(agent, batch, 0, (uint8_t *)keys, count * 8), BPFAGENT_OK, "get");
     calls += 3;
@@ -141,7 +142,8 @@ static void look_up(bpfagent *agent, const uint8_t *code, size_t length, unsigne
 
 static void report(const char *way, double took, double told)
 {
-    printf("%s: %" PRIu64 " calls, %" PRIu64 " bytes in and out of objects, %" PRIu64 " moves, %.0f ns a key\n", way, calls, crossed, moves, (told - took) / KEYS);
+    printf("%s: %" PRIu64 " calls, %" PRIu64 " bytes in and out of objects, %" PRIu64 " moves, %.0f ns a key\n",
+           way, calls, crossed, moves, (told - took) / KEYS);
     calls = crossed = moves = 0;
 }
 

@@ -42,7 +42,8 @@ def missing() -> list[str]:
 def require() -> None:
     """Ends with status 0 and a line that says so where a package is missing. Debian's Python is tried if this one has no Dask."""
     lacks = missing()
-    if set(lacks) & set(MODULES.values()) and os.path.realpath(sys.executable) != os.path.realpath(DEBIAN) and os.access(DEBIAN, os.X_OK) and "BPFAGENT_FLEET" not in os.environ:
+    has_another = os.path.realpath(sys.executable) != os.path.realpath(DEBIAN) and os.access(DEBIAN, os.X_OK)
+    if set(lacks) & set(MODULES.values()) and has_another and "BPFAGENT_FLEET" not in os.environ:
         os.environ["BPFAGENT_FLEET"] = "tried"
         os.execv(DEBIAN, [DEBIAN, *sys.argv])
     if lacks:

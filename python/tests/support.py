@@ -89,6 +89,12 @@ def program_of(path: pathlib.Path, text: str) -> pathlib.Path:
     return path
 
 
+def noting_program(path: pathlib.Path, note: pathlib.Path) -> pathlib.Path:
+    """PROGRAM behind a script that first writes the process ID to a file."""
+    noting = f"import os\nopen({str(note)!r}, 'w').write(str(os.getpid()))"
+    return program_of(path, f"{noting}\nos.execv({PROGRAM!r}, [{PROGRAM!r}, *sys.argv[1:]])")
+
+
 def usage_of(main: Callable[[Sequence[str]], None], words: Sequence[str]) -> tuple[object, str, str]:
     """Status, output and errors of a command that ends while it reads its words. It runs in this process."""
     output, errors = io.StringIO(), io.StringIO()

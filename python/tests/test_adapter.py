@@ -15,8 +15,8 @@ from typing import Any, Callable, Optional
 import stand_in
 from bpfagent import patiently
 from bpfagent.agent import pauses
-from support import DEBUG, DEBUGGER, ENDLESS, PROGRAM, SECONDS, SIGNALS, SOON, TABLE, changes, editor_module, endless_service, hang, needs_debugger, program_of, with_signals
-from support import has_gone, is_at_once, silent_program
+from support import DEBUG, DEBUGGER, ENDLESS, SECONDS, SIGNALS, SOON, TABLE, changes, editor_module, endless_service, hang, needs_debugger
+from support import has_gone, is_at_once, noting_program, silent_program, with_signals
 
 Body = dict[str, Any]
 SOURCE = {"path": str(DEBUG / "table.c")}
@@ -202,8 +202,10 @@ class Sessions(unittest.TestCase):
         found = self.ask("setBreakpoints", source=SOURCE, breakpoints=[{"line": 999}, {"line": 14}])["breakpoints"]
         self.assertEqual((found[0]["verified"], found[1]["verified"], found[1]["line"]), (False, True, 15))
         self.assertIn("no code is at or after line 999", found[0]["message"])
-        for condition, why in (("i == (", "the expression ends too early"), ("i +* ", "the expression ends too early"), ("(struct nope *)i", "the program has no type struct nope")):
-            found = self.ask("setFunctionBreakpoints", breakpoints=[{"name": "find", "condition": condition}, {"name": "find", "condition": "nothing + 1 / 0"}])["breakpoints"]
+        early = "the expression ends too early"
+        for condition, why in (("i == (", early), ("i +* ", early), ("(struct nope *)i", "the program has no type struct nope")):
+            breakpoints = [{"name": "find", "condition": tried} for tried in (condition, "nothing + 1 / 0")]
+            found = self.ask("setFunctionBreakpoints", breakpoints=breakpoints)["breakpoints"]
             self.assertEqual(found[0], {"verified": False, "message": f"the condition `{condition}` can't be read: {why}"})
             self.assertTrue(found[1]["verified"], "a name may mean something later")
         self.ask("setFunctionBreakpoints", breakpoints=[])
@@ -389,7 +391,7 @@ class Sessions(unittest.TestCase):
         for options, why in wrong:
             self.assertEqual(self.refused("launch", program=TABLE[0], arguments=TABLE[1:], **options), why)
         note = self.folder / "number"
-        program = program_of(self.folder / "ends", f"import os\nopen({str(note)!r}, 'w').write(str(os.getpid()))\nos.execv({PROGRAM!r}, [{PROGRAM!r}, *sys.argv[1:]])")
+        program = noting_program(self.folder / "ends", note)
         self.launch(bpfagent=str(program), stopOnEntry=True)
         self.ask("configurationDone")
         self.stopped(1, "entry")

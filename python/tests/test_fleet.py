@@ -129,7 +129,10 @@ class FleetTest(unittest.TestCase):
     def test_modules(self) -> None:
         """Without a module the import says which package has it."""
         for name in ("distributed", "redis"):
-            text = f"import sys\nsys.modules[{name!r}] = None\ntry:\n    import bpfagent.fleet\nexcept ImportError as why:\n    print(type(why).__name__, why.name, why)"
+            text = (
+                f"import sys\nsys.modules[{name!r}] = None\ntry:\n    import bpfagent.fleet\n"
+                "except ImportError as why:\n    print(type(why).__name__, why.name, why)"
+            )
             done = subprocess.run([sys.executable, "-c", text], stdout=subprocess.PIPE, text=True, timeout=SECONDS)
             wanted = f"ImportError {name} bpfagent.fleet needs {name}: apt-get install python3-{name}, or pip install 'bpfagent[fleet]'\n"
             self.assertEqual((done.returncode, done.stdout), (0, wanted))
@@ -150,12 +153,14 @@ class FleetTest(unittest.TestCase):
             "measure": ["--objects 1025", "--trips 0", "--seconds -1", "--seconds inf_"],
         }
         for name, options in wrong.items():
+            command = [sys.executable, str(ROOT / f"examples/scaling/{name}.py")]
             for option in options:
-                done = subprocess.run([sys.executable, str(ROOT / f"examples/scaling/{name}.py"), PROGRAM, *option.split()], capture_output=True, text=True, timeout=SECONDS)
+                done = subprocess.run([*command, PROGRAM, *option.split()], capture_output=True, text=True, timeout=SECONDS)
                 why = f"error: argument {option.split()[0]}: {option.split()[1]} is no number from "
                 self.assertTrue((done.returncode, done.stdout) == (2, "") and why in done.stderr, f"{name}.py {option}: {done}")
-            done = subprocess.run([sys.executable, str(ROOT / f"examples/scaling/{name}.py"), "/none"], capture_output=True, text=True, timeout=SECONDS)
-            self.assertTrue((done.returncode, done.stdout) == (2, "") and done.stderr.endswith("error: argument program: /none can't be run\n"), f"{name}.py: {done}")
+            done = subprocess.run([*command, "/none"], capture_output=True, text=True, timeout=SECONDS)
+            why = "error: argument program: /none can't be run\n"
+            self.assertTrue((done.returncode, done.stdout) == (2, "") and done.stderr.endswith(why), f"{name}.py: {done}")
 
     def test_one_owner(self) -> None:
         """Results, objects and stops of one agent, by itself."""
@@ -300,7 +305,8 @@ class FleetTest(unittest.TestCase):
         wanted = costs.Law(2e-3, 3e-8, 5e-7)
         rows = [(length, count, wanted.of(length, count)) for length, count in ((64, 10), (64, 1000), (4096, 10), (65_536, 100))]
         found = costs.fitted(rows)
-        self.assertTrue(all(abs(one - other) < 1e-12 for one, other in zip(vars(found).values(), vars(wanted).values())), f"{found} was fitted, and not {wanted}")
+        pairs = zip(vars(found).values(), vars(wanted).values())
+        self.assertTrue(all(abs(one - other) < 1e-12 for one, other in pairs), f"{found} was fitted, and not {wanted}")
         part = costs.Law(1e-3, 0.0, 0.0)
         laws = simulate_fleet.Laws(part, part, part, part, 1.0, 4)
         pauses = (0.5 + costs.TRIPS) * simulate_fleet.TRIP + simulate_fleet.WIRE * 64

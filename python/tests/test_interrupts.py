@@ -35,7 +35,9 @@ class Interrupts(unittest.TestCase):
         (path / f"{imported}.py").write_text(INTERRUPTING)
         environment = {**os.environ, "PYTHONPATH": f"{path}:{ROOT / 'python'}"}
         # without what a machine's site imports, which would be interrupted before the command is
-        done = subprocess.run([sys.executable, "-S", *command], env=environment, stdin=subprocess.DEVNULL, capture_output=True, text=True, timeout=SECONDS, preexec_fn=before)
+        done = subprocess.run(
+            [sys.executable, "-S", *command], env=environment, stdin=subprocess.DEVNULL, capture_output=True, text=True, timeout=SECONDS, preexec_fn=before
+        )
         return done.returncode, done.stderr
 
     @unittest.skipUnless(hasattr(sys, "orig_argv"), "Python 3.9 doesn't tell which module it runs")

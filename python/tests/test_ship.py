@@ -273,7 +273,10 @@ class Ships(unittest.TestCase):
     def test_explained(self) -> None:
         """What `check --explain` says of refused code comes below the refusal; with a program that has no such option, nothing does."""
         for status, said, shown in ((1, "slot 0: Opcode\nit is why\n", "\nit is why"), (2, "usage\nmore\n", ""), (0, "", "")):
-            text = f"import os\nif sys.argv[1] != 'check':\n    os.execv({PROGRAM!r}, [{PROGRAM!r}, *sys.argv[1:]])\nsys.stderr.write({said!r})\nsys.exit({status})"
+            text = (
+                f"import os\nif sys.argv[1] != 'check':\n    os.execv({PROGRAM!r}, [{PROGRAM!r}, *sys.argv[1:]])\n"
+                f"sys.stderr.write({said!r})\nsys.exit({status})"
+            )
             program = program_of(self.folder / f"explains{status}", text)
             code = self.folder / "none.code"
             code.write_bytes(bytes(8))

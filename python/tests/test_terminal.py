@@ -15,7 +15,8 @@ import stand_in
 from bpfagent import Service, patiently
 from bpfagent.debug.main import main
 from support import DEBUGGER, ENDLESS, PROGRAM, ROOT, SECONDS, SIGNALS, SOON, TABLE
-from support import Pseudoterminal, changes, endless_service, hang, has_gone, heard, is_at_once, needs_debugger, program_of, silent_program, usage_of, with_signals
+from support import Pseudoterminal, changes, endless_service, hang, has_gone, heard, is_at_once, needs_debugger, noting_program, program_of
+from support import silent_program, usage_of, with_signals
 
 DEEP = """#include "bpfagent.h"
 CALLED uint64_t sum(uint64_t n)
@@ -273,7 +274,7 @@ class Sessions(unittest.TestCase):
                     self.assertIn(wanted, shown.splitlines())
                     service._process.send_signal(signal.SIGCONT)
         note = pathlib.Path(self.folder.name) / "number"
-        program = program_of(note.with_name("starts"), f"import os\nopen({str(note)!r}, 'w').write(str(os.getpid()))\nos.execv({PROGRAM!r}, [{PROGRAM!r}, *sys.argv[1:]])")
+        program = noting_program(note.with_name("starts"), note)
         ways: list[list[str]] = [[], ["--serve"]]
         for options in ways:
             with self.debugger("--bpfagent", str(program), *options, path, "+8") as terminal:
@@ -311,7 +312,7 @@ class Sessions(unittest.TestCase):
     def interrupted_at_program(self, options: list[str], said: str) -> float:
         """The same of a program that the debugger started."""
         note = pathlib.Path(self.folder.name) / "number"
-        program = program_of(note.with_name("starts"), f"import os\nopen({str(note)!r}, 'w').write(str(os.getpid()))\nos.execv({PROGRAM!r}, [{PROGRAM!r}, *sys.argv[1:]])")
+        program = noting_program(note.with_name("starts"), note)
         with self.debugger("--bpfagent", str(program), *options, self.source(ENDLESS), "+8") as terminal:
             os.kill(int(note.read_text()), signal.SIGSTOP)
             terminal.press("stepi\n")
@@ -629,7 +630,8 @@ class Arguments(unittest.TestCase):
     def test_closed_streams(self) -> None:
         """A standard stream that is closed is taken as the null device, also by the adapter for editors."""
         code = [str(ROOT / "examples/c/counter.code"), "+8", "3"]
-        for words, greeting in ((code, f"* machine 1: standing, slot 0, fuel 1000000\n{code[0]}: {code[0]} is raw code, which has no lines and no names\n"), (["--dap"], "")):
+        stands = f"* machine 1: standing, slot 0, fuel 1000000\n{code[0]}: {code[0]} is raw code, which has no lines and no names\n"
+        for words, greeting in ((code, stands), (["--dap"], "")):
             for closed, shown in (("<&-", greeting), ("</dev/null 2>&-", greeting), ("</dev/null >&-", "")):
                 done = subprocess.run(["sh", "-c", f'exec "$@" {closed}', "sh", *DEBUGGER, *words], capture_output=True, text=True, timeout=SECONDS)
                 self.assertEqual((done.returncode, done.stdout, done.stderr), (0, shown, ""), (words, closed))

@@ -136,7 +136,8 @@ def reached(own: Sequence[str]) -> tuple[list[Place], dict[tuple[str, str], Spec
         elif (crate, module, name) not in found:
             found[crate, module, name] = None
             words = sorted(set(NAME.findall(file.definitions[name])) - {name}, reverse=True)
-            left += [(crate, module, word) if word in file.definitions else file.imports[word] for word in words if word in file.definitions or word in file.imports]
+            known = [word for word in words if word in file.definitions or word in file.imports]
+            left += [(crate, module, word) if word in file.definitions else file.imports[word] for word in known]
     return list(found), specs
 
 

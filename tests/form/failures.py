@@ -18,13 +18,19 @@ from lib.checks import report
 from lib.sources import ROOT, block, blanked, crates_below, function_places, uncommented
 
 LIST = ROOT / "tests/form/failures.txt"
-WORDS = re.compile(r"\b(?:AllocError|AllocFailed|NoMemory|OutOfMemory|ReadFault|WriteFault|(?:Why|Self|Failure|OpenAgent|\w+Error|\w+Fault)::(?:Memory|Read|Write|Io))\b")
+WORDS = re.compile(
+    r"\b(?:AllocError|AllocFailed|NoMemory|OutOfMemory|ReadFault|WriteFault|"
+    r"(?:Why|Self|Failure|OpenAgent|\w+Error|\w+Fault)::(?:Memory|Read|Write|Io))\b"
+)
 ROOM = re.compile(r"\b(?:with_capacity\w*|(?:try_)?reserve\w*|resize\w*|repeat|vec!)\s*[(\[]")
 # What follows a pattern, which answers nothing. A brace before `if` ends a block, whose value it may be: `{ return Err(NoMemory) } if ..`.
 PATTERN = re.compile(r"[\s)}]*(?:\||=>)|[\s)]*if\b|[\s)]*=[^=]")
 # What stands nowhere, with what is wrong about it. No clause refuses a flush, and no count of the system's calls shows it.
 NOWHERE = {
-    re.compile(r"\bmem::forget\b|\bmem::\{[^;]*\bforget\b|\bmem(?: as\b|::\*)|\b(?:ManuallyDrop|into_raw\w*|from_raw\w*)\b|[.:]leak\b"): "may lose a value without dropping it",
+    re.compile(
+        r"\bmem::forget\b|\bmem::\{[^;]*\bforget\b|\bmem(?: as\b|::\*)|"
+        r"\b(?:ManuallyDrop|into_raw\w*|from_raw\w*)\b|[.:]leak\b"
+    ): "may lose a value without dropping it",
     re.compile(r"[.:]flush\b"): "flushes, and a line is written by its writes alone",
 }
 HEAD = """# Where the program answers out of memory or a fault of a stream, or asks for room: of each place in a function which failed call comes before,
@@ -54,7 +60,10 @@ def in_functions(code: str) -> Iterator[str]:
 # A `use` that gives a word another name, takes all names of a module or a type, or takes variants of a type.
 RENAMING = re.compile(r"\bas\b|\*|\b[A-Z]\w*::")
 # A type of these words that gets another name, by which they would be answered unseen.
-RENAMED_TYPE = re.compile(r"^use\b.*\b(?:Why|Failure|OpenAgent|\w+Error|\w+Fault) as\b|^type \w+(?:<[^=]*>)? = (?:\w+::)*(?:Why|Failure|OpenAgent|\w+Error|\w+Fault);?$")
+RENAMED_TYPE = re.compile(
+    r"^use\b.*\b(?:Why|Failure|OpenAgent|\w+Error|\w+Fault) as\b|"
+    r"^type \w+(?:<[^=]*>)? = (?:\w+::)*(?:Why|Failure|OpenAgent|\w+Error|\w+Fault);?$"
+)
 OUTSIDE = re.compile(r"(?m)^\s*(?:pub(?:\([^)]*\))? )?(use|const|static|type|macro_rules!)\s[^;{]*")
 
 
@@ -111,9 +120,13 @@ if __name__ == "__main__":
         write(found)
     known = listed()
     has, wanted = collections.Counter(found), collections.Counter(place for place, _ in known)
-    wrong = [f"crates/{place[0]}: {place[1]} has {has[place]} places, and tests/form/failures.txt {wanted[place]}" for place in sorted({*has, *wanted}) if has[place] != wanted[place]]
+    differing = [place for place in sorted({*has, *wanted}) if has[place] != wanted[place]]
+    wrong = [f"crates/{place[0]}: {place[1]} has {has[place]} places, and tests/form/failures.txt {wanted[place]}" for place in differing]
     wrong += [f"tests/form/failures.txt: no reason is given for {place[1]} of {place[0]}" for place, reason in known if len(reason.strip("? .")) < 5]
     wrong += [f"{said} {what}" for pattern, what in NOWHERE.items() for said in found_in_code(pattern)]
     if wrong:
-        wrong.append("look at these places: does each answer follow a call that failed, and is the room bounded? tests/form/failures.py --write lists them; the reasons are yours to write")
+        wrong.append(
+            "look at these places: does each answer follow a call that failed, and is the room bounded? "
+            "tests/form/failures.py --write lists them; the reasons are yours to write"
+        )
     report(wrong, f"out of memory, faults of streams and room for values are at the {len(found)} places of tests/form/failures.txt, and at no other")

@@ -84,7 +84,8 @@ def differing_vectors() -> Iterator[str]:
         if (ROOT / script).read_text() != output([f"{RUNNER}/make_{name}.py"]):
             yield f"{script} isn't what {RUNNER}/make_{name}.py writes"
     scripts = [*ROOT.glob(f"{RUNNER}/data/*.script"), *ROOT.glob("examples/*.script"), *ROOT.glob("examples/c/*.script")]
-    done = subprocess.run([sys.executable, f"{RUNNER}/make_vectors.py", "--check", *sorted(map(str, scripts))], cwd=ROOT, capture_output=True, text=True, timeout=SECONDS)
+    command = [sys.executable, f"{RUNNER}/make_vectors.py", "--check", *sorted(map(str, scripts))]
+    done = subprocess.run(command, cwd=ROOT, capture_output=True, text=True, timeout=SECONDS)
     if done.returncode:
         yield f"not all replies are those of the interpreter: {done.stdout}{done.stderr}"
 

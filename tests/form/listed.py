@@ -59,7 +59,8 @@ def unread() -> Iterator[str]:
             below = src if path.parent == src and path.stem in ("lib", "main") else path.parent if path.stem == "mod" else path.with_suffix("")
             named = re.findall(r"(?m)^\s*(?:pub(?:\([^)]*\))? )?mod (\w+);", code)
             found += [file for name in named for file in (below / f"{name}.rt", below / name / "mod.rt") if file.is_file() and file not in found]
-            yield from (f"{path.relative_to(ROOT)} has {other}, which may leave out a test" for other in re.findall(r"#!?\s*\[\s*cfg[^\]]*\]", code) if other != "#[cfg(test)]")
+            others = [cfg for cfg in re.findall(r"#!?\s*\[\s*cfg[^\]]*\]", code) if cfg != "#[cfg(test)]"]
+            yield from (f"{path.relative_to(ROOT)} has {other}, which may leave out a test" for other in others)
         yield from (f"{path.relative_to(ROOT)} is in no `mod` of its crate" for path in sorted(src.rglob("*.rt")) if path not in found)
 
 
@@ -70,7 +71,8 @@ def uncalled() -> Iterator[str]:
     everything, calls = "\n".join([*texts.values(), *others]), "\n".join((ROOT / name).read_text() for name in CALLERS)
     for path, text in texts.items():
         for name in re.findall(r"(?m)^def (\w+)", text):
-            if len(re.findall(rf"\b{name}\b", text)) < 2 and not re.search(rf"(?m)^from (?:\w+\.)?{path.stem} import .*\b{name}\b|\b{path.stem}\.{name}\b", everything):
+            elsewhere = rf"(?m)^from (?:\w+\.)?{path.stem} import .*\b{name}\b|\b{path.stem}\.{name}\b"
+            if len(re.findall(rf"\b{name}\b", text)) < 2 and not re.search(elsewhere, everything):
                 yield f"{path.relative_to(ROOT)}: nothing calls {name}"
         if path.parent.name in ("form", "product") and not re.search(rf'{path.parent.name}/{path.name}|"{path.stem}"', calls):
             yield f"{path.relative_to(ROOT)} is called by none of {', '.join(CALLERS)}"

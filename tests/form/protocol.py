@@ -1,18 +1,21 @@
 #!/usr/bin/env python3
-"""Compares the examples of README.md and docs/PROTOCOL.md with the script that the tests run, which --write writes, and README's with what `make
-run` shows. Of each command of the synopsis the page has a part, in the same order, and explains each of its replies there or among those of all
-commands; its tables have no other reply. The synopsis, the Python client and the C header have the commands of the program's table.
+"""Compares the examples of README.md and docs/PROTOCOL.md with the script that the tests run, and README's with what `make run` shows. Of each
+command of the synopsis the page has a part, in the same order, and explains each of its replies there or among those of all commands; its tables have
+no other reply. The synopsis, the Python client and the C header have the commands of the program's table.
+
+With --write it writes that script, and the commands of the synopsis with the replies that the page has for them. A new command comes last there.
 """
 from __future__ import annotations
 
 import ast
+import difflib
 import pathlib
 import re
 import sys
 from typing import Iterator, NamedTuple
 
 sys.path.insert(0, str(pathlib.Path(__file__).resolve().parents[1]))
-from lib.checks import report
+from lib.checks import Failed, report
 from lib.sources import ROOT
 
 DOCUMENTS = ["README.md", "docs/PROTOCOL.md"]
@@ -21,15 +24,22 @@ SCRIPT = ROOT / "crates/script_runner/data/protocol.script"
 SHOWN = ROOT / "crates/bpfagent"
 HEAD = "# The examples of README.md and docs/PROTOCOL.md; tests/form/protocol.py compares them.\n"
 SYNOPSIS = re.compile(r"^## Synopsis\n.*?^```\n(.*?)^```\n", re.S | re.M)
-# Where the replies of a command begin in the synopsis.
-REPLIES = 36
+# A line of the synopsis: the command, whose words are single letters or in capitals, and its replies, which begin with a longer word.
+LINE = re.compile(r"(?P<command>[a-z]\w*(?: (?:[a-z]|[A-Z]\w*|\.\.))*)(?: +(?P<replies>[a-z]\w.*))?")
+# Where the replies begin in the synopsis, unless a command is longer.
+COLUMN = 36
 TABLE = ROOT / "crates/console/src/kind.rt"
 CLIENT = ROOT / "python/bpfagent/agent.py"
 HEADER = ROOT / "include/bpfagent.h"
+# All commands: if ROW matches fewer, a row has another form.
+KINDS = re.compile(r"const KINDS: &\[Kind\] = &\[(.*?)\];", re.S)
 # A row of the table: the command's name, its limits, and the fields in which it differs from a row of numbers alone.
 ROW = re.compile(r"Kind::\w+ => (?:Form \{(?P<fields>[^}]*?)\.\.)?numbered\(b\"(?P<name>\w+)\", &(?P<limits>\[[^\]]*\]|START)\)")
 # What the synopsis calls a number with these limits. `ANY` alone is an address, and six of it begin a machine.
-WORDS = {"OBJECT": "n", "MACHINE": "m", **dict.fromkeys(["OBJECT_LENGTH", "RANGE_LENGTH"], "LENGTH"), **dict.fromkeys(["OBJECT_OFFSET", "STACK_OFFSET"], "OFFSET"), "SLOT": "SLOT", "ANY": "ADDRESS"}
+WORDS = {
+    "OBJECT": "n", "MACHINE": "m", "OBJECT_LENGTH": "LENGTH", "RANGE_LENGTH": "LENGTH", "OBJECT_OFFSET": "OFFSET", "STACK_OFFSET": "OFFSET",
+    "SLOT": "SLOT", "ANY": "ADDRESS",
+}
 START = ["FUEL", "A1", "A2", "A3", "A4", "A5"]
 BYTES = {"RANGE_LIMIT": "BYTES", "LINE_LIMIT": "CODE"}
 # The export for a command that grants objects.
@@ -42,6 +52,10 @@ class Command(NamedTuple):
     name: str
     words: list[str]
 
+    @property
+    def line(self) -> str:
+        return " ".join([self.name, *self.words])
+
 
 def examples(document: str) -> list[str]:
     """The examples of a document."""
@@ -51,8 +65,24 @@ def examples(document: str) -> list[str]:
 
 def synopsis(text: str) -> dict[str, list[str]]:
     """The replies of each command."""
-    lines = SYNOPSIS.search(text)[1].splitlines()
-    return {line[:REPLIES].strip(): line[REPLIES:].split(" | ") for line in lines}
+    found = {}
+    for line in SYNOPSIS.search(text)[1].splitlines():
+        parsed = LINE.fullmatch(line.rstrip())
+        if not parsed:
+            raise Failed(f"{PROTOCOL.name}: a line of the synopsis isn't a command with its replies: `{line}`")
+        found[parsed["command"]] = parsed["replies"].split(" | ") if parsed["replies"] else []
+    return found
+
+
+def with_commands(text: str, known: list[Command]) -> str:
+    """The page as --write leaves it: each command of the table has the replies that the synopsis gives for its name. New commands come last."""
+    replies = {command.split()[0]: told for command, told in synopsis(text).items()}
+    lines = {command.name: command.line for command in known}
+    names = [*(name for name in replies if name in lines), *(name for name in lines if name not in replies)]
+    width = max([COLUMN, *(len(line) + 1 for line in lines.values())])
+    made = "".join(f"{lines[name]:{width}}{' | '.join(replies.get(name, []))}".rstrip() + "\n" for name in names)
+    begin, end = SYNOPSIS.search(text).span(1)
+    return text[:begin] + made + text[end:]
 
 
 def parts(text: str) -> list[tuple[list[str], str]]:
@@ -70,8 +100,13 @@ def table_of(part: str) -> list[str]:
 def unexplained(text: str) -> Iterator[str]:
     """What the page leaves out of the synopsis, or has in another order."""
     replies, pages = synopsis(text), parts(text)
-    if [command for commands, _ in pages for command in commands] != list(replies):
-        yield "the headings aren't the commands of the synopsis"
+    yield from (f"`{command}` has no replies in the synopsis" for command, told in replies.items() if not told)
+    headed = [command for commands, _ in pages for command in commands]
+    if headed != list(replies):
+        yield from (f"`{command}` of the synopsis has no heading" for command in replies if command not in headed)
+        yield from (f"the heading `{command}` isn't in the synopsis" for command in headed if command not in replies)
+        if {*headed} == {*replies}:
+            yield "the headings aren't in the order of the synopsis"
         return
     of_all = table_of(re.search(r"^## Replies\n(.*?)^## ", text, re.M | re.S)[1])
     below = {command.split()[0]: part for commands, part in pages for command in commands}
@@ -91,15 +126,24 @@ def missing_stops(text: str) -> list[str]:
 
 
 def commands() -> list[Command]:
-    """The table that lines are read by."""
-    return [Command(row["name"], words_of(row["limits"], row["fields"] or "")) for row in ROW.finditer(TABLE.read_text())]
+    """The table that lines are read by. A row that can't be read is refused, since --write would take its line from the page."""
+    text = TABLE.read_text()
+    found = [Command(row["name"], words_of(row["name"], row["limits"], row["fields"] or "")) for row in ROW.finditer(text)]
+    listed = KINDS.search(text)
+    count = listed[1].count("Kind::") if listed else 0
+    if not found or len(found) != count:
+        raise Failed(f"{TABLE.name}: {len(found)} rows of the table can be read, and KINDS has {count} commands")
+    return found
 
 
-def words_of(limits: str, fields: str) -> list[str]:
+def words_of(name: str, limits: str, fields: str) -> list[str]:
     """The words for numbers of these limits, and for bytes and grants where these fields say that they follow."""
-    numbers = START if limits == "START" else [WORDS[limit] for limit in re.findall(r"\w+", limits)]
-    carried = [BYTES[limit] for limit in re.findall(r"bytes: Some\((\w+)\)", fields)]
-    return [*numbers, *carried, *["G .."] * ("takes_grants: true" in fields)]
+    numbers = [] if limits == "START" else re.findall(r"\w+", limits)
+    carried = re.findall(r"bytes: Some\((\w+)\)", fields)
+    if unknown := [*({*numbers} - {*WORDS}), *({*carried} - {*BYTES})]:
+        raise Failed(f"{TABLE.name}: `{name}` has the limits {', '.join(sorted(unknown))}, for which tests/form/protocol.py has no word")
+    words = START if limits == "START" else [WORDS[limit] for limit in numbers]
+    return [*words, *(BYTES[limit] for limit in carried), *["G .."] * ("takes_grants: true" in fields)]
 
 
 def client_methods(tree: ast.Module) -> dict[str, int]:
@@ -136,17 +180,18 @@ def header_drifts(known: list[Command]) -> Iterator[str]:
             yield f"{HEADER.name}: bpfagent_{name} takes {len(numbers)} numbers, and `{command.name}` {len(command.words)}"
 
 
-def drifts(text: str) -> Iterator[str]:
-    """Where a page, the client or the header has other commands than the program."""
-    known = commands()
-    if other := synopsis(text).keys() ^ {" ".join([command.name, *command.words]) for command in known}:
-        yield f"{PROTOCOL.name} and {TABLE.name} differ in {sorted(other)}"
+def synopsis_drifts(text: str, known: list[Command]) -> Iterator[str]:
+    """The lines of the synopsis that --write would change, and what it would make of them."""
+    found, made = (SYNOPSIS.search(page)[1].splitlines() for page in (text, with_commands(text, known)))
+    if found != made:
+        yield f"the synopsis of {PROTOCOL.name} isn't what {TABLE.name} says: tests/form/protocol.py --write makes it so"
+        yield from (line for line in difflib.ndiff(found, made) if line.startswith(("-", "+")))
+
+
+def wrong(text: str, script: str, known: list[Command]) -> Iterator[str]:
+    yield from synopsis_drifts(text, known)
     yield from client_drifts(known)
     yield from header_drifts(known)
-
-
-def wrong(text: str, script: str) -> Iterator[str]:
-    yield from drifts(text)
     if stops := missing_stops(text):
         yield f"the synopsis of {PROTOCOL.name} doesn't name the stops {stops}"
     yield from (f"{PROTOCOL.name}: {line}" for line in unexplained(text))
@@ -157,11 +202,21 @@ def wrong(text: str, script: str) -> Iterator[str]:
         yield "README.md doesn't show the conversation of `make run`, crates/bpfagent/stdin and stdout"
 
 
-if __name__ == "__main__":
+def main() -> None:
     text = PROTOCOL.read_text()
     if not SYNOPSIS.search(text):
         sys.exit(f"{PROTOCOL.name} has no synopsis")
     script = HEAD + "".join("---\n" + "".join(examples(document)) for document in DOCUMENTS)
-    if sys.argv[1:] == ["--write"]:
-        SCRIPT.write_text(script)
-    report(wrong(text, script), "README and PROTOCOL show what the tests run, and the synopsis has each command")
+    try:
+        known = commands()
+        if sys.argv[1:] == ["--write"]:
+            text = with_commands(text, known)
+            PROTOCOL.write_text(text)
+            SCRIPT.write_text(script)
+        report(wrong(text, script, known), "README and PROTOCOL show what the tests run, and the synopsis has each command")
+    except Failed as failed:
+        sys.exit(str(failed))
+
+
+if __name__ == "__main__":
+    main()

@@ -80,7 +80,9 @@ def call(name: str, words: list[str], folder: pathlib.Path = ROOT, seconds: floa
     """Calls a command, and waits until it ends."""
     start = time.monotonic()
     try:
-        done = subprocess.run(words, cwd=folder, stdin=subprocess.DEVNULL, stdout=subprocess.PIPE, stderr=subprocess.STDOUT, text=True, errors="replace", timeout=seconds)
+        done = subprocess.run(
+            words, cwd=folder, stdin=subprocess.DEVNULL, stdout=subprocess.PIPE, stderr=subprocess.STDOUT, text=True, errors="replace", timeout=seconds
+        )
         passed, output = int(done.returncode == 0), done.stdout.rstrip()
     except subprocess.TimeoutExpired as slow:
         said = slow.output.decode(errors="replace") if isinstance(slow.output, bytes) else slow.output or ""

@@ -59,7 +59,8 @@ def ended(*command: object, given: bytes = b"", seconds: float = SECONDS, limits
     if "stdin" not in how:
         how["input"] = given
     how.setdefault("stdout", subprocess.PIPE)
-    done = subprocess.run([word if isinstance(word, bytes) else str(word) for word in command], stderr=subprocess.PIPE, timeout=seconds, preexec_fn=limited_to(limits), **how)
+    words = [word if isinstance(word, bytes) else str(word) for word in command]
+    done = subprocess.run(words, stderr=subprocess.PIPE, timeout=seconds, preexec_fn=limited_to(limits), **how)
     return done.returncode, done.stdout or b"", done.stderr
 
 

@@ -21,7 +21,8 @@ from lib.sources import ROOT
 CONSUMER = ROOT / "examples/consumer"
 INSTALL = [sys.executable, "-B", str(ROOT / "tools/install.py")]
 ANSWER = "0.9.0: 42"
-PLACES = ["bin/bpfagent", "include/bpfagent.h", "lib/libbpfagent.a", "lib/pkgconfig/bpfagent.pc", "lib/cmake/bpfagent/bpfagent-config.cmake", "lib/cmake/bpfagent/bpfagent-config-version.cmake",
+PLACES = ["bin/bpfagent", "include/bpfagent.h", "lib/libbpfagent.a", "lib/pkgconfig/bpfagent.pc",
+          "lib/cmake/bpfagent/bpfagent-config.cmake", "lib/cmake/bpfagent/bpfagent-config-version.cmake",
           "share/man/man1/bpfagent.1", "share/bash-completion/completions/bpfagent", "share/zsh/site-functions/_bpfagent"]
 OTHER = "cmake_minimum_required(VERSION 3.16)\nproject(other LANGUAGES C)\nfind_package(bpfagent 9.0 REQUIRED)\n"
 
@@ -43,7 +44,8 @@ def show_cmake(prefix: pathlib.Path, folder: pathlib.Path) -> None:
     show_programs(folder)
     (folder / "other").mkdir()
     (folder / "other/CMakeLists.txt").write_text(OTHER)
-    ran = subprocess.run(["cmake", "-S", folder / "other", "-B", folder / "other/out", f"-DCMAKE_PREFIX_PATH={prefix}"], stdout=subprocess.PIPE, stderr=subprocess.STDOUT, text=True, timeout=300)
+    command = ["cmake", "-S", folder / "other", "-B", folder / "other/out", f"-DCMAKE_PREFIX_PATH={prefix}"]
+    ran = subprocess.run(command, stdout=subprocess.PIPE, stderr=subprocess.STDOUT, text=True, timeout=300)
     want(ran.returncode != 0 and "0.9.0" in ran.stdout, f"CMake takes version 0.9.0 for 9.0: {ran.stdout[-500:]}")
 
 
@@ -60,7 +62,8 @@ def show_unwritable(prefix: pathlib.Path, program: str) -> None:
     """Where a file can't be put in its place, a line says so, and no part of it is left."""
     (prefix / "bin/bpfagent/another").mkdir(parents=True)
     done = subprocess.run([*INSTALL, "--program", program, str(prefix)], stdout=subprocess.PIPE, stderr=subprocess.STDOUT, text=True, timeout=300)
-    want(done.returncode == 1 and done.stdout.startswith("install: ") and done.stdout.count("\n") == 1, f"an installation over a folder ends with {done.returncode}: {done.stdout}")
+    is_one_line = done.stdout.startswith("install: ") and done.stdout.count("\n") == 1
+    want(done.returncode == 1 and is_one_line, f"an installation over a folder ends with {done.returncode}: {done.stdout}")
     want_equal([path.name for path in (prefix / "bin").iterdir()], ["bpfagent"], "what is left of a file that couldn't be put in its place")
 
 

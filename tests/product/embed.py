@@ -106,9 +106,10 @@ def show_page(compiler: str, rt: str, room: Room) -> None:
     run("sh", "-ec", page_command(page, rt, compiler, room.folder / "shown"), cwd=ROOT, seconds=3000)
     pieces = re.findall(r"(?s)^```c\n(.*?)^```", page, re.M)
     want(pieces, f"{PAGE.name} has no piece of C")
+    head = "int piece(const uint8_t *code, size_t length)"
     for number, piece in enumerate(pieces):
         name = room.folder / f"piece{number}.c"
-        name.write_text(f'#include "bpfagent.h"\nint piece(const uint8_t *code, size_t length);\nint piece(const uint8_t *code, size_t length)\n{{\n{piece}return (int)(code[0] + length) & 0;\n}}\n')
+        name.write_text(f'#include "bpfagent.h"\n{head};\n{head}\n{{\n{piece}return (int)(code[0] + length) & 0;\n}}\n')
         run(compiler, *STRICT, "-Wno-unused-variable", f"-I{INCLUDE}", "-c", "-o", name.with_suffix(".o"), name)
 
 

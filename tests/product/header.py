@@ -24,7 +24,10 @@ TEXT = re.sub(r"(?s)/\*.*?\*/", "", HEADER.read_text())
 WARNINGS = ["-Wall", "-Wextra", "-Wpedantic", "-Werror"]
 
 # What is passed in C for a parameter of these types.
-STRUCTS = {"Agent": "bpfagent", "End": "bpfagent_end", "Registers": "bpfagent_registers", "Refusal": "bpfagent_refusal", "Granted": "bpfagent_grant", "Parcel": "bpfagent_parcel", "WrongLine": "bpfagent_wrong_line"}
+STRUCTS = {
+    "Agent": "bpfagent", "End": "bpfagent_end", "Registers": "bpfagent_registers", "Refusal": "bpfagent_refusal", "Granted": "bpfagent_grant",
+    "Parcel": "bpfagent_parcel", "WrongLine": "bpfagent_wrong_line",
+}
 WORDS = {"u8": "uint8_t", "u32": "uint32_t", "u64": "uint64_t", "usize": "size_t", "bool": "bool", **STRUCTS}
 
 # Where the numbers of each enum stand: in a variant of Code in src/codes.rt, or in an arm of one of its functions.
@@ -34,7 +37,8 @@ REPLIES = {
     "OUTSIDE": "code_of_reply Outside", "AWAY": "code_of_reply Away", "IS_HERE": "code_of_place Here", "IS_LEAVING": "code_of_place Leaving",
     "IS_FAR": "code_of_place Far", "IS_RETURNING": "code_of_place Returning", "SCOPED": "code_of_reply Scoped", "FAULT_HERE": "code_of_fault Here",
     "FAULT_FAR": "code_of_fault _", "NOSLOT": "code_of_reply NoSlot", "NOWATCH": "code_of_reply NoWatch", "NOTPAUSED": "code_of_reply NotPaused",
-    "REFUSED": "code_of_reply Refused", "NONE": "code_of_reply Missing", "DAMAGED": "Code Damaged", "SHORT": "Code Short", "NOAGENT": "Code NoAgent", "BAD": "Code Bad",
+    "REFUSED": "code_of_reply Refused", "NONE": "code_of_reply Missing", "DAMAGED": "Code Damaged", "SHORT": "Code Short",
+    "NOAGENT": "Code NoAgent", "BAD": "Code Bad",
 }
 STOPS = {
     "GOES_ON": "stop_of_state _", "EXIT": "code_of_stop Exit", "STOP_OUTSIDE": "code_of_stop Outside", "MISALIGNED": "code_of_stop Misaligned",
@@ -42,7 +46,10 @@ STOPS = {
 }
 STATES = {"RUNNING": "code_of_state Running", "IS_PAUSED": "code_of_state Paused", "IS_STOPPED": "code_of_state Stopped"}
 PLACES = {"HERE": "number_of_place Here", "LEAVING": "number_of_place Leaving", "FAR": "number_of_place Far", "RETURNING": "number_of_place Returning"}
-WRONG = {"WRONG_WORD": "number Word", "WRONG_OPERAND": "number Operand", "WRONG_RANGE": "number Range", "WRONG_LABEL": "number Label", "WRONG_TWICE_LABEL": "number TwiceLabel", "WRONG_TOO_LONG": "number TooLong"}
+WRONG = {
+    "WRONG_WORD": "number Word", "WRONG_OPERAND": "number Operand", "WRONG_RANGE": "number Range", "WRONG_LABEL": "number Label",
+    "WRONG_TWICE_LABEL": "number TwiceLabel", "WRONG_TOO_LONG": "number TooLong",
+}
 ENUMS = {"bpfagent_reply": REPLIES, "bpfagent_stop": STOPS, "bpfagent_state": STATES, "bpfagent_place": PLACES, "bpfagent_wrong": WRONG}
 # Arms that say what another one says, or that pass the question on: none of them is a number of its own.
 SHARED = {"code_of_reply Misplaced", "code_of_reply Faulted", "code_of_reply _", "number Memory"}
@@ -102,17 +109,19 @@ def show_functions() -> str:
 
 
 def arms(text: str) -> dict[str, int]:
-    """The number of each arm of each function, and of each variant of Code."""
-    variants = re.search(r"(?s)enum Code \{(.*?)\n\}", text)[1]
-    numbers = {f"Code {name}": int(number) for name, number in re.findall(r"(\w+) = (\d+),", variants)}
+    """The number of each arm of each function, and of each variant of Code, StopCode and the like."""
+    numbers = {}
+    for code, body in re.findall(r"(?s)enum (\w*Code) \{(.*?)\n\}", text):
+        numbers.update({f"{code} {name}": int(number) for name, number in re.findall(r"(\w+) = (\d+),", body)})
     for name, body in re.findall(r"(?s)fn (\w+)\([^)]*\)[^{]*(?:ensures[^\n]*\n)*\{(.*?)\n\}", text):
-        for arm, variant, number in re.findall(r"(?:\w+::)?(\w+)(?: \{ \.\. \}|\(\w+\))? => (?:Code::(\w+) as u32|(\d+)),", body):
-            numbers[f"{name} {arm}"] = int(number) if number else numbers[f"Code {variant}"]
+        for arm, code, variant, number in re.findall(r"(?:\w+::)?(\w+)(?: \{ \.\. \}|\(\w+\))? => (?:(\w*Code)::(\w+) as u32|(\d+)),", body):
+            numbers[f"{name} {arm}"] = int(number) if number else numbers[f"{code} {variant}"]
     return numbers
 
 
 def declared_enums() -> dict[str, dict[str, int]]:
-    return {name: {one: int(number) for one, number in re.findall(r"BPFAGENT_(\w+) = (\d+)", body)} for name, body in re.findall(r"(?s)enum (bpfagent_\w+) \{(.*?)\}", TEXT)}
+    bodies = re.findall(r"(?s)enum (bpfagent_\w+) \{(.*?)\}", TEXT)
+    return {name: {one: int(number) for one, number in re.findall(r"BPFAGENT_(\w+) = (\d+)", body)} for name, body in bodies}
 
 
 def show_enums() -> str:
@@ -123,7 +132,8 @@ def show_enums() -> str:
     want_equal(sorted(enums), sorted(ENUMS), "the enums of the header")
     for name, sources_of in ENUMS.items():
         want_equal(enums[name], {one: codes.get(source) for one, source in sources_of.items()}, name)
-    want_equal(sorted(enums["bpfagent_reply"].values()), sorted(number for source, number in codes.items() if source.startswith("Code ")), "the numbers of Code")
+    variants = sorted(number for source, number in codes.items() if source.startswith("Code "))
+    want_equal(sorted(enums["bpfagent_reply"].values()), variants, "the numbers of Code")
     named = {source for enum in ENUMS.values() for source in enum.values()} | SHARED
     for function in ("code_of_reply", "code_of_place", "code_of_fault", "code_of_stop", "code_of_state", "number_of_place", "number"):
         unnamed = [arm for arm in codes if arm.split()[0] == function and arm not in named]

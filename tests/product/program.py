@@ -46,36 +46,44 @@ COMPILES = re.compile(r"make .*examples/c|clang |llvm-|bpfagent-\w+ .*\.c\b|edit
 
 # Up to five arguments, so that a program that looks at fewer is found out.
 INVALID = [[], ["help"], ["steps"], ["run", "check"], ["run", "--budget", "67108865"], ["check", "x"], [b"\xff"], ["run", "--budget"],
-           ["run", "--budget", "8", "x"], ["run", "--budget", "8", "--budget", "8"], ["run", "--budget", "8", "asm", "dis"], ["dis", "--slots", "--slots"], ["asm", "--slots"],
-           ["dis", "--explain"], ["check", "--explain", "--explain"], ["asm", "--explain", "--explain"], ["asm", "--explain", "x"], ["store", "--port", "65536"], ["store", "x"], ["store", "--workers", "1"],
-           ["serve", "x"], ["serve", "--connections", "0"], ["serve", "--connections", "9"], ["serve", "--workers", "17"], ["serve", "--sweep", "--sweep"], ["run", "--workers", "1"]]
+           ["run", "--budget", "8", "x"], ["run", "--budget", "8", "--budget", "8"], ["run", "--budget", "8", "asm", "dis"],
+           ["dis", "--slots", "--slots"], ["asm", "--slots"], ["dis", "--explain"], ["check", "--explain", "--explain"],
+           ["asm", "--explain", "--explain"], ["asm", "--explain", "x"], ["store", "--port", "65536"], ["store", "x"], ["store", "--workers", "1"],
+           ["serve", "x"], ["serve", "--connections", "0"], ["serve", "--connections", "9"], ["serve", "--workers", "17"],
+           ["serve", "--sweep", "--sweep"], ["run", "--workers", "1"]]
 # What the help of each subcommand has to name: what it reads, what it writes, and what it returns.
-HELP = {"run": [b"make LENGTH", b"ship2", b"unwatch", b"67108864", b"Status 0", b"Status 3"], "check": [b"bytes, not hex", b"ok N", b"slot S: WHY", b"FallsOff", b"--explain", b"Status 1"],
+HELP = {"run": [b"make LENGTH", b"ship2", b"unwatch", b"67108864", b"Status 0", b"Status 3"],
+        "check": [b"bytes, not hex", b"ok N", b"slot S: WHY", b"FallsOff", b"--explain", b"Status 1"],
         "asm": [b"1048576", b"acmpxchg", b"--explain", b"line L: WHY", b"Status 1"], "dis": [b"bytes, not hex", b"--slots", b"slot S: WHY", b"Status 1"],
         "store": [b"127.0.0.1", b"listening P", b"client N: WHY", b"--port", b"Status 0", b"Status 3"],
-        "serve": [b"127.0.0.1", b"listening P", b"unserved", b"--port", b"--connections", b"--workers", b"--budget", b"--sweep", b"closed", b"Status 0", b"Status 1", b"Status 3"]}
+        "serve": [b"127.0.0.1", b"listening P", b"unserved", b"--port", b"--connections", b"--workers", b"--budget", b"--sweep", b"closed",
+                  b"Status 0", b"Status 1", b"Status 3"]}
 # What an installed program doesn't have: the pages of the repository.
 PAGES = re.compile(rb"docs/|\.md\b|https?:|README")
 # What the examples of help write, those that end by themselves.
 SHOWN_BY_HELP = {"run": b"made 1\nok\nbytes 616263\n", "asm": b" b7 00 00 00 07 00 00 00 95 00 00 00 00 00 00 00\n", "dis": b"0: mov r0, 7\n1: exit\n"}
 # What is refused, at last with the longest lines: code that jumps into a wide instruction from its last slot, texts wrong at their end.
 WIDE = bytes.fromhex("18000000000000000000000000000000")
+JUMPS_INSIDE = WIDE + EXIT * 4093 + bytes.fromhex("050001f000000000")
 REFUSED = [("check", b"", b"slot 0: Empty\n"), ("check", EXIT + b"\x95", b"slot 1: Short\n"), ("check", EXIT * 4097, b"slot 0: TooLong\n"),
            ("asm", b"exit\nexot\n", b"line 2: Word\n"), ("asm", b"\n" * 1048577, b"input too long\n"), ("dis", b"\x95\0", b"slot 0: Short\n"),
-           ("check", WIDE + EXIT * 4093 + bytes.fromhex("050001f000000000"), b"slot 4095: JumpInside\n"), ("dis", WIDE + EXIT * 4093 + bytes.fromhex("050001f000000000"), b"slot 4095: JumpInside\n"),
+           ("check", JUMPS_INSIDE, b"slot 4095: JumpInside\n"), ("dis", JUMPS_INSIDE, b"slot 4095: JumpInside\n"),
            ("asm", b"\n" * 1048575 + b"x", b"line 1048576: Word\n"), ("asm", b"a:" + b"\n" * 1048572 + b"a:", b"line 1048573: TwiceLabel\n")]
 
 # What `asm --explain` adds to the line of an error: at most 200 bytes are quoted of a token and of its line.
 EXPLAINED = [(b"exit\nexot ; leave\n", b"line 2: Word\n", b"column 1: 'exot' in 'exot ; leave', where a mnemonic fits\n"),
              (b"mov r0,", b"line 1: Operand\n", b"at the end of 'mov r0,', where a register or a number fits\n"),
-             (b"mov r0, " + b"9" * 300, b"line 1: Range\n", b"column 9: '" + b"9" * 200 + b"' in 'mov r0, " + b"9" * 192 + b"', where a number from -2147483648 to 2147483647 fits\n"),
+             (b"mov r0, " + b"9" * 300, b"line 1: Range\n",
+              b"column 9: '" + b"9" * 200 + b"' in 'mov r0, " + b"9" * 192 + b"', where a number from -2147483648 to 2147483647 fits\n"),
              (b"\n" * 1048570 + b" ja +", b"line 1048571: Operand\n", b"column 5: '+' in ' ja +', where a label, or a number with a sign, fits\n"),
-             (b" " * 1048570 + b"x\x1b[7m", b"line 1: Word\n", b"column 1048572: '?' in '" + b" " * 200 + b"', where a name, a number or one of :,[]+- in ASCII fits\n"),
+             (b" " * 1048570 + b"x\x1b[7m", b"line 1: Word\n",
+              b"column 1048572: '?' in '" + b" " * 200 + b"', where a name, a number or one of :,[]+- in ASCII fits\n"),
              (b"exit\n" * 4096 + b"x: exit", b"line 4097: TooLong\n", b"column 4: 'exit' in 'x: exit', where no instruction after 4096 slots fits\n"),
              (b"\n" * 1048577, b"input too long\n", b"")]
+OUTSIDE = b", outside the code; slots are counted from the next one (RFC 9669, section 4.3)\n"
 # What `check --explain` adds to the line of a refusal: long lines, code as a whole, and object files, also one that is too long.
-EXPLAINED_CODE = [(b"\x85\x10\0\0\xff\xff\xff\x7f" + EXIT, b"slot 0: JumpOut\n", b"call local +2147483647: it leads to slot 2147483648, outside the code; slots are counted from the next one (RFC 9669, section 4.3)\n"),
-                  (b"\x06\0\0\0\0\0\0\x80", b"slot 0: JumpOut\n", b"ja32 -2147483648: it leads to slot -2147483647, outside the code; slots are counted from the next one (RFC 9669, section 4.3)\n"),
+EXPLAINED_CODE = [(b"\x85\x10\0\0\xff\xff\xff\x7f" + EXIT, b"slot 0: JumpOut\n", b"call local +2147483647: it leads to slot 2147483648" + OUTSIDE),
+                  (b"\x06\0\0\0\0\0\0\x80", b"slot 0: JumpOut\n", b"ja32 -2147483648: it leads to slot -2147483647" + OUTSIDE),
                   (EXIT * 4095 + b"\x95", b"slot 4095: Short\n", b"95: the slot has 1 of 8 bytes (RFC 9669, section 3.1)\n"),
                   (b"", b"slot 0: Empty\n", b"there are no bytes, and code has at least one instruction\n"),
                   (EXIT * 4097, b"slot 0: TooLong\n", b"there are more than 32768 bytes, which are 4096 slots\n"),
@@ -104,7 +112,8 @@ def is_done(program: str, arguments: Sequence[str], given: bytes, output: bytes)
 def show_statuses(program: str) -> None:
     """0 for what was done, 1 for refused input, 2 for invalid arguments."""
     stored = ROOT / "crates/bpfagent"
-    done = [(["run"], (stored / "stdin").read_bytes(), (stored / "stdout").read_bytes()), (["run"], b"", b""), (["run"], b"step 1\nstep 1", b"none\ncut\n"), (["run"], b"steps\n", b"bad\n"),
+    done = [(["run"], (stored / "stdin").read_bytes(), (stored / "stdout").read_bytes()), (["run"], b"", b""),
+            (["run"], b"step 1\nstep 1", b"none\ncut\n"), (["run"], b"steps\n", b"bad\n"),
             (["run", "--budget", "8"], b"make 9\nmake 8\n", b"noroom\nmade 1\n"), (["check"], EXIT * 2, b"ok 2\n"), (["check", "--explain"], EXIT, b"ok 1\n"),
             (["asm"], b"lddw r0, -1\nexit\n", ALL_ONES), (["asm", "--explain"], b"lddw r0, -1\nexit\n", ALL_ONES),
             (["dis"], ALL_ONES, b"lddw r0, 0xffffffffffffffff\nexit\n"), (["dis", "--slots"], ALL_ONES, b"0: lddw r0, 0xffffffffffffffff\n2: exit\n")]
@@ -130,7 +139,11 @@ def show_statuses(program: str) -> None:
 
 
 # Where the version stands beside the program's own, and what stands around it.
-VERSIONS = {"CHANGELOG.md": r"^## (.*)$", "python/bpfagent/__init__.py": r'^__version__ = "(.*)"$', "examples/debug/vscode/package.json": r'^  "version": "(.*)",$'}
+VERSIONS = {
+    "CHANGELOG.md": r"^## (.*)$",
+    "python/bpfagent/__init__.py": r'^__version__ = "(.*)"$',
+    "examples/debug/vscode/package.json": r'^  "version": "(.*)",$',
+}
 
 
 def show_version(program: str) -> None:
@@ -254,7 +267,8 @@ def wrong_fields() -> Iterator[tuple[bytes, str, str]]:
 
 
 def show_wrong_fields(program: str) -> str:
-    """`check --explain` names the field that is wrong, its number, and what the table of tests/reference has there. A program that is many times slower is asked for fewer."""
+    """`check --explain` names the field that is wrong, its number, and what the table of tests/reference has there. A program that is
+    many times slower is asked for fewer."""
     cases = sorted(set(wrong_fields()))[:: 8 if has_checks(program) else 1]
     for slot, fault, said in cases:
         want_ended(program, ["check", "--explain"], slot + bytes(8), 1, b"", f"slot 0: {fault}\n{said}".encode())
@@ -280,7 +294,9 @@ def show_examples(program: str) -> str:
 
 def has_clang() -> bool:
     """Whether there is the compiler that the documents name, which is needed for what they show of it."""
-    return bool(shutil.which("clang") and shutil.which("llvm-objdump")) and b" version 14." in subprocess.run(["clang", "--version"], stdout=subprocess.PIPE, timeout=SECONDS).stdout
+    if not (shutil.which("clang") and shutil.which("llvm-objdump")):
+        return False
+    return b" version 14." in subprocess.run(["clang", "--version"], stdout=subprocess.PIPE, timeout=SECONDS).stdout
 
 
 def is_shown(printed: str, shown: str) -> bool:
@@ -300,11 +316,20 @@ def show_documents(program: str) -> str:
             if COMPILES.search(command) and not compiles:
                 continue
             command = command.replace(PROGRAM, shlex.quote(program))
-            done = subprocess.run(["sh", "-c", command], cwd=ROOT, stdin=subprocess.DEVNULL, stdout=subprocess.PIPE, stderr=subprocess.STDOUT, text=True, timeout=seconds(program), env=package.environment(program))
+            done = subprocess.run(
+                ["sh", "-c", command], cwd=ROOT, stdin=subprocess.DEVNULL, stdout=subprocess.PIPE, stderr=subprocess.STDOUT, text=True,
+                timeout=seconds(program), env=package.environment(program),
+            )
             want(is_shown(done.stdout, output), f"{path.name}: {command} printed {done.stdout.strip()}")
             count += 1
     return f"{count} commands of documents print what stands there"
 
 
+SHOWN = [
+    show_statuses, show_version, show_help_examples, show_faults, show_closed, show_offsets, show_no_memory, show_wrong_fields, show_examples,
+    show_documents,
+]
+
+
 if __name__ == "__main__":
-    run_parts("program", [show_statuses, show_version, show_help_examples, show_faults, show_closed, show_offsets, show_no_memory, show_wrong_fields, show_examples, show_documents])
+    run_parts("program", SHOWN)

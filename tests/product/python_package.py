@@ -26,7 +26,9 @@ ALONE = "test_fleet"
 def tests_of(module: str, environment: Mapping[str, str]) -> str:
     """Runs the tests of a module; how many there are, and what was skipped."""
     command = [package.python(), "-m", "unittest", "discover", "-v", "-s", TESTS, "-t", TESTS, "-p", f"{module}.py"]
-    done = subprocess.run(command, stdin=subprocess.DEVNULL, stdout=subprocess.PIPE, stderr=subprocess.STDOUT, text=True, timeout=SECONDS, env=environment, cwd=ROOT)
+    done = subprocess.run(
+        command, stdin=subprocess.DEVNULL, stdout=subprocess.PIPE, stderr=subprocess.STDOUT, text=True, timeout=SECONDS, env=environment, cwd=ROOT
+    )
     want(done.returncode == 0 and "\nRan 0 tests" not in done.stdout, f"{module}: {done.stdout}")
     lines = done.stdout.splitlines()
     return "\n".join(f"python: {module}: {line}" for line in lines if line.startswith(("Ran ", "OK")) or "... skipped" in line)

@@ -40,9 +40,11 @@ JUMP = bytes.fromhex("05000500000000009500000000000000")
 # A swap of 24 bits.
 SWAP = bytes.fromhex("d401000018000000")
 LOOP = bytes.fromhex("b7000000000000000700000001000000a500feff030000009500000000000000")
-OTHERS = [(["check"], WIDE), (["check", "--explain"], JUMP), (["check", "--explain"], b"\x7fELF" + bytes(60)), (["check", "--explain"], bytes(9)), (["check", "--explain"], SWAP), (["asm"], TEXT),
-          (["asm", "--explain"], TEXT + b"\nexot"), (["dis"], WIDE), (["dis"], LOOP), (["dis", "--slots"], WIDE), (["--help"], b""), (["--version"], b""), (["run", "--wrong"], b""),
-          (["asm"], b"jump +1\n"), (["asm"], b"mov r0\n"), (["asm"], b"mov r0, 2147483648\n"), (["asm"], b"ja x\n"), (["asm"], b"a:\na:\n"), (["run"], b"\n" + b"a" * 70_001 + b"\nregs 1")]
+OTHERS = [(["check"], WIDE), (["check", "--explain"], JUMP), (["check", "--explain"], b"\x7fELF" + bytes(60)), (["check", "--explain"], bytes(9)),
+          (["check", "--explain"], SWAP), (["asm"], TEXT), (["asm", "--explain"], TEXT + b"\nexot"), (["dis"], WIDE), (["dis"], LOOP),
+          (["dis", "--slots"], WIDE), (["--help"], b""), (["--version"], b""), (["run", "--wrong"], b""),
+          (["asm"], b"jump +1\n"), (["asm"], b"mov r0\n"), (["asm"], b"mov r0, 2147483648\n"), (["asm"], b"ja x\n"), (["asm"], b"a:\na:\n"),
+          (["run"], b"\n" + b"a" * 70_001 + b"\nregs 1")]
 # How many allocations of one conversation are tried after its first line, spread over all of them, and how many before it.
 MOST, BEFORE = 600, 2
 
@@ -115,7 +117,8 @@ def one_failure(failing: Failing, arguments: Sequence[str], lines: list[str], wh
     k = refused[0]
     instead = in_place_of(lines[k], replies[k])
     others = failing.talk(arguments, lines[:k] + instead + lines[k + 1 :])[1]
-    want(replies[:k] + replies[k + 1 :] == others[:k] + others[k + len(instead) :], f"allocation {at}: after {lines[k][:40]} the run didn't go on as if it hadn't come")
+    goes_on = replies[:k] + replies[k + 1 :] == others[:k] + others[k + len(instead) :]
+    want(goes_on, f"allocation {at}: after {lines[k][:40]} the run didn't go on as if it hadn't come")
     return lines[k].split()[0]
 
 
@@ -147,9 +150,10 @@ def before_a_line(failing: Failing) -> int:
 CODE = "7b0a000000000000" + "95" + "00" * 7
 ENTRY, LINE = 32, 64
 COUNTED = [
-    ("make 64", 1, 64), ("put 1 0 0102", 1, 2), ("get 1 0 2", 0, 0), ("get 1 63 2", 0, 0), (f"ship 9 0 0 0 0 0 {CODE}", 2, 16 + 2 * ENTRY), ("step 1", 0, 0), ("one 1", 0, 0),
-    ("regs 1", 0, 0), ("out 1", 0, 0), ("stack 1 0 8", 1, 8), ("line 1 0", 1, LINE), ("break 1 1", 0, 0), ("watch 1 0x100000000 8", 0, 0), ("unbreak 1 1", 0, 0), ("leave 1", 0, 0),
-    ("left 1", 0, 0), ("return 1", 0, 0), ("returned 1", 1, 64), ("free 1", 0, 0), ("nothing", 0, 0), ("put 1 0 zz", 0, 0), ("x" * 69_000, 0, 0),
+    ("make 64", 1, 64), ("put 1 0 0102", 1, 2), ("get 1 0 2", 0, 0), ("get 1 63 2", 0, 0), (f"ship 9 0 0 0 0 0 {CODE}", 2, 16 + 2 * ENTRY),
+    ("step 1", 0, 0), ("one 1", 0, 0), ("regs 1", 0, 0), ("out 1", 0, 0), ("stack 1 0 8", 1, 8), ("line 1 0", 1, LINE), ("break 1 1", 0, 0),
+    ("watch 1 0x100000000 8", 0, 0), ("unbreak 1 1", 0, 0), ("leave 1", 0, 0), ("left 1", 0, 0), ("return 1", 0, 0), ("returned 1", 1, 64),
+    ("free 1", 0, 0), ("nothing", 0, 0), ("put 1 0 zz", 0, 0), ("x" * 69_000, 0, 0),
 ]
 # Where the bytes are a bound, and not the very number.
 BOUNDED = ("ship ", "line ")
@@ -173,7 +177,8 @@ def counted_streams(failing: Failing) -> None:
         file.seek(0)
         subprocess.run([PROGRAM, "run"], stdin=file, stdout=subprocess.DEVNULL, env=failing.environment(count=counts.name), timeout=60, check=True)
         found = Counts(*map(int, counts.read().split()))
-    want((found.reads, found.fewest, found.writes, found.flushes) == (-(-len(given) // 4096) + 1, 4096, 5_000, 0), f"a conversation of 5,000 commands takes {found}")
+    wanted = (-(-len(given) // 4096) + 1, 4096, 5_000, 0)
+    want((found.reads, found.fewest, found.writes, found.flushes) == wanted, f"a conversation of 5,000 commands takes {found}")
 
 
 def refused_input(failing: Failing, arguments: Sequence[str], given: bytes) -> int:
@@ -201,7 +206,10 @@ OUTCOMES = {
         for came, memory, refused in [("no server", 0, 0), ("not all left", 0, 0), ("all came home", 1, 0), ("all came home", 0, 1), ("all came home", 0, 0)]
     ],
     "pool": ["no bodies", "no machines", "no table", "no pool", "no mover", "came home, asked again", "came home"],
-    "service": ["no world", "not opened", "no agent", "opened, read again, closed", "opened, read once, closed", "opened, read, not closed", "opened, read, closed"],
+    "service": [
+        "no world", "not opened", "no agent", "opened, read again, closed", "opened, read once, closed", "opened, read, not closed",
+        "opened, read, closed",
+    ],
 }
 
 
@@ -249,7 +257,8 @@ def refused_service(failing: Failing) -> int:
         ended = (done[0], done[4]) == (3, b"no memory\n") and before.startswith(done[1]) and answers.startswith(done[2]) and after.startswith(done[3])
         want(ended or done == whole or done in others, f"a service whose allocation {at} fails says {done}")
     ends = [done for done in found if done[0] == 3]
-    want(any(done[2] for done in ends) and any(done[1] and not done[2] for done in ends) and set(others) <= set(found), f"a service ended so: {sorted(set(found))}")
+    has_answered, has_begun = any(done[2] for done in ends), any(done[1] and not done[2] for done in ends)
+    want(has_answered and has_begun and set(others) <= set(found), f"a service ended so: {sorted(set(found))}")
     for thread in (1, 2, 3):
         done = served(failing.environment(thread=thread))
         want(done == (3, b"made 1\n", b"", b"", b"no memory\n"), f"a service whose thread {thread} isn't started says {done}")
@@ -268,7 +277,8 @@ def refused_part(failing: Failing, part: str) -> int:
     """How often something of a part was refused: each of its outcomes comes, and no other."""
     outcomes = [(0, outcome) for outcome in OUTCOMES[part]]
     whole, counts = failing.counted(PARTS, [], part.encode())
-    first, *found = [(status, told.decode().strip()) for status, told, _ in (whole, *(failing.call(PARTS, [], part.encode(), at) for at in range(1, counts.allocations + 1)))]
+    failed = [failing.call(PARTS, [], part.encode(), at) for at in range(1, counts.allocations + 1)]
+    first, *found = [(status, told.decode().strip()) for status, told, _ in (whole, *failed)]
     want(first == outcomes[-1] and set(outcomes[:-1]) <= set(found) <= set(outcomes), f"{PARTS.name}, {part}: {first}, and with refusals {sorted(set(found))}")
     return counts.allocations - found.count(outcomes[-1])
 
@@ -289,7 +299,10 @@ def show(failing: Failing) -> None:
     refused_store(failing)
     told = ", ".join(f"{count} of a {part}" for part, count in parts.items())
     want(made == 1024 and {word.strip() for word in MAY_LACK_MEMORY} | {"returned"} <= set(found), f"not every command was refused: {counts}; {made} objects")
-    print(f"refusals: {len(found)} allocations of {len(talks)} conversations failed in turn: {counts}; {gave_up} of other inputs, {made} of 1,024 objects, {told}")
+    print(
+        f"refusals: {len(found)} allocations of {len(talks)} conversations failed in turn: {counts}; "
+        f"{gave_up} of other inputs, {made} of 1,024 objects, {told}"
+    )
 
 
 def main() -> None:

@@ -51,7 +51,10 @@ CLOSE = "8500000004000000"
 ADD_BEHIND = "db21100000000000" + EXIT
 # mov r3, 0 · aadd [r1], r2 · ldxb r5, [r4] · call 4 · mov r6, 3000 · add r6, -1 · jne r6, 0, -2 · add r3, 1 · jeq r5, 0, -8 · mov r0, r3 · exit:
 # most of the time nothing is in scope
-ADDS_UNTIL_TOLD = "b703000000000000" "db21000000000000" "7145000000000000" + CLOSE + "b7060000b80b0000" "07060000ffffffff" "5506feff00000000" "0703000001000000" "1505f8ff00000000" "bf30000000000000" + EXIT
+ADDS_UNTIL_TOLD = (
+    "b703000000000000" "db21000000000000" "7145000000000000" + CLOSE
+    + "b7060000b80b0000" "07060000ffffffff" "5506feff00000000" "0703000001000000" "1505f8ff00000000" "bf30000000000000" + EXIT
+)
 # add r3, 1 · ja -2
 COUNTS = "0703000001000000" "0500feff00000000"
 COUNTER = (ROOT / "examples/c/counter.code").read_bytes().hex()
@@ -174,7 +177,8 @@ def show_row(program: str) -> None:
     """Without workers a machine is stepped by its clients alone."""
     service = Service(program, "--workers", 0, setup=["make 8", f"ship 10 0x100000000 1 0 0 0 {ADD}"])
     want(service.told == ["made 1", "shipped 1"], f"the input is answered {service.told}")
-    said = ["step 1", "get 1 0 1", "left 1", "leave 1", "step 1", f"ship 10 0 0 0 0 0 {EXIT}", "line 2 0", "stack 2 0 1", "break 2 0", "watch 2 0x100000000 1", "step 2"]
+    said = ["step 1", "get 1 0 1", "left 1", "leave 1", "step 1", f"ship 10 0 0 0 0 0 {EXIT}", "line 2 0", "stack 2 0 1", "break 2 0",
+            "watch 2 0x100000000 1", "step 2"]
     told = ["ran 1 1", "bytes 01", "unserved", "asked 1", "stopped 1 exit 0000000000000000", "shipped 2", "line 2 0 exit", "bytes 00", "ok", "ok", "paused 2 0"]
     client = Client(service)
     found = [client.ask(command) for command in said]
@@ -274,23 +278,27 @@ def show_lost_server(program: str) -> None:
     server.process.kill()
     server.process.communicate()
     for _ in range(20):
-        want(client.ask("leave 3") == "asked 3" and client.ask("get 1 0 1") == "away 1" and client.ask("step 1") == "waiting 1 1", "an object whose server is gone")
+        answers = [client.ask(command) for command in ("leave 3", "get 1 0 1", "step 1")]
+        want(answers == ["asked 3", "away 1", "waiting 1 1"], "an object whose server is gone")
         time.sleep(0.01)
     want(client.ask_until("get 3 0 1", "bytes") == "bytes 07", "an object that couldn't leave")
     shown = client.ask("regs 1")
     want(client.end() == "", "more than the replies")
     status, output, errors = service.texts()
     said = output.splitlines()
-    want((status, errors) == (0, "") and said[:2] == ["closed", "object 1 out"] and said[3:] == [object_line(3, of_eight(7)), shown], f"the end of a service whose far server is gone: {said}")
+    is_left = said[:2] == ["closed", "object 1 out"] and said[3:] == [object_line(3, of_eight(7)), shown]
+    want((status, errors) == (0, "") and is_left, f"the end of a service whose far server is gone: {said}")
 
 
 def show_unreached(program: str) -> None:
     """A far server that can't be reached, and what isn't its address: nothing is read, and no port is taken."""
     with socket.create_server(("127.0.0.1", 0)) as taken:
         port = taken.getsockname()[1]
-        want(served(program, "--far", f"127.0.0.1:{free_port()}", "--port", port, setup="make 8\n") == (3, "", "far server can't be reached\n"), "a server that isn't there")
+        found = served(program, "--far", f"127.0.0.1:{free_port()}", "--port", port, setup="make 8\n")
+        want(found == (3, "", "far server can't be reached\n"), "a server that isn't there")
         for far in ("", "7070", "localhost:7070", "127.0.0.1", "127.0.0.1:", "127.0.0.1:65536", "127.0.0.1:x", "256.0.0.1:1", "::1:7070", " 127.0.0.1:7070"):
-            want(served(program, f"--far={far}", "--port", port, setup="make 8\n") == (2, "", "error: --far takes an IP address and a port\n"), f"the address {far}")
+            found = served(program, f"--far={far}", "--port", port, setup="make 8\n")
+            want(found == (2, "", "error: --far takes an IP address and a port\n"), f"the address {far}")
 
 
 def write_all(client: Client, number: int, held: bytes) -> None:
@@ -383,7 +391,8 @@ def debug_machine(meeting: Meeting, service: Service, machine: int) -> tuple[int
     want(client.ask(f"stack {machine} 0 4") == "bytes 00000000" and client.ask(f"out {machine}") == f"out {machine}", "its stack, and what it gave out")
     want(client.ask(f"line {machine} 10") == f"line {machine} 10 exit", "its last line")
     want(client.ask(f"watch {machine} 0x100000000 8") == "ok" and client.ask(f"unwatch {machine} 0x100000000 8") == "ok", "a watched range")
-    want(client.ask(f"break {machine} 4") == "ok" and client.ask(f"unbreak {machine} 1") == "ok" and client.ask(f"resume {machine}") == "ok", "it goes on to another breakpoint")
+    answers = [client.ask(command) for command in (f"break {machine} 4", f"unbreak {machine} 1", f"resume {machine}")]
+    want(answers == ["ok"] * 3, "it goes on to another breakpoint")
     words = paused(client, machine, 4)
     want(int(words[8], 16) == 0, f"machine {machine} at its second breakpoint: {words}")
     meeting.come()
@@ -424,7 +433,8 @@ def show_debuggers(program: str) -> None:
         total += machine * count
     shown = [reply for _, _, reply in told]
     want([reader.ask(f"regs {machine}") for machine in range(1, 8)] == shown, "machines that have stopped stay as they are")
-    want(reader.end() == "" and service.ends_well({1: of_eight(total), 2: of_eight(1)}, shown, may_be_out=True), "the end of a service whose machines were debugged")
+    held = {1: of_eight(total), 2: of_eight(1)}
+    want(reader.end() == "" and service.ends_well(held, shown, may_be_out=True), "the end of a service whose machines were debugged")
 
 
 def runs_on(client: Client, rounds: int) -> None:
@@ -576,7 +586,8 @@ def show_few_threads(program: str) -> None:
             service.process.kill()
             raise Failed(f"a service with room for {threads} threads doesn't end") from None
         found = answered, service.texts()
-        want(found == ("", (3, "", "no memory\n")) or (threads == 4 and found == ("bytes 00", (0, f"closed\n{object_line(1, of_eight(0))}\n", ""))), f"a service with room for {threads} threads: {found}")
+        is_served = found == ("bytes 00", (0, f"closed\n{object_line(1, of_eight(0))}\n", ""))
+        want(found == ("", (3, "", "no memory\n")) or (threads == 4 and is_served), f"a service with room for {threads} threads: {found}")
     want(answered, "a service with room for all its threads")
 
 
@@ -617,11 +628,18 @@ def show_statuses(program: str) -> None:
     with unreadable() as fails:
         want(served(program, stdin=fails) == (3, "", "read fault\n"), "an input that fails")
     far = ["--far", "127.0.0.1:1"]
-    for words in (["--far"], far * 2, [*far, "--workers", "17"], ["--connections", "0"], ["--connections=9"], ["--workers", "17"], ["--workers=-1"], ["--port", "65536"], ["--budget", "67108865"], ["--sweep", "--sweep"], ["--connections"], ["--workers", "x"], ["x"], ["--sweep=true"]):
+    wrong = [
+        ["--far"], far * 2, [*far, "--workers", "17"], ["--connections", "0"], ["--connections=9"], ["--workers", "17"], ["--workers=-1"],
+        ["--port", "65536"], ["--budget", "67108865"], ["--sweep", "--sweep"], ["--connections"], ["--workers", "x"], ["x"], ["--sweep=true"],
+    ]
+    for words in wrong:
         status, output, errors = served(program, *words)
         want((status, output) == (2, "") and errors.startswith("error: ") and errors.endswith("--help'.\n"), f"{words} ended with {status}, {output}, {errors}")
     status, output, errors = served(program, "--help")
-    wanted = ["--port", "--connections", "--workers", "--budget", "--sweep", "--far <HOST:PORT>", "--far-timeout <MS>", "--verbose", "regs", "listening P", "closed", "Status 1", "Status 3"]
+    wanted = [
+        "--port", "--connections", "--workers", "--budget", "--sweep", "--far <HOST:PORT>", "--far-timeout <MS>", "--verbose", "regs", "listening P",
+        "closed", "Status 1", "Status 3",
+    ]
     want((status, errors) == (0, "") and all(word in output for word in wanted) and ".md" not in output, f"help: {status}, {output}, {errors}")
 
 
@@ -636,7 +654,10 @@ def show_port(program: str) -> None:
     want(again.port == port and Client(again).end() == "" and again.ends_well(), "the port that is asked for")
 
 
-SHOWN = [show_protocol, show_examples, show_row, close_two, show_sweep, show_crowd, show_debuggers, show_breakpoint, show_locks, show_lost, show_first_end, show_few_threads, show_few_files, show_far, show_far_bytes, show_lost_server, show_unreached, show_statuses, show_port]
+SHOWN = [
+    show_protocol, show_examples, show_row, close_two, show_sweep, show_crowd, show_debuggers, show_breakpoint, show_locks, show_lost, show_first_end,
+    show_few_threads, show_few_files, show_far, show_far_bytes, show_lost_server, show_unreached, show_statuses, show_port,
+]
 
 
 if __name__ == "__main__":

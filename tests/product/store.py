@@ -81,8 +81,11 @@ def show_frames(program: str) -> None:
     shown = bytes.fromhex("01 0000000000000001 00000003 616263")
     want_equal(shown, frame(PUT, 1, b"abc"), "the frame of the page")
     want_equal(talk(server, shown), bytes.fromhex("00 0000000000000001 00000000"), "the put of the page")
-    requests = [frame(PUT, 1, b"abc"), frame(PUT, 1, b"x"), frame(GET, 1), frame(GET, 2), frame(PUT, 2**64 - 1, b"z" * LIMIT), frame(GET, 2**64 - 1), frame(FORGET, 1), frame(FORGET, 1), frame(GET, 1)]
-    answers = [frame(DONE, 1), frame(REFUSED_ID, 1), frame(DONE, 1, b"abc"), frame(REFUSED_ID, 2), frame(DONE, 2**64 - 1), frame(DONE, 2**64 - 1, b"z" * LIMIT), frame(DONE, 1), frame(REFUSED_ID, 1), frame(REFUSED_ID, 1)]
+    last, longest = 2**64 - 1, b"z" * LIMIT
+    requests = [frame(PUT, 1, b"abc"), frame(PUT, 1, b"x"), frame(GET, 1), frame(GET, 2), frame(PUT, last, longest), frame(GET, last),
+                frame(FORGET, 1), frame(FORGET, 1), frame(GET, 1)]
+    answers = [frame(DONE, 1), frame(REFUSED_ID, 1), frame(DONE, 1, b"abc"), frame(REFUSED_ID, 2), frame(DONE, last), frame(DONE, last, longest),
+               frame(DONE, 1), frame(REFUSED_ID, 1), frame(REFUSED_ID, 1)]
     want_equal(talk(server, *requests), b"".join(answers), "a conversation")
     want_equal(server.end(), ENDS_WELL, "a server whose clients went properly")
 
@@ -103,7 +106,8 @@ def show_limits(program: str) -> None:
     server = Server(program)
     puts, answers = filled(8)
     requests = [frame(PUT, 5, b"x"), frame(GET, KEPT), frame(FORGET, 7), frame(PUT, KEPT + 1, b"late"), frame(GET, KEPT + 1), frame(PUT, 7, b"x")]
-    wanted = [frame(REFUSED_ID, 5), frame(DONE, KEPT, parcel(8, KEPT)), frame(DONE, 7), frame(DONE, KEPT + 1), frame(DONE, KEPT + 1, b"late"), frame(NO_ROOM, 7)]
+    wanted = [frame(REFUSED_ID, 5), frame(DONE, KEPT, parcel(8, KEPT)), frame(DONE, 7), frame(DONE, KEPT + 1), frame(DONE, KEPT + 1, b"late"),
+              frame(NO_ROOM, 7)]
     want_equal(talk(server, puts, *requests), answers + b"".join(wanted), "1025 parcels")
     want_equal(talk(server, frame(GET, 1)), frame(REFUSED_ID, 1), "a store that isn't empty for the next client")
     want_equal(server.end(), ENDS_WELL, "a server with 1025 parcels")
@@ -202,7 +206,8 @@ def show_broken_clients(program: str) -> None:
     """A client that breaks the protocol is told of in a line, and the next is served."""
     server = Server(program)
     told = b""
-    wrong = [frame(4, 1), frame(0, 1), frame(PUT, 1), frame(PUT, 1, length=LIMIT + 1), frame(PUT, 1, length=2**32 - 1), frame(GET, 1, b"x"), frame(FORGET, 1, b"x"), frame(PUT, 1, b"abc")[:-1], b"\x01", frame(GET, 1)[:-1]]
+    wrong = [frame(4, 1), frame(0, 1), frame(PUT, 1), frame(PUT, 1, length=LIMIT + 1), frame(PUT, 1, length=2**32 - 1), frame(GET, 1, b"x"),
+             frame(FORGET, 1, b"x"), frame(PUT, 1, b"abc")[:-1], b"\x01", frame(GET, 1)[:-1]]
     for k, bytes_sent in enumerate(wrong):
         want(unanswered(server, bytes_sent), f"{bytes_sent[:16]} is answered")
         told += b"client %d: protocol fault\n" % (2 * k + 1)
@@ -333,7 +338,10 @@ def show_broken_listener(program: str) -> None:
     want_equal(server.end(), (3, b"", b"net fault\n"), "a server whose listener broke")
 
 
-SHOWN = [show_frames, show_limits, show_many, show_memory, show_few_threads, show_notes, show_broken_clients, show_end, show_statuses, show_address, show_few_files, show_rest, show_late, show_broken_listener]
+SHOWN = [
+    show_frames, show_limits, show_many, show_memory, show_few_threads, show_notes, show_broken_clients, show_end, show_statuses, show_address,
+    show_few_files, show_rest, show_late, show_broken_listener,
+]
 
 
 if __name__ == "__main__":

@@ -14,7 +14,7 @@ import pathlib
 import subprocess
 import sys
 import time
-from typing import Any, Iterable, Iterator, Sequence, Tuple
+from typing import Any, Callable, Iterable, Iterator, Sequence, Tuple
 
 sys.path.insert(0, str(pathlib.Path(__file__).resolve().parents[1]))
 from lib.checks import Failed, report
@@ -144,7 +144,8 @@ def put_and_get(lengths: list[int]) -> None:
     talk = [("make 65536", "made 1")]
     for n in lengths:
         at, shown = 65536 - n if n % 2 else n % 4093, bytes_of(n).hex()
-        talk += [(f"put 1 {at} {shown}", "ok"), (f"get 1 {at} {n}", f"bytes {shown}"), (f"put 1 {65536 - n + 1} {shown}" if n > 1 else "get 1 65535 2", "outside")]
+        beyond = f"put 1 {65536 - n + 1} {shown}" if n > 1 else "get 1 65535 2"
+        talk += [(f"put 1 {at} {shown}", "ok"), (f"get 1 {at} {n}", f"bytes {shown}"), (beyond, "outside")]
     want_replies(talk, f"put and get of {lengths[0]} to {lengths[-1]} bytes")
 
 
@@ -222,8 +223,8 @@ def ten_thousand_commands() -> None:
     """After 10,000 commands the program has no more memory than after 100."""
     code = (EXIT * 64).hex()
     talk = [b"make 4096\n", f"ship 1000000 0 0 0 0 0 {code}\n".encode()]
-    turns = [b"put 1 0 " + b"ab" * 4096 + b"\n", b"get 1 0 4096\n", b"stack 1 0 4096\n", b"line 1 3\n", b"regs 1\n", b"leave 1\n", b"left 1\n", b"return 1\n", b"returned 1\n",
-             b"ship 1 0 0 0 0 0 ff\n", b"put 1 4095 abcd\n", b"free 2\n", b"bad " + b"x" * 4000 + b"\n"]
+    turns = [b"put 1 0 " + b"ab" * 4096 + b"\n", b"get 1 0 4096\n", b"stack 1 0 4096\n", b"line 1 3\n", b"regs 1\n", b"leave 1\n", b"left 1\n",
+             b"return 1\n", b"returned 1\n", b"ship 1 0 0 0 0 0 ff\n", b"put 1 4095 abcd\n", b"free 2\n", b"bad " + b"x" * 4000 + b"\n"]
     with Process(PROGRAM, "run", limits=of_data(PROGRAM, RUN_DATA)) as it:
         had = 0
         for n, line in enumerate(itertools.chain(talk, itertools.islice(itertools.cycle(turns), 10_000))):
@@ -238,7 +239,8 @@ def ten_thousand_commands() -> None:
 def thousands_of_moves() -> None:
     """1,000 objects of the greatest length are written, leave, return, leave again and are freed: what is freed is given back."""
     moves = ["leave {n}", "left {n}", "return {n}", "returned {n}"]
-    lines = [line.format(n=n) for n in range(1, 1001) for line in ("make 65536", "put {n} 65535 ab", *moves, "get {n} 65535 1", "put {n} 0 cd", *moves, "free {n}")]
+    commands = ("make 65536", "put {n} 65535 ab", *moves, "get {n} 65535 1", "put {n} 0 cd", *moves, "free {n}")
+    lines = [line.format(n=n) for n in range(1, 1001) for line in commands]
     moved = ["leaving {n}", "left {n}", "returning {n}", "home {n}"]
     wanted = [reply.format(n=n) for n in range(1, 1001) for reply in ("made {n}", "ok", *moved, "bytes ab", "ok", *moved, "freed {n}")]
     status, output, errors = call(["run"], "".join(f"{line}\n" for line in lines).encode(), RUN_DATA)
@@ -251,12 +253,18 @@ def small_memory() -> None:
     want(call(["dis"], EXIT * SLOTS, RUN_DATA), (0, b"exit\n" * SLOTS, b""), "dis under a limit of memory")
     want(call(["asm"], b"\n" * (TEXT_LIMIT - 5) + b"exit\n", ASM_DATA), (0, EXIT, b""), "asm under a limit of memory")
     lines = [f"ship 1 0 0 0 0 0 {(EXIT * SLOTS).hex()}\n"] * 48
-    want(call(["run"], "".join(lines).encode(), 8 * RUN_DATA), (0, b"".join(b"shipped %d\n" % m for m in range(1, 49)), b""), "48 machines under a limit of memory")
+    shipped = b"".join(b"shipped %d\n" % m for m in range(1, 49))
+    want(call(["run"], "".join(lines).encode(), 8 * RUN_DATA), (0, shipped, b""), "48 machines under a limit of memory")
 
 
 def split(numbers: list[int], parts: int) -> list[list[int]]:
     """The numbers, dealt out."""
     return [numbers[k::parts] for k in range(parts) if numbers[k::parts]]
+
+
+def dealt(sweep: Callable[[list[int]], None], numbers: list[int], parts: int) -> list[Task]:
+    """Calls of a sweep, each with its part of the numbers."""
+    return [(sweep, part) for part in split(numbers, parts)]
 
 
 def thinned(tasks: Iterable[tuple[str, list[Task]]]) -> Iterator[tuple[str, list[Task]]]:
@@ -272,11 +280,16 @@ def tasks() -> Iterator[tuple[str, list[Task]]]:
     counts = list(range(1, SLOTS + 1))
     powers = sorted({n for power in range(3, 20) for n in near(power)} | set(range(1000, TEXT_LIMIT, 9973)))
     lines = sorted(set(range(1, 1200)) | {n for power in range(10, 21) for n in near(power) if n <= TEXT_LIMIT})
-    yield "check", [(check_counts, part) for part in split(counts, 16)] + [(check_refusals, part) for part in split(list(range(SLOTS)), 16)]
-    yield "ship", [(ship_counts, counts[k : k + 48]) for k in range(0, SLOTS, 48)] + [(ship_bytes, part) for part in split([n for n in range(1, 8 * SLOTS + 16) if n % 8 or n > 8 * SLOTS], 256)]
-    yield "asm", [(asm_lines, part) for part in split(lines, 8)] + [(asm_counts, part) for part in split(counts[::3] + counts[-8:], 8)] + [(asm_texts, part) for part in split([n for n in powers if 16 <= n <= TEXT_LIMIT], 8)]
-    yield "labels", [(asm_labels, part) for part in split(list(range(1, 700)) + [n for power in range(10, 19) for n in near(power)], 8)] + [(asm_offsets, [power]) for power in range(32)]
-    yield "commands", [(put_and_get, part) for part in split(counts, 8)] + [(stack_reads, part) for part in split(counts, 4)] + [(makes, first, 64) for first in range(1, 65)] + [(high_numbers, part) for part in split(list(range(1, 1000, 37)) + list(range(1000, 1025)), 2)] + [(every_line,), (all_stacks,)]
+    refused = [n for n in range(1, 8 * SLOTS + 16) if n % 8 or n > 8 * SLOTS]
+    texts = [n for n in powers if 16 <= n <= TEXT_LIMIT]
+    labels = list(range(1, 700)) + [n for power in range(10, 19) for n in near(power)]
+    objects = list(range(1, 1000, 37)) + list(range(1000, 1025))
+    made = [(makes, first, 64) for first in range(1, 65)]
+    yield "check", dealt(check_counts, counts, 16) + dealt(check_refusals, list(range(SLOTS)), 16)
+    yield "ship", [(ship_counts, counts[k : k + 48]) for k in range(0, SLOTS, 48)] + dealt(ship_bytes, refused, 256)
+    yield "asm", dealt(asm_lines, lines, 8) + dealt(asm_counts, counts[::3] + counts[-8:], 8) + dealt(asm_texts, texts, 8)
+    yield "labels", dealt(asm_labels, labels, 8) + [(asm_offsets, [power]) for power in range(32)]
+    yield "commands", dealt(put_and_get, counts, 8) + dealt(stack_reads, counts, 4) + made + dealt(high_numbers, objects, 2) + [(every_line,), (all_stacks,)]
     yield "budgets", [(budgets, [power]) for power in range(27)]
     yield "reads", [(reads, counts), (reads, counts[::-1])]
     yield "time", [(long_line,), (many_labels,), (ten_thousand_commands,), (thousands_of_moves,), (small_memory,)]

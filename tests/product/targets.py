@@ -39,9 +39,11 @@ def show_missing(rt: str) -> None:
     """Without the toolchain a target that builds says in a line what is missing."""
     builds = {target: " (No such file or directory)" for target in ("try", "run", "program", "lib")}
     for target, why in {**builds, "edits NAME=scopes": "", "test": "", "prove": ""}.items():
-        done = subprocess.run(["make", "--no-print-directory", "RT=/none/rt", *target.split()], cwd=ROOT, stdin=subprocess.DEVNULL, capture_output=True, text=True, timeout=60)
+        command = ["make", "--no-print-directory", "RT=/none/rt", *target.split()]
+        done = subprocess.run(command, cwd=ROOT, stdin=subprocess.DEVNULL, capture_output=True, text=True, timeout=60)
         lines = done.stderr.splitlines()
-        want(done.returncode == 2 and len(lines) == 2 and f"/none/rt can't be run{why}: it belongs to the Rattle toolchain" in lines[0], f"make {target} without rt says {done.stderr}")
+        is_told = len(lines) == 2 and f"/none/rt can't be run{why}: it belongs to the Rattle toolchain" in lines[0]
+        want(done.returncode == 2 and is_told, f"make {target} without rt says {done.stderr}")
 
 
 def show_run(rt: str) -> None:

@@ -109,8 +109,9 @@ def show_slow_server(program: str) -> None:
         told.hear("object 1 couldn't leave: the store's device failed")
         client.end()
         wanted = [
-            f"connected to the far server {far}", f"listening on 127.0.0.1:{service.port}", "client 1 came", "the stream of the far server broke: no answer in time",
-            "object 1 couldn't leave: the store's device failed", "client 1 went", "the service ends: 1 object of 8 bytes here, 0 objects of 0 bytes far",
+            f"connected to the far server {far}", f"listening on 127.0.0.1:{service.port}", "client 1 came",
+            "the stream of the far server broke: no answer in time", "object 1 couldn't leave: the store's device failed", "client 1 went",
+            "the service ends: 1 object of 8 bytes here, 0 objects of 0 bytes far",
         ]
         want_equal(noted(told.end()), (wanted, []), "the notes of a service over a silent server")
 

@@ -52,7 +52,10 @@ COMMANDS: dict[str, Sequence[Callable[[str], Any]]] = {
     **dict.fromkeys(("watch", "unwatch"), [MACHINE, WORD, LENGTH]), "stack": [MACHINE, SLOT, LENGTH],
 }
 # Each move: the place that it begins in and the one that it ends in, and its reply.
-MOVES = {"leave": ("here", "leaving", "leaving"), "left": ("leaving", "far", "left"), "return": ("far", "returning", "returning"), "returned": ("returning", "here", "home")}
+MOVES = {
+    "leave": ("here", "leaving", "leaving"), "left": ("leaving", "far", "left"),
+    "return": ("far", "returning", "returning"), "returned": ("returning", "here", "home"),
+}
 
 
 def grants_of(tokens: Sequence[str]) -> dict[int, bool]:
