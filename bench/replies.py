@@ -15,6 +15,7 @@ import sys
 import time
 from multiprocessing.connection import Connection
 from pathlib import Path
+from typing import Iterator
 
 sys.path.append(str(Path(__file__).resolve().parents[1] / "tests"))
 from lib.programs import Listener, processor_time
@@ -57,7 +58,7 @@ def converse(port: int, number: int, report: Connection) -> None:
 
 
 @contextlib.contextmanager
-def clients(port: int, connections: int):
+def clients(port: int, connections: int) -> Iterator[list[Connection]]:
     """A process for each connection, all connected."""
     made = []
     for number in range(1, connections + 1):

@@ -8,6 +8,8 @@ answers this command alone: the time that passed. Runs are interleaved, and of e
 Then, of the service alone: how long `regs` of a running machine takes, and a program from `ship` to its `exit`, for 1, 4 and 16
 workers; and how many of 100 `get` are answered `busy`, for one and for eight clients, on an object that 1, 4 and 16 machines add to.
 """
+from __future__ import annotations
+
 import contextlib
 import pathlib
 import socket
@@ -15,6 +17,7 @@ import statistics
 import sys
 import threading
 import time
+from typing import Iterator
 
 sys.path.append(str(pathlib.Path(__file__).resolve().parents[1] / "tests"))
 from lib.programs import Listener
@@ -42,7 +45,7 @@ CLIENTS = 8
 
 
 @contextlib.contextmanager
-def started(command, setup=""):
+def started(command: list[str], setup: str = "") -> Iterator[tuple[Listener, socket.socket]]:
     """A server after this input, and a client of it; the client ends, and then the server."""
     with Listener(*command, given=setup) as server:
         if not server.port:
@@ -52,7 +55,7 @@ def started(command, setup=""):
         server.end()
 
 
-def connected(server):
+def connected(server: Listener) -> socket.socket:
     """A client of a server. Without a time-out it waits in the call that receives, and in no other before it."""
     client = server.connect()
     client.settimeout(None)
@@ -60,7 +63,7 @@ def connected(server):
     return client
 
 
-def ask(client, line):
+def ask(client: socket.socket, line: bytes) -> bytes:
     client.sendall(line)
     reply = client.recv(65536)
     while not reply.endswith(b"\n"):
@@ -68,7 +71,7 @@ def ask(client, line):
     return reply
 
 
-def under_a_lock(program):
+def under_a_lock(program: str) -> float:
     """Nanoseconds of an instruction that a worker does."""
     looks = []
     with started([program, "serve", "--workers", "1"], f"ship {FUEL} 0 0 0 0 0 {ADDITIONS}\n") as (server, client):
@@ -78,13 +81,13 @@ def under_a_lock(program):
     return (looks[1][1] - looks[0][1]) / (looks[0][0] - looks[1][0]) * 1e9
 
 
-def under_a_mutex(program):
+def under_a_mutex(program: str) -> float:
     """The same in C: a long run without a short one."""
     short, long = (processor_time(program, count, ADDITIONS) for count in (SHORT, LONG))
     return (long - short) / (LONG - SHORT) * 1e9
 
 
-def round_trip(command, setup=""):
+def round_trip(command: list[str], setup: str = "") -> float:
     """Microseconds until a line is answered."""
     with started(command, setup) as (_, client):
         if ask(client, LINE) != b"bytes 0000000000000000\n":
@@ -95,14 +98,14 @@ def round_trip(command, setup=""):
         return (time.perf_counter() - start) / TRIPS * 1e6
 
 
-def timed(client, line):
+def timed(client: socket.socket, line: bytes) -> float:
     """Microseconds until a line is answered."""
     start = time.perf_counter()
     ask(client, line)
     return (time.perf_counter() - start) * 1e6
 
 
-def shipped(client):
+def shipped(client: socket.socket) -> float:
     """Microseconds until a program that is shipped is seen to have ended."""
     start = time.perf_counter()
     machine = ask(client, f"ship 10 0 0 0 0 0 {EXIT}\n".encode()).split()[1]
@@ -111,30 +114,30 @@ def shipped(client):
     return (time.perf_counter() - start) * 1e6
 
 
-def latencies(program, workers):
+def latencies(program: str, workers: int) -> tuple[list[float], list[float]]:
     """What `regs` takes of a machine that runs, as each worker runs one, and what a program takes from `ship` to `exit`."""
-    with started([program, "serve", "--workers", workers], f"ship {FUEL} 0 0 0 0 0 {ADDITIONS}\n" * workers) as (_, client):
+    with started([program, "serve", "--workers", str(workers)], f"ship {FUEL} 0 0 0 0 0 {ADDITIONS}\n" * workers) as (_, client):
         looks = [timed(client, b"regs 1\n") for _ in range(LOOKS)]
         return looks, [shipped(client) for _ in range(SHIPS)]
 
 
-def told(spent):
+def told(spent: list[float]) -> str:
     """The median, and the 99th percentile."""
     return f"median {statistics.median(spent):8.1f} us, 99th percentile {statistics.quantiles(spent, n=100)[98]:9.1f} us"
 
 
-def count_busy(client, found):
+def count_busy(client: socket.socket, found: list[bool]) -> None:
     """How many of the `get` of a client are answered `busy`, for a while."""
     until = time.perf_counter() + SECONDS
     while time.perf_counter() < until:
         found.append(ask(client, LINE).startswith(b"busy"))
 
 
-def busy(program, machines, clients):
+def busy(program: str, machines: int, clients: int) -> float:
     """How many of 100 `get` are answered `busy`."""
     setup = "make 8\n" + f"ship {FUEL} {1 << 32} 1 0 0 0 {ADDS}\n" * machines
-    found = []
-    with started([program, "serve", "--workers", SHARED_WORKERS, "--connections", clients], setup) as (server, client), contextlib.ExitStack() as others:
+    found: list[bool] = []
+    with started([program, "serve", "--workers", str(SHARED_WORKERS), "--connections", str(clients)], setup) as (server, client), contextlib.ExitStack() as others:
         all_clients = [client] + [others.enter_context(connected(server)) for _ in range(clients - 1)]
         threads = [threading.Thread(target=count_busy, args=(one, found)) for one in all_clients]
         for thread in threads:
@@ -144,7 +147,7 @@ def busy(program, machines, clients):
     return 100 * sum(found) / len(found)
 
 
-def main():
+def main() -> None:
     program, c_worker, c_replies = words("service.py PROGRAM C_WORKER C_REPLIES", 3, 3)
     served, c_served = [program, "serve", "--workers", "0"], [c_replies, "1"]
     rounds = [(under_a_lock(program), under_a_mutex(c_worker), round_trip(served, "make 64\n"), round_trip(c_served)) for _ in range(RUNS)]
