@@ -16,8 +16,12 @@ LIST = ROOT / "crates/isa_table/src/row_list.rt"
 
 def table(number_of: Callable[[str], int]) -> str:
     """A table of 256 numbers, sixteen a line."""
-    starts = range(0, 256, 16)
-    return "".join("    " + "".join(f"{number_of(f'{code:02x}')}, " for code in range(start, start + 16)) + f"// {start:02x} to {start + 15:02x}\n" for start in starts)
+
+    def row(start: int) -> str:
+        numbers = "".join(f"{number_of(f'{code:02x}')}, " for code in range(start, start + 16))
+        return f"    {numbers}// {start:02x} to {start + 15:02x}\n"
+
+    return "".join(map(row, range(0, 256, 16)))
 
 
 def main() -> None:
