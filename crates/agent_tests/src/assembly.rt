@@ -130,7 +130,9 @@ const EXPLAINED: &[(&[u8], &[u8])] = &[
     ),
     (
         b"lddw r1, -9223372036854775809",
-        b"line 1: Range\ncolumn 11: '9223372036854775809' in 'lddw r1, -9223372036854775809', where a number from -9223372036854775808 to 18446744073709551615 fits\n",
+        b"line 1: Range\n\
+            column 11: '9223372036854775809' in 'lddw r1, -9223372036854775809', \
+            where a number from -9223372036854775808 to 18446744073709551615 fits\n",
     ),
     (
         b"jeq r1, 2, r3\n",

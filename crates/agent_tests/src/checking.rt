@@ -196,7 +196,9 @@ const FIELDS: &[(&[u8], &[u8], &[u8])] = &[
     (
         b"\xc3\x21\x00\x00\x02\x00\x00\x00",
         b"Field",
-        b"c321000002000000: imm is 2, and has to be 0 in aadd32 or 1 in afadd32 or 64 in aor32 or 65 in afor32 or 80 in aand32 or 81 in afand32 or 160 in axor32 or 161 in afxor32 or 225 in axchg32 or 241 in acmpxchg32; ",
+        b"c321000002000000: imm is 2, and has to be 0 in aadd32 or 1 in afadd32 \
+            or 64 in aor32 or 65 in afor32 or 80 in aand32 or 81 in afand32 \
+            or 160 in axor32 or 161 in afxor32 or 225 in axchg32 or 241 in acmpxchg32; ",
     ),
     // The wide encoding.
     (

@@ -133,8 +133,9 @@ pub extern "C" fn bpfagent_get(
     offset: u32,
     bytes: &mut [u8],
 ) -> u32
-    ensures told { (given : Option Reply) × Commanded agent.old (Event.Object object (ObjectCommand.Get offset (min (length bytes.old) (object_bytes + 1)))) given
-        agent.new × (result ≡ code_of given) × (bytes.new ≡ bytes_of given bytes.old) }
+    ensures told { (given : Option Reply) × Commanded agent.old
+        (Event.Object object (ObjectCommand.Get offset (min (length bytes.old) (object_bytes + 1)))) given agent.new
+        × (result ≡ code_of given) × (bytes.new ≡ bytes_of given bytes.old) }
     ensures memory { result ≢ 10 }
 {
     let count = bytes.len().min(TOO_MANY);

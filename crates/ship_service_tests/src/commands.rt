@@ -31,7 +31,16 @@ const COUNT: Setting<'static> = Setting {
 
 const DEBUGGED: Lines<'static> = (
     b"break 1 1\nstep 1\nstep 1\none 1\nregs 1\nresume 1\nresume 1\nstep 1\nout 1\n",
-    b"ok\nran 1 1\npaused 1 1\nran 1 2\nregs 1 2 8 paused 0000000000000008 0000000000000000 0000000000000000 0000000000000000 0000000000000000 0000000000000000 0000000000000000 0000000000000000 0000000000000000 0000000000000000 ffffffff00001000\nok\nnotpaused\nstopped 1 exit 0000000000000008\nout 1\n",
+    b"ok\n\
+        ran 1 1\n\
+        paused 1 1\n\
+        ran 1 2\n\
+        regs 1 2 8 paused 0000000000000008 0000000000000000 0000000000000000 0000000000000000 0000000000000000 \
+        0000000000000000 0000000000000000 0000000000000000 0000000000000000 0000000000000000 ffffffff00001000\n\
+        ok\n\
+        notpaused\n\
+        stopped 1 exit 0000000000000008\n\
+        out 1\n",
 );
 
 const DEBUGGED_THEN: Lines<'static> = (

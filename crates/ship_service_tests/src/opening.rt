@@ -293,7 +293,14 @@ fn an_object_that_came_home_is_here(rt: HostRuntime) -> Result<(), Fail> {
 
 /// mov r0, 1 · exit
 const MACHINES: Lines<'static> = (
-    b"ship 10 0 0 0 0 0 b7000000010000009500000000000000\nbreak 1 1\nstep 1\nstep 1\nship 10 0 0 0 0 0 9500000000000000\nstep 2\nship 10 0 0 0 0 0 b7000000010000009500000000000000\nstep 3\n",
+    b"ship 10 0 0 0 0 0 b7000000010000009500000000000000\n\
+        break 1 1\n\
+        step 1\n\
+        step 1\n\
+        ship 10 0 0 0 0 0 9500000000000000\n\
+        step 2\n\
+        ship 10 0 0 0 0 0 b7000000010000009500000000000000\n\
+        step 3\n",
     b"shipped 1\nok\nran 1 1\npaused 1 1\nshipped 2\nstopped 2 exit 0000000000000000\nshipped 3\nran 3 1\n",
 );
 
@@ -302,7 +309,14 @@ const STAYING: &Script = &Script {
     turns: 0,
     connections: &[(
         b"regs 3\nstep 1\nresume 1\nstep 1\nstep 2\nstep 3\nship 1 0 0 0 0 0 9500000000000000\n",
-        b"regs 3 1 9 run 0000000000000001 0000000000000000 0000000000000000 0000000000000000 0000000000000000 0000000000000000 0000000000000000 0000000000000000 0000000000000000 0000000000000000 ffffffff00001000\npaused 1 1\nok\nstopped 1 exit 0000000000000001\nstopped 2 exit 0000000000000000\nstopped 3 exit 0000000000000001\nshipped 4\n",
+        b"regs 3 1 9 run 0000000000000001 0000000000000000 0000000000000000 0000000000000000 0000000000000000 \
+            0000000000000000 0000000000000000 0000000000000000 0000000000000000 0000000000000000 ffffffff00001000\n\
+            paused 1 1\n\
+            ok\n\
+            stopped 1 exit 0000000000000001\n\
+            stopped 2 exit 0000000000000000\n\
+            stopped 3 exit 0000000000000001\n\
+            shipped 4\n",
     )],
 };
 
