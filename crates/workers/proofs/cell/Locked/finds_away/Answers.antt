@@ -14,4 +14,4 @@ pub returns-clause-away : goal.returns-clause-away
 returns-clause-away g c =
     let R = table_returns c.args.shared.now in let n : ℕ = c.args.object in
     let seen = subst (λ (o : List (List ℕ)). Witness R o c.self.inside.seat.seat.me.0 n c.look.result) c.requires.1 c.look.ensures.rule in
-    Looked c.look.result (subst (λ (s : CellState). Witness R g.K.TableName.opening s.seat.view n c.look.result) c.self.view_is seen) refl
+    Looked c.look.result (subst (λ (s : CellState). Witness R g.K.TableName.opening s.seat.view n c.look.result) c.self.view_is seen) c.is_away.ensures
