@@ -1,6 +1,7 @@
 /* A service in plain C that answers `get`, for bench/service.py and bench/replies.py: replies CONNECTIONS. It listens on 127.0.0.1,
-   says on which port, and answers each line `get NUMBER OFFSET LENGTH` of so many clients, each on a thread of its own, by one write.
-   There is an object of 64 bytes for each; threads share them, so a reply takes the object's turn. */
+   says on which port, and answers each line of so many clients, each on a thread of its own, by one write. It reads the grammar of
+   docs/PROTOCOL.md: it finds the command among all, and numbers are decimal or hex. Other commands than `get` are answered
+   `unserved`. There is an object of 64 bytes for each client; threads share them, so a reply takes the object's turn. */
 #include "flat_shared.h"
 #include <arpa/inet.h>
 #include <netinet/tcp.h>
@@ -27,14 +28,46 @@ struct connection {
     char line[LINE_LIMIT + PIECE], reply[2 * RANGE_LIMIT + 16];
 };
 
-/* A decimal number up to a limit, with a blank before it; it is put past it. Says whether there is one. */
-static int number(const char **at, const char *end, uint64_t limit, uint64_t *found)
+static const char *const COMMANDS[] = {
+    "make", "free", "put", "get", "ship", "ship2", "leave", "left", "return", "returned", "step", "one", "regs", "out", "stack", "line",
+    "break", "unbreak", "watch", "unwatch", "resume",
+};
+#define COMMAND_COUNT (sizeof COMMANDS / sizeof *COMMANDS)
+#define GET 3
+
+/* Which command this is; COMMAND_COUNT if it is none. */
+static size_t command(const char *name, size_t length)
+{
+    size_t k = 0;
+    while (k < COMMAND_COUNT && (strlen(COMMANDS[k]) != length || memcmp(COMMANDS[k], name, length) != 0)) k++;
+    return k;
+}
+
+/* The value of a digit; 16 where it is none. */
+static unsigned digit(char c)
+{
+    if (c >= '0' && c <= '9') return (unsigned)(c - '0');
+    c |= 0x20;
+    return c >= 'a' && c <= 'f' ? (unsigned)(c - 'a' + 10) : 16;
+}
+
+/* The next number, with a blank before it, which has to be within these limits; `at` is put past it. Says whether there is one. */
+static int number(const char **at, const char *end, uint64_t least, uint64_t most, uint64_t *found)
 {
     const char *p = *at;
+    if (p == end || *p++ != ' ') return 0;
+    unsigned base = 10, next;
+    if (end - p > 1 && p[0] == '0' && p[1] == 'x') {
+        base = 16;
+        p += 2;
+    } else if (end - p > 1 && p[0] == '0' && p[1] != ' ')
+        return 0;
+    const char *first = p;
     uint64_t value = 0;
-    if (p == end || *p++ != ' ' || p == end || *p < '0' || *p > '9') return 0;
-    for (; p < end && *p >= '0' && *p <= '9'; p++)
-        if ((value = 10 * value + (uint64_t)(*p - '0')) > limit) return 0;
+    for (; p < end && *p != ' '; p++) {
+        if ((next = digit(*p)) >= base || __builtin_mul_overflow(value, base, &value) || __builtin_add_overflow(value, next, &value)) return 0;
+    }
+    if (p == first || p - first > 20 || value < least || value > most) return 0;
     *at = p;
     *found = value;
     return 1;
@@ -72,9 +105,12 @@ static void close_scopes(struct flat_machine *actor)
 static size_t answer(struct connection *c, const char *line, const char *end)
 {
     uint64_t object, offset, length;
-    const char *at = line + 3;
-    if (end - line < 3 || memcmp(line, "get", 3) != 0 || !number(&at, end, FLAT_TABLE - 1, &object) || !number(&at, end, 65535, &offset)
-        || !number(&at, end, RANGE_LIMIT, &length) || at != end || object == 0 || length == 0)
+    const char *at = memchr(line, ' ', (size_t)(end - line));
+    if (!at) at = end;
+    size_t which = command(line, (size_t)(at - line));
+    if (which != GET) return put(c->reply, which == COMMAND_COUNT ? "bad\n" : "unserved\n");
+    if (!number(&at, end, 1, FLAT_TABLE - 1, &object) || !number(&at, end, 0, 65535, &offset)
+        || !number(&at, end, 1, RANGE_LIMIT, &length) || at != end)
         return put(c->reply, "bad\n");
     struct reached found = reach(&c->actor, object << 32 | offset, length);
     size_t told;
