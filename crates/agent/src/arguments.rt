@@ -89,7 +89,7 @@ fn make_option<'a>(alloc: Global, name: &'a str, value: &'a str) -> Arg<'a>
 }
 
 /// The greatest budget: 64 MiB.
-const BUDGET_LIMIT: u32 = 67_108_864;
+const BUDGET_LIMIT: i64 = 67_108_864;
 
 /// `--budget N`: the most bytes that the objects that aren't far may have.
 fn make_budget<'a>(alloc: Global) -> Arg<'a>
