@@ -1,12 +1,12 @@
 //! Accesses of actors.
-ghost use Rattle.std.specs.Prelude.{◌≡◌, ℕ, ◌^◌, ◌<◌, ◌≤◌, ◌+◌, max, true, List, [], length, None, Some, MatchBool, IfSome, IfOk, OnErr, IsTrue, ◌↔◌};
+ghost use Rattle.std.specs.Prelude.{◌≡◌, ℕ, ◌^◌, ◌<◌, ◌≤◌, ◌+◌, max, true, List, [], length, None, Some, MatchBool, IfSome, IfOk, OnErr, IsTrue, ◌↔◌, false};
 ghost use Rattle.memory.specs.Access.{answer, after, part, replaced};
 ghost use Rattle.memory.specs.Access.{IsInside};
 ghost use Rattle.memory.specs.Deeds.{EndsInside, given_by, left_by};
 ghost use Rattle.memory.specs.declared.deeds.Deed.TheVariants.{Accesses, Reads, Writes};
 ghost use Rattle.memory.specs.declared.deeds.Given.TheVariants.{Number, Bytes, Nothing};
 ghost use Rattle.memory.specs.Objects.{bytes_of};
-ghost use Rattle.scopes.specs.Windows.{IsWindow, noted};
+ghost use Rattle.scopes.specs.Windows.{IsWindow, holds, noted};
 ghost use Rattle.shared_objects.specs.Beginnings.{Begins};
 ghost use Rattle.shared_objects.specs.History.{top, entry};
 ghost use Rattle.shared_objects.specs.Kinds.{turn, marked, looking, holding, recorded, worn_out, Witness};
@@ -59,7 +59,9 @@ pub(crate) enum Begun {
 }
 
 impl SharedTable {
-    /// Opens the object's scope, if it is here, and closes that of the object that is pushed out of the window.
+    /// Opens the object's scope, if it is here, and closes that of the object that is pushed out of the window. Mostly it is open
+    /// already, and then there is no call.
+    #[inline(always)]
     fn note(&self, seat: &mut Seat, window: &mut Window, number: u32) -> bool
         requires seat { seat.old.table_id ≡ self.now.table.shared.table_id }
         requires rests { Rests seat.old.me }
@@ -74,17 +76,35 @@ impl SharedTable {
         if window.holds(number) {
             return true;
         }
+        self.note_new(seat, window, number)
+    }
+
+    /// The same of an object whose scope isn't open.
+    #[cold]
+    #[inline(never)]
+    fn note_new(&self, seat: &mut Seat, window: &mut Window, number: u32) -> bool
+        requires seat { seat.old.table_id ≡ self.now.table.shared.table_id }
+        requires rests { Rests seat.old.me }
+        requires object { number < length self.now.lengths.items }
+        requires window { (seat.old.me.0.scopes ≡ window.old) × AllBelow (length self.now.lengths.items) window.old }
+        requires new { holds number window.old ≡ false }
+        ensures id { seat.new.table_id ≡ seat.old.table_id }
+        ensures me { MatchBool result
+            ((seat.new.me ≡ (looking number seat.old.me.0, [])) × (window.new ≡ noted number window.old))
+            ((seat.new.me ≡ (marked (Away number) seat.old.me.0, [])) × (window.new ≡ window.old)) }
+    {
         if !self.open_scope(seat, number as usize) {
             self.leave_pass(seat, number as usize);
             return false;
         }
-        if let Some(oldest) = window.note(number) {
+        if let Some(oldest) = window.note_new(number) {
             self.close_scope(seat, oldest as usize);
         }
         true
     }
 
     /// Notes the object and takes its turn. Where that was had and the stamps have run out, the turn is given up.
+    #[inline(always)]
     fn begin(&self, seat: &mut Seat, window: &mut Window, last: u64, number: u32) -> Begun
         requires seat { seat.old.table_id ≡ self.now.table.shared.table_id }
         requires rests { Rests seat.old.me }
