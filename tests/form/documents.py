@@ -15,7 +15,7 @@ from lib.sources import ROOT, crates_below, crates, pages
 
 PICTURE = "docs/ARCHITECTURE.md"
 DRAWN = re.compile(r"(?ms)(^```mermaid\n).*?(?=^```)")
-FOR_TESTS = re.compile(r"_tests$|^test_devices$|^script_runner$|^bench_\w+$|^failing_allocations$")
+FOR_TESTS = re.compile(r"_tests$|^test_(?:devices|gates)$|^script_runner$|^bench_\w+$|^failing_allocations$")
 # A command of a page: of make, with its folder and its target, or of a script in Python, with its options.
 MAKE = re.compile(r"(?:`|^|&& )make (?:-C ([\w/]+) ?)?([a-z-]*)(?=`| +#|$)", re.M)
 SCRIPT = re.compile(r"python3 (?:-B )?([\w/]+\.py)((?: --[a-z]+(?=[ `\n]))*)")

@@ -10,32 +10,14 @@ use shared_objects::{ActorSeat, MoverSeat, Shared};
 use std::alloc::{AllocError, Global};
 use std::marker::Brand;
 use std::sync::Wait;
-use std::sync::atomic::{AtomicU64, Ordering};
-use workers::{Gate, Pool, TURN_LIMIT, TableName, work};
+use test_gates::UntoldRounds;
+use workers::{Pool, TURN_LIMIT, TableName, work};
 
 /// The address of the object.
 const OBJECT: u64 = 0x0000_0001_0000_0000;
 
 /// How many bytes it has.
 const LENGTH: usize = 64;
-
-/// Lets a worker have so many turns.
-#[derive(Drop)]
-struct Turns {
-    left: AtomicU64,
-}
-
-impl Gate for Turns {
-    const IS_TOLD: bool = false;
-
-    fn before(&self, _worker: usize, _machine: usize) {}
-
-    fn after(&self, _worker: usize, _machine: usize) {}
-
-    fn go_on(&self) -> bool {
-        self.left.fetch_sub(1, Ordering::SeqCst) > 0
-    }
-}
 
 /// The object, of zeros.
 fn bodies(alloc: Global) -> Result<Vec<Vec<u8>>, AllocError>
@@ -70,10 +52,7 @@ fn run<F: FarStore, K: TableName, R: Wait>(
     requires room { length machines.items ≤ length seats.items }
 {
     let pool: Pool<F, K> = Pool::new(rt, alloc, shared, seats, machines)?;
-    let gate = Turns {
-        left: AtomicU64::new(turns),
-    };
-    work(rt, &gate, &pool, 0);
+    work(rt, &UntoldRounds::new(turns), &pool, 0);
     Ok(())
 }
 

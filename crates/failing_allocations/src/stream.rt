@@ -2,9 +2,9 @@
 use far_store::{FarStore, StoreFault};
 use far_stream::{StreamFault, StreamParcel, StreamStore, serve_store};
 use std::alloc::{AllocError, Global};
-use std::io;
-use std::net::{Ipv4Addr, Net, TcpListener, TcpStream};
+use std::net::{Net, TcpListener, TcpStream};
 use std::thread::{self, Threads};
+use test_devices::ends;
 
 /// How many bytes each object has. The longer ones are dropped in several pieces where there is no memory for them, and the
 /// fifth is the one for which the server's list grows.
@@ -122,16 +122,6 @@ fn there_and_back(
         store.forget(parcel);
     }
     "all came home"
-}
-
-/// Both ends of a stream.
-fn ends<R: Net<Listener = TcpListener, Stream = TcpStream>>(
-    rt: &R,
-) -> io::Result<(TcpStream, TcpStream)> {
-    let listener = TcpListener::bind(rt, (Ipv4Addr::LOCALHOST, 0))?;
-    let near = TcpStream::connect(rt, listener.local_addr()?)?;
-    let (far, _) = listener.accept()?;
-    Ok((near, far))
 }
 
 /// Serves one client.

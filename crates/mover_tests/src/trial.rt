@@ -14,10 +14,10 @@ use shared_objects::{ActorSeat, MoverSeat, Phase, Shared};
 use std::alloc::{AllocError, Global};
 use std::marker::Brand;
 use std::sync::Wait;
-use std::sync::atomic::{AtomicU64, Ordering};
 use std::test::Fail;
 use test_devices::{number_kept, objects};
-use workers::{Direction, Gate, Looked, Moved, Mover, Pool, TableName, mover};
+use test_gates::Rounds;
+use workers::{Direction, Looked, Moved, Mover, Pool, TableName, mover};
 
 /// What is done.
 #[derive(Clone, Copy, Drop)]
@@ -78,22 +78,6 @@ pub const LEFT: Left = Left {
     faults: 0,
 };
 
-/// Lets a mover have so many rounds.
-#[derive(Drop)]
-struct Rounds {
-    left: AtomicU64,
-}
-
-impl Gate for Rounds {
-    fn before(&self, _worker: usize, _machine: usize) {}
-
-    fn after(&self, _worker: usize, _machine: usize) {}
-
-    fn go_on(&self) -> bool {
-        self.left.fetch_sub(1, Ordering::SeqCst) > 0
-    }
-}
-
 /// A step of the machine of a number.
 fn step<F: FarStore, K: TableName, R: Wait>(
     rt: &R,
@@ -112,10 +96,7 @@ fn serve<F: FarStore, K: TableName, R: Wait>(
     rounds: u64,
     sweep: bool,
 ) -> Answer {
-    let gate = Rounds {
-        left: AtomicU64::new(rounds),
-    };
-    mover(rt, &gate, pool, served, sweep);
+    mover(rt, &Rounds::new(rounds), pool, served, sweep);
     Answer::Served
 }
 

@@ -19,9 +19,10 @@ use std::alloc::{AllocError, Global};
 use std::marker::Brand;
 use std::process::Abort;
 use std::sync::Wait;
-use std::sync::atomic::{AtomicBool, AtomicU64, Ordering};
+use std::sync::atomic::{AtomicBool, Ordering};
 use std::test::Fail;
-use workers::{Direction, Gate, Moved, TableName, mover};
+use test_gates::Rounds;
+use workers::{Direction, Moved, TableName, mover};
 
 /// What stands for bytes in a [`Lying`] store.
 #[derive(Drop)]
@@ -101,22 +102,6 @@ impl FarStore for Lying {
     }
 }
 
-/// Lets the mover have so many rounds.
-#[derive(Drop)]
-struct Rounds {
-    left: AtomicU64,
-}
-
-impl Gate for Rounds {
-    fn before(&self, _worker: usize, _machine: usize) {}
-
-    fn after(&self, _worker: usize, _machine: usize) {}
-
-    fn go_on(&self) -> bool {
-        self.left.fetch_sub(1, Ordering::SeqCst) > 0
-    }
-}
-
 /// What is done with a service without workers, and what comes of it.
 #[derive(Clone, Copy, Drop)]
 enum Act {
@@ -130,9 +115,7 @@ enum Act {
 
 /// The mover serves one request.
 fn serves<F: FarStore, K: TableName, R: Wait>(rt: &R, service: &mut Service<F, K>) {
-    let gate = Rounds {
-        left: AtomicU64::new(1),
-    };
+    let gate = Rounds::new(1);
     mover(rt, &gate, service.agent.pool(), &mut service.served, false);
 }
 

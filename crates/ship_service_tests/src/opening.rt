@@ -12,65 +12,14 @@ use std::fmt::Display;
 use std::marker::Brand;
 use std::process::Abort;
 use std::sync::Wait;
-use std::sync::atomic::{AtomicBool, AtomicU64, Ordering};
 use std::test::Fail;
 use test_devices::{Narrow, Pieces};
-use workers::{Direction, Gate, Moved, Mover, TableName, work};
+use test_gates::Turns;
+use workers::{Direction, Moved, Mover, TableName, work};
 use world::World;
 
 /// The most bytes of the objects that aren't far.
 const BUDGET: u32 = 1 << 26;
-
-/// Lets one worker take so many numbers out of the queue, but doesn't let it sleep, and counts the instructions of machines 1, 2, 3
-/// and of others.
-#[derive(Drop)]
-struct Turns {
-    left: AtomicU64,
-    /// Whether the worker came to an instruction since it asked last.
-    busy: AtomicBool,
-    done: [AtomicU64; 4],
-}
-
-impl Turns {
-    fn new(count: u64) -> Self {
-        Turns {
-            left: AtomicU64::new(count),
-            busy: AtomicBool::new(true),
-            done: [
-                AtomicU64::new(0),
-                AtomicU64::new(0),
-                AtomicU64::new(0),
-                AtomicU64::new(0),
-            ],
-        }
-    }
-
-    /// The instructions of machines 1, 2, 3 and of others.
-    fn counts(&self) -> [u64; 4] {
-        [
-            self.done[0].load(Ordering::SeqCst),
-            self.done[1].load(Ordering::SeqCst),
-            self.done[2].load(Ordering::SeqCst),
-            self.done[3].load(Ordering::SeqCst),
-        ]
-    }
-}
-
-impl Gate for Turns {
-    fn before(&self, _worker: usize, machine: usize) {
-        let index = machine.saturating_sub(1).min(3);
-        self.done[index].fetch_add(1, Ordering::SeqCst);
-        self.busy.store(true, Ordering::SeqCst);
-    }
-
-    fn after(&self, _worker: usize, _machine: usize) {}
-
-    fn go_on(&self) -> bool {
-        let left = self.left.load(Ordering::SeqCst);
-        self.left.store(left.saturating_sub(1), Ordering::SeqCst);
-        left > 0 && self.busy.swap(false, Ordering::SeqCst)
-    }
-}
 
 /// What a service left that began with a world, beside what was answered.
 #[derive(Clone, Copy, Drop, Debug, PartialEq, Eq)]

@@ -10,43 +10,15 @@ use machine::Stop;
 use shared_objects::{MoverSeat, SharedTable};
 use std::alloc::{AllocError, Global};
 use std::sync::Wait;
-use std::sync::atomic::{AtomicBool, AtomicU64, Ordering};
 use std::test::Fail;
 use std::thread::Threads;
+use test_gates::{Rounds, Turns};
 use workers::{Direction, Gate, Pool, TableName, work};
 
-/// Lets a worker have so many turns, but doesn't let it sleep, and counts how often it comes to an instruction of machine 1, and of
-/// another.
-#[derive(Drop)]
-struct Turns {
-    left: AtomicU64,
-    first: AtomicU64,
-    other: AtomicU64,
-    /// Whether the worker came to an instruction since it asked last.
-    busy: AtomicBool,
-}
-
-impl Gate for Turns {
-    fn before(&self, _worker: usize, machine: usize) {
-        let count = if machine == 1 {
-            &self.first
-        } else {
-            &self.other
-        };
-        count.fetch_add(1, Ordering::SeqCst);
-        self.busy.store(true, Ordering::SeqCst);
-    }
-
-    fn after(&self, _worker: usize, _machine: usize) {}
-
-    fn go_on(&self) -> bool {
-        self.busy.swap(false, Ordering::SeqCst) && self.left.fetch_sub(1, Ordering::SeqCst) > 0
-    }
-}
-
-/// The same turns, without being told of instructions.
+/// Lets a worker have its turns without being told of instructions. If it is told of one all the same, `turns` counts it.
 #[derive(Drop)]
 struct Untold<'a> {
+    rounds: Rounds,
     turns: &'a Turns,
 }
 
@@ -60,8 +32,7 @@ impl Gate for Untold<'_> {
     fn after(&self, _worker: usize, _machine: usize) {}
 
     fn go_on(&self) -> bool {
-        self.turns.busy.store(true, Ordering::SeqCst);
-        self.turns.go_on()
+        self.rounds.go_on()
     }
 }
 
@@ -96,8 +67,8 @@ pub type Point = (usize, u64, State);
 /// What a worker left.
 #[derive(Clone, Copy, Drop, Debug, PartialEq, Eq)]
 pub struct TurnsLeft {
-    /// How often it came to an instruction of each machine.
-    came: [u64; 2],
+    /// How often it came to an instruction of machine 1, of machine 2, of machine 3, and of any other.
+    came: [u64; 4],
     machines: [Option<Point>; 2],
     /// Whether there is room for one request more.
     room: bool,
@@ -151,25 +122,20 @@ fn have_turns<F: FarStore, K: TableName, R: Wait>(
     pool: &Pool<F, K>,
     plan: Plan,
 ) -> TurnsLeft {
-    let gate = Turns {
-        left: AtomicU64::new(plan.turns),
-        first: AtomicU64::new(0),
-        other: AtomicU64::new(0),
-        busy: AtomicBool::new(true),
-    };
+    let turns = Turns::new(plan.turns);
     if plan.told {
-        work(rt, &gate, pool, 0);
+        work(rt, &turns, pool, 0);
     } else {
-        work(rt, &Untold { turns: &gate }, pool, 0);
+        let gate = Untold {
+            rounds: Rounds::new(plan.turns),
+            turns: &turns,
+        };
+        work(rt, &gate, pool, 0);
     }
-    let came = [
-        gate.first.load(Ordering::SeqCst),
-        gate.other.load(Ordering::SeqCst),
-    ];
     let machines = [point(rt, alloc, pool, 1), point(rt, alloc, pool, 2)];
     let room = pool.request(rt, 1, Direction::Leave);
     TurnsLeft {
-        came,
+        came: turns.counts(),
         machines,
         room,
     }
@@ -272,7 +238,7 @@ const JUMPS: &[Code] = &[JUMPING, JUMPING];
 #[test]
 fn a_turn_is_64_instructions(rt: HostRuntime) -> Result<(), Fail> {
     let [left, _] = left_of_two(&rt, rt.alloc(), JUMPS, PLAN)?;
-    same!(rt; left.came, [128, 64]);
+    same!(rt; left.came, [128, 64, 0, 0]);
     same!(rt; left.machines, JUMPED);
     Ok(())
 }
@@ -287,7 +253,7 @@ fn a_machine_is_queued_once(rt: HostRuntime) -> Result<(), Fail> {
         ..PLAN
     };
     let [left, _] = left_of_two(&rt, rt.alloc(), ENDS, plan)?;
-    same!(rt; left.came, [1, 2]);
+    same!(rt; left.came, [1, 2, 0, 0]);
     same!(rt; left.machines, [Some((0, 999, EXIT_0)), Some((1, 998, EXIT_0))]);
     Ok(())
 }
@@ -314,9 +280,9 @@ fn breakpoints_and_watched_ranges_pause(rt: HostRuntime) -> Result<(), Fail> {
         ..PLAN
     };
     let [first, then] = left_of_two(&rt, rt.alloc(), DEBUGGED, plan)?;
-    same!(rt; first.came, [2, 1]);
+    same!(rt; first.came, [2, 1, 0, 0]);
     same!(rt; first.machines, [Some((1, 999, State::Paused)); 2]);
-    same!(rt; then.came, [1, 1]);
+    same!(rt; then.came, [1, 1, 0, 0]);
     same!(rt; then.machines, [Some((1, 998, EXIT_0)); 2]);
     Ok(())
 }
@@ -330,12 +296,12 @@ fn a_machine_waits_and_its_object_is_asked_for(rt: HostRuntime) -> Result<(), Fa
         ..PLAN
     };
     let [here, _] = left_of_two(&rt, rt.alloc(), LOADS, plan)?;
-    same!(rt; here.came, [2, 1]);
+    same!(rt; here.came, [2, 1, 0, 0]);
     same!(rt; here.room, true);
     let plan = Plan { away: true, ..plan };
     let [away, _] = left_of_two(&rt, rt.alloc(), LOADS, plan)?;
     // the one that waits isn't stepped again
-    same!(rt; away.came, [1, 1]);
+    same!(rt; away.came, [1, 1, 0, 0]);
     same!(rt; away.machines, WAITED);
     same!(rt; away.room, false);
     Ok(())
@@ -349,7 +315,7 @@ fn a_gate_that_is_not_told_changes_no_turn(rt: HostRuntime) -> Result<(), Fail> 
         ..PLAN
     };
     let [ran, _] = left_of_two(&rt, rt.alloc(), JUMPS, plan)?;
-    same!(rt; ran.came, [0, 0]);
+    same!(rt; ran.came, [0; 4]);
     same!(rt; ran.machines, JUMPED);
     same!(rt; ran.room, true);
     let plan = Plan { away: true, ..plan };
