@@ -2,7 +2,7 @@
    is written here in plain C, with its rounds unrolled by eight as usual libraries without instructions of their own have it. Of
    interleaved runs the tenth percentile counts.
 
-   moves */
+   `moves LENGTH COUNT` does so many of each of that length, and tells nothing: bench/moves.py counts machine instructions of each. */
 #include "bpfagent.h"
 #include "sha256.h"
 #include "times.h"
@@ -87,7 +87,7 @@ static void move(bpfagent *agent, uint32_t object, size_t count, double *out, do
 }
 
 /* The same bytes by memcpy and SHA-256 alone, or by memcpy. */
-static double alone(size_t length, size_t count, int digests)
+__attribute__((noinline)) static double alone(size_t length, size_t count, int digests)
 {
     uint8_t digest[32], all = 0;
     double took = 0;
@@ -103,6 +103,27 @@ static double alone(size_t length, size_t count, int digests)
     return all == 1 ? took + 1e-9 : took;
 }
 
+/* An agent's first object, of so many bytes. */
+static uint32_t start(bpfagent *agent, size_t length)
+{
+    uint32_t object;
+    must(bpfagent_new_handing(agent, 1 << 20));
+    must(bpfagent_make(agent, length, &object));
+    must(bpfagent_put(agent, object, 0, bytes, length));
+    return object;
+}
+
+/* So many of each, for a count. */
+static void run_once(size_t length, size_t count)
+{
+    bpfagent agent = BPFAGENT_INIT;
+    uint32_t object = start(&agent, length);
+    double out, back;
+    move(&agent, object, count, &out, &back);
+    alone(length, count, 1);
+    bpfagent_delete(&agent);
+}
+
 static void measure(size_t length)
 {
     static double times[SIDES][RUNS];
@@ -110,10 +131,7 @@ static void measure(size_t length)
     double best[SIDES];
     size_t count = length < 4096 ? 200 : length < 65536 ? 20 : 4;
     bpfagent agent = BPFAGENT_INIT;
-    uint32_t object;
-    must(bpfagent_new_handing(&agent, 1 << 20));
-    must(bpfagent_make(&agent, length, &object));
-    must(bpfagent_put(&agent, object, 0, bytes, length));
+    uint32_t object = start(&agent, length);
     for (int run = 0; run < RUNS; run++) {
         move(&agent, object, count, &times[0][run], &times[1][run]);
         times[2][run] = alone(length, count, 1);
@@ -146,13 +164,17 @@ static int agrees(void)
     return !memcmp(digest, wanted, 4) && !memcmp(digest, parcel.digest, 32);
 }
 
-int main(void)
+int main(int words, char **given)
 {
     for (size_t k = 0; k < LARGEST; k++)
         bytes[k] = (uint8_t)(k * 131);
     if (!agrees()) {
         fprintf(stderr, "moves: the two SHA-256 differ\n");
         return 1;
+    }
+    if (words == 3) {
+        run_once(strtoul(given[1], NULL, 10), strtoul(given[2], NULL, 10));
+        return 0;
     }
     for (size_t k = 0; k < sizeof LENGTHS / sizeof LENGTHS[0]; k++)
         measure(LENGTHS[k]);

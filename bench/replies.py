@@ -86,17 +86,17 @@ def rate(command: list[str], connections: int) -> tuple[float, float]:
     return 1 / replies, used / replies / SECONDS
 
 
-def count_of(command: list[str], replies: int) -> int:
+def count_of(command: list[str], replies: int, at_once: int) -> int:
     with Listener(*under_valgrind(command), given=setup(1)) as server:
         with server.connect() as client:
-            for _ in range(replies // AT_ONCE):
-                ask_at_once(client, 1, AT_ONCE)
+            for _ in range(replies // at_once):
+                ask_at_once(client, 1, at_once)
         return told_count(server.end()[2])
 
 
-def of_a_reply(command: list[str]) -> float:
-    """Machine instructions of a reply."""
-    return (count_of(command, MANY) - count_of(command, FEW)) / (MANY - FEW)
+def of_a_reply(command: list[str], at_once: int = AT_ONCE) -> float:
+    """Machine instructions of a reply, where so many are asked for at a time."""
+    return (count_of(command, MANY, at_once) - count_of(command, FEW, at_once)) / (MANY - FEW)
 
 
 def sides(program: str, c_program: str, connections: int) -> tuple[list[str], list[str]]:

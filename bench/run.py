@@ -86,7 +86,7 @@ def library(bench: Bench) -> None:
     bench.run(part, made, PROGRAMS)
     bench.python(part, "embed.py", made, PROGRAMS)
     bench.rows[timed:] = joined(bench.rows[timed:])
-    bench.run("move of the library", bench.compile("embed_moves", "-Iinclude", "bench/embed_moves.c", bench.library("bpfagent_c"), bench.runtime))
+    bench.python("move of the library", "moves.py", bench.compile("embed_moves", "-Iinclude", "bench/embed_moves.c", bench.library("bpfagent_c"), bench.runtime))
 
 
 def lines(bench: Bench) -> None:

@@ -23,8 +23,10 @@ sys.path.append(str(pathlib.Path(__file__).resolve().parents[1] / "tests"))
 from lib.programs import Listener
 from lib.programs import processor_time as used_by
 
+from counts import can_count, told_count, under_valgrind
+from replies import of_a_reply
 from rows import words
-from turns import KINDS, processor_time
+from turns import FEW, KINDS, MANY, of_an_instruction, processor_time
 
 RUNS = 5
 SECONDS = 0.3
@@ -38,6 +40,8 @@ LINE = b"get 1 0 8\n"
 ADDS = "db21000000000000" "0500feff00000000"
 EXIT = "9500000000000000"
 LOOKS = 2_000
+# how long a machine may take to do MANY instructions where they are counted
+COUNTED_SECONDS = 2
 # there are 48 machines at most, of which 16 run
 SHIPS = 30
 SHARED_WORKERS = 4
@@ -79,6 +83,16 @@ def under_a_lock(program: str) -> float:
             time.sleep(pause)
             looks.append((int(ask(client, b"regs 1\n").split()[3]), used_by(server.process.pid)))
     return (looks[1][1] - looks[0][1]) / (looks[0][0] - looks[1][0]) * 1e9
+
+
+def counted_under_a_lock(program: str, fuel: int) -> int:
+    """Machine instructions of a service whose one machine does so many instructions."""
+    with Listener(*under_valgrind([program, "serve", "--workers", "1"]), given=f"ship {fuel} 0 0 0 0 0 {ADDITIONS}\n") as server:
+        with connected(server) as client:
+            time.sleep(COUNTED_SECONDS)
+            if b" spent " not in ask(client, b"regs 1\n"):
+                sys.exit(f"{program}: a machine isn't spent in {COUNTED_SECONDS} s")
+        return told_count(server.end()[2])
 
 
 def under_a_mutex(program: str) -> float:
@@ -152,8 +166,13 @@ def main() -> None:
     served, c_served = [program, "serve", "--workers", "0"], [c_replies, "1"]
     rounds = [(under_a_lock(program), under_a_mutex(c_worker), round_trip(served, "make 64\n"), round_trip(c_served)) for _ in range(RUNS)]
     ours, c, trip, c_trip = (min(values) for values in zip(*rounds))
-    print(f"an instruction under a lock      {ours:7.2f} ns, C {c:7.2f} ns, ratio {ours / c:.2f}")
-    print(f"round trip of a get of 8 bytes   {trip:7.2f} us, C {c_trip:7.2f} us, ratio {trip / c_trip:.2f}")
+    lines = [f"an instruction under a lock      {ours:7.2f} ns, C {c:7.2f} ns, ratio {ours / c:.2f}"]
+    lines += [f"round trip of a get of 8 bytes   {trip:7.2f} us, C {c_trip:7.2f} us, ratio {trip / c_trip:.2f}"]
+    if can_count():
+        few, many = (counted_under_a_lock(program, fuel) for fuel in (FEW, MANY))
+        lines[0] += f"; {(many - few) / (MANY - FEW):.1f} and {of_an_instruction(c_worker, ADDITIONS):.1f} machine instructions"
+        lines[1] += f"; {of_a_reply(served, 1):.0f} and {of_a_reply(c_served, 1):.0f} machine instructions"
+    print("\n".join(lines), flush=True)
     for workers in (1, 4, 16):
         looks, ships = latencies(program, workers)
         print(f"{f'regs of a running machine, {workers} workers':40}  {told(looks)}")
