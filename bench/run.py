@@ -86,7 +86,8 @@ def library(bench: Bench) -> None:
     bench.run(part, made, PROGRAMS)
     bench.python(part, "embed.py", made, PROGRAMS)
     bench.rows[timed:] = joined(bench.rows[timed:])
-    bench.python("move of the library", "moves.py", bench.compile("embed_moves", "-Iinclude", "bench/embed_moves.c", bench.library("bpfagent_c"), bench.runtime))
+    moves = bench.compile("embed_moves", "-Iinclude", "bench/embed_moves.c", bench.library("bpfagent_c"), bench.runtime)
+    bench.python("move of the library", "moves.py", moves)
 
 
 def lines(bench: Bench) -> None:

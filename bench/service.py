@@ -151,7 +151,8 @@ def busy(program: str, machines: int, clients: int) -> float:
     """How many of 100 `get` are answered `busy`."""
     setup = "make 8\n" + f"ship {FUEL} {1 << 32} 1 0 0 0 {ADDS}\n" * machines
     found: list[bool] = []
-    with started([program, "serve", "--workers", str(SHARED_WORKERS), "--connections", str(clients)], setup) as (server, client), contextlib.ExitStack() as others:
+    command = [program, "serve", "--workers", str(SHARED_WORKERS), "--connections", str(clients)]
+    with started(command, setup) as (server, client), contextlib.ExitStack() as others:
         all_clients = [client] + [others.enter_context(connected(server)) for _ in range(clients - 1)]
         threads = [threading.Thread(target=count_busy, args=(one, found)) for one in all_clients]
         for thread in threads:
