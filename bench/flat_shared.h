@@ -3,6 +3,9 @@
    scopes; the rest is its stamp. */
 #ifndef FLAT_SHARED_H
 #define FLAT_SHARED_H
+#ifndef FLAT_SHARED
+#define FLAT_SHARED
+#endif
 #include "flat.h"
 #include <stdatomic.h>
 

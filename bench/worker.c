@@ -1,7 +1,7 @@
 /* A worker of a service in plain C, for bench/service.py and bench/turns.py: worker FUEL CODE. It runs code written in hex with so
    much fuel, by the flat interpreter, R1 at an object of 64 bytes that threads share, and 1 to 4 in R2 to R5, a turn at a time under
    the machine's mutex, and prints in how many turns. */
-#include "flat.h"
+#include "flat_shared.h"
 #include <pthread.h>
 #include <stdatomic.h>
 #include <stdio.h>
