@@ -26,7 +26,7 @@ from rows import words
 RUNS = 7
 SECONDS = 0.5
 AT_ONCE = 500
-FEW, MANY = 2_000, 10_000
+FEW, MANY = 4_000, 12_000
 
 
 def setup(connections: int) -> str:
@@ -86,17 +86,22 @@ def rate(command: list[str], connections: int) -> tuple[float, float]:
     return 1 / replies, used / replies / SECONDS
 
 
-def count_of(command: list[str], replies: int, at_once: int) -> int:
-    with Listener(*under_valgrind(command), given=setup(1)) as server:
-        with server.connect() as client:
-            for _ in range(replies // at_once):
-                ask_at_once(client, 1, at_once)
+def count_of(command: list[str], connections: int, rounds: int, at_once: int) -> int:
+    """Machine instructions of a service that each of its clients asks so often, in turn."""
+    with Listener(*under_valgrind(command), given=setup(connections)) as server:
+        with contextlib.ExitStack() as opened:
+            clients = [opened.enter_context(server.connect()) for _ in range(connections)]
+            for _ in range(rounds):
+                for number, client in enumerate(clients, 1):
+                    ask_at_once(client, number, at_once)
         return told_count(server.end()[2])
 
 
-def of_a_reply(command: list[str], at_once: int = AT_ONCE) -> float:
+def of_a_reply(command: list[str], connections: int = 1, at_once: int = AT_ONCE) -> float:
     """Machine instructions of a reply, where so many are asked for at a time."""
-    return (count_of(command, MANY, at_once) - count_of(command, FEW, at_once)) / (MANY - FEW)
+    few, many = (replies // (connections * at_once) for replies in (FEW, MANY))
+    counts = [count_of(command, connections, rounds, at_once) for rounds in (few, many)]
+    return (counts[1] - counts[0]) / ((many - few) * connections * at_once)
 
 
 def sides(program: str, c_program: str, connections: int) -> tuple[list[str], list[str]]:
@@ -108,9 +113,9 @@ def show(programs: list[str], connections: int) -> None:
     runs = [[rate(command, connections) for command in both] for _ in range(RUNS)]
     passed, used = ([[run[side][which] for run in runs] for side in (0, 1)] for which in (0, 1))
     ratio, of_processors = (statistics.median(a / b for a, b in zip(*measured)) for measured in (passed, used))
-    line = f"{f'pipelined replies, connections: {connections}':34}  {min(passed[0]) * 1e6:6.2f} us, C {min(passed[1]) * 1e6:6.2f} us, ratio {ratio:.2f}"
-    if can_count() and connections == 1:
-        ours, c = (of_a_reply(command) for command in both)
+    line = f"{f'pipelined replies, {connections} clients':34}  {min(passed[0]) * 1e6:6.2f} us, C {min(passed[1]) * 1e6:6.2f} us, ratio {ratio:.2f}"
+    if can_count():
+        ours, c = (of_a_reply(command, connections) for command in both)
         line += f"; {ours:.0f} and {c:.0f} machine instructions"
     print(f"{line} (processor time {of_processors:.2f})", flush=True)
 

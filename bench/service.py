@@ -172,7 +172,7 @@ def main() -> None:
     if can_count():
         few, many = (counted_under_a_lock(program, fuel) for fuel in (FEW, MANY))
         lines[0] += f"; {(many - few) / (MANY - FEW):.1f} and {of_an_instruction(c_worker, ADDITIONS):.1f} machine instructions"
-        lines[1] += f"; {of_a_reply(served, 1):.0f} and {of_a_reply(c_served, 1):.0f} machine instructions"
+        lines[1] += f"; {of_a_reply(served, at_once=1):.0f} and {of_a_reply(c_served, at_once=1):.0f} machine instructions"
     print("\n".join(lines), flush=True)
     for workers in (1, 4, 16):
         looks, ships = latencies(program, workers)
