@@ -1,10 +1,10 @@
 #!/usr/bin/env python3
 """Machine instructions, counted by `valgrind --tool=callgrind`: they repeat exactly, on a busy machine too.
 
-counts.py STEPS FOLDER > COUNTS
+counts.py STEPS FOLDER [AGENT NAME..] > COUNTS
 
-For each program that STEPS measures a line: those of a step of the agent, those of a step of the flat interpreter in C, and the
-program's name. Then those of a load of the agent in two settings: an open scope and a new one, all objects granted and 16 of them,
+For each program that STEPS measures, or for those named, a line: those of a step of the agent, those of a step of the flat interpreter
+in C, and the program's name. Those of the agent are taken from the file AGENT, an earlier COUNTS. Without it, then those of a load of the agent in two settings: an open scope and a new one, all objects granted and 16 of them,
 one object and 1024, one machine and 48. Each is the difference of two runs of different length by the instructions of the program
 that ran between them. Nothing is written where there is no valgrind.
 """
@@ -22,6 +22,8 @@ PROGRAMS = [
     "checksum", "gcd", "sieve", "sort", "table",
     "counting loop", "straight arithmetic", "nested calls", "loads", "stores", "atomic operations",
 ]
+# Programs without a loop.
+STRAIGHT = ["arithmetic, 4000 slots", "loads, 4000 slots", "stores, 4000 slots", "additions, 4000 slots"]
 SETTINGS = [
     ("loads, open and new scope", "loads, open scope", "loads, new scope"),
     ("loads, all and 16 granted", "loads", "loads, 16 granted"),
@@ -58,11 +60,22 @@ def of_a_step(steps: Union[str, Path], folder: str, side: str, name: str) -> flo
     return (many - few) / (int(second.split()[0]) - int(first.split()[0]))
 
 
+def beside(steps: str, folder: str, known: str, names: Sequence[str]) -> None:
+    """The lines of these programs, with the agent's counts of a file."""
+    for line in Path(known).read_text().splitlines():
+        of_agent, _, name = line.split(" ", 2)
+        if name in names:
+            print(f"{of_agent} {of_a_step(steps, folder, 'flat', name):.2f} {name}", flush=True)
+
+
 def main() -> None:
-    steps, folder = words("counts.py STEPS FOLDER", 2, 2)
+    steps, folder, *known = words("counts.py STEPS FOLDER [AGENT NAME..]", 2, 3 + len(PROGRAMS) + len(STRAIGHT))
     if not can_count():
         return
-    measured = [(name, ("agent", name), ("flat", name)) for name in PROGRAMS]
+    if known:
+        beside(steps, folder, known[0], known[1:])
+        return
+    measured = [(name, ("agent", name), ("flat", name)) for name in [*PROGRAMS, *STRAIGHT]]
     measured += [(name, ("agent", one), ("agent", other)) for name, one, other in SETTINGS]
     for name, *sides in measured:
         one, other = (of_a_step(steps, folder, *side) for side in sides)

@@ -2,12 +2,19 @@
    that the code is valid. Each instruction is dispatched once, by a switch with a jump table, in one loop that keeps the
    registers; before each it tests the fuel, and it tests depth, alignment and bounds as the agent does.
 
+   With -DFLAT_THREADED each arm ends with a jump to the next instruction's arm (labels as values, of gcc and clang). With -DFLAT_TAIL
+   each arm is a function that ends with such a jump (`musttail`, of clang 13 and later). Whoever includes this says the same.
+
    With -DFLAT_SHARED threads share the objects, as crates/shared_objects has them share: an access takes the object's turn by one
    atomic operation on its word, and gives it back by another. */
 #ifndef FLAT_H
 #define FLAT_H
 #include <stddef.h>
 #include <stdint.h>
+
+#if defined FLAT_THREADED || defined FLAT_TAIL
+#define FLAT_ARMS
+#endif
 
 /* The last three are those of an access to a shared object: it is away, another has its turn, its stamp is the greatest. */
 enum flat_stop { FLAT_EXIT, FLAT_OUTSIDE, FLAT_MISALIGNED, FLAT_DEPTH, FLAT_SPENT, FLAT_AWAY, FLAT_BUSY, FLAT_WORN };
@@ -21,10 +28,15 @@ struct flat_object {
     uint64_t length;
 };
 
-/* `row` is the opcode, or a number above 255 where several instructions share an opcode. `jump` counts the slots from this
-   one to the target. */
+/* `row` is the opcode, or a number above 255 where several instructions share an opcode; `arm` is the place of what the row does.
+   `jump` counts the slots from this one to the target. */
 struct flat_instr {
+#ifdef FLAT_ARMS
+    const void *arm;
+    int32_t jump;
+#else
     int32_t row, jump;
+#endif
     int64_t imm;
     int16_t offset;
     uint8_t dst, src;

@@ -15,6 +15,7 @@ NAME = re.compile(r"(\S.*?)(?: {2,}|: )")
 TOLD = re.compile(
     r"ratio +(?P<ratio>[\d.]+)|(?P<ours>[\d.]+) (?:and|beside) +(?P<theirs>[\d.]+) machine instructions"
     r"|median +(?P<median>[\d.]+) us, 99th percentile +(?P<percentile>[\d.]+) us|(?P<share>[\d.]+) of 100"
+    r"|(?P<rate>[\d.]+) faults a second"
 )
 # The library for C: a run in one call beside a step in a loop, once in nanoseconds and once in machine instructions.
 LIBRARY = re.compile(r"(\w+) +run +([\d.]+)( ns)?,.*? bare +([\d.]+)( ns)?")
@@ -23,7 +24,7 @@ LIBRARY = re.compile(r"(\w+) +run +([\d.]+)( ns)?,.*? bare +([\d.]+)( ns)?")
 @dataclass
 class Row:
     """One row: time as a ratio to the other side's, and machine instructions of both sides; or a latency in microseconds, its median
-    and its 99th percentile; or a share of a hundred."""
+    and its 99th percentile; or a share of a hundred; or how much is done in a second."""
 
     part: str
     name: str
@@ -33,6 +34,7 @@ class Row:
     median: Optional[float] = None
     percentile: Optional[float] = None
     share: Optional[float] = None
+    rate: Optional[float] = None
 
     @property
     def counts(self) -> Optional[float]:

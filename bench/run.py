@@ -7,7 +7,7 @@ is kept in bench/figures.json, a row a line, and drawn as docs/performance.svg; 
 """
 from __future__ import annotations
 
-import os
+import functools
 import pathlib
 import shutil
 import subprocess
@@ -15,13 +15,18 @@ import sys
 from typing import Callable, Iterable
 
 from bars import draw
+from counts import PROGRAMS as MEASURED, STRAIGHT
+from forms import COMPILER, OTHERS, Form, differing
 from rows import Row, joined, read_rows, store_figures, words
 
 ROOT = pathlib.Path(__file__).resolve().parents[1]
 MADE = ROOT / "out/bench"
 PROGRAMS = "bench/programs"
 THREADS = "crates/bench_threads/out/bench_threads"
-COMPILER = [os.environ.get("CC", "cc"), "-O2"]
+# made by `make lib`
+LIBRARY = "out/lib/libbpfagent.so.0"
+# How bench/dpdk.c is compiled.
+DPDK: dict[str, list[str]] = {"run beside DPDK's interpreter": [], "run beside DPDK's JIT": ["-DDPDK_JIT"]}
 
 
 class Bench:
@@ -47,6 +52,7 @@ class Bench:
     def python(self, part: str, script: str, *arguments: object) -> None:
         self.run(part, sys.executable, "-B", f"bench/{script}", *arguments)
 
+    @functools.lru_cache(maxsize=None)
     def library(self, crate: str) -> pathlib.Path:
         subprocess.run([self.rt, "lib"], cwd=ROOT / "crates" / crate, stdout=subprocess.DEVNULL, check=True)
         return ROOT / f"crates/{crate}/out/lib{crate}.a"
@@ -63,6 +69,10 @@ class Bench:
         """A service in C that answers `get`."""
         return self.compile("replies", "-pthread", "-DFLAT_SHARED", "bench/replies.c")
 
+    def linked(self, crate: str, *arguments: object, after: Iterable[str] = ()) -> pathlib.Path:
+        """The program in C of these sources, with the crate of the agent behind a place that no source moves."""
+        return self.compile("measured", *arguments, "bench/place.c", self.library(crate), self.runtime, *after)
+
     def compile(self, name: str, *arguments: object) -> pathlib.Path:
         """The program in C of this name, of these sources and with these options."""
         subprocess.run([*COMPILER, "-o", str(MADE / name), *(str(word) for word in arguments)], cwd=ROOT, check=True)
@@ -70,13 +80,55 @@ class Bench:
 
 
 def steps(bench: Bench) -> None:
+    if wrong := list(differing()):
+        raise OSError("\n".join(["the forms of the interpreter in C differ", *wrong]))
     for side, title in (("steps", "Machine::step, called once an instruction"), ("runs", "Machine::run, called once a program")):
-        made = bench.compile(side, "bench/steps.c", "bench/flat.c", bench.library(f"bench_{side}"), bench.runtime)
-        counted = MADE / f"counts_{side}"
-        with counted.open("w") as counts:
-            subprocess.run([sys.executable, "bench/counts.py", made, PROGRAMS], cwd=ROOT, stdout=counts, check=True)
+        made = bench.linked(f"bench_{side}", "bench/steps.c", "bench/flat.c")
+        count(made, MADE / f"counts_{side}")
         print(title, flush=True)
-        bench.run(side[:-1], made, PROGRAMS, counted)
+        bench.run(side[:-1], made, PROGRAMS, MADE / f"counts_{side}")
+    made = bench.linked("bench_runs", "-DPLACE=16", "bench/steps.c", "bench/flat.c")
+    print("Machine::run, its code 16 bytes further", flush=True)
+    bench.run("run, 16 bytes further", made, PROGRAMS, MADE / "counts_runs", "all")
+    for form in OTHERS:
+        beside_form(bench, form)
+    beside_dpdk(bench)
+
+
+def count(made: pathlib.Path, told: pathlib.Path, *words: object) -> None:
+    """Counts the machine instructions of the programs."""
+    with told.open("w") as counts:
+        subprocess.run([sys.executable, "bench/counts.py", made, PROGRAMS, *map(str, words)], cwd=ROOT, stdout=counts, check=True)
+
+
+def beside(bench: Bench, part: str, made: pathlib.Path, which: str, names: list[str]) -> None:
+    """A run beside another interpreter, which is linked in the place of flat.c's `switch`."""
+    count(made, MADE / "counts_beside", MADE / "counts_runs", *names)
+    print(part, flush=True)
+    bench.run(part, made, PROGRAMS, MADE / "counts_beside", which)
+
+
+def beside_form(bench: Bench, form: Form) -> None:
+    """A run beside a form of the interpreter in C, if there is a compiler for it."""
+    command = form.command()
+    if command is None:
+        print(f"{form.part}: skipped, there is no compiler for it", flush=True)
+        return
+    subprocess.run([*command, "-c", "-o", str(MADE / "flat.o"), "bench/flat.c"], cwd=ROOT, check=True)
+    made = bench.linked("bench_runs", *form.options, "bench/steps.c", MADE / "flat.o")
+    beside(bench, form.part, made, "all", [*MEASURED, *STRAIGHT])
+
+
+def beside_dpdk(bench: Bench) -> None:
+    """A run beside DPDK's interpreter and beside its compiler. DPDK takes no program with a loop."""
+    asked = ["pkg-config", "--cflags", "libdpdk"]
+    flags = subprocess.run(asked, stdout=subprocess.PIPE, stderr=subprocess.DEVNULL, text=True) if shutil.which(asked[0]) else None
+    if flags is None or flags.returncode:
+        print("run beside DPDK: skipped, there is no libdpdk-dev", flush=True)
+        return
+    for part, options in DPDK.items():
+        made = bench.linked("bench_runs", *flags.stdout.split(), *options, "bench/steps.c", "bench/dpdk.c", after=("-lrte_bpf", "-lrte_eal"))
+        beside(bench, part, made, "straight", STRAIGHT)
 
 
 def library(bench: Bench) -> None:
@@ -104,6 +156,7 @@ def shared(bench: Bench) -> None:
 
 def far(bench: Bench) -> None:
     bench.python("far store", "far.py", bench.threads(), bench.compile("far", "-pthread", "bench/far.c"))
+    bench.python("fault", "faults.py", bench.program, bench.compile("delay", "-pthread", "bench/delay.c"))
 
 
 def service(bench: Bench) -> None:
@@ -118,13 +171,21 @@ def replies(bench: Bench) -> None:
     bench.python("replies", "replies.py", bench.program, bench.replies())
 
 
+def engine(bench: Bench) -> None:
+    bench.python("engine in Python", "engine.py", bench.program, LIBRARY)
+
+
 def stores(bench: Bench) -> None:
     bench.python("far store's server", "stores.py", bench.program)
 
 
-PARTS: list[Callable[[Bench], None]] = [steps, library, lines, assembly, shared, far, service, turns, replies, stores]
+def front(bench: Bench) -> None:
+    bench.python("front", "front.py", bench.program)
+
+
+PARTS: list[Callable[[Bench], None]] = [steps, library, lines, assembly, shared, far, service, turns, replies, stores, engine, front]
 # The parts without a side in C.
-WITHOUT_C = {"assembly", "stores"}
+WITHOUT_C = {"assembly", "stores", "engine", "front"}
 
 
 def missing_compiler(parts: Iterable[str]) -> str:
@@ -149,7 +210,7 @@ def main() -> None:
     try:
         for name in named or parts:
             parts[name](bench)
-    except (OSError, subprocess.CalledProcessError) as wrong:
+    except (OSError, subprocess.SubprocessError) as wrong:
         sys.exit(f"bench: {wrong}")
     draw(store_figures(bench.rows))
 

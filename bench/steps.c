@@ -1,6 +1,7 @@
-/* Nanoseconds and machine instructions a step of the agent's machine, called once an instruction, beside a flat interpreter in C;
-   and what the number of objects, of machines and of scopes costs. Runs are interleaved, and of each the tenth percentile counts.
-   Machine instructions are counted by bench/counts.py, which has this program run one side once. */
+/* Nanoseconds and machine instructions a step of the agent's machine, called once an instruction, beside another interpreter with the
+   calls of bench/flat.h; and what the number of objects, of machines and of scopes costs. Runs are interleaved, and of each the tenth
+   percentile counts. Machine instructions are counted by bench/counts.py, which has this program run one side once. */
+#include "codes.h"
 #include "flat.h"
 #include "times.h"
 #include "work.h"
@@ -9,24 +10,6 @@
 #include <string.h>
 
 #define RUNS 101
-#define STEPS 400000
-#define CODE_LIMIT 32768
-#define OBJECT_BYTES 65536
-#define OBJECT(n) ((uint64_t)(n) << 32)
-#define EXIT 0x95
-
-struct code {
-    uint8_t bytes[CODE_LIMIT];
-    size_t length;
-};
-
-/* What R1 is, beside how many objects and machines the code runs, and how many objects are granted. */
-struct setting {
-    uint64_t argument;
-    uint32_t objects;
-    size_t machines, granted;
-};
-
 /* R0 at the end, and how many instructions ran before the stop. */
 struct outcome {
     uint64_t result, steps;
@@ -128,7 +111,7 @@ struct ratios {
 static struct ratios tell(struct timed *t)
 {
     double a = tenth_percentile(t->ours, RUNS), b = tenth_percentile(t->theirs, RUNS), steps = (double)t->outcome.steps;
-    printf("%-28s agent %6.2f ns a step, flat C %6.2f, ratio %.2f", t->name, 1e9 * a / steps, 1e9 * b / steps, a / b);
+    printf("%-28s agent %6.2f ns a step, other %6.2f, ratio %.2f", t->name, 1e9 * a / steps, 1e9 * b / steps, a / b);
     struct counts c = tell_counts(t->name);
     return (struct ratios){ a / b, c.first > 0 ? c.first / c.second : 0, c.first, c.second };
 }
@@ -166,152 +149,7 @@ static void scales(const char *name, const struct code *c, struct setting first,
     printf("\n");
 }
 
-/* ---- code */
-
-static void stored(const char *folder, const char *name, struct code *c)
-{
-    char path[512];
-    snprintf(path, sizeof path, "%s/%s.code", folder, name);
-    FILE *f = fopen(path, "rb");
-    if (!f) {
-        perror(path);
-        exit(1);
-    }
-    c->length = fread(c->bytes, 1, sizeof c->bytes, f);
-    fclose(f);
-}
-
-/* Appends a slot. */
-static void put(struct code *c, uint8_t opcode, int dst, int src, int16_t offset, int32_t imm)
-{
-    uint8_t *b = c->bytes + c->length;
-    b[0] = opcode;
-    b[1] = (uint8_t)(src << 4 | dst);
-    memcpy(b + 2, &offset, 2);
-    memcpy(b + 4, &imm, 4);
-    c->length += 8;
-}
-
-/* An unconditional jump back to a slot. */
-static void back_to(struct code *c, size_t slot)
-{
-    put(c, 0x05, 0, 0, (int16_t)(slot - c->length / 8 - 1), 0);
-}
-
-/* A slot of a program that is made here. */
-struct slot {
-    uint8_t opcode;
-    int dst, src;
-    int16_t offset;
-    int32_t imm;
-};
-
-/* These slots; behind them the program begins anew if its last one isn't an exit. */
-static struct code made_of(const struct slot *slots, size_t count)
-{
-    struct code c = { .length = 0 };
-    for (size_t n = 0; n < count; n++) put(&c, slots[n].opcode, slots[n].dst, slots[n].src, slots[n].offset, slots[n].imm);
-    if (slots[count - 1].opcode != EXIT) back_to(&c, 0);
-    return c;
-}
-
-#define MADE_OF(...) made_of((const struct slot[]){ __VA_ARGS__ }, sizeof (struct slot[]){ __VA_ARGS__ } / sizeof(struct slot))
-
-static struct code counting(void)
-{
-    return MADE_OF({ 0x07, 0, 0, 0, 1 },   /* r0 += 1 */
-                   { 0x55, 0, 0, -2, -1 }, /* if r0 != -1 goto -2 */
-                   { EXIT, 0, 0, 0, 0 });
-}
-
-static struct code straight(void)
-{
-    return MADE_OF({ 0x07, 6, 0, 0, 3 },  /* r6 += 3 */
-                   { 0x2f, 6, 1, 0, 0 },  /* r6 *= r1 */
-                   { 0xa7, 6, 0, 0, 5 },  /* r6 ^= 5 */
-                   { 0x77, 6, 0, 0, 1 },  /* r6 >>= 1 */
-                   { 0x4f, 6, 1, 0, 0 },  /* r6 |= r1 */
-                   { 0x17, 6, 0, 0, 7 },  /* r6 -= 7 */
-                   { 0x0c, 6, 1, 0, 0 }); /* r6 += r1, of 32 bits */
-}
-
-/* A call of a function that calls one that adds. */
-static struct code calls(void)
-{
-    struct code c = MADE_OF({ 0x85, 0, 1, 0, 1 });
-    struct code functions = MADE_OF({ 0x85, 0, 1, 0, 1 }, { EXIT, 0, 0, 0, 0 }, { 0x07, 0, 0, 0, 1 }, { EXIT, 0, 0, 0, 0 });
-    memcpy(c.bytes + c.length, functions.bytes, functions.length);
-    c.length += functions.length;
-    return c;
-}
-
-/* Of 8, 4, 2 and 1 bytes. */
-static struct code loads(void)
-{
-    return MADE_OF({ 0x79, 0, 1, 8, 0 }, { 0x61, 0, 1, 16, 0 }, { 0x69, 0, 1, 24, 0 }, { 0x91, 0, 1, 32, 0 });
-}
-
-/* Three stores to the object, and one to the stack. */
-static struct code stores(void)
-{
-    return MADE_OF({ 0x7b, 1, 1, 8, 0 }, { 0x62, 1, 0, 16, 7 }, { 0x6b, 1, 1, 24, 0 }, { 0x73, 10, 1, -8, 0 });
-}
-
-/* An addition, one of 4 bytes with a fetch, an exchange, a comparison and exchange. */
-static struct code atomics(void)
-{
-    return MADE_OF({ 0xdb, 1, 2, 8, 0x00 }, { 0xc3, 1, 2, 16, 0x01 }, { 0xdb, 1, 2, 24, 0xe1 }, { 0xdb, 1, 2, 8, 0xf1 });
-}
-
-/* Loads from five objects in turn, whose addresses count up by `stride` objects. */
-static struct code loads_in_turn(int32_t stride)
-{
-    struct code c = { .length = 0 };
-    for (int k = 0; k < 5; k++) {
-        put(&c, 0x18, k + 2, 0, 0, 0);
-        put(&c, 0, 0, 0, 0, 1 + k * stride);
-    }
-    for (int k = 0; k < 5; k++) put(&c, 0x79, 0, k + 2, 8, 0);
-    back_to(&c, 10);
-    return c;
-}
-
-static struct code loads_in_open(void)
-{
-    return loads_in_turn(0);
-}
-
-static struct code loads_in_new(void)
-{
-    return loads_in_turn(1);
-}
-
 /* ---- what is measured */
-
-#define COMPILED 5
-#define ROWS 6
-
-static const char *const compiled_names[COMPILED] = { "checksum", "gcd", "sieve", "sort", "table" };
-
-/* Programs made here, with what R1 is: the first are those compared with C, the others load beside more objects or machines, or with
-   16 grants. */
-static const struct {
-    const char *name;
-    struct code (*code)(void);
-    struct setting setting;
-} made[] = {
-    { "counting loop", counting, { OBJECT(1), 1, 1, 0 } },
-    { "straight arithmetic", straight, { OBJECT(1), 1, 1, 0 } },
-    { "nested calls", calls, { OBJECT(1), 1, 1, 0 } },
-    { "loads", loads, { OBJECT(1), 1, 1, 0 } },
-    { "stores", stores, { OBJECT(1), 1, 1, 0 } },
-    { "atomic operations", atomics, { OBJECT(1), 1, 1, 0 } },
-    { "loads, open scope", loads_in_open, { OBJECT(1), 5, 1, 0 } },
-    { "loads, new scope", loads_in_new, { OBJECT(1), 5, 1, 0 } },
-    { "loads, 16 granted", loads, { OBJECT(1), 1, 1, 16 } },
-    { "loads, 1024 objects", loads, { OBJECT(1024), 1024, 1, 0 } },
-    { "loads, 48 machines", loads, { OBJECT(1), 1, 48, 0 } },
-};
 
 static void compiled(const char *folder)
 {
@@ -327,15 +165,16 @@ static void compiled(const char *folder)
     printf("\n");
 }
 
-static void rows(void)
+/* The rows from the one of this number on. */
+static void rows(size_t first)
 {
     static struct timed programs[ROWS];
-    for (size_t n = 0; n < ROWS; n++) {
+    for (size_t n = first; n < ROWS; n++) {
         programs[n].name = made[n].name;
         programs[n].code = made[n].code();
         programs[n].fuel = STEPS;
     }
-    compare(programs, ROWS);
+    compare(programs + first, ROWS - first);
 }
 
 /* Runs a program once on one side, and tells how many instructions ran: what is counted. */
@@ -375,14 +214,19 @@ static void growth(void)
 }
 
 /* steps FOLDER [COUNTS]: the folder has the code of the compiled programs, the file what was counted of each program.
+   steps FOLDER COUNTS all: the programs that run on both sides; with 'straight' those without a loop.
    steps FOLDER SIDE NAME FUEL: runs one of them once, on the side 'agent' or 'flat'. */
 int main(int count, char **words)
 {
     if (count == 5) return run_once(words[1], words[2], words[3], strtoull(words[4], NULL, 10));
-    if (count != 2 && count != 3) return 2;
-    counts_path = count == 3 ? words[2] : NULL;
+    if (count < 2 || count > 4) return 2;
+    counts_path = count > 2 ? words[2] : NULL;
+    if (count == 4 && !strcmp(words[3], "straight")) {
+        rows(ROWS - STRAIGHT);
+        return 0;
+    }
     compiled(words[1]);
-    rows();
-    growth();
+    rows(0);
+    if (count < 4) growth();
     return 0;
 }

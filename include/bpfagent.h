@@ -16,12 +16,12 @@
    of every kind: bpfagent_get and bpfagent_place_of take the agent out of its handle for a moment, too. Hold the lock over two
    calls only if nothing may come between them. Nothing that moves an object needs that: between bpfagent_leave and
    bpfagent_left_into other calls may be made, and programs may run. bpfagent_check, bpfagent_assemble, bpfagent_text,
-   bpfagent_name and bpfagent_version use no agent. They may be called at any time, on any thread.
+   bpfagent_version and those whose names end in _name use no agent. They may be called at any time, on any thread.
 
    MISUSE that the library can test has an answer:
    - no agent in the handle, as before bpfagent_new and after bpfagent_delete: BPFAGENT_NOAGENT. A second delete does nothing.
    - a number or a length that can't be: BPFAGENT_BAD, which is tested before BPFAGENT_NOAGENT. Only bpfagent_make,
-     bpfagent_ship_granted and bpfagent_objects answer it.
+     bpfagent_ship_granted, bpfagent_objects and the four whose names end in _name answer it.
    - no such machine or object: BPFAGENT_NONE. bpfagent_put and bpfagent_get answer BPFAGENT_OUTSIDE.
    - a move of an object that is in another place: BPFAGENT_IS_HERE, _IS_LEAVING, _IS_FAR or _IS_RETURNING.
    - bytes past the end: BPFAGENT_OUTSIDE. A buffer that is too small for an object: BPFAGENT_SHORT.
@@ -59,7 +59,8 @@
       unwatch            OK NONE NOWATCH
       resume             OK NONE NOTPAUSED
       check, assemble    OK REFUSED NOMEM
-      text               OK REFUSED NOSLOT NOMEM */
+      text               OK REFUSED NOSLOT NOMEM
+      state_name, place_name, reason_name, wrong_name   OK BAD */
 #ifndef BPFAGENT_H
 #define BPFAGENT_H
 #include <stddef.h>
@@ -305,6 +306,22 @@ uint32_t bpfagent_assemble(const uint8_t *text, size_t length, uint8_t *code, si
 /* The instruction at a slot of raw code, as bpfagent_line shows it. BPFAGENT_REFUSED if the code is not valid, BPFAGENT_NOSLOT if
    no instruction begins at the slot. */
 uint32_t bpfagent_text(const uint8_t *code, size_t length, uint32_t slot, uint8_t *text, size_t room, size_t *count);
+
+/* ---- names, as the protocol writes them: without a 0 behind them, and how many bytes they have: at most 16. Of more than there is
+   room for the first are written. BPFAGENT_BAD: the number has no name. */
+
+/* Of a machine's state with its stop, as bpfagent_regs writes both: "run", "paused", or the name of the stop. The name of the stop
+   that `end` has is that of BPFAGENT_IS_STOPPED with it. */
+uint32_t bpfagent_state_name(uint32_t state, uint32_t stop, uint8_t *text, size_t room, size_t *count);
+
+/* Of a place, of enum bpfagent_place. */
+uint32_t bpfagent_place_name(uint32_t place, uint8_t *text, size_t room, size_t *count);
+
+/* Of the reason for which code is refused, as bpfagent_refusal has it. */
+uint32_t bpfagent_reason_name(uint32_t reason, uint8_t *text, size_t room, size_t *count);
+
+/* Of the reason for which a text is not assembly, of enum bpfagent_wrong. */
+uint32_t bpfagent_wrong_name(uint32_t wrong, uint8_t *text, size_t room, size_t *count);
 
 /* The version of the library, as BPFAGENT_VERSION. */
 uint32_t bpfagent_version(void);

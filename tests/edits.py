@@ -1,32 +1,48 @@
 #!/usr/bin/env python3
 """Tries the edits of crates/*/edits, wrong bodies that the prover has to refuse: edits.py RT [CRATE..], edits.py --check
 
-They run in a copy of the crates, where they lie in must-fail/. Where all edits of a crate are refused, edits/TRIED gets a checksum of its sources and
-edits. `--check` fails where a crate differs from that, or has none, and names the command; the gate fails for the first alone.
+Each edit is made in a copy of its crate, and checked there by `rt check` over what the repository's own checks have kept. Edits of different functions
+are made at once. One is refused if a goal stays open, or if the answer to one is refused. If only a name is missing, in a proof that speaks of what the
+edit took away, or if the edit doesn't compile, it shows nothing: it counts as not tried, and fails. If all edits of a crate are refused, edits/TRIED gets
+a checksum of its sources and edits, and the goal that refused each. `--check` fails if a crate differs from that or has no TRIED, and names the command.
+The gate fails if a crate differs from that, and names those that have none.
 """
 from __future__ import annotations
 
+import contextlib
 import hashlib
-import os
 import pathlib
 import re
 import shutil
 import subprocess
 import sys
 import tempfile
-from typing import Iterable, Iterator
+from typing import Any, Iterable, Iterator, Mapping, NamedTuple
 
 from lib.calls import need_toolchain
-from lib.sources import ROOT, crates
+from lib.sources import ROOT, blanked, changes_of, crates, crates_below, function_places
 
-# Outside the repository, since `rt ci` refuses a second crates.txt below it. What its checks have kept stays there.
-COPY = pathlib.Path(tempfile.gettempdir()) / f"bpfagent-edits-{os.getuid()}-{hashlib.sha256(bytes(ROOT)).hexdigest()[:8]}"
 TRIED = "TRIED"
+# How long one check may take, in seconds. The first one may have to prove all that is below.
+SECONDS = 3 * 3600
 COMMENT = re.compile(r"^\s*(?:--|//).*\n", re.MULTILINE)
 IMPORT = re.compile(r"^(.*\buse [^{\n]*)\{([^{}]*)\};?$", re.MULTILINE)
 TEXT = re.compile(r'("(?:[^"\\\n]|\\.)*")')
 LAST = re.compile(r"[,;]([)}\]])")
-SAID = re.compile(r"rt: must-fail (\w+)/(\S+\.edit): (refused|NOT REFUSED|BAD EDIT|NOT TRIED)")
+# What `rt check` says: a goal that stays open, one that is false for some values, and an error in a proof, which may go on in further lines.
+OPEN = re.compile(r"^\w+ (\S+): no proof: expected answers in (?:\./)?(\S+); `search` did not prove (.*)$", re.MULTILINE)
+FALSE = re.compile(r"^note: `([^`]*)` of (\S+) may be false", re.MULTILINE)
+WRONG = re.compile(r"^(?:\./)?(proofs/\S+?):\d+:\d+: error: (?:`([^`]*)`: )?(.*(?:\n[ \t]+.*)*)", re.MULTILINE)
+MISSING = re.compile(r"has no field|has no `|is not in scope|was not admitted")
+REACHED = re.compile(r"^(?:logic=not-proved|only=\d+ proved=\d+)", re.MULTILINE)
+UNCOMPILED = re.compile(r"^\S+:\d+:\d+: error.*$", re.MULTILINE)
+
+
+class Verdict(NamedTuple):
+    """What came of an edit: `refused`, `NOT REFUSED` or `NOT TRIED`; and the goal that refused it, or why it shows nothing."""
+
+    came: str
+    why: str
 
 
 def edits_of(crate: str) -> list[pathlib.Path]:
@@ -45,14 +61,14 @@ def meaning(source: str) -> str:
     return LAST.sub(r"\1", joined)
 
 
-def checksum(folder: pathlib.Path, edits: str) -> str:
-    """A sum of a crate's sources, and of the edits in this folder of it."""
+def checksum(folder: pathlib.Path) -> str:
+    """A sum of a crate's sources and edits."""
     known = hashlib.sha256()
-    for part in ("src", "specs", "proofs", edits):
+    for part in ("src", "specs", "proofs", "edits"):
         for path in sorted((folder / part).rglob("*")):
             if path.suffix in (".rt", ".antt", ".edit"):
-                named = path.relative_to(folder / part).as_posix()
-                known.update(f"{'edits' if part == edits else part}/{named}\n".encode() + hashlib.sha256(meaning(path.read_text()).encode()).digest())
+                named = path.relative_to(folder).as_posix()
+                known.update(f"{named}\n".encode() + hashlib.sha256(meaning(path.read_text()).encode()).digest())
     return known.hexdigest()
 
 
@@ -68,52 +84,153 @@ def new() -> list[str]:
 def changed() -> list[str]:
     """The crates whose edits were tried on other sources."""
     noted = {crate: note_of(crate).read_text() for crate in with_edits() if note_of(crate).is_file()}
-    return [crate for crate, note in noted.items() if note.split()[:1] != [checksum(ROOT / "crates" / crate, "edits")]]
+    return [crate for crate, note in noted.items() if note.split()[:1] != [checksum(ROOT / "crates" / crate)]]
 
 
-def copy_crates(names: Iterable[str]) -> None:
-    """All crates as they are now, with the edits of these in must-fail/. What checks have left in the copy stays."""
-    for crate in crates():
-        source, to = ROOT / "crates" / crate, COPY / "crates" / crate
-        to.mkdir(parents=True, exist_ok=True)
-        for old in to.iterdir():
-            if old.name != "out":
-                shutil.rmtree(old) if old.is_dir() else old.unlink()
-        shutil.copytree(source, to, ignore=shutil.ignore_patterns("out", "must-fail", "edits", "__pycache__"), dirs_exist_ok=True)
-        if crate in names:
-            shutil.copytree(source / "edits", to / "must-fail", ignore=shutil.ignore_patterns(TRIED))
+def judged(status: int, said: str) -> Verdict:
+    """What an edit has come to, by how the check of its crate ended and what it said."""
+    if status == 0:
+        return Verdict("NOT REFUSED", "the crate is still proved")
+    if not REACHED.search(said):
+        found = UNCOMPILED.search(said)
+        return Verdict("NOT TRIED", f"it doesn't reach the prover: {found[0] if found else said[-200:]}")
+    wrong = WRONG.findall(said)
+    lost = {pathlib.PurePath(file).parent for file, _, text in wrong if MISSING.search(text)}
+    false = set(FALSE.findall(said))
+    opened = [(goal, function, file) for function, file, goals in OPEN.findall(said) for goal in re.findall(r"`([^`]+)`", goals)]
+    # a goal of a function whose proof lacks a name may be open for that alone, unless values are known at which it is false
+    goals = [f"`{goal}` of {function}" for goal, function, file in opened if pathlib.PurePath(file).parent not in lost or (goal, file) in false]
+    goals += [f"`{name}` of {file}" for file, name, text in wrong if name and not MISSING.search(text)]
+    if goals:
+        return Verdict("refused", goals[0])
+    names = [f"{file}: {' '.join(text.split())[:200]}" for file, _, text in wrong if MISSING.search(text)]
+    return Verdict("NOT TRIED", f"only a name is missing: {names[0]}" if names else f"no goal refuses it: {said[-200:]}")
+
+
+def copy_crate(crate: str, to: pathlib.Path) -> pathlib.Path:
+    """A crate in a copy of all, with what checks of it and of those below have kept."""
+    shutil.copytree(ROOT / "crates", to / "crates", ignore=shutil.ignore_patterns("out", "must-fail", "__pycache__"))
     for entry in ("crates.txt", "HANDLES"):
-        shutil.copy(ROOT / entry, COPY)
+        shutil.copy(ROOT / entry, to)
+    for below in crates_below(crate):
+        part = "out" if below == crate else "out/rlib"
+        if (kept := ROOT / "crates" / below / part).is_dir():
+            shutil.copytree(kept, to / "crates" / below / part)
+    return to / "crates" / crate
 
 
-def results(rt: str, names: list[str]) -> Iterator[tuple[str, str, str]]:
-    """What comes of each edit: its crate, its name and whether it was refused. What `rt must-fail` says is passed on."""
-    process = subprocess.Popen(
-        [rt, "must-fail", *names], cwd=COPY, stdin=subprocess.DEVNULL, stdout=subprocess.PIPE, stderr=subprocess.STDOUT, text=True, errors="replace"
-    )
-    for line in process.stdout:
-        print(line, end="", flush=True)
-        if said := SAID.match(line):
-            yield said[1], said[2], said[3]
-    process.wait()
+def checked(rt: str, copied: pathlib.Path, modules: Iterable[str] = ()) -> tuple[int, str]:
+    """How a check of the copy ends, or of these modules of it alone, and what it says."""
+    words = [rt, "check", *(word for module in sorted(modules) for word in ("--only", module))]
+    how: dict[str, Any] = {"stdin": subprocess.DEVNULL, "stdout": subprocess.PIPE, "stderr": subprocess.STDOUT, "text": True, "errors": "replace"}
+    try:
+        done = subprocess.run(words, cwd=copied, timeout=SECONDS, **how)
+    except subprocess.TimeoutExpired:
+        return 1, f"its check hadn't ended after {SECONDS} seconds"
+    return done.returncode, done.stdout
 
 
-def try_edits(rt: str, names: list[str]) -> int:
-    """How many edits weren't refused."""
-    copy_crates(names)
-    found = {(crate, edit): said for crate, edit, said in results(rt, names)}
-    wrong = 0
-    for crate in names:
-        copied = COPY / "crates" / crate
-        edits = sorted(path.name for path in (copied / "must-fail").glob("*.edit"))
-        missed = [edit for edit in edits if found.get((crate, edit)) != "refused"]
-        wrong += len(missed)
-        for edit in missed:
-            print(f"edits: {crate}/{edit}: {found.get((crate, edit), 'NOT TRIED')}")
-        if not missed:
-            note_of(crate).write_text(f"{checksum(copied, 'must-fail')}  {len(edits)} refused\n")
-    print(f"{sum(said == 'refused' for said in found.values())} passed, {wrong} failed")
-    return wrong
+class Place(NamedTuple):
+    """The function that an edit changes, in its module."""
+
+    module: str
+    function: str
+
+
+def place_of(copied: pathlib.Path, edit: pathlib.Path) -> Place | None:
+    """The function in whose body all changes of an edit lie. None if they lie elsewhere, or in the crate's root, of which no module is checked alone."""
+    found: set[Place] = set()
+    for file, old, _ in changes_of(edit):
+        parts = pathlib.PurePath(file).with_suffix("").parts
+        if parts[0] != "src" or parts[1:] in (("lib",), ("main",)):
+            return None
+        text = (copied / file).read_text()
+        at = text.find(old)
+        inside = [name for name, _, begin, end in function_places(blanked(text)) if begin <= at and at + len(old) <= end]
+        if not inside:
+            return None
+        found.add(Place("::".join((copied.name, *parts[1:])), inside[-1]))
+    return found.pop() if len(found) == 1 else None
+
+
+def about(place: Place, said: str) -> str:
+    """Of what a check says that reached the prover the part on this function."""
+    function = re.compile(rf"{place.module}::(?:\S+::)?{place.function}(?:::|$)")
+    proof = re.compile(rf"proofs/{'/'.join(place.module.split('::')[1:])}/(?:\S+/)?{place.function}/")
+    parts = [found[0] for found in OPEN.finditer(said) if function.match(found[1])]
+    parts += [found[0] for found in FALSE.finditer(said) if proof.match(found[2])]
+    parts += [found[0] for found in WRONG.finditer(said) if proof.match(found[1])]
+    return "\n".join([*parts, REACHED.findall(said)[-1], ""])
+
+
+@contextlib.contextmanager
+def made(copied: pathlib.Path, edits: Iterable[pathlib.Path]) -> Iterator[None]:
+    """The copy with these edits, and afterwards as it was."""
+    before: dict[pathlib.Path, str] = {}
+    try:
+        for name, old, new in (change for edit in edits for change in changes_of(edit)):
+            path = copied / name
+            text = path.read_text()
+            before.setdefault(path, text)
+            path.write_text(text.replace(old, new))
+        yield
+    finally:
+        for path, text in before.items():
+            path.write_text(text)
+
+
+def groups_of(places: Mapping[pathlib.Path, Place]) -> list[dict[pathlib.Path, Place]]:
+    """The edits in groups, in which no two are of one function."""
+    groups: list[dict[pathlib.Path, Place]] = []
+    for edit, place in places.items():
+        for group in groups:
+            if place not in group.values():
+                group[edit] = place
+                break
+        else:
+            groups.append({edit: place})
+    return groups
+
+
+def tried_together(rt: str, copied: pathlib.Path, group: Mapping[pathlib.Path, Place]) -> Iterator[tuple[pathlib.Path, Verdict]]:
+    """Those edits of a group that are refused, each by a goal of its own function: its body is all that an edit changes, and no other function sees it."""
+    with made(copied, group):
+        status, said = checked(rt, copied, {place.module for place in group.values()})
+    if status == 1 and REACHED.search(said):
+        verdicts = {edit: judged(1, about(place, said)) for edit, place in group.items()}
+        yield from ((edit, verdict) for edit, verdict in verdicts.items() if verdict.came == "refused")
+
+
+def try_edits(rt: str, copied: pathlib.Path) -> Iterator[tuple[pathlib.Path, Verdict]]:
+    """What comes of each edit of a copied crate. Those of different functions are made at once, and alone only if nothing refused them then."""
+    left = sorted((copied / "edits").glob("*.edit"))
+    for group in groups_of({edit: place for edit in left if (place := place_of(copied, edit))}):
+        for edit, verdict in tried_together(rt, copied, group):
+            left.remove(edit)
+            yield edit, verdict
+    for edit in left:
+        with made(copied, [edit]):
+            yield edit, judged(*checked(rt, copied))
+
+
+def try_crate(rt: str, crate: str) -> tuple[int, int]:
+    """How many edits of a crate are refused, and how many aren't."""
+    with tempfile.TemporaryDirectory(prefix="bpfagent-edits-") as folder:
+        copied = copy_crate(crate, pathlib.Path(folder))
+        whole = judged(*checked(rt, copied))
+        if whole.came != "NOT REFUSED":
+            print(f"edits: {crate} isn't proved without an edit: {whole.why}", flush=True)
+            return 0, len(edits_of(crate))
+        refused: dict[str, str] = {}
+        for edit, found in try_edits(rt, copied):
+            print(f"edits: {crate}/{edit.name}: {found.came}: {found.why}", flush=True)
+            if found.came == "refused":
+                refused[edit.name] = found.why
+        wrong = len(edits_of(crate)) - len(refused)
+        if not wrong:
+            lines = "".join(f"{name}: {goal}\n" for name, goal in sorted(refused.items()))
+            note_of(crate).write_text(f"{checksum(copied)}  {len(refused)} refused\n{lines}")
+        return len(refused), wrong
 
 
 def say(what: str, crates: list[str]) -> int:
@@ -123,10 +240,10 @@ def say(what: str, crates: list[str]) -> int:
     return len(crates)
 
 
-def say_changed() -> int:
-    """How many crates have changed since their edits were tried. Those whose edits weren't tried yet are named too."""
-    say("have edits that weren't tried yet", new())
-    return say("have changed since their edits were tried", changed())
+def say_changed(with_new: bool = False) -> int:
+    """How many crates have changed since their edits were tried. Those whose edits weren't tried yet are named, and count if that is asked for."""
+    untried = say("have edits that weren't tried yet", new())
+    return with_new * untried + say("have changed since their edits were tried", changed())
 
 
 if __name__ == "__main__":
@@ -134,7 +251,7 @@ if __name__ == "__main__":
     if not words:
         sys.exit(__doc__)
     if words == ["--check"]:
-        sys.exit(1 if say_changed() or new() else 0)
+        sys.exit(1 if say_changed(with_new=True) else 0)
     rt, *names = words
     known = with_edits()
     unknown = [name for name in names if name not in known]
@@ -145,4 +262,9 @@ if __name__ == "__main__":
         print("edits: no crate has changed since its edits were tried")
         sys.exit()
     need_toolchain(rt)
-    sys.exit(1 if try_edits(rt, chosen) else 0)
+    try:
+        passed, failed = (sum(counts) for counts in zip(*(try_crate(rt, name) for name in chosen)))
+    except KeyboardInterrupt:
+        sys.exit(130)
+    print(f"{passed} passed, {failed} failed")
+    sys.exit(1 if failed else 0)

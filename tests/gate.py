@@ -1,9 +1,9 @@
 #!/usr/bin/env python3
 """The gate: gate.py RT, or gate.py --quick for what takes seconds.
 
-First the scripts of form/, and whether a crate has changed since its edits in edits/ were tried. Then `rt ci`, with a line on how far it is, and beside
-it the scripts over the program, from when `rt ci` has built that. Then what calls the toolchain or looks at times, and the library for C. The last line is
-that of `rt ci`; whatever else fails is counted in it.
+First the scripts of form/, and whether a crate has changed since its edits in edits/ were tried. Then `rt ci`, with a line on how far
+it is, and beside it the scripts over the program, from when `rt ci` has built that. Then what calls the toolchain or looks at times, and the library for
+C. The last line is that of `rt ci`; whatever else fails is counted in it.
 """
 from __future__ import annotations
 
@@ -18,7 +18,7 @@ from typing import Callable, Iterable
 
 import edits
 from form import listed
-from lib.calls import ALONE, EITHER, FORM, LIBRARY, PROVE, Done, call_script, jobs, need_toolchain
+from lib.calls import ALONE, ALONE_PROVED, EITHER, FORM, LIBRARY, PROVE, SLEEPING, Done, call_script, jobs, need_toolchain
 from lib.sources import ROOT, crates
 
 BUILT = ["crates/bpfagent/out/bpfagent", "crates/bpfagent/out/bpfagent.by-rattle"]
@@ -93,7 +93,9 @@ def prove(rt: str, start: float) -> tuple[int, int]:
             return passed, failed + 1
         failed += sum(ended.result() for ended in beside)
         failed += sum(pool.map(lambda lines: failures_of(lines, rt), (PROVE, LIBRARY)))
-    return passed, failed + failures_of(ALONE, rt)
+    with concurrent.futures.ThreadPoolExecutor(len(SLEEPING)) as pool:
+        failed += sum(pool.map(lambda line: failures_of([line], rt), SLEEPING))
+    return passed, failed + failures_of([*ALONE, *ALONE_PROVED], rt)
 
 
 def main() -> None:

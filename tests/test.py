@@ -1,28 +1,32 @@
 #!/usr/bin/env python3
 """Whether everything works, without a proof, in minutes: test.py RT
 
-Builds the program as `make try` does, and runs the scripts over it; beside that the tests of every crate by `rt try --test`, as many at a time as
-processors and memory allow; at the end, alone, what looks at time. The last line is `N passed, M failed`: tests of crates and scripts.
+Builds the program as `make try` does, and runs the scripts over it; beside that the tests of every crate by `rt try --test`, many crates in one
+compilation, as many at a time as processors and memory allow; at the end what looks at time. The last line is `N passed, M failed`: tests of crates
+and scripts.
 """
 from __future__ import annotations
 
 import concurrent.futures
-import contextlib
+import functools
 import os
-import queue
 import re
 import sys
 import time
-from typing import Callable
+from typing import Callable, Sequence
 
-from lib.calls import ALONE, FORM, TEST, Done, call, call_script, jobs, need_toolchain
-from lib.sources import ROOT, crates, has_tests
+from lib.calls import ALONE, FORM, SLEEPING, TEST, Done, call_script, jobs, need_toolchain
+from lib.joined import TOGETHER, counts, joined, tried
+from lib.sources import ROOT, crates, tests_in
 
 Call = Callable[[], Done]
 PROGRAM = "out/bpfagent-unproved"
-# What building and running a crate's tests takes of memory at most, in bytes, and how long it may take, in seconds.
-OF_A_CRATE = 3_000_000_000
-SECONDS = 900
+# What building and running crates' tests takes of memory at most, in bytes, and how long it or a script may take, in seconds, also on a machine that
+# does much else.
+OF_A_CRATE = 4_000_000_000
+SECONDS = 3600
+# How long the tests of crates that are compiled together may take, in seconds, also on a machine that does much else.
+OF_A_GROUP = 3600
 # How long a test may run, in seconds. The limit of `rt` itself is 60, which the slowest test reaches on a machine that does much else.
 OF_A_TEST = 300
 RESULT = re.compile(r"(?m)^test result: \w+\. (\d+) passed; (\d+) failed;")
@@ -32,11 +36,25 @@ SHOWN, WIDTH = 40, 300
 
 def of_crate(rt: str, crate: str) -> Done:
     """The tests of a crate, without a proof."""
-    done = call(f"crates/{crate}", [rt, "try", "--test"], ROOT / "crates" / crate, SECONDS)
-    found = RESULT.search(done.output)
+    start = time.monotonic()
+    status, output = tried(rt, ROOT / "crates" / crate, SECONDS)
+    found = RESULT.search(output)
     passed, failed = (int(found[1]), int(found[2])) if found else (0, 0)
-    done.passed, done.failed = passed, max(failed, done.failed, int(passed == 0))
-    return done
+    return Done(f"crates/{crate}", passed, max(failed, int(status != 0 or passed == 0)), output, time.monotonic() - start)
+
+
+def of_crates(rt: str, members: Sequence[str]) -> Done:
+    """The tests of crates, compiled together. If not all pass, each crate is tried alone, and that counts."""
+    start = time.monotonic()
+    with joined(members) as folder:
+        status, output = tried(rt, folder, OF_A_GROUP)
+    wanted = {crate: tests_in(crate) for crate in members}
+    passed, failed = sum(wanted.values()), 0
+    if status or counts(output) != wanted:
+        alone = [told(of_crate(rt, crate)) for crate in members]
+        passed, failed = sum(done.passed for done in alone), sum(done.failed for done in alone)
+        print("\n".join([f"test: together, {len(members)} crates ended with {status}:", *output.splitlines()[-SHOWN:]]), flush=True)
+    return Done(f"crates/{{{','.join(members)}}}", passed, failed, output, time.monotonic() - start)
 
 
 def told(done: Done) -> Done:
@@ -47,23 +65,24 @@ def told(done: Done) -> Done:
     return done
 
 
-def run_all(first: list[Call], others: list[Call], width: int) -> tuple[int, int]:
-    """How much passed and failed of all, so many at a time. One lane does `first` in their order, since each may need what those before it built."""
-    left: queue.SimpleQueue[Call] = queue.SimpleQueue()
-    for other in others:
-        left.put(other)
+def groups() -> list[list[str]]:
+    """The crates that have tests, those of a list that are compiled together."""
+    left = [crate for crate in crates() if tests_in(crate)]
+    named = [[crate for crate in group if crate in left] for group in TOGETHER]
+    return [*named[:-1], named[-1] + [crate for crate in left if not any(crate in group for group in TOGETHER)]]
 
-    def lane(own: list[Call]) -> list[Done]:
-        found = [told(call()) for call in own]
-        with contextlib.suppress(queue.Empty):
-            while True:
-                found.append(told(left.get_nowait()()))
-        return found
+
+def side_by_side(first: Sequence[Call], others: Sequence[Call], width: int) -> list[Done]:
+    """Makes so many calls at a time. Those of `others` wait for the end of the first one, since they need what it builds."""
+
+    def made(it: Call) -> Done:
+        return told(it())
 
     with concurrent.futures.ThreadPoolExecutor(width) as pool:
-        lanes = [pool.submit(lane, first if number == 0 else []) for number in range(width)]
-        found = [done for ended in lanes for done in ended.result()]
-    return sum(done.passed for done in found), sum(done.failed for done in found)
+        begun = [pool.submit(made, it) for it in first]
+        begun[0].result()
+        begun += [pool.submit(made, it) for it in others]
+        return [it.result() for it in begun]
 
 
 def main() -> None:
@@ -73,13 +92,15 @@ def main() -> None:
     need_toolchain(rt)
     os.environ.setdefault("RT_SECONDS", str(OF_A_TEST))
 
-    def scripts(lines: list[str]) -> list[Call]:
-        return [lambda line=line: call_script(line, rt, PROGRAM, SECONDS) for line in lines]
+    def scripts(lines: Sequence[str]) -> list[Call]:
+        return [functools.partial(call_script, line, rt, PROGRAM, SECONDS) for line in lines]
 
-    of_crates = [lambda crate=crate: of_crate(rt, crate) for crate in crates() if has_tests(crate)]
-    width = jobs(OF_A_CRATE)
-    found = [run_all(scripts(["tools/build.py RT try", *TEST]), [*of_crates[::-1], *scripts(FORM)], width), run_all(scripts(ALONE), [], 1)]
-    passed, failed = (sum(counts) for counts in zip(*found))
+    # What takes long comes first.
+    built: list[Call] = [*scripts(["tools/build.py RT try"]), *(functools.partial(of_crates, rt, group) for group in groups())]
+    found = side_by_side(built, scripts([*TEST, *FORM]), jobs(OF_A_CRATE))
+    found += side_by_side(scripts(SLEEPING), [], len(SLEEPING))
+    found += [told(it()) for it in scripts(ALONE)]
+    passed, failed = sum(done.passed for done in found), sum(done.failed for done in found)
     print(f"test: {(time.monotonic() - start) / 60:.1f} minutes on {len(os.sched_getaffinity(0))} processors", flush=True)
     print(f"{passed} passed, {failed} failed", flush=True)
     sys.exit(1 if failed or not passed else 0)

@@ -2,12 +2,15 @@
 """Proves and builds the library for C: library.py RT [--over-ci]
 
 It writes out/lib/libbpfagent.a: the crate bpfagent_c, and what that needs of the toolchain's C runtime. A program links it and the
-C library alone. It says how many crates are proved, and how long that took; what didn't change isn't proved again, and if nothing
+C library alone. Of that, a C compiler links out/lib/libbpfagent.so.0, which exports the names of include/bpfagent.h. The script says how many crates are proved, and how long that took; what didn't change isn't proved again, and if nothing
 did, nothing is done. With --over-ci the crates below are taken as `rt ci` has just proved them, which `rt lib` would prove again.
 """
 from __future__ import annotations
 
+import os
 import pathlib
+import re
+import shutil
 import subprocess
 import sys
 import tempfile
@@ -17,6 +20,13 @@ from build import ROOT, Wrong, ending, is_current, proved, say, sources, stamp_o
 CRATE = ROOT / "crates/bpfagent_c"
 ARCHIVE = CRATE / f"out/lib{CRATE.name}.a"
 MADE = ROOT / "out/lib/libbpfagent.a"
+HEADER = ROOT / "include/bpfagent.h"
+SONAME = "libbpfagent.so.0"
+SHARED = MADE.with_name(SONAME)
+# Nothing may stay undefined, no code may be written to, and what nobody calls is left out. The version is that of the names.
+LINKING = ["-shared", "-nostartfiles", "-s", f"-Wl,-soname,{SONAME}", "-Wl,--no-undefined,--no-undefined-version", "-Wl,-z,relro,-z,now,-z,noexecstack,-z,text",
+           "-Wl,--gc-sections", "-Wl,--build-id=none", "-Wl,--hash-style=gnu"]
+VERSIONED = "BPFAGENT_0 {{\n  global:\n{names}  local: *;\n}};\n"
 
 
 def home_of(rt: str) -> pathlib.Path:
@@ -39,6 +49,27 @@ def join(archiver: pathlib.Path, archives: list[pathlib.Path], made: pathlib.Pat
         made.write_bytes(joined.read_bytes())
 
 
+def names_of(header: pathlib.Path) -> list[str]:
+    """The functions that a header declares, without those that stand in it."""
+    text = re.sub(r"(?s)/\*.*?\*/", "", header.read_text())
+    return re.findall(r"(?m)^\w+ (bpfagent_\w+)\([^)]*\);", text)
+
+
+def link(archive: pathlib.Path, made: pathlib.Path) -> None:
+    """Links a shared library of all members of an archive, which exports what the header declares."""
+    compiler = shutil.which(os.environ.get("CC", "cc"))
+    if not compiler:
+        made.unlink(missing_ok=True)
+        say(f"There is no C compiler, so {made.relative_to(ROOT)} isn't linked.")
+        return
+    with tempfile.TemporaryDirectory(prefix="library-", dir=made.parent) as room:
+        script, linked = pathlib.Path(room, "names.map"), pathlib.Path(room, made.name)
+        script.write_text(VERSIONED.format(names="".join(f"    {name};\n" for name in names_of(HEADER))))
+        whole = ["-Wl,--whole-archive", str(archive), "-Wl,--no-whole-archive"]
+        subprocess.run([compiler, *LINKING, f"-Wl,--version-script={script}", "-o", str(linked), *whole], check=True)
+        os.replace(linked, made)
+
+
 def prove_over_ci(home: pathlib.Path) -> bool:
     """Proves the crate over the libraries that `rt ci` has left, and builds it. Whether it went well; otherwise what was said is shown."""
     sys.path.insert(0, str(home / "bin"))
@@ -52,8 +83,8 @@ def prove_over_ci(home: pathlib.Path) -> bool:
     return done.returncode == 0
 
 
-def build(rt: str, is_over_ci: bool) -> None:
-    """Proves and builds the library, unless that was done of these sources."""
+def prove(rt: str, is_over_ci: bool) -> None:
+    """Proves and builds the static library, unless that was done of these sources."""
     known = sources(rt, CRATE.name)
     if is_current(MADE, known):
         return
@@ -70,8 +101,9 @@ def main() -> None:
         say(__doc__.splitlines()[0])
         sys.exit(2)
     with ending("library"):
-        build(rt, bool(options))
-        print(f"{MADE.relative_to(ROOT)} is built")
+        prove(rt, bool(options))
+        link(MADE, SHARED)
+        print(" and ".join(str(path.relative_to(ROOT)) for path in (MADE, SHARED) if path.is_file()), "are built")
 
 
 if __name__ == "__main__":

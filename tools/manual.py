@@ -1,13 +1,19 @@
 #!/usr/bin/env python3
-"""Writes manual pages, and completion for bash and zsh: manual.py PROGRAM [--folder FOLDER]
+"""Writes manual pages, and completion for bash and zsh: manual.py [PROGRAM] [--python] [--documents] [--folder FOLDER]
 
-What they say is what `--help` of the program says, and for `run` and `serve` what docs/PROTOCOL.md says. The pages go to
-FOLDER/man, the completion to FOLDER/completion; FOLDER is `out` by default. SOURCE_DATE_EPOCH sets the date of the pages.
+What they say is what `--help` of the program says, and for `run` and `serve` what docs/PROTOCOL.md says. With --python there are pages
+and completion of the Python package's commands too, by their argument parsers. With --documents there is a page of the library for C, of its
+header, and pages of the protocol and of the frames of a far store, of docs/. The pages go to FOLDER/man, the completion to
+FOLDER/completion; FOLDER is `out` by default. SOURCE_DATE_EPOCH sets the date of the pages.
+
+The parsers are read by argparse-manpage and shtab (Debian: python3-argparse-manpage, python3-shtab). Without these the pages are made of
+`--help`, and there is no completion of the package's commands.
 """
 from __future__ import annotations
 
 import argparse
 import datetime
+import json
 import os
 import pathlib
 import re
@@ -17,7 +23,12 @@ from dataclasses import dataclass
 from typing import Iterator
 
 ROOT = pathlib.Path(__file__).resolve().parents[1]
-PROTOCOL = ROOT / "docs/PROTOCOL.md"
+sys.path.insert(0, str(ROOT / "tests"))
+import header_page
+from lib.package import DEBIAN, MODULES, PACKAGE, has
+
+PROTOCOL, FAR_MEMORY, HEADER = ROOT / "docs/PROTOCOL.md", ROOT / "docs/FAR-MEMORY.md", ROOT / "include/bpfagent.h"
+FROM_PARSERS = ROOT / "tools/command_pages.py"
 NAME = "bpfagent"
 SECONDS = 60
 # Which part of the protocol is for `serve`; the others are for `run`.
@@ -169,17 +180,20 @@ def inline(text: str) -> str:
     return "\\&" + shown if shown[:1] in (".", "'") else shown
 
 
-def rows_of(lines: list[str]) -> Iterator[tuple[str, str]]:
-    """The rows of a table: what stands before the last column, and that. An empty first cell repeats the one above."""
+def rows_of(lines: list[str]) -> Iterator[list[str]]:
+    """The rows of a table, with that of its head. An empty first cell repeats the one above."""
     first = ""
-    for line in lines[2:]:
+    for line in (lines[0], *lines[2:]):
         cells = [cell.strip() for cell in line.strip("|").split(" | ")]
         first = cells[0] or first
-        yield ": ".join([first, *cells[1:-1]]), cells[-1]
+        yield [first, *cells[1:]]
 
 
 def tagged(lines: list[str]) -> Iterator[str]:
-    for tag, text in rows_of(lines):
+    """A table: each row's first cell, and the others below it. If there are several, the head says what each is."""
+    head, *rows = rows_of(lines)
+    for tag, *cells in rows:
+        text = cells[0] if len(cells) == 1 else "; ".join(f"{name}: {cell}" for name, cell in zip(head[1:], cells) if cell)
         yield from [".TP", f"\\fB{inline(tag)}\\fR", inline(text)]
 
 
@@ -254,6 +268,72 @@ def page(name: str, version: str, said: Help, others: list[str]) -> str:
     # a heading begins a paragraph by itself
     heads = ("", *lines)
     return "\n".join(line for head, line in zip(heads, lines) if line != ".PP" or not head.startswith((".SH", ".SS"))) + "\n"
+
+
+def command_page(name: str, version: str, text: str) -> str:
+    """A manual page of a command of the Python package, by its help: usage, what it does, and blocks whose first line ends with a colon."""
+    usage, about, *blocks = text.strip("\n").split("\n\n")
+    sentence = " ".join(about.split()).partition(". ")[0].rstrip(".")
+    lines = [f'.TH "{name.upper()}" "1" "{date()}" "{version}" "{NAME}"', ".SH NAME", f"{name} \\- {escaped(sentence[0].lower() + sentence[1:])}"]
+    lines += [".SH SYNOPSIS", ".nf", *(escaped(line.replace("usage: ", "").strip()) for line in usage.split("\n")), ".fi"]
+    lines += [".SH DESCRIPTION", *map(escaped, about.split("\n"))]
+    for block in blocks:
+        head, *rest = block.split("\n")
+        lines += [f".SH {escaped(head[:-1].upper())}", ".nf", *map(escaped, rest), ".fi"] if head.endswith(":") else [".SH NOTES", *map(escaped, (head, *rest))]
+    return "\n".join([*lines, ".SH SEE ALSO", f".BR {NAME} (1)"]) + "\n"
+
+
+def quoted(page: str) -> str:
+    """A page whose words of a terminal stand in quotes, for help marks them as Markdown does."""
+    return page.replace("\\(ga", "`").replace("`", "\\(aq")
+
+
+def of_parsers(python: str) -> dict[str, str]:
+    """The same and completion, of the commands' argument parsers, by a Python that has what reads them."""
+    words = [python, "-B", str(FROM_PARSERS), date(), *(f"{name}={module}" for name, module in MODULES.items())]
+    known = {**os.environ, "PYTHONPATH": str(PACKAGE), "PYTHONDONTWRITEBYTECODE": "1"}
+    done = subprocess.run(words, stdout=subprocess.PIPE, text=True, timeout=SECONDS, env=known, check=True)
+    found: dict[str, str] = json.loads(done.stdout)
+    return found
+
+
+def commands_pages() -> dict[str, str]:
+    """The manual pages of the Python package's commands, by their path in the folder."""
+    readers = [python for python in (sys.executable, DEBIAN) if has(python, "shtab, build_manpages") or has(python, "shtab, argparse_manpage")]
+    if readers:
+        return {path: quoted(text) if path.startswith("man/") else text for path, text in of_parsers(readers[0]).items()}
+    known = {**os.environ, "PYTHONPATH": str(PACKAGE), "COLUMNS": "80", "PYTHONDONTWRITEBYTECODE": "1"}
+    written = {}
+    for name, module in MODULES.items():
+        said = []
+        for option in ("--version", "--help"):
+            done = subprocess.run([sys.executable, "-m", module, option], stdout=subprocess.PIPE, text=True, timeout=SECONDS, env=known, check=True)
+            said.append(done.stdout)
+        written[f"man/{name}.1"] = quoted(command_page(name, said[0].strip(), said[1]))
+    return written
+
+
+def document_page(name: str, about: str, text: str) -> str:
+    """A manual page of section 7, of a text of Markdown."""
+    version = re.search(r'BPFAGENT_VERSION_TEXT "([\d.]+)"', HEADER.read_text())
+    title = escaped(f"{NAME}-{name}")
+    lines = [f'.TH "{title.upper()}" "7" "{date()}" "{NAME} {version[1] if version else ""}" "{NAME}"', ".SH NAME", f"{title} \\- {escaped(about)}"]
+    lines += [*from_markdown(text), ".SH SEE ALSO", f".BR {NAME} (1),", f".BR {NAME} (3)"]
+    heads = ("", *lines)
+    return "\n".join(line for head, line in zip(heads, lines) if line != ".PP" or not head.startswith((".SH", ".SS"))) + "\n"
+
+
+def documents_pages() -> dict[str, str]:
+    """The manual pages of the library, of the protocol and of the frames, by their path in the folder."""
+    protocol = PROTOCOL.read_text(encoding="utf-8").partition("\n")[2]
+    frames = re.search(r"(?ms)^## Frames\n(.*?)(?=^## |\Z)", FAR_MEMORY.read_text(encoding="utf-8"))
+    if not frames:
+        raise Unreadable(f"{FAR_MEMORY} has no part on frames")
+    return {
+        f"man/{NAME}.3": header_page.page_of(HEADER, date(), escaped),
+        f"man/{NAME}-protocol.7": document_page("protocol", "commands and replies of bpfagent run and bpfagent serve", f"## Description\n{protocol}"),
+        f"man/{NAME}-frames.7": document_page("frames", "requests to a far store, and its answers", f"## Description\n{frames[1]}"),
+    }
 
 
 # ---- completion
@@ -355,16 +435,22 @@ def files(program: pathlib.Path) -> dict[str, str]:
 
 def main() -> None:
     parser = argparse.ArgumentParser(description="Writes manual pages, and completion for bash and zsh, from the program's own help.")
-    parser.add_argument("program", type=pathlib.Path, help="the program, such as crates/bpfagent/out/bpfagent")
+    parser.add_argument("program", type=pathlib.Path, nargs="?", help="the program, such as crates/bpfagent/out/bpfagent")
+    parser.add_argument("--python", action="store_true", help="write pages of the Python package's commands too")
+    parser.add_argument("--documents", action="store_true", help="write pages of the library, of the protocol and of the frames too")
     parser.add_argument("--folder", type=pathlib.Path, default=ROOT / "out", help="where man/ and completion/ are written (default: out)")
     given = parser.parse_args()
+    if not (given.program or given.python or given.documents):
+        parser.error("name the program, or give --python or --documents")
     try:
-        written = files(given.program.resolve())
+        written = files(given.program.resolve()) if given.program else {}
+        written |= commands_pages() if given.python else {}
+        written |= documents_pages() if given.documents else {}
         for path, text in written.items():
             file = given.folder / path
             file.parent.mkdir(parents=True, exist_ok=True)
             file.write_text(text, encoding="utf-8")
-    except (Unreadable, OSError) as why:
+    except (Unreadable, OSError, subprocess.SubprocessError) as why:
         sys.exit(f"manual.py: {why}")
     print(f"wrote {', '.join(written)} to {given.folder}")
 

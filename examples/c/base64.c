@@ -1,6 +1,6 @@
 // Base64 of a row of bytes. Returns the text's length. The alphabet comes in an object, since a program has no data
 // of its own.
-#include "bpfagent.h"
+#include "bpfagent_program.h"
 
 uint64_t program(char *text, const uint8_t *data, uint64_t length, const char *alphabet)
 {

@@ -1,5 +1,5 @@
 // Claims free bits of a bitmap, each for one machine alone, and emits their numbers. Returns how many it got.
-#include "bpfagent.h"
+#include "bpfagent_program.h"
 
 uint64_t program(uint64_t *bitmap, uint64_t bits, uint64_t wanted)
 {

@@ -1,5 +1,5 @@
 // Frees the bits of a bitmap from `first` on, so many. Returns how many of them were taken.
-#include "bpfagent.h"
+#include "bpfagent_program.h"
 
 uint64_t program(uint64_t *bitmap, uint64_t first, uint64_t count)
 {

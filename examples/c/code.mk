@@ -22,7 +22,7 @@ code: $(PROGRAMS:%=%.code)
 $(OUT)/%.code: $(OUT)/%.o
 	$(PYTHON) -m bpfagent.ship --output $@ $<
 
-$(OUT)/%.o: %.c $(HEADERS) $(PACKAGE)/bpfagent/include/bpfagent.h
+$(OUT)/%.o: %.c $(HEADERS) $(wildcard $(PACKAGE)/bpfagent/include/*.h)
 	@mkdir -p $(OUT)
 	$(CLANG) $(BPF) -c $< -o $@
 

@@ -1,5 +1,5 @@
 // Adds 1 to a counter so many times. Any number of machines may do so at once, and no count is lost.
-#include "bpfagent.h"
+#include "bpfagent_program.h"
 
 uint64_t program(uint64_t *counter, uint64_t times)
 {

@@ -1,5 +1,5 @@
 // The CRC-32 of a row of bytes, as zip and Ethernet have it.
-#include "bpfagent.h"
+#include "bpfagent_program.h"
 
 #define POLYNOMIAL 0xedb88320
 

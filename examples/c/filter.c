@@ -1,5 +1,5 @@
 // Copies the records of an object that cost at least so much and were sold before a day, and returns how many there are.
-#include "bpfagent.h"
+#include "bpfagent_program.h"
 
 struct record {
     uint32_t number;

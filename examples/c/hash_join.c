@@ -1,5 +1,5 @@
 // Joins two tables, each in an object: for each row of the right one, the row of the left one with its key.
-#include "bpfagent.h"
+#include "bpfagent_program.h"
 
 struct row {
     uint32_t key; // not 0, and in the left table once

@@ -1,5 +1,5 @@
 // A hash table in an object: places for pairs, and a pair stands in the first free place from its hash on.
-#include "bpfagent.h"
+#include "bpfagent_program.h"
 
 struct pair {
     uint64_t key; // 0 where the place is free

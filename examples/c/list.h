@@ -1,5 +1,5 @@
 // A list whose nodes stand anywhere in objects: a pointer that is kept in an object is an object's number and an offset.
-#include "bpfagent.h"
+#include "bpfagent_program.h"
 
 struct node {
     struct node *next;

@@ -1,6 +1,6 @@
 // Moves an amount between two accounts, so many times, under a lock. Returns how often there was enough to move. The
 // object may be taken away whenever the machine isn't inside.
-#include "bpfagent.h"
+#include "bpfagent_program.h"
 
 struct accounts {
     uint64_t lock; // the number of the machine that is inside, or 0

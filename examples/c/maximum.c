@@ -1,5 +1,5 @@
 // Raises a number to the greatest of a row of numbers. Any number of machines may do so at once.
-#include "bpfagent.h"
+#include "bpfagent_program.h"
 
 uint64_t program(uint64_t *maximum, const uint32_t *numbers, uint64_t count)
 {

@@ -4,7 +4,7 @@
 // which runs out/NAME.so to its end as the next machine and answers `exit V`. Each object is a buffer at its own
 // address, so programs get the same arguments as in the agent.
 #define _GNU_SOURCE
-#include "bpfagent.h"
+#include "bpfagent_program.h"
 #include <dlfcn.h>
 #include <inttypes.h>
 #include <stdio.h>

@@ -1,5 +1,5 @@
 // A queue of a few places in an object, from one machine to another. Each side writes its own count alone, so it needs no lock.
-#include "bpfagent.h"
+#include "bpfagent_program.h"
 
 struct queue {
     uint64_t put;   // how many values were put, by the one machine

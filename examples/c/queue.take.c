@@ -1,4 +1,7 @@
 // Takes so many numbers from a queue, and waits while it is empty. Returns their sum.
+//
+// It polls, which takes a worker while it waits: do so only for what another machine gives soon. A program that waits for a
+// client pauses instead: docs/REQUESTS.md.
 #include "queue.h"
 
 uint64_t program(struct queue *queue, uint64_t count)

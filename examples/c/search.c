@@ -1,5 +1,5 @@
 // Emits each place at which a pattern stands in a text. Returns how many there are.
-#include "bpfagent.h"
+#include "bpfagent_program.h"
 
 uint64_t program(const char *text, uint64_t length, const char *pattern, uint64_t wanted)
 {

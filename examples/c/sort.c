@@ -1,5 +1,5 @@
 // Sorts numbers by heap sort, the least first. Returns how many there are.
-#include "bpfagent.h"
+#include "bpfagent_program.h"
 
 // Lets the number at `at` sink until no child is above it.
 CALLED void sink(uint32_t *numbers, uint64_t at, uint64_t count)

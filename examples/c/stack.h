@@ -1,5 +1,5 @@
 // A stack in an object, which machines share without a lock.
-#include "bpfagent.h"
+#include "bpfagent_program.h"
 
 struct node {
     uint64_t value;

@@ -1,6 +1,6 @@
 // Several machines count the bytes of an object that have a value, into one counter without a lock. The last one to end
 // emits the whole count.
-#include "bpfagent.h"
+#include "bpfagent_program.h"
 
 struct tally {
     uint64_t count;

@@ -1,5 +1,5 @@
 // The greatest numbers of an object, in falling order: as many as another object, which begins with zeros, has room for.
-#include "bpfagent.h"
+#include "bpfagent_program.h"
 
 // Puts a number where it belongs among the greatest so far, and lets the least of them go.
 static void place(uint64_t *greatest, uint64_t k, uint64_t number)

@@ -1,5 +1,5 @@
 // Looks a key up in a table that an object holds, twice; for the sessions of docs/DEBUGGING.md.
-#include "bpfagent.h"
+#include "bpfagent_program.h"
 
 struct pair {
     uint32_t key, value;

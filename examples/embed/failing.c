@@ -157,6 +157,10 @@ static void texts(void)
     TAKES(8, bpfagent_assemble((const uint8_t *)text, sizeof text - 1, bytes, sizeof bytes, &count, &wrong));
     TAKES(9, bpfagent_check(CODE, sizeof CODE, &refusal));
     TAKES(10, bpfagent_text(CODE, sizeof CODE, 1, bytes, sizeof bytes, &count));
+    QUIET(bpfagent_state_name(BPFAGENT_IS_STOPPED, BPFAGENT_SPENT, bytes, sizeof bytes, &count));
+    QUIET(bpfagent_place_name(BPFAGENT_FAR, bytes, sizeof bytes, &count));
+    QUIET(bpfagent_reason_name(14, bytes, sizeof bytes, &count));
+    QUIET(bpfagent_wrong_name(BPFAGENT_WRONG_WORD, bytes, sizeof bytes, &count));
 }
 
 static void all(void)

@@ -304,6 +304,31 @@ static void texts(void)
     must(bpfagent_version() == BPFAGENT_VERSION, 1, "version");
 }
 
+/* The names of numbers, and numbers without one. */
+static void names(void)
+{
+    uint8_t text[16] = { 0 };
+    size_t count = 77;
+
+    wants(bpfagent_state_name(BPFAGENT_RUNNING, BPFAGENT_EXIT, text, sizeof text, &count), BPFAGENT_BAD, "the name of a machine that runs and has a stop");
+    wants(bpfagent_state_name(BPFAGENT_IS_STOPPED, BPFAGENT_GOES_ON, text, sizeof text, &count), BPFAGENT_BAD, "the name of no stop");
+    wants(bpfagent_state_name(3, BPFAGENT_EXIT, text, sizeof text, &count), BPFAGENT_BAD, "the name of state 3");
+    wants(bpfagent_place_name(4, text, sizeof text, &count), BPFAGENT_BAD, "the name of place 4");
+    wants(bpfagent_reason_name(0, text, sizeof text, &count), BPFAGENT_BAD, "the name of reason 0");
+    wants(bpfagent_wrong_name(8, text, sizeof text, &count), BPFAGENT_BAD, "the name of wrong 8");
+    must(count == 77 && text[0] == 0, 1, "nothing was written");
+    must(bpfagent_state_name(BPFAGENT_IS_PAUSED, BPFAGENT_GOES_ON, text, sizeof text, &count), BPFAGENT_OK, "the name of a state");
+    must(count == 6 && !memcmp(text, "paused", 6), 1, "paused");
+    must(bpfagent_state_name(BPFAGENT_IS_STOPPED, BPFAGENT_NOT_GRANTED, text, sizeof text, &count), BPFAGENT_OK, "the name of a stop");
+    must(count == 10 && !memcmp(text, "notgranted", 10), 1, "notgranted");
+    must(bpfagent_place_name(BPFAGENT_RETURNING, text, 3, &count), BPFAGENT_OK, "the name of a place, into 3 bytes");
+    must(count == 9 && !memcmp(text, "retgra", 6), 1, "ret");
+    must(bpfagent_reason_name(14, text, sizeof text, &count), BPFAGENT_OK, "the name of a reason");
+    must(count == 8 && !memcmp(text, "FallsOff", 8), 1, "FallsOff");
+    must(bpfagent_wrong_name(BPFAGENT_WRONG_TWICE_LABEL, text, sizeof text, &count), BPFAGENT_OK, "the name of what is wrong");
+    must(count == 10 && !memcmp(text, "TwiceLabel", 10), 1, "TwiceLabel");
+}
+
 static void code(bpfagent *a, size_t *machine)
 {
     static uint8_t long_code[32776];
@@ -487,6 +512,7 @@ int main(void)
     all_objects();
     keepers();
     texts();
+    names();
     no_agent(&agent);
     printf("%u wrong calls were answered as the header says\n", wrong);
     return 0;

@@ -28,9 +28,11 @@ MODULES = {"distributed": "python3-distributed", "redis": "python3-redis"}
 COMMANDS = {"redis-server": "redis-server", "redis-cli": "redis-tools"}
 HOST = "127.0.0.1"
 # How long a server may take to be ready, and how long all jobs together.
-SECONDS, PATIENCE = 60, 3600
+SECONDS, PATIENCE = 180, 3600
 # Milliseconds after which nodes of the cluster take one that is silent for dead.
 SILENT = 2000
+# Ports that Linux gives to nobody who asks for any.
+PORTS = range(10_000, 32_768)
 
 
 def missing() -> list[str]:
@@ -99,9 +101,13 @@ def results(client, futures: list, seconds: float = PATIENCE) -> list:
 
 def free_ports(count: int) -> list[int]:
     """Ports that nobody listens on."""
-    with contextlib.ExitStack() as stack:
-        sockets = [stack.enter_context(socket.create_server((HOST, 0))) for _ in range(count)]
-        return [it.getsockname()[1] for it in sockets]
+    found: list[int] = []
+    for port in random.SystemRandom().sample(PORTS, len(PORTS)):
+        with contextlib.suppress(OSError), socket.create_server((HOST, port)):
+            found.append(port)
+        if len(found) == count:
+            return found
+    raise OSError(f"there aren't {count} free ports")
 
 
 def wait_until(what: str, holds, seconds: float = SECONDS) -> None:
@@ -166,13 +172,13 @@ def single() -> Iterator[Server]:
 
 
 @contextlib.contextmanager
-def cluster(primaries: int = 3) -> Iterator[list[Server]]:
-    """A Redis Cluster of so many nodes with a replica each; first the primaries."""
+def cluster(primaries: int = 3, silent: int = SILENT) -> Iterator[list[Server]]:
+    """A Redis Cluster of so many nodes with a replica each; first the primaries. A node that is silent for so many milliseconds is taken for dead."""
     with tempfile.TemporaryDirectory() as folder:
         ports = free_ports(4 * primaries)
         servers = []
         for number, (port, bus) in enumerate(zip(ports[::2], ports[1::2])):
-            options = ("--cluster-enabled", "yes", "--cluster-port", str(bus), "--cluster-node-timeout", str(SILENT), "--repl-diskless-sync-delay", "0")
+            options = ("--cluster-enabled", "yes", "--cluster-port", str(bus), "--cluster-node-timeout", str(silent), "--repl-diskless-sync-delay", "0")
             servers.append(Server(pathlib.Path(folder) / f"node-{number}", port, options))
         try:
             for server in servers:

@@ -147,7 +147,7 @@ def of_service(program: str, count: int, seconds: float) -> Iterator[tuple[float
     for what, code in (("additions", ADDS), ("loads", LOADS)):
         for workers in (1, 2, 4):
             yield by_workers(program, code, workers, seconds), f"instructions a second, {what}, workers: {workers}"
-    with Service(program, "--workers", "0", "--connections", "8") as service:
+    with Service(program, "--port", "0", "--workers", "0", "--connections", "8") as service:
         service.setup.make(PIECE)
         service.listen()
         connecting = []
@@ -165,6 +165,11 @@ def of_service(program: str, count: int, seconds: float) -> Iterator[tuple[float
             patiently(clients[0].get, 1, 0, 1)
 
         yield median(move, max(count // 10, 1)), f"us until an object of {PIECE} bytes that was asked to leave is read again"
+        # It leaves once more and comes back, so that nothing is far at the end.
+        clients[0].leave(1)
+        while clients[0].tell("get 1 0 1") != "away 1":
+            time.sleep(0.001)
+        patiently(clients[0].get, 1, 0, 1)
         for client in clients:
             client.close()
 

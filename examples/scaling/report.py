@@ -1,13 +1,11 @@
 #!/usr/bin/env python3
-"""Writes the tables and pictures of docs/SCALING.md anew from figures.json: report.py [--check]
+"""Writes the tables and the picture of docs/SCALING.md anew from figures.json: report.py [--check]
 
-A table stands between `<!-- NAME -->` and `<!-- end -->`. With --check nothing is written, and the status is 1 if the page or a
+A table stands between `<!-- NAME -->` and `<!-- end -->`. With --check nothing is written, and the status is 1 if the page or the
 picture isn't what the figures make it. Standard library only.
 """
 from __future__ import annotations
 
-import contextlib
-import io
 import pathlib
 import re
 import sys
@@ -15,13 +13,11 @@ from typing import Iterator
 
 import costs
 import figures as kept
-import simulate_fleet
 from plots import Curve, Panel, picture, short
 
 HERE = pathlib.Path(__file__).resolve().parent
 DOCS = HERE.parents[1] / "docs"
 PAGE = DOCS / "SCALING.md"
-SIMULATION = "python3 examples/scaling/simulate_fleet.py"
 # Objects of which the bytes a second are shown, in bytes.
 LARGE = 4096
 WAYS = {"agents": "agents", "plain": "plain Python"}
@@ -95,13 +91,6 @@ def facts(figures: dict) -> str:
     )
 
 
-def simulation(figures: dict, laws: simulate_fleet.Laws) -> str:
-    """The simulation as it is called and what it prints."""
-    with contextlib.redirect_stdout(io.StringIO()) as printed:
-        simulate_fleet.print_tables(figures, laws)
-    return f"```\n$ {SIMULATION}\n{printed.getvalue()}```"
-
-
 def measured(rows: list[dict]) -> str:
     """The picture of jobs and bytes by agents."""
     agents = [float(it) for it in dict.fromkeys(row["agents"] for row in rows)]
@@ -122,27 +111,16 @@ def measured(rows: list[dict]) -> str:
     return picture([Panel(0, "jobs a second, by workers", jobs, agents), Panel(1, "MB a second, by workers", moved, agents)])
 
 
-def simulated(laws: simulate_fleet.Laws) -> str:
-    """The picture of jobs by simulated agents."""
-    marks = [float(it) for it in simulate_fleet.COUNTS]
-    panels = []
-    for number, count in enumerate(simulate_fleet.SCHEDULERS):
-        title = f"simulated jobs a second, by agents, {count} scheduler{'s' * (count > 1)}"
-        panels.append(Panel(number, title, simulate_fleet.curves(laws, schedulers=[count]), marks))
-    return picture(panels)
-
-
 def made(figures: dict) -> Iterator[tuple[pathlib.Path, str]]:
-    """The page and the pictures as the figures make them."""
-    text, laws = PAGE.read_text(), simulate_fleet.Laws.of(figures)
-    blocks = {"throughput": throughput(figures["rows"]), "examples": examples(figures), "facts": facts(figures), "simulation": simulation(figures, laws)}
+    """The page and the picture as the figures make them."""
+    text = PAGE.read_text()
+    blocks = {"throughput": throughput(figures["rows"]), "examples": examples(figures), "facts": facts(figures)}
     for name, content in blocks.items():
         text, count = re.subn(rf"(<!-- {name} -->\n).*?(\n<!-- end -->)", lambda found: found[1] + content + found[2], text, flags=re.S)
         if count != 1:
             raise SystemExit(f"{PAGE} has {count} places for {name}")
     yield PAGE, text
     yield DOCS / "scaling-measured.svg", measured(figures["rows"]) + "\n"
-    yield DOCS / "scaling-simulated.svg", simulated(laws) + "\n"
 
 
 def main() -> None:

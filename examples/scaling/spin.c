@@ -1,5 +1,5 @@
 // Adds the last byte of an object to a total after so many turns of a loop, of two instructions each.
-#include "bpfagent.h"
+#include "bpfagent_program.h"
 
 uint64_t program(uint64_t *total, const uint8_t *object, uint64_t turns)
 {

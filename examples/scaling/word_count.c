@@ -1,5 +1,5 @@
 // Counts the words of a text, which are runs of bytes above a space, and adds the count to a total. A word ends with its text.
-#include "bpfagent.h"
+#include "bpfagent_program.h"
 
 #define EACH(byte) ((byte) * UINT64_C(0x0101010101010101))
 // Keeps a constant in a register: the compiler would load it anew in each turn.

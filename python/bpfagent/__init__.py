@@ -23,13 +23,17 @@ A refusal says why. The command changed nothing, and the conversation goes on:
     Traceback (most recent call last):
     bpfagent.replies.Refused: outside
 
-`Agent.connect(host, port)` talks to a service in the same way, and `Service` starts one. README.md of this package shows two
-clients of one service. An agent isn't for several threads at once: give each its own connection.
+`Agent.reach(place)` talks to a service in the same way, and `Service` starts one. An `Engine` is an agent in this process, by the
+library for C, and has the same methods. README.md of this package shows two clients of one service. An agent isn't for several threads at once: give each its own connection.
 """
 from . import interrupt as _interrupt  # noqa: F401, I001 - it is heard during the other imports
 from .agent import ARGUMENTS, PIECE, REPLY, STACK, Agent, address, patiently
+from .engine import Engine, FarStore
 from .image import Image, Unloadable, load
-from .replies import Broken, Hit, Move, NotExited, Paused, Ran, Refused, Registers, Run, Step, Stopped, Waiting
+from .library import NoLibrary
+from .procedure import Exhausted, Failed, Procedure
+from .protocol import why_bad
+from .replies import Broken, Closed, Hit, Move, NotExited, Paused, Ran, Refused, Registers, Run, Step, Stopped, Waiting
 from .service import Service
 
 __version__ = "0.9.0"
@@ -40,11 +44,18 @@ __all__ = [
     "STACK",
     "Agent",
     "Broken",
+    "Closed",
+    "Engine",
+    "Exhausted",
+    "Failed",
+    "FarStore",
     "Hit",
     "Image",
     "Move",
+    "NoLibrary",
     "NotExited",
     "Paused",
+    "Procedure",
     "Ran",
     "Refused",
     "Registers",
@@ -57,4 +68,5 @@ __all__ = [
     "address",
     "load",
     "patiently",
+    "why_bad",
 ]

@@ -1,6 +1,6 @@
 """A conversation with an agent.
 
-`Agent.run` starts `bpfagent run` and talks to it over pipes. `Agent.connect` talks to a service over TCP. An `Agent` has one
+`Agent.run` starts `bpfagent run` and talks to it over pipes. `Agent.reach` talks to a service at a socket file or over TCP. An `Agent` has one
 method for each command of docs/PROTOCOL.md.
 """
 from __future__ import annotations
@@ -8,6 +8,7 @@ from __future__ import annotations
 import contextlib
 import os
 import re
+import socket
 import subprocess
 import time
 from collections import deque
@@ -15,12 +16,32 @@ from types import TracebackType
 from typing import Callable, Iterable, Iterator, Mapping, Optional, Sequence, TypeVar, Union
 
 from . import replies
+from .arguments import (
+    Bytes,
+    of_bytes,
+    of_grants,
+    of_length,
+    of_machine,
+    of_object,
+    of_offset,
+    of_piece,
+    of_range,
+    of_slot,
+    of_stack,
+    of_start,
+    ship_line,
+    size_of,
+    within,
+)
+from .limits import ARGUMENTS as ARGUMENTS
+from .limits import LONGEST
+from .limits import PIECE as PIECE
+from .printable import printable
 from .replies import RUNNING, Broken, Hit, Move, Ran, Refused, Registers, Run, Step, Waiting, step_of, words_of
-from .streams import Connection, Idle, Pipes, Stream, awaited
+from .starting import environment, found_program
+from .streams import Idle, Pipes, Stream, awaited, connected, connection_over, reached
 
-# The most bytes of one `put` or `get`, the number of a program's arguments, and the longest reply with its line end.
-PIECE = 4096
-ARGUMENTS = 5
+# The longest reply with its line end.
 REPLY = 70_000
 # The object number that stands for a machine's own stack in an address.
 STACK = 0xFFFF_FFFF
@@ -28,10 +49,13 @@ STACK = 0xFFFF_FFFF
 AHEAD = 1 << 15
 # As many steps are sent before their replies are read, where nobody else steps.
 AT_ONCE = 256
+# As many `put` are sent before their replies are read, which together fit into any pipe. No object needs more.
+PUTS = 16
 # How long the end of a started program may take, and that of one that was killed, in seconds.
 PATIENCE, GRACE = 10.0, 0.5
-# What is asked for again is asked after the first pause, and each further pause is twice as long, up to the last, in seconds.
-FIRST_PAUSE, LAST_PAUSE = 0.001, 0.05
+# What is asked for again is asked after the first pause, and then after a quarter of the time so far, up to the last pause, in seconds. So it is
+# known soon after it has come. A machine of a service may end within microseconds.
+FIRST_PAUSE, SHORT_PAUSE, LAST_PAUSE = 0.001, 0.00002, 0.05
 
 PathLike = Union[str, "os.PathLike[str]"]
 T = TypeVar("T")
@@ -43,13 +67,12 @@ def address(number: int, offset: int = 0) -> int:
     return (number << 32) + offset
 
 
-def pauses(seconds: float = float("inf")) -> Iterator[None]:
+def pauses(seconds: float = float("inf"), first: float = FIRST_PAUSE) -> Iterator[None]:
     """Gives a turn at once, and others after pauses that grow, until so many seconds have passed."""
-    end, pause = time.monotonic() + seconds, FIRST_PAUSE
+    start = time.monotonic()
     yield
-    while time.monotonic() < end:
-        time.sleep(pause)
-        pause = min(2 * pause, LAST_PAUSE)
+    while (spent := time.monotonic() - start) < seconds:
+        time.sleep(min(max(first, spent / 4), LAST_PAUSE))
         yield
 
 
@@ -71,12 +94,29 @@ def patiently(call: Callable[..., T], *arguments: object, seconds: float = 10.0)
     raise last
 
 
+class Faults:
+    """Has what goes wrong in a block end a conversation. A class, since a generator takes microseconds."""
+
+    __slots__ = ("_end",)
+
+    def __init__(self, end: Callable[[BaseException], None]) -> None:
+        self._end = end
+
+    def __enter__(self) -> None:
+        pass
+
+    def __exit__(self, kind: Optional[type[BaseException]], error: Optional[BaseException], trace: Optional[TracebackType]) -> None:
+        if error is not None:
+            self._end(error)
+
+
 class Agent:
     """A conversation with an agent, which is a context manager.
 
     Each method is a command. It raises `Refused` if the agent refuses the command, and `Broken` if the conversation is over.
-    After that it stays over. Numbers of objects and machines begin at 1, lengths and offsets are in bytes. An agent isn't for
-    several threads at once: give each its own connection.
+    After that it stays over. A value that no command takes raises `ValueError` or `TypeError` before anything is sent. Numbers of
+    objects and machines begin at 1, lengths and offsets are in bytes. An agent isn't for several threads at once: give each its own
+    connection.
     """
 
     def __init__(self, stream: Stream, end: Callable[[], None], timeout: Optional[float] = None) -> None:
@@ -86,6 +126,7 @@ class Agent:
         self._rest = b""
         self._end: Optional[Callable[[], None]] = end
         self._fault: Optional[str] = None
+        self._faults = Faults(self._end_by)
         self._is_alone = False
         self.timeout: Optional[float] = timeout
         # How long the end of a started program may take, in seconds; and whether the other side has ended the conversation.
@@ -97,12 +138,13 @@ class Agent:
         self._heard = 0.0
 
     @classmethod
-    def run(cls: type[A], program: PathLike, *arguments: str, timeout: Optional[float] = None) -> A:
+    def run(cls: type[A], program: Optional[PathLike] = None, *arguments: str, timeout: Optional[float] = None) -> A:
         """Starts `bpfagent run` with arguments such as "--budget", "4096", or raises an `OSError` if there is no such program.
 
-        Its standard error is that of this process. `timeout`, in seconds, bounds each reply.
+        Without a program it is the one that the environment's BPFAGENT names, or else the one on PATH. Its standard error is that
+        of this process. `timeout`, in seconds, bounds each reply.
         """
-        process = started([os.fspath(program), "run", *arguments])
+        process = started(program, "run", *arguments)
         pipes = Pipes(process)
 
         def end() -> None:
@@ -123,7 +165,17 @@ class Agent:
     def connect(cls: type[A], host: str, port: int, timeout: Optional[float] = None, idle: Optional[Idle] = None) -> A:
         """Connects to a service, or raises an `OSError`. `timeout`, in seconds, bounds the connecting and each reply. `idle` is called
         again and again meanwhile."""
-        connection = Connection(host, port, timeout, idle)
+        return cls._over(connected(host, port, timeout, idle), timeout, idle)
+
+    @classmethod
+    def reach(cls: type[A], place: str, timeout: Optional[float] = None, idle: Optional[Idle] = None) -> A:
+        """The same for the place of a service, HOST:PORT, unix:PATH or tls:HOST:PORT. Another text is a `ValueError`."""
+        return cls._over(reached(place, timeout, idle), timeout, idle)
+
+    @classmethod
+    def _over(cls: type[A], made: socket.socket, timeout: Optional[float], idle: Optional[Idle]) -> A:
+        """Over a connected socket."""
+        connection = connection_over(made)
         agent = cls(connection, connection.close, timeout)
         agent.idle = idle
         return agent
@@ -160,13 +212,22 @@ class Agent:
             raise ValueError("a line is ASCII, without a line end within")
         answers: list[str] = []
         rest = [line.encode("ascii") + b"\n" for line in lines]
-        if self._fault:
-            raise Broken(self._fault)
+        self._need_open()
         while rest:
             count = fitting(rest)
             answers += self._exchange(b"".join(rest[:count]), count)
             rest = rest[count:]
         return answers
+
+    def _tell_short(self, lines: Sequence[str]) -> list[str]:
+        """The same of a few lines with short replies, which are sent together however long they are."""
+        self._need_open()
+        return self._exchange("".join(f"{line}\n" for line in lines).encode("ascii"), len(lines))
+
+    def _need_open(self) -> None:
+        """Raises `Broken` if the conversation is over."""
+        if self._fault:
+            raise Broken(self._fault)
 
     def hurry(self, seconds: float) -> None:
         """All replies together may take so many seconds from now on, that of which is awaited included."""
@@ -186,18 +247,19 @@ class Agent:
     def _exchange(self, content: bytes, count: int) -> list[str]:
         """Sends these bytes, and reads so many replies."""
         since = self._heard = time.monotonic()
-        try:
+        with self._faults:
             self._stream.send(content, self._until(since))
             return [self._reply(since) for _ in range(count)]
-        except TimeoutError:
+
+    def _end_by(self, error: BaseException) -> None:
+        """Whatever went wrong while bytes were on their way ends the conversation."""
+        if isinstance(error, TimeoutError):
             raise self._broken("no reply came in time" if self._deadline is not None else f"no reply came within {self.timeout:g} seconds") from None
-        except OSError as error:
+        if isinstance(error, OSError):
             self.has_ended = True
             raise self._broken(f"the stream failed: {error.strerror or error}") from None
-        except BaseException:
-            # What is still to come would be taken for the reply to a later line.
-            self._fault = self._fault or "it was interrupted while a reply was awaited"
-            raise
+        # What is still to come would be taken for the reply to a later line.
+        self._fault = self._fault or "it was interrupted while a reply was awaited"
 
     def _reply(self, since: float) -> str:
         """The next line of those that are awaited since this time."""
@@ -214,7 +276,7 @@ class Agent:
         line = self._lines.popleft()
         if len(line) >= REPLY:
             raise self._broken("a reply is too long")
-        return line.decode("ascii", "replace")
+        return printable(line.decode("ascii", "replace"))
 
     def _broken(self, why: str) -> Broken:
         """Nothing more can be asked."""
@@ -230,7 +292,12 @@ class Agent:
 
     def _ask(self, form: re.Pattern[str], line: str, *numbers: int) -> re.Match[str]:
         """The parts of a reply of this form, of which the first have to be these numbers."""
-        reply = self._granted(line)
+        return self._parts(form, line, self.tell(line), *numbers)
+
+    def _parts(self, form: re.Pattern[str], line: str, reply: str, *numbers: int) -> re.Match[str]:
+        """The same of the reply to a line that was sent."""
+        if replies.REFUSAL.fullmatch(reply):
+            raise Refused(reply)
         found = form.fullmatch(reply)
         if not found or any(int(part) != number for part, number in zip(found.groups(), numbers)):
             raise self._broken(f"{line[:60]!r} was answered {reply[:60]!r}")
@@ -240,38 +307,50 @@ class Agent:
 
     def make(self, length: int) -> int:
         """Makes an object of 1 to 65,536 zero bytes, and gives its number."""
-        return int(self._ask(replies.MADE, f"make {length}")[1])
+        return int(self._ask(replies.MADE, f"make {of_length(length)}")[1])
 
-    def put(self, number: int, offset: int, content: bytes) -> None:
+    def put(self, number: int, offset: int, content: Bytes) -> None:
         """Writes 1 to 4096 bytes to an object."""
-        self._ask(replies.DONE, f"put {number} {offset} {content.hex()}")
+        self._ask(replies.DONE, put_line(number, offset, content))
 
     def get(self, number: int, offset: int, length: int) -> bytes:
         """Reads 1 to 4096 bytes of an object."""
-        return self._bytes(f"get {number} {offset} {length}", length)
+        return self._bytes(get_line(number, offset, length), length)
 
     def free(self, number: int) -> None:
         """Frees an object; its number isn't used again."""
-        self._ask(replies.FREED, f"free {number}", number)
+        self._ask(replies.FREED, f"free {of_object(number)}", number)
 
-    def write(self, number: int, content: bytes, offset: int = 0) -> None:
-        """Writes as many bytes as there are, by one `put` for each 4096: others may see some of them written."""
-        for at in range(0, len(content), PIECE):
-            self.put(number, offset + at, content[at : at + PIECE])
+    def write(self, number: int, content: Bytes, offset: int = 0) -> None:
+        """Writes as many bytes as there are, by one `put` for each 4096, which are sent without waiting for each reply. Others may see some of
+        them written, and if one `put` is refused, any of the others may have been done."""
+        given = bytes(of_bytes(content))
+        lines = [put_line(number, offset + at, given[at : at + PIECE]) for at in range(0, len(given), PIECE)]
+        for first in range(0, len(lines), PUTS):
+            sent = lines[first : first + PUTS]
+            for line, reply in zip(sent, self._tell_short(sent)):
+                self._parts(replies.DONE, line, reply)
 
     def read(self, number: int, length: int, offset: int = 0) -> bytes:
-        """Reads so many bytes, by one `get` for each 4096: others may write in between."""
-        return b"".join(self.get(number, offset + at, min(length - at, PIECE)) for at in range(0, length, PIECE))
+        """Reads so many bytes, by one `get` for each 4096, which are sent without waiting for each reply: others may write in between."""
+        whole = within(length, LONGEST, 0, "a length")
+        sizes = [min(whole - at, PIECE) for at in range(0, whole, PIECE)]
+        lines = [get_line(number, offset + place * PIECE, size) for place, size in enumerate(sizes)]
+        return b"".join(self._content(line, reply, size) for line, reply, size in zip(lines, self.tell_all(lines), sizes))
 
-    def make_of(self, content: bytes) -> int:
+    def make_of(self, content: Bytes) -> int:
         """Makes an object of these bytes, and gives its number."""
-        number = self.make(len(content))
+        number = self.make(size_of(of_bytes(content)))
         self.write(number, content)
         return number
 
     def _bytes(self, line: str, length: int) -> bytes:
         """The bytes that a command shows, which have this length."""
-        content = bytes.fromhex(self._ask(replies.BYTES, line)[1])
+        return self._content(line, self.tell(line), length)
+
+    def _content(self, line: str, reply: str, length: int) -> bytes:
+        """The same of the reply to a line that was sent."""
+        content = bytes.fromhex(self._parts(replies.BYTES, line, reply)[1])
         if len(content) != length:
             raise self._broken(f"{line!r} was answered {len(content)} bytes")
         return content
@@ -280,19 +359,19 @@ class Agent:
 
     def leave(self, number: int) -> Move:
         """Begins to take an object away; a service asks its mover."""
-        return self._move(f"leave {number}", number, Move.LEAVING, Move.ASKED)
+        return self._move(f"leave {of_object(number)}", number, Move.LEAVING, Move.ASKED)
 
     def left(self, number: int) -> Move:
         """Puts an object that is leaving into the far store."""
-        return self._move(f"left {number}", number, Move.LEFT)
+        return self._move(f"left {of_object(number)}", number, Move.LEFT)
 
     def return_(self, number: int) -> Move:
         """Begins to bring an object back; a service asks its mover."""
-        return self._move(f"return {number}", number, Move.RETURNING, Move.ASKED)
+        return self._move(f"return {of_object(number)}", number, Move.RETURNING, Move.ASKED)
 
     def returned(self, number: int) -> Move:
         """Gets an object that is returning from the far store."""
-        return self._move(f"returned {number}", number, Move.HOME)
+        return self._move(f"returned {of_object(number)}", number, Move.HOME)
 
     def _move(self, line: str, number: int, *moves: Move) -> Move:
         found = self._ask(replies.MOVED, line)
@@ -331,24 +410,16 @@ class Agent:
 
     # ---- machines
 
-    def ship(self, code: bytes, fuel: int, *arguments: int) -> int:
+    def ship(self, code: Bytes, fuel: int, *arguments: int) -> int:
         """Makes a machine of raw code that reaches all objects, and gives its number.
 
         It may do `fuel` instructions. R1 to R5 are the arguments, and 0 where there are fewer.
         """
-        return int(self._ask(replies.SHIPPED, self._ship_line("ship", code, fuel, arguments))[1])
+        return int(self._ask(replies.SHIPPED, ship_line("ship", code, of_start(fuel, arguments)))[1])
 
-    def ship2(self, code: bytes, fuel: int, grants: Mapping[int, str], *arguments: int) -> int:
+    def ship2(self, code: Bytes, fuel: int, grants: Mapping[int, str], *arguments: int) -> int:
         """Makes a machine that reaches these objects alone: of each number `r` or `w`, for reading or for writing too."""
-        words = [f"{grants[number]}{number}" for number in sorted(grants)]
-        return int(self._ask(replies.SHIPPED, " ".join([self._ship_line("ship2", code, fuel, arguments), *words]))[1])
-
-    @staticmethod
-    def _ship_line(command: str, code: bytes, fuel: int, arguments: tuple[int, ...]) -> str:
-        if len(arguments) > ARGUMENTS:
-            raise ValueError(f"a program takes {ARGUMENTS} arguments, and not {len(arguments)}")
-        numbers = [fuel, *arguments, *[0] * (ARGUMENTS - len(arguments))]
-        return " ".join([command, *map(str, numbers), code.hex()])
+        return int(self._ask(replies.SHIPPED, ship_line("ship2", code, of_start(fuel, arguments), of_grants(grants)))[1])
 
     def step(self, machine: int) -> Step:
         """Does one instruction of a machine."""
@@ -359,7 +430,7 @@ class Agent:
         return self._step("one", machine)
 
     def _step(self, command: str, machine: int) -> Step:
-        line = f"{command} {machine}"
+        line = f"{command} {of_machine(machine)}"
         return self._step_of(line, machine, self._granted(line))
 
     def _step_of(self, line: str, machine: int, reply: str) -> Step:
@@ -373,7 +444,7 @@ class Agent:
 
     def _advance(self, machine: int, count: int) -> tuple[int, Step]:
         """Steps a machine so many times: how many steps were answered `ran`, and the first other one, or the last."""
-        line, ran = f"step {machine}", f"ran {machine} "
+        line, ran = f"step {of_machine(machine)}", f"ran {machine} "
         answers = self.tell_all([line] * count)
         for done, reply in enumerate(answers):
             if not reply.startswith(ran):
@@ -404,7 +475,7 @@ class Agent:
 
     def wait(self, machine: int, seconds: float = 60.0) -> Registers:
         """Waits until the workers of a service have run a machine to its end, or it is paused. Raises `TimeoutError` after so many seconds."""
-        for _ in pauses(seconds):
+        for _ in pauses(seconds, SHORT_PAUSE):
             registers = self.regs(machine)
             if registers.state != RUNNING:
                 return registers
@@ -412,42 +483,56 @@ class Agent:
 
     def out(self, machine: int) -> tuple[int, ...]:
         """The values that a machine has emitted."""
-        return words_of(self._ask(replies.EMITTED, f"out {machine}", machine)[2])
+        return words_of(self._ask(replies.EMITTED, f"out {of_machine(machine)}", machine)[2])
 
     def stack(self, machine: int, offset: int, length: int) -> bytes:
         """Reads 1 to 4096 bytes of a machine's stack."""
-        return self._bytes(f"stack {machine} {offset} {length}", length)
+        offset, length = of_stack(offset, length)
+        return self._bytes(f"stack {of_machine(machine)} {offset} {length}", length)
 
     def line(self, machine: int, slot: int) -> str:
         """The instruction that begins at a slot, as assembly."""
-        return self._ask(replies.SHOWN, f"line {machine} {slot}", machine, slot)[3]
+        return self._ask(replies.SHOWN, f"line {of_machine(machine)} {of_slot(slot)}", machine, slot)[3]
 
     def regs(self, machine: int) -> Registers:
         """The machine's slot, fuel, state and registers."""
-        found = self._ask(replies.REGISTERS, f"regs {machine}", machine)
+        found = self._ask(replies.REGISTERS, f"regs {of_machine(machine)}", machine)
         return Registers(machine, int(found[2]), int(found[3]), found[4], words_of(found[5]))
 
     # ---- debugging
 
     def resume(self, machine: int) -> None:
         """Ends the pause of a machine."""
-        self._ask(replies.DONE, f"resume {machine}")
+        self._ask(replies.DONE, f"resume {of_machine(machine)}")
 
     def break_(self, machine: int, slot: int) -> None:
         """Sets a breakpoint: the machine is paused before it does the instruction at this slot."""
-        self._ask(replies.DONE, f"break {machine} {slot}")
+        self._ask(replies.DONE, f"break {of_machine(machine)} {of_slot(slot)}")
 
     def unbreak(self, machine: int, slot: int) -> None:
         """Clears a breakpoint."""
-        self._ask(replies.DONE, f"unbreak {machine} {slot}")
+        self._ask(replies.DONE, f"unbreak {of_machine(machine)} {of_slot(slot)}")
 
     def watch(self, machine: int, begin: int, length: int) -> None:
         """Watches a range of bytes from an address on, for writes by a machine."""
-        self._ask(replies.DONE, f"watch {machine} {begin} {length}")
+        begin, length = of_range(begin, length)
+        self._ask(replies.DONE, f"watch {of_machine(machine)} {begin} {length}")
 
     def unwatch(self, machine: int, begin: int, length: int) -> None:
         """No longer watches a range."""
-        self._ask(replies.DONE, f"unwatch {machine} {begin} {length}")
+        begin, length = of_range(begin, length)
+        self._ask(replies.DONE, f"unwatch {of_machine(machine)} {begin} {length}")
+
+
+def put_line(number: int, offset: int, content: Bytes) -> str:
+    """The `put` line of these bytes."""
+    of_piece(content)
+    return f"put {of_object(number)} {of_offset(offset)} {content.hex()}"
+
+
+def get_line(number: int, offset: int, length: int) -> str:
+    """The `get` line of these bytes."""
+    return f"get {of_object(number)} {of_offset(offset)} {of_length(length, PIECE)}"
 
 
 def fitting(lines: Sequence[bytes]) -> int:
@@ -461,9 +546,13 @@ def fitting(lines: Sequence[bytes]) -> int:
     return count
 
 
-def started(command: Sequence[str]) -> subprocess.Popen[bytes]:
-    """A program with pipes to it. An interrupt from the terminal reaches this process alone."""
-    return subprocess.Popen(command, stdin=subprocess.PIPE, stdout=subprocess.PIPE, bufsize=0, start_new_session=True)
+def started(program: Optional[PathLike], *arguments: str, errors: Optional[int] = None) -> subprocess.Popen[bytes]:
+    """A program with pipes to it, bpfagent if none is named. An interrupt from the terminal reaches this process alone. `errors` is what
+    becomes of its standard error; that of this process if nothing is said."""
+    command = [found_program() if program is None else os.fspath(program), *arguments]
+    return subprocess.Popen(
+        command, stdin=subprocess.PIPE, stdout=subprocess.PIPE, stderr=errors, bufsize=0, start_new_session=True, env=environment()
+    )
 
 
 @contextlib.contextmanager

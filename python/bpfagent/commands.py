@@ -7,6 +7,11 @@ import sys
 from typing import Callable, Optional, Sequence
 
 from . import __version__, interrupt
+from .printable import printable
+from .streams import TLS, UNIX, checked_place, parted
+
+# The control characters of a fault that has several lines, as clang's.
+KEPT = "\t\n"
 
 
 def guarded(name: str, call: Callable[[], None], *faults: type[BaseException]) -> None:
@@ -33,7 +38,7 @@ def guarded(name: str, call: Callable[[], None], *faults: type[BaseException]) -
     except KeyboardInterrupt:
         sys.exit(interrupt.INTERRUPTED)
     except known as why:
-        sys.exit(f"{name}: {fault_text(why)}")
+        sys.exit(f"{name}: {printable(fault_text(why), KEPT)}")
     finally:
         # Nothing is left to be done, and Python's own end would show a traceback.
         if is_kept:
@@ -78,10 +83,18 @@ def port_of(text: str) -> int:
 
 def place_of(text: str) -> tuple[str, int]:
     """HOST:PORT as an argument. Without a host it is this one."""
-    host, _, port = text.rpartition(":")
-    if not port.isdecimal() or not 1 <= int(port) <= 65_535 or "/" in host:
-        raise argparse.ArgumentTypeError(f"{text!r} is not HOST:PORT, with a port from 1 to 65535")
-    return host.strip("[]") or "127.0.0.1", int(port)
+    try:
+        return parted(text)
+    except ValueError as why:
+        raise argparse.ArgumentTypeError(str(why)) from None
+
+
+def service_of(text: str) -> str:
+    """The place of a service as an argument, HOST:PORT, unix:PATH or tls:HOST:PORT. Without a host it is this one."""
+    try:
+        return text if checked_place(text).startswith((UNIX, TLS)) else address_text(*parted(text))
+    except ValueError as why:
+        raise argparse.ArgumentTypeError(str(why)) from None
 
 
 def address_text(host: str, port: int) -> str:

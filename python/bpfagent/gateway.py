@@ -1,17 +1,20 @@
 """Keeps the parcels of a far store in Redis: the command `bpfagent-redis`.
 
 It speaks the frames of docs/FAR-MEMORY.md on 127.0.0.1. It tries to reach Redis, prints `listening P`, and ends when its input
-ends, or by SIGINT or SIGTERM. Each client has a store of its own, which begins empty. The key of a parcel is the prefix, a random word for the client,
-`:` and the id. The gateway deletes a client's keys when the client goes, and all keys when it ends itself.
+ends, or by SIGINT, SIGTERM or SIGHUP. Each client has a store of its own, which begins empty. A key is the prefix, a word for this
+gateway, one for the client, and the id. The gateway deletes a client's keys when the client goes, and all keys when it ends itself.
+What it couldn't delete it deletes when Redis, or the gateway at this port of this host, is back; until then an expiry bounds it.
 
-Redis is one server, or a cluster whose redirections are followed. While Redis can't be reached, or has no room, a request is
-answered 2 and the next one tries again. Standard error says once that Redis can't be reached, and once that it can be again.
+Redis is one server or a Cluster, asked by redis-py. While Redis can't be reached, or has no room, a request is answered 2 and the
+next one tries again. Standard error says once that Redis can't be reached, and once that it can be again.
 """
 from __future__ import annotations
 
 import argparse
 import contextlib
+import hashlib
 import os
+import pathlib
 import secrets
 import select
 import signal
@@ -20,138 +23,45 @@ import socketserver
 import sys
 import threading
 import time
-from typing import Any, Iterator, Union
+from typing import TYPE_CHECKING, Any, Callable, Iterator
+from urllib.parse import urlsplit
 
-from .commands import add_version, fault_text, guarded, place_of, port_of
+from .commands import add_version, address_text, fault_text, guarded, place_of, port_of
 from .far import DONE, FORGET, GET, HEAD, LIMIT, NO_ROOM, PUT, REFUSED_ID
+from .health import Health, Unkept, say
 
-# How long Redis may take to accept a connection, for a write and for a read, in seconds.
-SECONDS = 10.0
+if TYPE_CHECKING:
+    from .redisclient import Parcels
+
+NEEDS = "this needs redis-py: apt-get install python3-redis, or pip install 'bpfagent[redis]'"
 # How long no client is accepted after one couldn't be, as when no descriptor is left, in seconds.
 PAUSE = 0.1
-STDERR = 2
-# How much is shown of what Redis says, which may be long.
-SHOWN = 200
-# How often a request is sent on to another server of a cluster.
-REDIRECTIONS = 5
+# For how long Redis keeps a key that isn't renewed, in seconds, and how often keys are renewed in that time.
+EXPIRY, LEAST_EXPIRY, MOST_EXPIRY = 86_400, 10, 31_536_000
+RENEWALS = 4
+# The first pause after a renewal that failed, in seconds; each further one is twice as long, up to that of renewals.
+AGAIN = 5.0
+# What tells this host from others: its name, its installation, and its network, to which the port belongs.
+MACHINE, NETWORK = pathlib.Path("/etc/machine-id"), "/proc/self/ns/net"
 
 # The command of Redis for each kind of request.
 COMMANDS = {PUT: "SET", GET: "GET", FORGET: "DEL"}
-
-# What Redis answers: bytes, a number, or nothing.
-Reply = Union[bytes, int, None]
-
-
-class Unkept(Exception):
-    """Redis can't be reached, or it answered an error. `is_reached` says which."""
-
-    def __init__(self, why: str, is_reached: bool = True) -> None:
-        super().__init__(why)
-        self.is_reached = is_reached
 
 
 class Unbound(Exception):
     """The gateway can't listen on its port."""
 
 
-class Health:
-    """Says on standard error when Redis begins to fail and when it works again: one line each, however often it is asked."""
-
-    def __init__(self) -> None:
-        self._wrong: set[str] = set()
-        self._lock = threading.Lock()
-
-    def failed(self, command: str, fault: Unkept) -> None:
-        """A command failed. If Redis wasn't reached, that holds for all commands."""
-        what = command if fault.is_reached else ""
-        with self._lock:
-            is_new = what not in self._wrong
-            self._wrong.add(what)
-        if is_new:
-            say(str(fault) if fault.is_reached else f"can't be reached: {fault}")
-
-    def worked(self, command: str) -> None:
-        """A command was done."""
-        with self._lock:
-            over = self._wrong & {"", command}
-            self._wrong -= over
-        if "" in over:
-            say("can be reached again")
-        if command in over:
-            say(f"{command} works again")
+class Unusable(Exception):
+    """Redis can't be asked, since redis-py isn't there."""
 
 
-def say(text: str) -> None:
-    """A line about Redis. If nobody can read it, it is lost, and the clients are served all the same."""
+def name_of(port: int) -> str:
+    """A word for the gateway at this port of this host: the same when it starts again, and no other gateway's."""
+    told = [socket.gethostname().encode()]
     with contextlib.suppress(OSError):
-        os.write(STDERR, f"redis: {text[:SHOWN]}\n".encode(errors="backslashreplace"))
-
-
-class Node:
-    """A connection to a server of Redis."""
-
-    def __init__(self, address: str) -> None:
-        host, _, port = address.rpartition(":")
-        # The connection is closed when the file is.
-        with socket.create_connection((host, int(port)), timeout=SECONDS) as connection:
-            self.stream = connection.makefile("rwb")
-
-    def ask(self, *words: bytes) -> Reply:
-        """The reply to a command."""
-        self.stream.write(b"*%d\r\n" % len(words) + b"".join(b"$%d\r\n%b\r\n" % (len(word), word) for word in words))
-        self.stream.flush()
-        line = self.stream.readline(LIMIT)
-        if not line:
-            raise ConnectionError("the connection was closed")
-        kind, text = line[:1], line[1:-2]
-        if not line.endswith(b"\r\n") or kind not in b"+-:$":
-            raise ConnectionError(f"this is no reply: {line[:40]!r}")
-        if kind == b"-":
-            raise Unkept(text.decode("ascii", "replace"))
-        if kind != b"$":
-            return text if kind == b"+" else int(text)
-        if text == b"-1":
-            return None
-        length = int(text)
-        if not 0 <= length <= LIMIT:
-            raise ConnectionError(f"this is no parcel: {line[:40]!r}")
-        content = self.stream.read(length + 2)
-        if len(content) != length + 2:
-            raise ConnectionError("a reply was cut")
-        return content[:-2]
-
-
-class Redis:
-    """A server or a cluster, asked by one client; connections are made when they are needed."""
-
-    def __init__(self, address: str) -> None:
-        self.address = address
-        self.nodes: dict[str, Node] = {}
-
-    def ask(self, *words: bytes) -> Reply:
-        """The reply to a command, wherever it is sent on to."""
-        address, is_asking = self.address, False
-        for _ in range(REDIRECTIONS):
-            try:
-                return self.ask_at(address, is_asking, words)
-            except Unkept as error:
-                why, *rest = str(error).split(" ")
-                if why not in ("MOVED", "ASK") or len(rest) != 2:
-                    raise
-                host, _, port = rest[1].rpartition(":")
-                address, is_asking = f"{host or self.address.rpartition(':')[0]}:{port}", why == "ASK"
-        raise Unkept("too many redirections")
-
-    def ask_at(self, address: str, is_asking: bool, words: tuple[bytes, ...]) -> Reply:
-        """Asks this server; a connection that fails is dropped, for what is still to come on it answers nothing later."""
-        try:
-            node = self.nodes.get(address) or self.nodes.setdefault(address, Node(address))
-            if is_asking:
-                node.ask(b"ASKING")
-            return node.ask(*words)
-        except (OSError, ValueError) as error:
-            self.nodes.pop(address, None)
-            raise Unkept(f"{address}: {fault_text(error)}", is_reached=False) from None
+        told += [MACHINE.read_bytes(), os.readlink(NETWORK).encode()]
+    return f"{hashlib.sha256(b' '.join(told)).hexdigest()[:16]}-{port}"
 
 
 class Client(socketserver.StreamRequestHandler):
@@ -162,17 +72,21 @@ class Client(socketserver.StreamRequestHandler):
 
     def handle(self) -> None:
         """Serves the client, and deletes what it leaves behind."""
-        self.redis = Redis(self.server.redis)
-        self.name = f"{self.server.prefix}{secrets.token_hex(8)}:"
+        self.parcels = self.server.parcels()
+        self.name = f"{self.server.own}{secrets.token_hex(8)}:"
         self.ids: set[int] = set()
+        self.server.kept[self.name] = self.ids
         try:
             while self.answer_next():
                 pass
         except OSError:
             pass
-        for number in list(self.ids):
-            if self.kept(FORGET, number, b"")[0] == NO_ROOM:
-                break
+        finally:
+            for number in list(self.ids):
+                if self.kept(FORGET, number, b"")[0] == NO_ROOM:
+                    break
+            del self.server.kept[self.name]
+            self.parcels.close()
 
     def answer_next(self) -> bool:
         """Answers a request; whether there was one."""
@@ -202,20 +116,16 @@ class Client(socketserver.StreamRequestHandler):
 
     def asked(self, kind: int, number: int, content: bytes) -> tuple[int, bytes]:
         """Status and bytes of the answer, if Redis gives one."""
-        key = f"{self.name}{number}".encode()
+        key = f"{self.name}{number}"
         if kind == PUT:
             self.ids.add(number)
-            return (DONE if self.redis.ask(b"SET", key, content, b"NX") == b"OK" else REFUSED_ID), b""
+            return (DONE if self.parcels.put(key, content) else REFUSED_ID), b""
         if kind == FORGET:
-            is_kept = self.redis.ask(b"DEL", key) == 1
+            is_kept = self.parcels.forget(key)
             self.ids.discard(number)
             return (DONE if is_kept else REFUSED_ID), b""
-        found = self.redis.ask(b"GET", key)
-        if found is None:
-            return REFUSED_ID, b""
-        if not isinstance(found, bytes) or len(found) > LIMIT:
-            raise Unkept(f"{key.decode()} holds no parcel")
-        return DONE, found
+        found = self.parcels.get(key)
+        return (REFUSED_ID, b"") if found is None else (DONE, found)
 
 
 class Gateway(socketserver.ThreadingTCPServer):
@@ -223,17 +133,13 @@ class Gateway(socketserver.ThreadingTCPServer):
 
     allow_reuse_address = True
 
-    def __init__(self, port: int, redis: str, prefix: str) -> None:
+    def __init__(self, port: int, prefix: str, parcels: Callable[[], Parcels]) -> None:
         super().__init__(("127.0.0.1", port), Client)
-        self.redis, self.prefix, self.health = redis, prefix, Health()
+        self.parcels, self.health = parcels, Health()
+        self.own = f"{prefix}{name_of(self.server_address[1])}:"
+        # The ids that clients keep, by what their keys begin with.
+        self.kept: dict[str, set[int]] = {}
         self.connected: set[socket.socket] = set()
-
-    def try_redis(self) -> None:
-        """Asks Redis whether it is there, and says so if it isn't."""
-        try:
-            Redis(self.redis).ask(b"PING")
-        except Unkept as fault:
-            self.health.failed("PING", fault)
 
     def get_request(self) -> tuple[socket.socket, tuple[str, int]]:
         """The next client, which is noted."""
@@ -266,10 +172,82 @@ class Gateway(socketserver.ThreadingTCPServer):
                 connection.shutdown(socket.SHUT_RDWR)
 
 
+class Keeper(threading.Thread):
+    """Renews the keys of the clients that are there, and deletes those that clients left behind, at the start and when Redis is back.
+
+    It asks at the start, when Redis can be reached again, and as often as keys have to be renewed. In between it sleeps.
+    """
+
+    def __init__(self, gateway: Gateway, seconds: int) -> None:
+        super().__init__(daemon=True)
+        self._gateway, self._pause = gateway, seconds / RENEWALS
+        self._parcels = gateway.parcels()
+        self._is_swept = self._is_over = False
+
+    def run(self) -> None:
+        """Asks again and again until `end` is called."""
+        is_back, again = self._gateway.health.is_back, AGAIN
+        while not self._is_over:
+            is_done = self.ask()
+            again = AGAIN if is_done else 2 * again
+            # A client that meets Redis first wakes it earlier.
+            if is_back.wait(self._pause if is_done else min(again, self._pause)):
+                is_back.clear()
+                self._is_swept = False
+
+    def ask(self) -> bool:
+        """Does what is due. Whether Redis did it."""
+        try:
+            self._parcels.renew([f"{name}{number}" for name, ids in list(self._gateway.kept.items()) for number in list(ids)])
+            self._sweep()
+        except Unkept as fault:
+            self._gateway.health.failed("EXPIRE", fault)
+            return False
+        finally:
+            # It has no use for connections while it sleeps.
+            self._parcels.close()
+        self._gateway.health.worked("EXPIRE")
+        return True
+
+    def warn(self) -> None:
+        """Tries to reach Redis, and says so if it can't, or if Redis is set so that objects may be lost."""
+        try:
+            for address, most, policy in self._parcels.settings():
+                if not most:
+                    say(f"{address} has no maxmemory: it grows until the system ends it, and then objects are lost")
+                if policy != "noeviction":
+                    say(f"{address} has the maxmemory-policy {policy}, which may drop objects: noeviction refuses them instead")
+        except Unkept as fault:
+            self._gateway.health.failed("CONFIG GET", fault)
+        finally:
+            self._parcels.close()
+
+    def _sweep(self) -> None:
+        """Deletes the keys of this gateway that belong to no client which is there: of one that went while Redis was away, or of the
+        gateway that was at this port before."""
+        if self._is_swept:
+            return
+        own = self._gateway.own
+        for key in self._parcels.keys(own):
+            if self._is_over:
+                return
+            name, _, _ = key[len(own) :].partition(":")
+            if f"{own}{name}:" not in self._gateway.kept:
+                self._parcels.forget(key)
+        self._is_swept = True
+
+    def end(self) -> None:
+        """Asks nothing more."""
+        self._is_over = True
+        self._gateway.health.is_back.set()
+        self.join()
+
+
 @contextlib.contextmanager
 def interrupts() -> Iterator[socket.socket]:
-    """What has bytes to read once SIGINT or SIGTERM has come. None is lost, however early it comes; one that was ignored stays ignored."""
-    numbers = [number for number in (signal.SIGINT, signal.SIGTERM) if signal.getsignal(number) != signal.SIG_IGN]
+    """What has bytes to read once a signal that ends the gateway has come. None is lost, however early it comes; one that was ignored
+    stays ignored."""
+    numbers = [number for number in (signal.SIGINT, signal.SIGTERM, signal.SIGHUP) if signal.getsignal(number) != signal.SIG_IGN]
     interrupted, woken = socket.socketpair()
     with interrupted, woken:
         woken.setblocking(False)
@@ -297,32 +275,73 @@ def serve(gateway: Gateway, interrupted: socket.socket) -> None:
         thread.join()
 
 
-def bound(port: int, redis: str, prefix: str) -> Gateway:
+def bound(port: int, prefix: str, parcels: Callable[[], Parcels]) -> Gateway:
     """A gateway on this port. It listens, and answers when it serves."""
     try:
-        return Gateway(port, redis, prefix)
+        return Gateway(port, prefix, parcels)
     except OSError as why:
         raise Unbound(f"port {port}: {fault_text(why)}") from None
 
 
 def run(given: argparse.Namespace) -> None:
     """Does what the options say."""
-    with bound(given.port, "{}:{}".format(*given.redis), given.prefix) as gateway:
-        gateway.try_redis()
+    try:
+        from .redisclient import Parcels
+    except ModuleNotFoundError as missing:
+        if missing.name != "redis":
+            raise
+        raise Unusable(NEEDS) from None
+    with bound(given.port, given.prefix, lambda: Parcels(given.redis, given.expire)) as gateway:
+        keeper = Keeper(gateway, given.expire)
+        keeper.warn()
         with interrupts() as interrupted:
             print(f"listening {gateway.server_address[1]}", flush=True)
-            serve(gateway, interrupted)
+            keeper.start()
+            try:
+                serve(gateway, interrupted)
+            finally:
+                keeper.end()
+
+
+def redis_of(text: str) -> str:
+    """HOST:PORT, or a URL with redis or rediss, as an argument. A text that may have a password isn't shown."""
+    if "://" not in text:
+        return f"redis://{address_text(*place_of(text))}"
+    parts = urlsplit(text)
+    with contextlib.suppress(ValueError):
+        if parts.scheme in ("redis", "rediss") and parts.hostname and parts.port != 0:
+            return text
+    raise argparse.ArgumentTypeError("this is neither HOST:PORT nor a URL as redis://HOST:PORT or rediss://HOST:PORT")
+
+
+def expiry_of(text: str) -> int:
+    """Seconds until a key expires that isn't renewed, as an argument."""
+    if not text.isdecimal() or not LEAST_EXPIRY <= int(text) <= MOST_EXPIRY:
+        raise argparse.ArgumentTypeError(f"{text!r} is not a number of seconds, {LEAST_EXPIRY} to {MOST_EXPIRY}")
+    return int(text)
+
+
+def parser() -> argparse.ArgumentParser:
+    """The options of the command line."""
+    options = argparse.ArgumentParser(prog="bpfagent-redis", description="Keeps objects that leave an agent in Redis, for `bpfagent serve --far`.")
+    add_version(options)
+    options.add_argument("--port", type=port_of, default=0, help="port on 127.0.0.1; 0, the default, is any free one")
+    options.add_argument(
+        "--redis",
+        type=redis_of,
+        default="redis://127.0.0.1:6379",
+        metavar="PLACE",
+        help="HOST:PORT (127.0.0.1:6379), or a URL: rediss://USER@HOST:PORT?ssl_ca_certs=FILE; the password is the environment's REDISCLI_AUTH",
+    )
+    options.add_argument("--prefix", default="bpfagent:", metavar="TEXT", help="begins each key (bpfagent:)")
+    options.add_argument("--expire", type=expiry_of, default=EXPIRY, metavar="SECONDS", help=f"Redis drops keys that weren't renewed for so long ({EXPIRY})")
+    return options
 
 
 def main() -> None:
     """The command line."""
-    options = argparse.ArgumentParser(prog="bpfagent-redis", description="Keeps objects that leave an agent in Redis, for `bpfagent serve --far`.")
-    add_version(options)
-    options.add_argument("--port", type=port_of, default=0, help="port on 127.0.0.1; 0, the default, is any free one")
-    options.add_argument("--redis", type=place_of, default="127.0.0.1:6379", metavar="HOST:PORT", help="the Redis server (127.0.0.1:6379)")
-    options.add_argument("--prefix", default="bpfagent:", metavar="TEXT", help="begins each key (bpfagent:)")
-    given = options.parse_args()
-    guarded("bpfagent-redis", lambda: run(given), Unbound)
+    given = parser().parse_args()
+    guarded("bpfagent-redis", lambda: run(given), Unbound, Unusable)
 
 
 if __name__ == "__main__":

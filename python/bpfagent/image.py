@@ -1,7 +1,6 @@
 """Loads a program for shipping: a C file, an object file of clang, a text of assembly, or raw code."""
 from __future__ import annotations
 
-import os
 import pathlib
 import shutil
 import subprocess
@@ -12,10 +11,13 @@ from typing import Optional, Sequence
 
 from .agent import PathLike
 from .compiler import Uncompiled, compile_c
-from .objectfile import SLOT, Linked, Unlinkable, is_object_file, link
+from .objectfile import SLOT, Linked, Unlinkable, after_closing, is_object_file, link
+from .starting import ended, found_program
 
 # No file that can be shipped is longer, in bytes.
 LONGEST = 1 << 26
+# Where the launcher of an installed program finds it, beside its own folder.
+LAUNCHED = "libexec/bpfagent/bpfagent"
 # How long bpfagent may take to assemble a text, in seconds.
 SECONDS = 60.0
 
@@ -37,6 +39,20 @@ class Image:
     def slots(self) -> int:
         """The number of its slots."""
         return len(self.code) // SLOT
+
+    @property
+    def awaits(self) -> tuple[int, ...]:
+        """The slots at which a machine is to pause until a request comes: those that `await_request` marks, or in raw code the one
+        after the only `call 4`. Raises `Unloadable` if there is none, or it isn't clear which."""
+        if self.linked and self.linked.awaits:
+            return self.linked.awaits
+        slots = after_closing(self.code)
+        if len(slots) == 1:
+            return tuple(slots)
+        if slots:
+            found = ", ".join(map(str, slots))
+            raise Unloadable(f"{self.path}: has a `call 4` before each of the slots {found}: await_request() marks the one that awaits requests")
+        raise Unloadable(f"{self.path}: awaits no request: it calls neither await_request() nor, in raw code, helper 4")
 
 
 def load(file: PathLike, entry: Optional[str] = None, flags: Sequence[str] = (), bpfagent: Optional[str] = None) -> Image:
@@ -99,7 +115,7 @@ def compiled(path: pathlib.Path, flags: Sequence[str]) -> bytes:
 def assembled(path: pathlib.Path, text: bytes, program: str) -> bytes:
     """The raw code of a text of assembly."""
     try:
-        done = subprocess.run([program, "asm", "--explain"], input=text, capture_output=True, timeout=SECONDS)
+        done = ended(program, "asm", "--explain", given=text, seconds=SECONDS)
     except OSError as fault:
         raise Unloadable(f"{path}: {program} can't be run: {fault.strerror}") from None
     except subprocess.TimeoutExpired:
@@ -118,11 +134,20 @@ def place_of(path: pathlib.Path, content: bytes, why: Unlinkable) -> str:
     return str(found) if found else str(path)
 
 
+def has_sanitizer(program: str) -> bool:
+    """Whether a program, or the one that it launches, was built with an address sanitizer, as that of `make try` is, which isn't proved."""
+    path = pathlib.Path(shutil.which(program) or program).resolve()
+    return any(b"AddressSanitizer" in each.read_bytes() for each in (path, path.parent.parent / LAUNCHED) if each.is_file())
+
+
 def program_path(given: Optional[str]) -> str:
     """The path of bpfagent: the one that is given, that of the environment's BPFAGENT, or the one on PATH."""
-    path = given or os.environ.get("BPFAGENT") or shutil.which("bpfagent")
-    if not path:
-        raise Unloadable("bpfagent isn't on PATH: give its path by --bpfagent, or set BPFAGENT")
-    if not shutil.which(path):
-        raise Unloadable(f"{path} can't be run: give the path of bpfagent by --bpfagent, or set BPFAGENT")
-    return path
+    if given and shutil.which(given):
+        return given
+    try:
+        if not given:
+            return found_program()
+        why = f"{given} can't be run"
+    except FileNotFoundError as fault:
+        why = str(fault)
+    raise Unloadable(f"{why}: give the path of bpfagent by --bpfagent, or set BPFAGENT")

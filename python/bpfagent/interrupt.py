@@ -8,7 +8,7 @@ import os
 import sys
 from typing import Sequence
 
-COMMANDS = ("bpfagent-ship", "bpfagent-debug", "bpfagent-redis")
+COMMANDS = ("bpfagent-ship", "bpfagent-debug", "bpfagent-redis", "bpfagent-front", "bpfagent-cli")
 INTERRUPTED = 130
 
 

@@ -8,9 +8,14 @@ from __future__ import annotations
 
 import contextlib
 import io
+import re
 import struct
-from dataclasses import dataclass
+import zlib
+from dataclasses import dataclass, replace
 from typing import TYPE_CHECKING, Any, Callable, Iterator, Optional
+
+from .elfcheck import want_sound
+from .printable import printable
 
 if TYPE_CHECKING:
     from elftools.elf.elffile import ELFFile
@@ -26,11 +31,22 @@ ALLOCATED, CODE = 2, 4
 WIDE, CALL = 0x18, 0x85
 HELPER_CALL, LOCAL_CALL = 0, 1
 TO_DATA, TO_CODE = 1, 10
+# A symbol, and relocations without and with an addend, as they are in a 64-bit file.
+SYMBOL, REL, RELA = struct.Struct("<IBBHQQ"), struct.Struct("<QQ"), struct.Struct("<QQq")
+# The kinds of symbols that are looked at, and the first of the numbers that are no sections.
+DATA, FUNCTION, RESERVED = 1, 2, 0xFF00
 # What reading a damaged file may raise.
-DAMAGE = (ArithmeticError, AssertionError, AttributeError, LookupError, RecursionError, TypeError, ValueError, struct.error)
+DAMAGE = (ArithmeticError, AssertionError, AttributeError, LookupError, MemoryError, RecursionError, TypeError, ValueError, struct.error, zlib.error)
+# No program with more slots is linked. An agent takes far fewer, and says so.
+MOST_SLOTS = 1 << 20
+# How many names an error shows.
+NAMES = 20
 # Sections that only a loader reads.
 IGNORED = {"license", "version"}
 MAPS = {".maps", "maps"}
+# The names by which `await_request` of bpfagent_program.h marks where a machine is to pause.
+AWAITS = re.compile(r"await_request\.[0-9]+")
+CLOSE_SCOPES = 4
 
 
 class Unlinkable(Exception):
@@ -71,6 +87,8 @@ class Linked:
 
     code: bytes
     functions: tuple[Placed, ...]
+    # The slots that `await_request` marks.
+    awaits: tuple[int, ...] = ()
 
     def slot_of(self, section: int, offset: int) -> Optional[int]:
         """The slot at which a place of the object file is now; None if it isn't part of the program."""
@@ -90,7 +108,7 @@ class Symbol:
     """A symbol, as a relocation means it."""
 
     name: str
-    kind: str
+    kind: int
     section: Optional[int]
     value: int
     size: int
@@ -125,6 +143,7 @@ def elf_of(content: bytes) -> ELFFile:
         elf = ELFFile(io.BytesIO(content))
         if elf["e_machine"] != BPF or not elf.little_endian or elf.elfclass != 64:
             raise Unlinkable("this isn't an object file for little-endian BPF: clang -target bpfel -c makes one")
+        want_sound(content)
         return elf
 
 
@@ -136,21 +155,27 @@ class ObjectFile:
         with reading(Unlinkable):
             self._sections: list[Any] = list(elf.iter_sections())
             self._data = {k: section.data() for k, section in enumerate(self._sections) if section["sh_flags"] & CODE and section["sh_size"]}
-            self.symbols = [symbol_of(symbol) for symbol in self._symbol_table()]
+            self.symbols = list(self._symbol_table())
             self.functions = sorted(self._found_functions(), key=lambda function: (function.section, function.begin))
+            self._begins = {(function.section, function.begin): function for function in self.functions}
             self._relocations = {code: dict(self._relocations_of(code)) for code in self._data}
 
-    def _symbol_table(self) -> Iterator[Any]:
+    def _symbol_table(self) -> Iterator[Symbol]:
         for section in self._sections:
             if section["sh_type"] == "SHT_SYMTAB":
-                yield from section.iter_symbols()
+                names = self._sections[section["sh_link"]]
+                if names["sh_type"] != "SHT_STRTAB":
+                    raise Unlinkable("this is not a whole object file (its symbols have no names)")
+                text: bytes = names.data()
+                for name, info, _, where, value, size in SYMBOL.iter_unpack(section.data()):
+                    yield Symbol(text_in(text, name), info & 0xF, where if 0 < where < RESERVED else None, value, size, info >> 4 != 0)
 
     def _found_functions(self) -> Iterator[Function]:
         """The functions that have a size, each place once."""
         seen = set()
         for symbol in sorted(self.symbols, key=lambda symbol: not symbol.is_global):
             place = (symbol.section, symbol.value)
-            if symbol.kind == "STT_FUNC" and symbol.section in self._data and symbol.size and place not in seen:
+            if symbol.kind == FUNCTION and symbol.section in self._data and symbol.size and place not in seen:
                 seen.add(place)
                 if symbol.value % SLOT or symbol.size % SLOT or symbol.value + symbol.size > len(self._data[symbol.section]):
                     raise Unlinkable(f"the function {symbol.name} isn't where its section is")
@@ -159,9 +184,10 @@ class ObjectFile:
     def _relocations_of(self, code: int) -> Iterator[tuple[int, tuple[int, Symbol]]]:
         """Place, kind and symbol of each slot of a section that has to be filled in."""
         for section in self._sections:
-            if section["sh_type"] in ("SHT_REL", "SHT_RELA") and section["sh_info"] == code:
-                for found in section.iter_relocations():
-                    yield found["r_offset"], (found["r_info_type"], self.symbols[found["r_info_sym"]])
+            form = {"SHT_REL": REL, "SHT_RELA": RELA}.get(section["sh_type"])
+            if form and section["sh_info"] == code:
+                for place, info, *_ in form.iter_unpack(section.data()):
+                    yield place, (info & 0xFFFF_FFFF, self.symbols[info >> 32])
 
     def relocation(self, section: int, at: int) -> Optional[tuple[int, Symbol]]:
         """Kind and symbol of what has to be filled in at this place."""
@@ -178,35 +204,33 @@ class ObjectFile:
 
     def name_of(self, section: Optional[int]) -> str:
         """The name of a section."""
-        return "" if section is None else str(self._sections[section].name)
+        return "" if section is None else printable(str(self._sections[section].name))
 
     def holds_code(self, section: Optional[int]) -> bool:
         """Whether a section has code."""
         return section in self._data
 
-    def function_at(self, section: Optional[int], offset: int) -> Optional[Function]:
-        """The function to which a place belongs."""
-        return next((f for f in self.functions if f.section == section and f.begin <= offset < f.begin + f.size), None)
+    def function_from(self, section: Optional[int], offset: int) -> Optional[Function]:
+        """The function that begins at a place."""
+        return None if section is None else self._begins.get((section, offset))
 
     def name_at(self, symbol: Symbol, offset: int) -> str:
         """The name that a relocation means; if its symbol is a section, that of the data at this offset."""
         if symbol.name:
             return symbol.name
-        held = (s.name for s in self.symbols if s.section == symbol.section and s.kind == "STT_OBJECT" and s.value <= offset < s.value + s.size)
+        held = (s.name for s in self.symbols if s.section == symbol.section and s.kind == DATA and s.value <= offset < s.value + s.size)
         return next(held, self.name_of(symbol.section))
 
     def data_sections(self) -> Iterator[tuple[str, int]]:
         """Name and size of the sections that would have to be in memory."""
         for section in self._sections:
             if section["sh_flags"] & ALLOCATED and not section["sh_flags"] & CODE and section["sh_size"] and section.name not in IGNORED:
-                yield str(section.name), section["sh_size"]
+                yield printable(str(section.name)), section["sh_size"]
 
 
-def symbol_of(symbol: Any) -> Symbol:
-    """A symbol of pyelftools as one of ours."""
-    where = symbol["st_shndx"]
-    info = symbol["st_info"]
-    return Symbol(str(symbol.name), info["type"], where if isinstance(where, int) else None, symbol["st_value"], symbol["st_size"], info["bind"] != "STB_LOCAL")
+def text_in(names: bytes, at: int) -> str:
+    """A name in a table of names."""
+    return printable(names[at : names.index(b"\0", at)].decode("utf-8", "replace"))
 
 
 def entry_of(file: ObjectFile, name: Optional[str]) -> Function:
@@ -217,7 +241,7 @@ def entry_of(file: ObjectFile, name: Optional[str]) -> Function:
         found = outer
     if found:
         return found[0]
-    names = ", ".join(function.name for function in outer) or "none"
+    names = ", ".join([*(function.name for function in outer[:NAMES]), *[".."] * (len(outer) > NAMES)]) or "none"
     if name is None:
         raise Unlinkable(f"there is no function {ENTRY}; --entry NAME chooses another: {names}")
     raise Unlinkable(f"there is no function {name}; the functions that aren't static: {names}")
@@ -249,10 +273,13 @@ class Linker:
 
     def visit(self, entry: Function) -> None:
         """Finds all functions that the entry point reaches."""
-        rest = [entry]
+        rest, slots = [entry], 0
         while rest:
             function = rest.pop()
             if function not in self.calls:
+                slots += function.size // SLOT
+                if slots > MOST_SLOTS:
+                    raise Unlinkable(f"the functions that {entry.name} reaches have more than {MOST_SLOTS} slots")
                 self.calls[function] = list(self._calls_of(function))
                 rest += [call.called for call in self.calls[function]]
 
@@ -289,8 +316,8 @@ class Linker:
             if kind != TO_CODE:
                 raise Unlinkable(f"has a relocation of kind {kind}, which isn't that of a call")
             section, offset = symbol.section, symbol.value + (immediate + 1) * SLOT
-        called = self.file.function_at(section, offset)
-        if called is None or called.begin != offset:
+        called = self.file.function_from(section, offset)
+        if called is None:
             raise Unlinkable("calls a place where no function begins")
         return called
 
@@ -330,4 +357,19 @@ def link(content: bytes, entry: Optional[str] = None) -> Linked:
         for call in linker.calls[function]:
             at = slots[function] + call.at // SLOT
             struct.pack_into("<i", code, at * SLOT + 4, slots[call.called] - at - 1)
-    return Linked(bytes(code), tuple(Placed(slots[function], function) for function in order))
+    linked = Linked(bytes(code), tuple(Placed(slots[function], function) for function in order))
+    return replace(linked, awaits=tuple(sorted(marked(file, linked))))
+
+
+def marked(file: ObjectFile, linked: Linked) -> Iterator[int]:
+    """The slots that `await_request` marks."""
+    for symbol in file.symbols:
+        if AWAITS.fullmatch(symbol.name) and symbol.section is not None:
+            slot = linked.slot_of(symbol.section, symbol.value)
+            if slot is not None:
+                yield slot
+
+
+def after_closing(code: bytes) -> list[int]:
+    """The slot after each call of the helper that closes scopes."""
+    return [at // SLOT + 1 for at, *call in instructions(code) if call == [CALL, HELPER_CALL, CLOSE_SCOPES]]

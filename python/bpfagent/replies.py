@@ -49,6 +49,10 @@ class Broken(Exception):
     """The conversation is over: it ended early, its stream failed or timed out, or an impossible reply came."""
 
 
+class Closed(Broken):
+    """An `Engine` was closed, or belongs to another process, which has forked this one."""
+
+
 class NotExited(Exception):
     """A program has no value, since it didn't come to its exit. The text says where it is."""
 

@@ -1,26 +1,35 @@
 """From a program to its result in one command: `bpfagent-ship`.
 
-It takes a C file, which clang compiles, an object file of clang, assembly, or raw code. The program is shipped to a new
-`bpfagent run`, or to a service, and runs to its end; its stop, what it emitted, and the objects made for it are shown.
+It takes a C file, which clang compiles, an object file of clang, assembly, or raw code. The program is shipped to an agent in this
+process, to a new service, or to one that runs already. Its stop, what it emitted, and the objects made for it are shown.
 """
 from __future__ import annotations
 
 import argparse
-import contextlib
+import functools
+import json
 import os
 import pathlib
 import re
-import subprocess
+import shlex
 import sys
 import time
-from typing import Callable, Mapping, Optional, Sequence, TypeVar, Union
+from typing import TYPE_CHECKING, Callable, Optional, Sequence, TypeVar, Union
 
-from .accesses import OF_MEMORY, access_text
 from .agent import ARGUMENTS, Agent, address, pauses
-from .commands import add_version, address_text, guarded, parsed, place_of
-from .image import Image, Unloadable, load, program_path
+from .checking import explained, verdict_of
+from .commands import add_version, fault_text, guarded, parsed, service_of
+from .engine import Engine
+from .image import Image, Unloadable, has_sanitizer, load, program_path
 from .limits import LONGEST, OBJECTS, SLOTS
+from .outcome import SHOWN, Outcome, outcome_of
+from .own import InProcess, Own, opened
+from .preparing import Unprepared, prepared
+from .progress import Progress
 from .replies import Broken, Refused, Run, Stopped
+
+if TYPE_CHECKING:
+    from .debug.lines import Lines
 
 NUMBER = re.compile(r"-?(?:0[xX][0-9a-fA-F]+|0|[1-9][0-9]*)")
 # No number from 0 to 2^64 - 1 has more digits.
@@ -31,18 +40,17 @@ SECONDS = 60.0
 # How long a program of a service may wait for an object before that is said, in seconds.
 LONG = 3.0
 ARGUMENT = "is neither a number nor +N, =TEXT or @FILE"
+PREPARED = "is neither a number nor :N, +N, =TEXT or @FILE"
 JOINED = "is neither a number nor :N, an object of the service"
 ALONE = "isn't a number, and --line takes numbers alone"
+SLOW = "this bpfagent was built without a proof and with an address sanitizer: it is some hundred times slower than the one of `make program`"
 T = TypeVar("T")
-# What to do about a stop.
-HINTS = {
-    "spent": "it has no fuel left: --fuel N gives more",
-    "misaligned": "an atomic operation takes a place at a multiple of its size",
-    "depth": "at most eight calls may be open",
-}
+AnyAgent = Union[Agent, Engine]
+# What to do about a run that was interrupted.
+CLOSER = "there an interrupt of `continue` pauses it, and shows where it is; --fuel N ends a run by itself"
 EPILOG = """FILE is a C file (its name ends in .c), an object file of clang, assembly (.asm), or raw code. ARGUMENT is a number, R1 to R5 of the program, or
 an object, whose address is given: +N is an object of N zero bytes, @PATH one of a file's bytes, =TEXT one of a text's bytes. With --connect it
-is a number, or :N for the service's object N.
+is a number, or :N for the service's object N. After --setup :N is object N of the setup.
 Clang is called as `clang`, or as the environment's CLANG says. Status 0: the program exited. 1: it stopped otherwise, or something failed, as
 standard error says. 2: wrong arguments."""
 
@@ -53,6 +61,10 @@ class Unshippable(Exception):
 
 class WrongArgument(Unshippable):
     """Why a word of the command line is no argument of a program."""
+
+
+# What ends the command with a line.
+FAULTS = (Unshippable, Unloadable, Unprepared, Broken, Refused)
 
 
 def ship_line(code: bytes, fuel: object, arguments: Sequence[object]) -> str:
@@ -77,11 +89,11 @@ def length_of(text: str) -> int:
     return length
 
 
-def object_of(text: str) -> int:
-    """The number, or the address of the service's object, that an argument is."""
+def object_of(text: str, otherwise: str = JOINED) -> int:
+    """The number, or the address of an object that is there, that an argument is."""
     if not text.startswith(":"):
-        return number_of(text, JOINED)
-    number = number_of(text[1:], JOINED)
+        return number_of(text, otherwise)
+    number = number_of(text[1:], otherwise)
     if not 1 <= number <= OBJECTS:
         raise WrongArgument(f"isn't from :1 to :{OBJECTS}, the numbers of objects")
     return address(number)
@@ -94,14 +106,18 @@ def wrong_length(content: bytes) -> str:
     return f"has {f'more than {LONGEST}' if content else 'no'} bytes, and an object has 1 to {LONGEST}"
 
 
-def form_of(argument: str) -> None:
-    """Raises `WrongArgument` unless this is an argument of a program. A file isn't read yet."""
+def form_of(argument: str, has_setup: bool = False) -> None:
+    """Raises `WrongArgument` unless this is an argument of a program. A file isn't read yet. `:N` is an object of the setup."""
     if argument.startswith("+"):
         length_of(argument[1:])
     elif argument.startswith("="):
         if wrong := wrong_length(os.fsencode(argument[1:])):
             raise WrongArgument(wrong)
-    elif not argument.startswith("@"):
+    elif argument.startswith("@"):
+        return
+    elif has_setup:
+        object_of(argument, PREPARED)
+    else:
         number_of(argument)
 
 
@@ -118,9 +134,9 @@ def each_of(arguments: Sequence[str], take: Callable[[str], T]) -> list[T]:
     return found
 
 
-def checked(arguments: Sequence[str]) -> None:
+def checked(arguments: Sequence[str], has_setup: bool = False) -> None:
     """Raises `WrongArgument` unless these are arguments of a program. Files aren't read yet."""
-    each_of(arguments, form_of)
+    each_of(arguments, lambda argument: form_of(argument, has_setup))
 
 
 def value_of(argument: str) -> Union[int, bytes]:
@@ -133,12 +149,12 @@ def value_of(argument: str) -> Union[int, bytes]:
         # One byte too many shows that the file is too long, however long it is.
         with open(argument[1:], "rb") as file:
             return file.read(LONGEST + 1)
-    return number_of(argument)
+    return object_of(argument)
 
 
-def values_of(arguments: Sequence[str]) -> list[Union[int, bytes]]:
-    """What each argument is. Files are read."""
-    checked(arguments)
+def values_of(arguments: Sequence[str], has_setup: bool = False) -> list[Union[int, bytes]]:
+    """What each argument is. Files are read. After a setup `:N` is the address of its object N."""
+    checked(arguments, has_setup)
     found = []
     for place, argument in enumerate(arguments, 1):
         try:
@@ -151,7 +167,7 @@ def values_of(arguments: Sequence[str]) -> list[Union[int, bytes]]:
     return found
 
 
-def made(agent: Agent, content: bytes) -> int:
+def made(agent: AnyAgent, content: bytes) -> int:
     """The number of a new object of these bytes."""
     try:
         return agent.make_of(content)
@@ -159,7 +175,7 @@ def made(agent: Agent, content: bytes) -> int:
         raise Unshippable(f"an object of {len(content)} bytes: {why}") from None
 
 
-def make_objects(agent: Agent, values: Sequence[Union[int, bytes]]) -> tuple[list[int], dict[int, int]]:
+def make_objects(agent: AnyAgent, values: Sequence[Union[int, bytes]]) -> tuple[list[int], dict[int, int]]:
     """Makes the objects of these bytes: the program's numbers, which are an object's address for its bytes, and the length of each object."""
     numbers, objects = [], {}
     for value in values:
@@ -171,25 +187,16 @@ def make_objects(agent: Agent, values: Sequence[Union[int, bytes]]) -> tuple[lis
     return numbers, objects
 
 
-def shipped(agent: Agent, image: Image, fuel: int, numbers: Sequence[int], bpfagent: Optional[str] = None) -> int:
+def shipped(agent: AnyAgent, image: Image, fuel: int, numbers: Sequence[int], bpfagent: Optional[str] = None) -> int:
     """The number of the machine that a program becomes. `bpfagent` is the program that says why code is refused."""
     try:
         return agent.ship(image.code, fuel, *numbers)
     except Refused as why:
-        if why.word == "bad":
-            raise Unshippable(f"{image.path}: has {image.slots} slots, and a program has 1 to {SLOTS}") from None
         if why.word == "full":
             raise Unshippable(f"{image.path}: the agent has as many machines as it can have") from None
         raise Unshippable(f"{image.path}: {why}{source_of(image, why)}{explained(image.code, bpfagent)}") from None
-
-
-def explained(code: bytes, bpfagent: Optional[str]) -> str:
-    """What `check --explain` says of code that is refused, as further lines; empty if this bpfagent has no such option."""
-    with contextlib.suppress(Unloadable, OSError, subprocess.TimeoutExpired):
-        done = subprocess.run([program_path(bpfagent), "check", "--explain"], input=code, capture_output=True, timeout=SECONDS)
-        if done.returncode == 1:
-            return "".join(f"\n{line}" for line in done.stderr.decode("ascii", "replace").splitlines()[1:])
-    return ""
+    except ValueError:
+        raise Unshippable(f"{image.path}: has {image.slots} slots, and a program has 1 to {SLOTS}") from None
 
 
 def source_of(image: Image, why: Refused) -> str:
@@ -197,60 +204,59 @@ def source_of(image: Image, why: Refused) -> str:
     return f" ({at})" if why.word == "refused" and (at := line_of(image, int(why.words[1]))) else ""
 
 
+class Places:
+    """The source lines of a program's slots, which are read when one is first asked for."""
+
+    def __init__(self, image: Image) -> None:
+        self._image = image
+
+    def __call__(self, slot: int) -> str:
+        """The source line of a slot as it is shown, empty if it isn't known."""
+        from .debug.sources import text_at
+
+        at = self._found.line_at(slot) if self._found else None
+        return f"{at}: {text_at(at)}" if at else ""
+
+    @functools.cached_property
+    def _found(self) -> Optional[Lines]:
+        from .debug.lines import Lines, NoDwarf, dwarf_of
+
+        if self._image.linked is None:
+            return None
+        try:
+            return Lines(dwarf_of(self._image.content), self._image.linked)
+        except NoDwarf:
+            return None
+
+
 def line_of(image: Image, slot: int) -> str:
     """The source line of a slot as it is shown, empty if it isn't known."""
-    from .debug.lines import Lines, NoDwarf, dwarf_of
-    from .debug.sources import text_at
+    return Places(image)(slot)
 
-    if image.linked is None:
-        return ""
+
+def show(given: argparse.Namespace, outcome: Outcome) -> bool:
+    """Shows what came of a program, as the options say. Gives whether it came to its exit."""
+    if given.json:
+        print(json.dumps({"file": given.file, **outcome.as_json()}))
+    else:
+        print("\n".join(outcome.lines(given.quiet)))
+    return outcome.has_exited
+
+
+def converse(own: Own, image: Image, given: argparse.Namespace, values: Sequence[Union[int, bytes]]) -> bool:
+    """Does the setup, makes the objects, ships the code, runs it and shows the result. Gives whether the program came to its exit."""
+    lengths = prepared(own.agent, given.setup) if given.setup else {}
+    numbers, objects = make_objects(own.agent, values)
+    lengths.update(objects)
+    machine = shipped(own.agent, image, given.fuel, numbers, given.bpfagent)
+    progress = Progress(given.fuel, Places(image))
     try:
-        at = Lines(dwarf_of(image.content), image.linked).line_at(slot)
-    except NoDwarf:
-        return ""
-    return f"{at}: {text_at(at)}" if at else ""
-
-
-def show_stop(agent: Agent, machine: int, run: Run, image: Image, objects: Optional[Mapping[int, int]]) -> bool:
-    """The stop, and whether it is the program's exit. If not, also at which instruction, which line and which address, or what to do."""
-    stop = run.last
-    assert isinstance(stop, Stopped)
-    if stop.value is not None:
-        print(f"stopped {machine} exit {stop.value:016x}\n{run.instructions + 1} instructions")
-        return True
-    registers = agent.regs(machine)
-    instruction = agent.line(machine, registers.slot)
-    print(f"stopped {machine} {stop.why}\n{run.instructions} instructions\nat slot {registers.slot}: {instruction}")
-    access = access_text(instruction, registers, objects) if stop.why in OF_MEMORY else ""
-    for text in (line_of(image, registers.slot), access, HINTS.get(stop.why, "")):
-        if text:
-            print(text)
-    return False
-
-
-def as_text(content: bytes) -> str:
-    """In quotes, if the bytes are ASCII that can be shown; without zero bytes at the end."""
-    content = content.rstrip(b"\0")
-    return f' "{content.decode()}"' if content and all(32 <= byte < 127 for byte in content) else ""
-
-
-def show(agent: Agent, machine: int, run: Run, image: Image, objects: Optional[Mapping[int, int]] = None) -> bool:
-    """The stop, what was emitted, and the objects, if they are known. Gives whether the program came to its exit."""
-    has_exited = show_stop(agent, machine, run, image, objects)
-    emitted = agent.out(machine)
-    if emitted:
-        print("emitted", *[f"{value:016x}" for value in emitted])
-    for number, length in (objects or {}).items():
-        content = agent.read(number, length)
-        print(f"object {number}: {content.hex()}{as_text(content)}")
-    return has_exited
-
-
-def converse(agent: Agent, image: Image, fuel: int, values: Sequence[Union[int, bytes]], bpfagent: Optional[str]) -> bool:
-    """Makes the objects, ships the code, runs it and shows the result. Gives whether the program came to its exit."""
-    numbers, objects = make_objects(agent, values)
-    machine = shipped(agent, image, fuel, numbers, bpfagent)
-    return show(agent, machine, agent.run_until(machine), image, objects)
+        run = own.go(machine, progress)
+    except KeyboardInterrupt:
+        progress.interrupted(f"{shlex.join(['bpfagent-debug', given.file, *given.arguments])}: {CLOSER}")
+        raise
+    progress.end()
+    return show(given, outcome_of(own.agent, machine, run, Places(image), lengths, 0 if given.quiet else given.show))
 
 
 class Rest:
@@ -278,14 +284,14 @@ class Rest:
             print(f"the program waits for object {number}, which isn't here; an interrupt ends the waiting", file=sys.stderr, flush=True)
 
 
-def join(agent: Agent, image: Image, fuel: int, numbers: Sequence[int], bpfagent: Optional[str]) -> bool:
+def join(agent: Agent, image: Image, given: argparse.Namespace, numbers: Sequence[int]) -> bool:
     """The same in a service, whose workers run the program too."""
-    machine = shipped(agent, image, fuel, numbers, bpfagent)
+    machine = shipped(agent, image, given.fuel, numbers, given.bpfagent)
     last = agent.run_until(machine, wait=Rest(agent, machine)).last
     if not isinstance(last, Stopped):
         raise Unshippable(f"machine {machine} is paused, as another client asked")
-    used = fuel - agent.regs(machine).fuel
-    return show(agent, machine, Run(last, used - (last.value is not None)), image)
+    used = given.fuel - agent.regs(machine).fuel
+    return show(given, outcome_of(agent, machine, Run(last, used - (last.value is not None)), Places(image)))
 
 
 def fuel_of(text: str) -> int:
@@ -304,20 +310,33 @@ def program_parser(name: str, usage: str, description: str, epilog: str) -> argp
     options.add_argument("--fuel", type=fuel_of, default=FUEL, metavar="N", help=f"how many instructions the program may do ({FUEL})")
     options.add_argument("--entry", metavar="NAME", help="the function at which the program begins (program)")
     options.add_argument("--flag", action="append", default=[], metavar="FLAG", help="a further flag of clang, such as --flag=-O0; may be repeated")
+    options.add_argument("--setup", metavar="FILE", help="lines of the protocol that are done first; ARGUMENT :N is object N of theirs")
     return options
+
+
+def shown_of(text: str) -> int:
+    """How many bytes of an object are shown, as an option."""
+    if not text.isdecimal() or int(text) > LONGEST:
+        raise argparse.ArgumentTypeError(f"{text!r} is not a number from 0 to {LONGEST}")
+    return int(text)
 
 
 def parser() -> argparse.ArgumentParser:
     """The options of the command line."""
-    description = "Ships a program to a new `bpfagent run`, or to a service, runs it to its end and shows the result."
+    description = "Ships a program to an agent of its own, or to a service, runs it to its end and shows the result."
     options = program_parser("bpfagent-ship", "%(prog)s [OPTION ..] FILE [ARGUMENT ..]", description, EPILOG)
     task = options.add_mutually_exclusive_group()
     task.add_argument("--check", action="store_true", help="only compile and link, and say why the file can't be shipped")
     task.add_argument("--line", action="store_true", help="only print the `ship` line; arguments are numbers")
-    task.add_argument("--connect", type=place_of, metavar="HOST:PORT", help="ship it to this service, and run it there")
+    task.add_argument("--awaits", action="store_true", help="only print the slots at which the program awaits requests, for `break`")
+    task.add_argument("--connect", type=service_of, metavar="PLACE", help="ship it to the service at HOST:PORT, unix:PATH or tls:HOST:PORT, and run it there")
     task.add_argument("--output", metavar="PATH", help="only write the raw code to a file")
-    options.add_argument("file", metavar="FILE")
-    options.add_argument("arguments", nargs="*", default=[], metavar="ARGUMENT")
+    form = options.add_mutually_exclusive_group()
+    form.add_argument("--json", action="store_true", help="show the result as JSON; with --check also whether the code is valid")
+    form.add_argument("--quiet", "-q", action="store_true", help="show the stop alone")
+    options.add_argument("--show", type=shown_of, default=SHOWN, metavar="N", help=f"show the first N bytes of each object ({SHOWN})")
+    options.add_argument("file", metavar="FILE", help="the program")
+    options.add_argument("arguments", nargs="*", default=[], metavar="ARGUMENT", help="up to five numbers and objects")
     return options
 
 
@@ -326,48 +345,86 @@ def ship(given: argparse.Namespace) -> None:
     image = load(pathlib.Path(given.file), given.entry, given.flag, given.bpfagent)
     if given.output:
         pathlib.Path(given.output).write_bytes(image.code)
+    elif given.awaits:
+        print(*image.awaits)
     elif given.line:
         print(ship_line(image.code, given.fuel, given.arguments))
-    elif not given.check and not run(given, image):
+    elif not (check(given, image) if given.check else run(given, image)):
         sys.exit(1)
 
 
-def connected(host: str, port: int) -> Agent:
+def check(given: argparse.Namespace, image: Image) -> bool:
+    """Whether code is valid, where the options have that shown. Otherwise it is enough that the file was loaded."""
+    if not given.json:
+        return True
+    verdict = verdict_of(image.code, given.bpfagent)
+    if not verdict["valid"]:
+        verdict["source"] = line_of(image, verdict["slot"])
+    print(json.dumps({"file": given.file, **verdict}))
+    return bool(verdict["valid"])
+
+
+def told(given: argparse.Namespace) -> None:
+    """The same as JSON, also of a fault."""
+    try:
+        ship(given)
+    except (OSError, *FAULTS) as why:
+        print(json.dumps({"file": given.file, "error": fault_text(why)}), flush=True)
+        raise
+
+
+def connected(place: str) -> Agent:
     """A client of a service."""
     try:
-        return Agent.connect(host, port, timeout=SECONDS)
+        return Agent.reach(place, timeout=SECONDS)
     except OSError as why:
-        raise Unshippable(f"the service at {address_text(host, port)} can't be reached: {why.strerror or why}") from None
+        raise Unshippable(f"the service at {place} can't be reached: {why.strerror or why}") from None
 
 
 def run(given: argparse.Namespace, image: Image) -> bool:
     """Whether a program came to its exit, where the options have it run."""
     if given.connect:
-        with connected(*given.connect) as agent:
-            return join(agent, image, given.fuel, each_of(given.arguments, object_of), given.bpfagent)
-    values = values_of(given.arguments)
-    with Agent.run(program_path(given.bpfagent), timeout=SECONDS) as agent:
-        return converse(agent, image, given.fuel, values, given.bpfagent)
+        with connected(given.connect) as agent:
+            return join(agent, image, given, each_of(given.arguments, object_of))
+    values = values_of(given.arguments, bool(given.setup))
+    with opened(given.bpfagent, SECONDS, bool(given.setup)) as own:
+        if not isinstance(own, InProcess) and sys.stderr.isatty() and has_sanitizer(program_path(given.bpfagent)):
+            print(SLOW, file=sys.stderr, flush=True)
+        return converse(own, image, given, values)
 
 
 def reader_of(given: argparse.Namespace) -> Callable[[str], object]:
     """What an argument of the program may be, by what the options have done with it."""
     if given.line:
         return lambda text: number_of(text, ALONE)
-    return object_of if given.connect else form_of
+    if given.connect:
+        return object_of
+    return lambda text: form_of(text, bool(given.setup))
+
+
+def wrong(given: argparse.Namespace) -> str:
+    """What is wrong with the options together; empty if nothing is."""
+    alone = next((f"--{name}" for name in ("check", "output", "awaits", "line") if getattr(given, name)), "")
+    if given.arguments and alone not in ("", "--line"):
+        return f"{alone} takes no ARGUMENT: nothing is run"
+    if given.setup and (alone or given.connect):
+        return f"--setup is for an agent of its own: {'the service has its objects' if given.connect else f'{alone} runs nothing'}"
+    if given.json and alone not in ("", "--check"):
+        return f"--json goes with a run or with --check, and not with {alone}"
+    try:
+        each_of(given.arguments, reader_of(given))
+    except WrongArgument as why:
+        return str(why)
+    return ""
 
 
 def main(words: Optional[Sequence[str]] = None) -> None:
     """The command line."""
     options = parser()
     given = parsed(options, words)
-    if given.arguments and (given.check or given.output):
-        options.error(f"{'--check' if given.check else '--output'} takes no ARGUMENT: nothing is run")
-    try:
-        each_of(given.arguments, reader_of(given))
-    except WrongArgument as why:
-        options.error(str(why))
-    guarded("bpfagent-ship", lambda: ship(given), Unshippable, Unloadable, Broken, Refused)
+    if why := wrong(given):
+        options.error(why)
+    guarded("bpfagent-ship", lambda: told(given) if given.json else ship(given), *FAULTS)
 
 
 if __name__ == "__main__":

@@ -97,8 +97,21 @@ def full() -> Iterator[tuple[int, Callable[[], None]]]:
             other = closing.enter_context(socket.socket())
             other.setblocking(False)
             other.connect_ex(listener.getsockname())
-        # Nothing shows here that somebody tries.
-        yield listener.getsockname()[1], lambda: time.sleep(0.5)
+        port = listener.getsockname()[1]
+        others = trying(port)
+
+        def wait() -> None:
+            until = time.monotonic() + SECONDS
+            while trying(port) <= others and time.monotonic() < until:
+                time.sleep(0.01)
+
+        yield port, wait
+
+
+def trying(port: int) -> int:
+    """How many sockets of this machine try to connect to a port, and have no answer yet (proc(5): state 2 is SYN_SENT)."""
+    rows = [line.split() for line in pathlib.Path("/proc/net/tcp").read_text().splitlines()[1:]]
+    return sum(row[2].endswith(f":{port:04X}") and row[3] == "02" for row in rows)
 
 
 def main(program: str, path: str) -> None:

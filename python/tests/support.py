@@ -25,6 +25,8 @@ from bpfagent import Agent, Service, patiently
 ROOT = pathlib.Path(__file__).resolve().parents[2]
 # What these tests share with those of the product.
 sys.path.append(str(ROOT / "tests"))
+from lib.programs import has_gone, in_time, states_of, unread, until
+
 DEBUG = ROOT / "examples/debug"
 PROGRAM = os.environ.get("BPFAGENT", "")
 DEBUGGER = [sys.executable, "-m", "bpfagent.debug.main"]
@@ -32,11 +34,13 @@ DEBUGGER = [sys.executable, "-m", "bpfagent.debug.main"]
 SECONDS = 180.0
 # Within this time the debugger leaves, on a busy machine too. Otherwise a reply may take 30 s, and the end of a started program 10 s.
 SOON = 8.0
-# Within this time it leaves where it has nothing to wait for, if nothing delays it.
+# Within this time it leaves where it has nothing to wait for, if nothing delays it. Both are tried again where it takes longer.
 AT_ONCE = 1.5
 PROMPT = "(bpfagent) "
 # What the debugger shows when an interrupt gives up the line that was typed.
 GIVEN_UP = "^C (quit leaves the debugger)"
+# Within this time the debugger asks a service for machines once more.
+ASKS = 3.0
 # What ends the debugger.
 SIGNALS = (signal.SIGTERM, signal.SIGHUP)
 # Find 7, which is there with 40, and then 8, when only the first pair counts.
@@ -127,10 +131,44 @@ def endless_service(source: pathlib.Path) -> Iterator[Service]:
         yield service
 
 
+def stop(number: int) -> None:
+    """Stops a process: none of its threads runs when this returns."""
+    os.kill(number, signal.SIGSTOP)
+    until(f"process {number} doesn't stop", lambda: all(state in "Tt" for state in states_of(number)), pause=0.001)
+
+
 def hang(service: Service) -> None:
     """Stops a service: none of its threads answers when this returns."""
-    service._process.send_signal(signal.SIGSTOP)
-    os.waitpid(service._process.pid, os.WUNTRACED)
+    stop(service.process)
+
+
+def until_asked(number: int) -> None:
+    """Waits until a process that was stopped has been sent something, so that somebody awaits a reply of it. If it was stopped when it had read a command,
+    nothing more comes before it has answered: then it goes on for a moment."""
+
+    def is_asked() -> bool:
+        end = time.monotonic() + ASKS
+        while time.monotonic() < end:
+            if unread(number) > 0:
+                return True
+            time.sleep(0.01)
+        os.kill(number, signal.SIGCONT)
+        # Were it stopped again at once, it would have no time to answer.
+        time.sleep(0.1)
+        stop(number)
+        return False
+
+    until(f"process {number} isn't asked", is_asked)
+
+
+def until_running(client: Agent, machine: int) -> None:
+    """Waits until a machine of a service is one that workers run."""
+    until(f"machine {machine} doesn't run", lambda: client.regs(machine).state == "run", pause=0.01)
+
+
+def until_gone(number: int) -> None:
+    """Waits until a process that was killed has ended."""
+    until(f"process {number} goes on", lambda: has_gone(number), pause=0.01)
 
 
 def silent_program(folder: pathlib.Path, *answers: str) -> tuple[str, Callable[[], int]]:
@@ -153,18 +191,14 @@ def silent_program(folder: pathlib.Path, *answers: str) -> tuple[str, Callable[[
     return str(path), begun
 
 
-def has_gone(number: int) -> bool:
-    """Whether there is no such process."""
-    try:
-        os.kill(number, 0)
-    except ProcessLookupError:
-        return True
-    return False
-
-
 def is_at_once(leave: Callable[..., float], *arguments: object, **options: object) -> bool:
-    """Whether a call that gives how long it took takes no time. A busy machine may delay it, so it is tried three times."""
-    return any(leave(*arguments, **options) < AT_ONCE for _ in range(3))
+    """Whether a call that gives how long it took takes no time, once in a few tries."""
+    return not in_time(lambda: leave(*arguments, **options), AT_ONCE)
+
+
+def is_soon(leave: Callable[..., float], *arguments: object, **options: object) -> bool:
+    """Whether it takes little time, once in a few tries."""
+    return not in_time(lambda: leave(*arguments, **options), SOON)
 
 
 def heard() -> None:

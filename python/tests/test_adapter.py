@@ -15,8 +15,8 @@ from typing import Any, Callable, Optional
 import stand_in
 from bpfagent import patiently
 from bpfagent.agent import pauses
-from support import DEBUG, DEBUGGER, ENDLESS, SECONDS, SIGNALS, SOON, TABLE, changes, editor_module, endless_service, hang, needs_debugger
-from support import has_gone, is_at_once, noting_program, silent_program, with_signals
+from support import DEBUG, DEBUGGER, ENDLESS, SECONDS, SIGNALS, TABLE, changes, editor_module, endless_service, hang, needs_debugger
+from support import is_at_once, is_soon, noting_program, silent_program, until_asked, until_gone, with_signals
 
 Body = dict[str, Any]
 SOURCE = {"path": str(DEBUG / "table.c")}
@@ -142,7 +142,7 @@ class Sessions(unittest.TestCase):
         with endless_service(path) as service:
             other = service.connect(SECONDS)
             self.ask("initialize")
-            self.ask("attach", port=service.port, program=str(path))
+            self.ask("attach", place=service.place, program=str(path))
             self.editor.wait("initialized")
             self.ask("configurationDone")
             self.assertEqual(self.refused("stackTrace", threadId=1), "machine 1 is running")
@@ -151,7 +151,7 @@ class Sessions(unittest.TestCase):
             self.assertIn(frames[-1]["name"], ("program", "program (call site unknown)"))
             self.assertTrue(self.ask("setFunctionBreakpoints", breakpoints=[{"name": "more"}, {"name": "none"}])["breakpoints"][0]["verified"])
             self.ask("continue", threadId=1)
-            frames = self.stopped(1, "breakpoint")
+            frames = self.stopped(1, "function breakpoint")
             count = int.from_bytes(patiently(other.get, 1, 0, 8), "little")
             self.assertEqual(self.ask("evaluate", expression="*count + 1", frameId=frames[0]["id"])["result"], str(count + 1))
             self.assertEqual(other.regs(1).state, "paused")
@@ -203,18 +203,19 @@ class Sessions(unittest.TestCase):
         self.assertEqual((found[0]["verified"], found[1]["verified"], found[1]["line"]), (False, True, 15))
         self.assertIn("no code is at or after line 999", found[0]["message"])
         early = "the expression ends too early"
-        for condition, why in (("i == (", early), ("i +* ", early), ("(struct nope *)i", "the program has no type struct nope")):
-            breakpoints = [{"name": "find", "condition": tried} for tried in (condition, "nothing + 1 / 0")]
+        nope, none = ("(struct nope *)i", "the program has no type struct nope"), ("none > 1", "nothing is called none there")
+        for condition, why in (("i == (", early), ("i +* ", early), nope, none):
+            breakpoints = [{"name": "find", "condition": tried} for tried in (condition, "i + 1 / 0")]
             found = self.ask("setFunctionBreakpoints", breakpoints=breakpoints)["breakpoints"]
             self.assertEqual(found[0], {"verified": False, "message": f"the condition `{condition}` can't be read: {why}"})
-            self.assertTrue(found[1]["verified"], "a name may mean something later")
+            self.assertTrue(found[1]["verified"], "this may have a value later")
         self.ask("setFunctionBreakpoints", breakpoints=[])
         self.assertIn("there is no source file", self.ask("setBreakpoints", source={"path": "/none.c"}, breakpoints=[{"line": 1}])["breakpoints"][0]["message"])
         self.ask("configurationDone")
         frames = self.stopped(1, "breakpoint")
         self.assertEqual(frames[1]["name"], "program (call site unknown)")
         self.assertEqual(self.refused("evaluate", expression="none", frameId=frames[0]["id"]), "there is no variable none in find")
-        self.assertTrue(self.refused("stackTrace").startswith("these arguments can't be understood"))
+        self.assertEqual(self.refused("stackTrace"), "threadId is required")
         self.assertEqual(self.refused("continue", threadId=9), "there is no machine 9")
         for wrong in (float("inf"), "x", None, [], 2**200):
             self.assertTrue(self.refused("pause", threadId=wrong), wrong)
@@ -231,15 +232,19 @@ class Sessions(unittest.TestCase):
         path.write_text(ENDLESS)
         self.launch(program=str(path), arguments=("+8",), fuel=2**63)
         self.ask("configurationDone")
-        counts = []
-        for _ in range(3):
-            time.sleep(0.1)
+        counts = [0]
+        for _ in pauses(SECONDS):
             self.assertEqual(len(self.ask("threads")["threads"]), 1)
             self.ask("pause", threadId=1)
             frames = self.stopped(1, "pause")
-            counts.append(int(self.ask("evaluate", expression="*(uint64_t *)0x100000000", frameId=frames[0]["id"])["result"]))
+            count = int(self.ask("evaluate", expression="*(uint64_t *)0x100000000", frameId=frames[0]["id"])["result"])
+            self.assertGreaterEqual(count, counts[-1])
+            # On a busy machine it may take a while until the program goes on.
+            counts += [count] if count > counts[-1] else []
             self.ask("continue", threadId=1)
-        self.assertTrue(0 < counts[0] < counts[1] < counts[2], counts)
+            if len(counts) > 3:
+                break
+        self.assertEqual(len(counts), 4, counts)
         self.ask("disconnect")
         self.assertEqual(self.editor.process.wait(SECONDS), 0)
 
@@ -265,7 +270,7 @@ class Sessions(unittest.TestCase):
             self.ask("setBreakpoints", source=SOURCE, breakpoints=[{"line": 23}])
             self.ask("setBreakpoints", source=SOURCE, breakpoints=[])
             self.ask("configurationDone")
-            self.assertEqual(self.stopped(1, "breakpoint")[0]["name"], "find")
+            self.assertEqual(self.stopped(1, "function breakpoint")[0]["name"], "find")
             self.assertEqual(self.refused("configurationDone"), "the machines run already: configurationDone comes once")
             self.assertEqual([thread["id"] for thread in self.ask("threads")["threads"]], [1])
             self.ask("setFunctionBreakpoints", breakpoints=[])
@@ -296,7 +301,8 @@ class Sessions(unittest.TestCase):
         self.launch(arguments=("+4", "7"))
         self.ask("configurationDone")
         frames = self.stopped(1, "exception")
-        self.assertEqual((self.text, frames[0]["name"], frames[0]["line"]), ("outside: an access to bytes that aren't all there", "find", 15))
+        said = "machine 1 stopped: outside (an access to bytes that aren't all there)\n[r2] is object 1, and object 1 has 4 bytes"
+        self.assertEqual((self.text, frames[0]["name"], frames[0]["line"]), (said, "find", 15))
         self.assertEqual(self.variables(frames[0])["key"]["value"], "7")
         self.assertIn(
             "there is no object 1, or it ends before offset 40",
@@ -309,23 +315,29 @@ class Sessions(unittest.TestCase):
         """An editor that disconnects from a service that has hung hears what may stay there, and isn't kept waiting."""
         path = self.folder / "endless.c"
         path.write_text(ENDLESS)
+        self.assertTrue(is_soon(self.left_hung, path))
+
+    def left_hung(self, path: pathlib.Path) -> float:
+        """Does so, and gives how long it takes."""
+        editor = editor_module().Editor([*DEBUGGER, "--dap"], is_quiet=True)
+        self.addCleanup(editor.__exit__)
         with endless_service(path) as service:
-            self.ask("initialize")
-            self.ask("attach", port=service.port, program=str(path))
-            self.ask("setFunctionBreakpoints", breakpoints=[{"name": "more"}])
-            self.ask("configurationDone")
-            self.editor.wait("stopped")
+            editor.ask("initialize")
+            editor.ask("attach", place=service.place, program=str(path))
+            editor.ask("setFunctionBreakpoints", breakpoints=[{"name": "more"}])
+            editor.ask("configurationDone")
+            editor.wait("stopped")
             hang(service)
-            # By then the adapter awaits a reply: it looks for new machines.
-            time.sleep(1.5)
+            # The adapter looks for new machines.
+            until_asked(service.process)
             start = time.monotonic()
-            self.ask("disconnect")
-            self.assertLess(time.monotonic() - start, SOON)
-            self.assertEqual(self.editor.process.wait(SECONDS), 0)
-            self.assertLess(time.monotonic() - start, SOON)
-            told = [event["body"]["output"] for event in self.editor.events if event["event"] == "output"]
+            editor.ask("disconnect")
+            self.assertEqual(editor.process.wait(SECONDS), 0)
+            took = time.monotonic() - start
+            told = [event["body"]["output"] for event in editor.events if event["event"] == "output"]
             self.assertEqual(told[-1], "the service doesn't answer, and may keep breakpoint 1, the pause of machine 1\n")
             service._process.send_signal(signal.SIGCONT)
+            return took
 
     def left(self, begun: Callable[[], Optional[int]], is_gone: bool, command: str, **arguments: Any) -> float:
         """An editor disconnects, or is gone, while what it asked for doesn't begin to answer. Gives how long the adapter takes to end."""
@@ -344,8 +356,10 @@ class Sessions(unittest.TestCase):
         self.assertEqual({message["type"] for message in heard}, {"response"})
         self.assertEqual([(message["request_seq"], message["command"], message["success"], message.get("message")) for message in heard], expected)
         self.assertEqual((editor.process.wait(SECONDS), editor.process.stdout.read()), (0, b""))
-        self.assertTrue(number is None or has_gone(number), "what was started goes on")
-        return time.monotonic() - start
+        took = time.monotonic() - start
+        if number is not None:
+            until_gone(number)
+        return took
 
     def left_service(self, service: stand_in.StandIn, is_gone: bool) -> float:
         """The same of an editor that attaches to a service."""
@@ -411,7 +425,7 @@ class Sessions(unittest.TestCase):
                 editor = editor_module().Editor([*DEBUGGER, "--dap"], is_quiet=True)
                 self.addCleanup(editor.__exit__)
                 editor.ask("initialize")
-                editor.ask("attach", port=service.port, program=str(path))
+                editor.ask("attach", place=service.place, program=str(path))
                 editor.ask("setFunctionBreakpoints", breakpoints=[{"name": "more"}])
                 editor.ask("configurationDone")
                 editor.wait("stopped")

@@ -23,8 +23,8 @@ from typing import Callable, Optional, Sequence
 
 import bpfagent
 import stand_in
-from bpfagent import Agent, Broken, Hit, Move, Paused, Ran, Refused, Registers, Run, Step, Stopped, Waiting, address
-from support import PROGRAM, ROOT, SECONDS, program_of
+from bpfagent import Agent, Broken, Engine, Hit, Move, Paused, Ran, Refused, Registers, Run, Step, Stopped, Waiting, address
+from support import PROGRAM, ROOT, SECONDS, program_of, until_gone
 
 from form.protocol import commands
 from lib.programs import until
@@ -92,7 +92,7 @@ def value_text(value: Step | Registers | Move | None, number: int) -> str:
     return "ok" if value is None else step_text(value)
 
 
-def called(agent: Agent, command: str) -> str:
+def called(agent: Agent | Engine, command: str) -> str:
     """The reply to a command, which is given by the client's method."""
     word, numbers, content, rest = parts(command)
     try:
@@ -298,14 +298,14 @@ LISTENS = """import socket, time
 listener = socket.create_server(("127.0.0.1", 0))
 sys.stdin.read()
 print("listening", listener.getsockname()[1], flush=True)
-time.sleep(60)"""
-# A service that is closed in time is so after less than two seconds; a loaded machine may take longer for that.
-LATE = 9.0
+time.sleep(600)"""
+# A service that is closed in time is so after less than two seconds; a loaded machine may take longer for that. Otherwise it takes SECONDS, or for ever.
+LATE = 60.0
 KILLED = "the service hadn't ended after 0.3 seconds, and was killed"
 HUNG = {
     LISTENS: KILLED,
-    "import time\ntime.sleep(60)": KILLED,
-    "import os, time\nos.close(0)\nos.close(1)\ntime.sleep(60)": KILLED,
+    "import time\ntime.sleep(600)": KILLED,
+    "import os, time\nos.close(0)\nos.close(1)\ntime.sleep(600)": KILLED,
     "sys.exit(3)": "the service ended with status 3",
     "print('hello')": "the service doesn't listen, but says 'hello'",
 }
@@ -360,6 +360,24 @@ class Conversations(Case):
                 )
         self.assertEqual(used, {command.name for command in commands()}, "commands of the conversations")
 
+    def test_together(self) -> None:
+        """A long `write` and a long `read` send all of their lines before one is answered. The first refusal of them is raised."""
+        content = bytes(range(256)) * 256
+
+        def answer(connection: socket.socket) -> None:
+            for replies in (["ok"] * 16, [f"bytes {content[at : at + 4096].hex()}" for at in range(0, 65_536, 4096)], ["ok", "busy 1", "away 1"]):
+                with connection.makefile("rb") as lines:
+                    heard.append([lines.readline().decode().split(" ")[:3] for _ in replies])
+                connection.sendall("".join(f"{reply}\n" for reply in replies).encode())
+
+        heard: list[list[list[str]]] = []
+        with stand_in.answering(answer) as port, Agent.connect("127.0.0.1", port, timeout=SECONDS) as agent:
+            agent.write(1, content)
+            self.assertEqual(agent.read(1, 65_536), content)
+            self.assertEqual(refusal_of(lambda: agent.write(1, content[:8193], 1)), ["busy", "1"])
+        offsets = [str(at) for at in range(0, 65_536, 4096)]
+        self.assertEqual(heard[:2], [[[word, "1", at] for at in offsets] for word in ("put", "get")])
+
     def test_service_replies(self) -> None:
         """What only a service answers."""
         self.over_tcp(SERVICE, lambda agent: self.converse(agent, SERVICE, set()))
@@ -408,7 +426,7 @@ class Conversations(Case):
         self.assertTrue(is_broken(lambda: agent.make(8)), "a conversation that was closed")
 
     def test_misuse(self) -> None:
-        """What is no line isn't sent, and no run of no instruction done; numbers that are out of their range are answered by the agent."""
+        """What is no line isn't sent, and no run of no instruction done. test_wrong_words.py has the values that no command takes."""
         with Agent.run(PROGRAM) as agent:
             wrong: list[Callable[[], object]] = [
                 lambda: agent.run_until(1, limit=0),
@@ -421,18 +439,6 @@ class Conversations(Case):
             for call in wrong:
                 with self.assertRaises(ValueError):
                     call()
-            bad: list[Callable[[], object]] = [
-                lambda: agent.make(0),
-                lambda: agent.make(65537),
-                lambda: agent.put(1, 0, b""),
-                lambda: agent.put(1, 0, bytes(4097)),
-                lambda: agent.ship(b"", 1),
-                lambda: agent.step(-1),
-                lambda: agent.ship(b"\x95", 1 << 64),
-                lambda: agent.ship2(b"\x95", 1, {1: "x"}),
-            ]
-            for call in bad:
-                self.assertEqual(refusal_of(call), ["bad"], "what is out of its range")
             self.assertEqual(refusal_of(lambda: agent.ship(EXIT + b"\x95", 1)), ["refused", "1", "Short"], "code that isn't valid")
             for length in (1, 4095, 4096, 4097, 65536):
                 content = bytes((n * 7 + (n >> 8)) & 0xFF for n in range(length))
@@ -587,11 +593,11 @@ class Services(Case):
                 clients = [service.connect(SECONDS) for _ in range(used)]
                 self.assertEqual([client.get(1, 0, 8) for client in clients], [bytes(8)] * used, "what clients of a service that is left see")
             start = time.monotonic()
-            self.assertEqual(service.close()[0], "closed", f"the end of a service of which {used} connections were used")
+            self.assertEqual(service.close(SECONDS)[0], "closed", f"the end of a service of which {used} connections were used")
             self.assertLess(time.monotonic() - start, LATE)
         service = bpfagent.Service(PROGRAM)
         service.listen()
-        with Agent.connect("127.0.0.1", service.port, timeout=SECONDS) as other:
+        with Agent.reach(service.place, timeout=SECONDS) as other:
             self.assertEqual(other.tell("make 8"), "unserved", "somebody else at a service")
             self.assertEqual(
                 why_broken(lambda: service.close(seconds=0.5)),
@@ -603,8 +609,8 @@ class Services(Case):
         """A service listens once, before any client connects, and neither is done after its end."""
         service = bpfagent.Service(PROGRAM)
         self.assertEqual(why_broken(service.connect), "the service doesn't listen yet")
-        self.assertEqual(service.listen(), service.port)
-        self.assertEqual(service.listen(), service.port, "a service that listens already")
+        self.assertEqual(service.listen(), service.place)
+        self.assertEqual(service.listen(), service.place, "a service that listens already")
         service.connect(SECONDS)
         self.assertEqual(service.close(), ["closed"])
         late: list[Callable[[], object]] = [service.listen, service.connect, service.close]
@@ -618,13 +624,13 @@ class Services(Case):
             seconds = 0.3 if why == KILLED else SECONDS
             service = bpfagent.Service(program_of(self.folder / f"hung{number}", text), "--connections", "8")
             self.closes(service, seconds, why)
-            self.assertIsNotNone(service._process.poll(), text)
+            until_gone(service.process)
         for connections in ("1", "8"):
             service = bpfagent.Service(PROGRAM, "--connections", connections)
             service.listen()
             service._process.send_signal(signal.SIGSTOP)
             self.closes(service, 0.3, KILLED)
-            self.assertEqual(service._process.poll(), -signal.SIGKILL)
+            self.assertEqual(service._process.wait(SECONDS), -signal.SIGKILL)
 
     def closes(self, service: bpfagent.Service, seconds: float, why: str) -> None:
         """`close` raises this, in time."""
@@ -636,19 +642,18 @@ class Services(Case):
         """An interrupt while an end is awaited leaves no program that goes on."""
         self.addCleanup(signal.signal, signal.SIGALRM, signal.signal(signal.SIGALRM, signal.default_int_handler))
         note = self.folder / "number"
-        program = program_of(self.folder / "stays", f"import os, time\nopen({str(note)!r}, 'w').write(str(os.getpid()))\nos.close(1)\ntime.sleep(60)")
+        program = program_of(self.folder / "stays", f"import os, time\nopen({str(note)!r}, 'w').write(str(os.getpid()))\nos.close(1)\ntime.sleep(600)")
         starts: list[Callable[[], Callable[[], object]]] = [lambda: Agent.run(program).close, lambda: bpfagent.Service(program).close]
         for start in starts:
             close = start()
             until("the program doesn't begin", lambda: note.exists() and note.read_text())
             number = int(note.read_text())
             note.unlink()
-            # Once the end of the output is seen, only that of the program is awaited.
-            signal.setitimer(signal.ITIMER_REAL, 1.0)
             with self.assertRaises(KeyboardInterrupt):
+                # Once the end of the output is seen, only that of the program is awaited.
+                signal.setitimer(signal.ITIMER_REAL, 1.0)
                 close()
-            with self.assertRaises(ProcessLookupError):
-                os.kill(number, 0)
+            until_gone(number)
 
     def test_waits(self) -> None:
         """`wait` gives the end of a machine, its pause, or that it still runs; the value is there only after an exit."""

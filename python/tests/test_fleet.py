@@ -11,6 +11,7 @@ import contextlib
 import os
 import pickle
 import random
+import signal
 import subprocess
 import sys
 import time
@@ -29,9 +30,13 @@ import costs
 import simulate_fleet
 import transfers
 import word_count
+from bpfagent import Broken, Engine, Refused
 from bpfagent.fleet import Fleet, Job, JobRefused, JobStopped, Owner, Result, Setting, Store, Unconfirmed, lines_of
+from bpfagent.fleet.inprocess import InProcess
+from bpfagent.fleet.lines import ByLines
 from bpfagent.fleet.store import Read
 from bpfagent.image import load
+from bpfagent.library import library_if_there
 from redis.backoff import NoBackoff
 from redis.retry import Retry
 
@@ -40,6 +45,8 @@ Raised = TypeVar("Raised", bound=Exception)
 # Which texts Python and the program have to count alike, and what an account holds at first.
 LENGTHS = [*range(1, 20), 100, 2040, 2041, 2100]
 AMOUNT = 1000
+# Milliseconds after which nodes take one that is silent for dead, also on a busy machine.
+BUSY = 30_000
 # emit R1; exit with it, one more.
 EMIT = bytes.fromhex("bf16000000000000 8500000003000000 bf61000000000000 0701000001000000 8500000003000000 bf10000000000000 9500000000000000")
 # ldxdw r0, [r1]; ja -1.
@@ -224,6 +231,27 @@ class FleetTest(unittest.TestCase):
                 self.fails(lambda: owner.run(Job(code("spin"), {"growing": "r", "missing": "r"})), KeyError, "missing")
             self.assertEqual(owner.run(transfer("b", "a", 100)).value, 1, "a job after more than 1,024 objects")
 
+    def test_failing(self) -> None:
+        """A job whose agent fails costs no other: one that is killed, if it is asked by lines, and one without memory in this process."""
+        with setting_of_one() as setting:
+            store, owner = accounts_in(setting, AMOUNT, 0), self.owner(setting)
+            owner._execution = ByLines(PROGRAM)
+            owner.run(transfer("a", "b", 1))
+            assert owner._execution._agent
+            (agent,) = costs.children_of(os.getpid())[-1:]
+            os.kill(agent, signal.SIGKILL)
+            self.fails(lambda: owner.run(transfer("a", "b", 2)), Broken, "")
+            owner.run(transfer("a", "b", 4))
+            self.assertEqual(value(store.get("b")), 5, "the account after an agent was killed")
+            owner.close()
+            if not library_if_there():
+                return
+            owner._execution = InProcess()
+            with unittest.mock.patch.object(Engine, "make", side_effect=Refused("nomem")):
+                self.fails(lambda: owner.run(transfer("a", "b", 8)), Refused, "nomem")
+            owner.run(transfer("a", "b", 16))
+            self.assertEqual(value(store.get("b")), 21, "the account after an agent without memory")
+
     def test_once(self) -> None:
         """A job that is run again, and one whose keys others change in between."""
         with setting_of_one() as setting:
@@ -327,7 +355,7 @@ class FleetTest(unittest.TestCase):
 
     def test_cluster(self) -> None:
         """Keys in hash slots."""
-        with engines.cluster() as servers:
+        with engines.cluster(silent=BUSY) as servers:
             setting = Setting(tuple(it.url for it in servers), True, PROGRAM, 1, 60)
             store, owner = Store(setting), self.owner(setting)
             for name in ("a{1}", "b{1}", "c{2}"):

@@ -14,7 +14,7 @@ from bpfagent.interrupt import module_of
 from support import ROOT, SECONDS, heard
 
 MODULES = ("ship", "far", "gateway", "debug.main")
-SCRIPTS = {"bpfagent-ship": "ship", "bpfagent-debug": "debug.main", "bpfagent-redis": "gateway"}
+SCRIPTS = {"bpfagent-ship": "ship", "bpfagent-debug": "debug.main", "bpfagent-redis": "gateway", "bpfagent-front": "front.main", "bpfagent-cli": "cli"}
 # Modules of Python that the package imports, and that its commands do.
 IMPORTED = ("tempfile", "argparse")
 INTERRUPTING = "import os, signal\nos.kill(os.getpid(), signal.SIGINT)\nfor _ in range(1000): pass\nraise SystemExit(3)\n"

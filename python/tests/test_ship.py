@@ -8,6 +8,9 @@ from __future__ import annotations
 
 import os
 import pathlib
+import pty
+import re
+import select
 import shutil
 import signal
 import socket
@@ -23,11 +26,11 @@ from unittest import mock
 import bpfagent
 import stand_in
 from bpfagent import Service, Unloadable, address, image, load
-from bpfagent.ship import main
-from support import PROGRAM, ROOT, SECONDS, has_elftools, program_of, usage_of
+from bpfagent.ship import SLOW, main
+from support import PROGRAM, ROOT, SECONDS, has_elftools, heard, program_of, usage_of
 
 from lib.far import Far
-from lib.programs import until
+from lib.programs import has_checks, until
 from product.program import has_clang
 
 # What is shown of C files is what clang 14 makes of them.
@@ -48,6 +51,12 @@ def ship(*arguments: str, folder: Optional[pathlib.Path] = None) -> tuple[int, s
     """Status, standard output and standard error."""
     done = subprocess.run([*SHIP, *arguments], capture_output=True, text=True, timeout=SECONDS, cwd=folder)
     return done.returncode, done.stdout, done.stderr
+
+
+def has_begun(number: int) -> bool:
+    """Whether a command has started its agent, or has loaded the library."""
+    children = pathlib.Path(f"/proc/{number}/task/{number}/children").read_text()
+    return bool(children) or "libbpfagent" in pathlib.Path(f"/proc/{number}/maps").read_text()
 
 
 def setUpModule() -> None:
@@ -183,7 +192,7 @@ class Ships(unittest.TestCase):
         silent = shutil.which("false")
         self.want_said(["--bpfagent", str(silent), f"{folder}/any.asm"], 1, "", f"bpfagent-ship: {folder}/any.asm: {silent} asm ended with status 1\n")
         self.want_said(["--output", f"{folder}/none/x", code], 1, "", f"bpfagent-ship: {folder}/none/x: No such file or directory\n")
-        self.want_said([code, str(2**64 - 1), "0", "0", "0", "0x10"], 0, "stopped 1 exit 0000000000000000\n1 instructions\n", "")
+        self.want_said([code, str(2**64 - 1), "0", "0", "0", "0x10"], 0, "stopped 1 exit 0000000000000000 = 0\n1 instructions\n", "")
 
     def test_fuel(self) -> None:
         """Fuel is an option, wherever it stands. A program that doesn't exit has status 1."""
@@ -203,10 +212,12 @@ class Ships(unittest.TestCase):
         for length in (1, 4095, 4096, 4097, 8192, 65536):
             content = bytes((n * 7 + (n >> 8)) & 0xFF for n in range(length - 1)) + b"\xff"
             path.write_bytes(content)
-            self.want_said([code, f"@{path}", "0x10"], 0, f"stopped 1 exit {content[0] + 16:016x}\n3 instructions\nobject 1: {content.hex()}\n", "")
-        shown = f"stopped 1 exit {ord('o'):016x}\n3 instructions\nobject 1: {b'one'.hex()} \"one\"\nobject 2: 000000\nobject 3: {b'two'.hex()} \"two\"\n"
+            first = f"stopped 1 exit {content[0] + 16:016x} = {content[0] + 16}\n3 instructions\n"
+            self.want_said(["--show", "65536", code, f"@{path}", "0x10"], 0, f"{first}object 1: {content.hex()}\n", "")
+        first = f"stopped 1 exit {ord('o'):016x} = {ord('o')}\n3 instructions\n"
+        shown = f"{first}object 1: {b'one'.hex()} \"one\"\nobject 2: 000000\nobject 3: {b'two'.hex()} \"two\"\n"
         self.want_said([code, "=one", "0", "+3", "=two"], 0, shown, "")
-        self.want_said([code, os.fsdecode(b"=\xff")], 0, f"stopped 1 exit {255:016x}\n3 instructions\nobject 1: ff\n", "")
+        self.want_said([code, os.fsdecode(b"=\xff")], 0, f"stopped 1 exit {255:016x} = {255}\n3 instructions\nobject 1: ff\n", "")
 
     def test_stops(self) -> None:
         """The slot and the instruction of a stop that isn't an exit; what was emitted; why code isn't shipped."""
@@ -214,7 +225,7 @@ class Ships(unittest.TestCase):
         self.want_said(
             [codes["loads"], "0x100000000"], 1, "stopped 1 outside\n0 instructions\nat slot 0: ldxb r0, [r1]\n[r1] is object 1, and there is no object 1\n", ""
         )
-        self.want_said([codes["emits"], "0xabc"], 0, "stopped 1 exit 0000000000000000\n3 instructions\nemitted 0000000000000abc\n", "")
+        self.want_said([codes["emits"], "0xabc"], 0, "stopped 1 exit 0000000000000000 = 0\n3 instructions\nemitted 0000000000000abc = 2748\n", "")
         short = folder / "short.code"
         for content, why in (
             (EXIT + EXIT[:7], "refused 1 Short"),
@@ -226,24 +237,72 @@ class Ships(unittest.TestCase):
             self.want_first([str(short)], f"bpfagent-ship: {short}: {why}")
         self.want_said(["--line", "--fuel", "7", codes["exit"], "1", "0x2"], 0, f"ship 7 1 0x2 0 0 0 {EXIT.hex()}\n", "")
 
+    def on_terminal(self, *arguments: str, until: str, keys: Sequence[int] = ()) -> tuple[int, str, str]:
+        """Status, standard output, and what a terminal shows as standard error. Once this was shown, these signals come."""
+        shown, other = pty.openpty()
+        with subprocess.Popen([*SHIP, *arguments], stdout=subprocess.PIPE, stderr=other, text=True, preexec_fn=heard) as child:
+            os.close(other)
+            said, end = b"", time.monotonic() + SECONDS
+            while select.select([shown], [], [], max(end - time.monotonic(), 0))[0]:
+                try:
+                    piece = os.read(shown, 1 << 16)
+                except OSError:
+                    break
+                said += piece
+                if re.search(until.encode(), said):
+                    for number in keys:
+                        child.send_signal(number)
+                    keys = ()
+            output = child.communicate(timeout=SECONDS)[0]
+        os.close(shown)
+        return child.returncode, output, said.decode().replace("\r\n", "\n")
+
+    def test_progress(self) -> None:
+        """A long run shows on a terminal how far it is, and at an interrupt where it was; a short one shows nothing, and neither does a pipe."""
+        endless = [self.codes["endless"], "--fuel", str(2**63)]
+        line = r"[0-9,]+ instructions, (?:<0\.1|[0-9.]+) % of the fuel, [0-9.,e+]+ million/s, at slot [12]"
+        status, output, said = self.on_terminal(*endless, until=line, keys=[signal.SIGINT])
+        self.assertEqual((status, output), (130, ""))
+        self.assertRegex(
+            said.removeprefix(f"{SLOW}\n"),
+            rf"^(\r{line}\x1b\[K)+\r\x1b\[Kinterrupted after [0-9,]+ instructions, (?:<0\.1|[0-9.]+) % of the fuel, at slot [12]\n"
+            rf"bpfagent-debug {self.codes['endless']}: there an interrupt of `continue` pauses it, and shows where it is; --fuel N ends a run by itself\n$",
+        )
+        status, output, said = self.on_terminal(self.codes["exit"], until="$")
+        self.assertEqual((status, output, said.removeprefix(f"{SLOW}\n")), (0, f"stopped 1 exit {0:016x} = {0}\n1 instructions\n", ""))
+        with subprocess.Popen([*SHIP, *endless], stdout=subprocess.PIPE, stderr=subprocess.PIPE, preexec_fn=heard) as child:
+            until("the program doesn't begin", lambda: has_begun(child.pid))
+            # From then on a terminal would show how far it is.
+            time.sleep(1.5)
+            child.send_signal(signal.SIGINT)
+            self.assertEqual((child.communicate(timeout=SECONDS), child.returncode), ((b"", b""), 130))
+
+    def test_unproved(self) -> None:
+        """On a terminal a program with a sanitizer says so, once; elsewhere, and in process, nothing does."""
+        is_told = has_checks(PROGRAM) and not os.environ.get("BPFAGENT_LIBRARY")
+        status, output, said = self.on_terminal(self.codes["exit"], until="$")
+        self.assertEqual((status, output, said), (0, f"stopped 1 exit {0:016x} = {0}\n1 instructions\n", f"{SLOW}\n" if is_told else ""))
+        self.want_said([self.codes["exit"]], 0, f"stopped 1 exit {0:016x} = {0}\n1 instructions\n", "")
+
     def test_service(self) -> None:
         """A program of a service, run by this client or by workers: its objects by their numbers, one that is away, a stop, no service."""
         loads, emits, endless = (self.codes[name] for name in ("loads", "emits", "endless"))
         for workers in ("0", "2"):
             with Service(PROGRAM, "--connections", "8", "--workers", workers, timeout=SECONDS) as service:
                 service.setup.make_of(b"*")
-                at = f"127.0.0.1:{service.listen()}"
+                at = service.listen()
                 with service.connect() as other:
                     other.leave(1)
-                    self.want_said([loads, "--connect", at, ":1", "2"], 0, f"stopped 1 exit {ord('*') + 2:016x}\n3 instructions\n", "")
-                self.want_said([emits, "--connect", at, ":1"], 0, f"stopped 2 exit {0:016x}\n3 instructions\nemitted {address(1):016x}\n", "")
+                    self.want_said([loads, "--connect", at, ":1", "2"], 0, f"stopped 1 exit {ord('*') + 2:016x} = {ord('*') + 2}\n3 instructions\n", "")
+                emitted = f"stopped 2 exit {0:016x} = 0\n3 instructions\nemitted {address(1):016x} = {address(1)}\n"
+                self.want_said([emits, "--connect", at, ":1"], 0, emitted, "")
                 spent = f"stopped 3 spent\n7 instructions\nat slot 1: add r0, 1\n{SPENT}\n"
                 self.want_said([endless, "--connect", at, "--fuel", "7"], 1, spent, "")
                 stopped = "stopped 4 outside\n0 instructions\nat slot 0: ldxb r0, [r1]\n[r1] is object 2\n"
                 self.want_said([loads, "--connect", at, ":2"], 1, stopped, "")
                 self.want_usage([loads, "--connect", at, "+8"], "argument 1, `+8`: is neither a number nor :N, an object of the service")
                 self.want_usage([loads, "--connect", at, ":1025"], "argument 1, `:1025`: isn't from :1 to :1024, the numbers of objects")
-        self.want_said([loads, "--connect", at], 1, "", f"bpfagent-ship: the service at {at} can't be reached: Connection refused\n")
+        self.want_said([loads, "--connect", at], 1, "", f"bpfagent-ship: the service at {at} can't be reached: No such file or directory\n")
 
     def test_refused(self) -> None:
         """A later command that an agent refuses, as where memory runs out, is a line and no traceback."""
@@ -260,7 +319,7 @@ class Ships(unittest.TestCase):
         """A program that waits for an object which its service doesn't get back says so, and ends by an interrupt."""
         with Far() as far, Service(PROGRAM, "--connections", "3", "--far", f"127.0.0.1:{far.port}", timeout=SECONDS) as service:
             service.setup.make(8)
-            at = f"127.0.0.1:{service.listen()}"
+            at = service.listen()
             with service.connect(SECONDS) as other:
                 far.manner = "keeping"
                 until("the object doesn't leave", lambda: other.leave(1) and far.kept)
@@ -332,7 +391,7 @@ class Ships(unittest.TestCase):
         folder = self.folder
         path = folder / "text.asm"
         path.write_text("mov r0, r1\nadd r0, r2\nexit\n")
-        self.want_said([str(path), "40", "2"], 0, "stopped 1 exit 000000000000002a\n3 instructions\n", "")
+        self.want_said([str(path), "40", "2"], 0, "stopped 1 exit 000000000000002a = 42\n3 instructions\n", "")
         path.write_text("exit\nexot\n")
         status, output, errors = ship(str(path))
         self.assertTrue(
@@ -351,7 +410,7 @@ class Ships(unittest.TestCase):
         """A standard stream that is closed changes nothing of what the others get."""
         source = self.folder / "c.c"
         source.write_text("unsigned long program(void) { return 7; }\n")
-        output = b"stopped 1 exit 0000000000000007\n2 instructions\n"
+        output = b"stopped 1 exit 0000000000000007 = 7\n2 instructions\n"
         for closed, shown in (("<&-", output), ("2>&-", output), ("<&- 2>&-", output), (">&-", b"")):
             done = subprocess.run(["sh", "-c", f'exec "$@" {closed}', "sh", *SHIP, str(source)], capture_output=True, timeout=SECONDS)
             self.assertEqual((done.returncode, done.stdout, done.stderr), (0, shown, b""), closed)
@@ -377,7 +436,7 @@ class Ships(unittest.TestCase):
         pair = folder / "pair"
         pair.write_bytes((40).to_bytes(8, "little") + (2).to_bytes(8, "little"))
         source.write_text(ADDS)
-        shown = f"stopped 1 exit 000000000000002a\n4 instructions\nobject 1: {pair.read_bytes().hex()}\n"
+        shown = f"stopped 1 exit 000000000000002a = 42\n4 instructions\nobject 1: {pair.read_bytes().hex()}\n"
         self.assertEqual(ship("c.c", "@pair", folder=folder), (0, shown, ""), "a newcomer's C file")
         self.assertEqual(
             ship("c.c", "+8", folder=folder),
@@ -394,15 +453,15 @@ class Ships(unittest.TestCase):
         for words in (["./-c.c", "@pair"], ["--fuel", "7", "--", "-c.c", "@pair"]):
             self.assertEqual(ship(*words, folder=folder), (0, shown, ""), "a name that begins as an option does")
         source.write_text(SECTIONS)
-        self.assertEqual(ship("c.c", "3", folder=folder), (0, "stopped 1 exit 000000000000002d\n34 instructions\n", ""), "functions of several sections")
+        self.assertEqual(ship("c.c", "3", folder=folder), (0, "stopped 1 exit 000000000000002d = 45\n34 instructions\n", ""), "functions of several sections")
         subprocess.run(
             ["clang", "-target", "bpf", "-O2", "-ffreestanding", f"-I{ROOT}/python/bpfagent/include", "-c", "c.c"], cwd=folder, check=True, timeout=SECONDS
         )
-        self.assertEqual(ship("c.o", "3", folder=folder), (0, "stopped 1 exit 000000000000002d\n34 instructions\n", ""), "an object file")
-        self.assertEqual(ship("--entry", "square", "c.o", "3", folder=folder)[1].splitlines()[0], "stopped 1 exit 000000000000000f", "another entry point")
+        self.assertEqual(ship("c.o", "3", folder=folder), (0, "stopped 1 exit 000000000000002d = 45\n34 instructions\n", ""), "an object file")
+        self.assertEqual(ship("--entry", "square", "c.o", "3", folder=folder)[1].splitlines()[0], "stopped 1 exit 000000000000000f = 15", "another entry point")
         self.assertEqual(ship("--check", "c.o", folder=folder), (0, "", ""), "a check of an object file")
         self.assertEqual(ship("--output", "c.code", "c.o", folder=folder), (0, "", ""), "raw code of an object file")
-        self.assertEqual(ship("c.code", "3", folder=folder), (0, "stopped 1 exit 000000000000002d\n34 instructions\n", ""), "raw code that was written")
+        self.assertEqual(ship("c.code", "3", folder=folder), (0, "stopped 1 exit 000000000000002d = 45\n34 instructions\n", ""), "raw code that was written")
         self.assertEqual(
             ship("--entry", "program", "c.code", folder=folder),
             (1, "", "bpfagent-ship: c.code: raw code has no names, so --entry can't choose one\n"),
@@ -420,11 +479,13 @@ class Ships(unittest.TestCase):
         source.write_text('#include "bpfagent.h"\nuint64_t program(uint64_t *p) { return __atomic_load_n(p, 5); }\n')
         status, output, errors = ship("c.c", folder=folder)
         self.assertTrue(
-            (status, output) == (1, "") and errors.endswith("\nadvice: use atomic_read and atomic_write of bpfagent.h\n") and "Stack dump" not in errors,
+            (status, output) == (1, "")
+            and errors.endswith("\nadvice: use atomic_read and atomic_write of bpfagent_program.h\n")
+            and "Stack dump" not in errors,
             f"what clang can't compile: {errors}",
         )
         source.write_text("#include <string.h>\nunsigned long program(void) { return 0; }\n")
-        self.assertTrue(ship("c.c", folder=folder)[2].endswith("\nadvice: include bpfagent.h instead: there is no C library for BPF\n"))
+        self.assertTrue(ship("c.c", folder=folder)[2].endswith("\nadvice: include bpfagent_program.h instead: there is no C library for BPF\n"))
         source.write_text("unsigned long program(unsigned long n) { unsigned long sum = 0; for (unsigned long i = 1; i <= n; i++) sum += i; return sum; }\n")
         status, output, errors = ship("c.c", folder=folder)
         self.assertTrue((status, output) == (1, "") and errors.endswith("needs compiler_barrier() inside\n"), f"a loop that clang makes a product of: {errors}")

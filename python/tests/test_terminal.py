@@ -14,9 +14,10 @@ import bpfagent
 import stand_in
 from bpfagent import Service, patiently
 from bpfagent.debug.main import main
-from support import DEBUGGER, ENDLESS, PROGRAM, ROOT, SECONDS, SIGNALS, SOON, TABLE
-from support import Pseudoterminal, changes, endless_service, hang, has_gone, heard, is_at_once, needs_debugger, noting_program, program_of
-from support import silent_program, usage_of, with_signals
+from bpfagent.debug.terminal import SILENCE
+from support import DEBUGGER, ENDLESS, PROGRAM, ROOT, SECONDS, SIGNALS, TABLE
+from support import Pseudoterminal, changes, endless_service, hang, heard, is_at_once, is_soon, needs_debugger, noting_program, program_of
+from support import silent_program, stop, until_asked, until_gone, until_running, usage_of, with_signals
 
 DEEP = """#include "bpfagent.h"
 CALLED uint64_t sum(uint64_t n)
@@ -143,13 +144,13 @@ class Sessions(unittest.TestCase):
         self.assertEqual(terminal.ask("finish"), [f"machine {machine}: find returned 40", f"program at {at}:23", "23\t    uint64_t sum = find(table, key);"])
         self.assertEqual(terminal.ask("watch table->count"), [f"watchpoint 2: table->count (machine {machine}, 8 bytes at object 1)"])
         self.assertEqual(
-            terminal.ask("continue"), [f"machine {machine}, watchpoint: table->count: 2 -> 1", f"program at {at}:25", "25\t    sum += find(table, key + 1);"]
+            terminal.ask("continue"), [f"machine {machine}, watchpoint 2: table->count: 2 -> 1", f"program at {at}:25", "25\t    sum += find(table, key + 1);"]
         )
         self.assertEqual(
             terminal.ask("x/16xb 0x100000000"), ["0x100000000 <object 1>: 0x01 0x00 0x00 0x00 0x00 0x00 0x00 0x00 0x07 0x00 0x00 0x00 0x28 0x00 0x00 0x00"]
         )
         self.assertEqual(terminal.ask("print sum"), ["sum = 40"])
-        self.assertEqual(terminal.ask("continue"), [f"machine {machine} ended: exit 0000000000000028"])
+        self.assertEqual(terminal.ask("continue"), [f"machine {machine} ended: exit 0000000000000028 (40)"])
 
     def test_run(self) -> None:
         """A whole session over `run`."""
@@ -170,7 +171,7 @@ class Sessions(unittest.TestCase):
             self.assertIn("a service doesn't show scopes", terminal.ask("info scopes")[0])
             terminal.ask("delete")
             self.assertEqual(terminal.ask("machine 3"), ["* machine 3: paused, program at examples/debug/table.c:22, fuel 1000000"])
-            self.assertEqual(terminal.ask("continue"), ["machine 3 ended: exit 0000000000000028"])
+            self.assertEqual(terminal.ask("continue"), ["machine 3 ended: exit 0000000000000028 (40)"])
             self.assertEqual(terminal.ask("info machines")[0], "  machine 1: paused, program at examples/debug/table.c:22, fuel 1000000")
             self.assertEqual(terminal.close(), 0)
 
@@ -200,7 +201,7 @@ class Sessions(unittest.TestCase):
             self.assertEqual(shown["-gdwarf-4", level], shown["-gdwarf-5", level])
             self.assertEqual(shown["-gdwarf-5", level][1][1:], ["find at examples/debug/table.c:16", "16\t        if (table->pairs[i].key == key)"])
             self.assertEqual(shown["-gdwarf-5", level][3], ["table = (const struct table *) 0x100000000 <object 1>", "key = 7", "i = 0"])
-            self.assertEqual(shown["-gdwarf-5", level][-1], ["machine 1 ended: exit 0000000000000028"])
+            self.assertEqual(shown["-gdwarf-5", level][-1], ["machine 1 ended: exit 0000000000000028 (40)"])
         self.assertIn("(inlined)", shown["-gdwarf-5", "-O2"][2][0])
 
     def test_attach(self) -> None:
@@ -208,7 +209,7 @@ class Sessions(unittest.TestCase):
         with endless_service(pathlib.Path(self.source(ENDLESS))) as service:
             number = 1
             other = service.connect(SECONDS)
-            with self.debugger("--connect", f"127.0.0.1:{service.port}", self.source(ENDLESS)) as terminal:
+            with self.debugger("--connect", service.place, self.source(ENDLESS)) as terminal:
                 self.assertRegex(terminal.greeting[0], r"^\* machine 1: running, ")
                 self.assertEqual(terminal.ask("print last"), ["machine 1 is running: `pause` stops it"])
                 self.assertRegex(terminal.ask("pause")[0], "^machine 1: pause$")
@@ -236,7 +237,7 @@ class Sessions(unittest.TestCase):
             for commands in (at_once, never):
                 with endless_service(pathlib.Path(self.source(ENDLESS))) as service:
                     other = service.connect(SECONDS)
-                    with self.debugger("--connect", f"127.0.0.1:{service.port}", self.source(ENDLESS)) as terminal:
+                    with self.debugger("--connect", service.place, self.source(ENDLESS)) as terminal:
                         terminal.ask("pause")
                         terminal.ask(commands[0])
                         terminal.press(f"{commands[1]}\n")
@@ -251,43 +252,53 @@ class Sessions(unittest.TestCase):
     def test_hung(self) -> None:
         """The debugger leaves a service that has hung, and says what may stay there. One that it started ends with it."""
         with_signals(self)
-        wanted = "bpfagent-debug: the service doesn't answer, and may keep watchpoint 2, breakpoint 1, the pause of machine 1"
-        path = self.source(ENDLESS)
-        for is_signal, status in ((False, 1), (True, 143)):
-            with endless_service(pathlib.Path(path)) as service:
-                with self.debugger("--connect", f"127.0.0.1:{service.port}", path) as terminal:
-                    terminal.ask("pause")
-                    terminal.ask("break more")
-                    terminal.ask("watch *(uint64_t *)0x100000000")
-                    terminal.ask("continue")
-                    hang(service)
-                    start = time.monotonic()
-                    if is_signal:
-                        terminal.press("info registers\n")
-                        time.sleep(0.5)
-                        terminal.process.send_signal(signal.SIGTERM)
-                    else:
-                        terminal.press("quit\n")
-                    shown = terminal._until(lambda got: False)
-                    self.assertEqual(terminal.process.wait(SECONDS), status)
-                    self.assertLess(time.monotonic() - start, SOON)
-                    self.assertIn(wanted, shown.splitlines())
-                    service._process.send_signal(signal.SIGCONT)
-        note = pathlib.Path(self.folder.name) / "number"
-        program = noting_program(note.with_name("starts"), note)
+        for is_signal in (False, True):
+            self.assertTrue(is_soon(self.left_hung, is_signal))
         ways: list[list[str]] = [[], ["--serve"]]
         for options in ways:
-            with self.debugger("--bpfagent", str(program), *options, path, "+8") as terminal:
-                os.kill(int(note.read_text()), signal.SIGSTOP)
-                start = time.monotonic()
-                self.assertEqual(terminal.close(), 0)
-                self.assertLess(time.monotonic() - start, SOON)
-                with self.assertRaises(ProcessLookupError):
-                    os.kill(int(note.read_text()), 0)
+            self.assertTrue(is_soon(self.left_hung_program, options))
 
-    def interrupted(self, terminal: Pseudoterminal, said: str) -> float:
+    def left_hung(self, is_signal: bool) -> float:
+        """Leaves a service that has hung. Gives how long that takes."""
+        wanted = "bpfagent-debug: the service doesn't answer, and may keep watchpoint 2, breakpoint 1, the pause of machine 1"
+        path = self.source(ENDLESS)
+        with endless_service(pathlib.Path(path)) as service, self.debugger("--connect", service.place, path) as terminal:
+            terminal.ask("pause")
+            terminal.ask("break more")
+            terminal.ask("watch *(uint64_t *)0x100000000")
+            terminal.ask("continue")
+            hang(service)
+            start = time.monotonic()
+            if is_signal:
+                terminal.press("info registers\n")
+                until_asked(service.process)
+                terminal.process.send_signal(signal.SIGTERM)
+            else:
+                terminal.press("quit\n")
+            shown = terminal._until(lambda got: False)
+            self.assertEqual(terminal.process.wait(SECONDS), 143 if is_signal else 1)
+            took = time.monotonic() - start
+            self.assertIn(wanted, shown.splitlines())
+            service._process.send_signal(signal.SIGCONT)
+            return took
+
+    def left_hung_program(self, options: list[str]) -> float:
+        """Leaves a program that the debugger started, and that has hung. Gives how long that takes."""
+        note = pathlib.Path(self.folder.name) / "number"
+        program = noting_program(note.with_name("starts"), note)
+        with self.debugger("--bpfagent", str(program), *options, self.source(ENDLESS), "+8") as terminal:
+            stop(int(note.read_text()))
+            start = time.monotonic()
+            self.assertEqual(terminal.close(), 0)
+            took = time.monotonic() - start
+            until_gone(int(note.read_text()))
+            return took
+
+    def interrupted(self, terminal: Pseudoterminal, hung: int, said: str) -> float:
         """An interrupt while a reply is awaited that doesn't come: the debugger says so and ends. Gives how long that takes."""
-        time.sleep(1.0)
+        until_asked(hung)
+        # The debugger gives up who has said nothing for so long.
+        time.sleep(SILENCE)
         start = time.monotonic()
         terminal.press("\x03")
         shown = terminal._until(lambda got: False).splitlines()
@@ -297,15 +308,17 @@ class Sessions(unittest.TestCase):
     def interrupted_at_service(self, commands: list[str], before: str, after: str, kept: str) -> float:
         """The same of a service that hangs between what is typed before and what is typed after."""
         path = self.source(ENDLESS)
-        with endless_service(pathlib.Path(path)) as service, self.debugger("--connect", f"127.0.0.1:{service.port}", path) as terminal:
+        with endless_service(pathlib.Path(path)) as service, self.debugger("--connect", service.place, path) as terminal:
+            other = service.connect(SECONDS)
             for command in commands:
                 terminal.ask(command)
             terminal.press(before)
-            time.sleep(0.3)
+            if before:
+                until_running(other, 1)
             hang(service)
             terminal.press(after)
             try:
-                return self.interrupted(terminal, f"the service doesn't answer{kept}")
+                return self.interrupted(terminal, service.process, f"the service doesn't answer{kept}")
             finally:
                 service._process.send_signal(signal.SIGCONT)
 
@@ -314,10 +327,11 @@ class Sessions(unittest.TestCase):
         note = pathlib.Path(self.folder.name) / "number"
         program = noting_program(note.with_name("starts"), note)
         with self.debugger("--bpfagent", str(program), *options, self.source(ENDLESS), "+8") as terminal:
-            os.kill(int(note.read_text()), signal.SIGSTOP)
+            number = int(note.read_text())
+            stop(number)
             terminal.press("stepi\n")
-            took = self.interrupted(terminal, said)
-            self.assertTrue(has_gone(int(note.read_text())), "it goes on")
+            took = self.interrupted(terminal, number, said)
+            until_gone(number)
             return took
 
     def test_interrupts_hung(self) -> None:
@@ -331,10 +345,11 @@ class Sessions(unittest.TestCase):
     def is_paused_late(self) -> bool:
         """Whether an interrupt pauses a machine though the service is late with its replies, and the session goes on."""
         path = self.source(ENDLESS)
-        with endless_service(pathlib.Path(path)) as service, self.debugger("--connect", f"127.0.0.1:{service.port}", path) as terminal:
+        with endless_service(pathlib.Path(path)) as service, self.debugger("--connect", service.place, path) as terminal:
+            other = service.connect(SECONDS)
             terminal.ask("pause")
             terminal.press("continue\n")
-            time.sleep(0.3)
+            until_running(other, 1)
             hang(service)
             terminal.press("\x03")
             time.sleep(0.3)
@@ -353,8 +368,10 @@ class Sessions(unittest.TestCase):
             start = time.monotonic()
             debugger.send_signal(number)
             self.assertEqual((*debugger.communicate(timeout=SECONDS), debugger.returncode), (b"", b"", 128 + number), words)
-            self.assertTrue(process is None or has_gone(process), "what was started goes on")
-            return time.monotonic() - start
+            took = time.monotonic() - start
+            if process is not None:
+                until_gone(process)
+            return took
 
     def ended_at_service(self, number: int, service: stand_in.StandIn) -> float:
         """The same of a debugger that is to connect to a service."""
@@ -383,7 +400,7 @@ class Sessions(unittest.TestCase):
                 subprocess.run([*DEBUGGER[:2], "bpfagent.ship", "--flag=-O0", "--output", str(code), str(path)], check=True, timeout=SECONDS)
                 service.setup.break_(service.setup.ship(code.read_bytes(), 100, 1), 0)
             service.listen()
-            with self.debugger("--connect", f"127.0.0.1:{service.port}", "--with", str(paths[1]), str(paths[0])) as terminal:
+            with self.debugger("--connect", service.place, "--with", str(paths[1]), str(paths[0])) as terminal:
                 self.assertRegex(terminal.greeting[0], r"^\* machine 1: paused, program at .*seven\.c:3, ")
                 self.assertRegex(terminal.greeting[1], r"^  machine 2: paused, program at .*eight\.c:3, ")
                 self.assertRegex(terminal.greeting[2], r"^  machine 3: paused, slot 0, fuel 100, another program$")
@@ -399,7 +416,7 @@ class Sessions(unittest.TestCase):
             code = pathlib.Path(self.folder.name) / "optimized.code"
             subprocess.run([*DEBUGGER[:2], "bpfagent.ship", "--output", str(code), TABLE[0]], check=True, timeout=SECONDS)
             service.setup.ship(code.read_bytes(), 100)
-            at = f"127.0.0.1:{service.listen()}"
+            at = service.listen()
             with self.debugger("--connect", at, TABLE[0]) as terminal:
                 self.assertRegex(terminal.greeting[0], r", another program$")
                 self.assertRegex(terminal.greeting[1], r"^no machine runs .*table\.c as the debugger compiles it: .* --flag=-O2$")
@@ -431,8 +448,9 @@ class Sessions(unittest.TestCase):
             shown = terminal.ask("backtrace")
             self.assertEqual([line[2:].split()[1] for line in shown], ["sum", "sum", "sum", "sum", "program"])
             self.assertEqual([terminal.ask(f"frame {k}") and terminal.ask("print n")[0] for k in range(5)], ["n = 0", "n = 1", "n = 2", "n = 3", "n = 3"])
+            terminal.ask("frame 0")
             self.assertEqual([terminal.ask("finish")[0] for _ in range(4)], [f"machine 1: sum returned {n}" for n in (0, 1, 3, 6)])
-            self.assertEqual(terminal.ask("finish"), ["machine 1 ended: exit 0000000000000006"])
+            self.assertEqual(terminal.ask("finish"), ["machine 1 ended: exit 0000000000000006 (6)"])
         with self.debugger(self.source(DEEP), "3") as terminal:
             terminal.ask("tbreak program.c:6")
             terminal.ask("continue")
@@ -450,7 +468,9 @@ class Sessions(unittest.TestCase):
                 self.assertEqual(terminal.ask("break more if *count == 7 && count != 0")[0].split(", ")[-1], "if *count == 7 && count != 0")
                 self.assertEqual(terminal.ask("continue")[0], "machine 1, breakpoint 1")
                 self.assertEqual(terminal.ask("print *count"), ["*count = 7"])
-                self.assertEqual(terminal.ask("delete") + terminal.ask("break more if nothing > 1")[1:], [])
+                refused = "the condition `nothing > 1` can't be read: nothing is called nothing there"
+                self.assertEqual(terminal.ask("delete") + terminal.ask("break more if nothing > 1"), [refused])
+                terminal.ask("break more if 1 / (*count - 8) > 1")
                 self.assertEqual(terminal.ask("continue")[0], "machine 1, breakpoint 2")
                 self.assertEqual(terminal.ask("print !(*count < 8) || *count >= 9"), ["!(*count < 8) || *count >= 9 = 1"])
                 self.assertEqual(terminal.close(), 0)
@@ -485,13 +505,13 @@ class Sessions(unittest.TestCase):
                 self.assertEqual(terminal.ask(f"print {text}"), [why])
             self.assertEqual(terminal.ask("x/2xw all"), ["0x100000000 <object 1>: 0x00000005 0x04030201"])
             self.assertEqual(terminal.ask("x/4c all->name"), ["0x100000010 <object 1+16>: 110 'n' 97 'a' 109 'm' 101 'e'"])
-            self.assertEqual(terminal.ask("x/s all->name")[0].split(": ")[1], '"n"')
+            self.assertEqual(terminal.ask("x/s all->name")[0].split(": ")[1], '"name"')
             self.assertEqual(terminal.ask("x/1dg &all->minus"), ["0x100000028 <object 1+40>: -7"])
             self.assertEqual(terminal.ask("set all->minus = 40 + 2") + terminal.ask("print all->minus"), ["all->minus = 42"])
             self.assertEqual(terminal.ask("set byte = 1"), ["the protocol can write objects only, and no stacks or registers"])
             self.assertEqual(terminal.ask("watch all->low"), ["only a value in memory can be watched, and this one is in a register or is computed"])
             terminal.ask("next")
-            self.assertEqual(terminal.ask("emitted"), ["emitted 0x6e"])
+            self.assertEqual(terminal.ask("emitted"), ["emitted 0x6e (110)"])
 
     def test_away(self) -> None:
         """An object that is far: it can't be looked at in `run`, and comes back when the machine reaches it; in a service it comes back."""
@@ -505,7 +525,7 @@ class Sessions(unittest.TestCase):
             self.assertEqual(terminal.ask("print table->count"), ["table->count = 2"])
             self.assertEqual(terminal.ask("tell leave 1"), ["> kept 1 scoped"])
             terminal.ask("delete")
-            self.assertEqual(terminal.ask("continue"), ["machine 1 ended: exit 0000000000000028"])
+            self.assertEqual(terminal.ask("continue"), ["machine 1 ended: exit 0000000000000028 (40)"])
         with self.debugger("--serve", "--workers", "4", *TABLE) as terminal:
             # The look that finds it away has it brought back, so it is sent away once more.
             end = time.monotonic() + SECONDS
@@ -516,7 +536,7 @@ class Sessions(unittest.TestCase):
             terminal.ask("break 25")
             self.assertEqual(terminal.ask("continue")[0], "machine 1, breakpoint 1")
             self.assertEqual(terminal.ask("print *table")[0][:19], "*table = {count = 1")
-            self.assertEqual(terminal.ask("continue"), ["machine 1 ended: exit 0000000000000028"])
+            self.assertEqual(terminal.ask("continue"), ["machine 1 ended: exit 0000000000000028 (40)"])
 
     def test_keys(self) -> None:
         """Completion, history, an empty line that steps again, and abbreviations."""
@@ -548,8 +568,8 @@ class Sessions(unittest.TestCase):
                 "break": "break takes FILE:LINE, LINE, FUNCTION or *SLOT",
                 "break 23 if": "a condition is missing behind `if`",
                 "break 23 if (": "the condition `(` can't be read: the expression ends too early",
-                "break 23 if i == ": "the condition `i ==` can't be read: the expression ends too early",
-                "break 23 if i = 1": "the condition `i = 1` can't be read: `= 1` is no expression",
+                "break 23 if key == ": "the condition `key ==` can't be read: the expression ends too early",
+                "break 23 if key = 1": "the condition `key = 1` can't be read: `= 1` is no expression",
                 "break 23 if table->": "the condition `table->` can't be read: the name of a member is missing",
                 "break 23 if table[1": "the condition `table[1` can't be read: `]` is missing",
                 "break 23 if (struct nope *)5": "the condition `(struct nope *)5` can't be read: the program has no type struct nope",
@@ -621,7 +641,7 @@ class Arguments(unittest.TestCase):
         with tempfile.TemporaryDirectory() as folder:
             text = (
                 f"import subprocess\nagent = subprocess.Popen([{PROGRAM!r}, *sys.argv[1:]], stdin=subprocess.PIPE)\nfor line in sys.stdin.buffer:\n"
-                "    if line.startswith(b'get 9'):\n        break\n    agent.stdin.write(line)\n    agent.stdin.flush()\nagent.stdin.close()\nagent.wait()"
+                "    if line.startswith(b'get 9'):\n        break\n    agent.stdin.write(line)\n    agent.stdin.flush()\nagent.kill()\nagent.wait()"
             )
             words = ["--bpfagent", str(program_of(pathlib.Path(folder) / "ends", text)), str(ROOT / "examples/c/counter.code"), "+8", "3"]
             done = subprocess.run([*DEBUGGER, *words], input="tell get 9 0 1\nquit\n", capture_output=True, text=True, timeout=SECONDS)

@@ -12,6 +12,7 @@ import subprocess
 import sys
 import tempfile
 import unittest
+import zipfile
 from typing import Mapping, Optional
 
 import bpfagent
@@ -19,7 +20,7 @@ from support import PROGRAM, ROOT, needs_debugger
 
 SECONDS = 600
 TASKS = ("fifo", "tally", "hash_join", "top_k", "filter")
-COMMANDS = ("bpfagent-ship", "bpfagent-redis", "bpfagent-debug")
+COMMANDS = ("bpfagent-ship", "bpfagent-redis", "bpfagent-debug", "bpfagent-front", "bpfagent-cli")
 NEWCOMER = """#include <stdint.h>
 
 uint64_t program(const uint64_t *numbers, uint64_t count)
@@ -32,11 +33,17 @@ uint64_t program(const uint64_t *numbers, uint64_t count)
 """
 NUMBER = int.from_bytes(b"abcdefgh", "little")
 DEBUGS = ["bpfagent-debug", "-x", "break mine.c:7", "-x", "continue", "-x", "print sum + numbers[i]", "-x", "quit", "mine.c", "=abcdefgh", "1"]
+LIBRARY = os.environ.get("BPFAGENT_LIBRARY", "")
+ENGINE = """
+import bpfagent, bpfagent.library
+with bpfagent.Engine() as engine:
+    print(engine.read(engine.make_of(b"hello"), 5), bpfagent.library.library().path)
+"""
 CLIENT = """
 import bpfagent, sys
 with bpfagent.Agent.run(sys.argv[1], timeout=60) as agent:
     number = agent.make_of(b"hello")
-    print(agent.read(number, 5), bpfagent.__file__)
+    print(agent.read(number, 5), bpfagent.__file__, bpfagent.why_bad("make"))
 """
 
 
@@ -58,6 +65,7 @@ class Wheels(unittest.TestCase):
     """One environment for all tests."""
 
     folder: pathlib.Path
+    wheel: pathlib.Path
     environment: dict[str, str]
 
     @classmethod
@@ -67,12 +75,16 @@ class Wheels(unittest.TestCase):
         cls.folder = pathlib.Path(folder.name)
         # The build writes beside its sources, so it gets a copy of them.
         shutil.copytree(ROOT / "python", cls.folder / "python", ignore=shutil.ignore_patterns(".*", "__pycache__", "build", "*.egg-info"))
+        (cls.folder / "docs").mkdir()
+        shutil.copy(ROOT / "docs/PROTOCOL.md", cls.folder / "docs")
         cls.done([sys.executable, "-m", "build", "--no-isolation", "--wheel", "--outdir", str(cls.folder / "dist"), str(cls.folder / "python")])
         cls.done([sys.executable, "-m", "venv", "--system-site-packages", str(cls.folder / "fresh")])
-        wheel = str(cls.folder / f"dist/bpfagent-{bpfagent.__version__}-py3-none-any.whl")
-        cls.done([str(cls.folder / "fresh/bin/python"), "-m", "pip", "install", "--no-index", "--no-deps", wheel])
+        (cls.wheel,) = (cls.folder / "dist").iterdir()
+        cls.done([str(cls.folder / "fresh/bin/python"), "-m", "pip", "install", "--no-index", "--no-deps", str(cls.wheel)])
         (cls.folder / "fresh/bin/bpfagent").symlink_to(PROGRAM)
-        others = {name: value for name, value in os.environ.items() if name != "PYTHONPATH"}
+        # A wheel that carries the library finds it beside its modules.
+        taken = {"PYTHONPATH", "BPFAGENT_LIBRARY"} if LIBRARY else {"PYTHONPATH"}
+        others = {name: value for name, value in os.environ.items() if name not in taken}
         cls.environment = {**others, "PATH": f"{cls.folder / 'fresh/bin'}{os.pathsep}{os.environ['PATH']}", "BPFAGENT": PROGRAM}
 
     @classmethod
@@ -89,12 +101,24 @@ class Wheels(unittest.TestCase):
     def test_commands(self) -> None:
         """The client, each command, and assembly to its result."""
         status, output = self.call("python", "-c", CLIENT, PROGRAM)
-        self.assertTrue(status == 0 and output.startswith(f"b'hello' {self.folder}/fresh/"), output)
+        self.assertTrue(status == 0 and output.startswith(f"b'hello' {self.folder}/fresh/") and output.endswith(" make LENGTH: LENGTH is missing\n"), output)
         self.assertEqual(len(list((self.folder / "fresh/lib").glob("*/site-packages/bpfagent/py.typed"))), 1)
         for command in COMMANDS:
             status, output = self.call(command, "--help")
             self.assertTrue(status == 0 and output.startswith(f"usage: {command} "), output)
-        self.assertEqual(self.call("bpfagent-ship", str(ROOT / "examples/sum.asm"), "4"), (0, "stopped 1 exit 000000000000000a\n15 instructions\n"))
+        self.assertEqual(self.call("bpfagent-ship", str(ROOT / "examples/sum.asm"), "4"), (0, "stopped 1 exit 000000000000000a = 10\n15 instructions\n"))
+
+    def test_library(self) -> None:
+        """The wheel is for this platform if it carries the library, and its engine is that one; otherwise it is for each platform."""
+        place = "bpfagent/lib/libbpfagent.so.0"
+        with zipfile.ZipFile(self.wheel) as content:
+            self.assertEqual(place in content.namelist(), bool(LIBRARY))
+        if not LIBRARY:
+            self.assertEqual(self.wheel.name, f"bpfagent-{bpfagent.__version__}-py3-none-any.whl")
+            return
+        self.assertRegex(self.wheel.name, f"^bpfagent-{re.escape(bpfagent.__version__)}-py3-none-linux_[a-z0-9_]+.whl$")
+        status, output = self.call("python", "-c", ENGINE)
+        self.assertTrue(status == 0 and output.startswith(f"b'hello' {self.folder}/fresh/") and output.endswith(f"/{place}\n"), output)
 
     def test_folder(self) -> None:
         """The folder itself is installed without a network, in another fresh environment."""
@@ -109,7 +133,7 @@ class Wheels(unittest.TestCase):
         """A C file to its result in one command, and its debugger; what a page shows in Python."""
         (self.folder / "mine.c").write_text(NEWCOMER)
         status, output = self.call("bpfagent-ship", "mine.c", "=abcdefgh", "1")
-        self.assertEqual((status, output.splitlines()[0]), (0, f"stopped 1 exit {NUMBER:016x}"))
+        self.assertEqual((status, output.splitlines()[0]), (0, f"stopped 1 exit {NUMBER:016x} = {NUMBER}"))
         status, output = self.call(*DEBUGS)
         self.assertTrue(status == 0 and f"= {NUMBER}\n" in output, output)
         for block in re.findall(r"(?ms)^```python\n(.*?)^```", (ROOT / "docs/WRITING-PROGRAMS.md").read_text()):

@@ -1,6 +1,7 @@
 #!/usr/bin/env python3
 """Checks that every definition that a public clause depends on has a comment, and that docs/DEFINITIONS.md names each crate that has one.
-The other files of the product's specs/ say in their first line that they are private.
+The other files of the product's specs/ say in their first line that they are private. docs/CLAIMS.md tells how many definitions of the product there are to
+believe, in how many lines, and its `unsafe` blocks by crate.
 
 A public clause is one of a `pub fn`, of an export to C, of a method of a trait's impl, or of a `pub trait`, and what a public type says of itself (its
 Model, its ghost items). From the names in these clauses the script follows the `ghost use` lines of src/, then the `use` lines of specs/. With --write
@@ -22,6 +23,8 @@ from lib.sources import ROOT, blanked, block, crates, function_places
 Place = Tuple[str, str, str]
 GUIDE = "docs/DEFINITIONS.md"
 INDEX = "out/DEFINITIONS-INDEX.md"
+CLAIMS = "docs/CLAIMS.md"
+UNSAFE = re.compile(r"\bunsafe\s*\{")
 PRIVATE = "-- For private functions and proofs alone: "
 NAME = re.compile(r"[^\s(){}\[\],;.`\"]+")
 USE = re.compile(r"(?:pub )?use\s+(Rattle\.(\w+)\.specs\.([\w.]+))\.\{([^}]*)\}", re.S)
@@ -197,6 +200,17 @@ def unneeded(own: Sequence[str], needed: Collection[tuple[str, str]]) -> Iterato
             yield f"- `{crate}`: {', '.join(private)}\n"
 
 
+def believed(found: Sequence[Place], specs: dict[tuple[str, str], Specs]) -> Iterator[str]:
+    """The rows that docs/CLAIMS.md has of how much is to be believed."""
+    of_product = [place for place in found if not FOR_TESTS.search(place[0])]
+    lines = sum(specs[crate, module].definitions[name].count("\n") for crate, module, name in of_product)
+    owners = len({crate for crate, _, _ in of_product})
+    yield f"| definitions that clauses of public calls reach | {len(of_product):,}, in {lines:,} lines of the `specs/` of {owners} crates |"
+    blocks = {crate: sum(len(UNSAFE.findall(blanked(path.read_text()))) for path in (ROOT / f"crates/{crate}/src").rglob("*.rt")) for crate in crates()}
+    told = ", ".join(f"{count} in `{crate}`" for crate, count in blocks.items() if count and not FOR_TESTS.search(crate))
+    yield f"| `unsafe` blocks, whose premises are proved | {told or 'none'} |"
+
+
 if __name__ == "__main__":
     own, rows = libraries(), guide_rows()
     order = [crate for names, _ in rows for crate in names]
@@ -206,6 +220,8 @@ if __name__ == "__main__":
     wrong = [f"{GUIDE}: its table doesn't name `{crate}`, which has definitions" for crate in unnamed]
     wrong += [f"crates/{c}/specs/{m}.antt: `{n}` has no comment of its own" for c, m, n in found if not specs[c, m].comments[n]]
     wrong += [*missing_files(rows), *wrong_first_lines(own, needed)]
+    claims = (ROOT / CLAIMS).read_text()
+    wrong += [f"{CLAIMS} doesn't have the row: {row}" for row in believed(found, specs) if row not in claims]
     if sys.argv[1:] == ["--write"]:
         (ROOT / INDEX).parent.mkdir(exist_ok=True)
         lines = [line for crate in order + unnamed for line in table(crate, found, specs)]

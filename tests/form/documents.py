@@ -1,6 +1,7 @@
 #!/usr/bin/env python3
 """Checks that documents are true as far as a script can see it: links lead to a file and a heading, files, targets of make and options of scripts
-are there, quoted Rust stands in the file that is named before it, the picture of the crates is that of crates.txt. With --write the script draws it.
+are there, quoted Rust stands in the file that is named before it, a table of sentences names clauses and fields of its files, the picture of the
+crates is that of crates.txt. With --write the script draws it.
 """
 from __future__ import annotations
 
@@ -21,6 +22,9 @@ MAKE = re.compile(r"(?:`|^|&& )make (?:-C ([\w/]+) ?)?([a-z-]*)(?=`| +#|$)", re.
 SCRIPT = re.compile(r"python3 (?:-B )?([\w/]+\.py)((?: --[a-z]+(?=[ `\n]))*)")
 TARGET = re.compile(r"(?m)^([a-z-]+)(?: [a-z-]+)*:(?!=)")
 PATH = re.compile(r"`((?:crates|tests|docs|examples|bench|python|include)/[\w./-]+)`")
+# A table of sentences, what says each of them, and the file: a clause of a call, a call whose clause has no name, or a field of a record.
+SAID_BY = re.compile(r"(?m)^\| Sentence \| Said by \| In \|\n\|[-|]+\|\n((?:\|.*\|\n)+)")
+SAYS = re.compile(r"`(?:(\w+)\.)?(\w+)(?:::(\w+))?`")
 
 
 def anchors(text: str) -> set[str]:
@@ -73,6 +77,24 @@ def wrong_quotes(text: str) -> Iterator[str]:
                 yield f"quotes {line.strip()!r}, which isn't in {named[-1] if named else 'any file'}"
 
 
+def says(source: str, record: str, name: str, clause: str) -> bool:
+    """Whether the file has this field of the record, this clause of the call, or a clause of the call that has no name."""
+    if record:
+        found = re.search(rf"(?ms)^pub record {record} .*?(?=^\S|\Z)", source)
+        return bool(found and re.search(rf"(?m)^  pub {name} :", found[0]))
+    heads = re.findall(rf"(?ms)^ *pub fn {name}\b.*?^ *\{{", source)
+    return any(re.search(rf"\bensures {clause} \{{" if clause else r"\bensures \{", head) for head in heads)
+
+
+def wrong_clauses(text: str) -> Iterator[str]:
+    for row in (row for table in SAID_BY.findall(text) for row in table.splitlines()):
+        _, _, said, file, _ = (cell.strip() for cell in row.split("|"))
+        source = "\n".join((ROOT / path).read_text() for path in PATH.findall(file) if (ROOT / path).is_file())
+        for record, name, clause in SAYS.findall(said):
+            if not says(source, record, name, clause):
+                yield f"names {'.'.join(filter(None, (record, name)))}{clause and '::' + clause}, which {file} doesn't say"
+
+
 def edges(names: Sequence[str]) -> Iterator[tuple[str, str]]:
     """What each crate stands on, by crates.txt, without what it stands on through another."""
     known = crates()
@@ -102,6 +124,6 @@ if __name__ == "__main__":
     wrong = list(wrong_picture(sys.argv[1:] == ["--write"]))
     for page in pages():
         text = page.read_text()
-        said = [*wrong_links(page, text), *wrong_paths(text), *wrong_commands(text), *wrong_quotes(text)]
+        said = [*wrong_links(page, text), *wrong_paths(text), *wrong_commands(text), *wrong_quotes(text), *wrong_clauses(text)]
         wrong += [f"{page.relative_to(ROOT)} {what}" for what in said]
-    report(wrong, f"links, files, commands, quotes, and the picture of the crates in {len(pages())} documents are right")
+    report(wrong, f"links, files, commands, quotes, clauses, and the picture of the crates in {len(pages())} documents are right")

@@ -1,7 +1,7 @@
 #!/usr/bin/env python3
-"""Compares what scripts write with what they write now: lists of tests, however they are laid out, files that stand in several crates, and the
-number of replies that `script_runner` tells. With --vectors it also makes the long scripts of crates/script_runner again, by an interpreter of RFC 9669
-of its own, and says whether the replies of the other scripts are those that the interpreter gives.
+"""Compares what scripts write with what they write now: lists of tests, however they are laid out, files that stand in several crates, the number of
+replies that `script_runner` tells, and the ratios in docs/performance.svg, with those of bench/figures.json. With --vectors it also makes the long scripts
+of crates/script_runner again, by an interpreter of RFC 9669 of its own, and says whether the replies of the other scripts are those that it gives.
 """
 from __future__ import annotations
 
@@ -13,9 +13,11 @@ import sys
 import tempfile
 from typing import Iterator, Sequence
 
-sys.path.insert(0, str(pathlib.Path(__file__).resolve().parents[1]))
+sys.path[:0] = [str(pathlib.Path(__file__).resolve().parents[1]), str(pathlib.Path(__file__).resolve().parents[2] / "bench")]
+from bars import PICTURE, drawn_rows, figures
 from lib.checks import report
 from lib.sources import LITERAL, ROOT
+from rows import load_figures
 
 ASSEMBLY = "crates/asm_tests"
 WRITTEN = {
@@ -79,6 +81,13 @@ def miscounted_replies() -> Iterator[str]:
             yield f"{RUNNER}/stdout says {line!r}, and {name} has {replies} replies"
 
 
+def differing_picture() -> Iterator[str]:
+    """The ratios of the picture, and those that were measured."""
+    measured = [f"{ratio:.2f}" for row in drawn_rows(load_figures()).values() for ratio, _ in figures(row)]
+    if re.findall(r'class="ratio"[^>]*>([\d.]+)<', PICTURE.read_text()) != measured:
+        yield f"{PICTURE.relative_to(ROOT)} doesn't show what bench/figures.json has: {measured}"
+
+
 def differing_vectors() -> Iterator[str]:
     for name, script in VECTORS.items():
         if (ROOT / script).read_text() != output([f"{RUNNER}/make_{name}.py"]):
@@ -92,6 +101,6 @@ def differing_vectors() -> Iterator[str]:
 
 if __name__ == "__main__":
     has_vectors = sys.argv[1:] == ["--vectors"]
-    found = [*differing(), *differing_places(), *differing_copies(), *miscounted_replies(), *(differing_vectors() if has_vectors else [])]
+    found = [*differing(), *differing_places(), *differing_copies(), *miscounted_replies(), *differing_picture(), *(differing_vectors() if has_vectors else [])]
     more = ", and so are the long scripts; the replies of all scripts are those of the interpreter" if has_vectors else ""
     report(found, f"lists of tests are what they are made from{more}")

@@ -1,7 +1,8 @@
 #!/usr/bin/env python3
-"""Checks that the kinds of atomic steps stand in one private module.
+"""Checks that the kinds of atomic steps stand in one private module, and that one module alone can say that memory is refused.
 
 A proof of a step of threads says no more than its kind: another one, anywhere, could assert anything. So each `impl` of a trait that makes one is there.
+That memory is refused is a name without a meaning of its own: who opens it can assert it.
 """
 from __future__ import annotations
 
@@ -15,6 +16,10 @@ from lib.checks import report
 from lib.sources import ROOT, blanked
 
 MODULE = "crates/shared_objects/src/kinds.rt"
+# The definition, and the module that opens it.
+REFUSAL = "crates/far_stream/specs/Refusals.antt"
+ROOM = "crates/far_stream/src/room.rt"
+OPENS = re.compile(r"\bunfolding\b[^\n]*\bMemoryIsRefused\b")
 KIND = re.compile(r"\bimpl\b[^{}]*?\b(?:TableRule|Split|Join|Play)\b[^{}]*?\bfor\s+(\w+|[^{}]*?(?=\s*(?:\bwhere\b|\{)))")
 # Another name for such a trait, under which an `impl` of it would not be found.
 RENAMED = re.compile(r"\b(?:TableRule|Split|Join|Play)\s+as\b")
@@ -46,6 +51,16 @@ def wrong(kinds: list[str]) -> Iterator[str]:
         yield f"{MODULE} has no kinds, or isn't private"
 
 
+def opened() -> Iterator[str]:
+    """Where it is opened that memory is refused, other than where memory is asked for."""
+    for path in sorted((ROOT / "crates").glob("*/*/**/*")):
+        name = path.relative_to(ROOT).as_posix()
+        if path.suffix in (".rt", ".antt") and "/out/" not in name and name != ROOM and OPENS.search(path.read_text()):
+            yield f"{name} opens MemoryIsRefused, as {ROOM} alone may"
+    if "unfoldable pub MemoryIsRefused" not in (ROOT / REFUSAL).read_text() or not OPENS.search((ROOT / ROOM).read_text()):
+        yield f"{ROOM} doesn't open MemoryIsRefused, or {REFUSAL} doesn't hide it"
+
+
 if __name__ == "__main__":
     KINDS: list[str] = []
-    report(list(wrong(KINDS)), f"the {len(KINDS)} kinds of atomic steps stand in one private module")
+    report([*wrong(KINDS), *opened()], f"the {len(KINDS)} kinds of atomic steps stand in one private module, and one says that memory is refused")

@@ -4,6 +4,7 @@ leads to, a test that is left out, an edit that can't be made, a script or a par
 """
 from __future__ import annotations
 
+import os
 import pathlib
 import re
 import sys
@@ -11,7 +12,7 @@ from typing import Iterator
 
 sys.path.insert(0, str(pathlib.Path(__file__).resolve().parents[1]))
 from lib.checks import report
-from lib.sources import ROOT, blanked, crates
+from lib.sources import ROOT, blanked, changes_of, crates
 
 # What a crate's folder has: sources, statements, proofs, edits, and what a program is run on. Scripts that write sources, too.
 PARTS = {"src", "specs", "proofs", "must-fail", "edits", "data", "args", "stdin", "stdout", "status", "out", "__pycache__"}
@@ -33,9 +34,18 @@ def edits() -> int:
     return len(edits_in("must-fail"))
 
 
+def links() -> Iterator[pathlib.Path]:
+    """The links of the clone, at one of which `rt ci` stops, also in what is built and never committed."""
+    for at, folders, names in os.walk(ROOT):
+        yield from (path for path in (pathlib.Path(at, name) for name in folders + names) if path.is_symlink())
+        folders[:] = [name for name in folders if name != ".git"]
+
+
 def strays() -> Iterator[str]:
-    """What the gate would pass over."""
+    """What the gate would pass over, or would stop at after minutes."""
     named = crates()
+    for path in links():
+        yield f"{path.relative_to(ROOT)} is a link, which rt ci refuses"
     for folder in sorted(path for path in (ROOT / "crates").iterdir() if path.is_dir()):
         if folder.name not in named:
             yield f"crates/{folder.name} isn't in crates.txt"
@@ -82,18 +92,12 @@ def misfits() -> Iterator[str]:
     """The edits that can't be made: of a file that isn't there, or of a text that doesn't stand there once."""
     for edit in [*edits_in("must-fail"), *edits_in("edits")]:
         texts: dict[pathlib.Path, str] = {}
-        path, old = ROOT, None
-        for line in edit.read_text().split("\n"):
-            if line.startswith("file: "):
-                path = edit.parent.parent / line[6:].strip()
-                if path.is_file():
-                    texts.setdefault(path, path.read_text())
-            elif line.startswith("old: "):
-                old = line[5:]
-            elif line.startswith("new:") and old is not None:
-                if texts.get(path, "").count(old) != 1:
-                    yield f"{edit.relative_to(ROOT)}: {old!r} stands {texts.get(path, '').count(old)} times in {path}"
-                texts[path] = texts.get(path, "").replace(old, line[4:].removeprefix(" "))
+        for name, old, new in changes_of(edit):
+            path = edit.parent.parent / name
+            text = texts.setdefault(path, path.read_text() if path.is_file() else "")
+            if text.count(old) != 1:
+                yield f"{edit.relative_to(ROOT)}: {old!r} stands {text.count(old)} times in {path}"
+            texts[path] = text.replace(old, new)
 
 
 if __name__ == "__main__":

@@ -25,14 +25,23 @@ EITHER = [
     "tests/product/store.py BOTH",
     "tests/product/deploy.py PROGRAM",
     "tests/product/header.py",
+    "tests/product/yardsticks.py",
     "tests/product/manual.py PROGRAM",
+    "tests/product/install.py PROGRAM",
     "tests/product/verbose.py PROGRAM",
+    "tests/product/keeping.py PROGRAM",
+    "tests/product/spelling.py",
+    "tests/product/door.py PROGRAM",
+    "tests/product/conformance.py PROGRAM",
+    "tests/product/client.py PROGRAM",
 ]
 # Beside the tests of crates.
-TEST = [*EITHER, "tests/product/sweep.py PROGRAM --thin"]
+TEST = [*EITHER, "tests/product/sweep.py PROGRAM --thin", "tests/product/fuzz.py PROGRAM 0"]
 # After `rt ci`, beside those of LIBRARY.
 PROVE = [
     "tests/form/generated.py --vectors",
+    "tests/product/fuzz.py PROGRAM 30 --part agent",
+    "tests/product/fuzz.py PROGRAM 5 --part elf --part dwarf --part dap --part gateway --part front",
     "tests/product/sweep.py PROGRAM",
     "tests/product/refusals.py RT",
     "tools/build.py RT stamp",
@@ -42,15 +51,26 @@ PROVE = [
 LIBRARY = [
     "tools/library.py RT --over-ci",
     "tests/product/embed.py RT",
+    "tests/product/fuzz.py PROGRAM 10 --part library",
+    "tests/product/python_package.py PROGRAM --library test_engine test_agent test_ship test_terminal test_adapter test_wheel test_fleet",
     "tests/product/consumer.py RT PROGRAM",
+    "tests/product/packages.py PROGRAM",
 ]
-# After the others of both targets, one by one, since they look at how long something takes.
+# After the others of both targets, side by side: the first takes all processors at times, and the others sleep most of the time.
+SLEEPING = [
+    "tests/product/python_package.py PROGRAM test_fleet",
+    "tests/product/silence.py PROGRAM",
+    "tests/product/far_client.py PROGRAM",
+    "tests/product/connects.py PROGRAM",
+]
+# After those, one by one, since they look at how long something takes.
 ALONE = [
     "tests/product/service.py BOTH",
+    "tests/product/turns.py PROGRAM",
     "tests/product/waiting.py PROGRAM",
-    "tests/product/silence.py PROGRAM",
-    "tests/product/python_package.py PROGRAM test_fleet",
 ]
+# After those, with the proved program alone.
+ALONE_PROVED = ["tests/product/memory.py PROGRAM"]
 
 
 @dataclass

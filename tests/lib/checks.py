@@ -9,8 +9,8 @@ import subprocess
 import sys
 from typing import Callable, Iterable, Sequence
 
-# How long a part may take, in seconds.
-LIMIT = 900
+# How long a part may take, in seconds, also on a machine that does much else.
+LIMIT = 1800
 
 
 class Failed(Exception):

@@ -14,20 +14,33 @@ from lib.sources import ROOT
 sys.path.append(str(ROOT / "python"))
 from bpfagent.far import DONE, FORGET, GET, HEAD, LIMIT, NO_ROOM, PUT, REFUSED_ID
 
-__all__ = ["DONE", "FORGET", "GET", "HEAD", "LIMIT", "NEVER", "NO_ROOM", "PUT", "REFUSED_ID", "Far"]
+__all__ = ["DONE", "FORGET", "GET", "HEAD", "LIMIT", "NEVER", "NO_ROOM", "PUT", "REFUSED_ID", "Far", "greeted"]
 
 # How long something may take that is never done, in seconds.
-NEVER = 30
+NEVER = 120
 # How long a slow store takes, in seconds, so that machines still wait when replies are measured.
 SLOW = 3.0
 REFUSED = 1
 
 
-class Far:
-    """It notes when it is asked for what, and answers in the way of `manner`. After so many answers, if that is said, it is silent."""
+def greeted(listener: socket.socket) -> socket.socket:
+    """The stream of the service that comes, whose first request has its answer: to forget id 0, which no put has."""
+    stream = listener.accept()[0]
+    stream.recv(HEAD.size, socket.MSG_WAITALL)
+    stream.sendall(HEAD.pack(REFUSED_ID, 0, 0))
+    return stream
 
-    def __init__(self, answers: int | None = None) -> None:
-        self.manner, self.answers = "well", answers
+
+class Far:
+    """It notes when it is asked for what, and answers in the way of `manner`. After so many answers, if that is said, it is silent.
+
+    The first request of a service, to forget id 0, which no put has, is answered apart, unless the store is deaf to it.
+    """
+
+    def __init__(self, answers: int | None = None, is_deaf: bool = False) -> None:
+        self.manner, self.answers, self.is_deaf = "well", answers, is_deaf
+        # how long a store that drips waits before each byte of an object, in seconds
+        self.pause = 0.0
         self.asked: list[float] = []
         self.gets: list[float] = []
         self.kept: dict[int, bytes] = {}
@@ -53,6 +66,9 @@ class Far:
             while head := stream.recv(HEAD.size, socket.MSG_WAITALL):
                 kind, number, length = HEAD.unpack(head)
                 held = stream.recv(length, socket.MSG_WAITALL) if length else b""
+                if (kind, number) == (FORGET, 0) and not self.is_deaf:
+                    stream.sendall(HEAD.pack(REFUSED_ID, number, 0))
+                    continue
                 self.asked.append(time.monotonic())
                 self.gets += self.asked[-1:] if kind == GET else []
                 if self.manner == "silent" or len(self.asked) - 1 == self.answers:
@@ -61,7 +77,18 @@ class Far:
                     continue
                 if self.manner == "cut" or self.manner == "slow" and self.over.wait(SLOW):
                     return
-                stream.sendall(self.answer(kind, number, held))
+                answer = self.answer(kind, number, held)
+                if self.manner == "drip" and kind == GET:
+                    self.drip(stream, answer)
+                else:
+                    stream.sendall(answer)
+
+    def drip(self, stream: socket.socket, answer: bytes) -> None:
+        """Sends a byte at a time, up to the end of the script's block."""
+        for byte in answer:
+            if self.over.wait(self.pause):
+                return
+            stream.sendall(bytes([byte]))
 
     def answer(self, kind: int, number: int, held: bytes) -> bytes:
         """The answer to a request."""

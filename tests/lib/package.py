@@ -14,7 +14,15 @@ import tempfile
 from lib.sources import ROOT
 
 PACKAGE = ROOT / "python"
-MODULES = {"bpfagent-ship": "bpfagent.ship", "bpfagent-redis": "bpfagent.gateway", "bpfagent-debug": "bpfagent.debug.main"}
+# The library for an agent in this process, as `make lib` leaves it.
+LIBRARY = ROOT / "out/lib/libbpfagent.so.0"
+MODULES = {
+    "bpfagent-ship": "bpfagent.ship",
+    "bpfagent-redis": "bpfagent.gateway",
+    "bpfagent-debug": "bpfagent.debug.main",
+    "bpfagent-front": "bpfagent.front.main",
+    "bpfagent-cli": "bpfagent.cli",
+}
 # How long a Python may take to import a module.
 SECONDS = 60
 # Of Debian's own Python, which has what is installed by apt-get.
@@ -31,8 +39,9 @@ def python() -> str:
 
 @functools.lru_cache(maxsize=None)
 def has(path: str, module: str) -> bool:
-    """Whether a Python has a module."""
-    return bool(shutil.which(path)) and subprocess.run([path, "-c", f"import {module}"], stderr=subprocess.DEVNULL, timeout=SECONDS).returncode == 0
+    """Whether a Python has a module, which isn't imported: some take a second."""
+    looks = f"import importlib.util, sys; sys.exit(importlib.util.find_spec({module!r}) is None)"
+    return bool(shutil.which(path)) and subprocess.run([path, "-c", looks], stderr=subprocess.DEVNULL, timeout=SECONDS).returncode == 0
 
 
 def reads_object_files() -> bool:
@@ -53,11 +62,12 @@ def folder() -> tempfile.TemporaryDirectory[str]:
     return made
 
 
-def environment(program: str | os.PathLike[str]) -> dict[str, str]:
-    """The environment in which the package's commands are found, and this program as `bpfagent`."""
+def environment(program: str | os.PathLike[str], library: str | os.PathLike[str] = "") -> dict[str, str]:
+    """The environment in which the package's commands are found, this program as `bpfagent`, and this library, or none."""
     link = pathlib.Path(folder().name) / "bpfagent"
     if not link.is_symlink() or os.readlink(link) != os.path.abspath(program):
         link.unlink(missing_ok=True)
         link.symlink_to(os.path.abspath(program))
     paths = [folder().name, os.environ.get("PATH", os.defpath)]
-    return {**os.environ, "PATH": os.pathsep.join(paths), "PYTHONPATH": str(PACKAGE), "PYTHONDONTWRITEBYTECODE": "1", "BPFAGENT": os.path.abspath(program)}
+    found = {"PATH": os.pathsep.join(paths), "BPFAGENT": os.path.abspath(program), "BPFAGENT_LIBRARY": str(library)}
+    return {**os.environ, "PYTHONPATH": str(PACKAGE), "PYTHONDONTWRITEBYTECODE": "1", **found}

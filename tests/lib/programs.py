@@ -5,18 +5,24 @@ import atexit
 import contextlib
 import ctypes
 import datetime
+import fcntl
 import functools
 import hashlib
 import os
 import pathlib
+import random
 import re
 import resource
+import signal
 import socket
+import struct
 import subprocess
+import sys
 import tempfile
+import termios
 import time
 from types import TracebackType
-from typing import Any, Callable, Iterable, Iterator, Mapping, Sequence, TypeVar
+from typing import Any, Callable, Iterable, Iterator, Mapping, Protocol, Sequence, TypeVar
 
 from lib.checks import Failed, want
 
@@ -26,12 +32,20 @@ SECONDS = 60
 LONG = 180
 # How much slower a program of `make try` is taken to be: it has run-time checks and isn't optimized.
 SLOWER = 20
+# How often what has a bound by the clock is measured at most. A machine that does much else may delay it once, or a few times.
+TRIES = 8
+# How long Python takes to begin and to end on a quiet machine, in seconds.
+BEGINS = 0.05
+# Ports that Linux gives to nobody who asks for any.
+PORTS = range(10_000, 32_768)
 # What the stack of a thread takes where there are to be few of them: more than all else that a thread takes.
 STACK = 1 << 30
 # Linux' number of the call that takes a file of another process.
 PIDFD_GETFD = 438
 LISTENING = re.compile(r"listening (\d+)\n")
 # A line that a server writes with `-v`.
+# What a service says at its end of objects that are far.
+LEFT_OUT = re.compile(r"(\d+) objects? of \d+ bytes? (?:is|are) far at the end, and (?:stays? in the far store, if that still runs|lost with this process)\n")
 NOTED = re.compile(r"(\d{4}-\d{2}-\d{2}T\d{2}:\d{2}:\d{2}\.\d{3})Z (.*)")
 
 
@@ -94,9 +108,18 @@ def size_of(pid: int | str, field: str) -> int:
     return int(re.search(rf"{field}:\s*(\d+) kB", pathlib.Path(f"/proc/{pid}/status").read_text())[1]) << 10
 
 
+def of_threads(pid: int, name: str) -> dict[str, str]:
+    """What a file of proc(5) has about each thread of a process that is still there when it is read."""
+    found: dict[str, str] = {}
+    for thread in os.listdir(f"/proc/{pid}/task"):
+        with contextlib.suppress(FileNotFoundError, ProcessLookupError):
+            found[thread] = pathlib.Path(f"/proc/{pid}/task/{thread}/{name}").read_text()
+    return found
+
+
 def threads_of(pid: int) -> dict[str, tuple[float, float]]:
     """For how many seconds each thread of a process has run, and for how many it waited for a processor."""
-    words = {thread: pathlib.Path(f"/proc/{pid}/task/{thread}/schedstat").read_text().split() for thread in os.listdir(f"/proc/{pid}/task")}
+    words = {thread: text.split() for thread, text in of_threads(pid, "schedstat").items()}
     return {thread: (int(ran) / 1e9, int(waited) / 1e9) for thread, (ran, waited, _) in words.items()}
 
 
@@ -105,15 +128,51 @@ def processor_time(pid: int) -> float:
     return sum(ran for ran, _ in threads_of(pid).values())
 
 
+def files_of(pid: int, kind: str) -> list[int]:
+    """The numbers of a process' open files of a kind, `socket` or `pipe`."""
+    return sorted(int(file.name) for file in pathlib.Path(f"/proc/{pid}/fd").iterdir() if os.readlink(file).startswith(f"{kind}:"))
+
+
+def taken_from(pid: int, number: int) -> int:
+    """A file that another process has open, as one of this process."""
+    process = os.pidfd_open(pid)
+    taken = ctypes.CDLL(None, use_errno=True).syscall(PIDFD_GETFD, process, number, 0)
+    os.close(process)
+    want(taken >= 0, f"file {number} of a process can't be had: {os.strerror(ctypes.get_errno())}")
+    return int(taken)
+
+
 def break_listener(pid: int) -> None:
     """Shuts down the first socket of a process, its listener: it can't accept a client any more."""
-    sockets = [int(file.name) for file in pathlib.Path(f"/proc/{pid}/fd").iterdir() if os.readlink(file).startswith("socket:")]
-    process = os.pidfd_open(pid)
-    taken = ctypes.CDLL(None, use_errno=True).syscall(PIDFD_GETFD, process, min(sockets), 0)
-    os.close(process)
-    want(taken >= 0, f"the listener of a process can't be had: {os.strerror(ctypes.get_errno())}")
-    with socket.socket(fileno=taken) as listener:
+    with socket.socket(fileno=taken_from(pid, files_of(pid, "socket")[0])) as listener:
         listener.shutdown(socket.SHUT_RDWR)
+
+
+def unread(pid: int) -> int:
+    """How many bytes that others sent lie in a process' sockets, and in the pipe of its standard input."""
+    count = 0
+    # Whoever has stopped opens and closes none of them.
+    for number in [*files_of(pid, "socket"), *(number for number in files_of(pid, "pipe") if number == 0)]:
+        taken, size = taken_from(pid, number), bytearray(4)
+        # A listener has no bytes.
+        with contextlib.suppress(OSError):
+            fcntl.ioctl(taken, termios.FIONREAD, size)
+        os.close(taken)
+        count += struct.unpack("i", size)[0]
+    return count
+
+
+def states_of(pid: int) -> list[str]:
+    """The states of a process' threads, each a letter of proc(5)."""
+    return [text.rpartition(")")[2].split()[0] for text in of_threads(pid, "stat").values()]
+
+
+def has_gone(pid: int) -> bool:
+    """Whether a process has ended. If nobody has asked for its status yet, it is still listed."""
+    try:
+        return pathlib.Path(f"/proc/{pid}/stat").read_text().rpartition(")")[2].split()[0] in "ZX"
+    except (FileNotFoundError, ProcessLookupError):
+        return True
 
 
 def room_for(program: str, threads: int) -> dict[int, int]:
@@ -137,6 +196,33 @@ def until(what: str, look: Callable[[], Found], seconds: float = LONG, pause: fl
     raise Failed(what)
 
 
+def slowness() -> float:
+    """By how much this machine is slower now than a quiet one: by how long Python takes to begin and to end."""
+    start = time.monotonic()
+    subprocess.run([sys.executable, "-S", "-c", ""], check=True)
+    return max(1.0, (time.monotonic() - start) / BEGINS)
+
+
+def few_times(measure: Callable[[], float], most: float, tries: int = TRIES) -> list[float]:
+    """Nothing if what is measured is at most so much once in a few tries; otherwise what was measured. Whatever else is wrong has to fail at once."""
+    found: list[float] = []
+    for _ in range(tries):
+        found.append(measure())
+        if found[-1] <= most:
+            return []
+    return found
+
+
+def in_time(measure: Callable[[], float], most: float, tries: int = TRIES) -> list[float]:
+    """The same of seconds by the clock. A machine that is slow now may take longer."""
+
+    def slowly() -> float:
+        took = measure()
+        return took if took <= most else took / slowness()
+
+    return few_times(slowly, most, tries)
+
+
 def is_heard(host: str, port: int) -> bool:
     """Whether somebody listens on this port of an address."""
     try:
@@ -147,18 +233,20 @@ def is_heard(host: str, port: int) -> bool:
 
 
 def free_port() -> int:
-    """A port of this host on which nobody listens."""
-    with socket.create_server(("127.0.0.1", 0)) as listener:
-        return int(listener.getsockname()[1])
+    """A port of this host on which nobody listens, and which nobody gets who asks for any."""
+    while True:
+        port = random.SystemRandom().choice(PORTS)
+        with contextlib.suppress(OSError), socket.create_server(("127.0.0.1", port)):
+            return port
 
 
 @contextlib.contextmanager
-def redis_server() -> Iterator[int]:
-    """The port of a redis-server that keeps nothing on disk."""
+def redis_server(*options: str) -> Iterator[int]:
+    """The port of a redis-server that keeps nothing on disk, and has a bound."""
     port = free_port()
     with tempfile.TemporaryDirectory() as folder:
-        alone = ["--bind", "127.0.0.1", "--save", "", "--appendonly", "no", "--dir", folder]
-        process = subprocess.Popen(["redis-server", "--port", str(port), *alone], stdout=subprocess.DEVNULL)
+        alone = ["--bind", "127.0.0.1", "--save", "", "--appendonly", "no", "--dir", folder, "--maxmemory", "1gb"]
+        process = subprocess.Popen(["redis-server", "--port", str(port), *alone, *options], stdout=subprocess.DEVNULL)
         try:
             until("redis-server doesn't listen", lambda: is_heard("127.0.0.1", port))
             yield port
@@ -236,8 +324,8 @@ class Server(Listener):
 class Service(Listener):
     """`bpfagent serve`, listening after these commands of its input."""
 
-    def __init__(self, program: object, *arguments: object, setup: Iterable[str] = (), limits: Mapping[int, int] | None = None) -> None:
-        super().__init__(program, "serve", *arguments, given="".join(f"{command}\n" for command in setup), limits=limits)
+    def __init__(self, program: object, *arguments: object, setup: Iterable[str] = (), limits: Mapping[int, int] | None = None, **how: Any) -> None:
+        super().__init__(program, "serve", *arguments, given="".join(f"{command}\n" for command in setup), limits=limits, **how)
 
     def texts(self) -> tuple[int, str, str]:
         """When it has ended: the status, the rest of its output, and standard error."""
@@ -246,7 +334,8 @@ class Service(Listener):
 
     def ends_with(self, lines: Iterable[str]) -> bool:
         """Whether it ended by itself, and said that it closed, and then these lines."""
-        return self.texts() == (0, "".join(f"{line}\n" for line in ["closed", *lines]), "")
+        status, output, errors = self.texts()
+        return status == 0 and output == "".join(f"{line}\n" for line in ["closed", *lines]) and tells_what_is_out(output, errors)
 
     def ends_well(self, objects: Mapping[int, bytes] | None = None, machines: Sequence[str] = (), may_be_out: bool = False) -> bool:
         """Whether it ended by itself, and left these objects, by number, and machines, by their `regs` lines. The mover may still have an object."""
@@ -255,13 +344,46 @@ class Service(Listener):
         said, lines = output.splitlines(), [object_line(number, held) for number, held in objects.items()]
         if may_be_out and len(said) > len(lines):
             lines = [out if found == out else line for line, found, out in zip(lines, said[1:], [f"object {number} out" for number in objects])]
-        return status == 0 and errors == "" and output.endswith("\n") and said == ["closed", *lines, *machines]
+        return status == 0 and tells_what_is_out(output, errors) and output.endswith("\n") and said == ["closed", *lines, *machines]
+
+
+class FileService(Process):
+    """`bpfagent serve --unix` without workers, listening after these commands of its input."""
+
+    def __init__(self, program: str, path: object, *arguments: object, setup: str = "make 8\n", **how: Any) -> None:
+        super().__init__(program, "serve", "--unix", path, "--workers", 0, *arguments, **how)
+        self.path = pathlib.Path(how.get("cwd", ".")) / str(path)
+        self.give(setup)
+        self.told: list[str] = []
+        self.name = ""
+        while line := os.fsdecode(self.process.stdout.readline()).rstrip("\n"):
+            if line.startswith("listening "):
+                self.name = line.partition(" ")[2]
+                break
+            self.told.append(line)
+
+    def connect(self) -> socket.socket:
+        stream = socket.socket(socket.AF_UNIX)
+        stream.settimeout(SECONDS)
+        stream.connect(str(self.path))
+        return stream
+
+    def stopped(self, number: signal.Signals) -> int:
+        """Its status after a signal."""
+        self.process.send_signal(number)
+        return self.end()[0]
+
+
+class Connectable(Protocol):
+    """A service that a client can connect to."""
+
+    def connect(self) -> socket.socket: ...
 
 
 class Client:
     """A connection to a service that is asked line by line. Leaving its block closes it."""
 
-    def __init__(self, service: Service) -> None:
+    def __init__(self, service: Connectable) -> None:
         self.stream = service.connect()
         self.replies = self.stream.makefile("r", newline="\n")
 
@@ -318,6 +440,30 @@ class Client:
             return self.replies.read()
 
 
+# Sends commands, and gives their replies.
+Ask = Callable[[Sequence[str]], Sequence[str]]
+
+
+def all_leave(ask: Ask, count: int) -> None:
+    """The first so many objects leave a service. Requests are served in turn, so they have when the one after them, of 8 bytes, has left and is
+    home again."""
+    last, rest = count + 1, list(range(1, count + 1))
+
+    def is_asked() -> bool:
+        """Asks the mover again for those that found its queue full."""
+        replies = ask([f"leave {number}" for number in rest])
+        want(all(reply in (f"asked {number}", "full") for number, reply in zip(rest, replies)), f"leave is answered {set(replies)}")
+        rest[:] = [number for number, reply in zip(rest, replies) if reply == "full"]
+        return not rest
+
+    def is_away() -> bool:
+        return ask([f"leave {last}", f"get {last} 0 8"])[1] == f"away {last}"
+
+    until("the mover's queue stays full", is_asked)
+    until("the last object doesn't leave", is_away)
+    until("the last object doesn't come home", lambda: ask([f"get {last} 0 8"])[0].startswith("bytes"))
+
+
 def opened(program: str, *arguments: object, setup: Iterable[str] = ()) -> tuple[Service, Client]:
     """A service after these commands of its input, and a client of it."""
     service = Service(program, *arguments, setup=setup)
@@ -327,6 +473,12 @@ def opened(program: str, *arguments: object, setup: Iterable[str] = ()) -> tuple
 def object_line(number: int, held: bytes) -> str:
     """How a service tells of an object with these bytes when it has closed."""
     return f"object {number} {len(held)} {hashlib.sha256(held).hexdigest()}"
+
+
+def tells_what_is_out(output: str, errors: str) -> bool:
+    """Whether a service's standard error says of the objects that were out at its end what becomes of them, and nothing else."""
+    out, said = len(re.findall(r"(?m)^object \d+ out$", output)), LEFT_OUT.fullmatch(errors)
+    return int(said[1]) == out if said else not (out or errors)
 
 
 def noted(errors: bytes) -> tuple[list[str], list[str]]:
@@ -339,6 +491,6 @@ def noted(errors: bytes) -> tuple[list[str], list[str]]:
             others.append(line)
             continue
         age = datetime.datetime.now(datetime.timezone.utc) - datetime.datetime.fromisoformat(f"{found[1]}+00:00")
-        want(0 <= age.total_seconds() < SECONDS, f"the time of {line}")
+        want(0 <= age.total_seconds() < LONG, f"the time of {line}")
         notes.append(found[2])
     return notes, others

@@ -1,6 +1,7 @@
 """Reads Rattle's sources, as far as the scripts here need it."""
 from __future__ import annotations
 
+import os
 import pathlib
 import re
 import shutil
@@ -36,13 +37,30 @@ def crates_below(name: str) -> list[str]:
     return found
 
 
-def has_tests(crate: str) -> bool:
-    return any("#[test]" in path.read_text() for path in (ROOT / "crates" / crate / "src").rglob("*.rt"))
+def changes_of(edit: pathlib.Path) -> Iterator[tuple[str, str, str]]:
+    """The changes that an edit makes, in turn: the file in its crate, the text that stands there once, and the one in its place."""
+    file = old = ""
+    for line in edit.read_text().split("\n"):
+        if line.startswith("file: "):
+            file = line[6:].strip()
+        elif line.startswith("old: "):
+            old = line[5:]
+        elif line.startswith("new:"):
+            yield file, old, line[4:].removeprefix(" ")
+
+
+def tests_in(crate: str) -> int:
+    """How many tests a crate has."""
+    return sum(len(re.findall(r"(?m)^\s*#\[test\]$", path.read_text())) for path in (ROOT / "crates" / crate / "src").rglob("*.rt"))
 
 
 def pages() -> list[pathlib.Path]:
-    """The documents, wherever they lie."""
-    below = [path for top in ("crates", "deploy", "docs", "examples", "python", "tests") for path in (ROOT / top).rglob("*.md") if "out" not in path.parts]
+    """The documents, wherever they lie. What proofs leave in a folder out comes and goes meanwhile, so it isn't entered."""
+    below = []
+    for top in ("crates", "deploy", "docs", "examples", "python", "tests"):
+        for folder, folders, files in os.walk(ROOT / top):
+            folders[:] = [name for name in folders if name != "out"]
+            below += [pathlib.Path(folder, name) for name in files if name.endswith(".md")]
     return [*ROOT.glob("*.md"), *sorted(below)]
 
 

@@ -1,8 +1,8 @@
 #!/usr/bin/env python3
 """The installed library, as those have it who use it: consumer.py RT PROGRAM
 
-The library is built as `make lib` does it, and installed into a folder of its own. examples/consumer/ is built against it by pkg-config and by CMake,
-each as C and as C++17, and run. Then everything is uninstalled. What isn't installed is skipped, and named.
+Both libraries are built as `make lib` does it, and installed into a folder of its own. examples/consumer/ is built against each by pkg-config and by
+CMake, as C and as C++17, and run. Then everything is uninstalled. What isn't installed is skipped, and named.
 """
 from __future__ import annotations
 
@@ -21,27 +21,33 @@ from lib.sources import ROOT
 CONSUMER = ROOT / "examples/consumer"
 INSTALL = [sys.executable, "-B", str(ROOT / "tools/install.py")]
 ANSWER = "0.9.0: 42"
-PLACES = ["bin/bpfagent", "include/bpfagent.h", "lib/libbpfagent.a", "lib/pkgconfig/bpfagent.pc",
+PLACES = ["bin/bpfagent", "include/bpfagent.h", "lib/libbpfagent.a", "lib/libbpfagent.so", "lib/libbpfagent.so.0", "lib/pkgconfig/bpfagent.pc",
+          "lib/pkgconfig/bpfagent-shared.pc",
           "lib/cmake/bpfagent/bpfagent-config.cmake", "lib/cmake/bpfagent/bpfagent-config-version.cmake",
           "share/man/man1/bpfagent.1", "share/bash-completion/completions/bpfagent", "share/zsh/site-functions/_bpfagent"]
 OTHER = "cmake_minimum_required(VERSION 3.16)\nproject(other LANGUAGES C)\nfind_package(bpfagent 9.0 REQUIRED)\n"
 
 
-def show_programs(folder: pathlib.Path) -> None:
+def show_programs(prefix: pathlib.Path, folder: pathlib.Path, is_shared: bool) -> None:
+    """Both programs answer. They need the shared library if they were linked with it, and else they don't."""
     for name in ("consumer", "consumer_cxx"):
-        want_equal(run(folder / name), ANSWER, name)
+        want_equal(run(folder / name, env={**os.environ, "LD_LIBRARY_PATH": str(prefix / "lib")}), ANSWER, name)
+        want_equal("libbpfagent.so.0" in run("readelf", "--dynamic", folder / name), is_shared, f"whether {name} needs the shared library")
 
 
 def show_pkg_config(prefix: pathlib.Path, folder: pathlib.Path) -> None:
-    run("make", "-C", CONSUMER, f"OUT={folder}", env={**os.environ, "PKG_CONFIG_PATH": str(prefix / "lib/pkgconfig")})
-    show_programs(folder)
+    for package in ("bpfagent", "bpfagent-shared"):
+        command = ["make", "-B", "-C", CONSUMER, f"OUT={folder}", f"PACKAGE={package}"]
+        run(*command, env={**os.environ, "PKG_CONFIG_PATH": str(prefix / "lib/pkgconfig")})
+        show_programs(prefix, folder, package.endswith("shared"))
 
 
 def show_cmake(prefix: pathlib.Path, folder: pathlib.Path) -> None:
     """The package is found, but one of another version isn't."""
-    run("cmake", "-S", CONSUMER, "-B", folder, f"-DCMAKE_PREFIX_PATH={prefix}")
-    run("cmake", "--build", folder)
-    show_programs(folder)
+    for library in ("bpfagent::bpfagent", "bpfagent::shared"):
+        run("cmake", "-S", CONSUMER, "-B", folder, f"-DCMAKE_PREFIX_PATH={prefix}", f"-DLIBRARY={library}")
+        run("cmake", "--build", folder)
+        show_programs(prefix, folder, library.endswith("shared"))
     (folder / "other").mkdir()
     (folder / "other/CMakeLists.txt").write_text(OTHER)
     command = ["cmake", "-S", folder / "other", "-B", folder / "other/out", f"-DCMAKE_PREFIX_PATH={prefix}"]
@@ -75,7 +81,8 @@ def show_installed(rt: str, program: str) -> str:
         return "skipped, since there is no compiler of C and C++"
     run(sys.executable, "-B", ROOT / "tools/library.py", rt, seconds=3000)
     with tempfile.TemporaryDirectory(prefix="consumer-") as room:
-        prefix = pathlib.Path(room) / "prefix"
+        # A blank in it is one more thing that pkg-config and CMake have to pass on.
+        prefix = pathlib.Path(room) / "a prefix"
         run(*INSTALL, "--program", program, prefix)
         missing = [place for place in PLACES if not (prefix / place).is_file()]
         want(not missing, f"{', '.join(missing)} isn't installed")

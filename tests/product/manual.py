@@ -16,6 +16,7 @@ import tempfile
 from typing import Sequence
 
 sys.path.insert(0, str(pathlib.Path(__file__).resolve().parents[1]))
+from lib import package
 from lib.checks import run_parts, want
 from lib.programs import patience
 from lib.sources import ROOT
@@ -38,6 +39,17 @@ shift
 COMP_WORDS=("$@")
 COMP_CWORD=$(($# - 1))
 _bpfagent
+printf "%s\\n" "${COMPREPLY[@]}"
+"""
+
+
+# The same of a completion whose function has another name.
+OTHER_BASH = """source "$1"
+function="$2"
+shift 2
+COMP_WORDS=("$@")
+COMP_CWORD=$(($# - 1))
+"$function"
 printf "%s\\n" "${COMPREPLY[@]}"
 """
 
@@ -81,7 +93,7 @@ def show_man(program: str, folder: pathlib.Path) -> None:
         done = called(["man", "--warnings=all", "-l", str(path)], MANWIDTH="120", LC_ALL="C.UTF-8")
         want(done.returncode == 0 and not done.stderr, f"man of {path.name} ended with {done.returncode}, {done.stderr}")
         left = [mark for mark in ("`", "](", "|--") if mark in done.stdout]
-        want("EXIT STATUS" in done.stdout and not left, f"man of {path.name} shows {left} in {done.stdout}")
+        want(("EXIT STATUS" in done.stdout or folder.name == "others") and not left, f"man of {path.name} shows {left} in {done.stdout}")
 
 
 def show_mandoc(program: str, folder: pathlib.Path) -> None:
@@ -130,8 +142,36 @@ def show_refusals(program: str, folder: pathlib.Path) -> None:
         want((done.returncode, done.stderr) == (1, why), f"with SOURCE_DATE_EPOCH {seconds} manual.py ended with {done.returncode}, {done.stderr}")
 
 
+def show_others(program: str, folder: pathlib.Path) -> None:
+    """The pages of the package's commands, of the library and of the documents; and what bash offers to a command, where that can be made."""
+    made = folder / "others"
+    done = called([sys.executable, str(SCRIPT), "--python", "--documents", "--folder", str(made)], 5 * SECONDS)
+    want(done.returncode == 0 and not done.stderr, f"manual.py --python --documents ended with {done.returncode}, {done.stderr}")
+    known = package.environment(program)
+    for name in package.MODULES:
+        said = called([package.python(), "-m", package.MODULES[name], "--help"], **known).stdout
+        text = (made / f"man/{name}.1").read_text().replace("\\-", "-")
+        missing = [option for option in re.findall(r"(?m)^  (?:-\w, )?(--[\w-]+)", said) if option != "--help" and option not in text]
+        want(not missing and ".SH SYNOPSIS" in text, f"the page of {name} doesn't have {missing}")
+        completion = made / f"completion/{name}.bash"
+        if completion.is_file() and shutil.which("bash"):
+            function = re.findall(r"-F (\w+)", completion.read_text())[-1]
+            found = offered(["bash", "--norc", "-c", OTHER_BASH, "bash", str(completion), function], [name, "--v"])
+            want("--version" in found, f"bash offers {found} to {name}")
+    header = (ROOT / "include/bpfagent.h").read_text()
+    library = (made / "man/bpfagent.3").read_text().replace("\\-", "-")
+    missing = [call for call in re.findall(r"(?m)^\w+ (bpfagent_\w+)\(", header) if call not in library]
+    want(not missing, f"the page of the library doesn't have {missing}")
+    protocol = (made / "man/bpfagent-protocol.7").read_text()
+    missing = [line for line in re.findall(r"(?m)^### `(\w+)", (ROOT / "docs/PROTOCOL.md").read_text()) if f".SS \\fB{line}" not in protocol]
+    want(not missing, f"the page of the protocol has no part on {missing}")
+    want("\\fBget\\fR" in protocol and "kind: 1 put, 2 get, 3 forget" in (made / "man/bpfagent-frames.7").read_text(), "the frames have no kinds")
+    if shutil.which("man"):
+        show_man(program, made)
+
+
 # Each part, and what has to be installed for it.
-PARTS = [("", written), ("", show_pages), ("", show_refusals), ("man", show_man), ("mandoc", show_mandoc), ("bash", show_bash), ("zsh", show_zsh)]
+PARTS = [("", written), ("", show_pages), ("", show_refusals), ("", show_others), ("man", show_man), ("mandoc", show_mandoc), ("bash", show_bash), ("zsh", show_zsh)]
 
 
 def show_all(program: str) -> str:

@@ -25,6 +25,7 @@ from typing import Any, Collection, Iterator, Sequence
 sys.path.insert(0, str(pathlib.Path(__file__).resolve().parents[1]))
 from lib import package
 from lib.checks import run_parts, want, want_equal
+from lib.far import greeted
 from lib.programs import Process, ended, has_checks, of_data, patience, unreadable
 from lib.scripts import Talk, conversations
 from lib.sources import ROOT, pages
@@ -50,13 +51,13 @@ INVALID = [[], ["help"], ["steps"], ["run", "check"], ["run", "--budget", "67108
            ["dis", "--slots", "--slots"], ["asm", "--slots"], ["dis", "--explain"], ["check", "--explain", "--explain"],
            ["asm", "--explain", "--explain"], ["asm", "--explain", "x"], ["store", "--port", "65536"], ["store", "x"], ["store", "--workers", "1"],
            ["serve", "x"], ["serve", "--connections", "0"], ["serve", "--connections", "9"], ["serve", "--workers", "17"],
-           ["serve", "--sweep", "--sweep"], ["run", "--workers", "1"]]
+           ["serve", "--sweep", "--sweep"], ["serve", "--keep", "65535"], ["run", "--workers", "1"]]
 # What the help of each subcommand has to name: what it reads, what it writes, and what it returns.
 HELP = {"run": [b"make LENGTH", b"ship2", b"unwatch", b"67108864", b"Status 0", b"Status 3"],
         "check": [b"bytes, not hex", b"ok N", b"slot S: WHY", b"FallsOff", b"--explain", b"Status 1"],
         "asm": [b"1048576", b"acmpxchg", b"--explain", b"line L: WHY", b"Status 1"], "dis": [b"bytes, not hex", b"--slots", b"slot S: WHY", b"Status 1"],
         "store": [b"127.0.0.1", b"listening P", b"client N: WHY", b"--port", b"Status 0", b"Status 3"],
-        "serve": [b"127.0.0.1", b"listening P", b"unserved", b"--port", b"--connections", b"--workers", b"--budget", b"--sweep", b"closed",
+        "serve": [b"127.0.0.1", b"listening P", b"unserved", b"--port", b"--connections", b"--workers", b"--budget", b"--sweep", b"--keep", b"closed",
                   b"Status 0", b"Status 1", b"Status 3"]}
 # What an installed program doesn't have: the pages of the repository.
 PAGES = re.compile(rb"docs/|\.md\b|https?:|README")
@@ -140,14 +141,14 @@ def show_statuses(program: str) -> None:
 
 # Where the version stands beside the program's own, and what stands around it.
 VERSIONS = {
-    "CHANGELOG.md": r"^## (.*)$",
+    "CHANGELOG.md": r"^## ([0-9][0-9.]*)(?: \(.*\))?$",
     "python/bpfagent/__init__.py": r'^__version__ = "(.*)"$',
     "examples/debug/vscode/package.json": r'^  "version": "(.*)",$',
 }
 
 
 def show_version(program: str) -> None:
-    """The version is that of the newest part of the changelog, of the Python package and of the editor's extension."""
+    """The version is that of the newest released part of the changelog, of the Python package and of the editor's extension."""
     found = {path: re.findall(pattern, (ROOT / path).read_text(), re.M)[:1] for path, pattern in VERSIONS.items()}
     newest = found["CHANGELOG.md"]
     want(newest and all(version == newest for version in found.values()), f"the versions are {found}")
@@ -183,7 +184,7 @@ CLOSED = {"<&-": (3, b"", b"read fault\n"), ">&-": (3, b"", b"write fault\n"), "
 
 
 def show_closed(program: str) -> None:
-    """No socket takes the place of a standard stream that is closed: the far server is neither heard nor told anything."""
+    """No socket takes the place of a standard stream that is closed: the far server is neither heard nor told anything after its first answer."""
     for closing, wanted in CLOSED.items():
         with socket.create_server(("127.0.0.1", 0)) as listener, concurrent.futures.ThreadPoolExecutor(1) as pool:
             listener.settimeout(seconds(program))
@@ -191,7 +192,7 @@ def show_closed(program: str) -> None:
             ends = pool.submit(ended, "sh", "-c", line, program, given=b"make 8\n", seconds=seconds(program))
             told = b""
             # a stream whose bytes weren't read is reset at its end
-            with contextlib.suppress(ConnectionResetError), listener.accept()[0] as stream:
+            with contextlib.suppress(ConnectionResetError), greeted(listener) as stream:
                 stream.settimeout(seconds(program))
                 stream.sendall(b"make 8\n")
                 while more := stream.recv(4096):
@@ -276,9 +277,9 @@ def show_wrong_fields(program: str) -> str:
 
 
 def show_examples(program: str) -> str:
-    """The scripts of examples/, and that their code is valid and is what they ship."""
+    """The scripts of examples/ and those that `make fuzz` kept, and that the examples' code is valid and is what they ship."""
     count = 0
-    for path in examples("*.script"):
+    for path in (*examples("*.script"), *sorted((ROOT / "tests/fuzzed").glob("*.script"))):
         text = path.read_text()
         for arguments, talk in conversations(text):
             talk_to(program, arguments, talk)

@@ -1,7 +1,8 @@
 #!/usr/bin/env python3
-"""Runs the tests of the Python package in python/tests, module by module, side by side: python_package.py PROGRAM [MODULE..]
+"""Runs the tests of the Python package in python/tests, module by module, side by side: python_package.py PROGRAM [--library] [MODULE..]
 
-Without names it runs all but test_fleet, which takes all processors. What needs a package that isn't there says that it was skipped, and names it.
+Without names it runs all but test_fleet, which takes all processors. With --library agents run in the tests' own processes, by the library of `make lib`,
+and without it none does. What needs a package that isn't there says that it was skipped, and names it.
 """
 from __future__ import annotations
 
@@ -17,7 +18,7 @@ from lib.checks import Failed, want
 from lib.sources import ROOT
 
 TESTS = ROOT / "python/tests"
-SECONDS = 900
+SECONDS = 3600
 # How many modules run side by side.
 PROCESSES = 4
 ALONE = "test_fleet"
@@ -37,10 +38,13 @@ def tests_of(module: str, environment: Mapping[str, str]) -> str:
 if __name__ == "__main__":
     if len(sys.argv) < 2:
         sys.exit(__doc__)
-    program, *names = sys.argv[1:]
+    program, *names = (word for word in sys.argv[1:] if word != "--library")
+    library = package.LIBRARY if "--library" in sys.argv else ""
+    if library and not library.is_file():
+        sys.exit(f"python: {library} isn't there: make lib builds it")
     # The longest first, and so the wheel.
     modules = names or sorted((path.stem for path in TESTS.glob("test_*.py") if path.stem != ALONE), reverse=True)
-    environment = package.environment(program)
+    environment = package.environment(program, library)
     try:
         with concurrent.futures.ThreadPoolExecutor(PROCESSES) as pool:
             for said in pool.map(lambda module: tests_of(module, environment), modules):

@@ -3,7 +3,7 @@
 
 Where an allocation fails before the first line, the program ends with `no memory` and status 3. Where a later one fails, one command is answered
 `nomem`, or `kept n fault far` if it is `returned`, and the conversation goes on as if the command hadn't come. Of the allocations before the first
-line, the same in each stored conversation, all are tried once and then two; of the others up to MOST. `check`, `asm`, `dis` and a far server end with
+line, the same in each stored conversation, all are tried once and then two; of the others each. `check`, `asm`, `dis` and a far server end with
 `no memory`; a service does too, or answers `nomem` once. What comes of the five parts of `failing_allocations` stands in OUTCOMES.
 
 For each command it counts allocations and their bytes; for a conversation reads and writes: one read for what has come, one write for a reply.
@@ -45,8 +45,8 @@ OTHERS = [(["check"], WIDE), (["check", "--explain"], JUMP), (["check", "--expla
           (["dis", "--slots"], WIDE), (["--help"], b""), (["--version"], b""), (["run", "--wrong"], b""),
           (["asm"], b"jump +1\n"), (["asm"], b"mov r0\n"), (["asm"], b"mov r0, 2147483648\n"), (["asm"], b"ja x\n"), (["asm"], b"a:\na:\n"),
           (["run"], b"\n" + b"a" * 70_001 + b"\nregs 1")]
-# How many allocations of one conversation are tried after its first line, spread over all of them, and how many before it.
-MOST, BEFORE = 600, 2
+# How many allocations of one conversation are tried before its first line.
+BEFORE = 2
 
 
 def shim(rt: str, folder: str) -> str:
@@ -127,12 +127,12 @@ def spread(numbers: list[int], most: int) -> list[int]:
     return sorted({numbers[k * (len(numbers) - 1) // max(1, most - 1)] for k in range(most)}) if len(numbers) > most else numbers
 
 
-def refused_conversation(failing: Failing, start: int, arguments: Sequence[str], talk: Talk, most: int = MOST) -> list[str]:
+def refused_conversation(failing: Failing, start: int, arguments: Sequence[str], talk: Talk) -> list[str]:
     """A conversation with its allocations failing in turn: what was refused."""
     lines, whole = [line for line, _ in talk], [reply for _, reply in talk]
     (status, output, _), counts = failing.counted(PROGRAM, ["run", *arguments], said(lines))
     want(status == 0 and output.decode().splitlines() == whole, "the conversation without a failure isn't right")
-    tried = spread(list(range(1, start + 1)), BEFORE) + spread(list(range(start + 1, counts.allocations + 1)), most)
+    tried = [*spread(list(range(1, start + 1)), BEFORE), *range(start + 1, counts.allocations + 1)]
     return [one_failure(failing, arguments, lines, whole, at) for at in tried]
 
 
@@ -283,13 +283,14 @@ def refused_part(failing: Failing, part: str) -> int:
     return counts.allocations - found.count(outcomes[-1])
 
 
-def show(failing: Failing) -> None:
+def refused_growth(failing: Failing) -> None:
+    """Each request for memory of the worked examples is refused in turn: in conversations, other inputs, parts of the agent and servers."""
     start = before_a_line(failing)
     counted_commands(failing)
     counted_streams(failing)
     talks = [talk for name in SCRIPTS for talk in conversations((ROOT / name).read_text())]
     with concurrent.futures.ThreadPoolExecutor(os.cpu_count()) as pool:
-        objects = pool.submit(refused_conversation, failing, start, [], ALL_OBJECTS, len(ALL_OBJECTS) + MOST)
+        objects = pool.submit(refused_conversation, failing, start, [], ALL_OBJECTS)
         found = [what for part in pool.map(lambda talk: refused_conversation(failing, start, *talk), talks) for what in part]
         gave_up = sum(pool.map(lambda given: refused_input(failing, *given), OTHERS))
         made = objects.result().count("make")
@@ -314,7 +315,7 @@ def main() -> None:
         sys.exit(f"{PROGRAM} is a program of `make try`, which brings an allocator of its own: only a proved program's allocations can be made to fail")
     with tempfile.TemporaryDirectory() as folder:
         try:
-            show(Failing(shim(sys.argv[1], folder)))
+            refused_growth(Failing(shim(sys.argv[1], folder)))
         except (Failed, OSError, subprocess.SubprocessError) as wrong:
             sys.exit(f"refusals: {wrong}")
 

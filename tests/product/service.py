@@ -22,7 +22,8 @@ from typing import Any, Callable
 
 sys.path.insert(0, str(pathlib.Path(__file__).resolve().parents[1]))
 from lib.checks import Failed, run_parts, want, want_equal
-from lib.programs import LONG, SECONDS, Client, Server, Service, ended, free_port, is_heard, object_line, opened, room_for, unreadable, until
+from lib.programs import LONG, SECONDS, Client, Server, Service, ended, free_port, is_heard, object_line, opened, room_for, tells_what_is_out, unreadable
+from lib.programs import until
 from lib.scripts import Talk, talks_of
 from lib.sources import ROOT
 
@@ -119,6 +120,16 @@ def stopped(client: Client, machine: int | str) -> str:
     return until(f"machine {machine} doesn't stop", lambda: is_stopped(reply := client.ask(f"regs {machine}")) and reply)
 
 
+def exited(client: Client, machine: int) -> str:
+    """The `regs` of a machine that has stopped by `exit`."""
+
+    def look() -> str:
+        reply = client.ask(f"regs {machine}")
+        return reply if " exit " in reply else ""
+
+    return until(f"machine {machine} doesn't exit", look)
+
+
 def paused(client: Client, machine: int, slot: int) -> list[str]:
     """The words of `regs` of a machine when it is paused, which is at this slot."""
 
@@ -187,13 +198,49 @@ def show_row(program: str) -> None:
     want(client.end() == "" and service.ends_well({1: of_eight(1)}, shown, may_be_out=True), "the end of a service without workers")
 
 
+def show_digest(program: str) -> None:
+    """An object of three bytes closes with their SHA-256, which FIPS 180-4 has as an example."""
+    service, client = opened(program, "--workers", 0, setup=["make 3", "put 1 0 616263"])
+    want_equal(service.told, ["made 1", "ok"], "what the input is answered")
+    want_equal(client.ask("get 1 0 3"), "bytes 616263", "the object of the input")
+    want_equal(client.end(), "", "what is said beyond the reply")
+    want(service.ends_with(["object 1 3 ba7816bf8f01cfea414140de5dae2223b00361a396177a9cb410ff61f20015ad"]), "the digest of abc")
+
+
+def service_runs(program: str) -> None:
+    """Two workers run a loop of 100 atomic adds."""
+    service, client = opened(program, "--workers", 2, setup=["make 8", f"ship 1000 0x100000000 1 0 0 0 {ADDS}"])
+    shown = exited(client, 1)
+    want_equal(client.ask("get 1 0 8"), f"bytes {of_eight(100).hex()}", "the object after 100 adds")
+    want(client.end() == "" and service.ends_well({1: of_eight(100)}, [shown]), "the end of a service with workers")
+
+
+def service_moves(program: str) -> None:
+    """An object leaves when it is asked to, and returns when it is missed."""
+    service, client = opened(program, setup=["make 8", "put 1 0 2a"])
+
+    def look() -> bool:
+        want((asked := client.ask("leave 1")) in ("asked 1", "full"), f"leave is answered {asked}")
+        want((found := client.ask("get 1 0 1")) in ("bytes 2a", "busy 1", "away 1"), f"get is answered {found}")
+        return found == "away 1"
+
+    until("the object doesn't leave", look)
+    comes_back(client, "bytes 2a")
+    want(client.end() == "" and service.ends_well({1: of_eight(42)}, may_be_out=True), "the end of a service that moves")
+
+
+def comes_back(client: Client, held: str) -> None:
+    """Object 1, which is away, is read until it is here. Its first byte is this one."""
+    found = until("the object doesn't return", lambda: (reply := client.ask("get 1 0 1")).startswith("bytes ") and reply)
+    want_equal(found, held, "the object that returned")
+
+
 def close_two(program: str) -> None:
     """Two machines that two workers run add 200 times to an object that is asked to leave meanwhile."""
     ships = [f"ship 1000 0x100000000 1 0 0 0 {ADDS}"] * 2
     service, client = opened(program, "--workers", 2, setup=["make 8", *ships])
     want([client.ask("leave 1") for _ in range(20)] == ["asked 1"] * 20, "an object that is asked to leave again and again")
-    shown = [stopped(client, 1), stopped(client, 2)]
-    want(all(" exit " in reply for reply in shown), f"the machines stop so: {shown}")
+    shown = [exited(client, 1), exited(client, 2)]
     want_equal(client.ask_until("get 1 0 8", "bytes"), f"bytes {of_eight(200).hex()}", "the object after 200 adds")
     want(client.end() == "" and service.ends_well({1: of_eight(200)}, shown, may_be_out=True), "the end of a service in which two machines added")
 
@@ -211,17 +258,22 @@ def away_unmissed(client: Client) -> None:
     until("object 2 doesn't leave", look)
 
 
-def show_sweep(program: str) -> None:
-    """An object that nobody uses leaves by itself where the mover sweeps, and returns when it is missed. Else it stays."""
-    for flags in (["--sweep"], []):
-        service, client = opened(program, *flags, setup=["make 8", "put 1 0 2a"])
-        if flags:
-            client.ask_until("get 1 0 1", "away 1", pause=0.1)
-        for _ in range(0 if flags else 5):
-            time.sleep(0.1)
-            want(client.ask("get 1 0 1") == "bytes 2a", "an object leaves that nobody asked to")
-        want(client.ask_until("get 1 0 1", "bytes") == "bytes 2a", "the object that returned, or stayed")
-        want(client.end() == "" and service.ends_well({1: of_eight(42)}, may_be_out=bool(flags)), f"the end of a service with {flags}")
+def service_sweeps(program: str) -> None:
+    """An object that nobody uses leaves by itself where the mover sweeps, and returns when it is missed."""
+    service, client = opened(program, "--sweep", setup=["make 8", "put 1 0 2a"])
+    # Whoever looks uses it, so the looks are far apart.
+    until("the object doesn't leave by itself", lambda: client.ask("get 1 0 1") == "away 1", pause=0.1)
+    comes_back(client, "bytes 2a")
+    want(client.end() == "" and service.ends_well({1: of_eight(42)}, may_be_out=True), "the end of a service that sweeps")
+
+
+def show_without_sweep(program: str) -> None:
+    """Without `--sweep` it stays."""
+    service, client = opened(program, setup=["make 8", "put 1 0 2a"])
+    for _ in range(5):
+        time.sleep(0.1)
+        want_equal(client.ask("get 1 0 1"), "bytes 2a", "an object that nobody asked to leave")
+    want(client.end() == "" and service.ends_well({1: of_eight(42)}), "the end of a service that doesn't sweep")
 
 
 def ship_counter(meeting: Meeting, service: Service, times: int, _: int) -> tuple[str, str]:
@@ -287,7 +339,7 @@ def show_lost_server(program: str) -> None:
     status, output, errors = service.texts()
     said = output.splitlines()
     is_left = said[:2] == ["closed", "object 1 out"] and said[3:] == [object_line(3, of_eight(7)), shown]
-    want((status, errors) == (0, "") and is_left, f"the end of a service whose far server is gone: {said}")
+    want(status == 0 and tells_what_is_out(output, errors) and is_left, f"the end of a service whose far server is gone: {said}, {errors}")
 
 
 def show_unreached(program: str) -> None:
@@ -631,23 +683,24 @@ def show_statuses(program: str) -> None:
     wrong = [
         ["--far"], far * 2, [*far, "--workers", "17"], ["--connections", "0"], ["--connections=9"], ["--workers", "17"], ["--workers=-1"],
         ["--port", "65536"], ["--budget", "67108865"], ["--sweep", "--sweep"], ["--connections"], ["--workers", "x"], ["x"], ["--sweep=true"],
+        ["--keep", "65535"], ["--keep", "67108865"],
     ]
     for words in wrong:
         status, output, errors = served(program, *words)
         want((status, output) == (2, "") and errors.startswith("error: ") and errors.endswith("--help'.\n"), f"{words} ended with {status}, {output}, {errors}")
     status, output, errors = served(program, "--help")
     wanted = [
-        "--port", "--connections", "--workers", "--budget", "--sweep", "--far <HOST:PORT>", "--far-timeout <MS>", "--verbose", "regs", "listening P",
-        "closed", "Status 1", "Status 3",
+        "--port", "--unix <PATH>", "--connections", "--workers", "--budget", "--sweep", "--keep <BYTES>", "--far <HOST:PORT>", "--far-timeout <MS>",
+        "--verbose", "regs", "listening P", "closed", "Status 1", "Status 3",
     ]
     want((status, errors) == (0, "") and all(word in output for word in wanted) and ".md" not in output, f"help: {status}, {output}, {errors}")
 
 
 def show_port(program: str) -> None:
     """The port that is asked for, and the last words where the output fails."""
-    service = Service(program, "--connections", 2)
-    port = service.port
-    want(not is_heard("127.0.0.2", port), "it listens on more than 127.0.0.1")
+    port = free_port()
+    service = Service(program, "--port", port, "--connections", 2)
+    want(service.port == port and not is_heard("127.0.0.2", port), "it listens on more than 127.0.0.1")
     first, second = Client(service), Client(service)
     want(first.end() == "" and second.end() == "" and service.ends_well(), "clients that say nothing")
     again = Service(program, "--port", port, "--workers", 16)
@@ -655,8 +708,9 @@ def show_port(program: str) -> None:
 
 
 SHOWN = [
-    show_protocol, show_examples, show_row, close_two, show_sweep, show_crowd, show_debuggers, show_breakpoint, show_locks, show_lost, show_first_end,
-    show_few_threads, show_few_files, show_far, show_far_bytes, show_lost_server, show_unreached, show_statuses, show_port,
+    show_protocol, show_examples, show_row, show_digest, service_runs, service_moves, close_two, service_sweeps, show_without_sweep, show_crowd,
+    show_debuggers, show_breakpoint, show_locks, show_lost, show_first_end, show_few_threads, show_few_files, show_far, show_far_bytes,
+    show_lost_server, show_unreached, show_statuses, show_port,
 ]
 
 

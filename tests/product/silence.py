@@ -1,7 +1,7 @@
 #!/usr/bin/env python3
 """Runs `bpfagent serve` over far servers that don't answer: silence.py PROGRAM
 
-A server that connects and then is silent, one that falls silent while it has an object, and one that doesn't take a connection. A move fails when
+A server that is silent from the first move on, one that falls silent while it has an object, and one that doesn't take a connection. A move fails when
 `--far-timeout` has passed, later ones fail at once, replies go on meanwhile, and the service ends. A service that is stopped by a signal
 meanwhile. Two services at one `bpfagent store`.
 """
@@ -14,31 +14,28 @@ import signal
 import socket
 import sys
 import time
+from concurrent.futures import ThreadPoolExecutor
 from typing import Iterator
 
 sys.path.insert(0, str(pathlib.Path(__file__).resolve().parents[1]))
 from lib.checks import run_parts, want, want_equal
-from lib.far import DONE, GET, HEAD, PUT, Far
-from lib.programs import Client, Server, Service, ended, has_checks, object_line
+from lib.far import DONE, GET, HEAD, PUT, Far, greeted
+from lib.programs import Client, Server, Service, ended, object_line
 
 # How long the mover may take to come to a request, in seconds.
 BEGINS = 0.5
+# The time that the far server is given, in milliseconds. It is long beside the pauses of a busy machine. A reply, the end of a service, and what
+# comes late may take half of it: a reply that waited for the server would be found out.
+GIVEN = 8000
 HELD = b"\x2a" + bytes(7)
-
-
-def given(program: str) -> int:
-    """The time that the far server is given, in milliseconds. It is long beside the pauses of a busy machine. A reply, the end of a service,
-    and what comes late may take half of it: a reply that waited for the server would be found out."""
-    return 8000 if has_checks(program) else 3000
 
 
 def begun(program: str, far: int, *setup: str) -> tuple[Service, Client, float]:
     """A service over the far server at a port, a client of it, and how long a reply may take, in seconds."""
-    millis = given(program)
-    service = Service(program, "--far", f"127.0.0.1:{far}", "--far-timeout", millis, "--workers", 1, setup=setup)
+    service, half = Service(program, "--far", f"127.0.0.1:{far}", "--far-timeout", GIVEN, "--workers", 1, setup=setup), GIVEN / 2000
     client = Client(service)
-    client.stream.settimeout(millis / 2000)
-    return service, client, millis / 2000
+    client.stream.settimeout(half)
+    return service, client, half
 
 
 @contextlib.contextmanager
@@ -104,13 +101,14 @@ def show_end_within_a_move(program: str) -> None:
 
 def show_interrupted(program: str) -> None:
     """The service is stopped by a signal while a move waits for the far server, and goes on: the move waits on, and so does the next."""
-    with socket.create_server(("127.0.0.1", 0)) as listener:
+    with socket.create_server(("127.0.0.1", 0)) as listener, ThreadPoolExecutor(1) as pool:
+        accepted = pool.submit(greeted, listener)
         service, client, half = begun(program, listener.getsockname()[1], "make 8")
-        with listener.accept()[0] as stream:
+        with accepted.result() as stream:
             stream.settimeout(half)
             want_equal(client.ask("leave 1"), "asked 1", "an object that is to leave")
             kind, number, length = HEAD.unpack(stream.recv(HEAD.size, socket.MSG_WAITALL))
-            want_equal((kind, stream.recv(length)), (PUT, bytes(8)), "a request that waits")
+            want_equal((kind, stream.recv(length, socket.MSG_WAITALL)), (PUT, bytes(8)), "a request that waits")
             for sent in (signal.SIGSTOP, signal.SIGCONT):
                 time.sleep(0.1)
                 os.kill(service.process.pid, sent)
@@ -125,10 +123,10 @@ def show_unaccepting(program: str) -> None:
     """A server that takes no connection can't be reached, when the time has passed."""
     with unaccepting() as far:
         start = time.monotonic()
-        done = ended(program, "serve", "--far", far, "--far-timeout", given(program))
+        done = ended(program, "serve", "--far", far, "--far-timeout", GIVEN)
         took = since(start)
     want_equal(done, (3, b"", b"far server can't be reached\n"), "a server that takes no connection")
-    want(0.5 < 1000 * took / given(program) < 1.5, f"a server that takes no connection is given {took:.2f} s")
+    want(0.5 < 1000 * took / GIVEN < 1.5, f"a server that takes no connection is given {took:.2f} s")
 
 
 def show_two_services(program: str) -> None:

@@ -17,11 +17,13 @@ import subprocess
 import sys
 import threading
 import time
+from typing import Callable
 
 sys.path.insert(0, str(pathlib.Path(__file__).resolve().parents[1]))
 from lib.checks import run_parts, want, want_equal
 from lib.far import DONE, FORGET, GET, HEAD, LIMIT, NO_ROOM, PUT, REFUSED_ID
-from lib.programs import SECONDS, Server, break_listener, ended, has_checks, is_heard, noted, processor_time, room_for, size_of, unreadable, until
+from lib.programs import SECONDS, Server, break_listener, ended, free_port, has_checks, in_time, is_heard, noted, processor_time, room_for, size_of
+from lib.programs import unreadable, until
 
 KEPT = 1024
 CLIENTS = 64
@@ -35,6 +37,8 @@ OWN_FILES = 5
 LONG_REST = 1.2
 IDLE = 0.05
 AT_ONCE = 0.5
+# How long a client may be idle in a test, in seconds, and how long one may rest that isn't.
+IDLES, RESTS = 4, 0.5
 
 
 def hear(stream: socket.socket, count: float = float("inf")) -> bytes:
@@ -113,6 +117,44 @@ def show_limits(program: str) -> None:
     want_equal(server.end(), ENDS_WELL, "a server with 1025 parcels")
 
 
+def show_idle(program: str) -> None:
+    """A client that is idle for too long is given up, and one that isn't stays."""
+
+    def took() -> float:
+        server = Server(program, "--idle", IDLES)
+        with server.connect() as idle, server.connect() as busy:
+            start = time.monotonic()
+            want_equal(asked(idle, frame(PUT, 1, b"abc")), frame(DONE, 1), "a client that will be idle")
+            while not select.select([idle], [], [], RESTS)[0]:
+                want_equal(asked(busy, frame(GET, 1)), frame(REFUSED_ID, 1), "a client that isn't idle")
+                want(time.monotonic() - start < SECONDS, "an idle client stays")
+            found = time.monotonic() - start
+            want(IDLES - 0.5 < found, f"an idle client is given {found:.1f} seconds")
+            want_equal((hear(idle), asked(busy, frame(GET, 1))), (b"", frame(REFUSED_ID, 1)), "both clients after that")
+        want_equal(server.end(), (0, b"", b"client 1: stream fault\n"), "a server that gave an idle client up")
+        return found
+
+    late = in_time(took, 2 * IDLES)
+    want(not late, f"an idle client is given {late} seconds")
+
+
+def show_bound(program: str) -> None:
+    """Puts beyond the bound find no room, whoever keeps the rest; what is forgotten, and what a client leaves behind, is room again."""
+    server = Server(program, "--memory", 100_000)
+    whole = b"z" * LIMIT
+    with server.connect() as first, server.connect() as second:
+        want_equal(asked(first, frame(PUT, 1, whole)), frame(DONE, 1), "a put within the bound")
+        want_equal(asked(second, frame(PUT, 1, whole)), frame(NO_ROOM, 1), "a put beyond it")
+        want_equal(asked(second, frame(PUT, 2, b"abc")), frame(DONE, 2), "a small one")
+        want_equal(asked(first, frame(FORGET, 1)), frame(DONE, 1), "a parcel that is forgotten")
+        want_equal(asked(second, frame(PUT, 1, whole)), frame(DONE, 1), "a put into its room")
+        want_equal(asked(first, frame(PUT, 1, whole)), frame(NO_ROOM, 1), "a put beyond it again")
+        second.shutdown(socket.SHUT_WR)
+        want_equal(hear(second), b"", "a client that goes")
+        until("the room of a client that went", lambda: asked(first, frame(PUT, 3, whole)) == frame(DONE, 3), pause=0.01)
+    want_equal(server.end(), ENDS_WELL, "a server with a bound")
+
+
 def is_refused(server: Server) -> bool:
     """Whether one client more finds its socket closed, and no answer."""
     try:
@@ -188,8 +230,13 @@ def show_notes(program: str) -> None:
         want(unanswered(server, frame(4, 1)), "a request that is none")
         want_equal(talk(server, frame(GET, 1)), frame(REFUSED_ID, 1), "the third client")
         status, _, errors = server.end()
-        told = ["client 1 came", "client 1 went", "client 2 came", "client 2 is given up: protocol broken", "client 3 came", "client 3 went"]
-        want_equal((status, noted(errors)), (0, ([f"listening on 127.0.0.1:{server.port}", *told], ["client 2: protocol fault"])), "the notes")
+        # A client may come before the last one's thread has said that it went.
+        told = [("client 1 came", "client 1 went"), ("client 2 came", "client 2 is given up: protocol broken"), ("client 3 came", "client 3 went")]
+        (first, *notes), others = noted(errors)
+        want_equal((status, first, others), (0, f"listening on 127.0.0.1:{server.port}", ["client 2: protocol fault"]), "the first note")
+        want_equal([tuple(note for note in notes if note.startswith(f"client {number} ")) for number in (1, 2, 3)], told, "the notes of each client")
+        want_equal([note for note in notes if note.endswith(" came")], [came for came, _ in told], "clients that come")
+        want_equal(len(notes), 6, "how many notes there are")
     server = Server(program, "-v")
     with contextlib.ExitStack() as held:
         for stream in [held.enter_context(server.connect()) for _ in range(CLIENTS)]:
@@ -205,14 +252,16 @@ def show_notes(program: str) -> None:
 def show_broken_clients(program: str) -> None:
     """A client that breaks the protocol is told of in a line, and the next is served."""
     server = Server(program)
-    told = b""
+    told: list[str] = []
     wrong = [frame(4, 1), frame(0, 1), frame(PUT, 1), frame(PUT, 1, length=LIMIT + 1), frame(PUT, 1, length=2**32 - 1), frame(GET, 1, b"x"),
              frame(FORGET, 1, b"x"), frame(PUT, 1, b"abc")[:-1], b"\x01", frame(GET, 1)[:-1]]
     for k, bytes_sent in enumerate(wrong):
         want(unanswered(server, bytes_sent), f"{bytes_sent[:16]} is answered")
-        told += b"client %d: protocol fault\n" % (2 * k + 1)
+        told.append(f"client {2 * k + 1}: protocol fault")
         want_equal(talk(server, frame(GET, 9)), frame(REFUSED_ID, 9), "what the next client finds")
-    want_equal(server.end(), (0, b"", told), "the lines of clients that broke the protocol")
+    status, output, errors = server.end()
+    # A client's thread may be late with its line.
+    want_equal((status, output, sorted(errors.decode().splitlines())), (0, b"", sorted(told)), "the lines of clients that broke the protocol")
 
 
 def show_end(program: str) -> None:
@@ -231,11 +280,12 @@ def show_end(program: str) -> None:
 
 def show_statuses(program: str) -> None:
     """Status 3 for a port that is taken and streams that fail, 2 for a port that is none."""
-    server = Server(program)
-    want_equal(ended(program, "store", "--port", server.port), (3, b"", b"net fault\n"), "a port that is taken")
+    port = free_port()
+    server = Server(program, "--port", port)
+    want_equal(ended(program, "store", "--port", port), (3, b"", b"net fault\n"), "a port that is taken")
     want_equal(server.end(), ENDS_WELL, "a server without a client")
-    again = Server(program, "--port", server.port)
-    want(again.port == server.port and again.end()[0] == 0, "the port that is asked for")
+    again = Server(program, "--port", port)
+    want(again.port == server.port == port and again.end()[0] == 0, "the port that is asked for")
     with open("/dev/full", "wb") as full:
         want_equal(ended(program, "store", stdin=subprocess.PIPE, stdout=full), (3, b"", b"write fault\n"), "a full device")
     with unreadable() as fails:
@@ -269,15 +319,21 @@ def want_left_waiting(stream: socket.socket, seconds: float, what: str) -> None:
     want(not select.select([stream], [], [], seconds)[0], what)
 
 
-def want_end(server: Server, clients: int, what: str) -> None:
-    """The server ends at once with its input, and has told of so many clients."""
+def ends_after(server: Server, clients: int, what: str) -> float:
+    """How long the server takes to end with its input. It has told of so many clients."""
     began = time.monotonic()
     status, output, errors = server.end()
     took = time.monotonic() - began
     told = [f"listening on 127.0.0.1:{server.port}", *(f"client {k + 1} {did}" for k in range(clients) for did in ("came", "went"))]
     notes, others = noted(errors)
     want_equal((status, output, others, sorted(notes)), (0, b"", [], sorted(told)), what)
-    want(took < AT_ONCE, f"{what} takes {took:.2f} s")
+    return took
+
+
+def want_end(took: Callable[[], float], what: str) -> None:
+    """The end of a server that is tried takes no time."""
+    late = in_time(took, AT_ONCE)
+    want(not late, f"{what} takes {late} s")
 
 
 def show_few_files(program: str) -> None:
@@ -285,17 +341,22 @@ def show_few_files(program: str) -> None:
     listen if it can't have its own."""
     limits = {resource.RLIMIT_NOFILE: OWN_FILES - 1}
     want_equal(ended(program, "store", limits=limits), (3, b"", b"net fault\n"), "a server without all of its own files")
-    for more in range(3):
+
+    def took(more: int) -> float:
         server = few_files(program, more)
         time.sleep(0.1)
-        want_end(server, 0, f"the end of a server that may open {more} files for clients")
+        return ends_after(server, 0, f"the end of a server that may open {more} files for clients")
+
+    for more in range(3):
+        want_end(lambda: took(more), f"the end of a server that may open {more} files for clients")
 
 
 def show_rest(program: str) -> None:
     """While a client can't be accepted, or there can be no second handle of its stream, it waits: others are served, and the server sleeps
     before it tries again. At the end of its input it wakes."""
-    for clients, spare in ((0, 0), (0, 1), (2, 0), (2, 1)):
-        server, what = few_files(program, 2 * clients + spare), f"a server of {clients} clients that may open {spare} files more"
+
+    def took(clients: int, spare: int, what: str) -> float:
+        server = few_files(program, 2 * clients + spare)
         with contextlib.ExitStack() as held:
             streams = [held.enter_context(server.connect()) for _ in range(clients)]
             for stream in streams:
@@ -308,11 +369,20 @@ def show_rest(program: str) -> None:
             want(used < IDLE, f"{what} runs for {used:.3f} s in {LONG_REST} s")
             for stream in streams:
                 ask(stream, f"a client beside one that waits, of {what}")
-            want_end(server, clients, f"the end of {what}")
+            return ends_after(server, clients, f"the end of {what}")
+
+    for clients, spare in ((0, 0), (0, 1), (2, 0), (2, 1)):
+        what = f"a server of {clients} clients that may open {spare} files more"
+        want_end(lambda: took(clients, spare, what), f"the end of {what}")
 
 
 def show_late(program: str) -> None:
     """A client that waits is served once another has gone, and another one once the server may open more files."""
+    want_end(lambda: served_late(program), "the end of a server whose clients waited")
+
+
+def served_late(program: str) -> float:
+    """The same, and how long the server takes to end."""
     server = few_files(program, 3)
     with server.connect() as first, server.connect() as second, server.connect() as third:
         ask(first, "the first client")
@@ -324,7 +394,7 @@ def show_late(program: str) -> None:
         resource.prlimit(server.process.pid, resource.RLIMIT_NOFILE, (OWN_FILES + 5, OWN_FILES + 5))
         want_equal(hear(third, HEAD.size), frame(REFUSED_ID, 1), "the third client, once there may be files for it")
         ask(second, "the second client beside the third")
-        want_end(server, 3, "the end of a server whose clients waited")
+        return ends_after(server, 3, "the end of a server whose clients waited")
 
 
 def show_broken_listener(program: str) -> None:
@@ -340,7 +410,7 @@ def show_broken_listener(program: str) -> None:
 
 SHOWN = [
     show_frames, show_limits, show_many, show_memory, show_few_threads, show_notes, show_broken_clients, show_end, show_statuses, show_address,
-    show_few_files, show_rest, show_late, show_broken_listener,
+    show_few_files, show_rest, show_late, show_broken_listener, show_idle, show_bound,
 ]
 
 

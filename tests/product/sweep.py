@@ -11,6 +11,7 @@ import concurrent.futures
 import itertools
 import os
 import pathlib
+import resource
 import subprocess
 import sys
 import time
@@ -29,8 +30,9 @@ WRONG = b"\xff" + bytes(7)
 JUMPS_OUT = bytes.fromhex("0500ff7f00000000")
 TEXT_LIMIT = 1_048_576
 BUDGET_LIMIT = 67_108_864
-SECONDS = 30
-# For two inputs that only a program with quadratic work is slow on.
+# How long a call may take, in seconds, also on a busy machine.
+SECONDS = 600
+# How much processor time, in seconds: for two inputs that only a program with quadratic work is slow on.
 QUICK = 10
 # What the program may have of data, in bytes: for its world and a line, and what a text of a megabyte takes.
 RUN_DATA = 8 << 20
@@ -43,9 +45,10 @@ PROGRAM = ""
 FACTOR = 1
 
 
-def call(arguments: Sequence[str], given: bytes, data: int | None = None, seconds: int = SECONDS) -> tuple[int, bytes, bytes]:
-    """Status, standard output and standard error, with so many bytes of data."""
-    return ended(PROGRAM, *arguments, given=given, seconds=seconds * FACTOR, limits=of_data(PROGRAM, data) if data else None)
+def call(arguments: Sequence[str], given: bytes, data: int | None = None, seconds: int | None = None) -> tuple[int, bytes, bytes]:
+    """Status, standard output and standard error, with so many bytes of data, and in so much processor time."""
+    limits = {resource.RLIMIT_CPU: seconds * FACTOR} if seconds else {}
+    return ended(PROGRAM, *arguments, given=given, seconds=SECONDS * FACTOR, limits={**limits, **(of_data(PROGRAM, data) if data else {})})
 
 
 def want_replies(talk: Talk, what: str, arguments: Sequence[str] = ()) -> None:

@@ -71,6 +71,7 @@ def show_c(rt: str) -> str | None:
     if not (has_clang() and package.reads_object_files() and shutil.which("gcc")):
         return "skipped what is made of programs in C, since clang 14, pyelftools or gcc isn't there"
     make(f"RT={rt}", "-C", "examples/c", "check")
+    make("-C", "examples/requests", "same")
     return None
 
 
@@ -93,7 +94,11 @@ def show_bench(rt: str) -> str | None:
     if not shutil.which("cc"):
         return "skipped what make bench compiles, since there is no C compiler"
     for path in sorted((ROOT / "bench").glob("*.c")):
-        run("cc", "-fsyntax-only", "-Wall", "-Wextra", "-Werror", "-Iinclude", path, cwd=ROOT)
+        if path.name != "dpdk.c":
+            run("cc", "-fsyntax-only", "-Wall", "-Wextra", "-Werror", "-Iinclude", path, cwd=ROOT)
+    if not shutil.which("pkg-config") or subprocess.run(["pkg-config", "--exists", "libdpdk"]).returncode:
+        return "skipped bench/dpdk.c, since libdpdk-dev isn't there"
+    run("cc", "-fsyntax-only", "-Wall", "-Wextra", "-Werror", *run("pkg-config", "--cflags", "libdpdk").split(), "bench/dpdk.c", cwd=ROOT)
     return None
 
 

@@ -6,6 +6,7 @@ A whole session over a far store, a port that is taken, a far server that isn't 
 from __future__ import annotations
 
 import pathlib
+import re
 import socket
 import struct
 import sys
@@ -13,13 +14,22 @@ import time
 
 sys.path.insert(0, str(pathlib.Path(__file__).resolve().parents[1]))
 from lib.checks import run_parts, want, want_equal
-from lib.programs import SECONDS, Server, Service, ended, noted, opened
+from lib.far import Far
+from lib.programs import SECONDS, Server, Service, ended, noted, opened, tells_what_is_out
 
 # Closing such a socket breaks its connection.
 AT_ONCE = struct.pack("ii", 1, 0)
+# The time that a silent server is given, in milliseconds. It answers a first request, also on a busy machine.
+GIVEN = 3000
 SETUP = ["make 8", "put 1 0 2a", "make 24", "make 1"]
 FAILED = "object 2 couldn't return: the store's device failed"
-END = "the service ends: 2 objects of 9 bytes here, 1 object of 24 bytes far"
+END = (
+    "the service ends: 2 objects of 9 bytes here, 1 object of 24 bytes far; 32 bytes left, 8 bytes returned, 1 fault in T ms, 0 evictions, N failures, "
+    "0 passes of the bound"
+)
+OUT = "1 object of 24 bytes is far at the end, and stays in the far store, if that still runs"
+# What differs from session to session in the last line but one.
+VARIES = re.compile(r"in \d+ ms, 0 evictions, \d+ failures,")
 
 
 class Told:
@@ -40,15 +50,16 @@ class Told:
             want(line != b"", f"{note} isn't written, but {self.errors.decode()}")
             self.errors += line
 
-    def end(self) -> bytes:
-        """The service ends: all that it wrote."""
+    def end(self) -> tuple[bytes, bytes]:
+        """The service ends: its output, and all that it wrote to standard error."""
         self.errors += self.service.process.stderr.read()
-        want_equal(self.service.end()[0], 0, "the end of the service")
-        return self.errors
+        status, output, _ = self.service.end()
+        want_equal(status, 0, "the end of the service")
+        return output, self.errors
 
 
-def session(program: str, far: Server, *flags: str) -> tuple[bytes, Service]:
-    """A session in which the far store is killed before its end: its standard error, and the service."""
+def session(program: str, far: Server, *flags: str) -> tuple[bytes, bytes, Service]:
+    """A session in which the far store is killed before its end: output, standard error, and the service."""
     service, client = opened(program, *flags, "--far", f"127.0.0.1:{far.port}", "--connections", 2, "--workers", 0, setup=SETUP)
     told = Told(service, bool(flags))
     want_equal(client.ask("leave 1"), "asked 1", "object 1 is to leave")
@@ -72,38 +83,40 @@ def session(program: str, far: Server, *flags: str) -> tuple[bytes, Service]:
     told.hear("client 1 went")
     with service.connect() as second:
         second.sendall(b"get 1 0 1\n")
-        want_equal(second.recv(64), b"bytes 2a\n", "the second client")
+        want_equal(second.recv(9, socket.MSG_WAITALL), b"bytes 2a\n", "the second client")
         second.setsockopt(socket.SOL_SOCKET, socket.SO_LINGER, AT_ONCE)
-    return told.end(), service
+    return *told.end(), service
 
 
 def show_session(program: str) -> None:
     """Each line of a session, in order; a move that fails is told of each time that it is tried."""
     with Server(program) as far:
-        errors, service = session(program, far, "-v")
+        _, errors, service = session(program, far, "-v")
     notes, others = noted(errors)
     want_equal(others, [], "what isn't a note")
     want(notes.count(FAILED) > 1, f"a return that is tried again: {notes}")
+    notes[-2] = VARIES.sub("in T ms, 0 evictions, N failures,", notes[-2])
     ordered = [note for k, note in enumerate(notes) if note != FAILED or notes.index(FAILED) == k]
     wanted = [
         f"connected to the far server 127.0.0.1:{far.port}", f"listening on 127.0.0.1:{service.port}", "client 1 came", "object 1 left", "object 1 returned",
         "object 2 left", "the stream of the far server broke: connection closed", FAILED, "object 3 couldn't leave: the store's device failed", "client 1 went",
-        "client 2 came", "client 2 is given up: read fault", END,
+        "client 2 came", "client 2 is given up: read fault", END, OUT,
     ]
     want_equal(ordered, wanted, "the notes of a session")
 
 
 def show_silence(program: str) -> None:
-    """Without the flag the same session writes nothing."""
+    """Without the flag the same session says what becomes of an object that is far at the end, if it had left in time, and nothing else."""
     with Server(program) as far:
-        want_equal(session(program, far)[0], b"", "standard error without -v")
+        output, errors, _ = session(program, far)
+    want(tells_what_is_out(output.decode(), errors.decode()), f"standard error without -v: {errors.decode()}, after {output.decode()}")
 
 
 def show_slow_server(program: str) -> None:
-    """A far server that connects and is silent: the move fails when its time has passed."""
-    with socket.create_server(("127.0.0.1", 0)) as listener:
-        far = f"127.0.0.1:{listener.getsockname()[1]}"
-        service, client = opened(program, "--verbose", "--far", far, "--far-timeout", 200, "--workers", 0, setup=["make 8"])
+    """A far server that is silent at the first move: the move fails when its time has passed."""
+    with Far(0) as silent:
+        far = f"127.0.0.1:{silent.port}"
+        service, client = opened(program, "--verbose", "--far", far, "--far-timeout", GIVEN, "--workers", 0, setup=["make 8"])
         want_equal(client.ask("leave 1"), "asked 1", "an object that is to leave")
         told = Told(service, True)
         told.hear("object 1 couldn't leave: the store's device failed")
@@ -111,9 +124,10 @@ def show_slow_server(program: str) -> None:
         wanted = [
             f"connected to the far server {far}", f"listening on 127.0.0.1:{service.port}", "client 1 came",
             "the stream of the far server broke: no answer in time", "object 1 couldn't leave: the store's device failed", "client 1 went",
-            "the service ends: 1 object of 8 bytes here, 0 objects of 0 bytes far",
+            "the service ends: 1 object of 8 bytes here, 0 objects of 0 bytes far; 0 bytes left, 0 bytes returned, 0 faults in 0 ms, 0 evictions, "
+            "1 failure, 0 passes of the bound",
         ]
-        want_equal(noted(told.end()), (wanted, []), "the notes of a service over a silent server")
+        want_equal(noted(told.end()[1]), (wanted, []), "the notes of a service over a silent server")
 
 
 def show_refusals(program: str) -> None:

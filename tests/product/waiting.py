@@ -10,6 +10,7 @@ with new services, since one may stay slower than another by how its memory happ
 """
 from __future__ import annotations
 
+import contextlib
 import os
 import pathlib
 import statistics
@@ -22,7 +23,7 @@ from typing import Callable, NamedTuple
 sys.path.insert(0, str(pathlib.Path(__file__).resolve().parents[1]))
 from lib.checks import Failed, run_parts, want
 from lib.far import NEVER, Far
-from lib.programs import Client, Server, Service, has_checks, is_heard, processor_time, threads_of, until
+from lib.programs import Client, Server, Service, has_checks, is_heard, of_threads, processor_time, tells_what_is_out, threads_of, until
 
 TRIES = 6
 # in how many turns processor time is measured
@@ -93,12 +94,13 @@ class Killed(Server):
 def put_on(pid: int, processors: set[int]) -> None:
     """From now on all threads of a process run on these processors."""
     for thread in os.listdir(f"/proc/{pid}/task"):
-        os.sched_setaffinity(int(thread), processors)
+        with contextlib.suppress(ProcessLookupError):
+            os.sched_setaffinity(int(thread), processors)
 
 
 def switches(pid: int) -> int:
     """How often the threads of a process were given a processor."""
-    lines = [line for thread in os.listdir(f"/proc/{pid}/task") for line in pathlib.Path(f"/proc/{pid}/task/{thread}/status").read_text().splitlines()]
+    lines = [line for text in of_threads(pid, "status").values() for line in text.splitlines()]
     return sum(int(line.split()[1]) for line in lines if "ctxt_switches" in line)
 
 
@@ -163,7 +165,10 @@ class Trial(Service):
         time.sleep(seconds)
         after, passed = threads_of(self.process.pid), time.monotonic() - start
         shares = []
+        # A thread that has ended isn't there afterwards.
         for thread, (ran, waited) in before.items():
+            if thread not in after:
+                continue
             runs, waits = after[thread][0] - ran, after[thread][1] - waited
             shares.append(runs / max(passed - waits, runs, 1e-6))
         return sum(shares)
@@ -213,7 +218,8 @@ class Trial(Service):
         want(self.client.end() == "", "more than the replies")
         start = time.monotonic()
         status, output, errors = self.texts()
-        want((status, errors) == (0, "") and output.startswith("closed\n"), f"the service ended with {status}, {output[:80]}, {errors}")
+        is_told = tells_what_is_out(output, errors)
+        want(status == 0 and is_told and output.startswith("closed\n"), f"the service ended with {status}, {output[:80]}, {errors}")
         return time.monotonic() - start
 
 
@@ -280,7 +286,7 @@ def show_too_many(program: str) -> None:
     with Service(program, "--connections", 2) as service:
         clients = [Client(service), Client(service)]
         want([client.ask("regs 1") for client in clients] == ["none", "none"], "two clients")
-        until("a third client is let in", lambda: not is_heard("127.0.0.1", service.port), bounds(program).end)
+        until("a third client is let in", lambda: not is_heard("127.0.0.1", service.port))
         want([client.end() for client in clients] == ["", ""] and service.texts()[0] == 0, "the end of two clients")
 
 

@@ -8,6 +8,7 @@ pub mod FirstSlot
 pub mod ErrorShown
 pub mod Numbers
 pub mod ReadNumber
+pub mod Given
 pub mod Started
 pub mod Subcommands
 pub mod Setup

@@ -1,12 +1,14 @@
 -- Right arguments that are answered by an error: there was no memory to read them.
-use Rattle.std.proofs.Common.{◌≡◌, ℕ, List, [], Option, None, Some, IfSome, Err, Result, ◌∷◌, inl, inr, refl, arith}
+use Rattle.std.proofs.Common.{◌≡◌, ℕ, List, [], Option, None, Some, IfSome, Ok, Err, Result, ◌∷◌, inl, inr, refl, arith}
 use Rattle.std.specs.Prelude.{⊤}
 use Rattle.std.specs.Io.KnownBytes.{Consumes, Keeps}
+use Rattle.std.proofs.KnownBytes.{Keeps-refl}
 use Rattle.clap.specs.Words.{HasKind, Kinds, kind_of}
 use Rattle.clap.specs.declared.error.Error.{Error}
 use Rattle.clap.specs.declared.error.kind.ErrorKind.TheVariants as kind
 use Rattle.agent.specs.ErrorShown.{Shows}
 use Rattle.agent.specs.Failures.{status_number}
+use Rattle.agent.specs.LeavesUndone.{LeavesUndone}
 use Rattle.agent.specs.Reports.{Reports}
 use Rattle.streams.specs.Streams.{ConsumesAtMost}
 use Rattle.agent.specs.declared.failure.Failure.{Failure}
@@ -36,3 +38,16 @@ consumes_nothing (Some bytes) = refl
 
 pub reads_nothing : (most : ℕ) (known : Option (List ℕ)) → ConsumesAtMost most known known
 reads_nothing most known = ([], omega arith, consumes_nothing known)
+
+-- there was no memory, and so nothing was done
+pub memory_undone : (given : Option (List ℕ)) (kinds : Kinds) (error : Error) (out_before out_after before after : Option (List ℕ))
+    (status : ExitStatus) (number : ℕ)
+    → kinds ≡ [] → HasKind kinds error → Shows (kind_of error) out_before out_after before after status → number ≡ status_number status
+    → LeavesUndone given given out_before out_after before after number
+memory_undone given kinds error out_before out_after before after status number right has shown is =
+    let says = rw (only_memory kinds error right has) at shown in (Keeps-refl given, says.0, (Err NoMemory, status, tt, says.1, is))
+
+-- nothing is done, and that is told
+pub does_nothing : (given out before after : Option (List ℕ)) (status : ExitStatus) (number : ℕ) → Reports before after (Ok tt) status
+    → number ≡ status_number status → LeavesUndone given given out out before after number
+does_nothing given out before after status number says is = (Keeps-refl given, Keeps-refl out, (Ok tt, status, tt, says, is))

@@ -13,7 +13,7 @@ both s u e f = absurd (cc)
 row_or_stop : {M : Type 0} (mem : Memories M) (old : MachineState) (before : M) (o : Outcome) (mid : M) → old.stop ≡ None → StepCase mem old before o mid
     → DoesItsRow mem old before o mid ⊎ OnlyStops old before o mid
 row_or_stop mem old before o mid e (inl s) = both s.stop old.stop e s.stopped
-row_or_stop mem old before o mid e (inr (inl h)) = inr (record { stop = h.stop; becomes = h.becomes; same = h.same })
+row_or_stop mem old before o mid e (inr (inl h)) = inr (record { stop = h.stop; cause = h.cause; becomes = h.becomes; same = h.same })
 row_or_stop mem old before o mid e (inr (inr t)) =
     inl (record { instr = t.instr; attempts = t.attempts; said = t.said; answers = t.answers; becomes = t.becomes })
 

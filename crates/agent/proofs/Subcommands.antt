@@ -12,9 +12,9 @@ use Rattle.clap.specs.Simple.{App, Shape, built, entered, filled, names_of, rows
 use Rattle.clap.specs.Takes.{is_given}
 use Rattle.clap.specs.Walk.{Held, Row, Rule, Text, answers_to, finished, nothing_held, settled, walk, walk_from}
 use Rattle.clap.proofs.OnLiterals.{clap_on_literals}
-use Rattle.agent.specs.CommandLine.{HasServing, asm_shape, budget_option, check_shape, command_line, connections_option, dis_shape, far_rule}
-use Rattle.agent.specs.CommandLine.{far_timeout_option, faults_of, flag_rule, port_option, run_shape, serve_shape, store_shape, task_named, task_of}
-use Rattle.agent.specs.CommandLine.{verbose_rule, workers_option}
+use Rattle.agent.specs.CommandLine.{HasServing, HasStoring, asm_shape, budget_option, check_shape, command_line, connections_option, dis_shape}
+use Rattle.agent.specs.CommandLine.{far_rule, far_timeout_option, faults_of, flag_rule, idle_option, keep_option, memory_option, port_option, run_shape}
+use Rattle.agent.specs.CommandLine.{serve_shape, store_shape, task_named, task_of, unix_rule, verbose_rule, workers_option}
 use Rattle.agent.specs.OptionNumbers.{HasNumber, NumberOption, number_rule}
 use Rattle.agent.proofs.Numbers.{ArePlain, IsPlain, first_empty, rest_empty, help, options_built, number_at}
 
@@ -64,22 +64,28 @@ flag_plain name = record { index = refl; last = λ values rows. refl }
 far_plain : IsPlain (filled far_rule)
 far_plain = record { index = refl; last = λ values rows. refl }
 
+unix_plain : IsPlain (filled unix_rule)
+unix_plain = record { index = refl; last = λ values rows. refl }
+
 verbose_plain : IsPlain (filled verbose_rule)
 verbose_plain = record { index = refl; last = λ values rows. refl }
 
 store_plain : ArePlain (built_rules store_shape)
-store_plain = (number_plain port_option, (verbose_plain, tt))
+store_plain = (number_plain port_option, (number_plain idle_option, (number_plain memory_option, (verbose_plain, tt))))
 
 serve_plain : ArePlain (built_rules serve_shape)
 serve_plain = (
   number_plain port_option,
   (
-    number_plain connections_option,
+    unix_plain,
     (
-      number_plain workers_option,
+      number_plain connections_option,
       (
-        number_plain budget_option,
-        (flag_plain (codes "sweep"), (far_plain, (number_plain far_timeout_option, (verbose_plain, tt)))),
+        number_plain workers_option,
+        (
+          number_plain budget_option,
+          (flag_plain (codes "sweep"), (number_plain keep_option, (far_plain, (number_plain far_timeout_option, (verbose_plain, tt))))),
+        ),
       ),
     ),
   ),
@@ -106,14 +112,14 @@ abbrev Either : Bool → Type 0 → Type 0 → Type 0
 Either true A B = A
 Either false A B = B
 
--- the numbers of the subcommand of this name: `run` has its budget, `store` its port and `serve` all of its own
+-- the numbers of the subcommand of this name: `run` has its budget, `store` and `serve` all of their own
 abbrev pub HasNumbers : Text → List Row → Type 0
 HasNumbers name rows = Either (bytes_eq name (codes "run")) (HasNumber 32 (codes "budget") rows)
-    (Either (bytes_eq name (codes "store")) (HasNumber 16 (codes "port") rows) (Either (bytes_eq name (codes "serve")) (HasServing rows) (Unit {0})))
+    (Either (bytes_eq name (codes "store")) (HasStoring rows) (Either (bytes_eq name (codes "serve")) (HasServing rows) (Unit {0})))
 
 -- the same by its name
 pub needed : (name : Text) (rows : List Row) → HasNumbers name rows
-    → (name ≡ codes "run" → HasNumber 32 (codes "budget") rows) × (name ≡ codes "store" → HasNumber 16 (codes "port") rows)
+    → (name ≡ codes "run" → HasNumber 32 (codes "budget") rows) × (name ≡ codes "store" → HasStoring rows)
     × (name ≡ codes "serve" → HasServing rows)
 needed name rows has = (λ e. subst (λ n. HasNumbers n rows) e has, λ e. subst (λ n. HasNumbers n rows) e has, λ e. subst (λ n. HasNumbers n rows) e has)
 
@@ -124,11 +130,11 @@ IsEntered (Some p) = IsSome (task_named p.0 p.1) × HasNumbers p.0 p.1
 run_named : (rows : List Row) → HasNumber 32 (codes "budget") rows → IsEntered (Some (codes "run", rows))
 run_named rows b = (rw b.found refl, b)
 
-store_named : (rows : List Row) → HasNumber 16 (codes "port") rows → IsEntered (Some (codes "store", rows))
-store_named rows b = (rw b.found refl, b)
+store_named : (rows : List Row) → HasStoring rows → IsEntered (Some (codes "store", rows))
+store_named rows b = (rw (b.port.found, b.idle.found, b.memory.found) refl, b)
 
 serve_named : (rows : List Row) → HasServing rows → IsEntered (Some (codes "serve", rows))
-serve_named rows b = (rw (b.port.found, b.connections.found, b.workers.found, b.budget.found, b.far_timeout.found) refl, b)
+serve_named rows b = (rw (b.port.found, b.connections.found, b.workers.found, b.budget.found, b.keep.found, b.far_timeout.found) refl, b)
 
 run_entered : (words : List Text) → level_fault (with_help run_shape) [] nothing_held words false [] ≡ []
     → IsEntered (Some (rows_at (with_help run_shape) words))
@@ -139,17 +145,21 @@ run_entered words f = run_named _ (number_at budget_option refl refl 32 (omega a
 
 store_entered : (words : List Text) → level_fault (with_help store_shape) [] nothing_held words false [] ≡ []
     → IsEntered (Some (rows_at (with_help store_shape) words))
-store_entered words f = store_named _ (number_at port_option refl refl 16 (omega arith) (codes "store") (built_rules store_shape)
-    store_plain 0 refl refl refl words f)
+store_entered words f = store_named _ (record {
+  port = number_at port_option refl refl 16 (omega arith) (codes "store") (built_rules store_shape) store_plain 0 refl refl refl words f;
+  idle = number_at idle_option refl refl 32 (omega arith) (codes "store") (built_rules store_shape) store_plain 1 refl refl refl words f;
+  memory = number_at memory_option refl refl 32 (omega arith) (codes "store") (built_rules store_shape) store_plain 2 refl refl refl words f;
+})
 
 serve_entered : (words : List Text) → level_fault (with_help serve_shape) [] nothing_held words false [] ≡ []
     → IsEntered (Some (rows_at (with_help serve_shape) words))
 serve_entered words f = serve_named _ (record {
   port = number_at port_option refl refl 16 (omega arith) (codes "serve") (built_rules serve_shape) serve_plain 0 refl refl refl words f;
-  connections = number_at connections_option refl refl 8 (omega arith) (codes "serve") (built_rules serve_shape) serve_plain 1 refl refl refl words f;
-  workers = number_at workers_option refl refl 8 (omega arith) (codes "serve") (built_rules serve_shape) serve_plain 2 refl refl refl words f;
-  budget = number_at budget_option refl refl 32 (omega arith) (codes "serve") (built_rules serve_shape) serve_plain 3 refl refl refl words f;
-  far_timeout = number_at far_timeout_option refl refl 32 (omega arith) (codes "serve") (built_rules serve_shape) serve_plain 6 refl refl refl words f;
+  connections = number_at connections_option refl refl 8 (omega arith) (codes "serve") (built_rules serve_shape) serve_plain 2 refl refl refl words f;
+  workers = number_at workers_option refl refl 8 (omega arith) (codes "serve") (built_rules serve_shape) serve_plain 3 refl refl refl words f;
+  budget = number_at budget_option refl refl 32 (omega arith) (codes "serve") (built_rules serve_shape) serve_plain 4 refl refl refl words f;
+  keep = number_at keep_option refl refl 32 (omega arith) (codes "serve") (built_rules serve_shape) serve_plain 6 refl refl refl words f;
+  far_timeout = number_at far_timeout_option refl refl 32 (omega arith) (codes "serve") (built_rules serve_shape) serve_plain 8 refl refl refl words f;
 })
 
 entered_good : (stop : Option (Text × List Text)) → entered_fault (built command_line) stop ≡ [] → IsEntered (entered (built command_line) stop)

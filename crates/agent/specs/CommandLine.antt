@@ -1,5 +1,5 @@
 -- What the arguments of the command line ask for, as `clap` reads them.
-use Rattle.std.specs.Prelude.{◌≡◌, ℕ, Bool, false, true, if◌then◌else◌, ⊤, List, [], ◌∷◌, Option, Some, None, codes, option_map, option_and_then}
+use Rattle.std.specs.Prelude.{◌≡◌, ℕ, Bool, false, true, if◌then◌else◌, ⊤, List, [], ◌∷◌, Option, Some, None, codes, find, option_map, option_and_then}
 use Rattle.std.specs.Option.{option_map_or}
 use Rattle.std.specs.Str.{bytes_eq}
 use Rattle.std.specs.Str.Parse.{digits_value, without_leading_plus}
@@ -8,10 +8,13 @@ use Rattle.clap.specs.Simple.{new_shape}
 use Rattle.clap.specs.declared.builder.action.ArgAction.TheVariants.{SetTrue}
 use Rattle.clap.specs.declared.builder.command.Command.{Command}
 use Rattle.clap.specs.declared.builder.command.Command.TheViews.{out-Command}
+use Rattle.clap.specs.declared.parser.matches.ValueSource.{ValueSource}
+use Rattle.clap.specs.declared.parser.matches.ValueSource.TheVariants.{CommandLine, DefaultValue}
 use Rattle.agent.specs.OptionNumbers.{HasNumber, NumberOption, number_rule}
 use Rattle.agent.specs.declared.arguments.Task.{Task}
 use Rattle.agent.specs.declared.arguments.Task.TheVariants.{Run, Check, Assemble, Disassemble, Store, Serve}
 use Rattle.agent.specs.declared.arguments.Serving.{Serving}
+use Rattle.agent.specs.declared.arguments.Storing.{Storing}
 use Rattle.agent.specs.declared.arguments.Server.{Server}
 use Rattle.agent.specs.declared.arguments.Server.TheVariants as server
 
@@ -63,9 +66,19 @@ port_option = record { name = codes "port"; least = 0; limit = port_limit; defau
 abbrev pub verbose_rule : Rule
 verbose_rule = record (flag_rule (codes "verbose")) { short = Some 118 }
 
+-- `--idle SECONDS`, at most a day, which is 0, for ever, where it is left out
+abbrev pub idle_option : NumberOption
+idle_option = record { name = codes "idle"; least = 0; limit = 86400; default = codes "0" }
+
+-- `--memory BYTES`, which is 0, no bound, where it is left out
+abbrev pub memory_option : NumberOption
+memory_option = record { name = codes "memory"; least = 0; limit = 4294967295; default = codes "0" }
+
 -- `store`, with its options
 abbrev pub store_shape : Shape
-store_shape = record (new_shape (codes "store")) { rules = number_rule port_option ∷ verbose_rule ∷ [] }
+store_shape = record (new_shape (codes "store")) {
+  rules = number_rule port_option ∷ number_rule idle_option ∷ number_rule memory_option ∷ verbose_rule ∷ [];
+}
 
 -- `--connections N`, which is 1 where it is left out
 abbrev pub connections_option : NumberOption
@@ -75,6 +88,10 @@ connections_option = record { name = codes "connections"; least = 1; limit = 8; 
 abbrev pub workers_option : NumberOption
 workers_option = record { name = codes "workers"; least = 0; limit = 16; default = codes "2" }
 
+-- `--keep BYTES`, at least what one object may have, which is the greatest, no bound, where it is left out
+abbrev pub keep_option : NumberOption
+keep_option = record { name = codes "keep"; least = 65536; limit = 67108864; default = codes "67108864" }
+
 -- `--far HOST:PORT`, any text, which may be left out
 abbrev pub far_rule : Rule
 far_rule = record (new_rule (codes "far")) { long = Some (codes "far"); value_names = 1 }
@@ -83,11 +100,15 @@ far_rule = record (new_rule (codes "far")) { long = Some (codes "far"); value_na
 abbrev pub far_timeout_option : NumberOption
 far_timeout_option = record { name = codes "far-timeout"; least = 1; limit = 600000; default = codes "5000" }
 
+-- `--unix PATH`, any text, which may be left out
+abbrev pub unix_rule : Rule
+unix_rule = record (new_rule (codes "unix")) { long = Some (codes "unix"); value_names = 1 }
+
 -- `serve`, with its options
 abbrev pub serve_shape : Shape
 serve_shape = record (new_shape (codes "serve")) {
-  rules = number_rule port_option ∷ number_rule connections_option ∷ number_rule workers_option
-      ∷ number_rule budget_option ∷ flag_rule (codes "sweep") ∷ far_rule ∷ number_rule far_timeout_option ∷ verbose_rule ∷ [];
+  rules = number_rule port_option ∷ unix_rule ∷ number_rule connections_option ∷ number_rule workers_option
+      ∷ number_rule budget_option ∷ flag_rule (codes "sweep") ∷ number_rule keep_option ∷ far_rule ∷ number_rule far_timeout_option ∷ verbose_rule ∷ [];
 }
 
 -- a command that passes no argument on to its subcommands
@@ -115,12 +136,19 @@ command_line = with_subcommand (with_subcommand
 abbrev pub faults_of : List Text → Kinds
 faults_of arguments = fault_of command_line arguments
 
+-- These matches have all numbers of `store`.
+pub record HasStoring (rows : List Row) : Type 0 where
+  pub port : HasNumber 16 (codes "port") rows
+  pub idle : HasNumber 32 (codes "idle") rows
+  pub memory : HasNumber 32 (codes "memory") rows
+
 -- These matches have all numbers of `serve`.
 pub record HasServing (rows : List Row) : Type 0 where
   pub port : HasNumber 16 (codes "port") rows
   pub connections : HasNumber 8 (codes "connections") rows
   pub workers : HasNumber 8 (codes "workers") rows
   pub budget : HasNumber 32 (codes "budget") rows
+  pub keep : HasNumber 32 (codes "keep") rows
   pub far_timeout : HasNumber 32 (codes "far-timeout") rows
 
 -- the number of this name that they give
@@ -131,16 +159,46 @@ number_in name rows = option_map (λ text. digits_value 10 (without_leading_plus
 abbrev pub is_set : Text → List Row → Bool
 is_set name rows = option_map_or (λ text. bytes_eq text (codes "true")) (first_of name rows) false
 
+-- a value that comes from there is among the words, and isn't a default
+abbrev pub is_told : Option ValueSource → Bool
+is_told (Some CommandLine) = true
+is_told (Some DefaultValue) = false
+is_told None = false
+
+-- the option of this name is among the words
+abbrev pub is_given : Text → List Row → Bool
+is_given name rows = is_told (option_and_then (λ r. r.source) (find (λ r. bytes_eq r.id name) rows))
+
+-- how these numbers, and the flag, ask to keep
+abbrev pub storing_of : Bool → Option ℕ → Option ℕ → Option ℕ → Option Storing
+storing_of verbose (Some port) (Some idle) (Some memory) = Some (record { port = port; idle = idle; memory = memory; verbose = verbose })
+storing_of verbose _ _ _ = None
+
+-- how these matches ask to keep
+abbrev pub storing_in : List Row → Option Storing
+storing_in rows = storing_of (is_set (codes "verbose") rows) (number_in (codes "port") rows) (number_in (codes "idle") rows)
+    (number_in (codes "memory") rows)
+
 -- how these numbers, and the flags, ask to serve
-abbrev pub serving_of : Bool → Bool → Option ℕ → Option ℕ → Option ℕ → Option ℕ → Option ℕ → Option Serving
-serving_of sweep verbose (Some port) (Some connections) (Some workers) (Some budget) (Some far_timeout) =
-    Some (record { port = port; connections = connections; workers = workers; budget = budget; sweep = sweep; far_timeout = far_timeout; verbose = verbose })
-serving_of sweep verbose _ _ _ _ _ = None
+abbrev pub serving_of : Bool → Bool → Bool → Option ℕ → Option ℕ → Option ℕ → Option ℕ → Option ℕ → Option ℕ → Option Serving
+serving_of has_port sweep verbose (Some port) (Some connections) (Some workers) (Some budget) (Some keep) (Some far_timeout) = Some (record {
+  port = port;
+  has_port = has_port;
+  connections = connections;
+  workers = workers;
+  budget = budget;
+  sweep = sweep;
+  keep = keep;
+  far_timeout = far_timeout;
+  verbose = verbose;
+})
+serving_of has_port sweep verbose _ _ _ _ _ _ = None
 
 -- how these matches ask to serve
 abbrev pub serving_in : List Row → Option Serving
-serving_in rows = serving_of (is_set (codes "sweep") rows) (is_set (codes "verbose") rows) (number_in (codes "port") rows)
-    (number_in (codes "connections") rows) (number_in (codes "workers") rows) (number_in (codes "budget") rows) (number_in (codes "far-timeout") rows)
+serving_in rows = serving_of (is_given (codes "port") rows) (is_set (codes "sweep") rows) (is_set (codes "verbose") rows) (number_in (codes "port") rows)
+    (number_in (codes "connections") rows) (number_in (codes "workers") rows) (number_in (codes "budget") rows) (number_in (codes "keep") rows)
+    (number_in (codes "far-timeout") rows)
 
 -- the task of this name, with these matches
 abbrev pub task_named : Text → List Row → Option Task
@@ -148,7 +206,7 @@ task_named name rows = if bytes_eq name (codes "run") then option_map Run (numbe
     else (if bytes_eq name (codes "check") then Some (Check (is_set (codes "explain") rows))
     else (if bytes_eq name (codes "asm") then Some (Assemble (is_set (codes "explain") rows))
     else (if bytes_eq name (codes "dis") then Some (Disassemble (is_set (codes "slots") rows))
-    else (if bytes_eq name (codes "store") then option_map (λ port. Store port (is_set (codes "verbose") rows)) (number_in (codes "port") rows)
+    else (if bytes_eq name (codes "store") then option_map Store (storing_in rows)
     else (if bytes_eq name (codes "serve") then option_map Serve (serving_in rows) else None)))))
 
 -- what right arguments ask for: the subcommand that they name
@@ -159,14 +217,23 @@ task_of arguments = option_and_then (λ p. task_named p.0 p.1) (subcommand_of co
 abbrev pub far_of : List Text → Option Text
 far_of arguments = option_and_then (λ p. first_of (codes "far") p.1) (subcommand_of command_line arguments)
 
+-- the text of `--unix`, where right arguments have one
+abbrev pub unix_of : List Text → Option Text
+unix_of arguments = option_and_then (λ p. first_of (codes "unix") p.1) (subcommand_of command_line arguments)
+
 -- ---- servers
 
 -- the task of a server
 abbrev pub server_task : Server → Task
-server_task (server.Store port verbose) = Store port verbose
-server_task (server.Serve serving far) = Serve serving
+server_task (server.Store storing) = Store storing
+server_task (server.Serve serving far unix) = Serve serving
 
 -- The server keeps its far objects where these arguments say.
 abbrev pub IsFarAs : List Text → Server → Type 0
-IsFarAs arguments (server.Store port verbose) = ⊤
-IsFarAs arguments (server.Serve serving far) = option_map (λ text. text.now) far ≡ far_of arguments
+IsFarAs arguments (server.Store storing) = ⊤
+IsFarAs arguments (server.Serve serving far unix) = option_map (λ text. text.now) far ≡ far_of arguments
+
+-- The server listens where these arguments say.
+abbrev pub IsUnixAs : List Text → Server → Type 0
+IsUnixAs arguments (server.Store storing) = ⊤
+IsUnixAs arguments (server.Serve serving far unix) = option_map (λ text. text.now) unix ≡ unix_of arguments

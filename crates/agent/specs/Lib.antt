@@ -12,6 +12,7 @@ pub mod Reports
 pub mod ErrorShown
 pub mod Explained
 pub mod Laws
+pub mod LeavesUndone
 pub mod StoreLeaves
 pub mod ServeLeaves
 pub mod Theorems

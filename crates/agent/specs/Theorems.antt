@@ -10,19 +10,23 @@ use Rattle.bpf_codec.specs.Slots.{NoneBeginsAnother, NoneShared}
 use Rattle.loader.specs.Laws.{OneRefusal, NoRefusalOfValid}
 use Rattle.memory.specs.MapMemory.{map_memory}
 use Rattle.memory.specs.Memories.{Memories}
-use Rattle.far_stream.specs.Client.{Client}
+use Rattle.memory.specs.Objects.{bytes_of}
+use Rattle.far_stream.specs.Deferring.{Deferring}
+use Rattle.far_stream.specs.declared.buffered.Buffered.{Buffered}
 use Rattle.machine.specs.Confinement.{StepsAreConfined, StepsProtect}
+use Rattle.machine.specs.Granted.{EntriesAreGranted, ReplaysAreConfined}
 use Rattle.machine.specs.declared.state.Stop.{Stop}
 use Rattle.machine.specs.declared.state.Stepped.{Stepped}
 use Rattle.machine.specs.MachineState.{MachineState}
 use Rattle.machine.specs.Rows.{MemoryAnswer, Outcome, asks, told, stops}
-use Rattle.machine.specs.TableStep.{TableStep, Attempts, AnswersRequest, Closes}
+use Rattle.machine.specs.TableStep.{TableStep, Attempts, StopsBefore, AnswersRequest, Closes}
 use Rattle.machine.specs.Laws.{StartsWhole, StaysWhole, MapAlwaysSteps, MapStepsOneWay, FuelBounds, FuelCounts, WaitsInPlace, WaitingDoesNothing, StoppedStays}
 use Rattle.machine.specs.Laws.{StopsInPlace, ChangesOne}
 use Rattle.shared_objects.specs.History.{Has}
 use Rattle.shared_objects.specs.Laws.{TablesHaveHistories, WordsShowSeats, LegalHistoriesRun, OneListsAreLegal, SortedEntriesRun}
+use Rattle.shared_objects.specs.Laws.{StampsCover, LearntStandsBefore}
 use Rattle.shared_objects.specs.Legal.{Legal}
-use Rattle.shared_objects.specs.One.{all_entries, sorted}
+use Rattle.shared_objects.specs.One.{all_entries, entries_by, sorted}
 use Rattle.shared_objects.specs.One.{Runs as ListRuns}
 use Rattle.shared_objects.specs.Parts.{part_of}
 use Rattle.shared_objects.specs.declared.seats.ActorSeat.{ActorSeat}
@@ -30,6 +34,7 @@ use Rattle.shared_objects.specs.declared.view.Part.{Part}
 use Rattle.workers.specs.Cells.{RunningState}
 use Rattle.workers.specs.Moves.{MoverState}
 use Rattle.workers.specs.Pools.{machines_of}
+use Rattle.workers.specs.TableNames.{Passage}
 use Rattle.workers.specs.declared.closing.ClosedCell.{ClosedCell}
 use Rattle.world.specs.Answers.{Answers}
 use Rattle.world.specs.Run.{Runs}
@@ -40,15 +45,17 @@ use Rattle.world.specs.declared.replies.Reply.{Reply}
 use Rattle.console.specs.Agent.{agent}
 use Rattle.console.specs.Conversations.{Turn, IsTurn, heard_of, written_of, turn_commands, turn_replies}
 use Rattle.console.specs.Lines.{IsLine, cut_of}
-use Rattle.listener.specs.Announcing.{listening_line}
+use Rattle.listener.specs.Announcing.{listening_at}
 use Rattle.ship_service.specs.Closing.{ClosedState, Settles, ReplaysShare}
 use Rattle.ship_service.specs.ClosingLines.{closing_lines}
+use Rattle.ship_service.specs.Granted.{AreGranted, IsUnwritten, SeenMachinesAreGranted}
 use Rattle.ship_service.specs.Listening.{closed_line}
 use Rattle.ship_service.specs.Opening.{opened_bytes}
 use Rattle.ship_service.specs.Served.{OpenedMachinesStay, AnsweredMachinesAreSeen}
 use Rattle.ship_service.specs.Telling.{RepliesAreEntries, ReplyIsEntry, StepsStandAbove}
 use Rattle.agent.specs.RunLeaves.{RunLeaves}
-use Rattle.agent.specs.ServeLeaves.{ServeLeaves}
+use Rattle.agent.specs.ServeLeaves.{IsDoorName, ServeLeaves}
+use Rattle.agent.specs.declared.arguments.Serving.{Serving}
 
 -- ---- 1. Safe and total
 
@@ -80,9 +87,10 @@ pub record DoesItsRow {M : Type 0} (mem : Memories M) (old : MachineState) (befo
   pub answers : AnswersRequest mem (asks instr old) before said after
   pub becomes : outcome ≡ told instr old said
 
--- Nothing is done: the machine stops, by name.
+-- Nothing is done: the machine stops. It has no fuel, or the stop is in place of the instruction that is next.
 pub record OnlyStops {M : Type 0} (old : MachineState) (before : M) (outcome : Outcome) (after : M) : Type 0 where
   pub stop : Stop
+  pub cause : StopsBefore old stop
   pub becomes : outcome ≡ stops stop old
   pub same : after ≡ before
 
@@ -114,9 +122,12 @@ pub record EachStepIsItsRow {M : Type 0} (mem : Memories M) : Type 0 where
   pub fuel : FuelCounts mem
   -- A step writes one object at most, or the stack.
   pub writes : ChangesOne
-  -- A machine does nothing to an object that it wasn't granted, and learns nothing of its bytes.
+  -- A machine does nothing to an object that it wasn't granted, and learns nothing of its bytes: first over one map of objects,
+  -- then by the entries of a machine, whoever else reaches the objects.
   pub protects : StepsProtect
   pub confined : StepsAreConfined
+  pub granted : EntriesAreGranted
+  pub alike : ReplaysAreConfined
 
 -- ---- 3. The run theorem
 
@@ -162,21 +173,27 @@ pub record OneLegalHistory : Type 0 where
   pub lists : SortedEntriesRun
   pub legal : OneListsAreLegal
   pub runs : LegalHistoriesRun
+  -- Whoever learns a stamp of a seat that is at least its last one learns of all that this seat has done. What a seat learnt of
+  -- stands before each entry that it adds afterwards, and such an entry was given what its deed gives after that.
+  pub stamps : StampsCover
+  pub learnt : LearntStandsBefore
 
 -- ---- 5. The closing theorem
 
--- Of each connection to a service that was opened with these bytes and machines, whichever cells were lent with a machine:
-pub record RepliesAreExplained (opening : List (List ℕ)) (starts : List MachineState) (lent : ℕ → Bool) : Type 0 where
+-- Of each connection to a service that was opened with these bytes and machines, whatever passed at the locks of its machines:
+pub record RepliesAreExplained (opening : List (List ℕ)) (starts : List MachineState) (lent : Passage → Bool) : Type 0 where
   -- The `ok` of `put` and the `bytes` of `get` are, in order, the answers of the entries that the connection adds; so it is for
   -- a reply that is written in part.
   pub entries : RepliesAreEntries opening starts lent
   pub last : ReplyIsEntry opening starts lent
   -- When a command on a machine is answered, the machine is the replay of its entries up to what the connection has seen. A step
   -- that the connection asks for stands above all that it had seen.
-  pub seen : AnsweredMachinesAreSeen opening starts
-  pub above : StepsStandAbove opening starts
+  pub seen : AnsweredMachinesAreSeen opening starts lent
+  pub above : StepsStandAbove opening starts lent
   -- A machine that was there at the opening is never answered to be none.
-  pub stay : OpenedMachinesStay opening starts
+  pub stay : OpenedMachinesStay opening starts lent
+  -- What a connection has seen of a machine are accesses to objects that the machine was granted, writing ones only with `w`.
+  pub granted : SeenMachinesAreGranted opening starts
 
 -- all seats: those of the machines, then those of the connections
 abbrev pub parts_of : List ActorSeat → List ActorSeat → List Part
@@ -199,11 +216,16 @@ pub record IsClosingOf (X : Type 0) (returns : Bool) (world : WorldState) (text 
   -- Each machine is the replay of its share.
   pub machines : (c : ClosedCell) (r : RunningState) → Has state.cells c → c.running ≡ Some r
       → ReplaysShare (opened_bytes world) (machines_of world.machines) (parts_of settles.seats connections) settles.list.one c.number r
+  -- Its share are accesses to objects that it was granted, writing ones only with `w`.
+  pub granted : (c : ClosedCell) (r : RunningState) → Has state.cells c → c.running ≡ Some r
+      → AreGranted (opened_bytes world) r (entries_by c.number settles.list.one)
+  -- An object that no machine may write, and into which no connection put bytes, keeps its bytes.
+  pub unwritten : returns ≡ true → (n : ℕ) → IsUnwritten n state.cells connections → bytes_of settles.ends n ≡ bytes_of (opened_bytes world) n
 
 -- the far store: the agent's own, or a server's client
 abbrev pub store_of : Option (List ℕ) → Type 0
 store_of None = ℕ
-store_of (Some far) = Client TcpStream
+store_of (Some far) = Deferring (Buffered TcpStream)
 
 -- the agent's own returns what was put; of a server nothing is known
 abbrev pub returns_of : Option (List ℕ) → Bool
@@ -211,19 +233,21 @@ returns_of None = true
 returns_of (Some far) = false
 
 -- What `serve` wrote: the replies of a run over standard input, and then what the service closed with that began where the run ended.
-pub record IsServiceOf (budget : ℕ) (far : Option (List ℕ)) (input : List ℕ) (before after : Option (List ℕ)) : Type 0 where
+pub record IsServiceOf (budget : ℕ) (far unix : Option (List ℕ)) (input : List ℕ) (before after : Option (List ℕ)) : Type 0 where
   pub world : WorldState
   pub replies : List ℕ
   pub mid : Option (List ℕ)
   pub replied : Appends before mid replies
   pub run : IsRunOf budget input replies world
-  pub port : ℕ
+  -- the path of the socket file that was asked for, or a port
+  pub name : List ℕ
+  pub door : IsDoorName unix name
   pub text : List ℕ
-  pub said : Appends mid after (listening_line port ++ text)
+  pub said : Appends mid after (listening_at name ++ text)
   pub closing : IsClosingOf (store_of far) (returns_of far) world text
 
 -- Where `serve` ends well, it wrote that. (`ServeLeaves` says what it wrote where it ended otherwise.)
 abbrev pub ClosingTheorem : Type 0
-ClosingTheorem = (budget : ℕ) (far : Option (List ℕ)) (input : List ℕ) (before after unread : Option (List ℕ)) (done : ⊤)
-    → ServeLeaves budget far input before after unread (Ok done)
-    → IsServiceOf budget far input before after
+ClosingTheorem = (serving : Serving) (far unix : Option (List ℕ)) (input : List ℕ) (before after unread : Option (List ℕ)) (done : ⊤)
+    → ServeLeaves serving far unix input before after unread (Ok done)
+    → IsServiceOf serving.budget far unix input before after

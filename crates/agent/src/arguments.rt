@@ -1,9 +1,10 @@
 //! The arguments of the command line.
 ghost use Rattle.std.specs.Prelude.{◌≡◌, ◌≢◌, ℕ, List, Result, [], None, Some, map, codes, option_map, IfOk, IfErr, IfSome};
 ghost use Rattle.clap.specs.Words.{app_of, found_of, new_app, new_rule, rows_of, rule_of, subcommand_of, subcommand_rows_of, with_subcommand, HasKind};
-ghost use Rattle.agent.specs.CommandLine.{HasServing, IsFarAs, IsLocal, asm_shape, bare, budget_option, check_shape, command_line, connections_option};
-ghost use Rattle.agent.specs.CommandLine.{dis_shape, far_of, far_rule, far_timeout_option, faults_of, flag_rule, flagged_shape, is_set, number_in, port_option};
-ghost use Rattle.agent.specs.CommandLine.{run_shape, serve_shape, server_task, serving_in, store_shape, task_named, task_of, verbose_rule, workers_option};
+ghost use Rattle.agent.specs.CommandLine.{HasServing, HasStoring, IsFarAs, IsLocal, IsUnixAs, asm_shape, bare, budget_option, check_shape, command_line};
+ghost use Rattle.agent.specs.CommandLine.{connections_option, dis_shape, far_of, far_rule, far_timeout_option, faults_of, flag_rule, flagged_shape};
+ghost use Rattle.agent.specs.CommandLine.{idle_option, is_given, is_set, is_told, keep_option, memory_option, number_in, port_option, run_shape, serve_shape, server_task, serving_in};
+ghost use Rattle.agent.specs.CommandLine.{store_shape, storing_in, task_named, task_of, unix_of, unix_rule, verbose_rule, workers_option};
 ghost use Rattle.agent.specs.OptionNumbers.{HasNumber, ParsesAs, number_rule, parses_as};
 ghost use Rattle.agent.specs.declared.arguments.Server.{Server};
 
@@ -11,6 +12,7 @@ mod help_texts;
 mod laws;
 
 use clap::error::ErrorKind;
+use clap::parser::ValueSource;
 use clap::{Arg, ArgAction, ArgMatches, Command, Error, value_parser};
 use help_texts::{
     ABOUT, ASM_HELP, CHECK_HELP, DIS_HELP, RUN_HELP, SERVE_HELP, STORE_HELP, TOP_HELP,
@@ -38,11 +40,23 @@ pub enum Task {
     /// To show raw code as assembly, each instruction after the number of its slot where that is
     /// asked for.
     Disassemble { has_slots: bool },
-    /// To keep what clients send away, listening on this port, or on any free one where it is 0.
-    /// What happens is written down where that is asked for.
-    Store { port: u16, verbose: bool },
+    /// To keep what clients send away.
+    Store(Storing),
     /// To do the commands of the input, and then those of clients.
     Serve(Serving),
+}
+
+/// How `store` keeps.
+#[derive(Clone, Copy, Drop, Debug, PartialEq, Eq)]
+pub struct Storing {
+    /// The port to listen on, or 0 for any free one.
+    pub port: u16,
+    /// How many seconds a client may be idle, or 0 for ever.
+    pub idle: u32,
+    /// How many bytes are kept at most, of all clients together, or 0 for as many as there is memory for.
+    pub memory: u32,
+    /// Whether what happens is written down.
+    pub verbose: bool,
 }
 
 /// How `serve` serves.
@@ -50,6 +64,8 @@ pub enum Task {
 pub struct Serving {
     /// The port to listen on, or 0 for any free one.
     pub port: u16,
+    /// Whether a port is asked for, be it 0.
+    pub has_port: bool,
     /// How many connections are taken in all.
     pub connections: u8,
     /// How many workers step machines.
@@ -58,6 +74,8 @@ pub struct Serving {
     pub budget: u32,
     /// Whether objects that nobody uses are sent away.
     pub sweep: bool,
+    /// The most bytes that the objects have that are here, while connections are served, unless those in use have more.
+    pub keep: u32,
     /// How many milliseconds connecting to the far server, a read from it or a write to it may take.
     pub far_timeout: u32,
     /// Whether what happens is written down.
@@ -67,17 +85,15 @@ pub struct Serving {
 /// A server that the program can be asked to be.
 #[derive(Clone, Copy, Drop, Debug, PartialEq, Eq)]
 pub enum Server<'a> {
-    /// One that keeps what clients send away, listening on this port, or on any free one where it is 0.
-    /// What happens is written down where that is asked for.
-    Store {
-        port: u16,
-        verbose: bool,
-    },
+    /// One that keeps what clients send away.
+    Store(Storing),
     /// One that shares objects and machines with clients. Its far objects are kept at the server of this address, `HOST:PORT`,
     /// where one is given.
     Serve {
         serving: Serving,
         far: Option<&'a str>,
+        /// The path of the socket file to listen at instead of a port.
+        unix: Option<&'a str>,
     },
 }
 
@@ -111,6 +127,35 @@ fn make_port<'a>(alloc: Global) -> Arg<'a>
         .help("The port to listen on, 0 to 65535, where 0 is any free one")
 }
 
+/// `--unix PATH`: the socket file to listen at.
+fn make_unix<'a>(alloc: Global) -> Arg<'a>
+    ensures { rule_of result ≡ unix_rule }
+{
+    make_option(alloc, "unix", "PATH").help(
+        "The socket file to listen at instead of a port; only its owner can connect",
+    )
+}
+
+/// `--idle SECONDS`: how long a client of `store` may be idle.
+fn make_idle<'a>(alloc: Global) -> Arg<'a>
+    ensures { rule_of result ≡ number_rule idle_option }
+{
+    make_option(alloc, "idle", "SECONDS")
+        .value_parser(value_parser!(u32).range(0..=86_400))
+        .default_value("0")
+        .help("The most seconds that a client may be idle, 0 to 86400, where 0 is for ever")
+}
+
+/// `--memory BYTES`: how much `store` keeps.
+fn make_memory<'a>(alloc: Global) -> Arg<'a>
+    ensures { rule_of result ≡ number_rule memory_option }
+{
+    make_option(alloc, "memory", "BYTES")
+        .value_parser(value_parser!(u32))
+        .default_value("0")
+        .help("The most bytes that are kept, 0 to 4294967295, where 0 is no bound")
+}
+
 /// `--connections N`: how many connections are taken.
 fn make_connections<'a>(alloc: Global) -> Arg<'a>
     ensures { rule_of result ≡ number_rule connections_option }
@@ -129,6 +174,21 @@ fn make_workers<'a>(alloc: Global) -> Arg<'a>
         .value_parser(value_parser!(u8).range(0..=16))
         .default_value("2")
         .help("How many workers step machines, 0 to 16")
+}
+
+/// The greatest number of bytes to keep, which all objects together have at most: 64 MiB.
+const KEEP_LIMIT: i64 = 67_108_864;
+
+/// `--keep BYTES`: how many bytes of objects are here while connections are served.
+fn make_keep<'a>(alloc: Global) -> Arg<'a>
+    ensures { rule_of result ≡ number_rule keep_option }
+{
+    make_option(alloc, "keep", "BYTES")
+        .value_parser(value_parser!(u32).range(65_536..=KEEP_LIMIT))
+        .default_value("67108864")
+        .help(
+            "The most bytes of objects that are here while clients are served, 65536 to 67108864; those in use stay",
+        )
 }
 
 /// `--far HOST:PORT`: the server that keeps far objects.
@@ -261,6 +321,8 @@ fn make_store<'a>(alloc: Global) -> Result<Command<'a>, AllocError>
         STORE_HELP,
     )
     .arg(make_port(alloc))?
+    .arg(make_idle(alloc))?
+    .arg(make_memory(alloc))?
     .arg(make_verbose(alloc))
 }
 
@@ -275,6 +337,7 @@ fn make_serve<'a>(alloc: Global) -> Result<Command<'a>, AllocError>
         SERVE_HELP,
     )
     .arg(make_port(alloc))?
+    .arg(make_unix(alloc))?
     .arg(make_connections(alloc))?
     .arg(make_workers(alloc))?
     .arg(make_budget(alloc))?
@@ -283,6 +346,7 @@ fn make_serve<'a>(alloc: Global) -> Result<Command<'a>, AllocError>
         "sweep",
         "Send away objects that nobody has used for a while",
     ))?
+    .arg(make_keep(alloc))?
     .arg(make_far(alloc))?
     .arg(make_far_timeout(alloc))?
     .arg(make_verbose(alloc))
@@ -382,6 +446,36 @@ fn is_set<'a>(matches: &ArgMatches<'a>, name: &str) -> bool
     }
 }
 
+/// Whether a value that comes from there was given.
+fn is_told(source: Option<ValueSource>) -> bool
+    ensures { result ≡ is_told source }
+{
+    match source {
+        Some(ValueSource::CommandLine) => true,
+        Some(ValueSource::DefaultValue) | None => false,
+    }
+}
+
+/// Whether the option of this name is among the arguments, and not only its default.
+fn is_given<'a>(matches: &ArgMatches<'a>, name: &str) -> bool
+    ensures { result ≡ is_given name.now (rows_of (found_of matches.now)) }
+{
+    is_told(matches.value_source(name))
+}
+
+/// How the matches of `store` ask to keep.
+fn read_storing<'a>(matches: &ArgMatches<'a>) -> Storing
+    requires { HasStoring (rows_of (found_of matches.now)) }
+    ensures { storing_in (rows_of (found_of matches.now)) ≡ Some result }
+{
+    Storing {
+        port: read_number(matches, "port"),
+        idle: read_number(matches, "idle"),
+        memory: read_number(matches, "memory"),
+        verbose: is_set(matches, "verbose"),
+    }
+}
+
 /// How the matches of `serve` ask to serve.
 fn read_serving<'a>(matches: &ArgMatches<'a>) -> Serving
     requires { HasServing (rows_of (found_of matches.now)) }
@@ -389,10 +483,12 @@ fn read_serving<'a>(matches: &ArgMatches<'a>) -> Serving
 {
     Serving {
         port: read_number(matches, "port"),
+        has_port: is_given(matches, "port"),
         connections: read_number(matches, "connections"),
         workers: read_number(matches, "workers"),
         budget: read_number(matches, "budget"),
         sweep: is_set(matches, "sweep"),
+        keep: read_number(matches, "keep"),
         far_timeout: read_number(matches, "far-timeout"),
         verbose: is_set(matches, "verbose"),
     }
@@ -401,7 +497,7 @@ fn read_serving<'a>(matches: &ArgMatches<'a>) -> Serving
 /// The task of this name, with these matches.
 fn task_called<'a>(name: &str, matches: &ArgMatches<'a>) -> Option<Task>
     requires run { name.now ≡ codes "run" → HasNumber 32 (codes "budget") (rows_of (found_of matches.now)) }
-    requires store { name.now ≡ codes "store" → HasNumber 16 (codes "port") (rows_of (found_of matches.now)) }
+    requires store { name.now ≡ codes "store" → HasStoring (rows_of (found_of matches.now)) }
     requires serve { name.now ≡ codes "serve" → HasServing (rows_of (found_of matches.now)) }
     ensures { result ≡ task_named name.now (rows_of (found_of matches.now)) }
 {
@@ -418,20 +514,18 @@ fn task_called<'a>(name: &str, matches: &ArgMatches<'a>) -> Option<Task>
         "dis" => Some(Task::Disassemble {
             has_slots: is_set(matches, "slots"),
         }),
-        "store" => Some(Task::Store {
-            port: read_number(matches, "port"),
-            verbose: is_set(matches, "verbose"),
-        }),
+        "store" => Some(Task::Store(read_storing(matches))),
         "serve" => Some(Task::Serve(read_serving(matches))),
         _ => None,
     }
 }
 
-/// What the arguments ask for, and the text of `--far`.
+/// What the arguments ask for, and the texts of `--far` and `--unix`.
 #[derive(Clone, Copy)]
 pub(crate) struct Asked<'a> {
     pub task: Task,
     pub far: Option<&'a str>,
+    pub unix: Option<&'a str>,
 }
 
 /// The matches of the arguments.
@@ -443,13 +537,14 @@ fn read_matches<'a, S: AsStr>(alloc: Global, arguments: &'a [S]) -> Result<ArgMa
     make_command(alloc)?.try_get_matches_from(arguments)
 }
 
-/// What the arguments ask for, with the text of `--far` where they have one.
+/// What the arguments ask for, with the texts of `--far` and `--unix` where they have them.
 pub(crate) fn read_asked<'a, S: AsStr>(
     alloc: Global,
     arguments: &'a [S],
 ) -> Result<Asked<'a>, Error>
     ensures ok { IfOk result (λ asked. (faults_of (map S.text arguments.entry.now) ≡ []) × (task_of (map S.text arguments.entry.now) ≡ Some asked.task)) }
     ensures far { IfOk result (λ asked. option_map (λ text. text.now) asked.far ≡ far_of (map S.text arguments.entry.now)) }
+    ensures unix { IfOk result (λ asked. option_map (λ text. text.now) asked.unix ≡ unix_of (map S.text arguments.entry.now)) }
     ensures err { IfErr result (HasKind (faults_of (map S.text arguments.entry.now))) }
 {
     let matches = read_matches(alloc, arguments)?;
@@ -462,6 +557,7 @@ pub(crate) fn read_asked<'a, S: AsStr>(
     Ok(Asked {
         task,
         far: inner.get_str("far"),
+        unix: inner.get_str("unix"),
     })
 }
 
@@ -482,6 +578,7 @@ pub fn asked_server<'a, S: AsStr>(
     ensures some { IfOk result (λ asked. IfSome asked (λ server. (faults_of (map S.text arguments.entry.now) ≡ [])
         × (task_of (map S.text arguments.entry.now) ≡ Some (server_task server)))) }
     ensures far { IfOk result (λ asked. IfSome asked (IsFarAs (map S.text arguments.entry.now))) }
+    ensures unix { IfOk result (λ asked. IfSome asked (IsUnixAs (map S.text arguments.entry.now))) }
     ensures none { IfOk result (λ asked. asked ≡ None → (server : Server) → faults_of (map S.text arguments.entry.now) ≡ []
         → task_of (map S.text arguments.entry.now) ≢ Some (server_task server)) }
 {
@@ -490,10 +587,10 @@ pub fn asked_server<'a, S: AsStr>(
         Err(error) if error.kind() == ErrorKind::OutOfMemory => return Err(AllocError),
         Err(_) => return Ok(None),
     };
-    let far = asked.far;
+    let (far, unix) = (asked.far, asked.unix);
     match asked.task {
-        Task::Store { port, verbose } => Ok(Some(Server::Store { port, verbose })),
-        Task::Serve(serving) => Ok(Some(Server::Serve { serving, far })),
+        Task::Store(storing) => Ok(Some(Server::Store(storing))),
+        Task::Serve(serving) => Ok(Some(Server::Serve { serving, far, unix })),
         _ => Ok(None),
     }
 }

@@ -9,11 +9,12 @@ ghost use Rattle.agent.specs.CommandLine.{faults_of, task_of};
 ghost use Rattle.agent.specs.DisLeaves.{DisLeaves};
 ghost use Rattle.agent.specs.Explained.{ReportsAsmOutcome};
 ghost use Rattle.agent.specs.ErrorShown.{Shows, ShowsError, ShowsHelp, ShowsOneOf, ShowsVersion, version_line};
+ghost use Rattle.agent.specs.LeavesUndone.{LeavesUndone};
 ghost use Rattle.agent.specs.Reports.{ReportsOutcome};
 ghost use Rattle.agent.specs.RunLeaves.{RunLeaves};
 ghost use Rattle.streams.specs.Streams.{ConsumesAtMost};
 
-use crate::arguments::{Task, VERSION, read_arguments};
+use crate::arguments::{Serving, Storing, Task, VERSION, read_arguments};
 use crate::assembly::{asm, check, dis};
 use crate::failure::{ExitStatus, Failure};
 use crate::reporting::{report, say};
@@ -125,6 +126,14 @@ pub fn tool<'a, S: AsStr, R: Read, W: Write, E: Write>(
         → task_of (map S.text arguments.entry.now) ≡ Some (Task.Disassemble has_slots)
         → IfSome (R.remaining reader.old) (λ input. ReportsOutcome (DisLeaves has_slots input (W.contents writer.old) (W.contents writer.new))
         (E.contents errors.old) (E.contents errors.new) result) }
+    ensures store { (storing : Storing) → faults_of (map S.text arguments.entry.now) ≡ []
+        → task_of (map S.text arguments.entry.now) ≡ Some (Task.Store storing)
+        → LeavesUndone (R.remaining reader.old) (R.remaining reader.new) (W.contents writer.old) (W.contents writer.new)
+        (E.contents errors.old) (E.contents errors.new) result }
+    ensures serve { (serving : Serving) → faults_of (map S.text arguments.entry.now) ≡ []
+        → task_of (map S.text arguments.entry.now) ≡ Some (Task.Serve serving)
+        → LeavesUndone (R.remaining reader.old) (R.remaining reader.new) (W.contents writer.old) (W.contents writer.new)
+        (E.contents errors.old) (E.contents errors.new) result }
     ensures consumed { (explains : Bool) → task_of (map S.text arguments.entry.now) ≡ Some (Task.Check explains)
         → ConsumesAtMost check_limit (R.remaining reader.old) (R.remaining reader.new) }
     ensures consumed_by_asm { (explains : Bool) → task_of (map S.text arguments.entry.now) ≡ Some (Task.Assemble explains)
@@ -143,7 +152,7 @@ pub fn tool<'a, S: AsStr, R: Read, W: Write, E: Write>(
         Ok(Task::Disassemble { has_slots }) => {
             report(dis(alloc, has_slots, reader, writer), errors).number()
         }
-        Ok(Task::Store { .. } | Task::Serve(_)) => ExitStatus::Done.number(),
+        Ok(Task::Store(_) | Task::Serve(_)) => report(Ok(()), errors).number(),
         Err(error) => show(alloc, error, writer, errors).number(),
     }
 }

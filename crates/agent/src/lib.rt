@@ -11,7 +11,7 @@ mod servers;
 mod theorems;
 
 pub use arguments::{
-    Server, Serving, Task, VERSION, asked_server, invalid_arguments, invalid_budgets,
+    Server, Serving, Storing, Task, VERSION, asked_server, invalid_arguments, invalid_budgets,
     right_arguments, right_arguments_name_a_task, right_budgets, right_flags, right_ports,
     right_services,
 };

@@ -1,8 +1,10 @@
 //! The servers: `store` and `serve`.
 
+mod ledger;
 mod moment;
 mod noted_stream;
 mod notes;
+mod pace;
 mod serving;
 mod storing;
 

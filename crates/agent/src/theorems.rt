@@ -29,6 +29,8 @@ pub fn one_legal_history()
     shared_objects::sorted_entries_run();
     shared_objects::one_lists_are_legal();
     shared_objects::legal_histories_run();
+    shared_objects::stamps_cover();
+    shared_objects::learnt_stands_before();
 }
 
 /// 5. When `serve` closes, one list explains every object and every machine.
@@ -48,4 +50,5 @@ pub fn replies_are_explained<K: TableName>()
     ship_service::answered_machines_are_seen::<K>();
     ship_service::steps_stand_above::<K>();
     ship_service::opened_machines_stay::<K>();
+    ship_service::seen_machines_are_granted::<K>();
 }

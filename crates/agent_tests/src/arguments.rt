@@ -77,9 +77,11 @@ const STORE_HEAD: &str = "Keep the objects of other agents
 Usage: bpfagent store [OPTIONS]
 
 Options:
-      --port <P>  The port to listen on, 0 to 65535, where 0 is any free one [default: 0]
-  -v, --verbose   Write what happens to standard error, a line each with the time
-  -h, --help      Print help
+      --port <P>        The port to listen on, 0 to 65535, where 0 is any free one [default: 0]
+      --idle <SECONDS>  The most seconds that a client may be idle, 0 to 86400, where 0 is for ever [default: 0]
+      --memory <BYTES>  The most bytes that are kept, 0 to 4294967295, where 0 is no bound [default: 0]
+  -v, --verbose         Write what happens to standard error, a line each with the time
+  -h, --help            Print help
 
 ";
 
@@ -89,10 +91,12 @@ Usage: bpfagent serve [OPTIONS]
 
 Options:
       --port <P>          The port to listen on, 0 to 65535, where 0 is any free one [default: 0]
+      --unix <PATH>       The socket file to listen at instead of a port; only its owner can connect
       --connections <N>   How many connections are taken in all, 1 to 8 [default: 1]
       --workers <W>       How many workers step machines, 0 to 16 [default: 2]
       --budget <N>        The most bytes of objects that are not far, 0 to 67108864 [default: 67108864]
       --sweep             Send away objects that nobody has used for a while
+      --keep <BYTES>      The most bytes of objects that are here while clients are served, 65536 to 67108864; those in use stay [default: 67108864]
       --far <HOST:PORT>   The server that keeps far objects, HOST an IP address; without it they stay in this process
       --far-timeout <MS>  The most milliseconds that connecting to the far server, a read or a write may take, 1 to 600000 [default: 5000]
   -v, --verbose           Write what happens to standard error, a line each with the time
@@ -142,6 +146,12 @@ const NO_PORT: &str = "error: invalid value '65536' for '--port <P>': 65536 is n
 For more information, try '--help'.
 ";
 
+const TOO_LONG: &str =
+    "error: invalid value '86401' for '--idle <SECONDS>': 86401 is not in 0..=86400
+
+For more information, try '--help'.
+";
+
 const NO_NUMBER: &str = "error: invalid value 'x' for '--budget <N>': invalid digit found in string
 
 For more information, try '--help'.
@@ -173,6 +183,7 @@ const INVALID: &[(&[&str], &str)] = &[
     (&["check", "--budget", "8"], OPTION),
     (&["run", "--budget", "67108865"], TOO_GREAT),
     (&["store", "--port", "65536"], NO_PORT),
+    (&["store", "--idle", "86401"], TOO_LONG),
     (&["run", "--budget", "x"], NO_NUMBER),
     (&["run", "--budget="], NO_TEXT),
     (&["run", "--budget"], NO_VALUE),

@@ -131,7 +131,8 @@ the port. It serves up to 64 clients at the same time, each from an empty store
 of its own, until standard input ends. One more finds its socket closed.
 'bpfagent serve --far 127.0.0.1:P' is such a client. A client that breaks the
 protocol is given up: standard error has 'client N: WHY', and the others are
-served.
+served. So is one that is idle for longer than --idle. A put that would keep
+more than --memory finds no room.
 
 Status 0: standard input has ended. Status 3: the port can't be had, a stream
 failed, or out of memory. Standard error says which.";
@@ -139,23 +140,34 @@ failed, or out of memory. Standard error says which.";
 /// What help says of `serve`.
 pub const SERVE_HELP: &str = "\
 First does the commands of standard input, as 'bpfagent run' does, and writes
-their replies. Then listens on 127.0.0.1, writes 'listening P' to standard
-output, where P is the port, and takes N connections in all. Each is a
-conversation of its own over the same objects and machines. Workers step the
-machines that are neither paused nor stopped. A mover takes objects away and
-brings them back. With --far they go to a server such as 'bpfagent store', to
-which the program connects before it reads anything.
+their replies. Then listens at the socket file of --unix, to which only its
+owner can connect, and writes 'listening PATH' to standard output. Without
+--unix it listens on 127.0.0.1, to which every user and every web page of the
+machine can connect, and writes 'listening P', where P is the port. It takes N
+connections in all. Each is a conversation of its own over the same objects and
+machines. Workers step the machines that are neither paused nor stopped. A
+mover takes objects away and brings them back. With --far they go to a server
+such as 'bpfagent store', to which the program connects before it reads
+anything. A server that answers nothing, or has no room for another client, is
+a net fault.
+
+With --keep the mover sends objects away that nobody has used lately, before
+another comes back that would go past the bound. If those in use have more, it
+goes below the bound as soon as they allow it. Without --far objects go to
+memory of this process, so that --keep bounds nothing but what is here.
 
 In a conversation 'make', 'free', 'left' and 'returned' are answered
 'unserved'. 'leave n' and 'return n' ask the mover, and are answered 'asked n'.
 
 When all connections have ended, it writes 'closed', a line for each object,
-and the 'regs' line of each machine.
+and the 'regs' line of each machine. The socket file is removed then. One that
+a killed service left is removed at the start; one at which somebody listens is
+a net fault.
 
 Example:
-  printf 'make 8\\n' | bpfagent serve --port 7070 --connections 1
+  printf 'make 8\\n' | bpfagent serve --unix agent.sock
 
 Status 0: all connections have ended. Status 1: an object is on its way or far
 when standard input ends; standard error has \"object N isn't here\". Status 3:
-the far server can't be reached, the port can't be had, a stream failed, or out
-of memory. Standard error says which.";
+the far server can't be reached, the port or the socket file can't be had, a
+stream failed, or out of memory. Standard error says which.";

@@ -56,20 +56,20 @@ fn main(rt: HostRuntime) -> ExitCode {
         _ => None,
     };
     let status = match asked {
-        Ok(Some(Server::Store { port, verbose })) => run_store(
+        Ok(Some(Server::Store(storing))) => run_store(
             &rt,
             rt.alloc(),
-            port,
-            verbose,
+            storing,
             rt.stdin(),
             &mut rt.stdout(),
             &mut errors,
         ),
-        Ok(Some(Server::Serve { serving, far })) => run_service(
+        Ok(Some(Server::Serve { serving, far, unix })) => run_service(
             &rt,
             rt.alloc(),
             serving,
             far,
+            unix,
             &mut rt.stdin(),
             &mut rt.stdout(),
             &mut errors,

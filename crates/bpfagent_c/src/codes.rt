@@ -1,5 +1,7 @@
 //! Replies, places and stops as the numbers that the header names.
-ghost use Rattle.std.specs.Prelude.{◌≡◌, ◌≢◌, ℕ, Some};
+ghost use Rattle.std.specs.Prelude.{◌≡◌, ◌≢◌, ℕ, Some, IfSome, IfNone};
+ghost use Rattle.debugger.specs.declared.shown.State.{State};
+ghost use Rattle.machine.specs.declared.state.Stop.{Stop};
 ghost use Rattle.object_store.specs.declared.errors.GetError.{GetError};
 ghost use Rattle.world.specs.Answers.{refused_get, reply_to_move};
 ghost use Rattle.world.specs.Machines.{refused_stack};
@@ -215,6 +217,49 @@ pub(crate) fn stop_of_state(state: State) -> u32
     match state {
         State::Stopped(stop) => code_of_stop(stop),
         _ => 0,
+    }
+}
+
+/// The stop of a number. An exit's value isn't in its number, and is 0 here.
+fn stop_numbered(number: u32) -> Option<Stop>
+    ensures some { IfSome result (λ stop. code_of_stop stop ≡ number) }
+    ensures none { IfNone result ((stop : Stop) → code_of_stop stop ≢ number) }
+{
+    const EXIT: u32 = StopCode::Exit as u32;
+    const OUTSIDE: u32 = StopCode::Outside as u32;
+    const MISALIGNED: u32 = StopCode::Misaligned as u32;
+    const DEPTH: u32 = StopCode::Depth as u32;
+    const SPENT: u32 = StopCode::Spent as u32;
+    const WORN: u32 = StopCode::Worn as u32;
+    const NOT_GRANTED: u32 = StopCode::NotGranted as u32;
+    match number {
+        EXIT => Some(Stop::Exit(0)),
+        OUTSIDE => Some(Stop::Outside),
+        MISALIGNED => Some(Stop::Misaligned),
+        DEPTH => Some(Stop::Depth),
+        SPENT => Some(Stop::Spent),
+        WORN => Some(Stop::Worn),
+        NOT_GRANTED => Some(Stop::NotGranted),
+        _ => None,
+    }
+}
+
+/// The state of its number and of its stop's, which is 0 for a machine that isn't stopped.
+pub(crate) fn state_numbered(state: u32, stop: u32) -> Option<State>
+    ensures some { IfSome result (λ found. (code_of_state found ≡ state) × (stop_of_state found ≡ stop)) }
+    ensures none { IfNone result ((one : State) → code_of_state one ≡ state → stop_of_state one ≢ stop) }
+{
+    const RUNNING: u32 = StateCode::Running as u32;
+    const PAUSED: u32 = StateCode::Paused as u32;
+    const STOPPED: u32 = StateCode::Stopped as u32;
+    match (state, stop) {
+        (RUNNING, 0) => Some(State::Running),
+        (PAUSED, 0) => Some(State::Paused),
+        (STOPPED, _) => match stop_numbered(stop) {
+            Some(found) => Some(State::Stopped(found)),
+            None => None,
+        },
+        _ => None,
     }
 }
 

@@ -9,6 +9,7 @@ mod handle;
 mod life;
 mod loose;
 mod machines;
+mod names;
 mod objects;
 mod places;
 mod shown;

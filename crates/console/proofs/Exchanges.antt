@@ -5,8 +5,8 @@ use Rattle.std.proofs.lemmas.List.{take_all}
 use Rattle.std.proofs.lemmas.List.Concat.{flat_map-append}
 use Rattle.std.proofs.lemmas.List.Elements.{All-append, All-nil, All-cons}
 use Rattle.std.proofs.Math.Seq.{take-append-add}
-use Rattle.std.proofs.KnownBytes.{Appends-nil, Appends-trans}
-use Rattle.std.specs.Io.KnownBytes.{Appends}
+use Rattle.std.proofs.KnownBytes.{Appends-kept, Appends-nil, Appends-trans}
+use Rattle.std.specs.Io.KnownBytes.{Appends, Keeps}
 use Rattle.world.proofs.Joined.{Runs-append}
 use Rattle.console.specs.Lines.{IsLine, ended}
 use Rattle.console.specs.Held.{Held, clip, nothing_held, bytes_so_far, TakesBytes}
@@ -62,6 +62,18 @@ module _ (p : Protocol) where
     so_far = exchange_join a b c i x.output x.rest j y.output y.rest x.so_far y.so_far;
     is_open = y.is_open;
     holds = y.holds;
+  }
+
+  -- what is known stays as it was
+  pub answers_kept : (a b : p.State) (i : List ℕ) (u v w : Option (List ℕ)) (h : Held) → AnswersSoFar p a i u v b h → Keeps v w
+      → AnswersSoFar p a i u w b h
+  answers_kept a b i u v w h x k = record {
+    output = x.output;
+    rest = x.rest;
+    appended = Appends-kept u v w x.output x.appended k;
+    so_far = x.so_far;
+    is_open = x.is_open;
+    holds = x.holds;
   }
 
   pub fails_join : (ahead : List ℕ) (a b c : p.State) (i j : List ℕ) (u v w : Option (List ℕ)) (h : Held) (x : AnswersSoFar p a i u v b h)

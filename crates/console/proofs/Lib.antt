@@ -7,3 +7,4 @@ pub mod Clips
 pub mod Exchanges
 pub mod Endings
 pub mod CallsMade
+mod Gathers

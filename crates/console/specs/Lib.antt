@@ -8,3 +8,4 @@ pub mod Held
 pub mod Conversations
 pub mod Agent
 pub mod StreamCalls
+pub mod Gathered

@@ -9,10 +9,12 @@ ghost use Rattle.console.specs.Conversations.{Answered, AnswersSoFar, AnswersAll
 ghost use Rattle.console.specs.StreamCalls.{StreamCall, StreamCalls, EndsCalls, line_ends, lines_waiting};
 ghost use Rattle.console.specs.StreamCalls.StreamCall.{LineWritten, LineBroken};
 ghost use Rattle.console.specs.Agent.{agent};
+ghost use Rattle.console.specs.Gathered.{StopsShort};
 
 use crate::answerer::Answerer;
 use crate::console::Console;
 use crate::fault::{DriveFault, LineFault};
+use crate::gathering::Gathering;
 use crate::link::{Link, StdLink};
 use crate::replies::{ReplyLine, print_fault};
 use far_store::FarStore;
@@ -42,7 +44,7 @@ fn perform<C, A: Answerer<C>>(
 
 /// Answers the line that waits, if one does.
 fn answer_waiting<C, A: Answerer<C>, R, W, L: Link<R, W>>(
-    link: &L,
+    link: &mut L,
     reader: &R,
     writer: &mut W,
     console: &mut Console,
@@ -51,10 +53,10 @@ fn answer_waiting<C, A: Answerer<C>, R, W, L: Link<R, W>>(
     reply: &mut ReplyLine,
 ) -> Result<(), WriteFault>
     ensures ok { OnOk result ((line : List ℕ) → IsLine line → console.old.line ≡ clip line →
-        AnswersSoFar A.protocol (A.state answerer.old) (bytes_so_far line console.old.waits) (L.contents writer.old) (L.contents writer.new)
+        AnswersSoFar A.protocol (A.state answerer.old) (bytes_so_far line console.old.waits) (L.contents link.old writer.old) (L.contents link.new writer.new)
         (A.state answerer.new) console.new) }
     ensures err { OnErr result ((line : List ℕ) → IsLine line → console.old.line ≡ clip line →
-        FailsInReply A.protocol [] (A.state answerer.old) (bytes_so_far line console.old.waits) (L.contents writer.old) (L.contents writer.new)
+        FailsInReply A.protocol [] (A.state answerer.old) (bytes_so_far line console.old.waits) (L.contents link.old writer.old) (L.contents link.new writer.new)
         (A.state answerer.new)) }
     ensures open { OnOk result (IsFalse console.new.waits) }
     ensures dropped { OnErr result (console.new ≡ nothing_held) }
@@ -74,7 +76,7 @@ fn answer_waiting<C, A: Answerer<C>, R, W, L: Link<R, W>>(
 /// Answers what is said in this piece of the input.
 fn answer_piece<C, A: Answerer<C>, R, W, L: Link<R, W>>(
     piece: &[u8],
-    link: &L,
+    link: &mut L,
     reader: &R,
     writer: &mut W,
     console: &mut Console,
@@ -84,9 +86,9 @@ fn answer_piece<C, A: Answerer<C>, R, W, L: Link<R, W>>(
 ) -> Result<(), WriteFault>
     requires { IsFalse console.old.waits }
     ensures ok { OnOk result ((line : List ℕ) → IsLine line → console.old.line ≡ clip line →
-        AnswersSoFar A.protocol (A.state answerer.old) (line ++ piece.now) (L.contents writer.old) (L.contents writer.new) (A.state answerer.new) console.new) }
+        AnswersSoFar A.protocol (A.state answerer.old) (line ++ piece.now) (L.contents link.old writer.old) (L.contents link.new writer.new) (A.state answerer.new) console.new) }
     ensures err { OnErr result ((line : List ℕ) → IsLine line → console.old.line ≡ clip line → (ahead : List ℕ) × (length ahead < length piece.now)
-        × FailsInReply A.protocol ahead (A.state answerer.old) (line ++ piece.now) (L.contents writer.old) (L.contents writer.new) (A.state answerer.new)) }
+        × FailsInReply A.protocol ahead (A.state answerer.old) (line ++ piece.now) (L.contents link.old writer.old) (L.contents link.new writer.new) (A.state answerer.new)) }
     ensures dropped { OnErr result (console.new ≡ nothing_held) }
     ensures calls { OnOk result ((replies : List (List ℕ)) × (length replies ≡ line_ends piece.now)
         × StreamCalls L.called reader.now writer.old (map LineWritten replies) reader.now writer.new) }
@@ -117,7 +119,7 @@ fn answer_piece<C, A: Answerer<C>, R, W, L: Link<R, W>>(
 /// `DriveFault::Read` comes only after a read that failed, or after 2^64 - 1 reads that gave bytes,
 /// and `DriveFault::Write` only after a line that could not be written whole.
 pub fn converse_over<C, A: Answerer<C>, R, W, L: Link<R, W>>(
-    link: &L,
+    link: &mut L,
     reader: &mut R,
     writer: &mut W,
     console: &mut Console,
@@ -125,13 +127,13 @@ pub fn converse_over<C, A: Answerer<C>, R, W, L: Link<R, W>>(
     answerer: &mut A,
 ) -> Result<(), DriveFault>
     ensures ok { OnOk result (IfSome (L.remaining reader.old) (λ input.
-        AnswersAll A.protocol (A.state answerer.old) (held_bytes console.old ++ input) (L.contents writer.old) (L.contents writer.new)
+        AnswersAll A.protocol (A.state answerer.old) (held_bytes console.old ++ input) (L.contents link.old writer.old) (L.contents link.new writer.new)
         (A.state answerer.new))) }
     ensures read { IsErrOf result DriveFault.Read → IfSome (L.remaining reader.old) (λ input.
-        StopsReading A.protocol (A.state answerer.old) (held_bytes console.old ++ input) (L.contents writer.old) (L.contents writer.new)
+        StopsReading A.protocol (A.state answerer.old) (held_bytes console.old ++ input) (L.contents link.old writer.old) (L.contents link.new writer.new)
         (A.state answerer.new) console.new (L.remaining reader.new)) }
     ensures write { IsErrOf result DriveFault.Write → IfSome (L.remaining reader.old) (λ input.
-        StopsWriting A.protocol (A.state answerer.old) (held_bytes console.old ++ input) (L.contents writer.old) (L.contents writer.new) (A.state answerer.new)
+        StopsWriting A.protocol (A.state answerer.old) (held_bytes console.old ++ input) (L.contents link.old writer.old) (L.contents link.new writer.new) (A.state answerer.new)
         (L.remaining reader.new)) }
     ensures emptied { OnOk result (console.new ≡ nothing_held) }
     ensures dropped { IsErrOf result DriveFault.Write → console.new ≡ nothing_held }
@@ -188,7 +190,37 @@ pub fn converse<C, A: Answerer<C>, R: Read, W: Write>(
     ensures emptied { OnOk result (console.new ≡ nothing_held) }
     ensures dropped { IsErrOf result DriveFault.Write → console.new ≡ nothing_held }
 {
-    converse_over(&StdLink, reader, writer, console, shared, answerer)
+    converse_over(&mut StdLink, reader, writer, console, shared, answerer)
+}
+
+/// Answers each line of the input, as [`converse_over`] says, but replies to lines that came together are written together: before
+/// more is read, and where there is no room for the next. Where a write fails, the bytes written are a beginning of the replies.
+pub fn converse_gathering<C, A: Answerer<C>, R: Read, W: Write>(
+    reader: &mut R,
+    writer: &mut W,
+    console: &mut Console,
+    shared: &C,
+    answerer: &mut A,
+) -> Result<(), DriveFault>
+    ensures ok { OnOk result (IfSome (R.remaining reader.old) (λ input.
+        AnswersAll A.protocol (A.state answerer.old) (held_bytes console.old ++ input) (W.contents writer.old) (W.contents writer.new)
+        (A.state answerer.new))) }
+    ensures read { IsErrOf result DriveFault.Read → IfSome (R.remaining reader.old) (λ input.
+        StopsReading A.protocol (A.state answerer.old) (held_bytes console.old ++ input) (W.contents writer.old) (W.contents writer.new)
+        (A.state answerer.new) console.new (R.remaining reader.new)) }
+    ensures write { IsErrOf result DriveFault.Write → IfSome (R.remaining reader.old) (λ input. IfSome (W.contents writer.old) (λ before.
+        StopsShort A.protocol (A.state answerer.old) (held_bytes console.old ++ input) before (W.contents writer.new) (A.state answerer.new)
+        (R.remaining reader.new))) }
+    ensures emptied { OnOk result (console.new ≡ nothing_held) }
+    ensures dropped { IsErrOf result DriveFault.Write → console.new ≡ nothing_held }
+{
+    let mut gathering = Gathering::new();
+    let outcome = converse_over(&mut gathering, reader, writer, console, shared, answerer);
+    let Ok(()) = gathering.finish(writer, outcome.is_err()) else {
+        console.clear();
+        return Err(DriveFault::Write);
+    };
+    outcome
 }
 
 /// Answers each line of the input by one world, as [`converse_over`] says.

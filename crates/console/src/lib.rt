@@ -7,6 +7,7 @@ mod console;
 mod conversation;
 mod digits;
 mod fault;
+mod gathering;
 mod kind;
 mod laws;
 mod link;
@@ -16,8 +17,12 @@ mod tokens;
 
 pub use answerer::Answerer;
 pub use console::Console;
-pub use conversation::{converse, converse_over, drive};
+pub use conversation::{converse, converse_gathering, converse_over, drive};
 pub use fault::{DriveFault, LineFault};
+pub use gathering::Gathering;
 pub use laws::{conversations_are_plain, one_command};
 pub use link::{Link, StdLink};
-pub use replies::{REPLY_LIMIT, ReplyLine, print_bytes, print_fault, print_reply, put_named};
+pub use replies::{
+    REPLY_LIMIT, ReplyLine, name_of_place, name_of_state, print_bytes, print_fault, print_reply,
+    put_named,
+};

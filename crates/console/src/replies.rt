@@ -134,18 +134,26 @@ fn put_stop(line: &mut ReplyLine, stop: Stop)
     }
 }
 
-/// Adds whether a machine runs or is paused, or the name of its stop.
+/// The name of a state, as `regs` shows it: that of its stop if the machine is stopped.
+pub fn name_of_state(state: State) -> &'static [u8]
+    ensures name { result.now ≡ state_name state }
+    ensures short { length result.now ≤ 10 }
+{
+    match state {
+        State::Running => b"run",
+        State::Paused => b"paused",
+        State::Stopped(stop) => name_of_stop(stop),
+    }
+}
+
+/// Adds the name of a state.
 fn put_state(line: &mut ReplyLine, state: State)
     requires { array_vec_len line.old + 11 ≤ REPLY_LIMIT }
     ensures text { line.new.items ≡ line.old.items ++ codes " " ++ state_name state }
     ensures short { array_vec_len line.new ≤ array_vec_len line.old + 11 }
 {
     line.put(b" ");
-    match state {
-        State::Running => line.put(b"run"),
-        State::Paused => line.put(b"paused"),
-        State::Stopped(stop) => line.put(name_of_stop(stop)),
-    }
+    line.put(name_of_state(state));
 }
 
 /// Adds what is shown of a machine.
@@ -161,7 +169,7 @@ fn put_shown(line: &mut ReplyLine, shown: &Shown)
 }
 
 /// The name of a place.
-fn name_of_place(place: Place) -> &'static [u8]
+pub fn name_of_place(place: Place) -> &'static [u8]
     ensures name { result.now ≡ place_name place }
     ensures short { length result.now ≤ 9 }
 {

@@ -7,6 +7,8 @@ mod compared;
 #[cfg(test)]
 mod faults;
 #[cfg(test)]
+mod gathered;
+#[cfg(test)]
 mod lines;
 #[cfg(test)]
 mod pieces;

@@ -13,7 +13,7 @@ use crate::replies::Debugged;
 use crate::watch::Watch;
 use arrayvec::ArrayVec;
 use loader::Program;
-use machine::Written;
+use machine::{Written, has_slot};
 use std::marker::Model;
 use std::mem;
 
@@ -236,17 +236,6 @@ fn begins(program: &Program, slot: usize) -> bool
         Some(_) => true,
         None => false,
     }
-}
-
-fn has_slot(slots: &[usize], slot: usize) -> bool
-    ensures { result ≡ list_any (nat_eq slot) slots.now }
-{
-    for s in slots {
-        if slot == *s {
-            return true;
-        }
-    }
-    false
 }
 
 fn has_range(watches: &[Watch], watch: &Watch) -> bool

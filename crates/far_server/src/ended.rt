@@ -4,7 +4,7 @@ ghost use Rattle.far_stream.specs.Conversations.{Converses};
 ghost use Rattle.far_server.specs.Told.{TellsEnd};
 
 use crate::texts::tell;
-use far_stream::{StreamFault, serve_store};
+use far_stream::{Budget, StreamFault, serve_store_within};
 use std::alloc::Global;
 use std::io::{Read, Write};
 
@@ -16,12 +16,17 @@ pub(crate) struct ClientEnd {
 }
 
 impl ClientEnd {
-    /// Serves the client of this number to its end, from a store that is empty at first.
-    pub fn of_client<S: Read + Write>(alloc: Global, client: u64, stream: &mut S) -> ClientEnd
+    /// Serves the client of this number to its end, from a store that is empty at first, within this budget.
+    pub fn of_client<S: Read + Write>(
+        alloc: Global,
+        client: u64,
+        stream: &mut S,
+        budget: &Budget,
+    ) -> ClientEnd
         ensures client { result.client ≡ client }
         ensures served { Converses S.remaining S.contents stream.old result.outcome stream.new }
     {
-        let outcome = serve_store(alloc, stream);
+        let outcome = serve_store_within(alloc, stream, budget);
         ClientEnd { client, outcome }
     }
 

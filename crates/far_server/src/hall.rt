@@ -1,9 +1,12 @@
 //! The clients that are there.
 
+use crate::limits::Limits;
+use far_stream::Budget;
 use listener::Bell;
 use std::alloc::{AllocError, Global};
 use std::net::{Shutdown, TcpStream};
 use std::sync::{Mutex, Wait};
+use std::time::Duration;
 
 /// How many clients are served at the same time: this project's choice.
 pub const CLIENT_LIMIT: usize = 64;
@@ -39,11 +42,13 @@ pub(crate) enum Admission {
 pub(crate) struct Hall {
     room: Mutex<Room>,
     bell: Bell,
+    idle: Option<Duration>,
+    budget: Budget,
 }
 
 impl Hall {
     /// A hall that is open and empty, and the bell of its listener. All the memory that it needs is taken here.
-    pub fn new(alloc: Global, bell: Bell) -> Result<Hall, AllocError> {
+    pub fn new(alloc: Global, bell: Bell, limits: Limits) -> Result<Hall, AllocError> {
         let guests = Vec::with_capacity(alloc, CLIENT_LIMIT)?;
         Ok(Hall {
             room: Mutex::new(Room {
@@ -52,7 +57,25 @@ impl Hall {
                 guests,
             }),
             bell,
+            idle: limits.idle,
+            budget: match limits.memory {
+                Some(limit) => Budget::new(limit),
+                None => Budget::unlimited(),
+            },
         })
+    }
+
+    /// What all clients share of the bytes that are kept.
+    pub fn budget(&self) -> &Budget {
+        &self.budget
+    }
+
+    /// Has a client's stream fail when the client has been idle for too long.
+    pub fn bound(&self, stream: &TcpStream) {
+        if self.idle.is_some() {
+            let _ = stream.set_read_timeout(self.idle);
+            let _ = stream.set_write_timeout(self.idle);
+        }
     }
 
     /// What ends the wait for the next client.

@@ -8,6 +8,7 @@ ghost use Rattle.far_server.specs.Told.{Tells};
 use crate::ended::ClientEnd;
 use crate::fault::ServerFault;
 use crate::journal::Journal;
+use crate::limits::Limits;
 use crate::threads::Server;
 use crossbeam_channel::Receiver;
 use listener::{Bell, announce, bind};
@@ -55,7 +56,7 @@ fn tell_all<R: Wait, E: Write>(rt: &R, ends: &Receiver<ClientEnd, Global>, error
 /// that is empty at first. One more finds its socket closed. Who is served when the input ends is cut off. A client that can't be
 /// accepted for now, for want of descriptors or memory, waits in the system's queue, and
 /// [`accept_or_rest`](listener::accept_or_rest) says when it is tried again. Only a listener that is broken ends the server before
-/// its input does.
+/// its input does. A client that goes beyond the limits is given up, or finds no room.
 ///
 /// Why a client was given up is told on `errors`, in the order in which they end, by its number: clients are numbered from 1
 /// as they are let in. What a client sends and is sent is `serve_store`'s; of a socket's bytes no clause can speak.
@@ -67,6 +68,7 @@ pub fn run_server<R, I, W: Write, E: Write, J>(
     input: I,
     writer: &mut W,
     errors: &mut E,
+    limits: Limits,
     journal: J,
 ) -> Result<(), ServerFault>
 where
@@ -89,7 +91,7 @@ where
             return Err(ServerFault::Net);
         }
     };
-    let Ok(server) = Server::start(*rt, alloc, listener, bell, journal) else {
+    let Ok(server) = Server::start(*rt, alloc, listener, bell, limits, journal) else {
         return Err(ServerFault::NoMemory);
     };
     let Ok(watcher) = server.end_with(*rt, input) else {

@@ -5,6 +5,7 @@ ghost use Rattle.std.specs.Io.KnownBytes.{IsAtEnd};
 use crate::ended::ClientEnd;
 use crate::hall::{Admission, Hall};
 use crate::journal::{Journal, Refusal};
+use crate::limits::Limits;
 use crossbeam_channel::{Receiver, Sender, bounded};
 use listener::{Bell, accept_or_rest};
 use std::alloc::{AllocError, Global};
@@ -66,7 +67,8 @@ impl<'a, R: Wait, J: Journal> listener::Journal for Tools<'a, R, J> {
 /// Serves a client, and hands on how that ended, unless it was cut off by the end of the input.
 fn serve_client<R: Wait, J: Journal>(tools: &Tools<R, J>, client: u64, stream: TcpStream) {
     let mut stream = stream;
-    let ended = ClientEnd::of_client(tools.alloc, client, &mut stream);
+    tools.hall.bound(&stream);
+    let ended = ClientEnd::of_client(tools.alloc, client, &mut stream, tools.hall.budget());
     tools.journal.went(client, ended.outcome());
     if tools.hall.is_open(tools.rt) {
         let _ = tools.ends.send(tools.rt, ended);
@@ -165,13 +167,14 @@ impl Server {
         alloc: Global,
         listener: TcpListener,
         bell: Bell,
+        limits: Limits,
         journal: J,
     ) -> Result<Server, AllocError>
     where
         R: Threads + Wait + Sync + Copy + Send + 'static,
         J: Journal + Copy + Sync + Send + 'static,
     {
-        let hall = Arc::new(alloc, Hall::new(alloc, bell)?)?;
+        let hall = Arc::new(alloc, Hall::new(alloc, bell, limits)?)?;
         let theirs = Arc::try_clone(&hall)?;
         let (sender, ends) = bounded(alloc, UNTOLD_LIMIT)?;
         let host = thread::spawn(&rt, move || {

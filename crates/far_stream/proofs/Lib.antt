@@ -3,3 +3,4 @@ pub mod Filling
 pub mod Parcels
 pub mod Serving
 pub mod Calling
+pub mod Deferred

@@ -9,6 +9,7 @@ use Rattle.far_store.specs.Stores.{capped}
 use Rattle.far_store.specs.declared.fault.StoreFault.{StoreFault}
 use Rattle.far_store.specs.declared.fault.StoreFault.TheVariants.{Io, Damaged, Protocol, Memory, Refused}
 use Rattle.far_stream.specs.Frames.{head, frame, payload_limit, put_kind, get_kind, forget_kind}
+use Rattle.far_stream.specs.Refusals.{MemoryIsRefused}
 use Rattle.far_stream.specs.Sent.{Sent}
 use Rattle.far_stream.specs.Hearing.{PutHears, GetHears, ForgetHears}
 
@@ -52,10 +53,10 @@ UnlessBroken old result new talks = MatchOption old.broken talks (λ fault. (res
 abbrev pub IsSendable : ℕ → List ℕ → Type 0
 IsSendable puts bytes = (0 < length bytes) × (length bytes ≤ payload_limit) × (puts < 2 ^ 64 - 1)
 
--- a put that writes nothing: no frame carries the bytes, all numbers are used up, or the frame found no memory
+-- a put that writes nothing: no frame carries the bytes, all numbers are used up, or memory for the frame was refused
 abbrev pub Unsent : {S : Type 0} → Client S → List ℕ → Result ⊤ StoreFault → Client S → Type 0
 Unsent old bytes result new = (new.stream ≡ old.stream) × (new.puts ≡ old.puts)
-    × (((IsSendable old.puts bytes → ⊥) × (result ≡ Err Refused)) ⊎ (IsSendable old.puts bytes × (result ≡ Err Memory)))
+    × (((IsSendable old.puts bytes → ⊥) × (result ≡ Err Refused)) ⊎ (IsSendable old.puts bytes × (result ≡ Err Memory) × MemoryIsRefused))
 
 -- what a put writes and hears
 abbrev pub AsksToPut : {S : Type 0} → (S → Option (List ℕ)) → (S → Option (List ℕ)) → Client S → List ℕ → Result ⊤ StoreFault → Client S → Type 0

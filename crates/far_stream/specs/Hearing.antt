@@ -6,6 +6,7 @@ use Rattle.streams.specs.Streams.{ConsumesFewer}
 use Rattle.far_store.specs.declared.fault.StoreFault.{StoreFault}
 use Rattle.far_store.specs.declared.fault.StoreFault.TheVariants.{Io, Damaged, Protocol, Memory, Refused}
 use Rattle.far_stream.specs.Frames.{head, frame, head_length, IsHead, payload_limit, done, refused_id, no_room}
+use Rattle.far_stream.specs.Refusals.{MemoryIsRefused}
 use Rattle.far_stream.specs.Sent.{Sent}
 
 -- the result of a call, with what `view` shows of its value in place of the value
@@ -65,6 +66,7 @@ GetHears sent before after (Ok bytes) = Consumes before after (frame done sent.i
 GetHears sent before after (Err Damaged) = (bytes : List ℕ) × Consumes before after (frame done sent.id bytes)
     × (length bytes ≤ payload_limit) × IsDamaged sent.bytes bytes
 GetHears sent before after (Err Memory) = (bytes : List ℕ) × Consumes before after (frame done sent.id bytes) × (length bytes ≡ length sent.bytes)
+    × MemoryIsRefused
 GetHears sent before after (Err Refused) = HearsRefusal sent.id before after
 GetHears sent before after (Err Protocol) = HearsOther sent.id payload_limit before after
 GetHears sent before after (Err Io) = ConsumesFewer head_length before after

@@ -5,6 +5,8 @@ pub mod Serving
 pub mod Sent
 pub mod Hearing
 pub mod Client
+pub mod Deferring
 pub mod Server
 pub mod Conversations
 pub mod Payloads
+pub mod Refusals

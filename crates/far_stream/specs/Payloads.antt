@@ -3,6 +3,7 @@ use Rattle.std.specs.Prelude.{ℕ, ◌<◌, List, length, Option}
 use Rattle.std.specs.Io.KnownBytes.{Consumes, IsAtEnd}
 use Rattle.streams.specs.Streams.{ConsumesCounted, ConsumesFewer}
 use Rattle.far_stream.specs.Frames.{head_length}
+use Rattle.far_stream.specs.Refusals.{MemoryIsRefused}
 use Rattle.far_stream.specs.declared.fault.Cut.{Cut}
 use Rattle.far_stream.specs.declared.fault.Cut.TheVariants.{Failed, Ended}
 use Rattle.far_stream.specs.declared.fault.PayloadFault.{PayloadFault}
@@ -21,4 +22,4 @@ CutsOffWithin Ended before after = (bytes : List ℕ) × (0 < length bytes) × (
 -- a payload didn't come, or came and found no memory
 abbrev pub LosesPayload : PayloadFault → ℕ → Option (List ℕ) → Option (List ℕ) → Type 0
 LosesPayload (CutOff cut) due before after = CutsOff cut due before after
-LosesPayload NoMemory due before after = ConsumesCounted due before after
+LosesPayload NoMemory due before after = ConsumesCounted due before after × MemoryIsRefused

@@ -1,6 +1,7 @@
 -- A server: what it keeps, and how it answers.
-use Rattle.std.specs.Prelude.{◌≡◌, ◌<◌, ◌≤◌, ℕ, ◌^◌, nat_eq, if◌then◌else◌, List, [], ◌∷◌, ◌++◌, length, Option, None, Some, IsSome}
+use Rattle.std.specs.Prelude.{◌≡◌, ◌<◌, ◌≤◌, ℕ, ◌^◌, nat_eq, if◌then◌else◌, ◌⊎◌, List, [], ◌∷◌, ◌++◌, length, Option, None, Some, IsSome}
 use Rattle.far_stream.specs.Frames.{head, frame, payload_limit, put_kind, get_kind, forget_kind, done, refused_id, no_room}
+use Rattle.far_stream.specs.Refusals.{MemoryIsRefused}
 use Rattle.far_stream.specs.Sent.{Sent}
 
 -- what a client asks
@@ -53,11 +54,11 @@ without id (sent ∷ kept) = if nat_eq sent.id id then kept else sent ∷ withou
 abbrev pub kept_limit : ℕ
 kept_limit = 1024
 
--- From what is kept, a request may have this answer and leave this kept. Where an id is free a put may find no memory, and then there is no room.
+-- From what is kept, a request may have this answer and leave this kept. There is no room for a put where as many are kept as may be, or memory is refused.
 abbrev pub Serves : List Sent → Request → Answer → List Sent → Type 0
 Serves kept (Put id bytes) (Done []) after = (kept_under id kept ≡ None) × (length kept < kept_limit) × (after ≡ kept ++ record { id = id; bytes = bytes } ∷ [])
 Serves kept (Put id bytes) RefusedId after = IsSome (kept_under id kept) × (after ≡ kept)
-Serves kept (Put id bytes) NoRoom after = (kept_under id kept ≡ None) × (after ≡ kept)
+Serves kept (Put id bytes) NoRoom after = (kept_under id kept ≡ None) × (after ≡ kept) × ((kept_limit ≤ length kept) ⊎ MemoryIsRefused)
 Serves kept (Get id) (Done bytes) after = (kept_under id kept ≡ Some bytes) × (after ≡ kept)
 Serves kept (Get id) RefusedId after = (kept_under id kept ≡ None) × (after ≡ kept)
 Serves kept (Forget id) (Done []) after = IsSome (kept_under id kept) × (after ≡ without id kept)

@@ -1,6 +1,6 @@
 //! Answers, as the client hears them.
 ghost use Rattle.std.specs.Prelude.{Result};
-ghost use Rattle.far_stream.specs.Hearing.{ForgetHears, GetHears, HearsHead, seen};
+ghost use Rattle.far_stream.specs.Hearing.{ForgetHears, GetHears, HearsHead, PutHears, seen};
 
 use crate::fault::PayloadFault;
 use crate::frame::{Head, PAYLOAD_LIMIT, Status};
@@ -25,6 +25,16 @@ pub(crate) fn read_answer<R: Read>(reader: &mut R, id: u64, most: u32) -> Result
         return Err(StoreFault::Refused);
     }
     Ok(head.count)
+}
+
+/// Reads the answer to a put.
+pub(crate) fn read_kept<R: Read>(reader: &mut R, id: u64) -> Result<(), StoreFault>
+    ensures { PutHears id (R.remaining reader.old) (R.remaining reader.new) result }
+{
+    match read_answer(reader, id, 0) {
+        Ok(_) => Ok(()),
+        Err(fault) => Err(fault),
+    }
 }
 
 /// Reads the answer to a forget. Whether the server had the id is no matter.

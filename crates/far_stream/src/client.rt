@@ -3,9 +3,12 @@ ghost use Rattle.std.specs.Prelude.{◌≡◌, ◌≤◌, ℕ, ◌+◌, length, 
 ghost use Rattle.far_stream.specs.Hearing.{seen};
 ghost use Rattle.far_store.specs.Stores.{Rises, capped};
 
-use crate::answers::{read_answer, read_bytes, read_forgotten};
+mod deferring;
+
+use crate::answers::{read_bytes, read_forgotten, read_kept};
 use crate::frame::{FrameKind, Head, PAYLOAD_LIMIT, lay_out};
 use crate::parcel::StreamParcel;
+pub use deferring::DeferringStore;
 use far_store::{FarStore, StoreFault};
 use std::alloc::Global;
 use std::io::{Read, Write};
@@ -110,7 +113,7 @@ impl<S: Read + Write + Drop> StreamStore<S> {
         }
         // the server works meanwhile
         let parcel = StreamParcel::new(self.puts, bytes);
-        read_answer(&mut self.stream, parcel.id(), 0)?;
+        read_kept(&mut self.stream, parcel.id())?;
         Ok(parcel)
     }
 

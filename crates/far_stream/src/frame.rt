@@ -1,5 +1,5 @@
 //! Frames, and their heads.
-ghost use Rattle.std.specs.Prelude.{◌≡◌, ◌≢◌, ◌++◌, ◌<◌, ◌≤◌, [], true, false, OnOk, IfOk, IfErr, IfSome, IfNone, Result};
+ghost use Rattle.std.specs.Prelude.{◌≡◌, ◌≢◌, ◌++◌, ◌<◌, ◌≤◌, [], true, false, OnOk, OnErr, IfOk, IfErr, IfSome, IfNone, Result};
 ghost use Rattle.std.specs.Io.KnownBytes.{Consumes, IsAtEnd};
 ghost use Rattle.far_stream.specs.Frames.{head, IsHead};
 ghost use Rattle.far_stream.specs.Conversations.{IsAsking};
@@ -7,8 +7,10 @@ ghost use Rattle.far_stream.specs.Hearing.{IsProper};
 ghost use Rattle.far_stream.specs.Kinds.{Asks, kind_number, status_number};
 ghost use Rattle.far_stream.specs.declared.frame.FrameKind.{FrameKind};
 ghost use Rattle.far_stream.specs.Payloads.{CutsOffWithin};
+ghost use Rattle.far_stream.specs.Refusals.{MemoryIsRefused};
 
 use crate::fault::Cut;
+use crate::room::append;
 use byteorder::{BigEndian, ByteOrder};
 use std::alloc::AllocError;
 use std::io::Read;
@@ -160,9 +162,24 @@ impl Head {
 
 /// Lays a frame out, in place of what was there.
 pub(crate) fn lay_out(frame: &mut Vec<u8>, first: Head, bytes: &[u8]) -> Result<(), AllocError>
-    ensures { OnOk result (frame.new.items ≡ head first.kind first.id first.count ++ bytes.now) }
+    ensures items { OnOk result (frame.new.items ≡ head first.kind first.id first.count ++ bytes.now) }
+    ensures refused { OnErr result MemoryIsRefused }
+{
+    lay_out_after(frame, &[], first, bytes)
+}
+
+/// The same, after other frames.
+pub(crate) fn lay_out_after(
+    frame: &mut Vec<u8>,
+    others: &[u8],
+    first: Head,
+    bytes: &[u8],
+) -> Result<(), AllocError>
+    ensures items { OnOk result (frame.new.items ≡ others.now ++ (head first.kind first.id first.count ++ bytes.now)) }
+    ensures refused { OnErr result MemoryIsRefused }
 {
     frame.clear();
-    frame.extend_from_slice(&first.bytes())?;
-    frame.extend_from_slice(bytes)
+    append(frame, others)?;
+    append(frame, &first.bytes())?;
+    append(frame, bytes)
 }

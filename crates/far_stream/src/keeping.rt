@@ -3,12 +3,14 @@ ghost use Rattle.std.specs.Prelude.{◌≡◌, ◌<◌, ◌≤◌, ◌++◌, [],
 ghost use Rattle.std.specs.Io.KnownBytes.{Consumes};
 ghost use Rattle.far_stream.specs.Frames.{done, frame, head};
 ghost use Rattle.far_stream.specs.Payloads.{LosesPayload};
+ghost use Rattle.far_stream.specs.Refusals.{MemoryIsRefused};
 ghost use Rattle.far_stream.specs.Sent.{Sent};
 ghost use Rattle.far_stream.specs.Server.{kept_under, without};
 
 use crate::fault::PayloadFault;
 use crate::frame::{HEAD_LENGTH, Head, Status};
 use crate::payload::{drop_payload, read_payload};
+use crate::room::{append, with_room};
 use std::alloc::{AllocError, Global};
 use std::io::Read;
 use std::marker::Model;
@@ -40,14 +42,15 @@ impl Kept {
     fn begin(alloc: Global, id: u64, count: u32) -> Result<Vec<u8>, AllocError>
         ensures head { IfOk result (λ v. v.items ≡ head done id count) }
         ensures len { IfOk result (λ v. vec_len v ≡ 13) }
+        ensures refused { OnErr result MemoryIsRefused }
     {
         let head = Head {
             kind: Status::Done as u8,
             id,
             count,
         };
-        let mut answer = Vec::with_capacity(alloc, HEAD_LENGTH + count as usize)?;
-        answer.extend_from_slice(&head.bytes())?;
+        let mut answer = with_room(alloc, HEAD_LENGTH + count as usize)?;
+        append(&mut answer, &head.bytes())?;
         Ok(answer)
     }
 
@@ -76,6 +79,11 @@ impl Kept {
         ensures { result ≡ self.now.id }
     {
         self.id
+    }
+
+    /// How many bytes are kept.
+    pub fn count(&self) -> u64 {
+        self.answer.len().saturating_sub(HEAD_LENGTH) as u64
     }
 
     /// The frame that answers a get.

@@ -2,17 +2,22 @@
 #![tactic(auto)]
 
 mod answers;
+mod buffered;
 mod client;
 mod fault;
+mod forgets;
 mod frame;
 mod keeping;
 mod parcel;
 mod payload;
+mod room;
 mod server;
 
-pub use client::StreamStore;
+pub use buffered::Buffered;
+pub use client::{DeferringStore, StreamStore};
 pub use fault::StreamFault;
 pub use frame::PAYLOAD_LIMIT;
 pub use keeping::KEPT_LIMIT;
 pub use parcel::StreamParcel;
-pub use server::serve_store;
+pub use room::Budget;
+pub use server::{serve_store, serve_store_within};

@@ -5,6 +5,7 @@ ghost use Rattle.streams.specs.Streams.{ConsumesCounted};
 ghost use Rattle.far_stream.specs.Payloads.{CutsOff, LosesPayload};
 
 use crate::fault::{Cut, PayloadFault};
+use crate::room::lengthen;
 use std::io::Read;
 use streams::{fill, skip};
 
@@ -33,7 +34,7 @@ pub(crate) fn read_payload<R: Read>(
     ensures err { IfErr result (λ fault. LosesPayload fault count (R.remaining reader.old) (R.remaining reader.new)) }
 {
     let start = to.len();
-    let Ok(()) = to.resize(start + count as usize, 0) else {
+    let Ok(()) = lengthen(to, start + count as usize) else {
         drop_payload(reader, count)?;
         return Err(PayloadFault::NoMemory);
     };

@@ -11,6 +11,8 @@ mod compared;
 #[cfg(test)]
 mod cuts;
 #[cfg(test)]
+mod deferring;
+#[cfg(test)]
 mod frames;
 #[cfg(test)]
 mod listening;

@@ -2,7 +2,7 @@
 
 use crate::compared::same;
 use crate::frames::{ASKS, GET_ASKS, GET_SAYS, SAYS, first};
-use far_server::{CLIENT_LIMIT, ServerFault, Unwritten, run_server};
+use far_server::{CLIENT_LIMIT, ServerFault, UNLIMITED, Unwritten, run_server};
 use std::alloc::Global;
 use std::io::{Error, ErrorKind, Read, Result as IoResult, Write};
 use std::net::{Ipv4Addr, Net, Shutdown, SocketAddr, TcpListener, TcpStream};
@@ -111,7 +111,16 @@ where
         + 'static,
 {
     let mut errors = Vec::new(alloc);
-    let ended = run_server(rt, alloc, port, input, &mut output, &mut errors, Unwritten);
+    let ended = run_server(
+        rt,
+        alloc,
+        port,
+        input,
+        &mut output,
+        &mut errors,
+        UNLIMITED,
+        Unwritten,
+    );
     (ended, output, errors)
 }
 

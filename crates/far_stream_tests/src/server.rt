@@ -5,7 +5,7 @@ use crate::frames::{
     DONE, FORGET, GET, NO_ROOM, PUT, REFUSED_ID, add_frame, add_head, first, pattern,
 };
 use crate::wire::{BYTES, Heard, Limits, UNLIMITED, Wire};
-use far_stream::{KEPT_LIMIT, PAYLOAD_LIMIT, StreamFault, serve_store};
+use far_stream::{Budget, KEPT_LIMIT, PAYLOAD_LIMIT, StreamFault, serve_store, serve_store_within};
 use std::alloc::{AllocError, Global};
 use std::test::Fail;
 
@@ -313,5 +313,39 @@ fn a_conversation_keeps_nothing_for_the_next(rt: HostRuntime) -> Result<(), Fail
     same!(rt; put, Some(Ok(())));
     let got = served_alone(rt.alloc(), (GET, 1, b"", REFUSED_ID, b""))?;
     same!(rt; got, Some(Ok(())));
+    Ok(())
+}
+
+/// A conversation of a server that keeps five bytes at most.
+const BOUNDED: &[Step] = &[
+    (PUT, 1, b"abc", DONE, b""),
+    (PUT, 2, b"xyz", NO_ROOM, b""),
+    (PUT, 1, b"xyz", REFUSED_ID, b""),
+    (PUT, 3, b"de", DONE, b""),
+    (PUT, 4, b"f", NO_ROOM, b""),
+    (FORGET, 1, b"", DONE, b""),
+    (PUT, 4, b"fgh", DONE, b""),
+    (GET, 4, b"", DONE, b"fgh"),
+    (GET, 2, b"", REFUSED_ID, b""),
+];
+
+/// How often this conversation is answered as it should be, of two times over the same budget.
+fn bounded(alloc: Global) -> Result<usize, AllocError> {
+    let (asks, says) = (asks(alloc, BOUNDED)?, says(alloc, BOUNDED)?);
+    let budget = Budget::new(5);
+    let mut right = 0usize;
+    for _ in 0..2 {
+        let heard = Heard::new();
+        let mut wire = Wire::new(&asks, &says, &heard);
+        let ended = serve_store_within(alloc, &mut wire, &budget);
+        right = right.saturating_add(usize::from(ended == Ok(()) && heard.is(says.len())));
+    }
+    Ok(right)
+}
+
+/// A put beyond the budget finds no room. What is forgotten, and what is kept at the end, is given back.
+#[test]
+fn a_budget_bounds_what_is_kept(rt: HostRuntime) -> Result<(), Fail> {
+    same!(rt; bounded(rt.alloc())?, 2);
     Ok(())
 }

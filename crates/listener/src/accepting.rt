@@ -4,6 +4,7 @@ ghost use Rattle.std.specs.IoError.{error_kind};
 ghost use Rattle.listener.specs.Accepting.{GivesUp, IsBroken, Passes};
 
 use crate::bell::Bell;
+use crate::door::Accepts;
 use crate::journal::Journal;
 use crate::patience::Patience;
 use std::io::{self, Error, ErrorKind};
@@ -31,15 +32,12 @@ fn is_passing(error: &Error) -> bool
 }
 
 /// The next client's stream.
-fn next_stream<R: Wait>(rt: &R, listener: &TcpListener) -> io::Result<TcpStream>
+fn next_stream<R: Wait, D: Accepts>(rt: &R, door: &D) -> io::Result<TcpStream>
     ensures { IfErr result (λ error. ¬ (Passes (error_kind error))) }
 {
     for _ in rt.forever() {
-        match listener.accept() {
-            Ok((stream, _)) => {
-                let _ = stream.set_nodelay(true);
-                return Ok(stream);
-            }
+        match door.next_client() {
+            Ok(stream) => return Ok(stream),
             Err(error) if is_passing(&error) => {}
             Err(error) => return Err(error),
         }
@@ -49,8 +47,8 @@ fn next_stream<R: Wait>(rt: &R, listener: &TcpListener) -> io::Result<TcpStream>
 
 /// The next client's stream, twice: one to be served, and one by which it can be cut off. A client that went before it was
 /// accepted is passed over.
-pub fn accept<R: Wait>(rt: &R, listener: &TcpListener) -> io::Result<(TcpStream, TcpStream)> {
-    let stream = next_stream(rt, listener)?;
+pub fn accept<R: Wait, D: Accepts>(rt: &R, door: &D) -> io::Result<(TcpStream, TcpStream)> {
+    let stream = next_stream(rt, door)?;
     let shown = stream.try_clone()?;
     Ok((stream, shown))
 }

@@ -1,17 +1,22 @@
-//! A listener on 127.0.0.1: how it is bound and announced, and how its clients are accepted.
+//! A listener on 127.0.0.1 or at a socket file: how it is bound and announced, and how its clients are accepted.
 #![tactic(auto)]
 
 mod accepting;
 mod announcing;
 mod bell;
 mod binding;
+mod door;
+mod filing;
 mod journal;
+mod lock;
 mod patience;
 
 pub use accepting::{accept, accept_or_rest};
-pub use announcing::announce;
+pub use announcing::{Name, announce, announce_at, file_name, port_name};
 pub use bell::Bell;
 pub use binding::bind;
+pub use door::{Accepts, Door};
+pub use filing::{SocketFile, bind_file};
 pub use journal::Journal;
 
 /// What is said of a network that failed.

@@ -17,6 +17,7 @@ pub mod Carried
 pub mod Replaying
 pub mod SameReplays
 pub mod Confined
+pub mod Granted
 pub mod Executing
 pub mod Running
 pub mod GrantedWork

@@ -5,6 +5,7 @@ use Rattle.memory.specs.declared.access.Reach.{Reach}
 use Rattle.memory.specs.declared.access.Reach.TheVariants as reach
 use Rattle.memory.specs.declared.deeds.Entry.{Entry}
 use Rattle.memory.specs.declared.deeds.Given.TheVariants.{Number}
+use Rattle.memory.specs.Access.{IsInside}
 use Rattle.memory.specs.Memories.{entries_added}
 use Rattle.machine.specs.declared.state.Accessing.{Accessing}
 use Rattle.machine.specs.Rows.{Work}
@@ -20,16 +21,17 @@ use Rattle.machine.proofs.StepCases.{StepCase, step_case}
 
 -- ---- what an instruction that took fuel was told, by the entries that it added
 
-abbrev Fed : (ℕ → ℕ) → Request → List Entry → MemoryAnswer → Type 0
+-- an access that was done was inside its object
+abbrev pub Fed : (ℕ → ℕ) → Request → List Entry → MemoryAnswer → Type 0
 Fed lengths Nothing more NoAnswer = more ≡ []
 Fed lengths (Measure n) more (Measured k) = (more ≡ []) × (k ≡ lengths n)
-Fed lengths (Touch n op) more (Reached (reach.Done v)) = more ≡ entries_added n op (reach.Done v)
+Fed lengths (Touch n op) more (Reached (reach.Done v)) = IsInside op (lengths n) × (more ≡ entries_added n op (reach.Done v))
 Fed lengths _ more _ = ⊥
 
-record Grown (lengths : ℕ → ℕ) (q : Request) (said : MemoryAnswer) (es fs : List Entry) : Type 0 where
-  more : List Entry
-  fed : Fed lengths q more said
-  grown : fs ≡ es ++ more
+pub record Grown (lengths : ℕ → ℕ) (q : Request) (said : MemoryAnswer) (es fs : List Entry) : Type 0 where
+  pub more : List Entry
+  pub fed : Fed lengths q more said
+  pub grown : fs ≡ es ++ more
 
 unchanged : (es fs : List Entry) → fs ≡ es → fs ≡ es ++ []
 unchanged es fs e = e ∙ sym (append_nil es)
@@ -41,7 +43,7 @@ unchanged es fs e = e ∙ sym (append_nil es)
 grown_reach : (lengths : ℕ → ℕ) (worn : ℕ → Bool) (i : Instr) (x : Accessing) (old : MachineState) (es fs : List Entry) (r : Reach)
     → (told_access i x old (Reached r)).machine.fuel + 1 ≡ old.fuel
     → (recorded_memory lengths worn).reaches es x.number x.op r fs → Grown lengths (Touch x.number x.op) (Reached r) es fs
-grown_reach lengths worn i x old es fs (reach.Done v) f h = record { more = entries_added x.number x.op (reach.Done v); fed = refl; grown = h.1 }
+grown_reach lengths worn i x old es fs (reach.Done v) f h = record { more = entries_added x.number x.op (reach.Done v); fed = (h.0, refl); grown = h.1 }
 grown_reach lengths worn i x old es fs reach.Outside f h = absurd (omega arith)
 grown_reach lengths worn i x old es fs reach.Worn f h = absurd (omega arith)
 grown_reach lengths worn i x old es fs reach.Away f h = absurd h
@@ -61,12 +63,12 @@ grown_by lengths worn (Accesses x) i old es fs _ f h = absurd h
 
 -- ---- an instruction that took fuel
 
-record Advanced (lengths : ℕ → ℕ) (old : MachineState) (es : List Entry) (new : MachineState) (fs : List Entry) : Type 0 where
-  instr : Instr
-  attempts : Attempts old instr
-  said : MemoryAnswer
-  added : Grown lengths (asks instr old) said es fs
-  becomes : new ≡ (told instr old said).machine
+pub record Advanced (lengths : ℕ → ℕ) (old : MachineState) (es : List Entry) (new : MachineState) (fs : List Entry) : Type 0 where
+  pub instr : Instr
+  pub attempts : Attempts old instr
+  pub said : MemoryAnswer
+  pub added : Grown lengths (asks instr old) said es fs
+  pub becomes : new ≡ (told instr old said).machine
 
 closes_same : (lengths : ℕ → ℕ) (worn : ℕ → Bool) (b : Bool) (es fs : List Entry) → Closes b (recorded_memory lengths worn) es fs → fs ≡ es
 closes_same lengths worn true es fs h = h
@@ -86,7 +88,7 @@ case_advanced lengths worn old es fs o f (inr (inr d)) =
       becomes = ap (λ (x : Outcome). x.machine) d.becomes;
     }
 
-advanced : (lengths : ℕ → ℕ) (worn : ℕ → Bool) (old : MachineState) (es : List Entry) (new : MachineState) (fs : List Entry)
+pub advanced : (lengths : ℕ → ℕ) (worn : ℕ → Bool) (old : MachineState) (es : List Entry) (new : MachineState) (fs : List Entry)
     → Advances lengths worn old es new fs → Advanced lengths old es new fs
 advanced lengths worn old es new fs a =
     let c = case_advanced lengths worn old es a.step.mid _ a.paid (step_case (recorded_memory lengths worn) old.stop old es _ a.step.mid refl a.step.steps) in
@@ -117,9 +119,9 @@ same_told lengths (Measure n) es more other xs ys (Measured k) (Measured l) f g 
 same_told lengths (Measure n) es more other xs ys (Measured k) _ f g e = absurd g
 same_told lengths (Measure n) es more other xs ys _ heard f g e = absurd f
 same_told lengths (Touch n op) es more other xs ys (Reached (reach.Done v)) (Reached (reach.Done w)) f g e =
-    let joined = ap (λ (l : List Entry). (es ++ l) ++ xs) (sym f) ∙ e ∙ ap (λ (l : List Entry). (es ++ l) ++ ys) g in
+    let joined = ap (λ (l : List Entry). (es ++ l) ++ xs) (sym f.1) ∙ e ∙ ap (λ (l : List Entry). (es ++ l) ++ ys) g.1 in
     let same : v ≡ w = number_is v w (ap (λ (x : Entry). x.given) (next_is es _ _ xs ys joined)) in
-    (ap (λ c. Reached (reach.Done c)) same, f ∙ ap (λ c. entries_added n op (reach.Done c)) same ∙ sym g)
+    (ap (λ c. Reached (reach.Done c)) same, f.1 ∙ ap (λ c. entries_added n op (reach.Done c)) same ∙ sym g.1)
 same_told lengths (Touch n op) es more other xs ys (Reached (reach.Done v)) _ f g e = absurd g
 same_told lengths (Touch n op) es more other xs ys _ heard f g e = absurd f
 

@@ -9,6 +9,7 @@ pub mod FramePointer
 pub mod Replay
 pub mod Carrying
 pub mod Confinement
+pub mod Granted
 pub mod Variants
 pub mod Points
 pub mod Runs

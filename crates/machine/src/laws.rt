@@ -5,6 +5,7 @@ ghost use Rattle.machine.specs.FramePointer.{StartsAtTop, StaysAtDepth};
 ghost use Rattle.machine.specs.Replay.{ReplaysOneWay, StartsAsReplay, StaysReplay};
 ghost use Rattle.machine.specs.Carrying.{StepsCarry};
 ghost use Rattle.machine.specs.Confinement.{StepIsConfined, StepsAreConfined, StepsProtect};
+ghost use Rattle.machine.specs.Granted.{EntriesAreGranted, ReplaysAreConfined};
 
 use memory::Memory;
 
@@ -132,4 +133,15 @@ pub fn steps_are_confined()
 /// An object that isn't granted for writing keeps its bytes.
 pub fn steps_protect()
     ensures { StepsProtect }
+{}
+
+/// Whoever else reaches the objects, each entry of a machine is an access to an object that it was granted, a writing one only
+/// with `w`.
+pub fn entries_are_granted()
+    ensures { EntriesAreGranted }
+{}
+
+/// Two machines that started alike, and whose accesses to granted objects were answered alike, go alike.
+pub fn replays_are_confined()
+    ensures { ReplaysAreConfined }
 {}

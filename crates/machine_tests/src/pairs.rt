@@ -39,6 +39,31 @@ fn ran(alloc: Global, code: &[u64], fuel: u64, most: u64) -> Result<Seen, Fail> 
     Ok(seen(&machine))
 }
 
+/// The machine after so many single steps at most, none of which begins at this slot.
+fn stepped_to(alloc: Global, code: &[u64], fuel: u64, most: u64, end: usize) -> Result<Seen, Fail> {
+    let mut machine = machine_of(alloc, fuel, [5, 7, 9, 2, 1], code)?;
+    let mut store = objects(alloc)?;
+    for _ in 0..most {
+        if machine.stop().is_none() && machine.slot() == end {
+            break;
+        }
+        let _ = runs(&mut machine, &mut store, 1);
+    }
+    Ok(seen(&machine))
+}
+
+/// The machine after so many steps at most by one call that ends at this slot, and at one that the code doesn't have.
+fn ran_to(alloc: Global, code: &[u64], fuel: u64, most: u64, end: usize) -> Result<Seen, Fail> {
+    let mut machine = machine_of(alloc, fuel, [5, 7, 9, 2, 1], code)?;
+    let mut store = objects(alloc)?;
+    let mut memory = StoreMemory {
+        store: &mut store,
+        who: 1,
+    };
+    let _ = machine.run_to(most, &[99, end], &mut memory);
+    Ok(seen(&machine))
+}
+
 /// Each pair, and then EXIT.
 const PAIRS: &[&[u64]] = &[
     // r0 = r1; r0 += r2
@@ -94,6 +119,17 @@ fn differ(alloc: Global, fuel: u64, most: u64) -> Result<u64, Fail> {
     Ok(count)
 }
 
+/// How many of the pairs differ where a run ends at this slot.
+fn differ_to(alloc: Global, fuel: u64, most: u64, end: usize) -> Result<u64, Fail> {
+    let mut count = 0u64;
+    for &code in PAIRS {
+        if stepped_to(alloc, code, fuel, most, end)? != ran_to(alloc, code, fuel, most, end)? {
+            count = count.saturating_add(1);
+        }
+    }
+    Ok(count)
+}
+
 #[test]
 fn a_pair_is_two_steps(rt: HostRuntime) -> Result<(), Fail> {
     for most in 0..8 {
@@ -106,6 +142,26 @@ fn a_pair_is_two_steps(rt: HostRuntime) -> Result<(), Fail> {
 fn fuel_may_end_within_a_pair(rt: HostRuntime) -> Result<(), Fail> {
     for fuel in 0..8 {
         same!(rt; differ(rt.alloc(), fuel, 100)?, 0);
+    }
+    Ok(())
+}
+
+#[test]
+fn a_run_ends_at_each_slot(rt: HostRuntime) -> Result<(), Fail> {
+    for end in 0..5 {
+        for most in 0..6 {
+            same!(rt; differ_to(rt.alloc(), 100, most, end)?, 0);
+        }
+    }
+    Ok(())
+}
+
+#[test]
+fn fuel_may_end_where_a_run_ends(rt: HostRuntime) -> Result<(), Fail> {
+    for end in 0..5 {
+        for fuel in 0..6 {
+            same!(rt; differ_to(rt.alloc(), fuel, 100, end)?, 0);
+        }
     }
     Ok(())
 }

@@ -10,6 +10,8 @@ mod damage;
 #[cfg(test)]
 mod faults;
 #[cfg(test)]
+mod keeps;
+#[cfg(test)]
 mod looks;
 #[cfg(test)]
 mod moves;

@@ -14,10 +14,20 @@ use shared_objects::{ActorSeat, MoverSeat, Phase, Shared};
 use std::alloc::{AllocError, Global};
 use std::marker::Brand;
 use std::sync::Wait;
+use std::sync::atomic::{AtomicU64, Ordering};
 use std::test::Fail;
 use test_devices::{number_kept, objects};
-use test_gates::Rounds;
-use workers::{Direction, Looked, Moved, Mover, Pool, TableName, mover};
+use test_gates::{Rounds, Turns};
+use workers::{
+    Direction, Gate, KEEP_ALL, Looked, Moved, Mover, MoverEvent, Pool, TableName, Upkeep, mover,
+    work,
+};
+
+/// The mover looks at objects of its own accord.
+const SWEEPING: Upkeep = Upkeep {
+    sweep: true,
+    keep: KEEP_ALL,
+};
 
 /// What is done.
 #[derive(Clone, Copy, Drop)]
@@ -28,14 +38,22 @@ pub enum Act {
     Return(u32),
     /// It looks at the next object.
     Look,
+    /// It looks at the next object for room.
+    LookPast,
     /// The machine of this number makes a step.
     Step(usize),
+    /// A worker has so many turns.
+    Work(u64),
     /// The pool is asked to have an object moved.
     Request(u32, Direction),
     /// The mover has so many rounds, in which it serves requests alone.
     Rounds(u64),
     /// The same, but it looks at the next object where there is no request.
     Sweeps(u64),
+    /// The mover has so many rounds, in which it serves requests and keeps so many bytes.
+    Keeps(u64, u64),
+    /// The same with looks where there is no request.
+    SweepsAndKeeps(u64, u64),
 }
 
 /// What came of it.
@@ -48,6 +66,8 @@ pub enum Answer {
     NoMachine,
     /// Whether there was room for the request.
     Requested(bool),
+    /// With a bound: how many objects left to make room, how often there was none, and how many bytes left and came back.
+    Kept([u64; 4]),
     Served,
 }
 
@@ -94,10 +114,65 @@ fn serve<F: FarStore, K: TableName, R: Wait>(
     pool: &Pool<F, K>,
     served: &mut Mover<F, K>,
     rounds: u64,
-    sweep: bool,
+    upkeep: Upkeep,
 ) -> Answer {
-    mover(rt, &Rounds::new(rounds), pool, served, sweep);
+    mover(rt, &Rounds::new(rounds), pool, served, upkeep);
     Answer::Served
+}
+
+/// Lets a mover go on for a given number of rounds, and counts what it tells.
+#[derive(Drop)]
+struct Counting {
+    rounds: Rounds,
+    evictions: AtomicU64,
+    passes: AtomicU64,
+    left: AtomicU64,
+    back: AtomicU64,
+}
+
+impl Gate for Counting {
+    fn before(&self, _worker: usize, _machine: usize) {}
+
+    fn after(&self, _worker: usize, _machine: usize) {}
+
+    fn event(&self, event: MoverEvent) {
+        let (count, more) = match event {
+            MoverEvent::Begins(_) => return,
+            MoverEvent::Evicted(_) => (&self.evictions, 1),
+            MoverEvent::Passed(_) => (&self.passes, 1),
+            MoverEvent::Carried(Direction::Leave, bytes) => (&self.left, bytes as u64),
+            MoverEvent::Carried(Direction::Return, bytes) => (&self.back, bytes as u64),
+        };
+        count.fetch_add(more, Ordering::SeqCst);
+    }
+
+    fn go_on(&self) -> bool {
+        self.rounds.go_on()
+    }
+}
+
+/// The same with a bound.
+fn keep_within<F: FarStore, K: TableName, R: Wait>(
+    rt: &R,
+    pool: &Pool<F, K>,
+    served: &mut Mover<F, K>,
+    rounds: u64,
+    upkeep: Upkeep,
+) -> Answer {
+    let gate = Counting {
+        rounds: Rounds::new(rounds),
+        evictions: AtomicU64::new(0),
+        passes: AtomicU64::new(0),
+        left: AtomicU64::new(0),
+        back: AtomicU64::new(0),
+    };
+    mover(rt, &gate, pool, served, upkeep);
+    Answer::Kept([
+        gate.evictions.load(Ordering::SeqCst),
+        gate.passes.load(Ordering::SeqCst),
+        gate.left.load(Ordering::SeqCst),
+        gate.back.load(Ordering::SeqCst),
+    ])
 }
 
 /// What comes of one act.
@@ -111,15 +186,26 @@ fn answer_to<F: FarStore, K: TableName, R: Wait>(
         Act::Leave(number) => Answer::Moved(served.one(pool, number, Direction::Leave)),
         Act::Return(number) => Answer::Moved(served.one(pool, number, Direction::Return)),
         Act::Look => Answer::Looked(served.look(pool)),
+        Act::LookPast => Answer::Looked(served.look_past(pool)),
         Act::Step(number) => match step(rt, pool, number) {
             Some(reply) => Answer::Replied(reply),
             None => Answer::NoMachine,
         },
+        Act::Work(turns) => {
+            work(rt, &Turns::new(turns), pool, 0);
+            Answer::Served
+        }
         Act::Request(number, direction) => {
             Answer::Requested(pool.request(rt, number, direction))
         }
-        Act::Rounds(rounds) => serve(rt, pool, served, rounds, false),
-        Act::Sweeps(rounds) => serve(rt, pool, served, rounds, true),
+        Act::Rounds(rounds) => serve(rt, pool, served, rounds, Upkeep::none()),
+        Act::Sweeps(rounds) => serve(rt, pool, served, rounds, SWEEPING),
+        Act::Keeps(rounds, keep) => {
+            keep_within(rt, pool, served, rounds, Upkeep { sweep: false, keep })
+        }
+        Act::SweepsAndKeeps(rounds, keep) => {
+            keep_within(rt, pool, served, rounds, Upkeep { sweep: true, keep })
+        }
     }
 }
 
@@ -235,6 +321,12 @@ pub fn tried<F: FarStore + Drop, R: Wait>(
 ) -> Result<Left, Fail> {
     let bodies = objects(alloc, 2, 8)?;
     tried_over(rt, alloc, store, bodies, rows)
+}
+
+/// The same over three objects of eight bytes, which stay within the agent.
+pub fn tried_with_three<R: Wait>(rt: &R, alloc: Global, rows: &[Row]) -> Result<Left, Fail> {
+    let bodies = objects(alloc, 3, 8)?;
+    tried_over(rt, alloc, OwnStore::new(alloc), bodies, rows)
 }
 
 /// The same over objects 1 and 3, which stay within the agent. There is no object 2.

@@ -12,6 +12,7 @@ use Rattle.atomic_table.proofs.Lists.{at_set, set_else}
 use Rattle.shared_objects.specs.History.{Has, Chained, AllInside, Answers}
 use Rattle.memory.specs.Objects.{bytes_of}
 use Rattle.shared_objects.specs.Rule.{total, times, has_turn, has_open, has_pass, has_moving, has_far, place_of, bytes_taken, is_moving, is_far, is_live, spent}
+use Rattle.shared_objects.specs.Rule.{part_touches, has_touched, has_cooled}
 use Rattle.shared_objects.specs.Rule.{HasPart, PartFits, MarkFits, Stands, turns_on, Knows, Kept}
 use Rattle.shared_objects.specs.Kinds.{gathers, gathers_all, part}
 use Rattle.shared_objects.specs.declared.body.Body.{Body}
@@ -19,9 +20,10 @@ use Rattle.shared_objects.specs.declared.view.SharedEntry.{SharedEntry}
 use Rattle.shared_objects.specs.declared.view.Part.{Part}
 use Rattle.shared_objects.specs.declared.view.Mark.{Mark}
 use Rattle.shared_objects.specs.declared.view.View.{View}
-use Rattle.shared_objects.proofs.Sums.{at_end, total-set, terms_le, set_there}
+use Rattle.shared_objects.proofs.Sums.{at_end, total-append, total-set, terms_le, set_there}
 use Rattle.shared_objects.proofs.Logs.{has_longer, has_last, has_snoc}
 use Rattle.shared_objects.proofs.Moves.{no_live, same_fits, body_in}
+use Rattle.shared_objects.proofs.Steps.{cooler}
 use Rattle.shared_objects.proofs.Keeps.{none_is_not, some_is, knows_nothing, knows_still}
 use Rattle.shared_objects.specs.Ends.{shown, all_shown, Shows, Closes}
 use Rattle.shared_objects.specs.Phases.{phase_of}
@@ -87,13 +89,24 @@ joins_ok returns key id v other u maker alive_ here young free shut clean past h
             let near : has_far n u ≡ 0 = ap (λ (l : List Whereabouts). is_far (slice_index_or l n Here)) home in
             let moving : total (has_moving n) vs' ≡ total (has_moving n) s.views = omega (arith, both (has_moving n), still) in
             let far : total (has_far n) vs' ≡ total (has_far n) s.views = omega (arith, both (has_far n), near) in
+            let none-took : total (part_touches n) u.gathered ≡ 0 = ap (total (part_touches n)) clean in
+            let touched : total (has_touched n) vs' ≡ total (has_touched n) s.views = omega (
+              arith,
+              both (has_touched n),
+              ap (turns_on n) free,
+              none-took,
+              total-append (part_touches n) v.gathered (new ∷ []),
+            ) in
+            let cooled : total (has_cooled n) vs' ≤ total (has_cooled n) s.views = omega (arith, both (has_cooled n)) in
             same_fits _ _ _ _ _ _ _ _ _ _ (λ i. record {
               turns = turns i;
               opens = opens i;
               passes = passes i;
               moving = moving i;
               far = far i;
-            }) refl refl refl (o.objects.fits n lt);
+              touched = touched i;
+              cooled = total (has_cooled n) vs';
+            }) refl refl refl (cooler (total (has_cooled n) vs') (o.objects.fits n lt) cooled);
         nowhere = o.objects.nowhere;
       };
       seats = record {

@@ -16,6 +16,7 @@ use Rattle.memory.specs.Deeds.{EndsInside, given_by, left_by}
 use Rattle.shared_objects.specs.History.{Has, top}
 use Rattle.memory.specs.Objects.{bytes_of}
 use Rattle.shared_objects.specs.Rule.{total, times, same, has_turn, has_open, has_pass, has_moving, has_far, bytes_taken, is_moving, is_far, is_live, spent}
+use Rattle.shared_objects.specs.Rule.{entry_on, mark_on, has_touched, has_cooled}
 use Rattle.shared_objects.specs.Rule.{Written, PartFits, TurnFits, MarkFits, Stands, turns_on, word_of, tally, Knows, Kept}
 use Rattle.shared_objects.specs.Kinds.{Sat, object_at, turn, with_scope, without, without_scope, with_pass, without_pass, marked, holding, recorded, worn_out}
 use Rattle.shared_objects.specs.Kinds.{opens_scope, closes_scope, leaves_pass, takes_turn, gives_turn, gives_up_turn, Took, dealer, dealt, newcomer}
@@ -73,6 +74,15 @@ module _ (returns : Bool) (key : List (List ℕ)) (s : St) (o : Kept returns key
   unmoved id v n me alive_ near = let f = o.objects.fits n near in let k = o.seats.knows id v me in
       keeps_slot returns key s o id v n (slice_index s.words (word_of n)) f.hot me near alive_ f.one_hot v.scopes v.passing v.marks v.coolings
       (λ _ _. (refl, refl)) (k.opens_once n) (λ opens passes a b. (omega (arith, f.word_is), λ out. let h = f.here out in omega arith)) k.first k.turn k.marks
+      (λ _ _. (refl, refl)) (omega (arith, f.heat))
+
+-- one mark more is counted
+marks-snoc : (n : ℕ) (marks : List Mark) (new : Mark) → total (mark_on n) (marks ++ new ∷ []) ≡ total (mark_on n) marks + mark_on n new
+marks-snoc n marks new = omega (arith, total-append (mark_on n) marks (new ∷ []))
+
+-- one entry more is counted
+entries-snoc : (n : ℕ) (entries : List SharedEntry) (new : SharedEntry) → total (entry_on n) (entries ++ new ∷ []) ≡ total (entry_on n) entries + same new.object n
+entries-snoc n entries new = omega (arith, total-append (entry_on n) entries (new ∷ []))
 
 -- one mark more
 mark_more : (returns : Bool) (key : List (List ℕ)) (s : St) (o : Kept returns key s) (id : ℕ) (v : View) (new : Mark) → get_elem? s.views id ≡ some v
@@ -109,7 +119,7 @@ opens_ok returns key slots id m n lt shut alive_ young free s o wide me small =
             omega (arith, f.word_is, f.one_hot, f.small, f.one_turn),
             λ out. absurd (omega arith),
           ))
-          (λ z. absurd (not_first returns key s o id v me young z)) (turnless _ v free) k.marks,
+          (λ z. absurd (not_first returns key s o id v me young z)) (turnless _ v free) k.marks (λ _ _. (refl, refl)) (omega (arith, f.heat)),
       ((λ _. ap (λ j. (with_scope j v, m.1)) (sym (object_home n))), λ ne. absurd (ne (omega (arith, f.word_is)))),
     ))
     (λ is_away. (
@@ -121,7 +131,8 @@ opens_ok returns key slots id m n lt shut alive_ young free s o wide me small =
             omega (arith, f.word_is, f.one_hot, f.small, f.one_turn, f.one_out),
             λ out. let h = f.here out in omega arith,
           ))
-          (λ z. absurd (not_first returns key s o id v me young z)) k.turn (mark_more returns key s o id v (Away n) me tt),
+          (λ z. absurd (not_first returns key s o id v me young z)) k.turn (mark_more returns key s o id v (Away n) me tt)
+          (λ j ne. (omega (arith, marks-snoc j v.marks (Away n)), refl)) (omega (arith, f.heat, marks-snoc n v.marks (Away n))),
       ((λ q. let q' : x % 4 ≡ 0 = q in absurd (is_away (omega (arith, f.word_is, f.one_out, q')))), λ _. ap (λ j. (with_pass j v, m.1)) (sym (object_home n))),
     ))
 
@@ -139,7 +150,7 @@ module _ (returns : Bool) (key : List (List ℕ)) (s : St) (o : Kept returns key
       keeps_slot returns key s o id v n ((slice_index s.words (word_of n) + (2 ^ 64 - 256)) % 2 ^ 64) f.hot me near alive_ f.one_hot
       scopes passing v.marks v.coolings
       apart (omega arith) (λ opens passes a b. (omega (arith, f.word_is, f.one_hot, f.small, f.one_turn, f.one_out), λ out. let h = f.here out in omega arith))
-      (λ z. absurd (not_first returns key s o id v me young z)) turn k.marks
+      (λ z. absurd (not_first returns key s o id v me young z)) turn k.marks (λ _ _. (refl, refl)) (omega (arith, f.heat))
 
 -- close scope, of a number that was open
 pub closes_ok : (returns : Bool) (key : List (List ℕ)) (slots id : ℕ) (m : Sat) (n : ℕ) → n < slots → has_open n m.0 ≡ 1 → m.0.live ≡ true
@@ -205,7 +216,8 @@ turns_ok returns key slots id m n lt free opened_ few_scopes alive_ young s o wi
             (λ out. absurd (omega arith)),
             Lent (omega arith) refl,
           ))
-          (λ u q. subst (TurnFits returns key o.logs v.scopes) (some_is t u q) (stamp_is, y.2, few_scopes)) (k.out n) k.marks,
+          (λ u q. subst (TurnFits returns key o.logs v.scopes) (some_is t u q) (stamp_is, y.2, few_scopes)) (k.out n) k.marks
+          (λ _ _. refl) (omega (arith, f.heat, f.one_hot, nothing, mine)),
       (
         refl,
         (λ _. subst (λ j. Took j x m (holding n (x / 65536) body.bytes.items v, (n, body) ∷ m.1)) (sym (object_home n)) (
@@ -225,7 +237,9 @@ turns_ok returns key slots id m n lt free opened_ few_scopes alive_ young s o wi
             omega (arith, f.word_is, f.one_hot, f.one_turn, bit, hot_is, bit_is),
             λ out. absurd (omega arith),
           ))
-          (λ z. absurd (not_first returns key s o id v me young z)) k.turn (mark_more returns key s o id v (Busy n) me tt),
+          (λ z. absurd (not_first returns key s o id v me young z)) k.turn (mark_more returns key s o id v (Busy n) me tt)
+          (λ j ne. (omega (arith, marks-snoc j v.marks (Busy n), is_else n j (λ q. ne (sym q))), refl))
+          (omega (arith, f.heat, f.one_hot, marks-snoc n v.marks (Busy n), is_here n n refl)),
       (refl, (λ zero. let q : x / 4 % 2 ≡ 0 = zero in absurd (omega (arith, f.one_turn, q))), λ _. ap (λ j. (marked (Busy j) v, m.1)) (sym (object_home n))),
     ))
 
@@ -250,6 +264,8 @@ records_ok returns key slots id m t body more e k lt carried has by on found_is 
     let a₁ = total-set (has_open n) s.views id v w me in let b₁ = total-set (has_turn n) s.views id v w me in
     let c₁ = total-set (has_pass n) s.views id v w me in
     let d₁ = total-set (has_moving n) s.views id v w me in let e₁ = total-set (has_far n) s.views id v w me in
+    let g₁ = total-set (has_touched n) s.views id v w me in let h₁ = total-set (has_cooled n) s.views id v w me in
+    let counted : (j : ℕ) → total (entry_on j) w.entries ≡ total (entry_on j) v.entries + same e.object j = λ j. entries-snoc j v.entries e in
     let here = is_in f (omega arith) in
     let stamp_is : t.stamp ≡ top 0 (o.logs n) = at.0 in
     let last : top 0 log ≡ e.stamp = top-snoc 0 (o.logs n) e in
@@ -263,10 +279,19 @@ records_ok returns key slots id m t body more e k lt carried has by on found_is 
     let not_mine : (j : ℕ) → j ≢ n → has_turn j v ≡ 0 = λ j ne. ap (turns_on j) has ∙ is_else n j (λ q. ne (sym q)) in
     let kept = moves returns key s o id v w n ((x + k) % 2 ^ 64) hs log me near alive_ (length-set s.homes n (some body))
     (λ j ne. set_else s.homes n j (some body) ne)
-    (λ j ne. record { turns = sym (not_mine j ne); opens = refl; passes = refl; moving = refl; far = refl }) (refl, refl, refl, refl, refl, refl, refl)
+    (λ j ne. record {
+      turns = sym (not_mine j ne);
+      opens = refl;
+      passes = refl;
+      moving = refl;
+      far = refl;
+      touched = omega (arith, not_mine j ne, counted j, is_else e.object j (λ q. ne (sym q ∙ on)));
+      cooled = refl;
+    }) (refl, refl, refl, refl, refl, refl, refl)
     (record {
       hot = f.hot;
       one_hot = f.one_hot;
+      heat = omega (arith, f.heat, g₁, h₁, mine, counted n, is_here e.object n on);
       word_is = omega (arith, f.word_is, f.one_hot, f.one_turn, f.small);
       one_turn = omega (arith, f.one_turn);
       one_out = omega (arith, f.one_out);
@@ -333,15 +358,17 @@ wears_ok returns key slots id m t body more lt carried has done alive_ young s o
       (λ out. absurd (omega arith)),
       AtHome (omega (arith, f.one_turn)) body refl (ap length done ∙ at.1.0, λ r. done ∙ at.1.1 r),
     ))
-    (λ u is. absurd (none_is_not u is)) (k.out n) (mark_more returns key s o id v (Worn n t.stamp) me stamp_low))
-    (t, has, refl)
+    (λ u is. absurd (none_is_not u is)) (k.out n) (mark_more returns key s o id v (Worn n t.stamp) me stamp_low)
+    (λ j ne. omega (arith, marks-snoc j v.marks (Worn n t.stamp), is_else n j (λ q. ne (sym q))))
+    (omega (arith, f.heat, mine, marks-snoc n v.marks (Worn n t.stamp), is_here n n refl)))
+    (refl, (t, has, refl))
 
 -- a look changes nothing, and shows a table that keeps the rule
 pub sees_ok : (returns : Bool) (key : List (List ℕ)) (slots id : ℕ) (m : Sat) (n : ℕ) → n < slots → m.0.live ≡ true
     → Allows (Kept returns key) slots id m (word_of n) (λ x. x) (Rattle.shared_objects.specs.Kinds.looks returns key (step slots (word_of n) 0 0 none) m)
 sees_ok returns key slots id m n lt alive_ s o wide me small =
     let near : n < length key = omega (arith, o.objects.slots) in
-    (m.0, keeps, tt, unmoved returns key s o id m.0 n me alive_ near, (refl, (s, (id, o, me, ap (λ j. slice_index s.words (word_of j)) (object_home n)))))
+    (m.0, keeps, tt, unmoved returns key s o id m.0 n me alive_ near, (refl, refl, (s, (id, o, me, ap (λ j. slice_index s.words (word_of j)) (object_home n)))))
 
 module _ (returns : Bool) (key : List (List ℕ)) (logs : ℕ → List SharedEntry) (id : ℕ) where
   -- a seat that has done nothing yet, or whose part was taken in
@@ -403,6 +430,8 @@ deals_ok returns key id v is_dealer room alive_ s o me =
               passes = sum (has_pass n) refl refl i;
               moving = sum (has_moving n) refl refl i;
               far = sum (has_far n) refl refl i;
+              touched = sum (has_touched n) refl refl i;
+              cooled = sum (has_cooled n) refl refl i;
             }) refl refl refl f;
         nowhere = o.objects.nowhere;
       };
@@ -493,6 +522,7 @@ starts_ok returns key ws bs long quiet same_bytes =
         fits = λ n lt. let z₀ = none-moving n in let z₁ = none-far n in record {
           hot = 0;
           one_hot = omega arith;
+          heat = omega arith;
           word_is = quiet (word_of n) ∙ omega arith;
           one_turn = omega arith;
           one_out = omega arith;

@@ -89,6 +89,7 @@ word_shows returns opening s k n lt =
         here = λ used. ⊎_elim (λ (out : 0 < (tally n s.views).moving + (tally n s.views).far). absurd (omega (arith, f.here out, used, hot_is)))
             (λ (none : (tally n s.views).moving + (tally n s.views).far ≤ 0). place.2 (omega (arith, none)))
             (cases_lt 0 ((tally n s.views).moving + (tally n s.views).far));
+        heat = omega (arith, f.heat, hot_is);
       },
       f.word_is ∙ omega (arith, place_is, turn_is, hot_is),
     )

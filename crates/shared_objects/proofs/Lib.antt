@@ -7,9 +7,10 @@ mod Noted
 mod Acting
 mod MoverKeeps
 mod Slots
-mod One
+pub mod One
 mod Joining
-mod Sorting
+pub mod Sorting
 mod Seating
 mod Few
 mod Legal
+mod Learnt

@@ -1,5 +1,5 @@
 -- Each step of the mover keeps the rule.
-use Rattle.std.proofs.Common.{◌≡◌, true, Bool, ℕ, ◌+◌, ◌-◌, ◌*◌, ◌/◌, ◌%◌, ◌^◌, ◌<◌, ◌≤◌, List, [], ◌∷◌, ◌++◌, length, set, sym, refl, ap, ◌∙◌, subst, arith}
+use Rattle.std.proofs.Common.{◌≡◌, true, false, Bool, ℕ, zero, suc, ◌≢◌, ◌+◌, ◌-◌, ◌*◌, ◌/◌, ◌%◌, ◌^◌, ◌<◌, ◌≤◌, List, [], ◌∷◌, ◌++◌, length, set, sym, refl, ap, ◌∙◌, subst, arith}
 use Rattle.std.proofs.Common.{eqb, ◌⊎◌, ⊎_elim, slice_index, bit_and, min}
 use prog.Atomic.{either}
 use lib.Bits.{and_step, and_mask}
@@ -13,12 +13,14 @@ use Rattle.shared_objects.specs.History.{top}
 use Rattle.memory.specs.Objects.{bytes_of}
 use Rattle.shared_objects.specs.Rule.{has_moving, has_far, place_of, bytes_taken, is_moving, is_far, Stands, word_of, tally, SlotFits, Kept}
 use Rattle.shared_objects.specs.Kinds.{Sat, placed, sent, called, with_cooling, cooling, begins_leave, ends_leave, begins_return, ends_return, cools}
+use Rattle.shared_objects.specs.Rule.{total, cooled_on}
+use Rattle.shared_objects.specs.declared.view.Cooling.{Cooling}
 use Rattle.shared_objects.specs.Rule.SlotFits.{AtHome, Lent, Idle}
 use Rattle.shared_objects.specs.declared.body.Body.{Body}
 use Rattle.shared_objects.specs.declared.view.Whereabouts.{Whereabouts}
 use Rattle.shared_objects.specs.declared.view.Whereabouts.TheVariants.{Here, Moving, Far}
 use Rattle.shared_objects.specs.declared.view.View.{View}
-use Rattle.shared_objects.proofs.Sums.{term_le}
+use Rattle.shared_objects.proofs.Sums.{term_le, total-append, is_here, is_else}
 use Rattle.shared_objects.proofs.Moves.{St, state, body_in, body_far}
 use Rattle.shared_objects.proofs.Steps.{keeps_slot, puts, gives_back}
 use Rattle.shared_objects.proofs.Logs.{object_home}
@@ -63,8 +65,9 @@ lifts_ok returns key slots id m n old next lt quiet next_is wide alive_ s o long
       y.1,
       puts returns key s o id v n next 0 me near alive_ (omega arith) none p wide
           (λ moving far a b. (omega (arith, rest_is, next_is), omega arith, (λ _. omega arith), Lent (omega arith) refl))
-          (λ bytes e. subst (Stands returns (bytes_of key n) (o.logs n)) (some_is body.bytes.items bytes e) y.2),
+          (λ bytes e. subst (Stands returns (bytes_of key n) (o.logs n)) (some_is body.bytes.items bytes e) y.2) (omega (arith, f.heat)),
       (
+        next_is,
         (λ _. subst (λ j. (b : Body) × (◌≡◌ {A = Sat} (w, (n, body) ∷ m.1) (placed j (Moving b.bytes.items) v, (j, b) ∷ m.1))
             × (length b.bytes.items ≡ length (bytes_of v.opening j))) (sym (object_home n)) (
               body,
@@ -74,7 +77,7 @@ lifts_ok returns key slots id m n old next lt quiet next_is wide alive_ s o long
         λ ne. absurd (ne hit),
       ),
     ))
-    (λ miss. (v, keeps, tt, unmoved returns key s o id v n me alive_ near, ((λ e. absurd (miss e)), λ _. refl)))
+    (λ miss. (v, keeps, tt, unmoved returns key s o id v n me alive_ near, (next_is, (λ e. absurd (miss e)), λ _. refl)))
 
 sent_taken : (p : Whereabouts) → bytes_taken (sent p) ≡ bytes_taken p
 sent_taken Here = refl
@@ -105,7 +108,7 @@ stays_out returns key s o id n by v slot p me near alive_ wide same out out' cha
       (λ _. quiet),
       fits moving far (omega (arith, f.one_out)) (omega (arith, f.one_out)),
     ))
-    (λ b e. (o.seats.knows id v me).out n b (sym same ∙ e))
+    (λ b e. (o.seats.knows id v me).out n b (sym same ∙ e)) f.heat
 
 -- what is on its way is far, and its slot goes home
 pub sends_ok : (returns : Bool) (key : List (List ℕ)) (slots id : ℕ) (m : Sat) (n : ℕ) (bytes : List ℕ) (body : Body) (more : List (ℕ × Body))
@@ -153,6 +156,21 @@ cold_mask x small =
     let e : bit_and (x / 2 / 2 / 2 / 2) 1152921504606846975 ≡ x / 2 / 2 / 2 / 2 % 2 ^ 60 = and_mask (x / 2 / 2 / 2 / 2) 60 in
     omega (arith, a, b, c, d, e)
 
+-- one cooling more is counted
+cooled-snoc : (n : ℕ) (coolings : List Cooling) (new : Cooling) → total (cooled_on n) (coolings ++ new ∷ []) ≡ total (cooled_on n) coolings + cooled_on n new
+cooled-snoc n coolings new = omega (arith, total-append (cooled_on n) coolings (new ∷ []))
+
+-- it counts by the mark that it found
+cooled_here : (n hot : ℕ) → hot ≤ 1 → cooled_on n (cooling n (nat_eq hot 1)) ≡ hot
+cooled_here n zero few = refl
+cooled_here n (suc zero) few = is_here n n refl
+cooled_here n (suc (suc k)) few = absurd (omega arith)
+
+-- and not at another object
+cooled_else : (m n : ℕ) (hot : Bool) → m ≢ n → cooled_on m (cooling n hot) ≡ 0
+cooled_else m n true ne = is_else n m (λ q. ne (sym q))
+cooled_else m n false ne = refl
+
 -- the object is cooled, wherever it is
 pub cools_ok : (returns : Bool) (key : List (List ℕ)) (slots id : ℕ) (m : Sat) (n : ℕ) → n < slots → m.0.live ≡ true
     → Allows (Kept returns key) slots id m (word_of n) (λ x. bit_and x (2 ^ 64 - 9)) (cools (step slots (word_of n) (2 ^ 64 - 9) 0 none) m)
@@ -173,7 +191,9 @@ cools_ok returns key slots id m n lt alive_ s o long me small =
             omega (arith, f.word_is, f.one_hot, bits, hot_is),
             λ out. let h = f.here out in
                 omega arith,
-          )) k.first k.turn k.marks,
+          )) k.first k.turn k.marks
+          (λ j ne. (refl, omega (arith, cooled-snoc j v.coolings (cooling n (nat_eq (x / 8 % 2) 1)), cooled_else j n (nat_eq (x / 8 % 2) 1) ne)))
+          (omega (arith, f.heat, hot_is, cooled-snoc n v.coolings (cooling n (nat_eq (x / 8 % 2) 1)), cooled_here n (x / 8 % 2) (omega (arith, hot_is, f.one_hot)))),
       (refl, ap (λ j. (with_cooling j (nat_eq (x / 8 % 2) 1) v, m.1)) (sym (object_home n))),
     )
 
@@ -198,10 +218,10 @@ lands_ok returns key slots id m n bytes body more lt carried at as_long back_ wi
     more (placed n Here v) carried
     (puts returns key s o id v n ((x + (2 ^ 64 - 1)) % 2 ^ 64) f.hot me near alive_ f.one_hot (some body) Here wide
     (λ moving far a b. (
-      omega (arith, f.word_is, f.one_hot, f.small, f.one_turn, f.one_out),
+      omega (arith, f.word_is, f.one_hot, f.small, f.one_turn, f.one_out, few, quiet),
       omega (arith, f.one_out),
       (λ out. absurd (omega (arith, f.one_out))),
       AtHome (omega (arith, f.one_out)) body refl stands,
     ))
-    (λ b e. absurd (none_is_not b e)))
+    (λ b e. absurd (none_is_not b e)) (omega (arith, f.heat)))
     (ap (λ j. (placed j Here v, more)) (sym (object_home n)))

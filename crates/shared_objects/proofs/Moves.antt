@@ -10,7 +10,7 @@ use Rattle.atomic_table.specs.Table.{State}
 use Rattle.atomic_table.proofs.Lists.{at_set, set_else}
 use Rattle.shared_objects.specs.History.{Has, top}
 use Rattle.memory.specs.Objects.{bytes_of}
-use Rattle.shared_objects.specs.Rule.{total, has_turn, has_open, has_pass, has_moving, has_far, place_of, is_moving, is_far, bytes_taken, is_live, spent}
+use Rattle.shared_objects.specs.Rule.{total, has_turn, has_open, has_pass, has_moving, has_far, place_of, is_moving, is_far, bytes_taken, is_live, spent, has_touched, has_cooled}
 use Rattle.shared_objects.specs.Rule.{HasPart, Written, PartFits, TurnFits, MarkFits, Stands, turns_on, word_of, Tally, tally, SlotFits, Fits, Knows, Kept}
 use Rattle.shared_objects.specs.Rule.SlotFits.{AtHome, Lent, Idle}
 use Rattle.shared_objects.specs.declared.body.Body.{Body}
@@ -85,6 +85,8 @@ pub record Alike (m : ℕ) (v w : View) : Type 0 where
   pub passes : has_pass m w ≡ has_pass m v
   pub moving : has_moving m w ≡ has_moving m v
   pub far : has_far m w ≡ has_far m v
+  pub touched : has_touched m w ≡ has_touched m v
+  pub cooled : has_cooled m w ≡ has_cooled m v
 
 pub tally_set : (vs : List View) (id : ℕ) (v w : View) (m : ℕ) → get_elem? vs id ≡ some v → Alike m v w → tally m (set vs id w) ≡ tally m vs
 tally_set vs id v w m me a =
@@ -95,6 +97,8 @@ tally_set vs id v w m me a =
       passes = step (has_pass m) a.passes i;
       moving = step (has_moving m) a.moving i;
       far = step (has_far m) a.far i;
+      touched = step (has_touched m) a.touched i;
+      cooled = step (has_cooled m) a.cooled i;
     }
 
 -- a place with bytes counts

@@ -194,7 +194,7 @@ pick_rises q floor (x ∷ xs) o low apart = ⊎_elim
 pub by_is : (a b : ℕ) → (a == b) ≡ true → a ≡ b
 by_is a b e = dite (ℕ_discrete a b) (λ same. same) (λ ne. absurd (not_both (eqb a b) e (ne_eqb a b ne)))
 
-by_same : (a b : ℕ) → a ≡ b → (a == b) ≡ true
+pub by_same : (a b : ℕ) → a ≡ b → (a == b) ≡ true
 by_same a b e = eq-eqb a b e
 
 -- each part is what its actor has in the one list

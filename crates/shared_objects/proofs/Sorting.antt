@@ -132,7 +132,7 @@ sorted_order : (es : List SharedEntry) → Apart es → InOrder (sorted es)
 sorted_order [] a = tt
 sorted_order (e ∷ es) a = insert_order e (sorted es) (sorted_order es a.1) (λ f h. a.0 f (sorted_has es f h))
 
-pub has_either : (xs ys : List SharedEntry) (x : SharedEntry) → Has (xs ++ ys) x → Has xs x ⊎ Has ys x
+pub has_either : {A : Type 0} (xs ys : List A) (x : A) → Has (xs ++ ys) x → Has xs x ⊎ Has ys x
 has_either [] ys x h = inr h
 has_either (y ∷ xs) ys x h = ⊎_elim (λ q. inl (subst (Has (y ∷ xs)) q (first y xs)))
     (λ q. ⊎_elim (λ r. inl (later y x xs r)) (λ r. inr r) (has_either xs ys x q)) (has_cons y x (xs ++ ys) h)

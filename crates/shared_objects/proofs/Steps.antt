@@ -13,6 +13,7 @@ use Rattle.memory.specs.Objects.{bytes_of}
 use Rattle.shared_objects.specs.History.{Has, Rises, top}
 use Rattle.shared_objects.specs.Kinds.{Sat, placed}
 use Rattle.shared_objects.specs.Rule.{total, times, has_turn, has_open, has_pass, has_moving, has_far, place_of, is_moving, is_far, bytes_taken, turns_on}
+use Rattle.shared_objects.specs.Rule.{mark_on, cooled_on, has_touched, has_cooled}
 use Rattle.shared_objects.specs.Rule.{Stands, word_of, Tally, tally, SlotFits, TurnFits, MarkFits, Fits, Knows, Kept}
 use Rattle.shared_objects.specs.Rule.SlotFits.{AtHome, Lent, Idle}
 use Rattle.shared_objects.specs.declared.body.Body.{Body}
@@ -37,6 +38,24 @@ same_slot : {returns : Bool} {opening : List ℕ} {t t' : Tally} {home : maybe.O
 same_slot turns moving far (AtHome calm body at stands) = AtHome (omega arith) body at stands
 same_slot turns moving far (Lent out at) = Lent (omega arith) at
 same_slot turns moving far (Idle away body at) = Idle (omega arith) body at
+
+-- an object fits as before where fewer coolings are counted
+pub cooler : {returns : Bool} {opening : List ℕ} {t : Tally} {word : ℕ} {home : maybe.Option (maybe.Option Body)} {log : List SharedEntry} (cooled : ℕ)
+    → Fits returns opening t word home log → cooled ≤ t.cooled → Fits returns opening (record t { cooled = cooled }) word home log
+cooler cooled f fewer = record {
+  hot = f.hot;
+  word_is = f.word_is;
+  one_hot = f.one_hot;
+  heat = omega (arith, f.heat, fewer);
+  one_turn = f.one_turn;
+  one_out = f.one_out;
+  here = f.here;
+  small = f.small;
+  chained = f.chained;
+  inside = f.inside;
+  answers = f.answers;
+  slot = same_slot refl refl refl f.slot;
+}
 
 -- a seat gives the first of its bodies back
 pub gives_back : (holds : St → Type 0) (s : St) (id at next found : ℕ) (m : Sat) (told : Sat → ℕ → Sat
@@ -105,13 +124,16 @@ module _ (returns : Bool) (key : List (List ℕ)) (s : St) (o : Kept returns key
       → WordIs (record was { opens = opens; passes = passes }) × RestsOut (record was { opens = opens; passes = passes }))
       → (id ≡ 0 → (0 < v.made) × (scopes ≡ []) × (passing ≡ [])) → ((t : Turn) → v.turn ≡ Some t → TurnFits returns key o.logs scopes t)
       → ((m : Mark) → Has marks m → MarkFits o.logs m)
+      → ((m : ℕ) → m ≢ n → (total (mark_on m) marks ≡ total (mark_on m) v.marks) × (total (cooled_on m) coolings ≡ has_cooled m v))
+      → hot + total (cooled_on n) coolings + total (mark_on n) v.marks + was.cooled ≤ was.touched + total (mark_on n) marks + has_cooled n v
       → Kept returns key (state (set s.words (word_of n) x) s.homes
       (set s.views id (record v { scopes = scopes; passing = passing; marks = marks; coolings = coolings })))
-  keeps_slot scopes passing marks coolings apart once left first turn marked =
+  keeps_slot scopes passing marks coolings apart once left first turn marked unheard heat =
       let w : View = record v { scopes = scopes; passing = passing; marks = marks; coolings = coolings } in let vs : List View = set s.views id w in
       let f = o.objects.fits n near in let k = o.seats.knows id v me in
       let a = total-set (has_turn n) s.views id v w me in let b = total-set (has_moving n) s.views id v w me in
       let c = total-set (has_far n) s.views id v w me in
+      let d = total-set (has_touched n) s.views id v w me in let e = total-set (has_cooled n) s.views id v w me in
       let h = left (total (has_open n) vs) (total (has_pass n) vs) (total-set (has_open n) s.views id v w me) (total-set (has_pass n) s.views id v w me) in
       unlogged w s.homes (
         refl,
@@ -121,11 +143,20 @@ module _ (returns : Bool) (key : List (List ℕ)) (s : St) (o : Kept returns key
         refl,
         refl,
         refl,
-      ) refl refl (λ _ _. refl) (λ m ne. record { turns = refl; opens = (apart m ne).0; passes = (apart m ne).1; moving = refl; far = refl })
+      ) refl refl (λ _ _. refl) (λ m ne. record {
+        turns = refl;
+        opens = (apart m ne).0;
+        passes = (apart m ne).1;
+        moving = refl;
+        far = refl;
+        touched = omega (arith, (unheard m ne).0);
+        cooled = (unheard m ne).1;
+      })
       (record {
         hot = hot;
         word_is = omega (arith, h.0);
         one_hot = one_hot;
+        heat = omega (arith, d, e, heat);
         one_turn = omega (arith, f.one_turn);
         one_out = omega (arith, f.one_out);
         here = λ out. let r = h.1 (omega arith) in omega arith;
@@ -153,19 +184,31 @@ module _ (returns : Bool) (key : List (List ℕ)) (s : St) (o : Kept returns key
       → ((t : Turn) → turn ≡ Some t → TurnFits returns key o.logs v.scopes t)
       → ((bytes : List ℕ) → bytes_taken (slice_index_or out n Here) ≡ Some bytes → Stands returns (bytes_of key n) (o.logs n) bytes)
       → ((m : Mark) → Has marks m → MarkFits o.logs m)
+      → ((m : ℕ) → m ≢ n → total (mark_on m) marks ≡ total (mark_on m) v.marks)
+      → hot + has_turn n v + total (mark_on n) v.marks + was.cooled ≤ was.touched + turns_on n turn + total (mark_on n) marks
       → Kept returns key (state (set s.words (word_of n) x) (set s.homes n slot) (set s.views id (record v { turn = turn; marks = marks; out = out })))
-  moves_slot slot turn marks out apart left held stands marked =
+  moves_slot slot turn marks out apart left held stands marked unheard heat =
       let w : View = record v { turn = turn; marks = marks; out = out } in let vs : List View = set s.views id w in
       let f = o.objects.fits n near in let k = o.seats.knows id v me in
       let a = total-set (has_open n) s.views id v w me in let b = total-set (has_pass n) s.views id v w me in
+      let d = total-set (has_touched n) s.views id v w me in let e = total-set (has_cooled n) s.views id v w me in
       let h = left (total (has_turn n) vs) (total (has_moving n) vs) (total (has_far n) vs) (total-set (has_turn n) s.views id v w me)
       (total-set (has_moving n) s.views id v w me) (total-set (has_far n) s.views id v w me) in
       unlogged w (set s.homes n slot) (refl, refl, refl, refl, refl, refl, refl) refl (length-set s.homes n slot) (λ m ne. set_else s.homes n m slot ne)
-      (λ m ne. record { turns = (apart m ne).0; opens = refl; passes = refl; moving = ap is_moving (apart m ne).1; far = ap is_far (apart m ne).1 })
+      (λ m ne. record {
+        turns = (apart m ne).0;
+        opens = refl;
+        passes = refl;
+        moving = ap is_moving (apart m ne).1;
+        far = ap is_far (apart m ne).1;
+        touched = omega (arith, (apart m ne).0, unheard m ne);
+        cooled = refl;
+      })
       (record {
         hot = hot;
         word_is = omega (arith, h.0);
         one_hot = one_hot;
+        heat = omega (arith, d, e, heat);
         one_turn = h.1;
         one_out = h.2;
         here = λ away. let r = h.3 (omega arith) in omega arith;
@@ -189,11 +232,12 @@ module _ (returns : Bool) (key : List (List ℕ)) (s : St) (o : Kept returns key
       → WordIs (record was { moving = moving; far = far }) × (moving + far ≤ 1) × RestsOut (record was { moving = moving; far = far })
       × SlotFits returns (bytes_of key n) (record was { moving = moving; far = far }) (some slot) (o.logs n))
       → ((bytes : List ℕ) → bytes_taken p ≡ Some bytes → Stands returns (bytes_of key n) (o.logs n) bytes)
+      → hot + was.cooled ≤ was.touched
       → Kept returns key (state (set s.words (word_of n) x) (set s.homes n slot) (set s.views id (placed n p v)))
-  puts slot p wide left stands =
+  puts slot p wide left stands heat =
       let f = o.objects.fits n near in let k = o.seats.knows id v me in
       let is = placed_here v n p wide in
       moves_slot slot v.turn v.marks (set v.out n p) (λ j ne. (refl, placed_else v n p j ne))
       (λ turns moving far a b c. let h = left moving far (b ∙ ap (λ q. was.moving + is_moving q) is) (c ∙ ap (λ q. was.far + is_far q) is) in
       (omega (arith, h.0), omega (arith, f.one_turn), h.1, (λ out. let r = h.2 out in omega arith), same_slot (omega arith) refl refl h.3))
-      k.turn (λ bytes e. stands bytes (sym (ap bytes_taken is) ∙ e)) k.marks
+      k.turn (λ bytes e. stands bytes (sym (ap bytes_taken is) ∙ e)) k.marks (λ _ _. refl) (omega (arith, heat))

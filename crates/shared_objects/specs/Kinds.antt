@@ -182,18 +182,20 @@ takes_turn st before found after = (st.first ≡ 12) × (found / 4 % 2 ≡ 0 →
 abbrev pub gives_turn : SharedEntry → Play
 gives_turn e st before found after = after ≡ seat_giving (recorded e (view_of before)) before
 
--- give turn, without an entry: the mark says which stamp it had found
+-- give turn, without an entry: the mark of a turn alone is cleared, and the seat's mark says which stamp it had found
 abbrev pub gives_up_turn : Play
-gives_up_turn st before found after = (t : Turn) × ((view_of before).turn ≡ Some t) × (after ≡ seat_giving (worn_out t.object t.stamp (view_of before)) before)
+gives_up_turn st before found after = (st.first ≡ 4)
+    × ((t : Turn) × ((view_of before).turn ≡ Some t) × (after ≡ seat_giving (worn_out t.object t.stamp (view_of before)) before))
 
 -- the mover has the body, and the object is on its way
 abbrev pub Lifted : ℕ → Sat → Sat → Type 0
 Lifted object before after = (body : Body)
     × (after ≡ seat_taking (placed object (Moving body.bytes.items) (view_of before)) object body before) × IsBodyOf object before body
 
--- begin leave: where another word was found nothing changed
+-- begin leave: the word that is put has the stamp of the one expected, and the object on its way. Where another was found nothing
+-- changed
 abbrev pub begins_leave : Play
-begins_leave st before found after = (found ≡ st.first → Lifted (object_at st.word) before after) × (found ≢ st.first → after ≡ before)
+begins_leave st before found after = (st.second ≡ st.first - st.first % 65536 + 1) × (found ≡ st.first → Lifted (object_at st.word) before after) × (found ≢ st.first → after ≡ before)
 
 -- end leave: what was on its way is far, and its slot is at home
 abbrev pub ends_leave : Play
@@ -225,7 +227,7 @@ Witness returns opening v n word = (s : State Body View)
 
 -- a look changes nothing
 abbrev pub looks : Bool → List (List ℕ) → Play
-looks returns opening st before found after = (after ≡ before) × Witness returns opening (view_of before) (object_at st.word) found
+looks returns opening st before found after = (st.first ≡ 0) × (after ≡ before) × Witness returns opening (view_of before) (object_at st.word) found
 
 -- an entry that none has
 abbrev pub no_entry : SharedEntry

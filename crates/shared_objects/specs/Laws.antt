@@ -1,5 +1,5 @@
 -- What the rule and the one list say, apart from any call.
-use Rattle.std.specs.Prelude.{◌≡◌, Bool, true, ℕ, ◌+◌, ◌*◌, ◌/◌, ◌%◌, ◌<◌, ◌≤◌, List, length, slice_index, Some}
+use Rattle.std.specs.Prelude.{◌≡◌, Bool, true, ℕ, ◌+◌, ◌*◌, ◌/◌, ◌%◌, ◌<◌, ◌≤◌, List, ◌∷◌, ◌++◌, length, slice_index, Some}
 use mathlib.Core.Option.{some}
 use lib.ListN.{get_elem?}
 use Rattle.atomic_table.specs.Table.{State}
@@ -8,6 +8,8 @@ use Rattle.pointer_word.specs.Words.{WordRecord, HasFields, place_number, bit, w
 use Rattle.pointer_word.specs.declared.word.WordPlace.TheVariants.{Local}
 use Rattle.shared_objects.specs.History.{Has, top}
 use Rattle.shared_objects.specs.Legal.{Legal, IsOneRun, fold_of}
+use Rattle.shared_objects.specs.Learnt.{Call, DidAll, StandsAfter}
+use Rattle.shared_objects.specs.Learnt.Call.{Learn}
 use Rattle.shared_objects.specs.One.{OneList, Runs, sorted, all_entries, entries_on}
 use Rattle.shared_objects.specs.Rule.{total, has_open, has_pass, place_of, bytes_taken, word_of, Tally, tally, Written, Kept}
 use Rattle.shared_objects.specs.declared.body.Body.{Body}
@@ -24,13 +26,15 @@ CountsStayFew = (returns : Bool) (opening : List (List ℕ)) (s : State Body Vie
 
 -- What the word of an object says is what all seats have of it: its place is where the mover has it, its turn is taken exactly
 -- where one seat holds it, its count is that of the seats that have it open or pass by, and its stamp is the last of its
--- entries. An object that is open, or hot, or whose turn is taken, is here.
+-- entries. An object that is open, or hot, or whose turn is taken, is here. It is hot, and was cooled and found hot, at most
+-- once for each time that a seat asked for its turn.
 pub record ShowsSeats (t : Tally) (log : List SharedEntry) (w : WordRecord) : Type 0 where
   pub place : place_number w.place ≡ t.moving + 2 * t.far
   pub turn : bit w.turn ≡ t.turns
   pub count : w.count ≡ t.opens + t.passes
   pub stamp : w.stamp ≡ top 0 log
   pub here : 0 < t.opens + t.turns + bit w.hot → w.place ≡ Local
+  pub heat : bit w.hot + t.cooled ≤ t.touched
 
 -- The word of each object is that of a record that shows what all seats have of it.
 abbrev pub WordsShowSeats : Type 0
@@ -79,3 +83,19 @@ OneListsAreLegal = (opening : List (List ℕ)) (parts : List Part) (ends : List 
 abbrev pub SortedEntriesRun : Type 0
 SortedEntriesRun = (returns : Bool) (opening : List (List ℕ)) (parts : List Part) (ends : List (List ℕ)) → (l : OneList returns opening parts ends)
     → (l.one ≡ sorted (all_entries parts)) × (returns ≡ true → Runs opening (sorted (all_entries parts)) ends)
+
+-- ---- what was learnt
+
+-- A stamp that is at least a seat's last one is at least that of each of its entries. So `learn` of what `stamp` says of a seat is
+-- to learn of all that this seat has done.
+abbrev pub StampsCover : Type 0
+StampsCover = (returns : Bool) (opening : List (List ℕ)) (s : State Body View) → Kept returns opening s → (id : ℕ) (v : View)
+    → get_elem? s.views id ≡ some v → (x : ℕ) → top 0 v.entries ≤ x → (e : SharedEntry) → Has v.entries e → e.stamp ≤ x
+
+-- A seat learns of a stamp, and makes any calls after that. Its entries stay, and each that it adds stands, in every legal
+-- history, after all entries of at most that stamp, and was given what its deed gives after them.
+abbrev pub LearntStandsBefore : Type 0
+LearntStandsBefore = (v w : View) (a b x : ℕ) (calls : List Call) → DidAll (Learn x ∷ calls) v a w b → (added : List SharedEntry)
+    × ((w.entries ≡ v.entries ++ added)
+    × ((opening : List (List ℕ)) (history : List SharedEntry) → Legal opening history → (e : SharedEntry) → Has added e → Has history e
+    → StandsAfter opening history x e))

@@ -15,4 +15,5 @@ pub mod Ends
 pub mod Opened
 pub mod SeatMemories
 pub mod Promised
+pub mod Learnt
 pub mod Laws

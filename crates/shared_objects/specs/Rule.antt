@@ -14,6 +14,7 @@ use Rattle.shared_objects.specs.declared.view.Mark.{Mark}
 use Rattle.shared_objects.specs.declared.view.Mark.TheVariants.{Away, Busy, Worn}
 use Rattle.shared_objects.specs.declared.view.Turn.{Turn}
 use Rattle.shared_objects.specs.declared.view.Part.{Part}
+use Rattle.shared_objects.specs.declared.view.Cooling.{Cooling}
 use Rattle.shared_objects.specs.declared.view.Whereabouts.{Whereabouts}
 use Rattle.shared_objects.specs.declared.view.Whereabouts.TheVariants.{Here, Moving, Far}
 use Rattle.shared_objects.specs.declared.view.View.{View}
@@ -81,6 +82,36 @@ has_moving n v = is_moving (place_of v n)
 abbrev pub has_far : ℕ → View → ℕ
 has_far n v = is_far (place_of v n)
 
+-- 1 where the entry is of the object n
+abbrev pub entry_on : ℕ → SharedEntry → ℕ
+entry_on n e = same e.object n
+
+-- 1 where the mark is that the turn of the object n was asked for, and ended without an entry or was another's
+abbrev pub mark_on : ℕ → Mark → ℕ
+mark_on n (Away k) = 0
+mark_on n (Busy k) = same k n
+mark_on n (Worn k found) = same k n
+
+-- how often the turn of the object n was asked for and is not held any more, by these entries and marks
+abbrev pub touches_in : ℕ → List SharedEntry → List Mark → ℕ
+touches_in n entries marks = total (entry_on n) entries + total (mark_on n) marks
+
+-- the same, of a seat that was taken in
+abbrev pub part_touches : ℕ → Part → ℕ
+part_touches n p = touches_in n p.entries p.marks
+
+-- how often the seat, and those that it took in, asked for the turn of the object n
+abbrev pub has_touched : ℕ → View → ℕ
+has_touched n v = has_turn n v + touches_in n v.entries v.marks + total (part_touches n) v.gathered
+
+-- 1 where the object n was cooled, and was hot
+abbrev pub cooled_on : ℕ → Cooling → ℕ
+cooled_on n c = cond c.hot (same c.object n) 0
+
+-- how often the seat cooled the object n and found it hot
+abbrev pub has_cooled : ℕ → View → ℕ
+has_cooled n v = total (cooled_on n) v.coolings
+
 -- 1 where the seat was not taken in
 abbrev pub is_live : View → ℕ
 is_live v = cond v.live 1 0
@@ -104,13 +135,16 @@ spent = record {
   coolings = [];
 }
 
--- how many seats have the turn of an object, have it open, pass by, have it on its way, and have it far
+-- how many seats have the turn of an object, have it open, pass by, have it on its way, and have it far; how often its turn was
+-- asked for, and how often it was cooled and found hot
 pub record Tally : Type 0 where
   pub turns : ℕ
   pub opens : ℕ
   pub passes : ℕ
   pub moving : ℕ
   pub far : ℕ
+  pub touched : ℕ
+  pub cooled : ℕ
 
 -- the object n, as all seats have it
 abbrev pub tally : ℕ → List View → Tally
@@ -120,6 +154,8 @@ tally n vs = record {
   passes = total (has_pass n) vs;
   moving = total (has_moving n) vs;
   far = total (has_far n) vs;
+  touched = total (has_touched n) vs;
+  cooled = total (has_cooled n) vs;
 }
 
 -- ---- the rule
@@ -156,6 +192,8 @@ pub record Fits (returns : Bool) (opening : List ℕ) (t : Tally) (word : ℕ) (
   pub hot : ℕ
   pub word_is : word ≡ t.moving + 2 * t.far + 4 * t.turns + 8 * hot + 256 * (t.opens + t.passes) + 65536 * top 0 log
   pub one_hot : hot ≤ 1
+  -- it is hot, and was found hot, at most once for each time that its turn was asked for
+  pub heat : hot + t.cooled ≤ t.touched
   pub one_turn : t.turns ≤ 1
   pub one_out : t.moving + t.far ≤ 1
   -- an object that is open, or hot, or whose turn is held, is here

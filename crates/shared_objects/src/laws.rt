@@ -1,5 +1,6 @@
 //! What the rule and the one list say, apart from any call.
 ghost use Rattle.shared_objects.specs.Laws.{CountsStayFew, WordsShowSeats, LegalHistoriesRun, TablesHaveHistories, OneListsAreLegal, SortedEntriesRun};
+ghost use Rattle.shared_objects.specs.Laws.{StampsCover, LearntStandsBefore};
 
 /// At most 56 seats count at an object, so that no count reaches into the stamp.
 pub fn counts_stay_few()
@@ -29,4 +30,15 @@ pub fn one_lists_are_legal()
 /// All entries, sorted by stamp, then actor, run from the opening bytes to those that the table closes with.
 pub fn sorted_entries_run()
     ensures { SortedEntriesRun }
+{}
+
+/// A stamp that is at least a seat's last one is at least that of each of its entries.
+pub fn stamps_cover()
+    ensures { StampsCover }
+{}
+
+/// What a seat learnt of stands before each entry that it adds afterwards, and such an entry was given what its deed gives
+/// after that.
+pub fn learnt_stands_before()
+    ensures { LearntStandsBefore }
 {}

@@ -17,8 +17,8 @@ mod view;
 pub use closing::ObjectEnd;
 pub use kinds::Key;
 pub use laws::{
-    counts_stay_few, legal_histories_run, one_lists_are_legal, sorted_entries_run,
-    tables_have_histories, words_show_seats,
+    counts_stay_few, learnt_stands_before, legal_histories_run, one_lists_are_legal,
+    sorted_entries_run, stamps_cover, tables_have_histories, words_show_seats,
 };
 pub use moving::Leave;
 pub use seat_memory::SeatMemory;

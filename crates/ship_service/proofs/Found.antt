@@ -1,5 +1,5 @@
 -- A machine that is there is found.
-use Rattle.std.proofs.Common.{◌≡◌, ℕ, List, sym, ◌∙◌, subst, inl, inr, Some, None}
+use Rattle.std.proofs.Common.{◌≡◌, Bool, ℕ, List, sym, ◌∙◌, subst, inl, inr, Some, None}
 use Rattle.std.specs.Prelude.{Option}
 use Rattle.machine.specs.MachineState.{MachineState}
 use Rattle.debugger.specs.declared.commands.MachineCommand.{MachineCommand}
@@ -11,6 +11,7 @@ use Rattle.debugger.specs.declared.replies.ShowReply.TheVariants as show_reply
 use Rattle.debugger.specs.declared.replies.Debugged.{Debugged}
 use Rattle.debugger.specs.declared.replies.Debugged.TheVariants as debugged
 use Rattle.workers.specs.Cells.{SeatState, CellState, RunningState, FitsCell, opened_as}
+use Rattle.workers.specs.TableNames.{Passage}
 use Rattle.world.specs.Machines.{reply_to_step, reply_to_show, reply_to_debug}
 use Rattle.world.specs.declared.replies.Reply.{Reply}
 use Rattle.world.specs.declared.replies.Reply.TheVariants as reply
@@ -63,8 +64,8 @@ lent_tells opening starts old new m c before after start fits there (inr h) = ce
 plain_is : (a b : Reply) → Plain a ≡ Plain b → b ≡ a
 plain_is a b e = cc
 
-pub opened_machines_stay : (opening : List (List ℕ)) (starts : List MachineState) → OpenedMachinesStay opening starts
-opened_machines_stay opening starts old new m c start low high there (inl h) = h.none (low, high)
-opened_machines_stay opening starts old new m c start low high there (inr h) =
-    lent_tells opening starts old new m c h.before h.after start h.before_is.fits there
-    (subst (λ r. AnswersLent c old h.before m r new h.after) (plain_is reply.Missing h.said h.told_is) h.answers)
+pub opened_machines_stay : (opening : List (List ℕ)) (starts : List MachineState) (lent : Passage → Bool) → OpenedMachinesStay opening starts lent
+opened_machines_stay opening starts lent old new m c start low high there (inl h) = h.none (low, high)
+opened_machines_stay opening starts lent old new m c start low high there (inr h) =
+    lent_tells opening starts old h.answered m c h.before h.left start h.holds.before_is.fits there
+    (subst (λ r. AnswersLent c old h.before m r h.answered h.left) (plain_is reply.Missing h.said h.told_is) h.answers)

@@ -1,17 +1,15 @@
 -- The cell keeps its number.
-use Rattle.std.proofs.Common.{◌≡◌, ℕ, List, refl, ap, ◌∙◌, subst, inl, inr}
+use Rattle.std.proofs.Common.{◌≡◌, ℕ, zero, suc, List, Option, Some, None, refl, ap, ◌∙◌, subst, inl, inr}
 use Rattle.debugger.specs.declared.start.Start.{Start}
 use Rattle.debugger.specs.declared.commands.MachineCommand.{MachineCommand}
 use Rattle.debugger.specs.declared.commands.MachineCommand.TheVariants.{Step, Show, Debug}
-use Rattle.debugger.specs.declared.commands.DebugCommand.{DebugCommand}
-use Rattle.debugger.specs.declared.commands.DebugCommand.TheVariants.{Resume}
-use Rattle.debugger.specs.declared.replies.Debugged.{Debugged}
-use Rattle.debugger.specs.declared.replies.Debugged.TheVariants as debugged
+use Rattle.debugger.specs.declared.replies.StepReply.{StepReply}
 use Rattle.machine.specs.MachineState.{MachineState}
-use Rattle.workers.specs.Cells.{SeatState, CellState, IsStamped, FitsCell}
+use Rattle.workers.specs.Cells.{SeatState, CellState, IsStamped, FitsCell, RanCell, RunsCell}
+use Rattle.workers.specs.Pools.{TurnsCell}
 use Rattle.world.specs.declared.replies.Reply.{Reply}
 use Rattle.world.specs.declared.replies.Reply.TheVariants as reply
-use Rattle.ship_service.specs.Lent.{informed, Requeues, AnswersCell, AnswersLent, ShipsCell}
+use Rattle.ship_service.specs.Lent.{informed, AnswersCell, AnswersLent, ShipsCell}
 use Rattle.ship_service.specs.Served.{IsCell}
 
 abbrev number_of : CellState → ℕ
@@ -29,15 +27,11 @@ cell_now opening starts m c number actor opens stamped fits = record {
   fits = subst (λ n. FitsCell opening starts n c.seat c.running) number fits;
 }
 
-requeued_number : (command : DebugCommand) (outcome : Debugged) (mid after : CellState) → Requeues command outcome mid after → after.number ≡ mid.number
-requeued_number Resume debugged.Done mid after h = ap number_of h.0.1
-requeued_number command outcome mid after h = ap number_of h
-
 cell_number : (command : MachineCommand) (before : CellState) (m : ℕ) (told : Reply) (after : CellState) → AnswersCell command before m told after
     → after.number ≡ before.number
 cell_number (Step way) before m told after h = ap number_of h.2.becomes
 cell_number (Show command) before m told after h = ap number_of h.3
-cell_number (Debug command) before m told after h = requeued_number command h.0 h.2.0 after h.2.2 ∙ ap number_of h.2.1.becomes
+cell_number (Debug command) before m told after h = ap number_of h.2.becomes
 
 informed_number : (command : MachineCommand) (old : SeatState) (before : CellState) → (informed command old before).number ≡ before.number
 informed_number (Step way) old before = refl
@@ -51,6 +45,18 @@ pub answered_number : (command : MachineCommand) (old : SeatState) (before : Cel
 answered_number command old before m told new after (inl h) = ap number_of h.unchanged
 answered_number command old before m told new after (inr h) =
     cell_number command (informed command old before) m told after h.answers ∙ informed_number command old before
+
+ran_number : (n : ℕ) (old new : CellState) → RanCell n old new → new.number ≡ old.number
+ran_number zero old new h = ap number_of h
+ran_number (suc n) old new h = ran_number n h.1 new h.3 ∙ ap number_of h.2.becomes
+
+runs_number : (n : ℕ) (old : CellState) (ran : ℕ) (told : Option StepReply) (new : CellState) → RunsCell n old ran told new → new.number ≡ old.number
+runs_number n old ran None new h = ran_number n old new h.1
+runs_number n old ran (Some told) new h = ap number_of h.answer.becomes ∙ ran_number ran old h.mid h.steps
+
+-- a turn
+pub turned_number : (limit : ℕ) (old new : CellState) → TurnsCell limit old new → new.number ≡ old.number
+turned_number limit old new h = ap number_of h.queues.0.1 ∙ runs_number h.most old h.ran h.told h.mid h.runs
 
 -- a machine that comes
 pub shipped_number : (start : Start) (code : List ℕ) (before : CellState) (told : Reply) (after : CellState) → ShipsCell start code before told after

@@ -7,6 +7,7 @@ mod Kept
 mod Seen
 mod Rising
 pub mod Settled
+pub mod Granted
 mod Dealt
 mod Written
 pub mod Saying

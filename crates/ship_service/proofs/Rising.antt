@@ -1,5 +1,5 @@
 -- What a machine does in a step that a connection asks for stands above all that the connection had seen.
-use Rattle.std.proofs.Common.{◌≡◌, ℕ, ◌≤◌, ◌<◌, ◌+◌, max, true, List, [], ◌∷◌, ◌++◌, refl, sym, ap, ◌∙◌, append_assoc, append-nil, subst, inl, inr, arith}
+use Rattle.std.proofs.Common.{◌≡◌, ◌⊎◌, Bool, ℕ, ◌≤◌, ◌<◌, ◌+◌, max, true, false, List, [], ◌∷◌, ◌++◌, refl, sym, ap, ◌∙◌, append_assoc, append-nil, subst, inl, inr, arith}
 use Rattle.std.proofs.Math.Nat.{le-max_left}
 use Rattle.memory.specs.declared.access.Op.{Op}
 use Rattle.memory.specs.declared.access.Reach.{Reach}
@@ -20,8 +20,10 @@ use Rattle.debugger.specs.declared.replies.StepReply.TheVariants as step_reply
 use Rattle.debugger.specs.declared.debuggee.Debuggee.{Debuggee}
 use Rattle.debugger.specs.Debuggees.{Walks, AnswersStep}
 use Rattle.workers.specs.Cells.{SeatState, seat_acts, CellState}
+use Rattle.workers.specs.TableNames.{Passage}
 use Rattle.world.specs.declared.replies.Reply.{Reply}
-use Rattle.ship_service.specs.Lent.{learning, AnswersLent}
+use Rattle.ship_service.specs.Lent.{learning, resumes, AnswersLent}
+use Rattle.ship_service.specs.Served.{GoesOn}
 use Rattle.ship_service.specs.Telling.{RiseTo, StepsAbove, StepsStandAbove}
 
 -- one entry more
@@ -109,5 +111,15 @@ answered old new m way before after said actor (inr h) =
     let k : new.stamp ≡ max old.stamp after.seat.stamp = ap (λ (x : SeatState). x.stamp) h.learns in
     record { more = last.more; entries = last.entries; stamps = rise_up m old.stamp after.seat.stamp new.stamp last.more last.stamps (omega (arith, k)) }
 
-pub steps_above : (opening : List (List ℕ)) (starts : List MachineState) → StepsStandAbove opening starts
-steps_above opening starts old new m way told c = answered old new m way c.before c.after c.said c.before_is.actor_is c.answers
+no_step_resumes : (way : Way) (said : Reply) → resumes (Step way) said ≡ true → ⊥
+no_step_resumes way said e = absurd (cc)
+
+pub steps_above : (opening : List (List ℕ)) (starts : List MachineState) (lent : Passage → Bool) → StepsStandAbove opening starts lent
+steps_above opening starts lent old new m way told c = go c.goes_on where
+  go : ((resumes (Step way) c.said ≡ true) × GoesOn opening starts lent m c.answered c.after new)
+      ⊎ ((resumes (Step way) c.said ≡ false) × (new ≡ c.answered) × (c.after ≡ c.left))
+      → StepsAbove m old c.before.seat c.after.seat new
+  go (inl g) = absurd (no_step_resumes way c.said g.0)
+  go (inr g) = subst (λ (s : SeatState). StepsAbove m old c.before.seat c.after.seat s) (sym g.1)
+      (subst (λ (x : CellState). StepsAbove m old c.before.seat x.seat c.answered) (sym g.2)
+      (answered old c.answered m way c.before c.left c.said c.holds.before_is.actor_is c.answers))

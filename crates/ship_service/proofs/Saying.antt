@@ -10,7 +10,7 @@ use Rattle.machine.specs.MachineState.{MachineState}
 use Rattle.workers.specs.Pools.{machines_of}
 use Rattle.world.specs.WorldState.{WorldState}
 use Rattle.ship_service.specs.Opening.{opened_bytes}
-use Rattle.listener.specs.Announcing.{listening_line}
+use Rattle.listener.specs.Announcing.{listening_at}
 use Rattle.ship_service.specs.Listening.{TellsClosing, TellsClosingOf, SaysAs, SaysClosing}
 use Rattle.ship_service.specs.declared.listening.ListenFault.{ListenFault}
 use Rattle.ship_service.specs.declared.listening.ListenFault.TheVariants.{NotHere, Memory, Net, Write}
@@ -33,25 +33,30 @@ appends_kept (Some x) None after text p q = absurd p
 appends_kept (Some x) (Some y) None text p q = absurd q
 appends_kept (Some x) (Some y) (Some z) text p q = q ∙ p
 
--- what is said when the service closes comes after the line of the port
-pub says_after : (tells : List ℕ → Type 0) (before mid after : Option (List ℕ)) (port : ℕ) (r : Result ⊤ ListenFault)
-    → Appends before mid (listening_line port) → SaysClosing tells mid after r → SaysAs tells before after r
-says_after tells before mid after port (Ok ended) first said = (port, said.0, said.1, Appends-trans before mid after (listening_line port) said.0 first said.2)
-says_after tells before mid after port (Err (NotHere n)) first said = absurd said
-says_after tells before mid after port (Err Memory) first said = inr (port, appends_kept before mid after (listening_line port) first said)
-says_after tells before mid after port (Err Net) first said = absurd said
-says_after tells before mid after port (Err Write) first said =
-    (port, inr (said.0, said.1, part_of_second before mid after (listening_line port) said.0 first said.2))
+-- what is said when the service closes comes after the line of the door
+pub says_after : (tells : List ℕ → Type 0) (name : List ℕ) (before mid after : Option (List ℕ)) (r : Result ⊤ ListenFault)
+    → Appends before mid (listening_at name) → SaysClosing tells mid after r → SaysAs tells name before after r
+says_after tells name before mid after (Ok ended) first said = (said.0, said.1, Appends-trans before mid after (listening_at name) said.0 first said.2)
+says_after tells name before mid after (Err (NotHere n)) first said = absurd said
+says_after tells name before mid after (Err Memory) first said = inr (appends_kept before mid after (listening_at name) first said)
+says_after tells name before mid after (Err Net) first said = absurd said
+says_after tells name before mid after (Err Write) first said =
+    inr (said.0, said.1, part_of_second before mid after (listening_at name) said.0 first said.2)
 
 -- a text that tells one thing tells what follows of it
-pub says_more : (tells more : List ℕ → Type 0) (before after : Option (List ℕ)) (r : Result ⊤ ListenFault) → ((text : List ℕ) → tells text → more text)
-    → SaysAs tells before after r → SaysAs more before after r
-says_more tells more before after (Ok ended) f said = (said.0, said.1, f said.1 said.2, said.3)
-says_more tells more before after (Err (NotHere n)) f said = said
-says_more tells more before after (Err Memory) f said = said
-says_more tells more before after (Err Net) f said = said
-says_more tells more before after (Err Write) f (port, inl part) = (port, inl part)
-says_more tells more before after (Err Write) f (port, inr (text, told, part)) = (port, inr (text, f text told, part))
+pub says_more : (tells more : List ℕ → Type 0) (name : List ℕ) (before after : Option (List ℕ)) (r : Result ⊤ ListenFault)
+    → ((text : List ℕ) → tells text → more text) → SaysAs tells name before after r → SaysAs more name before after r
+says_more tells more name before after (Ok ended) f said = (said.0, f said.0 said.1, said.2)
+says_more tells more name before after (Err (NotHere n)) f said = said
+says_more tells more name before after (Err Memory) f said = said
+says_more tells more name before after (Err Net) f said = said
+says_more tells more name before after (Err Write) f (inl part) = inl part
+says_more tells more name before after (Err Write) f (inr (text, told, part)) = inr (text, f text told, part)
+
+-- what is said of a door is said of its name
+pub said_at : (tells : List ℕ → Type 0) (name named : List ℕ) (before after : Option (List ℕ)) (r : Result ⊤ ListenFault) → named ≡ name
+    → SaysAs tells named before after r → SaysAs tells name before after r
+said_at tells name named before after r is said = subst (λ n. SaysAs tells n before after r) is said
 
 -- what began with the bytes and machines of a world began with that world
 pub tells_of_world : (X : Type 0) (returns : Bool) (table : TableId) (opening : List (List ℕ)) (starts : List MachineState) (world : WorldState)

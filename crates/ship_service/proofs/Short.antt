@@ -12,6 +12,7 @@ use Rattle.machine.specs.MachineState.{MachineState}
 use Rattle.debugger.specs.declared.commands.MachineCommand.{MachineCommand}
 use Rattle.debugger.specs.declared.commands.MachineCommand.TheVariants.{Step, Show, Debug}
 use Rattle.workers.specs.Cells.{SeatState, CellState}
+use Rattle.workers.specs.TableNames.{Passage}
 use Rattle.world.specs.declared.events.Event.{Event}
 use Rattle.world.specs.declared.events.Event.TheVariants as event
 use Rattle.world.specs.declared.events.ObjectCommand.{ObjectCommand}
@@ -79,25 +80,26 @@ lent_short : (old new : SeatState) (before after : CellState) (m : ℕ) (c : Mac
 lent_short old new before after m c told (inl h) short = subst IsShort (sym h.told_is) tt
 lent_short old new before after m c told (inr h) short = cell_short (informed c old before) after m c told h.answers short
 
-machine_short : (opening : List (List ℕ)) (starts : List MachineState) (old new : SeatState) (m : ℕ) (c : MachineCommand) (told : ServiceReply)
-    → ServesMachine opening starts old m c told new → AsksShort (event.Machine m c) → IsShortReply told
-machine_short opening starts old new m c told (inl h) short = subst IsShortReply (sym h.told_is) tt
-machine_short opening starts old new m c told (inr h) short =
-    subst IsShortReply (sym h.told_is) (lent_short old new h.before h.after m c h.said h.answers short)
+machine_short : (opening : List (List ℕ)) (starts : List MachineState) (lent : Passage → Bool) (old new : SeatState) (m : ℕ) (c : MachineCommand)
+    (told : ServiceReply)
+    → ServesMachine opening starts lent old m c told new → AsksShort (event.Machine m c) → IsShortReply told
+machine_short opening starts lent old new m c told (inl h) short = subst IsShortReply (sym h.told_is) tt
+machine_short opening starts lent old new m c told (inr h) short =
+    subst IsShortReply (sym h.told_is) (lent_short old h.answered h.before h.left m c h.said h.answers short)
 
 shipped_short : (start : Start) (code : List ℕ) (before after : CellState) (said : Reply) → ShipsCell start code before said after → IsShort said
 shipped_short start code before after (reply.Bytes b) h = absurd h
 shipped_short start code before after _ h = tt
 
-ship_short : (opening : List (List ℕ)) (starts : List MachineState) (lent : ℕ → Bool) (start : Start) (code : List ℕ) (told : ServiceReply)
+ship_short : (opening : List (List ℕ)) (starts : List MachineState) (lent : Passage → Bool) (start : Start) (code : List ℕ) (told : ServiceReply)
     → ServesShip opening starts lent start code told → IsShortReply told
 ship_short opening starts lent start code told (inl h) = subst IsShortReply (sym h.told_is) tt
 ship_short opening starts lent start code told (inr h) = subst IsShortReply (sym h.told_is) (shipped_short start code h.before h.after h.said h.ships)
 
 -- a reply fits its line
-pub serves_short : (opening : List (List ℕ)) (starts : List MachineState) (lent : ℕ → Bool) (old new : SeatState) (c : Event) (told : ServiceReply)
+pub serves_short : (opening : List (List ℕ)) (starts : List MachineState) (lent : Passage → Bool) (old new : SeatState) (c : Event) (told : ServiceReply)
     → Serves opening starts lent old c told new → AsksShort c → IsShortReply told
 serves_short opening starts lent old new (event.Make size) told h short = subst IsShortReply (sym h.0) tt
 serves_short opening starts lent old new (event.Ship start code) told h short = ship_short opening starts lent start code told h.0
 serves_short opening starts lent old new (event.Object n c) told h short = object_short old new n c told h short
-serves_short opening starts lent old new (event.Machine m c) told h short = machine_short opening starts old new m c told h short
+serves_short opening starts lent old new (event.Machine m c) told h short = machine_short opening starts lent old new m c told h short

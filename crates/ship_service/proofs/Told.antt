@@ -1,5 +1,5 @@
 -- The replies are the answers of the entries that are added.
-use Rattle.std.proofs.Common.{◌≡◌, ℕ, zero, suc, ◌≤◌, max, Bool, List, [], ◌∷◌, ◌++◌, map, refl, sym, ap, ◌∙◌, append_assoc, append-nil, subst, arith, inl, inr}
+use Rattle.std.proofs.Common.{◌≡◌, ◌⊎◌, ℕ, zero, suc, ◌≤◌, max, Bool, true, false, List, [], ◌∷◌, ◌++◌, map, refl, sym, ap, ◌∙◌, append_assoc, append-nil, subst, arith, inl, inr}
 use Rattle.std.proofs.lemmas.List.{map-append}
 use Rattle.std.proofs.Math.Nat.{le-max_left}
 use Rattle.memory.specs.declared.access.Reach.{Reach}
@@ -19,6 +19,7 @@ use Rattle.shared_objects.specs.declared.view.View.{View}
 use Rattle.machine.specs.MachineState.{MachineState}
 use Rattle.debugger.specs.declared.commands.MachineCommand.{MachineCommand}
 use Rattle.workers.specs.Cells.{SeatState}
+use Rattle.workers.specs.TableNames.{Passage}
 use Rattle.world.specs.Run.{Runs}
 use Rattle.world.specs.declared.events.Event.{Event}
 use Rattle.world.specs.declared.events.Event.TheVariants as event
@@ -28,8 +29,8 @@ use Rattle.console.specs.Conversations.{turn_commands, turn_replies}
 use Rattle.ship_service.specs.declared.replies.ServiceReply.{ServiceReply}
 use Rattle.ship_service.specs.declared.replies.ServiceReply.TheVariants.{Busy}
 use Rattle.ship_service.specs.Ranges.{reply_to_put, reply_to_get, PutsOnce, GetsOnce, FoundBusy, ServesPut, ServesGet}
-use Rattle.ship_service.specs.Lent.{AnswersLent}
-use Rattle.ship_service.specs.Served.{Serves, ServesObject, ServesMachine, ServesTurn, service}
+use Rattle.ship_service.specs.Lent.{AnswersLent, resumes}
+use Rattle.ship_service.specs.Served.{GoesOn, Serves, ServesObject, ServesMachine, ServesTurn, TakesTurns, service}
 use Rattle.ship_service.specs.Telling.{added, RiseTo, TellsEntries, RepliesAreEntries, ReplyIsEntry}
 
 -- what a command adds
@@ -143,30 +144,45 @@ object_tells old new n (object.Get offset size) told h = get_tells old new n off
 object_tells old new n object.Free told h = same old new h.1
 object_tells old new n (object.Move m) told h = same old new h.1
 
-machine_tells : (opening : List (List ℕ)) (starts : List MachineState) (old new : SeatState) (m : ℕ) (c : MachineCommand) (told : ServiceReply)
-    → ServesMachine opening starts old m c told new → Tells old [] new
-machine_tells opening starts old new m c told (inl h) = same old new h.same
-machine_tells opening starts old new m c told (inr h) = go h.answers where
-  go : AnswersLent c old h.before m h.said new h.after → Tells old [] new
-  go (inl t) = same old new t.same
-  go (inr t) = learnt old new _ t.learns
+-- a machine's turns add nothing to the connection's seat
+turns_tell : (opening : List (List ℕ)) (starts : List MachineState) (lent : Passage → Bool) (m n : ℕ) (old new : SeatState)
+    → TakesTurns opening starts lent m n old new → Tells old [] new
+turns_tell opening starts lent m zero old new h = same old new h
+turns_tell opening starts lent m (suc n) old new h =
+    after old h.0 new [] (turns_tell opening starts lent m n old h.0 h.1) (learnt h.0 new _ h.2.1.learns)
 
-serves_tells : (opening : List (List ℕ)) (starts : List MachineState) (lent : ℕ → Bool) (old new : SeatState) (c : Event) (told : ServiceReply)
+machine_tells : (opening : List (List ℕ)) (starts : List MachineState) (lent : Passage → Bool) (old new : SeatState) (m : ℕ) (c : MachineCommand)
+    (told : ServiceReply)
+    → ServesMachine opening starts lent old m c told new → Tells old [] new
+machine_tells opening starts lent old new m c told (inl h) = same old new h.same
+machine_tells opening starts lent old new m c told (inr h) = goes h.goes_on where
+  lent_tells : AnswersLent c old h.before m h.said h.answered h.left → Tells old [] h.answered
+  lent_tells (inl t) = same old h.answered t.same
+  lent_tells (inr t) = learnt old h.answered _ t.learns
+
+  goes : ((resumes c h.said ≡ true) × GoesOn opening starts lent m h.answered h.after new)
+      ⊎ ((resumes c h.said ≡ false) × (new ≡ h.answered) × (h.after ≡ h.left))
+      → Tells old [] new
+  goes (inl g) = after old h.answered new [] (lent_tells h.answers)
+      (after h.answered g.1.mid new [] (turns_tell opening starts lent m g.1.turns h.answered g.1.mid g.1.taken) (learnt g.1.mid new _ g.1.last.learns))
+  goes (inr g) = subst (λ (s : SeatState). Tells old [] s) (sym g.1) (lent_tells h.answers)
+
+serves_tells : (opening : List (List ℕ)) (starts : List MachineState) (lent : Passage → Bool) (old new : SeatState) (c : Event) (told : ServiceReply)
     → Serves opening starts lent old c told new → Tells old (added c told) new
 serves_tells opening starts lent old new (event.Make size) told h = same old new h.1
 serves_tells opening starts lent old new (event.Ship start code) told h = same old new h.1
 serves_tells opening starts lent old new (event.Object n c) told h = object_tells old new n c told h
-serves_tells opening starts lent old new (event.Machine m c) told h = machine_tells opening starts old new m c told h
+serves_tells opening starts lent old new (event.Machine m c) told h = machine_tells opening starts lent old new m c told h
 
 -- ---- one after the other
 
-turn_tells : (opening : List (List ℕ)) (starts : List MachineState) (lent : ℕ → Bool) (old new : SeatState) (c : Event) (told : ServiceReply)
+turn_tells : (opening : List (List ℕ)) (starts : List MachineState) (lent : Passage → Bool) (old new : SeatState) (c : Event) (told : ServiceReply)
     → ServesTurn opening starts lent old c told new → Tells old (added c told) new
 turn_tells opening starts lent old new c told h = subst (λ (s : SeatState). Tells old (added c told) s) (sym h.2) (
     let t = serves_tells opening starts lent old h.0 c told h.1 in
     record { more = t.more; entries = t.entries; tells = t.tells; stamps = t.stamps; actor = t.actor })
 
-runs_tell : (opening : List (List ℕ)) (starts : List MachineState) (lent : ℕ → Bool) (old new : SeatState) (cs : List Event) (rs : List ServiceReply)
+runs_tell : (opening : List (List ℕ)) (starts : List MachineState) (lent : Passage → Bool) (old new : SeatState) (cs : List Event) (rs : List ServiceReply)
     → Runs (ServesTurn opening starts lent) old cs rs new → TellsEntries old cs rs new
 runs_tell opening starts lent old new [] [] h =
     let t = same old new h in
@@ -186,10 +202,10 @@ runs_tell opening starts lent old new (c ∷ cs) (r ∷ rs) h =
 runs_tell opening starts lent old new [] (r ∷ rs) h = absurd h
 runs_tell opening starts lent old new (c ∷ cs) [] h = absurd h
 
-pub replies_are_entries : (opening : List (List ℕ)) (starts : List MachineState) (lent : ℕ → Bool) → RepliesAreEntries opening starts lent
+pub replies_are_entries : (opening : List (List ℕ)) (starts : List MachineState) (lent : Passage → Bool) → RepliesAreEntries opening starts lent
 replies_are_entries opening starts lent old new input output rest e = runs_tell opening starts lent old new _ _ e.run
 
-pub reply_is_entry : (opening : List (List ℕ)) (starts : List MachineState) (lent : ℕ → Bool) → ReplyIsEntry opening starts lent
+pub reply_is_entry : (opening : List (List ℕ)) (starts : List MachineState) (lent : Passage → Bool) → ReplyIsEntry opening starts lent
 reply_is_entry opening starts lent old new line bytes a =
     let cs = turn_commands (service opening starts lent) a.0 in
     let rs = turn_replies (service opening starts lent) a.0 in

@@ -1,5 +1,5 @@
 -- Commands on machines, on what a cell's lock lends: the connection's seat and the cell before, the reply, and both after.
-use Rattle.std.specs.Prelude.{◌≡◌, ◌≢◌, ◌⊎◌, ℕ, max, List, Some, None}
+use Rattle.std.specs.Prelude.{◌≡◌, ◌≢◌, ◌⊎◌, ℕ, Bool, true, false, max, List, Some, None}
 use Rattle.loader.specs.ValidCode.{ValidCode}
 use Rattle.loader.specs.Refusals.{HasCodeSize, Refuses}
 use Rattle.loader.specs.declared.loading.Why.TheVariants as why
@@ -7,12 +7,10 @@ use Rattle.machine.specs.MachineState.{granted_start}
 use Rattle.debugger.specs.declared.start.Start.{Start}
 use Rattle.debugger.specs.declared.commands.MachineCommand.{MachineCommand}
 use Rattle.debugger.specs.declared.commands.MachineCommand.TheVariants.{Step, Show, Debug}
-use Rattle.debugger.specs.declared.commands.DebugCommand.{DebugCommand}
 use Rattle.debugger.specs.declared.commands.DebugCommand.TheVariants.{Resume}
 use Rattle.debugger.specs.declared.replies.StepReply.{StepReply}
 use Rattle.debugger.specs.declared.replies.ShowReply.{ShowReply}
 use Rattle.debugger.specs.declared.replies.Debugged.{Debugged}
-use Rattle.debugger.specs.declared.replies.Debugged.TheVariants as debugged
 use Rattle.debugger.specs.Debuggees.{debuggee_start}
 use Rattle.workers.specs.Cells.{SeatState, CellState, RunningState, StepsCell, ShowsCell, DebugsCell}
 use Rattle.workers.specs.Pools.{QueuesCell}
@@ -33,17 +31,16 @@ informed _ s c = c
 
 -- ---- commands on a machine
 
--- a machine that was paused and goes on again is put into the queue; no other command queues one
-abbrev pub Requeues : DebugCommand → Debugged → CellState → CellState → Type 0
-Requeues Resume debugged.Done mid after = QueuesCell mid after
-Requeues _ _ mid after = after ≡ mid
-
 -- the reply of machine m, which the cell has, to a command
 abbrev pub AnswersCell : MachineCommand → CellState → ℕ → Reply → CellState → Type 0
 AnswersCell (Step way) before m told after = (outcome : StepReply) × (told ≡ reply_to_step m outcome) × StepsCell way before outcome after
 AnswersCell (Show command) before m told after = (outcome : ShowReply) × (told ≡ reply_to_show m outcome) × ShowsCell command before outcome × (after ≡ before)
-AnswersCell (Debug command) before m told after = (outcome : Debugged) × (told ≡ reply_to_debug outcome)
-    × ((mid : CellState) × DebugsCell command before outcome mid × Requeues command outcome mid after)
+AnswersCell (Debug command) before m told after = (outcome : Debugged) × (told ≡ reply_to_debug outcome) × DebugsCell command before outcome after
+
+-- a machine that was paused goes on again
+abbrev pub resumes : MachineCommand → Reply → Bool
+resumes (Debug Resume) reply.Done = true
+resumes _ _ = false
 
 -- The cell has a machine, which answers; then the connection's seat learns the stamp of the machine's.
 pub record FindsMachine (command : MachineCommand) (old : SeatState) (before : CellState) (m : ℕ) (told : Reply) (new : SeatState)

@@ -5,5 +5,6 @@ pub mod Served
 pub mod Telling
 pub mod Opening
 pub mod Closing
+pub mod Granted
 pub mod ClosingLines
 pub mod Listening

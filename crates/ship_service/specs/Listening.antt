@@ -2,7 +2,7 @@
 use Rattle.std.specs.Prelude.{◌≡◌, ◌⊎◌, ⊤, ℕ, Bool, List, [], ◌∷◌, ◌++◌, Option, Result, Ok, Err, codes, decimal}
 use Rattle.std.specs.Io.KnownBytes.{Appends, Keeps}
 use Rattle.streams.specs.Streams.{AppendsPart}
-use Rattle.listener.specs.Announcing.{listening_line}
+use Rattle.listener.specs.Announcing.{listening_at}
 use Rattle.atomic_table.specs.Seated.{TableId}
 use Rattle.object_store.specs.Parts.{AllHere, IsFirstAway}
 use Rattle.shared_objects.specs.declared.seats.ActorSeat.{ActorSeat}
@@ -44,16 +44,20 @@ SaysClosing tells before after (Err Write) = (text : List ℕ) × tells text × 
 
 -- ---- the whole
 
--- What is left in the output when the service has ended so: the line of the port and such a text, where all connections have ended;
--- where one couldn't be accepted or there was no memory, that line or nothing; and where the output failed, the first part of the
--- line, or of the line and such a text.
-abbrev pub SaysAs : (List ℕ → Type 0) → Option (List ℕ) → Option (List ℕ) → Result ⊤ ListenFault → Type 0
-SaysAs tells before after (Ok ended) = (port : ℕ) × (text : List ℕ) × tells text × Appends before after (listening_line port ++ text)
-SaysAs tells before after (Err (NotHere n)) = Keeps before after
-SaysAs tells before after (Err Memory) = Keeps before after ⊎ ((port : ℕ) × Appends before after (listening_line port))
-SaysAs tells before after (Err Net) = Keeps before after ⊎ ((port : ℕ) × Appends before after (listening_line port))
-SaysAs tells before after (Err Write) = (port : ℕ)
-    × (AppendsPart before after (listening_line port) ⊎ ((text : List ℕ) × tells text × AppendsPart before after (listening_line port ++ text)))
+-- What is left in the output when the service has ended so, where its door has this name: the line of the door and such a text, where all
+-- connections have ended; where one couldn't be accepted or there was no memory, that line or nothing; and where the output failed, the
+-- first part of the line, or of the line and such a text.
+abbrev pub SaysAs : (List ℕ → Type 0) → List ℕ → Option (List ℕ) → Option (List ℕ) → Result ⊤ ListenFault → Type 0
+SaysAs tells name before after (Ok ended) = (text : List ℕ) × tells text × Appends before after (listening_at name ++ text)
+SaysAs tells name before after (Err (NotHere n)) = Keeps before after
+SaysAs tells name before after (Err Memory) = Keeps before after ⊎ Appends before after (listening_at name)
+SaysAs tells name before after (Err Net) = Keeps before after ⊎ Appends before after (listening_at name)
+SaysAs tells name before after (Err Write) = AppendsPart before after (listening_at name)
+    ⊎ ((text : List ℕ) × tells text × AppendsPart before after (listening_at name ++ text))
+
+-- the same where its door is a port
+abbrev pub SaysAtPort : (List ℕ → Type 0) → Option (List ℕ) → Option (List ℕ) → Result ⊤ ListenFault → Type 0
+SaysAtPort tells before after ended = (port : ℕ) × SaysAs tells (decimal port) before after ended
 
 -- it didn't end because of an object that isn't here
 abbrev pub OpensAll : Result ⊤ ListenFault → Type 0

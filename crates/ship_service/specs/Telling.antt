@@ -10,6 +10,7 @@ use Rattle.machine.specs.MachineState.{MachineState}
 use Rattle.debugger.specs.declared.commands.Way.{Way}
 use Rattle.debugger.specs.declared.commands.MachineCommand.TheVariants.{Step}
 use Rattle.workers.specs.Cells.{SeatState}
+use Rattle.workers.specs.TableNames.{Passage}
 use Rattle.world.specs.declared.events.Event.{Event}
 use Rattle.world.specs.declared.events.Event.TheVariants.{Object}
 use Rattle.world.specs.declared.events.ObjectCommand.TheVariants.{Put, Get}
@@ -44,13 +45,13 @@ pub record TellsEntries (old : SeatState) (commands : List Event) (replies : Lis
   pub actor : new.view.actor ≡ old.view.actor
 
 -- In a conversation the replies are the entries' answers.
-abbrev pub RepliesAreEntries : List (List ℕ) → List MachineState → (ℕ → Bool) → Type 0
+abbrev pub RepliesAreEntries : List (List ℕ) → List MachineState → (Passage → Bool) → Type 0
 RepliesAreEntries opening starts lent =
     (old new : SeatState) (input output rest : List ℕ) (e : Exchange (service opening starts lent) old input output new rest)
     → TellsEntries old (flat_map (turn_commands (service opening starts lent)) e.turns) (flat_map (turn_replies (service opening starts lent)) e.turns) new
 
 -- So it is for a line whose reply is written in part.
-abbrev pub ReplyIsEntry : List (List ℕ) → List MachineState → (ℕ → Bool) → Type 0
+abbrev pub ReplyIsEntry : List (List ℕ) → List MachineState → (Passage → Bool) → Type 0
 ReplyIsEntry opening starts lent = (old new : SeatState) (line bytes : List ℕ) (a : Answered (service opening starts lent) old line bytes new)
     → TellsEntries old (turn_commands (service opening starts lent) a.0) (turn_replies (service opening starts lent) a.0) new
 
@@ -62,6 +63,6 @@ pub record StepsAbove (m : ℕ) (old : SeatState) (before after : SeatState) (ne
   pub stamps : RiseTo m old.stamp more new.stamp
 
 -- So it is for each step that a connection asks for.
-abbrev pub StepsStandAbove : List (List ℕ) → List MachineState → Type 0
-StepsStandAbove opening starts = (old new : SeatState) (m : ℕ) (way : Way) (told : ServiceReply) (c : OnCell opening starts old m (Step way) told new)
+abbrev pub StepsStandAbove : List (List ℕ) → List MachineState → (Passage → Bool) → Type 0
+StepsStandAbove opening starts lent = (old new : SeatState) (m : ℕ) (way : Way) (told : ServiceReply) (c : OnCell opening starts lent old m (Step way) told new)
     → StepsAbove m old c.before.seat c.after.seat new

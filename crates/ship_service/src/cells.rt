@@ -1,35 +1,38 @@
 //! Commands on machines by their numbers, each under the lock of the machine's cell.
-ghost use Rattle.std.specs.Prelude.{◌≡◌, ◌≤◌, ◌<◌, ◌+◌, ℕ, None, IfSome, IfNone, IfOk, IfErr};
+ghost use Rattle.std.specs.Prelude.{◌≡◌, ◌≤◌, ◌<◌, ◌+◌, ℕ, true, None, IfSome, IfNone, IfOk, IfErr};
 ghost use Rattle.std.specs.Sync.Mutex.{mutex_guard_value};
 ghost use Rattle.scopes.specs.Windows.{machine_limit};
 ghost use Rattle.workers.specs.Cells.{seat_state};
+ghost use Rattle.workers.specs.TableNames.Passage.{Lends};
 ghost use Rattle.ship_service.specs.Served.{IsCell, ServesMachine, ServesShip};
 
 use crate::lent::{answer_lent, ship_lent};
 use crate::replies::ServiceReply;
 use crate::shared_agent::Agent;
+use crate::turns::{go_on, resumes};
 use debugger::{MachineCommand, Start};
 use far_store::FarStore;
 use scopes::MACHINE_LIMIT;
 use shared_objects::ActorSeat;
 use std::alloc::Global;
 use std::sync::{MutexGuard, Wait};
-use workers::{Locked, Occupied, TableName};
+use workers::{Locked, Occupied, Pool, TableName};
 use world::Reply;
 
 /// The lock of the cell of this number, if there can be such a machine.
-fn lend<'a, F: FarStore, K: TableName, R: Wait>(
+pub(crate) fn lend<'a, F: FarStore, K: TableName, R: Wait>(
     rt: &R,
     agent: &'a Agent<F, K>,
     machine: usize,
 ) -> Option<MutexGuard<'a, Locked<K>>>
     ensures some { IfSome result (λ guard. IsCell K.opening K.starts machine (mutex_guard_value guard)) }
+    ensures lent { IfSome result (λ guard. K.lent (Lends (mutex_guard_value guard)) ≡ true) }
+    ensures exists { IfSome result (λ guard. (1 ≤ machine) × (machine ≤ machine_limit)) }
     ensures none { IfNone result ((1 ≤ machine) × (machine ≤ machine_limit) → ⊥) }
 {
-    let cell = agent.pool().cell(machine)?;
     // the first round is the last, since the cells stand in the order of their numbers: of a lock no type can say which it is
     for _ in rt.forever() {
-        let locked = cell.lock(rt);
+        let locked = agent.pool().lend(rt, machine)?;
         locked.fact();
         if locked.number() == machine {
             return Some(locked);
@@ -38,7 +41,7 @@ fn lend<'a, F: FarStore, K: TableName, R: Wait>(
     unreachable!()
 }
 
-/// Does a command on the machine of a number, if there is one.
+/// Does a command on the machine of a number, if there is one. A machine that is resumed goes on for some turns before the next command.
 pub(crate) fn answer_machine<F: FarStore, K: TableName, R: Wait>(
     rt: &R,
     alloc: Global,
@@ -48,13 +51,18 @@ pub(crate) fn answer_machine<F: FarStore, K: TableName, R: Wait>(
     command: MachineCommand,
 ) -> ServiceReply
     ensures seat { seat.new.seat ≡ seat.old.seat }
-    ensures serves { ServesMachine K.opening K.starts (seat_state seat.old) machine command result (seat_state seat.new) }
+    ensures serves { ServesMachine K.opening K.starts K.lent (seat_state seat.old) machine command result (seat_state seat.new) }
 {
     let Some(mut locked) = lend(rt, agent, machine) else {
         return ServiceReply::Plain(Reply::Missing);
     };
     let said = answer_lent(rt, alloc, agent.pool(), &mut locked, seat, machine, command);
     locked.fact();
+    agent.pool().give_back(locked);
+    if resumes(command, &said) {
+        go_on(rt, agent, seat, machine);
+        return ServiceReply::Plain(said);
+    }
     ServiceReply::Plain(said)
 }
 
@@ -66,6 +74,7 @@ fn lend_empty<'a, F: FarStore, K: TableName, R: Wait>(
 ) -> Result<(MutexGuard<'a, Locked<K>>, Occupied<K>), Occupied<K>>
     ensures found { IfOk result (λ r. (r.1 < machine_limit) × IsCell K.opening K.starts (r.1 + 1) (mutex_guard_value r.0)
         × ((mutex_guard_value r.0).running ≡ None)) }
+    ensures lent { IfOk result (λ r. K.lent (Lends (mutex_guard_value r.0)) ≡ true) }
     ensures none { IfErr result (λ occupied. occupied ≡ machine_limit) }
 {
     let mut occupied = agent.pool().occupied(rt, MACHINE_LIMIT);
@@ -81,7 +90,14 @@ fn lend_empty<'a, F: FarStore, K: TableName, R: Wait>(
     Err(occupied)
 }
 
-/// Makes the code a machine, in the first cell that has none.
+/// Wakes a worker for a machine that has come.
+fn wake_for<F: FarStore, K: TableName>(pool: &Pool<F, K>, said: &Reply) {
+    if matches!(said, Reply::Shipped { .. }) {
+        pool.wake_worker();
+    }
+}
+
+/// Makes the code a machine, in the first cell that has none. A worker runs it, and not this connection.
 pub(crate) fn ship<F: FarStore, K: TableName, R: Wait>(
     rt: &R,
     alloc: Global,
@@ -102,5 +118,7 @@ pub(crate) fn ship<F: FarStore, K: TableName, R: Wait>(
     let said = ship_lent(rt, alloc, agent.pool(), &mut locked, start, code);
     locked.fact();
     agent.pool().know_occupied(rt, &occupied, &locked);
+    agent.pool().give_back(locked);
+    wake_for(agent.pool(), &said);
     ServiceReply::Plain(said)
 }

@@ -1,7 +1,7 @@
 //! What whoever runs a service may want to know.
 
 use console::DriveFault;
-use workers::{Moved, Request};
+use workers::{Moved, MoverEvent, Request};
 
 /// So many objects, and their bytes in all.
 #[derive(Clone, Copy, Drop, Debug, PartialEq, Eq)]
@@ -38,6 +38,9 @@ pub trait Journal {
 
     /// This became of an object that was asked to move.
     fn moved(&self, _request: Request, _moved: Moved) {}
+
+    /// The mover tells of its work.
+    fn event(&self, _event: MoverEvent) {}
 
     /// All clients have ended: so many objects are here, and so many are far.
     fn closed(&self, _here: Tally, _far: Tally) {}

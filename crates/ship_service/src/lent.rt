@@ -2,7 +2,7 @@
 ghost use Rattle.std.specs.Prelude.{◌≡◌, None};
 ghost use Rattle.debugger.specs.declared.commands.MachineCommand.{MachineCommand};
 ghost use Rattle.workers.specs.Cells.{seat_state};
-ghost use Rattle.ship_service.specs.Lent.{AnswersLent, Requeues, ShipsCell};
+ghost use Rattle.ship_service.specs.Lent.{AnswersLent, ShipsCell};
 
 use debugger::{DebugCommand, Debugged, MachineCommand, ShowCommand, Start, StepReply, Way};
 use far_store::FarStore;
@@ -64,25 +64,8 @@ fn show<K: TableName>(
     Reply::to_show(machine, reply)
 }
 
-/// Puts the number of a machine that goes on again into the queue.
-fn requeue<F: FarStore, K: TableName, R: Wait>(
-    rt: &R,
-    pool: &Pool<F, K>,
-    locked: &mut Locked<K>,
-    command: DebugCommand,
-    done: Debugged,
-)
-    ensures { Requeues command done locked.old locked.new }
-{
-    if let (DebugCommand::Resume, Debugged::Done) = (command, done) {
-        pool.queue(rt, locked);
-    }
-}
-
 /// Does a command of the debugger on the cell's machine, whose stamp the seat learns.
-fn debug<F: FarStore, K: TableName, R: Wait>(
-    rt: &R,
-    pool: &Pool<F, K>,
+fn debug<K: TableName>(
     locked: &mut Locked<K>,
     seat: &mut ActorSeat,
     machine: usize,
@@ -94,7 +77,6 @@ fn debug<F: FarStore, K: TableName, R: Wait>(
     let Some(done) = locked.debug(command) else {
         return Reply::Missing;
     };
-    requeue(rt, pool, locked, command, done);
     seat.learn(locked.stamp());
     Reply::to_debug(done)
 }
@@ -115,11 +97,11 @@ pub(crate) fn answer_lent<F: FarStore, K: TableName, R: Wait>(
     match command {
         MachineCommand::Step(way) => step(rt, pool, locked, seat, machine, way),
         MachineCommand::Show(command) => show(alloc, locked, seat, machine, command),
-        MachineCommand::Debug(command) => debug(rt, pool, locked, seat, machine, command),
+        MachineCommand::Debug(command) => debug(locked, seat, machine, command),
     }
 }
 
-/// Makes the code a machine of the cell, and puts it into the queue.
+/// Makes the code a machine of the cell, and puts it into the queue. A worker is to be woken for it.
 pub(crate) fn ship_lent<F: FarStore, K: TableName, R: Wait>(
     rt: &R,
     alloc: Global,
@@ -134,7 +116,7 @@ pub(crate) fn ship_lent<F: FarStore, K: TableName, R: Wait>(
     match load(alloc, code) {
         Ok(program) => {
             locked.ship(program, start);
-            pool.queue(rt, locked);
+            pool.put_in_queue(rt, locked);
             Reply::Shipped {
                 machine: locked.number(),
             }

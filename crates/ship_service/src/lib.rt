@@ -16,6 +16,7 @@ mod serving;
 mod shared_agent;
 mod texts;
 mod threads;
+mod turns;
 
 pub use closing::{Closed, ClosedParts};
 pub use closing_lines::{print_machine, print_object, write_closing_lines};
@@ -23,7 +24,8 @@ pub use connection::{Connection, Post};
 pub use journal::{Journal, Tally, Unwritten};
 pub use laws::{
     answered_machines_are_seen, machines_replay_the_list, opened_machines_stay,
-    replies_are_entries, reply_is_entry, steps_stand_above,
+    replies_are_entries, reply_is_entry, seen_machines_are_granted, shares_are_granted,
+    steps_stand_above, unwritten_objects_stay,
 };
 pub use listening::{ListenFault, listen, listen_over};
 pub use opened::{CONNECTION_LIMIT, OpenAgent, Opened};

@@ -2,7 +2,7 @@
 ghost use Rattle.std.specs.Prelude.{◌≡◌, ◌+◌, length};
 ghost use Rattle.scopes.specs.Windows.{machine_limit};
 ghost use Rattle.world.specs.WorldState.{state_of};
-ghost use Rattle.ship_service.specs.Listening.{FindsHere, OpensAll, SaysAs, SaysClosing, TellsClosing, TellsClosingOf};
+ghost use Rattle.ship_service.specs.Listening.{FindsHere, OpensAll, SaysAs, SaysAtPort, SaysClosing, TellsClosing, TellsClosingOf};
 ghost use Rattle.ship_service.specs.Opening.{IsNamed};
 
 use crate::closing_lines::write_closing_lines;
@@ -13,7 +13,7 @@ use crate::shared_agent::Agent;
 use crate::texts::closed_line;
 use crate::threads::{Plan, ThreadFault, serve_all};
 use far_store::FarStore;
-use listener::{NET_FAULT, announce};
+use listener::{Door, NET_FAULT, Name, announce_at, port_name};
 use std::alloc::Global;
 use std::io::Write;
 use std::marker::Brand;
@@ -22,7 +22,7 @@ use std::sync::Wait;
 use std::thread::Threads;
 use streams::{NO_MEMORY, WRITE_FAULT, put_all};
 use thiserror::Error;
-use workers::{Mover, TableName};
+use workers::{Mover, TableName, Upkeep};
 use world::World;
 
 /// Why a service ended otherwise than with its connections.
@@ -77,7 +77,8 @@ fn listen_opened<
 >(
     rt: &R,
     alloc: Global,
-    listener: TcpListener,
+    door: Door,
+    name: &Name,
     writer: &mut W,
     opened: Opened<F>,
     far: Option<TcpStream>,
@@ -87,16 +88,13 @@ fn listen_opened<
 where
     F::Parcel: Send,
     requires { IsNamed K.table K.opening K.starts K.seats K.lent opened.shared.table opened.machines.items }
-    ensures says { SaysAs (TellsClosing F F.RETURNS K.table K.opening K.starts) (W.contents writer.old) (W.contents writer.new) result }
+    ensures says { SaysAs (TellsClosing F F.RETURNS K.table K.opening K.starts) name.now.items (W.contents writer.old) (W.contents writer.new) result }
     ensures here { OpensAll result }
 {
-    let Ok(address) = listener.local_addr() else {
-        return Err(ListenFault::Net);
-    };
     let Ok((agent, connections, mut mover)) = Agent::<F, K>::open(rt, alloc, opened) else {
         return Err(ListenFault::Memory);
     };
-    let Ok(()) = announce(address.port(), writer) else {
+    let Ok(()) = announce_at(name, writer) else {
         return Err(ListenFault::Write);
     };
     let Ok(served) = serve_all(
@@ -105,7 +103,7 @@ where
         &agent,
         connections,
         &mut mover,
-        listener,
+        door,
         far,
         plan,
         journal,
@@ -123,7 +121,7 @@ where
 /// Shares the objects and machines of a world, which all have to be here, with so many connections, at most eight, on a
 /// listener that was bound: says on the writer which port it listens on, serves each connection on a thread of its own
 /// beside so many workers and a mover, and when all have ended closes and says what is left: a line for each object, in order,
-/// and then the `regs` line of each machine. With `sweep` the mover takes objects away of its own accord.
+/// and then the `regs` line of each machine. The mover takes objects away of its own accord as `upkeep` says.
 ///
 /// What goes wrong with a connection ends that connection alone. Where one can't be accepted or a thread can't be made,
 /// connections, workers and mover end first.
@@ -135,11 +133,11 @@ pub fn listen<F: FarStore + Drop + Send + Sync, W: Write, R: Threads + Wait + Sy
     world: World<F>,
     connections: usize,
     workers: usize,
-    sweep: bool,
+    upkeep: Upkeep,
 ) -> Result<(), ListenFault>
 where
     F::Parcel: Send,
-    ensures says { SaysAs (TellsClosingOf F F.RETURNS (state_of world)) (W.contents writer.old) (W.contents writer.new) result }
+    ensures says { SaysAtPort (TellsClosingOf F F.RETURNS (state_of world)) (W.contents writer.old) (W.contents writer.new) result }
     ensures here { FindsHere world.store.state.places result }
 {
     let opened = match Opened::new(alloc, world) {
@@ -150,16 +148,21 @@ where
     let plan = Plan {
         connections,
         workers,
-        sweep,
+        upkeep,
     };
+    let Ok(address) = listener.local_addr() else {
+        return Err(ListenFault::Net);
+    };
+    let name = port_name(address.port());
+    let door = Door::Port(listener);
     listen_opened::<F, Brand, W, R, Unwritten>(
-        rt, alloc, listener, writer, opened, None, plan, &Unwritten,
+        rt, alloc, door, &name, writer, opened, None, plan, &Unwritten,
     )
 }
 
-/// The same over another far store than the world's, which is dropped: objects that leave go to this one. If it has a stream, `far` is
-/// another handle of that: it is shut down with the last connection, so that no move keeps the service from ending. The journal is
-/// told of clients, of moves and of what is left.
+/// The same at a door, whose name is said, and over another far store than the world's, which is dropped: objects that leave go to
+/// this one. If it has a stream, `far` is another handle of that: it is shut down with the last connection, so that no move keeps the
+/// service from ending. The journal is told of clients, of moves and of what is left.
 pub fn listen_over<
     F: FarStore + Drop,
     S: FarStore + Drop + Send + Sync,
@@ -169,7 +172,8 @@ pub fn listen_over<
 >(
     rt: &R,
     alloc: Global,
-    listener: TcpListener,
+    door: Door,
+    name: &Name,
     writer: &mut W,
     world: World<F>,
     store: S,
@@ -179,7 +183,7 @@ pub fn listen_over<
 ) -> Result<(), ListenFault>
 where
     S::Parcel: Send,
-    ensures says { SaysAs (TellsClosingOf S S.RETURNS (state_of world)) (W.contents writer.old) (W.contents writer.new) result }
+    ensures says { SaysAs (TellsClosingOf S S.RETURNS (state_of world)) name.now.items (W.contents writer.old) (W.contents writer.new) result }
     ensures here { FindsHere world.store.state.places result }
 {
     let opened = match Opened::over(alloc, world, store) {
@@ -187,5 +191,5 @@ where
         Err(OpenAgent::NotHere(number)) => return Err(ListenFault::NotHere(number)),
         Err(OpenAgent::Memory) => return Err(ListenFault::Memory),
     };
-    listen_opened::<S, Brand, W, R, J>(rt, alloc, listener, writer, opened, far, plan, journal)
+    listen_opened::<S, Brand, W, R, J>(rt, alloc, door, name, writer, opened, far, plan, journal)
 }

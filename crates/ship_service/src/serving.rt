@@ -2,7 +2,8 @@
 ghost use Rattle.std.specs.Prelude.{◌≡◌, ◌≤◌, OnOk, IfSome};
 ghost use Rattle.std.specs.Result.{IsErrOf};
 ghost use Rattle.console.specs.Held.{nothing_held};
-ghost use Rattle.console.specs.Conversations.{AnswersAll, StopsReading, StopsWriting};
+ghost use Rattle.console.specs.Conversations.{AnswersAll, StopsReading};
+ghost use Rattle.console.specs.Gathered.{StopsShort};
 ghost use Rattle.workers.specs.Cells.{IsSeatOf, seat_state};
 ghost use Rattle.console.specs.Lines.{ended};
 ghost use Rattle.console.specs.Commands.{range_limit};
@@ -17,7 +18,7 @@ use crate::connection::{Connection, Post};
 use crate::ranges::{ask, fetch, get, print_found, put};
 use crate::replies::{ServiceReply, print_service_reply};
 use crate::shared_agent::Agent;
-use console::{Answerer, DriveFault, ReplyLine, converse};
+use console::{Answerer, DriveFault, ReplyLine, converse_gathering};
 use far_store::FarStore;
 use shared_objects::ActorSeat;
 use std::alloc::Global;
@@ -113,11 +114,13 @@ impl<'a, R: Wait, F: FarStore, K: TableName> Answerer<Service<'a, R, F, K>> for 
         } = event
         {
             answer_get(shared, &mut self.seat, object, offset, length, reply);
+            shared.agent.pool().command_ended();
             return;
         }
         let pool = shared.agent.pool();
         let told = answer(shared.rt, self.alloc, shared.agent, &mut self.seat, event);
         pool.table().close_scopes(&mut self.seat);
+        pool.command_ended();
         print_service_reply(&told, reply);
     }
 }
@@ -137,13 +140,13 @@ pub fn serve<F: FarStore, K: TableName, R: Wait, I: Read, O: Write>(
     ensures read { IsErrOf result DriveFault.Read → IfSome (I.remaining reader.old) (λ input.
         StopsReading (service K.opening K.starts K.lent) (seat_state connection.old.post.seat) input (O.contents writer.old) (O.contents writer.new)
         (seat_state connection.new.post.seat) connection.new.console (I.remaining reader.new)) }
-    ensures write { IsErrOf result DriveFault.Write → IfSome (I.remaining reader.old) (λ input.
-        StopsWriting (service K.opening K.starts K.lent) (seat_state connection.old.post.seat) input (O.contents writer.old) (O.contents writer.new)
-        (seat_state connection.new.post.seat) (I.remaining reader.new)) }
+    ensures write { IsErrOf result DriveFault.Write → IfSome (I.remaining reader.old) (λ input. IfSome (O.contents writer.old) (λ before.
+        StopsShort (service K.opening K.starts K.lent) (seat_state connection.old.post.seat) input before (O.contents writer.new)
+        (seat_state connection.new.post.seat) (I.remaining reader.new))) }
 {
     connection.console.clear();
     let service = Service { rt, agent };
-    converse(
+    converse_gathering(
         reader,
         writer,
         &mut connection.console,

@@ -8,14 +8,14 @@ use crate::serving::serve;
 use crate::shared_agent::Agent;
 use crossbeam_utils::CachePadded;
 use far_store::FarStore;
-use listener::accept;
+use listener::{Door, accept};
 use std::alloc::{AllocError, Global};
-use std::net::{Shutdown, TcpListener, TcpStream};
+use std::net::{Shutdown, TcpStream};
 use std::sync::atomic::{AtomicBool, Ordering};
 use std::sync::{Mutex, Wait};
 use std::thread;
 use std::thread::Threads;
-use workers::{Gate, Moved, Mover, Request, TableName, mover, work};
+use workers::{Gate, Moved, Mover, MoverEvent, Request, TableName, Upkeep, mover, work};
 
 /// Why a service ended before all its connections had.
 #[derive(Clone, Copy, Drop, Debug, PartialEq, Eq)]
@@ -32,8 +32,8 @@ pub struct Plan {
     /// How many connections are accepted in all, at most as many as there are.
     pub connections: usize,
     pub workers: usize,
-    /// Whether the mover looks for objects to send away of its own accord.
-    pub sweep: bool,
+    /// What the mover does of its own accord.
+    pub upkeep: Upkeep,
 }
 
 /// What a service leaves when all its threads have ended.
@@ -71,6 +71,10 @@ impl<'a, J: Journal> Gate for UntilEnd<'a, J> {
         self.journal.moved(request, moved);
     }
 
+    fn event(&self, event: MoverEvent) {
+        self.journal.event(event);
+    }
+
     fn go_on(&self) -> bool {
         !self.ended.load(Ordering::SeqCst)
     }
@@ -82,7 +86,7 @@ struct Tools<'a, R: Wait, F: FarStore, K: TableName, J: Journal> {
     rt: &'a R,
     gate: &'a UntilEnd<'a, J>,
     agent: &'a Agent<F, K>,
-    sweep: bool,
+    upkeep: Upkeep,
 }
 
 impl<'a, R: Wait, F: FarStore, K: TableName, J: Journal> Tools<'a, R, F, K, J> {
@@ -103,7 +107,7 @@ type Lock<K> = CachePadded<Mutex<Connection<K>>>;
 #[derive(Drop)]
 struct Front<'a, K: TableName> {
     alloc: Global,
-    listener: TcpListener,
+    door: Door,
     locks: &'a [Lock<K>],
     // the stream of the far store, if it has one
     far: Option<TcpStream>,
@@ -149,7 +153,7 @@ fn serve_clients<
 >(
     tools: &Tools<R, F, K, J>,
     alloc: Global,
-    listener: TcpListener,
+    door: Door,
     locks: &[Lock<K>],
 ) -> Result<(), ThreadFault>
 where
@@ -164,7 +168,7 @@ where
             let mut streams = Vec::new(alloc);
             let mut client: u64 = 0;
             for lock in locks {
-                let Ok((stream, shown)) = accept(tools.rt, &listener) else {
+                let Ok((stream, shown)) = accept(tools.rt, &door) else {
                     cut_off(&streams);
                     return Err(ThreadFault::Net);
                 };
@@ -179,7 +183,7 @@ where
                     return Err(ThreadFault::Memory);
                 }
             }
-            drop(listener);
+            drop(door);
             Ok(())
         },
     )
@@ -201,7 +205,7 @@ fn move_objects<R: Wait, F: FarStore, K: TableName, J: Journal>(
         tools.gate,
         tools.agent.pool(),
         served,
-        tools.sweep,
+        tools.upkeep,
     );
 }
 
@@ -217,7 +221,7 @@ where
 {
     let Front {
         alloc,
-        listener,
+        door,
         locks,
         far,
     } = front;
@@ -233,7 +237,7 @@ where
                     return Err(ThreadFault::Memory);
                 }
             }
-            let outcome = serve_clients(tools, alloc, listener, locks);
+            let outcome = serve_clients(tools, alloc, door, locks);
             tools.end(&far);
             outcome
         },
@@ -315,7 +319,7 @@ pub fn serve_all<
     agent: &Agent<F, K>,
     connections: Vec<Connection<K>>,
     mover: &mut Mover<F, K>,
-    listener: TcpListener,
+    door: Door,
     far: Option<TcpStream>,
     plan: Plan,
     journal: &J,
@@ -330,11 +334,11 @@ where
         rt,
         gate: &gate,
         agent,
-        sweep: plan.sweep,
+        upkeep: plan.upkeep,
     };
     let front = Front {
         alloc,
-        listener,
+        door,
         locks: &locks[..plan.connections.min(locks.len())],
         far,
     };

@@ -237,3 +237,19 @@ const ONE_OUT: &Course<'static> = &Course {
 fn an_object_that_is_out(rt: HostRuntime) -> Result<(), Fail> {
     closes(&rt, rt.alloc(), SEVEN, ONE_OUT)
 }
+
+/// Pauses before its first instruction.
+const PAUSED: &Course<'static> = &Course {
+    lines: (b"break 1 0\nstep 1\n", b"ok\npaused 1 0\n"),
+    leaves: false,
+    last: b"object 1 3 ba7816bf8f01cfea414140de5dae2223b00361a396177a9cb410ff61f20015ad\n\
+        object 3 2 96a296d224f285c67bee93c30f8a309157f0daa35dc5b87e410b78630a09cfc7\n\
+        regs 1 0 10 paused 0000000000000000 0000000000000000 0000000000000000 0000000000000000 0000000000000000 \
+        0000000000000000 0000000000000000 0000000000000000 0000000000000000 0000000000000000 ffffffff00001000\n",
+    fetched: b"",
+};
+
+#[test]
+fn a_machine_that_is_paused(rt: HostRuntime) -> Result<(), Fail> {
+    closes(&rt, rt.alloc(), SEVEN, PAUSED)
+}

@@ -22,7 +22,7 @@ use std::sync::atomic::{AtomicBool, Ordering};
 use std::sync::{Mutex, Wait};
 use std::test::Fail;
 use std::thread::{self, Threads, yield_now};
-use workers::{Mover, TableName, mover, work};
+use workers::{Mover, TableName, Upkeep, mover, work};
 
 /// aadd [r1], r2 · call 4 · add r3, -1 · jne r3, 0, -4 · exit: between two additions the object may leave
 const ADDS: &[u64] = &[
@@ -32,6 +32,9 @@ const ADDS: &[u64] = &[
     0x5503_fcff_0000_0000,
     0x9500_0000_0000_0000,
 ];
+
+/// More than so many additions take.
+const FUEL: u64 = 100_000;
 
 /// The address of object 1.
 const OBJECT: u64 = 0x0000_0001_0000_0000;
@@ -68,7 +71,13 @@ fn serve_moves<R: Wait, F: FarStore, K: TableName>(
     tools: &Tools<R, F, K>,
     served: &mut Mover<F, K>,
 ) {
-    mover(tools.rt, tools.gate, tools.agent.pool(), served, false);
+    mover(
+        tools.rt,
+        tools.gate,
+        tools.agent.pool(),
+        served,
+        Upkeep::none(),
+    );
 }
 
 /// Runs two workers while the connection converses, and says whether both came and both machines ended.
@@ -183,18 +192,19 @@ where
     Ok(count_of_one(alloc, &mut closed))
 }
 
-/// The number that object 1 is when two machines have each added 1 to it 10,000 times, and a service over this far store has closed.
+/// The number that object 1 is when two machines have each added 1 to it so many times, and a service over this far store has closed.
 pub fn close_over<F: FarStore + Drop + Send + Sync, R: Threads + Wait + Sync>(
     rt: &R,
     alloc: Global,
     store: F,
     talk: Talk,
+    times: u64,
 ) -> Result<Option<u64>, Fail>
 where
     F::Parcel: Send,
 {
-    let first = machine(alloc, 1, ADDS, 100_000, [OBJECT, 1, 10_000, 0, 0])?;
-    let second = machine(alloc, 2, ADDS, 100_000, [OBJECT, 1, 10_000, 0, 0])?;
+    let first = machine(alloc, 1, ADDS, FUEL, [OBJECT, 1, times, 0, 0])?;
+    let second = machine(alloc, 2, ADDS, FUEL, [OBJECT, 1, times, 0, 0])?;
     let machines = Vec::from_array(alloc, [first, second])?;
     let bodies = Vec::from_array(alloc, [vec![in alloc; 0u8; 8]?])?;
     let (shared, mut seats, mover) = Shared::<F>::open(alloc, bodies, 49)?;
@@ -212,9 +222,23 @@ where
     Ok(close_after::<F, Brand, R>(rt, alloc, parts, talk)?)
 }
 
+/// The same of a service over a store of its own, whose connection asks 20 times that object 1 leaves.
+fn close_after_leaves<R: Threads + Wait + Sync>(
+    rt: &R,
+    alloc: Global,
+    times: u64,
+) -> Result<Option<u64>, Fail> {
+    close_over(rt, alloc, OwnStore::new(alloc), Talk::Leaves, times)
+}
+
 #[test]
 fn close_two(rt: HostRuntime) -> Result<(), Fail> {
-    let store = OwnStore::new(rt.alloc());
-    same!(rt; close_over(&rt, rt.alloc(), store, Talk::Leaves)?, Some(20_000));
+    same!(rt; close_after_leaves(&rt, rt.alloc(), 100)?, Some(200));
+    Ok(())
+}
+
+#[test]
+fn two_machines_add_often_while_their_object_leaves(rt: HostRuntime) -> Result<(), Fail> {
+    same!(rt; close_after_leaves(&rt, rt.alloc(), 10_000)?, Some(20_000));
     Ok(())
 }

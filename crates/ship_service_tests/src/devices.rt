@@ -1,7 +1,7 @@
 //! Connections whose reader or writer fails.
 
 use crate::compared::same;
-use crate::stage::{PLAIN, Setting, answers};
+use crate::stage::{Lines, NOTHING, PLAIN, Setting, answers};
 use console::DriveFault;
 use std::alloc::Global;
 use std::process::Abort;
@@ -72,5 +72,23 @@ fn writers_that_fail(rt: HostRuntime) -> Result<(), Fail> {
         same!(rt; ended, Err(DriveFault::Write), room);
     }
     same!(rt; ends_within(&rt, rt.alloc(), usize::MAX, TOLD)?, Ok(()));
+    Ok(())
+}
+
+/// What a client says that waits for each reply, and what it is answered.
+const PIPED: Lines<'static> = (
+    b"put 1 0 0102\nget 1 0 2\nresume 1\nregs 1\n\nget 1 0 1\n",
+    b"ok\nbytes 0102\nnone\nnone\nbad\nbytes 01\n",
+);
+
+/// A client that waits for each reply before it says the next line is answered to the end: replies are written before more is read.
+#[test]
+fn each_reply_comes_before_the_next_line(rt: HostRuntime) -> Result<(), Fail> {
+    let setting = Setting {
+        piped: true,
+        ..PLAIN
+    };
+    let left = answers(&rt, rt.alloc(), &setting, [PIPED, NOTHING])?;
+    same!(rt; left.ended, Ok(()));
     Ok(())
 }

@@ -3,6 +3,7 @@
 use crate::compared::same;
 use console::{Console, drive};
 use far_store::OwnStore;
+use listener::{Door, port_name};
 use ship_service::{ListenFault, Plan, Unwritten, listen, listen_over};
 use std::alloc::Global;
 use std::io::{Read, Write};
@@ -12,6 +13,7 @@ use std::sync::Wait;
 use std::test::Fail;
 use std::thread::Threads;
 use test_devices::Narrow;
+use workers::{KEEP_ALL, Upkeep};
 use world::World;
 
 /// aadd [r1], r2 · exit
@@ -107,11 +109,17 @@ fn output_of(output: &[u8]) -> Output {
 /// How a service ends, and what it says.
 type Ended = (Result<(), ListenFault>, Output);
 
+/// The mover does what it is asked for.
+const NOTHING_ELSE: Upkeep = Upkeep {
+    sweep: false,
+    keep: KEEP_ALL,
+};
+
 /// The plan of a service with one connection and nobody beside it.
 const ALONE: Plan = Plan {
     connections: 1,
     workers: 0,
-    sweep: false,
+    upkeep: NOTHING_ELSE,
 };
 
 /// How a service ends over the store of its world, which these commands leave, and what it says.
@@ -130,7 +138,7 @@ where
     let Plan {
         connections,
         workers,
-        sweep,
+        upkeep,
     } = plan;
     let ended = listen(
         rt,
@@ -140,7 +148,7 @@ where
         world,
         connections,
         workers,
-        sweep,
+        upkeep,
     );
     Ok((ended, output_of(&output)))
 }
@@ -158,10 +166,12 @@ where
     let mut output = Vec::new(alloc);
     let world = world_after(alloc, setup)?;
     let store = OwnStore::new(alloc);
+    let name = port_name(listener.local_addr()?.port());
     let ended = listen_over(
         rt,
         alloc,
-        listener,
+        Door::Port(listener),
+        &name,
         &mut output,
         world,
         store,
@@ -234,7 +244,10 @@ where
     let plan = Plan {
         connections: 2,
         workers: 2,
-        sweep: true,
+        upkeep: Upkeep {
+            sweep: true,
+            keep: 0,
+        },
     };
     let ended = ends_over_its_own(rt, alloc, listener, SETUP, plan)?;
     Ok((heard(alloc, &mut client)?, ended))
@@ -274,7 +287,7 @@ where
     let _client = client_of(rt, &listener, b"")?;
     let mut output = Narrow::new(alloc, usize::MAX, room);
     let world = world_after(alloc, SETUP)?;
-    let ended = listen(rt, alloc, listener, &mut output, world, 1, 1, false);
+    let ended = listen(rt, alloc, listener, &mut output, world, 1, 1, NOTHING_ELSE);
     Ok((ended, output.taken.len()))
 }
 

@@ -22,7 +22,7 @@ use std::sync::Wait;
 use std::sync::atomic::{AtomicBool, Ordering};
 use std::test::Fail;
 use test_gates::Rounds;
-use workers::{Direction, Moved, TableName, mover};
+use workers::{Direction, Moved, TableName, Upkeep, mover};
 
 /// What stands for bytes in a [`Lying`] store.
 #[derive(Drop)]
@@ -116,7 +116,8 @@ enum Act {
 /// The mover serves one request.
 fn serves<F: FarStore, K: TableName, R: Wait>(rt: &R, service: &mut Service<F, K>) {
     let gate = Rounds::new(1);
-    mover(rt, &gate, service.agent.pool(), &mut service.served, false);
+    let pool = service.agent.pool();
+    mover(rt, &gate, pool, &mut service.served, Upkeep::none());
 }
 
 /// An act is done, and comes to what it should.
@@ -250,6 +251,6 @@ fn an_object_comes_when_it_is_asked_for_again(rt: HostRuntime) -> Result<(), Fai
 #[test]
 fn two_machines_add_over_a_store_that_lies(rt: HostRuntime) -> Result<(), Fail> {
     let store = Lying::new(rt.alloc());
-    same!(rt; close_over(&rt, rt.alloc(), store, Talk::Watches)?, Some(20_000));
+    same!(rt; close_over(&rt, rt.alloc(), store, Talk::Watches, 10_000)?, Some(20_000));
     Ok(())
 }

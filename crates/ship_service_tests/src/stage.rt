@@ -16,11 +16,12 @@ use loader::{Program, load};
 use shared_objects::{ActorSeat, Leave, MoverSeat, Shared};
 use ship_service::{Agent, Connection, serve};
 use std::alloc::{AllocError, Global};
+use std::cell::Cell;
 use std::marker::Brand;
 use std::process::Abort;
 use std::sync::Wait;
 use std::test::Fail;
-use test_devices::{FailingReader, Narrow, Pieces};
+use test_devices::{FailingReader, Narrow, Pieces, PipeReader, PipeWriter};
 use workers::{Pool, TableName};
 
 /// Where a conversation begins.
@@ -43,6 +44,8 @@ pub struct Setting<'a> {
     pub room: usize,
     /// Whether the first connection says what is said second, too.
     pub again: bool,
+    /// Whether the first client says its next line only when it has read the reply to the last one. It has all reads and all room then.
+    pub piped: bool,
 }
 
 /// An object, no machine, and nothing that happened before.
@@ -56,6 +59,7 @@ pub const PLAIN: Setting<'static> = Setting {
     reads: usize::MAX,
     room: usize::MAX,
     again: false,
+    piped: false,
 };
 
 /// What is said in a conversation, and what is answered.
@@ -135,6 +139,21 @@ pub fn talk<F: FarStore, K: TableName, R: Wait>(
     (writer.taken, ended)
 }
 
+/// The same of a client that waits for the reply to each line before it says the next.
+fn talk_piped<F: FarStore, K: TableName, R: Wait>(
+    rt: &R,
+    alloc: Global,
+    agent: &Agent<F, K>,
+    connection: &mut Connection<K>,
+    input: &[u8],
+) -> (Vec<u8>, Result<(), DriveFault>) {
+    let replies = Cell::new(0usize);
+    let mut reader = PipeReader::new(input, &replies);
+    let mut writer = PipeWriter::new(alloc, &replies);
+    let ended = serve(rt, &mut reader, &mut writer, agent, connection);
+    (writer.taken, ended)
+}
+
 /// What a connection says is answered so, and the conversation ends well.
 pub fn tells<F: FarStore, K: TableName, R: Wait + Abort>(
     rt: &R,
@@ -157,15 +176,19 @@ fn tells_as_set<F: FarStore, K: TableName, R: Wait + Abort>(
     setting: &Setting,
     (said, wanted): Lines,
 ) -> Result<(), DriveFault> {
-    let (told, ended) = talk(
-        rt,
-        alloc,
-        agent,
-        connection,
-        said,
-        setting.reads,
-        setting.room,
-    );
+    let (told, ended) = if setting.piped {
+        talk_piped(rt, alloc, agent, connection, said)
+    } else {
+        talk(
+            rt,
+            alloc,
+            agent,
+            connection,
+            said,
+            setting.reads,
+            setting.room,
+        )
+    };
     same!(rt; told.as_slice(), wanted);
     ended
 }

@@ -72,7 +72,7 @@ module _ (F K P : RattleType) (gF : FarStores.Ghosts F.Denot P.Denot) (gK : Ghos
           search (sendable, crosses, shared.the_sync, lease.the_sync) depth 60 fits 5000,
           (
             search (sendable, crosses, shared.the_send, lease.the_send) depth 60 fits 5000,
-            (requests_sync, (search crosses, (search crosses, tt))),
+            (requests_sync, (search crosses, (search crosses, (search crosses, tt)))),
           ),
         ),
       ),

@@ -1,6 +1,7 @@
 pub mod Crossing
 pub mod Seated
 pub mod Replayed
+pub mod Granted
 pub mod Coming
 pub mod Placing
 pub mod Emptied

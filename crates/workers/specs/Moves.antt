@@ -157,9 +157,10 @@ AsksOne returns called faults Return v old n moved w new = AsksToReturn returns 
 abbrev pub number_after : ℕ → ℕ → ℕ
 number_after count last = if nat_lt (last + 1) count && nat_lt last object_limit then (last + 1) else 1
 
--- A mover looks at an object: one that was hot is cooled and stays; one that was cold is asked to leave.
+-- A mover looks at an object: one that was hot is cooled and stays; one that was cold is asked to leave, unless it is awaited and stays.
 abbrev pub LooksAt : {X : Type 0} → (X → Call → X → Type 0) → (X → ℕ) → View → X → ℕ → Looked → View → X → Type 0
 LooksAt called faults v old n looked.NoObject w new = (IsObject v.opening n → ⊥) × (w ≡ v) × (new ≡ old)
 LooksAt called faults v old n looked.Hot w new = IsObject v.opening n × (w ≡ with_cooling n true v) × (new ≡ old)
+LooksAt called faults v old n looked.Awaited w new = IsObject v.opening n × (w ≡ with_cooling n false v) × (new ≡ old)
 LooksAt called faults v old n (looked.Cold moved) w new = IsObject v.opening n × LeavesFor (with_cooling n false v) n moved w
     × AsksToLeave called faults (with_cooling n false v) old n moved w new

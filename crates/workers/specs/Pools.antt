@@ -1,13 +1,14 @@
 -- What a pool is made of.
-use Rattle.std.specs.Prelude.{◌≡◌, ℕ, ◌+◌, Bool, true, List, [], ◌∷◌, map, Option, Some, None}
+use Rattle.std.specs.Prelude.{◌≡◌, ℕ, ◌≤◌, ◌+◌, Bool, true, List, [], ◌∷◌, map, Option, Some, None}
 use Rattle.atomic_table.specs.Seated.{TableId}
 use Rattle.shared_objects.specs.Tables.{table_opening}
 use Rattle.shared_objects.specs.declared.seats.ActorSeat.{ActorSeat}
 use Rattle.shared_objects.specs.declared.table.SharedTable.{SharedTable}
 use Rattle.machine.specs.MachineState.{MachineState}
 use Rattle.debugger.specs.declared.debuggee.Debuggee.{Debuggee}
+use Rattle.debugger.specs.declared.replies.StepReply.{StepReply}
 use Rattle.workers.specs.declared.table_name.TableName.{Ghosts}
-use Rattle.workers.specs.Cells.{IsSeatOf, CellState}
+use Rattle.workers.specs.Cells.{IsSeatOf, CellState, RunsCell}
 pub use Rattle.workers.specs.Cells.{IsTableOf}
 pub use Rattle.workers.specs.TableNames.{each_lent}
 
@@ -42,3 +43,17 @@ named shared ds seats = record {
 -- The machine's number is put into the queue, or not: nothing else changes, and where it is there already nothing at all.
 abbrev pub QueuesCell : CellState → CellState → Type 0
 QueuesCell old new = ((queued : Bool) × (new ≡ record old { queued = queued })) × (old.queued ≡ true → new ≡ old)
+
+-- how many instructions a turn has at most
+abbrev pub turn_limit : ℕ
+turn_limit = 64
+
+-- A turn of the cell's machine, of at most so many instructions or none. Then its number is put into a queue, or not.
+pub record TurnsCell (limit : ℕ) (old new : CellState) : Type 0 where
+  pub most : ℕ
+  pub few : most ≤ limit
+  pub ran : ℕ
+  pub told : Option StepReply
+  pub mid : CellState
+  pub runs : RunsCell most old ran told mid
+  pub queues : QueuesCell mid new

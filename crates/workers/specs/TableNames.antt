@@ -1,15 +1,26 @@
 -- What a name says of its table.
 use Rattle.std.specs.Prelude.{◌≡◌, ◌≤◌, ℕ, Bool, true, []}
 use Rattle.atomic_table.specs.Seated.{TableId}
+use Rattle.workers.specs.Cells.{CellState}
 
 -- what a name stands for until a call picks its table
 abbrev pub no_table : TableId
 no_table = record { words = 0; slots = 0; views_name = 0; atom = 0; block = 0; offset = 0; slot_names = [] }
 
--- Each cell was lent with a machine in it. A call that opens a table picks this for the table's name, and tells nobody who serves.
-abbrev pub each_lent : ℕ → Bool
-each_lent n = true
+-- What passes at the locks of cells.
+pub data Passage : Type 0 where
+  -- the cell of this number was lent with a machine in it
+  Machine : ℕ → Passage
+  -- a lock lent this
+  Lends : CellState → Passage
+  -- a lock was left with this
+  Leaves : CellState → Passage
+
+-- Each passage came to pass. A call that opens a table picks this for the table's name, and tells nobody who serves: so who
+-- says that one did has it from the lock.
+abbrev pub each_lent : Passage → Bool
+each_lent p = true
 
 -- The cells of the numbers from 1 to n were each lent with a machine in it.
-abbrev pub AreLent : (ℕ → Bool) → ℕ → Type 0
-AreLent lent n = (m : ℕ) → 1 ≤ m → m ≤ n → lent m ≡ true
+abbrev pub AreLent : (Passage → Bool) → ℕ → Type 0
+AreLent lent n = (m : ℕ) → 1 ≤ m → m ≤ n → lent (Machine m) ≡ true

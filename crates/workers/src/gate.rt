@@ -1,6 +1,7 @@
 //! Who is told of each instruction that a worker does, and of each move.
 
 use crate::job::Request;
+use crate::upkeep::MoverEvent;
 use placement::Moved;
 
 /// Told of each instruction, before and after it, while no cell's lock is held, unless it says that it isn't. It is told of moves too,
@@ -19,6 +20,9 @@ pub trait Gate {
     /// The mover served a request, with this outcome. It also tells of an object that it looked at of its own accord, where that left
     /// or the far store failed.
     fn moved(&self, _request: Request, _moved: Moved) {}
+
+    /// The mover tells of its work.
+    fn event(&self, _event: MoverEvent) {}
 
     /// Whether workers and mover go on. One that isn't told of instructions may be asked while a cell's lock is held.
     fn go_on(&self) -> bool;

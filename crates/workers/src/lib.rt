@@ -11,8 +11,10 @@ mod pool;
 mod requests;
 mod retries;
 mod running;
+mod shortage;
 mod table_name;
 mod threads;
+mod upkeep;
 
 pub use cell::{Locked, MachineCell, Occupied, Ticket};
 pub use closing::{ClosedCell, PoolParts};
@@ -25,3 +27,4 @@ pub use pool::{Pool, QUEUE_LIMIT, TURN_LIMIT, work};
 pub use running::{Running, Shipment};
 pub use table_name::TableName;
 pub use threads::{mover, run_all, run_workers};
+pub use upkeep::{KEEP_ALL, MoverEvent, Upkeep};

@@ -14,7 +14,7 @@ ghost use Rattle.workers.specs.Cells.{IsTableOf};
 ghost use Rattle.workers.specs.Moves.{LeavesFor, ReturnsFrom, AsksToLeave, AsksToReturn, FailsToBring, IsMoverSeat, IsMoverView, KeepsParcels, MovesOne};
 ghost use Rattle.workers.specs.Moves.{AsksOne, LooksAt, number_after};
 
-use crate::job::Direction;
+use crate::job::{Direction, Request};
 use crate::pool::Pool;
 use crate::table_name::TableName;
 use far_store::{FarStore, StoreFault};
@@ -31,8 +31,23 @@ pub enum Looked {
     NoObject,
     /// It was used since the last look, and stays.
     Hot,
+    /// It wasn't, and stays: it came back for a machine that hasn't used it yet.
+    Awaited,
     /// It wasn't, and was asked to leave.
     Cold(Moved),
+}
+
+/// Who is told that an object has come back, before its parcel is forgotten.
+pub(crate) trait Landing {
+    /// The object of this number is here.
+    fn landed(&self, number: u32);
+}
+
+/// Nobody is told.
+struct Untold;
+
+impl Landing for Untold {
+    fn landed(&self, _number: u32) {}
 }
 
 /// The mover of a table, with its far store, and a parcel of each object that is far.
@@ -186,13 +201,29 @@ impl<F: FarStore, K: TableName> Mover<F, K> {
         ensures last { self.new.last ≡ self.old.last }
     {
         let _seat = &self.seat;
+        self.one_told(pool, number, direction, &Untold)
+    }
+
+    /// The same. Of an object that comes back this one is told as soon as it is here, before its parcel is forgotten.
+    pub(crate) fn one_told<L: Landing>(
+        &mut self,
+        pool: &Pool<F, K>,
+        number: u32,
+        direction: Direction,
+        landing: &L,
+    ) -> Moved
+        ensures moves { MovesOne direction self.old.view number result self.new.view }
+        ensures asks { AsksOne F.RETURNS F.called F.faults_of direction self.old.view self.old.store number result self.new.view self.new.store }
+        ensures last { self.new.last ≡ self.old.last }
+    {
+        let _seat = &self.seat;
         let shared = pool.table();
         if shared.length(number as u64) == 0 {
             return Moved::NoObject;
         }
         match direction {
             Direction::Leave => self.leave(shared, number),
-            Direction::Return => self.bring_back(shared, number),
+            Direction::Return => self.bring_back(shared, number, landing),
         }
     }
 
@@ -217,8 +248,8 @@ impl<F: FarStore, K: TableName> Mover<F, K> {
         }
     }
 
-    /// An object comes back from the far store.
-    fn bring_back(&mut self, shared: &SharedTable, number: u32) -> Moved
+    /// An object comes back from the far store. It is told of before its parcel is forgotten.
+    fn bring_back<L: Landing>(&mut self, shared: &SharedTable, number: u32, landing: &L) -> Moved
         requires table { IsTableOf K.table K.opening shared.now × (table_returns shared.now ≡ F.RETURNS) }
         requires object { IsObject K.opening number }
         ensures moves { ReturnsFrom self.old.view number result self.new.view }
@@ -231,6 +262,7 @@ impl<F: FarStore, K: TableName> Mover<F, K> {
         };
         match fetch(shared, &mut self.seat, &mut self.store, &kept, number) {
             Ok(()) => {
+                landing.landed(number);
                 self.store.forget(kept);
                 Moved::Done
             }
@@ -254,6 +286,53 @@ impl<F: FarStore, K: TableName> Mover<F, K> {
             None => Looked::NoObject,
             Some(true) => Looked::Hot,
             Some(false) => Looked::Cold(self.leave(shared, number)),
+        }
+    }
+
+    /// Looks at the next object for room: as above, but an object stays that came back for a machine which hasn't used it yet.
+    pub fn look_past(&mut self, pool: &Pool<F, K>) -> Looked
+        ensures looks { LooksAt F.called F.faults_of self.old.view self.old.store self.new.last result self.new.view self.new.store }
+        ensures last { self.new.last ≡ number_after (length K.opening) self.old.last }
+    {
+        self.last = next_number(self.parcels.len(), self.last);
+        let shared = pool.table();
+        let object = self.last;
+        let is_awaited = pool.requests().is_awaited(object);
+        match shared.cool(&mut self.seat, object) {
+            None => Looked::NoObject,
+            Some(true) => {
+                pool.requests().set_awaited(object, false);
+                Looked::Hot
+            }
+            Some(false) if is_awaited => Looked::Awaited,
+            Some(false) => Looked::Cold(self.leave(shared, object)),
+        }
+    }
+
+    /// How many numbers there are, of which 0 is no object's.
+    pub(crate) fn numbers(&self) -> usize {
+        self.parcels.len()
+    }
+
+    /// How many bytes the objects have that are here.
+    pub fn bytes_here(&self, pool: &Pool<F, K>) -> u64 {
+        let mut bytes: u64 = 0;
+        for number in 0..self.parcels.len() {
+            if self.parcels[number].is_none() {
+                bytes = bytes.saturating_add(pool.table().length(number as u64) as u64);
+            }
+        }
+        bytes
+    }
+
+    /// How many bytes come with a request: none, unless it has an object come back that is far.
+    pub(crate) fn bytes_coming(&self, pool: &Pool<F, K>, request: Request) -> u64 {
+        if request.direction == Direction::Leave {
+            return 0;
+        }
+        match self.parcels.get(request.number as usize) {
+            Some(Some(_)) => pool.table().length(request.number as u64) as u64,
+            _ => 0,
         }
     }
 

@@ -1,13 +1,15 @@
 //! The table, the cells of its machines, and the queues.
 ghost use Rattle.std.specs.Prelude.{◌≡◌, ◌≤◌, ◌+◌, ◌-◌, Some, length, drop, slice_get, All, IfOk, IfSome, IfNone, true, false, if◌then◌else◌};
 ghost use Rattle.std.specs.Vec.Iter.{into_iter_items};
+ghost use Rattle.std.specs.Sync.Mutex.{mutex_guard_value};
 ghost use Rattle.shared_objects.specs.Kinds.{dealer};
 ghost use Rattle.shared_objects.specs.Opened.{AreFresh};
 ghost use Rattle.shared_objects.specs.Tables.{IsActorOf, table_returns};
 ghost use Rattle.workers.specs.Cells.{IsTableOf, opened_as};
 ghost use Rattle.workers.specs.Closing.{WereCells};
 ghost use Rattle.workers.specs.TableNames.{each_lent};
-ghost use Rattle.workers.specs.Pools.{IsNewSeat, AreSeats, machines_of, machine_of, QueuesCell};
+ghost use Rattle.workers.specs.TableNames.Passage.{Leaves, Lends};
+ghost use Rattle.workers.specs.Pools.{IsNewSeat, AreSeats, machines_of, machine_of, QueuesCell, TurnsCell, turn_limit};
 
 use crate::cell::{Locked, MachineCell, Occupied, Ticket};
 use crate::closing::{PoolParts, parts_of};
@@ -54,7 +56,11 @@ pub struct Pool<F: FarStore, K: TableName> {
     queued: AtomicU64,
     // how often all threads were to be woken
     called: AtomicU64,
+    // how many workers run whose gate is told of no instruction
+    working: AtomicU64,
     pub ghost of: { IsTableOf K.table K.opening shared.table },
+    // only here is it told what a lock lent, and with what it was left
+    ghost passages: { K.lent ≡ each_lent },
 }
 
 /// How a turn of a machine ended.
@@ -220,6 +226,7 @@ impl<F: FarStore, K: TableName> Pool<F, K> {
             requests,
             queued: AtomicU64::new(0),
             called: AtomicU64::new(0),
+            working: AtomicU64::new(0),
         })
     }
 
@@ -243,6 +250,41 @@ impl<F: FarStore, K: TableName> Pool<F, K> {
         self.cells.get(number - 1)
     }
 
+    /// Says that a lock of a cell lent this.
+    fn tell_lent(&self, _locked: &Locked<K>)
+        ensures { K.lent (Lends _locked.now) ≡ true }
+    {
+        let _count = self.cells.len();
+    }
+
+    /// Says that a lock of a cell is left with this.
+    fn tell_left(&self, _locked: &Locked<K>)
+        ensures { K.lent (Leaves _locked.now) ≡ true }
+    {
+        let _count = self.cells.len();
+    }
+
+    /// The lock of the cell of a number, if there are so many, once nobody else has it, with what it lends.
+    pub fn lend<'a, R: Wait>(&'a self, rt: &R, number: usize) -> Option<MutexGuard<'a, Locked<K>>>
+        ensures none { IfNone result ((1 ≤ number) × (number ≤ length self.now.cells.items) → ⊥) }
+        ensures exists { IfSome result (λ guard. (1 ≤ number) × (number ≤ length self.now.cells.items)) }
+        ensures lends { IfSome result (λ guard. K.lent (Lends (mutex_guard_value guard)) ≡ true) }
+    {
+        if number == 0 || number > self.cells.len() {
+            return None;
+        }
+        let locked = self.cells[number - 1].lock(rt);
+        self.tell_lent(&locked);
+        Some(locked)
+    }
+
+    /// Gives the lock of a cell back, which is left with what it lends now.
+    pub fn give_back(&self, locked: MutexGuard<'_, Locked<K>>)
+        ensures { K.lent (Leaves (mutex_guard_value locked.entry)) ≡ true }
+    {
+        self.tell_left(&locked);
+    }
+
     /// Of the first so many cells those that are known to have machines.
     pub fn occupied<R: Wait>(&self, rt: &R, most: usize) -> Occupied<K>
         ensures { result ≤ most }
@@ -264,16 +306,30 @@ impl<F: FarStore, K: TableName> Pool<F, K> {
         }
     }
 
+    /// Puts the number of the cell's machine into the queue of those to be run, unless it is there. Where the queue is full it isn't
+    /// put, and isn't marked as queued. A worker is woken for it once the cell's lock is given back.
+    pub fn put_in_queue<R: Wait>(&self, rt: &R, locked: &mut Locked<K>)
+        ensures { QueuesCell locked.old locked.new }
+    {
+        queue_machine(rt, &self.runs, locked);
+    }
+
     /// Puts the number of the cell's machine into the queue of those to be run, unless it is there, and wakes a worker that
     /// sleeps. Where the queue is full it isn't put, and isn't marked as queued.
     pub fn queue<R: Wait>(&self, rt: &R, locked: &mut Locked<K>)
         ensures { QueuesCell locked.old locked.new }
     {
-        queue_machine(rt, &self.runs, locked);
+        self.put_in_queue(rt, locked);
         self.wake_worker();
     }
 
-    fn wake_worker(&self) {
+    /// Whether workers run whose gate is told of no instruction. Others may then do turns as they do.
+    pub fn is_worked(&self) -> bool {
+        self.working.load(Ordering::SeqCst) != 0
+    }
+
+    /// Wakes a worker that sleeps. Whoever puts a machine into the queue calls it after that.
+    pub fn wake_worker(&self) {
         self.queued.fetch_add(1, Ordering::SeqCst);
         self.queued.wake_one();
     }
@@ -284,6 +340,7 @@ impl<F: FarStore, K: TableName> Pool<F, K> {
         for _ in 0..waits.len(rt) {
             match waits.pop(rt) {
                 Some(Job::Wait(ticket, awaited)) if awaited == object => {
+                    self.requests.set_awaited(object, true);
                     // there are fewer machines than places
                     put_into(rt, &self.runs, Job::Run(ticket));
                     self.wake_worker();
@@ -314,6 +371,11 @@ impl<F: FarStore, K: TableName> Pool<F, K> {
     pub fn call<R: Wait>(&self, rt: &R, number: u32) {
         let direction = Direction::Return;
         self.requests.ask(rt, Request { number, direction });
+    }
+
+    /// A command has ended, and with it its scopes. Whoever does commands at a seat of the table calls it after each.
+    pub fn command_ended(&self) {
+        self.requests.scopes_ended();
     }
 
     /// What the mover is asked for.
@@ -352,7 +414,9 @@ impl<F: FarStore, K: TableName> Pool<F, K> {
         rt: &R,
         locked: &mut Locked<K>,
         reply: Option<StepReply>,
-    ) -> Option<Ending> {
+    ) -> Option<Ending>
+        ensures { locked.new ≡ locked.old }
+    {
         match reply {
             Some(StepReply::Ran(_)) => None,
             Some(StepReply::Waiting(object)) => {
@@ -426,7 +490,9 @@ impl<F: FarStore, K: TableName> Pool<F, K> {
     }
 
     /// After a turn: puts the machine into the queue of those to be run, or among those that wait, or nowhere.
-    fn requeue<R: Wait>(&self, rt: &R, locked: &mut Locked<K>, ending: Ending) {
+    fn requeue<R: Wait>(&self, rt: &R, locked: &mut Locked<K>, ending: Ending)
+        ensures { QueuesCell locked.old locked.new }
+    {
         match ending {
             // no worker is woken for it, since this one looks at the queue next
             Ending::Full => queue_machine(rt, &self.runs, locked),
@@ -440,8 +506,28 @@ impl<F: FarStore, K: TableName> Pool<F, K> {
                     self.resume_waiting(rt, object);
                 }
             }
-            Ending::Over => {}
+            Ending::Over => self.requests.scopes_ended(),
         }
+    }
+
+    /// One turn of the machine whose cell's lock this is, by somebody who isn't a worker and has no ticket: at most 64 instructions. If
+    /// it waits for an object that is away it is put among those that wait. Says whether it goes on, for whoever steps it next.
+    pub fn turn_lent<R: Wait>(&self, rt: &R, locked: &mut Locked<K>) -> bool
+        ensures { TurnsCell turn_limit locked.old locked.new }
+    {
+        let Some(run) = locked.run(self.table(), TURN_LIMIT as u64) else {
+            return false;
+        };
+        self.requests.turn_ended();
+        if run.end.is_none() {
+            return true;
+        }
+        let Some(ending) = self.end_after(rt, locked, run.end) else {
+            give_time(rt, 1);
+            return true;
+        };
+        self.requeue(rt, locked, ending);
+        false
     }
 
     /// One turn of a machine whose ticket was taken from the queue, with a gate to be told of each instruction. Says whether the gate
@@ -457,6 +543,7 @@ impl<F: FarStore, K: TableName> Pool<F, K> {
         let number = ticket.number();
         if take_back(&mut cell.lock(rt), ticket) {
             let ending = self.run_told(rt, gate, worker, number, cell);
+            self.requests.turn_ended();
             self.requeue(rt, &mut cell.lock(rt), ending);
         }
         gate.go_on()
@@ -479,6 +566,7 @@ impl<F: FarStore, K: TableName> Pool<F, K> {
         for _ in rt.forever() {
             let (held, ending) = self.run_untold(rt, cell, locked);
             locked = held;
+            self.requests.turn_ended();
             let on = gate.go_on();
             if on && ending == Ending::Full && self.runs.is_empty() {
                 if cell.is_wanted() {
@@ -513,6 +601,20 @@ impl<F: FarStore, K: TableName> Pool<F, K> {
         }
     }
 
+    /// A worker comes.
+    fn begin_work<G: Gate>(&self) {
+        if !G::IS_TOLD {
+            self.working.fetch_add(1, Ordering::SeqCst);
+        }
+    }
+
+    /// It goes.
+    fn end_work<G: Gate>(&self) {
+        if !G::IS_TOLD {
+            self.working.fetch_sub(1, Ordering::SeqCst);
+        }
+    }
+
     /// Takes the pool apart. Requests and machines that are queued are dropped. Where memory runs out all is dropped.
     pub fn into_parts(self, alloc: Global) -> Result<PoolParts<F>, AllocError>
         ensures { IfOk result (λ parts. (parts.shared ≡ self.shared) × IsTableOf K.table K.opening parts.shared.table
@@ -527,6 +629,7 @@ impl<F: FarStore, K: TableName> Pool<F, K> {
             requests: _,
             queued: _,
             called: _,
+            working: _,
         } = self;
         let (seats, cells) = parts_of(alloc, cells)?;
         Ok(PoolParts {
@@ -545,6 +648,7 @@ pub fn work<F: FarStore, K: TableName, R: Wait, G: Gate>(
     pool: &Pool<F, K>,
     worker: usize,
 ) {
+    pool.begin_work::<G>();
     if gate.go_on() {
         for _ in rt.forever() {
             if !pool.take_turns(rt, gate, worker) {
@@ -552,5 +656,6 @@ pub fn work<F: FarStore, K: TableName, R: Wait, G: Gate>(
             }
         }
     }
+    pool.end_work::<G>();
     pool.wake_all();
 }

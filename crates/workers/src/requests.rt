@@ -3,6 +3,7 @@
 use crate::job::{Direction, Job, Request, put_into};
 use crate::pool::QUEUE_LIMIT;
 use crate::retries::Retries;
+use crate::shortage::Shortage;
 use crossbeam_queue::ArrayQueue;
 use memory::OBJECT_LIMIT;
 use placement::Moved;
@@ -11,11 +12,12 @@ use std::sync::atomic::{AtomicBool, AtomicU64, Ordering};
 use std::sync::{Mutex, Wait};
 use std::time::Duration;
 
-/// Which moves of an object are asked for and haven't ended.
+/// Which moves of an object are asked for and haven't ended, and whether a machine that waited for it hasn't used it yet.
 #[derive(Drop)]
 struct Open {
     leave: AtomicBool,
     back: AtomicBool,
+    awaited: AtomicBool,
 }
 
 impl Open {
@@ -37,6 +39,7 @@ pub(crate) struct Requests {
     asked: AtomicU64,
     // the mover's alone
     retries: Mutex<Retries>,
+    shortage: Shortage,
 }
 
 impl Requests {
@@ -48,6 +51,7 @@ impl Requests {
             open.push(Open {
                 leave: AtomicBool::new(false),
                 back: AtomicBool::new(false),
+                awaited: AtomicBool::new(false),
             })?;
         }
         let retries = Retries::new(alloc, OBJECT_LIMIT + 1)?;
@@ -56,6 +60,7 @@ impl Requests {
             open,
             asked: AtomicU64::new(0),
             retries: Mutex::new(retries),
+            shortage: Shortage::none(),
         })
     }
 
@@ -149,6 +154,42 @@ impl Requests {
             (count % (1 << 32)) as u32,
             Duration::from_millis(millis),
         );
+    }
+
+    /// Whether a machine that waited for the object goes on and hasn't used it yet, as far as is known.
+    pub(crate) fn is_awaited(&self, number: u32) -> bool {
+        match self.open.get(number as usize) {
+            Some(open) => open.awaited.load(Ordering::SeqCst),
+            None => false,
+        }
+    }
+
+    /// A machine that waited for the object goes on, or the object was used, or left.
+    pub(crate) fn set_awaited(&self, number: u32, is_awaited: bool) {
+        if let Some(open) = self.open.get(number as usize) {
+            open.awaited.store(is_awaited, Ordering::SeqCst);
+        }
+    }
+
+    /// Whether the mover may lack room, and when it looks again.
+    pub(crate) fn shortage(&self) -> &Shortage {
+        &self.shortage
+    }
+
+    /// A turn of a machine has ended: the mover may look for room.
+    #[inline]
+    pub(crate) fn turn_ended(&self) {
+        if self.shortage.turn_ended() {
+            self.wake();
+        }
+    }
+
+    /// A machine or a command has ended: the mover may look for room.
+    #[inline]
+    pub(crate) fn scopes_ended(&self) {
+        if self.shortage.scopes_ended() {
+            self.wake();
+        }
     }
 
     pub(crate) fn wake(&self) {

@@ -6,6 +6,7 @@ pub trait TableName {
     ghost use Rattle.std.specs.Prelude.{Bool, List, ℕ};
     ghost use Rattle.atomic_table.specs.Seated.{TableId};
     ghost use Rattle.machine.specs.MachineState.{MachineState};
+    ghost use Rattle.workers.specs.TableNames.{Passage};
 
     ghost table: { TableId };
 
@@ -18,8 +19,9 @@ pub trait TableName {
     /// How many actors' seats were made.
     ghost seats: { ℕ };
 
-    /// Which cells were lent with a machine in them. Whoever serves learns it of a cell only by `Occupied::fact`.
-    ghost lent: { ℕ → Bool };
+    /// Which cells were lent with a machine in them, what each lock lent, and with what it was left. Whoever serves learns it of a cell only
+    /// by `Occupied::fact`, and of a lock only by taking it and by giving it back.
+    ghost lent: { Passage → Bool };
 }
 
 impl TableName for Brand {

@@ -7,9 +7,12 @@ ghost use Rattle.workers.specs.Cells.{IsTableOf};
 ghost use Rattle.workers.specs.TableNames.{each_lent};
 ghost use Rattle.workers.specs.Pools.{machines_of};
 
+use crate::apart::waits;
 use crate::common::program;
 use crate::gates::{Heard, LeftByFour, LeftByTwo, four, looks_at_fuel, numbers, two};
 use crate::leaving::steps;
+use crate::lent_turns::{LentLeft, turns_lent};
+use crate::locks::{Lent, lent_thrice};
 use crate::moving::{MovesLeft, moves};
 use crate::turns::{Plan, TurnsLeft, turned};
 use crate::untold::{beside, beside_waiting};
@@ -43,10 +46,13 @@ pub enum Course {
     Numbers,
     Fuel,
     Steps,
+    Locks,
     Moves,
     Turns(Plan),
+    Waits,
     Beside,
     Waiting,
+    Lent,
 }
 
 /// What it leaves.
@@ -57,9 +63,12 @@ pub enum Left {
     Numbers(Heard),
     Fuel([u64; 2]),
     Steps([(Option<StepReply>, bool); 4]),
+    Locks([Lent; 3]),
     Moves(MovesLeft),
     Turns([TurnsLeft; 2]),
+    Waits([[bool; 2]; 3]),
     Found(bool),
+    Lent(LentLeft),
 }
 
 /// What the course leaves.
@@ -79,9 +88,12 @@ fn left_by<K: TableName + Send + Sync, R: Threads + Wait + Sync>(
         Course::Numbers => Ok(Left::Numbers(numbers(rt, pool))),
         Course::Fuel => Ok(Left::Fuel(looks_at_fuel(rt, alloc, pool))),
         Course::Steps => Ok(Left::Steps(steps(rt, pool, mover))),
+        Course::Locks => Ok(Left::Locks(lent_thrice(rt, pool))),
         Course::Moves => Ok(Left::Moves(moves(rt, alloc, pool, mover)?)),
         Course::Turns(plan) => Ok(Left::Turns(turned(rt, alloc, pool, mover, plan))),
+        Course::Waits => Ok(Left::Waits(waits(rt, alloc, pool, mover)?)),
         Course::Beside => Ok(Left::Found(beside(rt, alloc, pool))),
+        Course::Lent => Ok(Left::Lent(turns_lent(rt, alloc, pool))),
         Course::Waiting => Ok(Left::Found(beside_waiting(rt, alloc, pool, mover))),
     }
 }

@@ -2,6 +2,8 @@
 #![tactic(auto)]
 
 #[cfg(test)]
+mod apart;
+#[cfg(test)]
 mod common;
 #[cfg(test)]
 mod compared;
@@ -11,6 +13,10 @@ mod course;
 mod gates;
 #[cfg(test)]
 mod leaving;
+#[cfg(test)]
+mod lent_turns;
+#[cfg(test)]
+mod locks;
 #[cfg(test)]
 mod moving;
 #[cfg(test)]

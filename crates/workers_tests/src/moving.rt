@@ -17,7 +17,7 @@ use std::sync::atomic::Ordering;
 use std::test::Fail;
 use std::thread;
 use std::thread::Threads;
-use workers::{Direction, Moved, Mover, Place, Pool, TableName, run_all};
+use workers::{Direction, Moved, Mover, Place, Pool, TableName, Upkeep, run_all};
 
 /// How often each machine adds to each object.
 const TIMES: u64 = 500;
@@ -152,14 +152,14 @@ fn run_moves<K: TableName + Send + Sync, R: Threads + Wait + Sync>(
             let Ok(driver) = scope.spawn(move || drive(rt, gate, pool, program)) else {
                 return (0, (false, false));
             };
-            let made = run_all(rt, gate, pool, served, 2, false);
+            let made = run_all(rt, gate, pool, served, 2, Upkeep::none());
             (made, driver.join(rt))
         },
     )
 }
 
 /// Whether an object is far, now that it is asked to leave.
-fn goes_away<F: FarStore, K: TableName>(
+pub fn goes_away<F: FarStore, K: TableName>(
     pool: &Pool<F, K>,
     served: &mut Mover<F, K>,
     number: u32,

@@ -82,7 +82,7 @@ fn point_of(shown: ShowReply) -> Option<Point> {
 }
 
 /// Where a machine is.
-fn point<F: FarStore, K: TableName, R: Wait>(
+pub fn point<F: FarStore, K: TableName, R: Wait>(
     rt: &R,
     alloc: Global,
     pool: &Pool<F, K>,

@@ -1,6 +1,6 @@
 // Atomic operations on one or two bytes.
-// clang: Unsupported atomic operations, please use 32/64 bit version
-#include "bpfagent.h"
+// clang: (?i)unsupported atomic operations?, please use 32/64 bit version
+#include "bpfagent_program.h"
 
 uint64_t program(uint8_t *counter)
 {

@@ -1,6 +1,6 @@
-// An atomic load or store by C's own names; bpfagent.h has atomic_read and atomic_write.
+// An atomic load or store by C's own names; bpfagent_program.h has atomic_read and atomic_write.
 // clang: Cannot select: .*AtomicLoad<
-#include "bpfagent.h"
+#include "bpfagent_program.h"
 
 uint64_t program(uint64_t *counter)
 {

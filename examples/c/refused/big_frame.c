@@ -1,6 +1,6 @@
 // More than 512 bytes of stack in one function.
-// clang: BPF stack limit of 512 bytes is exceeded
-#include "bpfagent.h"
+// clang: BPF stack limit (of 512 bytes )?is exceeded
+#include "bpfagent_program.h"
 
 uint64_t program(uint64_t number)
 {

@@ -1,6 +1,6 @@
 // Stack space in the eighth nested call: each call lowers R10 by 512, and there are 4096 bytes.
 // run 7: stopped 1 outside
-#include "bpfagent.h"
+#include "bpfagent_program.h"
 
 CALLED uint64_t sum(uint64_t n)
 {

@@ -1,6 +1,6 @@
 // An end that the compiler takes for one that is never reached.
 // ship: refused 1 FallsOff
-#include "bpfagent.h"
+#include "bpfagent_program.h"
 
 uint64_t program(uint64_t *place)
 {

@@ -1,6 +1,6 @@
-// A fence; bpfagent.h has compiler_barrier.
+// A fence; bpfagent_program.h has compiler_barrier.
 // clang: Cannot select: .*AtomicFence
-#include "bpfagent.h"
+#include "bpfagent_program.h"
 
 uint64_t program(uint64_t *counter)
 {

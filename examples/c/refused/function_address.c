@@ -1,6 +1,6 @@
 // The address of a function.
 // bpfagent-ship: slot 2 of program needs the address of a function: only direct calls can be shipped
-#include "bpfagent.h"
+#include "bpfagent_program.h"
 
 CALLED uint64_t twice(uint64_t number)
 {

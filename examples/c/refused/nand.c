@@ -1,6 +1,6 @@
 // An atomic operation that BPF hasn't.
 // clang: Cannot select: .*AtomicLoadNand<
-#include "bpfagent.h"
+#include "bpfagent_program.h"
 
 #pragma clang diagnostic ignored "-Wsync-fetch-and-nand-semantics-changed"
 

@@ -1,7 +1,7 @@
 // Or, and, xor and exchange on 32 bits, for a processor before v3.
 // flags: -mcpu=v2
-// clang: Unsupported atomic operations, please use 64 bit version
-#include "bpfagent.h"
+// clang: (?i)unsupported atomic operations?, please use 64 bit version
+#include "bpfagent_program.h"
 
 uint64_t program(uint32_t *flags)
 {

@@ -1,6 +1,6 @@
 // A place past the object's last byte.
 // run 0x100000000: stopped 1 outside
-#include "bpfagent.h"
+#include "bpfagent_program.h"
 
 uint64_t program(uint64_t *numbers)
 {

@@ -1,6 +1,6 @@
 // Calls deeper than eight.
 // run 10: stopped 1 depth
-#include "bpfagent.h"
+#include "bpfagent_program.h"
 
 CALLED uint64_t fibonacci(uint64_t n)
 {

@@ -1,6 +1,6 @@
 // A function of more than five arguments.
-// clang: defined with too many args
-#include "bpfagent.h"
+// clang: defined with too many args|stack arguments are not supported
+#include "bpfagent_program.h"
 
 CALLED uint64_t sum(uint64_t a, uint64_t b, uint64_t c, uint64_t d, uint64_t e, uint64_t f)
 {

@@ -1,6 +1,6 @@
 // A function that returns a struct, or takes a varying number of arguments.
-// clang: functions with VarArgs or StructRet are not supported
-#include "bpfagent.h"
+// clang: functions with VarArgs or StructRet are not supported|aggregate returns are not supported
+#include "bpfagent_program.h"
 
 struct three {
     uint64_t a, b, c;

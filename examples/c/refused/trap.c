@@ -1,6 +1,6 @@
 // A trap, and so what sanitizers insert.
 // clang: A call to built-in function 'abort' is not supported
-#include "bpfagent.h"
+#include "bpfagent_program.h"
 
 uint64_t program(const uint64_t *number)
 {

@@ -1,6 +1,6 @@
 // A helper that bpfagent hasn't.
 // ship: refused 0 Helper
-#include "bpfagent.h"
+#include "bpfagent_program.h"
 
 static uint64_t (*const fifth)(void) = (void *)5;
 

@@ -1,6 +1,6 @@
 // More than 4096 slots.
 // check: slot 0: TooLong
-#include "bpfagent.h"
+#include "bpfagent_program.h"
 
 uint64_t program(const uint64_t *numbers)
 {

@@ -1,6 +1,6 @@
 // An array on the stack whose length isn't known.
-// clang: Unsupported dynamic stack allocation
-#include "bpfagent.h"
+// clang: (?i)unsupported dynamic stack allocation
+#include "bpfagent_program.h"
 
 uint64_t program(uint64_t length)
 {

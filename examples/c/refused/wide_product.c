@@ -1,6 +1,6 @@
 // A product of 128 bits.
 // clang: A call to built-in function '__multi3' is not supported
-#include "bpfagent.h"
+#include "bpfagent_program.h"
 
 uint64_t program(uint64_t left, uint64_t right)
 {

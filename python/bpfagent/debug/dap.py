@@ -1,50 +1,53 @@
 """The debugger for editors, by the Debug Adapter Protocol. Each machine is a thread."""
 from __future__ import annotations
 
-import base64
 import contextlib
 import os
 import sys
-from typing import Any, Callable, Optional, Sequence
+from typing import Any, Callable, Optional
 
 from .. import limits
-from ..agent import STACK
-from ..commands import fault_text
+from ..commands import address_text, fault_text
 from ..image import Unloadable
 from ..replies import PAUSED, RUNNING, Broken, Refused
 from ..ship import FUEL, Unshippable
-from ..streams import LAST_PORT
+from ..streams import LAST_PORT, checked_place
+from . import views
+from .adapter_points import Points
+from .adapter_views import Views
 from .channel import Channel, Ended
 from .ending import Ending
-from .engine import Engine, Goal, Impossible, Stop
-from .expressions import Invalid, Value, integer
-from .frames import Frame
-from .lines import NoDwarf, SourceLine
-from .program import NoPlace, Place
-from .running import Runner
+from .engine import ENDS, Goal, Impossible, Stop
+from .expressions import Invalid
+from .given import Body, Client, Given
+from .lines import NoDwarf
+from .program import NoPlace
 from .session import LEAVING, MOST_WORKERS, WORKERS, Plan, Session
-from .types import INTEGER
-from .variables import Tree
-from .views import STOPS
+from .stepping import Stepper
+from .symbols import Nowhere
 
-Body = dict[str, Any]
-# Why a request can't be done, and what arguments raise that can't be understood.
-FAULTS = (Impossible, Invalid, NoPlace, NoDwarf, Refused, Unloadable, Unshippable, OSError)
-WRONG = (ArithmeticError, AttributeError, LookupError, TypeError, ValueError)
+# Why a request can't be done, and what only a mistake of the debugger's raises.
+FAULTS = (Impossible, Invalid, NoPlace, NoDwarf, Nowhere, Refused, Unloadable, Unshippable, OSError)
+MISTAKES = (ArithmeticError, AttributeError, LookupError, RecursionError, TypeError, ValueError)
 CAPABILITIES = (
     "supportsConfigurationDoneRequest",
     "supportsConditionalBreakpoints",
+    "supportsHitConditionalBreakpoints",
+    "supportsLogPoints",
     "supportsFunctionBreakpoints",
     "supportsDataBreakpoints",
     "supportsSteppingGranularity",
     "supportsReadMemoryRequest",
     "supportsDisassembleRequest",
     "supportsEvaluateForHovers",
+    "supportsExceptionInfoRequest",
+    "supportsRestartRequest",
     "supportsTerminateRequest",
 )
 REASONS = {
     "breakpoint": "breakpoint",
     "watch": "data breakpoint",
+    "end": "data breakpoint",
     "step": "step",
     "finish": "step",
     "stopped": "exception",
@@ -56,35 +59,14 @@ NUMBERS = {"fuel": (FUEL, 0, limits.WORD), "workers": (WORKERS, 0, MOST_WORKERS)
 # How long nothing is done while a service's machines run, which is doubled up to the second as long as nothing happens, and
 # while nothing runs; in seconds.
 FIRST, LAST, NOTHING = 0.002, 0.05, 0.5
-# The address of an instruction, for the editor: this, the machine and the slot.
-CODE = 0xC0DE << 48
-SLOTS = 1 << 32
-LEVELS = 1 << 16
-# How many instructions are shown at a time.
-MOST_INSTRUCTIONS = 1 << 16
 
 
-class Adapter:
+class Adapter(Points, Views):
     """One session with an editor."""
 
     def __init__(self, channel: Channel, ending: Ending) -> None:
-        self._channel, self._ending = channel, ending
-        self._session: Optional[Session] = None
-        self._begin_anew()
-        self._stops_on_entry = self._is_over = False
+        super().__init__(channel, ending)
         self._pause = FIRST
-        # Events that come while a request is done follow on its response.
-        self._is_answering = False
-        self._later: list[tuple[str, Body]] = []
-
-    def _begin_anew(self) -> None:
-        """Forgets the breakpoints, machines and values of a program that was debugged before."""
-        self._tree = Tree()
-        self._by_source: dict[str, list[int]] = {}
-        self._by_name: list[int] = []
-        self._ended: set[int] = set()
-        self._told: set[int] = set()
-        self._is_configured = False
 
     # ---- messages
 
@@ -152,13 +134,13 @@ class Adapter:
         self._is_answering = True
         broken: Optional[Broken] = None
         try:
-            body, why = self._done(command, message.get("arguments") or {}), ""
+            body, why = self._done(command, message.get("arguments")), ""
         except Broken as fault:
             body, why, broken = None, str(fault), fault
         except FAULTS as fault:
             body, why = None, fault_text(fault)
-        except WRONG as fault:
-            body, why = None, f"these arguments can't be understood: {fault}"
+        except MISTAKES:
+            body, why = None, f"{command} failed by a mistake of the debugger's"
         finally:
             self._is_answering = False
         parts = {"request_seq": message.get("seq"), "command": command}
@@ -176,56 +158,73 @@ class Adapter:
         if not why:
             self._after(command)
 
-    def _done(self, command: str, arguments: Body) -> Optional[Body]:
+    def _done(self, command: str, arguments: object) -> Optional[Body]:
         """The body of the response to a request."""
-        handler: Optional[Callable[[Body], Optional[Body]]] = getattr(self, f"on_{command}", None)
+        handler: Optional[Callable[[Given], Optional[Body]]] = getattr(self, f"on_{command}", None)
         if handler is None:
             raise Impossible(f"{command} isn't supported")
-        return handler(arguments)
+        return handler(Given({} if arguments is None else arguments))
 
     def _after(self, command: str) -> None:
         """What follows on a response."""
         if command in ("launch", "attach"):
             self._event("initialized")
-        elif command == "configurationDone":
+        elif command in ("configurationDone", "restart"):
             self._start()
-
-    def _event(self, name: str, **body: Any) -> None:
-        if self._is_answering:
-            self._later.append((name, body))
-        else:
-            self._channel.send("event", event=name, body=body)
-
-    @property
-    def _engine(self) -> Engine:
-        if self._session is None:
-            raise Impossible("nothing is debugged yet: launch or attach comes first")
-        return self._session.engine
 
     # ---- beginning and end
 
-    def on_initialize(self, arguments: Body) -> Body:
+    def on_initialize(self, given: Given) -> Body:
         """What this adapter can do."""
-        return {capability: True for capability in CAPABILITIES}
+        self._client = Client(given)
+        return {**{capability: True for capability in CAPABILITIES}, "supportsSetVariable": False, "exceptionBreakpointFilters": []}
 
-    def on_launch(self, arguments: Body) -> None:
-        """Starts a program in a new `run`, or in a new service."""
-        self._open(arguments, None)
+    def on_launch(self, given: Given) -> None:
+        """Starts a program in this process, or in a new service."""
+        self._open(given, None)
 
-    def on_attach(self, arguments: Body) -> None:
+    def on_attach(self, given: Given) -> None:
         """Connects to a service."""
-        self._open(arguments, number_of({"port": int(arguments["port"])}, "port", 0, 1, LAST_PORT))
+        self._open(given, place_in(given))
 
-    def _open(self, given: Body, port: Optional[int]) -> None:
+    def _open(self, given: Given, place: Optional[str]) -> None:
         if self._session:
             raise Impossible("something is debugged already")
-        names = {"bpfagent": None, "entry": None, "serve": False, "host": "127.0.0.1"}
-        rest = {name: given.get(name, default) for name, default in names.items()}
-        rest.update({name: number_of(given, name, *numbers) for name, numbers in NUMBERS.items()})
-        plan = Plan(given.get("program"), words_of(given, "arguments"), flags=words_of(given, "flags"), port=port, **rest)
-        self._stops_on_entry = bool(given.get("stopOnEntry", False))
+        fuel, workers, machines = (given.number(name, *numbers) for name, numbers in NUMBERS.items())
+        plan = Plan(
+            given.optional("program"),
+            given.texts("arguments"),
+            given.optional("bpfagent"),
+            fuel,
+            given.optional("entry"),
+            given.texts("flags"),
+            given.flag("serve"),
+            workers,
+            machines,
+            place,
+        )
+        self._runs_only = given.flag("noDebug")
+        self._stops_on_entry = given.flag("stopOnEntry") and not self._runs_only
         self._session = Session(plan, self._give_up)
+        self._listen()
+
+    def _listen(self) -> None:
+        """Hears what the debugger has to say meanwhile."""
         self._engine.agent.idle = self._look_up
+        self._engine.log = lambda machine, text: self._output(text)
+
+    def on_restart(self, given: Given) -> None:
+        """Begins the program anew, with other arguments if there are some."""
+        session = self._session
+        if session is None:
+            raise Impossible("nothing is debugged yet: launch or attach comes first")
+        anew = given.part("arguments") if given.has("arguments") else Given({})
+        if anew.has("program") and anew.text("program") != session.plan.file:
+            raise Impossible("restart keeps the program: disconnect, and launch another")
+        session.restart(anew.texts("arguments") if anew.has("arguments") else None)
+        self._listen()
+        self._tree.clear()
+        self._ended, self._told, self._has_terminated = set(), set(), False
 
     def _start(self) -> None:
         """Lets the machines go on, or tells the editor that they stand at their beginning."""
@@ -241,18 +240,18 @@ class Adapter:
             else:
                 self._engine.run(number)
 
-    def on_configurationDone(self, arguments: Body) -> None:
+    def on_configurationDone(self, given: Given) -> None:
         """All breakpoints are set."""
         self._engine  # noqa: B018 - there has to be one
         if self._is_configured:
             raise Impossible("the machines run already: configurationDone comes once")
 
-    def on_terminate(self, arguments: Body) -> None:
+    def on_terminate(self, given: Given) -> None:
         """Ends what is debugged. The editor disconnects later."""
         self._close()
         self._event("terminated")
 
-    def on_disconnect(self, arguments: Body) -> None:
+    def on_disconnect(self, given: Given) -> None:
         """The editor goes."""
         self._is_over = True
         self._close()
@@ -269,294 +268,124 @@ class Adapter:
                 self._event("thread", reason="started", threadId=number)
 
     def _tell(self, stop: Stop) -> None:
+        """Tells the editor why a machine has stopped."""
         self._tree.clear(stop.machine)
+        for line in stop.gone:
+            self._output(line)
+        self._forget_watched()
         if stop.reason == "exit":
             self._exited(stop)
             return
-        text = f"{stop.text}: {STOPS.get(stop.text, '')}" if stop.reason == "stopped" else f"{stop.text} {stop.value}" if stop.value else stop.text
-        body: Body = {"reason": REASONS[stop.reason], "threadId": stop.machine, "allThreadsStopped": False}
+        text = self._text(stop)
+        if stop.reason == "stopped" and self._runs_only:
+            self._output(text, "stderr")
+            self._over(stop.machine)
+            return
+        is_named = bool(set(stop.breakpoints) & set(self._by_name)) and stop.reason == "breakpoint"
+        body: Body = {"reason": "function breakpoint" if is_named else REASONS[stop.reason], "threadId": stop.machine, "allThreadsStopped": False}
         if text:
-            body.update(description=text, text=text)
+            body.update(description=text.splitlines()[0], text=text)
         if stop.breakpoints:
             body["hitBreakpointIds"] = list(stop.breakpoints)
         self._event("stopped", **body)
 
+    def _text(self, stop: Stop) -> str:
+        """What there is to say of a stop; of a program that has gone wrong, what the terminal says."""
+        if stop.reason == "stopped":
+            return "\n".join([f"machine {stop.machine} stopped: {views.stop_text(stop)}", *views.access_lines(self._engine, stop)])
+        return "; ".join([f"{stop.text} {stop.value}" if stop.value else stop.text, *stop.gone]).strip("; ")
+
     def _exited(self, stop: Stop) -> None:
         """A machine has ended; after the last the session is over."""
-        self._ended.add(stop.machine)
-        self._event("output", category="console", output=f"machine {stop.machine}: {stop.text}\n")
-        self._event("thread", reason="exited", threadId=stop.machine)
-        if self._ended >= set(self._engine.machines) and self._session and self._session.is_started:
-            self._event("exited", exitCode=self._engine.registers(stop.machine).values[0] & 0x7FFF_FFFF)
+        self._output(f"machine {stop.machine} ended: {stop.text} ({views.both(self._engine.registers(stop.machine).values[0])})")
+        self._over(stop.machine, self._exit_code(stop.machine))
+
+    def _exit_code(self, number: int) -> int:
+        """The value that a program has returned, by its type; a whole word is a signed number."""
+        program, value = self._engine.machine(number).program, self._engine.registers(number).values[0]
+        function = program.symbols.function_at(0) if program and program.symbols else None
+        type_ = function.type if function else None
+        size = type_.size if type_ and 0 < type_.size < 8 else 8
+        found = value & ((1 << 8 * size) - 1)
+        is_signed = size == 8 or (type_ is not None and type_.is_signed)
+        return found - (1 << 8 * size) if is_signed and found >> (8 * size - 1) else found
+
+    def _over(self, number: int, code: Optional[int] = None) -> None:
+        """A machine doesn't go on; if it was the last that could, the session is over."""
+        if number not in self._ended:
+            self._ended.add(number)
+            self._event("thread", reason="exited", threadId=number)
+        if self._ended >= set(self._engine.machines) and self._session and self._session.is_started and not self._has_terminated:
+            self._has_terminated = True
+            if code is not None:
+                self._event("exited", exitCode=code)
             self._event("terminated")
 
-    def _begin(self, arguments: Body, goal: Callable[[Runner], Goal]) -> None:
-        number = int(arguments["threadId"])
+    def _begin(self, given: Given, goal: Callable[[Stepper], Goal]) -> None:
+        number = self._machine_of(given)
         machine = self._engine.machine(number)
-        if machine.last and machine.last.reason in ("exit", "stopped"):
-            raise Impossible(f"machine {number} has stopped: {machine.last.text}")
-        self._tree.clear(number)
-        self._engine.begin(number, goal(Runner(self._engine, machine)))
+        if machine.last and machine.last.reason in ENDS:
+            if number not in self._ended:
+                # A program that has gone wrong was looked at, and its session ends. After a refusal Emacs would miss `terminated`.
+                self._over(number)
+                return
+            raise Impossible(f"machine {number} has stopped: {views.stop_text(machine.last) if machine.last.reason == 'stopped' else machine.last.text}")
+        if machine.goal is None:
+            self._tree.clear(number)
+        self._engine.begin(number, goal(Stepper(self._engine, machine)))
 
-    def on_continue(self, arguments: Body) -> Body:
+    def on_exceptionInfo(self, given: Given) -> Body:
+        """Why a program has gone wrong."""
+        last = self._engine.machine(number := self._machine_of(given)).last
+        if last is None or last.reason != "stopped":
+            raise Impossible(f"machine {number} hasn't gone wrong")
+        text = self._text(last)
+        return {
+            "exceptionId": last.text,
+            "description": text,
+            "breakMode": "always",
+            "details": {"message": text, "typeName": last.text},
+        }
+
+    def on_continue(self, given: Given) -> Body:
         """A machine goes on."""
-        self._begin(arguments, lambda runner: runner.to_the_end())
+        self._begin(given, lambda stepper: stepper.to_the_end())
         return {"allThreadsContinued": False}
 
-    def on_next(self, arguments: Body) -> None:
+    def on_next(self, given: Given) -> None:
         """To the next line, or instruction."""
-        self._step(arguments, into=False)
+        self._step(given, into=False)
 
-    def on_stepIn(self, arguments: Body) -> None:
+    def on_stepIn(self, given: Given) -> None:
         """To the next line, into calls, or one instruction."""
-        self._step(arguments, into=True)
+        self._step(given, into=True)
 
-    def _step(self, arguments: Body, into: bool) -> None:
-        if arguments.get("granularity") == "instruction":
-            self._begin(arguments, lambda runner: runner.instruction())
+    def _step(self, given: Given, into: bool) -> None:
+        if given.text("granularity", "statement") == "instruction":
+            self._begin(given, lambda stepper: stepper.instruction())
         else:
-            self._begin(arguments, lambda runner: runner.line(into))
+            self._begin(given, lambda stepper: stepper.line(into))
 
-    def on_stepOut(self, arguments: Body) -> None:
+    def on_stepOut(self, given: Given) -> None:
         """Out of a function."""
-        self._begin(arguments, lambda runner: runner.out())
+        self._begin(given, lambda stepper: stepper.out())
 
-    def on_pause(self, arguments: Body) -> None:
+    def on_pause(self, given: Given) -> None:
         """Stops a machine."""
-        self._tell(self._engine.pause(int(arguments["threadId"])))
-
-    # ---- breakpoints
-
-    def on_setBreakpoints(self, arguments: Body) -> Body:
-        """The breakpoints of a source file, in place of those before."""
-        path = str(arguments["source"]["path"])
-        self._delete(self._by_source.pop(path, []))
-        made = [self._set(f"{path}:{int(wanted['line'])}", wanted) for wanted in arguments.get("breakpoints", [])]
-        self._by_source[path] = [body["id"] for body in made if "id" in body]
-        return {"breakpoints": made}
-
-    def on_setFunctionBreakpoints(self, arguments: Body) -> Body:
-        """The breakpoints on functions, in place of those before."""
-        self._delete(self._by_name)
-        made = [self._set(str(wanted["name"]), wanted) for wanted in arguments["breakpoints"]]
-        self._by_name = [body["id"] for body in made if "id" in body]
-        return {"breakpoints": made}
-
-    def on_setExceptionBreakpoints(self, arguments: Body) -> None:
-        """There is nothing to choose: a stop always stops."""
-
-    def _delete(self, numbers: Sequence[int]) -> None:
-        for number in numbers:
-            with contextlib.suppress(Impossible):
-                self._engine.delete_breakpoint(number)
-
-    def _set(self, text: str, wanted: Body) -> Body:
-        """A breakpoint, as the protocol has it; with a message if it can't be set."""
-        why = "no program is known"
-        for program in self._engine.programs:
-            try:
-                made = self._engine.set_breakpoint(program, text, program.place(text), condition=str(wanted.get("condition") or ""))
-                return {"id": made.number, "verified": True, **line_of(made.place)}
-            except (NoPlace, Impossible, Invalid) as wrong:
-                why = str(wrong)
-        return {"verified": False, "message": why}
-
-    def on_dataBreakpointInfo(self, arguments: Body) -> Body:
-        """Whether a variable can be watched, and by which name."""
-        name = str(arguments["name"])
-        frame = self._frame(int(arguments["frameId"])) if "frameId" in arguments else self._any_frame()
-        value = self._engine.evaluate(name, frame)
-        if value.address is None or value.is_part:
-            return {"dataId": None, "description": f"{name} is in a register or computed, and can't be watched"}
-        return {
-            "dataId": f"{frame.machine}:0x{value.address:x}:{value.type.size}:{name}",
-            "description": f"{name}, writes by machine {frame.machine}",
-            "accessTypes": ["write"],
-        }
-
-    def on_setDataBreakpoints(self, arguments: Body) -> Body:
-        """The watched values, in place of those before."""
-        for number in list(self._engine.watches):
-            self._engine.delete_watch(number)
-        return {"breakpoints": [self._watch(str(wanted["dataId"])) for wanted in arguments["breakpoints"]]}
-
-    def _watch(self, identity: str) -> Body:
-        machine, address, size, name = identity.split(":", 3)
-        try:
-            made = self._engine.watch_at(int(machine), int(address, 16), int(size), name)
-            return {"id": made.number, "verified": True}
-        except (Impossible, Invalid) as why:
-            return {"verified": False, "message": str(why)}
-
-    # ---- looking
-
-    def on_threads(self, arguments: Body) -> Body:
-        """The machines."""
-        return {"threads": [{"id": number, "name": self._name(number)} for number in sorted(self._engine.machines) if number not in self._ended]}
-
-    def _name(self, number: int) -> str:
-        waits = self._engine.machine(number).waits_for
-        return f"machine {number}" + (f", waits for object {waits}" if waits is not None else "")
-
-    def on_stackTrace(self, arguments: Body) -> Body:
-        """The frames of a machine."""
-        number, begin = int(arguments["threadId"]), int(arguments.get("startFrame") or 0)
-        if self._engine.is_running(number):
-            raise Impossible(f"machine {number} is running")
-        frames = self._engine.frames(number)
-        count = int(arguments.get("levels") or len(frames))
-        return {"totalFrames": len(frames), "stackFrames": [self._shown(frame, level) for level, frame in enumerate(frames)][begin : begin + count]}
-
-    def _shown(self, frame: Frame, level: int) -> Body:
-        at = frame.at or next(iter(frame.candidates), None)
-        body: Body = {
-            "id": frame.machine * LEVELS + level,
-            "name": frame.name if frame.slot is not None else f"{frame.name} (call site unknown)",
-            "line": at.line if at else 0,
-            "column": 1 if at else 0,
-        }
-        if at:
-            body["source"] = source_of(at)
-        if frame.slot is not None:
-            body["instructionPointerReference"] = f"0x{CODE + frame.machine * SLOTS + frame.slot:x}"
-        if level and frame.slot is None:
-            body["presentationHint"] = "subtle"
-        return body
-
-    def _frame(self, identity: int) -> Frame:
-        number, level = divmod(identity, LEVELS)
-        frames = self._engine.frames(number)
-        if level >= len(frames):
-            raise Impossible("this frame isn't there any more")
-        return frames[level]
-
-    def _any_frame(self) -> Frame:
-        """A frame of a machine that stands still."""
-        number = next((number for number in sorted(self._engine.machines) if not self._engine.is_running(number)), None)
-        if number is None:
-            raise Impossible("all machines are running")
-        return self._engine.frames(number)[0]
-
-    def on_scopes(self, arguments: Body) -> Body:
-        """What can be looked at in a frame."""
-        frame = self._frame(int(arguments["frameId"]))
-        context = self._engine.context(frame)
-        parts = [
-            ("Locals", "locals", lambda: [(variable.name, context.value_of(variable)) for variable in context.variables()]),
-            ("Registers", "registers", lambda: [(f"r{k}", registered(value)) for k, value in enumerate(frame.registers)]),
-            ("Machine", "", lambda: self._machine_values(frame.machine)),
-        ]
-        return {
-            "scopes": [
-                {
-                    "name": name,
-                    "expensive": False,
-                    "variablesReference": self._tree.add(frame.machine, children, context.memory),
-                    **({"presentationHint": hint} if hint else {}),
-                }
-                for name, hint, children in parts
-            ]
-        }
-
-    def _machine_values(self, number: int) -> list[tuple[str, Value]]:
-        """Slot and fuel of a machine, and what it has emitted."""
-        registers, emitted = self._engine.registers(number), self._engine.agent.out(number)
-        return [("slot", integer(registers.slot)), ("fuel", integer(registers.fuel)), *((f"emitted[{k}]", integer(value)) for k, value in enumerate(emitted))]
-
-    def on_variables(self, arguments: Body) -> Body:
-        """The variables of a reference."""
-        found = self._tree.list(int(arguments["variablesReference"]))
-        begin, count = int(arguments.get("start") or 0), int(arguments.get("count") or len(found))
-        return {"variables": found[begin : begin + count]}
-
-    def on_evaluate(self, arguments: Body) -> Body:
-        """The value of an expression."""
-        frame = self._frame(int(arguments["frameId"])) if "frameId" in arguments else self._any_frame()
-        context = self._engine.context(frame)
-        shown = self._tree.shown(frame.machine, "", self._engine.evaluate(str(arguments["expression"]), frame), context.memory)
-        return {"result": shown["value"], **{name: shown[name] for name in ("type", "variablesReference", "memoryReference") if name in shown}}
-
-    def on_readMemory(self, arguments: Body) -> Body:
-        """Bytes of an object, or of a machine's stack: the reference of a stack begins with its machine and a colon."""
-        machine, _, text = str(arguments["memoryReference"]).rpartition(":")
-        address, count = int(text, 16) + int(arguments.get("offset") or 0), int(arguments["count"])
-        number = int(machine) if machine else self._any_frame().machine if address >> 32 == STACK else 0
-        content = self._readable(number, address, count)
-        return {"address": f"0x{address:x}", "data": base64.b64encode(content).decode("ascii"), "unreadableBytes": count - len(content)}
-
-    def _readable(self, machine: int, address: int, count: int) -> bytes:
-        """As many of these bytes as there are."""
-        try:
-            return self._engine.memory(machine, address, count) if count > 0 else b""
-        except Invalid:
-            pass
-        low, high = 0, count - 1
-        while low < high:
-            middle = (low + high + 1) // 2
-            try:
-                self._engine.memory(machine, address, middle)
-                low = middle
-            except Invalid:
-                high = middle - 1
-        return self._engine.memory(machine, address, low) if low else b""
-
-    def on_disassemble(self, arguments: Body) -> Body:
-        """Instructions around an address. What is before the first and after the last instruction is said to be none."""
-        address = int(str(arguments["memoryReference"]), 16) + int(arguments.get("offset") or 0)
-        number, slot = divmod(address - CODE, SLOTS)
-        program = self._engine.machine(number).program
-        starts = program.starts if program else list(range(limits.SLOTS))
-        here = starts.index(slot) + int(arguments.get("instructionOffset") or 0)
-        chosen = range(here, here + number_of(arguments, "instructionCount", 0, 0, MOST_INSTRUCTIONS))
-        return {"instructions": [self._instruction(number, starts[k]) if 0 <= k < len(starts) else nothing(number, k) for k in chosen]}
-
-    def _instruction(self, number: int, slot: int) -> Body:
-        program = self._engine.machine(number).program
-        at = program.line_at(slot) if program else None
-        body: Body = {
-            "address": f"0x{CODE + number * SLOTS + slot:x}",
-            "instruction": self._engine.agent.line(number, slot),
-            "symbol": program.function_name(slot) if program else "",
-        }
-        if at:
-            body.update(location=source_of(at), line=at.line)
-        return body
+        number = self._machine_of(given)
+        if number in self._ended:
+            raise Impossible(f"machine {number} has stopped")
+        self._tell(self._engine.pause(number))
 
 
-def number_of(given: Body, name: str, otherwise: int, least: int, most: int) -> int:
-    """An argument that is a number in this range."""
-    found = given.get(name, otherwise)
-    if not isinstance(found, int) or isinstance(found, bool) or not least <= found <= most:
-        raise Impossible(f"{name} is a number from {least} to {most}")
-    return found
-
-
-def words_of(given: Body, name: str) -> list[str]:
-    """An argument that is a list of words, empty if it isn't given."""
-    found = given.get(name) or []
-    if not isinstance(found, list):
-        raise Impossible(f"{name} is a list of strings")
-    return [str(word) for word in found]
-
-
-def registered(value: Optional[int]) -> Value:
-    """A register, or that it isn't shown."""
-    return Value(INTEGER, why="not shown by the protocol") if value is None else integer(value)
-
-
-def nothing(number: int, place: int) -> Body:
-    """An instruction that there isn't."""
-    return {"address": f"0x{CODE + number * SLOTS + SLOTS // 2 + place:x}", "instruction": "(none)", "presentationHint": "invalid"}
-
-
-def source_of(at: SourceLine) -> Body:
-    """A source file, as the protocol has it."""
-    return {"name": os.path.basename(at.path), "path": at.path}
-
-
-def line_of(place: Place) -> Body:
-    """Where a breakpoint is, as the protocol has it."""
-    return {"line": place.at.line, "source": source_of(place.at)} if place.at else {}
+def place_in(given: Given) -> str:
+    """The service to which the arguments say to connect: its place, or its port and its host."""
+    if not given.has("place"):
+        return address_text(given.text("host", "127.0.0.1"), given.number("port", None, 1, LAST_PORT))
+    try:
+        return checked_place(given.text("place"))
+    except ValueError as why:
+        raise Impossible(str(why)) from None
 
 
 def serve(ending: Ending) -> None:

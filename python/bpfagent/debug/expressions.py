@@ -4,7 +4,7 @@ from __future__ import annotations
 import operator
 import re
 from dataclasses import dataclass
-from typing import Callable, Mapping, Optional, Protocol
+from typing import Callable, Collection, Mapping, Optional, Protocol
 
 from ..limits import LONGEST, WORD
 from .types import ARRAY, INTEGER, POINTER, UNSIGNED, VOID_TYPE, Type, member_bytes, number_of, pointer_to, shown
@@ -20,6 +20,8 @@ COMPARISONS: dict[str, Callable[[int, int], bool]] = {
     ">": operator.gt,
     ">=": operator.ge,
 }
+# The names of registers, and of what is like one.
+REGISTERS = (*(f"$r{number}" for number in range(11)), "$slot", "$pc", "$fuel")
 # A name behind one of these is that of a type.
 TAGS = ("struct", "union", "enum")
 # How deeply brackets and operators of one operand may be nested.
@@ -88,13 +90,15 @@ NOTHING = Value(VOID_TYPE, why="it isn't computed")
 
 
 class Unvalued:
-    """The context of an expression that is only parsed: it has types, and no values."""
+    """The context of an expression that is only parsed: it has types and names, and no values."""
 
-    def __init__(self, types: Mapping[str, Type]) -> None:
-        self._types = types
+    def __init__(self, types: Mapping[str, Type], names: Collection[str]) -> None:
+        self._types, self._names = types, names
 
     def named(self, name: str) -> Value:
-        """A name may mean something later."""
+        """The name of something that is there, though its value isn't."""
+        if name.lower() not in REGISTERS if name.startswith("$") else name not in self._names:
+            raise Invalid(f"nothing is called {name} there")
         return NOTHING
 
     def type_named(self, name: str) -> Optional[Type]:
@@ -363,6 +367,6 @@ def evaluate(text: str, context: Context) -> Value:
     return Parser(text, context).value()
 
 
-def parse(text: str, types: Mapping[str, Type]) -> None:
-    """Raises `Invalid` if an expression has no value whatever its names mean: it can't be parsed, or names a type that isn't there."""
-    Parser(text, Unvalued(types), is_evaluated=False).value()
+def parse(text: str, types: Mapping[str, Type], names: Collection[str]) -> None:
+    """Raises `Invalid` if an expression can't have a value: it can't be parsed, or names what isn't there."""
+    Parser(text, Unvalued(types, names), is_evaluated=False).value()

@@ -59,16 +59,16 @@ def depth_of(registers: Registers) -> int:
 
 
 class Unwinder:
-    """Finds the frames of a machine that is at some registers."""
+    """Finds the frames of a machine that is at some registers. So many functions are inlined where it is, but not entered yet."""
 
-    def __init__(self, symbols: Symbols, registers: Registers, calls: Sequence[CallSite]) -> None:
-        self._symbols, self._registers, self._calls = symbols, registers, calls
+    def __init__(self, symbols: Symbols, registers: Registers, calls: Sequence[CallSite], hidden: int = 0) -> None:
+        self._symbols, self._registers, self._calls, self._hidden = symbols, registers, calls, hidden
         self._sites = list(symbols.calls())
 
     def frames(self) -> list[Frame]:
         """The frames, the innermost first, as far as the call sites are known."""
         depth = depth_of(self._registers)
-        found = self._physical(self._registers.slot, self._registers.values)
+        found = self._physical(self._registers.slot, self._registers.values)[self._hidden :]
         slot: Optional[int] = self._registers.slot
         for level in range(depth - 1, -1, -1):
             if level < len(self._calls):

@@ -1,14 +1,16 @@
 """The line table of an object file, by pyelftools."""
 from __future__ import annotations
 
+import bisect
 import io
 import os
 import pathlib
 import struct
 from dataclasses import dataclass
-from typing import TYPE_CHECKING, Any, Iterator, Optional
+from typing import TYPE_CHECKING, Any, Collection, Iterator, Optional, Sequence
 
-from ..objectfile import NEEDS, Linked, Unlinkable, elf_of, reading
+from ..objectfile import CODE, NEEDS, REL, RESERVED, SYMBOL, Linked, Unlinkable, elf_of, reading
+from ..printable import printable
 
 if TYPE_CHECKING:
     from elftools.dwarf.compileunit import CompileUnit
@@ -33,7 +35,7 @@ class SourceLine:
     line: int
 
     def __str__(self) -> str:
-        return f"{short(self.path)}:{self.line}"
+        return f"{printable(short(self.path))}:{self.line}"
 
 
 @dataclass(frozen=True)
@@ -57,27 +59,31 @@ def short(path: str) -> str:
 def relocated(content: bytes) -> bytes:
     """The file with the relocations of its debugging sections done. pyelftools doesn't know those of BPF."""
     elf, done = elf_of(content), bytearray(content)
+    sections = list(elf.iter_sections())
     symbols = elf.get_section_by_name(".symtab")
-    for section in elf.iter_sections():
+    values = [value + base_of(sections, where) for _, _, _, where, value, _ in SYMBOL.iter_unpack(symbols.data())] if symbols else []
+    for section in sections:
         if section["sh_type"] != "SHT_REL":
             continue
-        target = elf.get_section(section["sh_info"])
+        target = sections[section["sh_info"]]
         if not target.name.startswith(".debug"):
             continue
-        for found in section.iter_relocations():
-            symbol = symbols.get_symbol(found["r_info_sym"])
-            field, at = FIELDS[found["r_info_type"]], target["sh_offset"] + found["r_offset"]
-            value = struct.unpack_from(field, done, at)[0] + symbol["st_value"] + base_of(elf, symbol)
-            struct.pack_into(field, done, at, value)
+        for place, info in REL.iter_unpack(section.data()):
+            field, at = FIELDS[info & 0xFFFF_FFFF], target["sh_offset"] + place
+            struct.pack_into(field, done, at, struct.unpack_from(field, done, at)[0] + values[info >> 32])
     return bytes(done)
 
 
-def base_of(elf: Any, symbol: Any) -> int:
-    """The address at which a symbol's section begins: 0, unless it has code."""
-    where = symbol["st_shndx"]
-    if not isinstance(where, int) or not elf.get_section(where)["sh_flags"] & 4:
-        return 0
-    return where << SECTION
+def base_of(sections: Sequence[Any], where: int) -> int:
+    """The address at which a section begins: 0, unless it has code."""
+    return where << SECTION if 0 < where < RESERVED and sections[where]["sh_flags"] & CODE else 0
+
+
+def want_readable(elf: Any) -> None:
+    """The debugging sections have their content, and are compressed, if they are, in a way that says how long they are."""
+    for section in elf.iter_sections():
+        if section.name.startswith(".zdebug") or section.name.startswith(".debug") and section["sh_type"] == "SHT_NOBITS":
+            raise NoDwarf(f"the section {printable(section.name)} can't be read: compile with -g, and without -gz")
 
 
 def dwarf_of(content: bytes) -> DWARFInfo:
@@ -91,6 +97,7 @@ def dwarf_of(content: bytes) -> DWARFInfo:
             found = ELFFile(io.BytesIO(relocated(content)))
         except Unlinkable as why:
             raise NoDwarf(str(why)) from None
+        want_readable(found)
         if not found.has_dwarf_info():
             raise NoDwarf("the file has no debugging information: compile with -g")
         return found.get_dwarf_info(relocate_dwarf_sections=False)
@@ -103,13 +110,13 @@ def units_of(dwarf: DWARFInfo) -> Iterator[CompileUnit]:
 
 
 def rows_of_unit(dwarf: DWARFInfo, unit: CompileUnit) -> Iterator[tuple[int, SourceLine, bool, bool]]:
-    """Address, line, and whether a statement begins and a prologue ends, of each row of a unit's line table."""
+    """Address, line, and whether a statement begins and a prologue ends, of each row of a unit's line table. Line 0 is none."""
     with reading(NoDwarf):
         program = line_program(dwarf, unit)
         paths = FilePaths(program, unit) if program else None
         for entry in program.get_entries() if program else []:
             state = entry.state
-            if state is not None and not state.end_sequence and state.line and paths:
+            if state is not None and not state.end_sequence and paths:
                 yield state.address, SourceLine(paths.path(state.file), state.line), bool(state.is_stmt), bool(state.prologue_end)
 
 
@@ -168,8 +175,18 @@ class Lines:
     """The line table of a program, by slots."""
 
     def __init__(self, dwarf: DWARFInfo, linked: Linked) -> None:
-        self.rows: list[Row] = sorted(self._placed(dwarf, linked), key=lambda row: row.slot)
+        found = sorted(self._placed(dwarf, linked), key=lambda row: row.slot)
+        self.rows: list[Row] = [row for row in found if row.at.line]
         self._linked = linked
+        # Where code begins that is of no line, and of one.
+        self._begins = {row.slot: bool(row.at.line) for row in found}
+        self._ordered = sorted(self._begins)
+        # Of the rows at one slot the last statement holds, as for gdb, or the last row if there is none.
+        held: dict[int, Row] = {}
+        for row in self.rows:
+            if row.is_statement or not (row.slot in held and held[row.slot].is_statement):
+                held[row.slot] = row
+        self._by_slot, self._slots = held, sorted(held)
 
     @staticmethod
     def _placed(dwarf: DWARFInfo, linked: Linked) -> Iterator[Row]:
@@ -181,36 +198,48 @@ class Lines:
 
     def row_at(self, slot: int) -> Optional[Row]:
         """The row to which a slot belongs: the last one before it in its function."""
+        place = bisect.bisect_right(self._slots, slot)
+        found = self._by_slot[self._slots[place - 1]] if place else None
         placed = self._linked.function_at(slot)
-        found = None
-        for row in self.rows:
-            if row.slot > slot:
-                break
-            if placed and row.slot >= placed.slot:
-                found = row
-        return found
+        return found if found and placed and found.slot >= placed.slot else None
 
     def line_at(self, slot: int) -> Optional[SourceLine]:
         """The source line of a slot."""
         row = self.row_at(slot)
         return row.at if row else None
 
+    def is_gap(self, slot: int) -> bool:
+        """Whether the compiler says of a slot that it is of no line. It is shown as of the line before."""
+        place = bisect.bisect_right(self._ordered, slot)
+        return bool(place) and not self._begins[self._ordered[place - 1]]
+
+    def row_from(self, slot: int) -> Optional[Row]:
+        """The row that begins at exactly this slot."""
+        return self._by_slot.get(slot)
+
     def begins_at(self, slot: int) -> Optional[SourceLine]:
         """The line of a statement that begins at exactly this slot."""
-        return next((row.at for row in self.rows if row.slot == slot and row.is_statement), None)
+        row = self.row_from(slot)
+        return row.at if row and row.is_statement else None
+
+    def end_of(self, slot: int) -> int:
+        """The slot behind the rows of the line to which a slot belongs."""
+        at = self.line_at(slot)
+        return next((other for other in self._slots if other > slot and self._by_slot[other].at != at), 1 << 32)
 
     def paths(self) -> list[str]:
         """The source files."""
         return sorted({row.at.path for row in self.rows})
 
-    def slots_of(self, path: str, line: int) -> list[int]:
-        """The slots at which a line's code begins, the first of each run of rows; none if the line has no code."""
-        found, before = [], None
+    def slots_of(self, path: str, line: int, targets: Collection[int]) -> list[int]:
+        """The slots at which a line's statements begin: the first of each run of rows, and those to which a jump leads."""
+        found, wanted, is_in = [], SourceLine(path, line), False
         for row in self.rows:
-            is_it = row.at == SourceLine(path, line)
-            if is_it and row.is_statement and before != row.at:
+            if row.at != wanted:
+                is_in = False
+            elif row.is_statement and (not is_in or row.slot in targets):
                 found.append(row.slot)
-            before = row.at
+                is_in = True
         return found
 
     def body_of(self, slot: int, end: int) -> int:
@@ -231,7 +260,7 @@ def line_of_place(content: bytes, place: tuple[int, int]) -> Optional[SourceLine
         dwarf = dwarf_of(content)
         for unit in units_of(dwarf):
             for begin, at, _, _ in rows_of_unit(dwarf, unit):
-                if begin <= address and begin >> SECTION == section and (found is None or begin >= found[0]):
+                if at.line and begin <= address and begin >> SECTION == section and (found is None or begin >= found[0]):
                     found = (begin, at)
     except NoDwarf:
         return None

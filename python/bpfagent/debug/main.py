@@ -4,9 +4,10 @@ from __future__ import annotations
 import argparse
 from typing import Callable, Optional, Sequence
 
-from ..commands import guarded, parsed, place_of
+from ..commands import guarded, parsed, service_of
 from ..image import Unloadable
 from ..limits import MACHINES
+from ..preparing import Unprepared
 from ..replies import Broken, Refused
 from ..ship import Unshippable, WrongArgument, checked, program_parser
 from .channel import NoMessage
@@ -35,11 +36,11 @@ def count_of(least: int, most: int) -> Callable[[str], int]:
 
 def parser() -> argparse.ArgumentParser:
     """The options of the command line."""
-    description = "Debugs programs by source: in a new `bpfagent run`, in a new service, or in one that runs."
+    description = "Debugs programs by source: in an agent of its own, in a new service, or in one that runs."
     options = program_parser("bpfagent-debug", USAGE, description, EPILOG)
     where = options.add_mutually_exclusive_group()
     where.add_argument("--serve", action="store_true", help="start `bpfagent serve`, whose workers run the machines")
-    where.add_argument("--connect", type=place_of, metavar="HOST:PORT", help="attach to a service")
+    where.add_argument("--connect", type=service_of, metavar="PLACE", help="attach to the service at HOST:PORT, unix:PATH or tls:HOST:PORT")
     where.add_argument("--dap", action="store_true", help="speak the Debug Adapter Protocol on standard input and output, for editors")
     options.add_argument("--workers", type=count_of(0, MOST_WORKERS), metavar="W", help=f"the workers of --serve ({WORKERS})")
     options.add_argument("--machines", type=count_of(1, MACHINES), default=1, metavar="N", help="how many machines run the program (1)")
@@ -47,8 +48,8 @@ def parser() -> argparse.ArgumentParser:
     options.add_argument(
         "--execute", "-x", action="append", default=[], metavar="COMMAND", help="a command of the debugger that is done first; may be repeated"
     )
-    options.add_argument("file", nargs="?", metavar="FILE")
-    options.add_argument("arguments", nargs="*", default=[], metavar="ARGUMENT")
+    options.add_argument("file", nargs="?", metavar="FILE", help="the program")
+    options.add_argument("arguments", nargs="*", default=[], metavar="ARGUMENT", help="up to five numbers and objects")
     return options
 
 
@@ -60,10 +61,12 @@ def wrong(given: argparse.Namespace) -> str:
         return "a FILE or --connect is required"
     if given.connect and given.arguments:
         return "--connect takes no ARGUMENT: the machines of the service have theirs"
+    if given.setup and (given.connect or given.dap):
+        return "--setup is for an agent of its own"
     if given.workers is not None and not given.serve:
         return "--workers goes with --serve"
     try:
-        checked(given.arguments)
+        checked(given.arguments, bool(given.setup))
     except WrongArgument as why:
         return str(why)
     return ""
@@ -78,11 +81,11 @@ def debug(given: argparse.Namespace) -> None:
     if given.dap:
         dap.serve(ending)
         return
-    host, port = given.connect or ("127.0.0.1", None)
     workers = WORKERS if given.workers is None else given.workers
     plan = Plan(
-        given.file, given.arguments, given.bpfagent, given.fuel, given.entry, given.flag, given.serve, workers, given.machines, host, port, given.others
+        given.file, given.arguments, given.bpfagent, given.fuel, given.entry, given.flag, given.serve, workers, given.machines, given.connect, given.others
     )
+    plan.setup = given.setup
     with Session(plan, ending.check) as session:
         try:
             terminal.run(session.engine, given.execute, ending)
@@ -97,7 +100,7 @@ def main(words: Optional[Sequence[str]] = None) -> None:
     given = parsed(options, words)
     if why := wrong(given):
         options.error(why)
-    guarded("bpfagent-debug", lambda: debug(given), Impossible, Unshippable, Unloadable, NoDwarf, NoMessage, Broken, Refused)
+    guarded("bpfagent-debug", lambda: debug(given), Impossible, Unshippable, Unloadable, Unprepared, NoDwarf, NoMessage, Broken, Refused)
 
 
 if __name__ == "__main__":

@@ -11,8 +11,10 @@ from typing import Optional, Sequence
 
 from ..image import Image, Unloadable, program_path
 from ..objectfile import SLOT, WIDE, instructions
+from ..starting import ended
+from .flow import Flow
 from .lines import NoDwarf, SourceLine, short
-from .symbols import Symbols
+from .symbols import Symbols, below
 
 EXIT = 0x95
 SECONDS = 30.0
@@ -24,10 +26,11 @@ class NoPlace(Exception):
 
 @dataclass(frozen=True)
 class Place:
-    """Where a breakpoint is: its slots, and the source line."""
+    """Where a breakpoint is: its slots, the source line, and the function if it is on one."""
 
     slots: tuple[int, ...]
     at: Optional[SourceLine]
+    function: str = ""
 
 
 class Program:
@@ -44,6 +47,7 @@ class Program:
         self.starts = [at // SLOT for at, _, _, _ in instructions(image.code)]
         self._opcodes = {at // SLOT: opcode for at, opcode, _, _ in instructions(image.code)}
         self.calls: dict[int, int] = dict(self.symbols.calls()) if self.symbols else {}
+        self.flow = Flow(image.code)
 
     def runs_as(self, replies: Sequence[str]) -> bool:
         """Whether a machine that answers `line` like this, slot by slot, runs this program. Without a bpfagent here only the slots at
@@ -56,7 +60,7 @@ class Program:
     def texts(self) -> Optional[list[str]]:
         """The program's assembly, by bpfagent; None if there is none here."""
         try:
-            done = subprocess.run([program_path(None), "dis"], input=self.image.code, stdout=subprocess.PIPE, stderr=subprocess.DEVNULL, timeout=SECONDS)
+            done = ended(program_path(None), "dis", given=self.image.code, seconds=SECONDS)
         except (Unloadable, OSError, subprocess.TimeoutExpired):
             return None
         return done.stdout.decode("ascii", "replace").splitlines() if done.returncode == 0 else None
@@ -78,6 +82,11 @@ class Program:
         function = self.symbols.function_at(slot) if self.symbols else None
         return function.name if function else ""
 
+    def names_at(self, slots: Sequence[int]) -> set[str]:
+        """The names of the variables that are declared at one of these slots."""
+        functions = [(slot, self.symbols.function_at(slot)) for slot in slots] if self.symbols else []
+        return {variable.name for slot, function in functions if function for scope in function.chain(slot) for variable in scope.variables}
+
     def place(self, text: str, here: Optional[SourceLine] = None) -> Place:
         """The place that FILE:LINE, LINE, FUNCTION or *SLOT means. A LINE alone is in the file of `here`."""
         if found := re.fullmatch(r"\*([0-9]{1,9})", text):
@@ -88,12 +97,13 @@ class Program:
         if not self.symbols:
             raise NoPlace(f"only *SLOT can be found: {self.why}")
         if found := re.fullmatch(r"(?:(.+):)?([0-9]{1,9})", text):
-            return self.place_of_line(self._path(found[1], here), int(found[2]))
+            return self.place_of_line(self.path(found[1], here), int(found[2]))
         return self._place_of_function(text)
 
-    def _path(self, name: Optional[str], here: Optional[SourceLine]) -> str:
+    def path(self, name: Optional[str], here: Optional[SourceLine]) -> str:
         """The source file that a name means."""
-        assert self.symbols
+        if not self.symbols:
+            raise NoPlace(self.why)
         paths = self.symbols.lines.paths()
         if name is None:
             first = self.symbols.lines.line_at(0)
@@ -106,23 +116,41 @@ class Program:
     def place_of_line(self, path: str, line: int) -> Place:
         """The place of a line or, if it has no code, of the next one in this file that has."""
         assert self.symbols
-        lines = sorted({row.at.line for row in self.symbols.lines.rows if row.at.path == path and row.at.line >= line})
-        for later in lines:
-            slots = self.symbols.lines.slots_of(path, later)
-            if slots:
-                found = tuple(self._after_prologue(slot) for slot in self._first_of_each(slots))
-                return Place(found, self.symbols.lines.begins_at(found[0]) or SourceLine(path, later))
+        # A line may have no code of its own but that of a function that is inlined there.
+        inlined = [(copy.called_at, copy.slot) for function in self.symbols.functions for copy in below(function) if copy.called_at]
+        ats = [*(row.at for row in self.symbols.lines.rows), *(at for at, _ in inlined)]
+        for later in sorted({at.line for at in ats if at.path == path and at.line >= line}):
+            at = SourceLine(path, later)
+            slots = self.symbols.lines.slots_of(path, later, self.flow.targets)
+            found = self._needed([self._after_jumps(self._after_prologue(slot)) for slot in slots])
+            if found:
+                return Place(tuple(found), self.symbols.lines.begins_at(found[0]) or at)
+            if calls := sorted({slot for called, slot in inlined if called == at}):
+                return Place(tuple(calls), at)
         raise NoPlace(f"no code is at or after line {line} of {short(path)}")
 
-    def _first_of_each(self, slots: list[int]) -> list[int]:
-        """The first of these slots in each function, and in each inlined copy of one: a loop stops once and not at each turn."""
-        found: dict[int, int] = {}
-        for slot in sorted(slots):
-            function = self.symbols.function_at(slot) if self.symbols else None
-            chain = function.chain(slot) if function else []
-            copy = next((scope for scope in reversed(chain) if scope.called_at), function)
-            found.setdefault(id(copy), slot)
-        return sorted(found.values())
+    def _after_jumps(self, slot: int) -> int:
+        """The slot to which jumps lead that do nothing else and stay on their line, as those before the test of a loop."""
+        assert self.symbols
+        at, seen = self.symbols.lines.line_at(slot), {slot}
+        while (target := self.flow.jumps.get(slot)) is not None and target not in seen and self.symbols.lines.line_at(target) == at:
+            slot = target
+            seen.add(slot)
+        return slot
+
+    def _needed(self, slots: Sequence[int]) -> list[int]:
+        """Those of a line's slots that stop each turn of a loop once: another is passed on each way to the others. A function that is inlined
+        again and again has its own in each copy."""
+        assert self.symbols
+        kept: dict[int, list[int]] = {}
+        for slot in sorted(set(slots)):
+            function = self.symbols.function_at(slot)
+            copy = next(reversed(self.symbols.copies_at(slot)), function)
+            others = kept.setdefault(id(copy), [])
+            begins = [*([function.slot] if function else [slot]), *self.flow.after(slot)]
+            if self.flow.reaches(begins, slot, others):
+                others.append(slot)
+        return sorted(slot for others in kept.values() for slot in others)
 
     def _after_prologue(self, slot: int) -> int:
         """The slot of a line's code; of a function's first line, that after its prologue."""
@@ -138,7 +166,7 @@ class Program:
         if not slots:
             names = ", ".join(sorted(function.name for function in self.symbols.functions))
             raise NoPlace(f"there is no function {name}; there are {names}")
-        return Place(tuple(slots), self.line_at(slots[0]))
+        return Place(tuple(slots), self.line_at(slots[0]), name)
 
 
 def is_path(path: str, name: str) -> bool:

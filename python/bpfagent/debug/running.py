@@ -1,4 +1,4 @@
-"""What a machine can be told to do: go on, a line, over calls, out of a function, an instruction.
+"""What a machine can be told to do: go on, or do an instruction. Steps by source are in `stepping`.
 
 Each is a generator that does a little at a time, and gives a `Stop` at its end. Whatever it set on the machine it clears when it
 ends or is closed.
@@ -6,32 +6,41 @@ ends or is closed.
 from __future__ import annotations
 
 import time
-from typing import Generator, Iterator, Optional, Sequence
+from dataclasses import replace
+from typing import Collection, Iterator, Optional
 
+from ..engine import CHUNK
+from ..line_engine import LineEngine
 from ..replies import PAUSED, RUNNING, Hit, Paused, Ran, Refused, Registers, Step, Stopped, Waiting, step_of
-from .engine import Engine, Goal, Machine, Stop
+from .engine import Conversation, Engine, Goal, Machine, Stop
 from .expressions import Value
 from .frames import CallSite, depth_of
-from .lines import SourceLine
 
 # How many steps are sent at once, and how many instructions are done before others have their turn.
 BATCH = 256
 ONES = 64
 # How long a machine in a service may stand still before it is stepped from here, in seconds.
 STILL = 0.02
+# How long a machine of a debugger's own service is stepped by lines before its worker takes over, in seconds.
+LONG = 0.05
 
 
 class Runner:
     """Runs one machine."""
 
     def __init__(self, engine: Engine, machine: Machine) -> None:
-        self._engine, self._machine, self._agent, self._number = engine, machine, engine.agent, machine.number
+        self._engine, self._machine, self._number = engine, machine, machine.number
+
+    @property
+    def _agent(self) -> Conversation:
+        """The agent, which may become another while the machine runs."""
+        return self._engine.agent
 
     # ---- stops
 
-    def _stop(self, reason: str, slot: int, text: str = "", value: Optional[Value] = None) -> Stop:
+    def _stop(self, reason: str, slot: int, text: str = "", value: Optional[Value] = None, hidden: Optional[int] = None) -> Stop:
         numbers = tuple(found.number for found in self._engine.breakpoints_at(self._number, slot)) if reason == "breakpoint" else ()
-        return Stop(self._number, reason, slot, text, value, numbers)
+        return Stop(self._number, reason, slot, text, value, numbers, hidden)
 
     def _ended(self, stopped: Stopped) -> Stop:
         """The program has ended, or gone wrong."""
@@ -41,13 +50,13 @@ class Runner:
         return self._stop("stopped", slot, stopped.why)
 
     def _at_pause(self, slot: int, is_hit: bool = False) -> Stop:
-        """The machine is paused: at a breakpoint, after a write, or by somebody else."""
-        told = self._engine.changes(self._number)
-        if told or is_hit:
-            return self._stop("watch", slot, told or "a watched value was written and is the same as before")
+        """The machine is paused: at a breakpoint, after a write, where a watched frame ends, or by somebody else."""
+        numbers, told = self._engine.writes(self._number, is_hit)
+        if told:
+            return replace(self._stop("watch", slot, told), breakpoints=numbers)
         if self._engine.breakpoints_at(self._number, slot):
             return self._stop("breakpoint", slot)
-        return self._stop("pause", slot)
+        return self._stop("end" if self._engine.ends_at(self._number, slot) else "pause", slot)
 
     def _of_state(self, registers: Registers) -> Optional[Stop]:
         """The stop that the state of a machine in a service is, if it has stopped."""
@@ -72,42 +81,61 @@ class Runner:
         self._machine.calls.clear()
         yield from self._go_on()
 
-    def _go_on(self) -> Goal:
-        """Goes on until the machine stands still."""
+    def _go_on(self, wanted: Collection[int] = ()) -> Goal:
+        """Goes on until the machine stands still. At the slots that are wanted it does so whatever a condition says."""
         while True:
             self._resume()
             stop: Optional[Stop] = None
             for stop in self._served() if self._engine.is_service else self._stepped():
                 if stop is None:
                     yield None
-            # A breakpoint whose condition doesn't hold stops nobody.
-            if stop is None or stop.reason != "breakpoint" or self._engine.holds(self._number, stop.slot):
+            if stop is not None and stop.reason == "breakpoint":
+                stop = replace(stop, breakpoints=self._engine.reach(self._number, stop.slot))
+            # A breakpoint whose condition doesn't hold stops nobody, and neither does the end of another frame.
+            if stop is None or stop.slot in wanted or not self._is_passed(stop):
                 yield stop
                 return
             yield None
 
+    def _is_passed(self, stop: Stop) -> bool:
+        """Whether a machine goes on where it has paused."""
+        if stop.reason == "end":
+            return not self._engine.outlived(self._number, depth_of(self._engine.registers(self._number)))
+        return stop.reason == "breakpoint" and not stop.breakpoints
+
     def _stepped(self) -> Goal:
-        """Steps the machine from here."""
+        """Steps the machine from here. Where each step is a line, workers take over if there are many."""
+        since = time.monotonic()
         while True:
-            replies = self._agent.tell_all([f"step {self._number}"] * BATCH)
-            stop = self._first_stop(replies)
+            is_near = isinstance(self._agent, LineEngine)
+            stop = self._stop_of(self._agent.run(self._number, CHUNK).last) if isinstance(self._agent, LineEngine) else self._first_stop()
             if isinstance(stop, Waiting):
                 wrong = self._bring_home(stop.object)
                 stop = self._stop("waiting", self._engine.registers(self._number).slot, wrong) if wrong else None
             yield stop
             if stop is not None:
                 return
+            if not is_near and self._engine.hasten and time.monotonic() - since > LONG:
+                self._engine.hasten()
+                yield from self._served()
+                return
 
-    def _first_stop(self, replies: Sequence[str]) -> Stop | Waiting | None:
-        """What the first of these steps was that isn't done."""
-        for reply in replies:
-            step = step_of(reply)
-            if isinstance(step, Waiting):
-                return step
-            if isinstance(step, Stopped):
-                return self._ended(step)
-            if isinstance(step, (Hit, Paused)):
-                return self._at_pause(step.slot, isinstance(step, Hit))
+    def _first_stop(self, count: int = BATCH) -> Stop | Waiting | None:
+        """Sends so many steps, and gives what the first was that wasn't done."""
+        for reply in self._agent.tell_all([f"step {self._number}"] * count):
+            stop = self._stop_of(step_of(reply))
+            if stop is not None:
+                return stop
+        return None
+
+    def _stop_of(self, step: Optional[Step]) -> Stop | Waiting | None:
+        """What a step was that wasn't done."""
+        if isinstance(step, Waiting):
+            return step
+        if isinstance(step, Stopped):
+            return self._ended(step)
+        if isinstance(step, (Hit, Paused)):
+            return self._at_pause(step.slot, isinstance(step, Hit))
         return None
 
     def _served(self) -> Goal:
@@ -128,8 +156,8 @@ class Runner:
                     return
 
     def _pushed(self) -> Optional[Stop]:
-        """Steps a machine that nobody runs, or finds what it waits for."""
-        found = self._first_stop(self._agent.tell_all([f"step {self._number}"] * BATCH))
+        """Steps a machine that nobody runs, or finds what it waits for. A worker of the debugger's own service runs it, if only late."""
+        found = self._first_stop(1 if self._engine.has_worker else BATCH)
         self._machine.waits_for = found.object if isinstance(found, Waiting) else None
         return found if isinstance(found, Stop) else None
 
@@ -195,113 +223,6 @@ class Runner:
         if isinstance(step, Hit):
             return self._at_pause(step.slot, is_hit=True)
         return None
-
-    # ---- lines
-
-    def line(self, into: bool) -> Goal:
-        """To the next line; into the functions that it calls, or over them."""
-        program = self._machine.program
-        if not program or not program.symbols:
-            yield from self.instruction()
-            return
-        start = self._engine.registers(self._number)
-        begin, depth, done = program.line_at(start.slot), depth_of(start), 0
-        while True:
-            step: Step | Stop | None = None
-            for step in self._insist():
-                if step is None:
-                    yield None
-            stop = step if isinstance(step, Stop) else self._after(step) if step else None
-            if stop is None:
-                now = self._engine.registers(self._number)
-                if depth_of(now) > depth:
-                    stop = yield from self._in_call(into, depth)
-                    now = self._engine.registers(self._number)
-                stop = stop or self._at_line(now, begin, depth)
-            if stop is not None:
-                yield stop
-                return
-            done += 1
-            if done % ONES == 0:
-                yield None
-
-    def _in_call(self, into: bool, depth: int) -> Generator[Optional[Stop], None, Optional[Stop]]:
-        """A function was called: stops in it, or goes on to its return."""
-        program = self._machine.program
-        assert program and program.symbols
-        now = self._engine.registers(self._number)
-        function = program.symbols.function_at(now.slot)
-        if into and function:
-            while now.slot != function.body and depth_of(now) > depth:
-                stop = self._after(self._one())
-                if stop:
-                    return stop
-                now = self._engine.registers(self._number)
-            return self._stop("step", now.slot)
-        site = self._machine.calls[-1].slot if self._machine.calls else None
-        targets = [program.after(site)] if site is not None else self._returns(now.slot)
-        return (yield from self._until(targets, depth))
-
-    def _at_line(self, now: Registers, begin: Optional[SourceLine], depth: int) -> Optional[Stop]:
-        """The stop if a line begins here that isn't the one where the step began, or the function has returned."""
-        program = self._machine.program
-        assert program and program.symbols
-        if depth_of(now) < depth:
-            return self._stop("step", now.slot)
-        at = program.symbols.lines.begins_at(now.slot)
-        if at is not None and at != begin:
-            return self._stop("step", now.slot)
-        if self._engine.holds(self._number, now.slot):
-            return self._stop("breakpoint", now.slot)
-        return None
-
-    def _returns(self, slot: int) -> list[int]:
-        """The slots to which the function of a slot may return."""
-        program = self._machine.program
-        assert program and program.symbols
-        function = program.symbols.function_at(slot)
-        return [program.after(site) for site, target in program.calls.items() if function and target == function.slot]
-
-    def _until(self, slots: Sequence[int], depth: int) -> Generator[Optional[Stop], None, Optional[Stop]]:
-        """Goes on to one of these slots at this depth. A stop on the way is given back; None if the slot is reached."""
-        own = [slot for slot in dict.fromkeys(slots) if not self._engine.breakpoints_at(self._number, slot)]
-        try:
-            self._engine.place_temporaries(self._number, own)
-            while True:
-                stop = None
-                for stop in self._go_on():
-                    if stop is None:
-                        yield None
-                if stop is None or stop.reason in ("exit", "stopped", "watch", "waiting"):
-                    return stop
-                here = depth_of(self._engine.registers(self._number))
-                if stop.slot in slots and here <= depth:
-                    del self._machine.calls[here:]
-                    return None
-                if stop.slot not in own:
-                    return stop
-        finally:
-            self._engine.clear(self._number, own)
-
-    def out(self) -> Goal:
-        """Out of the current function, whose result is shown."""
-        program = self._machine.program
-        now = self._engine.registers(self._number)
-        depth = depth_of(now)
-        if depth == 0 or not program or not program.symbols:
-            yield from self.to_the_end()
-            return
-        function = program.symbols.function_at(now.slot)
-        known = self._machine.calls[depth - 1].slot if depth <= len(self._machine.calls) else None
-        targets = [program.after(known)] if known is not None else self._returns(now.slot)
-        stop = yield from self._until(targets, depth - 1)
-        if stop is None:
-            after = self._engine.registers(self._number)
-            value = None
-            if function and function.type and 0 < function.type.size <= 8:
-                value = Value(function.type, after.values[0].to_bytes(8, "little")[: function.type.size])
-            stop = self._stop("finish", after.slot, f"{function.name if function else 'it'} returned", value)
-        yield stop
 
     # ---- pausing
 

@@ -4,6 +4,8 @@ from __future__ import annotations
 import functools
 import pathlib
 
+from ..image import LONGEST
+from ..printable import printable
 from .lines import SourceLine
 
 
@@ -11,8 +13,12 @@ from .lines import SourceLine
 def lines_of(path: str) -> tuple[str, ...]:
     """The lines of a source file; none if it can't be read."""
     try:
-        return tuple(pathlib.Path(path).read_text(errors="replace").splitlines())
-    except OSError:
+        # The path is what an object file says: it may be that of a device that never ends.
+        if not pathlib.Path(path).is_file():
+            return ()
+        with pathlib.Path(path).open(errors="replace") as file:
+            return tuple(printable(line, "\t") for line in file.read(LONGEST).splitlines())
+    except (OSError, ValueError):
         return ()
 
 

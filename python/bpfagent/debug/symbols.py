@@ -95,6 +95,7 @@ class Symbols:
         self._types = TypeReader()
         self.functions: list[Scope] = []
         self.named_types: dict[str, Type] = {}
+        self._copies: dict[int, tuple[Scope, ...]] = {}
         with reading(NoDwarf):
             for unit in units_of(self._dwarf):
                 Unit(self._dwarf, unit, self._linked, self._types).read(self)
@@ -109,6 +110,18 @@ class Symbols:
     def function_at(self, slot: int) -> Optional[Scope]:
         """The function to which a slot belongs."""
         return next((function for function in self.functions if function.holds(slot)), None)
+
+    def copies_at(self, slot: int) -> tuple[Scope, ...]:
+        """The functions that are inlined at a slot, the outermost first."""
+        if slot not in self._copies:
+            function = self.function_at(slot)
+            self._copies[slot] = tuple(scope for scope in function.chain(slot) if scope.called_at) if function else ()
+        return self._copies[slot]
+
+    def beginning(self, slot: int) -> int:
+        """How many of them, the innermost, begin at exactly this slot."""
+        copies = self.copies_at(slot)
+        return next((count for count, copy in enumerate(reversed(copies)) if copy.slot != slot), len(copies))
 
     def function_named(self, name: str) -> Optional[Scope]:
         """The function of this name."""

@@ -8,7 +8,7 @@ import pathlib
 import re
 import signal
 import sys
-from typing import Any, Callable, Iterator, Optional
+from typing import Any, Callable, Iterator, Mapping, Optional
 
 from ..accesses import place_text
 from ..agent import pauses
@@ -17,13 +17,15 @@ from ..replies import Refused
 from . import views
 from .ending import Ending
 from .engine import Engine, Goal, Impossible, Stop, Unanswered
-from .expressions import Invalid, Value, evaluate
+from .expressions import Invalid, Value, evaluate, parse
 from .frames import Frame
 from .lines import NoDwarf, SourceLine
+from .points import Terms
 from .program import NoPlace, Program
-from .running import Runner
 from .session import LEAVING
-from .symbols import Nowhere
+from .stepping import Stepper
+from .symbols import Nowhere, below
+from .types import FORMS, Type, formed_bytes
 
 # Where no home is known, this stays a path that can't be read or written.
 HISTORY = pathlib.Path(os.path.expanduser("~/.bpfagent_history"))
@@ -37,10 +39,12 @@ FAULTS = (Impossible, Invalid, Nowhere, NoPlace, NoDwarf, Refused, OSError)
 SHORT = {
     "b": "break", "tb": "tbreak", "d": "delete", "c": "continue", "s": "step", "n": "next", "fin": "finish", "si": "stepi", "bt": "backtrace",
     "where": "backtrace", "p": "print", "l": "list", "dis": "disassemble", "disas": "disassemble", "i": "info", "f": "frame", "q": "quit", "exit": "quit",
-    "thread": "machine", "m": "machine", "w": "watch", "EOF": "quit",
+    "thread": "machine", "m": "machine", "w": "watch", "EOF": "quit", "r": "run", "u": "until", "advance": "until",
 }  # fmt: skip
-STEPS = {"continue", "step", "next", "finish", "stepi"}
-INFO = ("breakpoints", "frame", "functions", "locals", "line", "machines", "objects", "registers", "scopes", "sources", "watchpoints")
+STEPS = {"continue", "step", "next", "until", "finish", "stepi"}
+# What `list` shows at a time.
+LISTED = 10
+INFO = ("breakpoints", "display", "frame", "functions", "locals", "line", "machines", "objects", "registers", "scopes", "sources", "watchpoints")
 
 
 class Interrupts:
@@ -82,6 +86,8 @@ class Terminal(cmd.Cmd):
         self.level = 0
         self.listed: Optional[SourceLine] = None
         self.interrupts = Interrupts()
+        # The expressions that are shown at each stop, by their numbers, with the form of each.
+        self.displays: dict[int, tuple[str, str]] = {}
         self.is_asked = sys.stdin.isatty()
         if not self.is_asked:
             self.use_rawinput, self.prompt = False, ""
@@ -130,7 +136,7 @@ class Terminal(cmd.Cmd):
 
     def onecmd(self, line: str) -> bool:
         """Does one command; what it can't do it says in a line."""
-        line = re.sub(r"^\s*x/", "x /", line)
+        line = re.sub(r"^\s*(x|p|print|disp|display)/", r"\1 /", line)
         word, _, rest = line.strip().partition(" ")
         if word == "EOF" and self.is_asked:
             print()
@@ -188,10 +194,10 @@ class Terminal(cmd.Cmd):
 
     # ---- running
 
-    def _do(self, goal: Callable[[Runner], Goal], number: Optional[int] = None) -> None:
+    def _do(self, goal: Callable[[Stepper], Goal], number: Optional[int] = None) -> None:
         """Gives the machine something to do, and waits until it stands still."""
         number = self.selected if number is None else number
-        self.engine.begin(number, goal(Runner(self.engine, self.engine.machine(number))))
+        self.engine.begin(number, goal(Stepper(self.engine, self.engine.machine(number))))
         self.wait(number)
 
     def wait(self, number: int) -> None:
@@ -214,8 +220,18 @@ class Terminal(cmd.Cmd):
             self.selected, self.level, self.listed = stop.machine, 0, None
         for line in views.stop_lines(self.engine, stop):
             print(line)
+        if stop.reason != "exit" and stop.machine == self.selected:
+            for number, (form, text) in self.displays.items():
+                print(f"{number}: {self._displayed(form, text)}")
 
-    def _repeat(self, text: str, goal: Callable[[Runner], Goal]) -> None:
+    def _displayed(self, form: str, text: str) -> str:
+        """An expression with its value, or why it has none here."""
+        try:
+            return f"{text} = {formed(self._value(text), form)}"
+        except (Invalid, Nowhere) as why:
+            return f"{text}: {why}"
+
+    def _repeat(self, text: str, goal: Callable[[Stepper], Goal]) -> None:
         """Steps so many times, or until the machine stops for another reason."""
         for _ in range(self._number(text, "a repeated step") if text else 1):
             self._do(goal)
@@ -232,23 +248,43 @@ class Terminal(cmd.Cmd):
             for number in sorted(self.engine.machines):
                 self.wait(number)
         else:
-            self._do(lambda runner: runner.to_the_end())
+            self._do(lambda stepper: stepper.to_the_end())
 
     def do_step(self, argument: str) -> None:
         """step [N]: to the next line, into functions that are called; N times."""
-        self._repeat(argument, lambda runner: runner.line(into=True))
+        self._repeat(argument, lambda stepper: stepper.line(into=True))
 
     def do_next(self, argument: str) -> None:
         """next [N]: to the next line, over functions that are called; N times."""
-        self._repeat(argument, lambda runner: runner.line(into=False))
+        self._repeat(argument, lambda stepper: stepper.line(into=False))
+
+    def do_until(self, argument: str) -> None:
+        """until [PLACE]: to a line further on, so that a loop goes on to its end; or to a place as of break, or out of the function."""
+        if not argument:
+            self._do(lambda stepper: stepper.until())
+            return
+        place = self._program().place(argument, self.engine.here(self.selected))
+        self._do(lambda stepper: stepper.until_place(place.slots))
 
     def do_finish(self, argument: str) -> None:
-        """finish: out of the current function, and shows what it returns. In the outermost one: to the program's end."""
-        self._do(lambda runner: runner.out())
+        """finish: out of the function of the frame, and shows what it returns. In the outermost one: to the program's end."""
+        level = self.level
+        self._do(lambda stepper: stepper.out(level))
+
+    def do_run(self, argument: str) -> None:
+        """run: begins the program anew, with objects as at first, and goes on until something stops it."""
+        if argument:
+            raise Impossible("run takes no arguments: those of the program are given when the debugger starts")
+        if self.engine.restart is None:
+            raise Impossible("the machines of a service to which the debugger is connected can't begin anew")
+        if any(machine.last for machine in self.engine.machines.values()):
+            self.engine.restart()
+        self.selected, self.level, self.listed = min(self.engine.machines), 0, None
+        self._do(lambda stepper: stepper.to_the_end())
 
     def do_stepi(self, argument: str) -> None:
         """stepi [N]: one instruction; N times."""
-        self._repeat(argument, lambda runner: runner.instruction())
+        self._repeat(argument, lambda stepper: stepper.instruction())
 
     def do_pause(self, argument: str) -> None:
         """pause [MACHINE]: stops a machine of a service that runs."""
@@ -269,7 +305,7 @@ class Terminal(cmd.Cmd):
             raise Impossible("a condition is missing behind `if`")
         program = self._program()
         place = program.place(text.strip(), self.engine.here(self.selected) if self.selected in self.engine.machines else None)
-        made = self.engine.set_breakpoint(program, text.strip(), place, is_temporary, condition.strip())
+        made = self.engine.set_breakpoint(program, text.strip(), place, Terms(condition.strip(), is_temporary=is_temporary))
         print(f"breakpoint {made.number} at {made}")
 
     def do_tbreak(self, argument: str) -> None:
@@ -320,11 +356,35 @@ class Terminal(cmd.Cmd):
             print(views.source_line(at))
 
     def do_print(self, argument: str) -> None:
-        """print EXPRESSION: a value, such as print *table, print table->pairs[2].key, print $r3, print *(struct pair *)0x100000008."""
-        print(f"{argument} = {self._value(argument)}")
+        """print[/F] EXPRESSION: a value, such as print *table, print table->pairs[2].key, print $r3. F: x d u o t c, as in print/x key."""
+        form, text = form_and_text(argument)
+        print(f"{text} = {formed(self._value(text), form)}")
+
+    def do_display(self, argument: str) -> None:
+        """display[/F] EXPRESSION: shows a value at each stop. Without one: shows them now."""
+        if argument:
+            form, text = form_and_text(argument)
+            parse(text, *self._names())
+            self.displays[max(self.displays, default=0) + 1] = (form, text)
+        for number, (form, text) in self.displays.items():
+            if not argument or number == max(self.displays):
+                print(f"{number}: {self._displayed(form, text)}")
+
+    def _names(self) -> tuple[Mapping[str, Type], set[str]]:
+        """The types of the program, and all names of its variables."""
+        symbols = self._program().symbols
+        if symbols is None:
+            return {}, set()
+        return symbols.named_types, {variable.name for function in symbols.functions for scope in below(function) for variable in scope.variables}
+
+    def do_undisplay(self, argument: str) -> None:
+        """undisplay [N]: no longer shows a value at each stop, or any."""
+        for number in [self._number(word, "undisplay") for word in argument.split()] or list(self.displays):
+            if self.displays.pop(number, None) is None:
+                raise Impossible(f"there is no display {number}")
 
     def do_x(self, argument: str) -> None:
-        """x/NFU ADDRESS: N units of memory. F: x d u c s or i (instructions, by slot); U: b h w g, for 1 2 4 8 bytes. x/16xb 0x100000000"""
+        """x/NFU ADDRESS: N units of memory. F: x d u c, s (a text up to its zero) or i (instructions, by slot); U: b h w g, for 1 2 4 8 bytes."""
         form, _, text = argument.partition(" ") if argument.startswith("/") else ("/1xg", "", argument)
         found = re.fullmatch(r"/([0-9]{0,5})([xduci]?|s)([bhwg]?)", form)
         if not found or not text:
@@ -336,16 +396,30 @@ class Terminal(cmd.Cmd):
             print(line)
 
     def do_list(self, argument: str) -> None:
-        """list [LINE | FUNCTION]: source lines around the current one, or more of them."""
-        if argument:
-            at = self._program().place(argument, self.frame.at).at
+        """list [LINE | FIRST,LAST | FUNCTION]: source lines around the current one, or more of them."""
+        found = re.fullmatch(r"(?:(.+):)?([0-9]{1,9})\s*,\s*([0-9]{1,9})?", argument)
+        if found:
+            first = int(found[2])
+            last = int(found[3]) if found[3] else first + LISTED - 1
+            if last < first:
+                raise Impossible("list takes the first line and then the last")
+            path = self._program().path(found[1], self.frame.at)
+        elif argument:
+            path, first, last = self._around(self._program().place(argument, self.frame.at).at)
+        elif self.listed:
+            path, first, last = self.listed.path, self.listed.line + 1, self.listed.line + LISTED
         else:
-            at = SourceLine(self.listed.path, self.listed.line + 10) if self.listed else self.frame.at
+            path, first, last = self._around(self.frame.at)
+        for line in views.source_lines(path, first, last, self.frame.at):
+            print(line)
+        self.listed = SourceLine(path, last)
+
+    @staticmethod
+    def _around(at: Optional[SourceLine]) -> tuple[str, int, int]:
+        """The lines around one."""
         if at is None:
             raise Impossible("no source line is known here")
-        self.listed = at
-        for line in views.source_lines(at, self.frame.at):
-            print(line)
+        return at.path, at.line - views.AROUND, at.line + views.AROUND - 1
 
     def do_disassemble(self, argument: str) -> None:
         """disassemble [FUNCTION]: the instructions of a function, with the current line marked."""
@@ -366,7 +440,7 @@ class Terminal(cmd.Cmd):
 
     def do_emitted(self, argument: str) -> None:
         """emitted: the values that the machine has emitted."""
-        print("emitted", *[f"0x{value:x}" for value in self.engine.agent.out(self.selected)])
+        print("emitted", *[f"0x{value:x} ({views.both(value)})" for value in self.engine.agent.out(self.selected)])
 
     def do_set(self, argument: str) -> None:
         """set EXPRESSION = EXPRESSION: writes a number to a value in an object. The protocol can't write registers and stacks."""
@@ -386,7 +460,7 @@ class Terminal(cmd.Cmd):
         print(f"> {self.engine.agent.tell(argument)}")
 
     def do_info(self, argument: str) -> None:
-        """info breakpoints | frame | functions | locals | line | machines | objects | registers | scopes | sources | watchpoints"""
+        """info breakpoints | display | frame | functions | locals | line | machines | objects | registers | scopes | sources | watchpoints"""
         topics = [topic for topic in INFO if argument and topic.startswith(argument)]
         if len(topics) != 1 and argument not in INFO:
             raise Impossible(f"info takes one of {', '.join(INFO)}")
@@ -426,14 +500,29 @@ class Terminal(cmd.Cmd):
         """Functions and source files."""
         return self._places(text)
 
-    complete_tbreak = complete_list = complete_disassemble = complete_break
+    complete_tbreak = complete_until = complete_list = complete_disassemble = complete_break
 
     def complete_print(self, text: str, *ignored: object) -> list[str]:
         """Variables and registers."""
         names = [variable.name for variable in self.engine.context(self.frame).variables()]
         return [name for name in [*names, *(f"$r{k}" for k in range(11)), "$slot", "$fuel"] if name.startswith(text)]
 
-    complete_watch = complete_x = complete_set = complete_print
+    complete_watch = complete_x = complete_set = complete_display = complete_print
+
+
+def formed(value: Value, form: str) -> str:
+    """A value in a form, or as C writes it."""
+    return formed_bytes(value.type, value.bytes, form) if form else str(value)
+
+
+def form_and_text(argument: str) -> tuple[str, str]:
+    """The form in which a value is to be shown, and the expression."""
+    found = re.fullmatch(r"/\s*(\S*)\s*(.*)", argument)
+    if not found:
+        return "", argument
+    if found[1] not in FORMS:
+        raise Impossible(f"/{found[1]} is no form of a value: there are {', '.join('/' + form for form in FORMS)}")
+    return found[1], found[2]
 
 
 # An abbreviation is completed as its command.

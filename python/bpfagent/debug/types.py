@@ -2,9 +2,10 @@
 from __future__ import annotations
 
 from dataclasses import dataclass, field
-from typing import Any, Optional
+from typing import Any, Callable, Optional
 
 from ..accesses import place_text
+from ..printable import printable
 
 ENUM = "enum"
 BASE, POINTER, RECORD, ARRAY, ALIAS, ENUMERATION, FUNCTION, VOID = "base", "pointer", "record", "array", "alias", ENUM, "function", "void"
@@ -151,7 +152,7 @@ def name_of(die: Any) -> str:
     """The name of an entry, or of that from which it comes."""
     found = die.attributes.get("DW_AT_name")
     if found:
-        return str(found.value.decode("utf-8", "replace"))
+        return printable(found.value.decode("utf-8", "replace"))
     return name_of(die.get_DIE_from_attribute("DW_AT_abstract_origin")) if "DW_AT_abstract_origin" in die.attributes else ""
 
 
@@ -208,6 +209,30 @@ def shown(type_: Type, content: bytes, depth: int = 0) -> str:
     if bare.encoding == CHARACTER:
         return f"{number_of(type_, content)} {character(content[0])}"
     return str(number_of(type_, content))
+
+
+# How a number is shown in each form, given its bits and whether the type's values may be negative.
+FORMS: dict[str, Callable[[int, int], str]] = {
+    "x": lambda number, bits: f"0x{number:x}",
+    "d": lambda number, bits: str(number - (1 << bits) if number >> bits - 1 else number),
+    "u": lambda number, bits: str(number),
+    "o": lambda number, bits: f"0{number:o}",
+    "t": lambda number, bits: f"{number:b}",
+    "c": lambda number, bits: character(number & 255),
+}
+
+
+def formed_bytes(type_: Type, content: bytes, form: str) -> str:
+    """A value whose numbers are all in one form: hex, signed, unsigned, octal, binary, or a character."""
+    bare = type_.bare
+    if bare.kind == RECORD:
+        parts = [(f"{member.name} = " if member.name else "") + formed_bytes(member.type, member_bytes(member, content), form) for member in bare.members]
+        return "{" + ", ".join(parts) + "}"
+    if bare.kind == ARRAY and bare.target:
+        size = max(bare.target.size, 1)
+        parts = [formed_bytes(bare.target, content[at : at + size], form) for at in range(0, min(len(content), SHOWN * size), size)]
+        return "{" + ", ".join(parts) + (", .." if bare.count > SHOWN else "") + "}"
+    return FORMS[form](int.from_bytes(content, "little"), max(8 * len(content), 1))
 
 
 def shown_array(array: Type, element: Type, content: bytes, depth: int) -> str:

@@ -8,7 +8,7 @@ from ..agent import STACK
 from ..limits import SLOTS
 from ..replies import RUNNING
 from .engine import Engine, Impossible, Stop
-from .frames import CALL, TOP
+from .frames import CALL, TOP, Unreadable
 from .lines import SourceLine, short
 from .sources import lines_of
 from .symbols import FRAME
@@ -19,6 +19,7 @@ if TYPE_CHECKING:
 
 AROUND = 5
 ROW = 16
+CHARACTERS = Type("base", "char", 1, encoding=6)
 STOPS = {
     "spent": "it has no fuel left",
     "outside": "an access to bytes that aren't all there",
@@ -36,25 +37,33 @@ def source_line(at: SourceLine, mark: str = "") -> str:
     return f"{mark}{at.line}\t{text}"
 
 
-def source_lines(at: SourceLine, current: Optional[SourceLine]) -> Iterator[str]:
-    """The lines around one, with the current one marked."""
-    lines = lines_of(at.path)
+def source_lines(path: str, first: int, last: int, current: Optional[SourceLine]) -> Iterator[str]:
+    """Lines of a source file, with the current one marked."""
+    lines = lines_of(path)
     if not lines:
-        raise Impossible(f"{short(at.path)} can't be read")
-    for line in range(max(at.line - AROUND, 1), min(at.line + AROUND, len(lines) + 1)):
-        here = SourceLine(at.path, line)
+        raise Impossible(f"{short(path)} can't be read")
+    if first > len(lines):
+        raise Impossible(f"{short(path)} has {len(lines)} lines")
+    for line in range(max(first, 1), min(last, len(lines)) + 1):
+        here = SourceLine(path, line)
         yield source_line(here, "> " if here == current else "  ")
+
+
+def both(number: int) -> str:
+    """A word in decimal, and also as a signed number if that is another."""
+    return f"{number}" if number < 1 << 63 else f"{number}, or {number - (1 << 64)}"
 
 
 def machine_line(engine: Engine, number: int, is_selected: bool) -> str:
     """A machine: its state, and where it is."""
     registers = engine.registers(number)
     machine = engine.machine(number)
+    is_begun = machine.last is not None or machine.goal is not None
     state = (
         "running"
         if machine.goal is not None or (engine.is_service and registers.state == RUNNING)
         else "standing"
-        if registers.state == RUNNING
+        if registers.state == RUNNING or engine.is_own and not is_begun
         else registers.state
     )
     if machine.waits_for is not None:
@@ -68,27 +77,38 @@ def machine_line(engine: Engine, number: int, is_selected: bool) -> str:
 
 def stop_lines(engine: Engine, stop: Stop) -> Iterator[str]:
     """Why a machine stopped, and the source line where it is."""
-    program = engine.machine(stop.machine).program
+    yield from stop.gone
     if stop.reason == "exit":
-        yield f"machine {stop.machine} ended: {stop.text}"
+        yield f"machine {stop.machine} ended: {stop.text} ({both(engine.registers(stop.machine).values[0])})"
         return
     if stop.reason == "stopped":
-        yield f"machine {stop.machine} stopped: {stop.text} ({STOPS.get(stop.text, 'a stop')})"
+        yield f"machine {stop.machine} stopped: {stop_text(stop)}"
         yield from access_lines(engine, stop)
     elif stop.reason == "breakpoint":
         yield f"machine {stop.machine}, breakpoint {', '.join(map(str, stop.breakpoints))}"
     elif stop.reason == "watch":
-        yield f"machine {stop.machine}, watchpoint: {stop.text}"
+        numbers = f" {', '.join(map(str, stop.breakpoints))}" if stop.breakpoints else ""
+        yield f"machine {stop.machine}, watchpoint{numbers}: {stop.text}"
     elif stop.reason == "finish":
         yield f"machine {stop.machine}: {stop.text}" + (f" {stop.value}" if stop.value else "")
-    elif stop.reason != "step" or stop.text:
+    elif stop.reason not in ("step", "end") or stop.text:
         yield f"machine {stop.machine}: {stop.reason}{', ' if stop.text else ''}{stop.text}"
+    yield from place_lines(engine, stop)
+
+
+def place_lines(engine: Engine, stop: Stop) -> Iterator[str]:
+    """Where a machine stands still."""
     frame = engine.frames(stop.machine)[0]
-    if program and frame.at:
+    if engine.machine(stop.machine).program and frame.at:
         yield f"{frame.name} at {frame.at}"
         yield source_line(frame.at)
     else:
         yield f"slot {stop.slot}: {engine.agent.line(stop.machine, stop.slot)}"
+
+
+def stop_text(stop: Stop) -> str:
+    """The stop of a program that has gone wrong, in words."""
+    return f"{stop.text} ({STOPS.get(stop.text, 'a stop')})"
 
 
 def access_lines(engine: Engine, stop: Stop) -> Iterator[str]:
@@ -126,13 +146,39 @@ def memory_lines(engine: Engine, number: int, address: int, count: int, kind: st
         yield from or_else(instruction_lines(engine, number, range(address, min(address + count, SLOTS))), f"no instruction begins at slot {address}")
         return
     if kind == "s":
-        content = engine.memory(number, address, count)
-        yield f"{place_text(address)}: {shown(Type('array', target=Type('base', 'char', 1, encoding=6), count=count), content)}"
+        yield from text_lines(engine, number, address, count)
         return
     content = engine.memory(number, address, count * size)
     for begin in range(0, len(content), ROW):
         row = content[begin : begin + ROW]
         yield f"0x{address + begin:x} <{place_text(address + begin)}>: " + " ".join(unit(row[at : at + size], kind) for at in range(0, len(row), size))
+
+
+def text_lines(engine: Engine, number: int, address: int, count: int) -> Iterator[str]:
+    """So many texts from an address on, each up to its zero byte, or to the end of the memory there."""
+    for _ in range(count):
+        content = text_at(engine, number, address)
+        yield f"{place_text(address)}: {shown(Type('array', target=CHARACTERS, count=len(content), size=len(content)), content)}"
+        address += len(content)
+
+
+def text_at(engine: Engine, number: int, address: int) -> bytes:
+    """The bytes of a text, its zero byte included."""
+    content, size = b"", ROW
+    while True:
+        try:
+            piece = engine.memory(number, address + len(content), size)
+        except Unreadable:
+            if size == 1:
+                if content:
+                    return content
+                raise
+            size = 1
+            continue
+        text, zero, _ = piece.partition(b"\0")
+        content += text + zero
+        if zero:
+            return content
 
 
 def instruction_lines(engine: Engine, number: int, slots: Iterable[int]) -> Iterator[str]:
@@ -168,13 +214,18 @@ def or_else(lines: Iterable[str], none: str) -> Iterator[str]:
 def info_breakpoints(terminal: Terminal) -> Iterator[str]:
     """The breakpoints."""
     points = terminal.engine.breakpoints.values()
-    return or_else((f"{it.number}: {it.text} at {it}{', once' if it.is_temporary else ''}, {it.hits} hits" for it in points), "no breakpoints")
+    return or_else((f"{it.number}: {it.text} at {it}{', once' if it.terms.is_temporary else ''}, {it.hits} hits" for it in points), "no breakpoints")
 
 
 def info_watchpoints(terminal: Terminal) -> Iterator[str]:
     """The watched values."""
     watches = terminal.engine.watches.values()
     return or_else((f"{it.number}: {it.text}, machine {it.machine}, {it.length} bytes at {place_text(it.address)}" for it in watches), "no watchpoints")
+
+
+def info_display(terminal: Terminal) -> Iterator[str]:
+    """The expressions that are shown at each stop."""
+    return or_else((f"{number}: {'/' + form + ' ' if form else ''}{text}" for number, (form, text) in terminal.displays.items()), "no displays")
 
 
 def info_machines(terminal: Terminal) -> Iterator[str]:

@@ -1,19 +1,24 @@
 """What a job is, what it gives, and how it stops."""
 from __future__ import annotations
 
+import binascii
+import functools
+import itertools
 import json
-import re
 import uuid
 from dataclasses import dataclass, field
 from typing import Mapping, Optional, Union
 
-from ..agent import ARGUMENTS
+from ..agent import ARGUMENTS, Agent, address
+from ..engine import Engine
 from ..image import Image
+from ..limits import WORD
+from ..replies import Refused, Stopped
 
 # The most keys of a job, which is what `ship2` grants, and a job's fuel unless it says otherwise.
 GRANTS, FUEL = 16, 10_000_000
-# A key's hash tag, which Redis hashes in place of the key.
-TAG = re.compile(r"\{([^}]+)\}")
+# How many hash slots a Redis Cluster has.
+SLOTS = 16_384
 
 
 class JobStopped(Exception):
@@ -81,8 +86,9 @@ class Job:
     @property
     def record(self) -> str:
         """The key of the job's result, in the hash slot of the keys that it writes."""
-        tag = TAG.search(self.home)
-        return f"bpfagent-job:{{{tag[1] if tag else self.home}}}:{self.id}"
+        tag = hashed(self.home)
+        # A hash tag ends at its first brace, so none is such a text.
+        return f"bpfagent-job:{{{tag_of(slot_of(tag)) if '}' in tag else tag}}}:{self.id}"
 
     def source(self, slot: int) -> Optional[str]:
         """The source line of a slot: that of the last entry at or before it."""
@@ -105,6 +111,43 @@ class Result:
         """The result in a record."""
         value, emitted = json.loads(text)
         return cls(value, tuple(emitted))
+
+
+def hashed(key: str) -> str:
+    """What Redis hashes of a key: what stands between its first `{` and the next `}`, if there is something, or else all of it (Redis
+    Cluster specification, "Hash tags")."""
+    begin = key.find("{")
+    end = key.find("}", begin + 1)
+    return key[begin + 1 : end] if begin >= 0 and end > begin + 1 else key
+
+
+def slot_of(text: str) -> int:
+    """The hash slot of what Redis hashes: its CRC-16 of the kind XMODEM, modulo the number of slots."""
+    return binascii.crc_hqx(text.encode(), 0) % SLOTS
+
+
+@functools.lru_cache(maxsize=SLOTS)
+def tag_of(slot: int) -> str:
+    """A hash tag of this slot."""
+    return next(tag for tag in map(str, itertools.count()) if slot_of(tag) == slot)
+
+
+def shipped(agent: Union[Agent, Engine], job: Job, numbers: Mapping[str, int]) -> int:
+    """The number of the machine that a job becomes, where its keys are these objects. It reaches no others."""
+    arguments = [address(numbers[it]) if isinstance(it, str) else it & WORD for it in job.arguments]
+    try:
+        return agent.ship2(job.code, job.fuel, {numbers[key]: right for key, right in job.keys.items()}, *arguments)
+    except Refused as refusal:
+        if refusal.word != "refused":
+            raise
+        slot, why = int(refusal.words[1]), refusal.words[2]
+        raise JobRefused(job.name, why, slot, job.source(slot)) from None
+
+
+def stopped(agent: Union[Agent, Engine], machine: int, job: Job, stop: Stopped) -> JobStopped:
+    """How a job stopped, and where."""
+    state = agent.regs(machine)
+    return JobStopped(job.name, stop.why, state.slot, agent.line(machine, state.slot), job.source(state.slot), state.values)
 
 
 def lines_of(image: Image) -> dict[int, str]:

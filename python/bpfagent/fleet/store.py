@@ -1,25 +1,24 @@
 """The objects in Redis, and transactions that take effect once."""
 from __future__ import annotations
 
-import logging
 import uuid
 from dataclasses import dataclass
-from typing import Any, Callable, Optional, TypeVar, Union
+from typing import Callable, Optional, TypeVar, Union
 
 import redis
 from redis import exceptions
 from redis.backoff import ExponentialBackoff
 from redis.client import Pipeline
-from redis.cluster import ClusterNode, RedisCluster
-from redis.connection import parse_url
+from redis.cluster import RedisCluster
 from redis.crc import key_slot
 from redis.retry import Retry
 
 from ..limits import LONGEST
+from ..redisclient import connect
 from .jobs import Job, JobStopped, Result
 
-# Seconds: how long Redis may be unreachable, the longest pause between two tries, and how long a reply may take.
-PATIENCE, PAUSE, REPLY = 30.0, 0.5, 10.0
+# Seconds: how long Redis may be unreachable, and the longest pause between two tries.
+PATIENCE, PAUSE = 30.0, 0.5
 # How long `WAIT` waits for replicas, in milliseconds.
 REPLICATED = 1000
 # Errors that pass: of the connection, and of a cluster in which slots move or a replica takes over.
@@ -34,9 +33,6 @@ PASSING = (
     exceptions.ReadOnlyError,
 )
 T = TypeVar("T")
-
-# It would log each node that can't be reached, with a traceback.
-logging.getLogger("redis.cluster").addHandler(logging.NullHandler())
 
 
 class Unconfirmed(exceptions.RedisError):  # type: ignore[misc]
@@ -145,7 +141,7 @@ class Store:
     def _node(self, key: str) -> redis.Redis[bytes]:
         """The client of the node that holds a key, connected when it is first wanted."""
         if self._client is None:
-            self._client = connect(self._setting)
+            self._client = connect(self._setting.urls, self._setting.is_cluster)
         if isinstance(self._client, RedisCluster):
             return self._client.get_redis_connection(self._client.get_node_from_key(key))
         return self._client
@@ -153,22 +149,6 @@ class Store:
     def _forget(self, error: Exception) -> None:
         """After an error the nodes are asked anew which of them holds which slots."""
         self._client = None
-
-
-class Nodes(RedisCluster):  # type: ignore[misc]
-    """redis-py 4.3 copies its client when it asks for the slots anew, which would fail."""
-
-    def __deepcopy__(self, memo: dict[int, Any]) -> Nodes:
-        return self
-
-
-def connect(setting: Setting) -> Union[redis.Redis[bytes], RedisCluster]:
-    """A client of a single Redis, or of a Cluster of which some nodes are known."""
-    options = {"socket_timeout": REPLY, "socket_connect_timeout": REPLY}
-    if not setting.is_cluster:
-        return redis.Redis.from_url(setting.urls[0], **options)
-    parts = [parse_url(url) for url in setting.urls]
-    return Nodes(url=setting.urls[0], startup_nodes=[ClusterNode(it["host"], it["port"]) for it in parts], **options)
 
 
 def present(key: str, content: Optional[bytes]) -> bytes:

@@ -2,8 +2,8 @@
 #![tactic(auto, unfolding(clap::proofs::OnLiterals::clap_on_literals))]
 
 ghost use Rattle.std.specs.Prelude.{◌≡◌, ◌≢◌, [], ◌∷◌, None, Some, codes, true, false};
-ghost use Rattle.agent.specs.CommandLine.{budget_limit, budget_limit_text, far_of, faults_of, port_limit, task_of};
-ghost use Rattle.agent.specs.Laws.{RightArgumentsNameATask, all_of_serve, far_serving, plain_serving};
+ghost use Rattle.agent.specs.CommandLine.{budget_limit, budget_limit_text, far_of, faults_of, port_limit, task_of, unix_of};
+ghost use Rattle.agent.specs.Laws.{RightArgumentsNameATask, all_of_serve, far_serving, plain_serving, storing_at, unix_serving};
 
 use crate::arguments::Task;
 use clap::error::ErrorKind;
@@ -15,7 +15,7 @@ pub fn right_arguments()
     ensures check { (faults_of (codes "check" ∷ []) ≡ []) × (task_of (codes "check" ∷ []) ≡ Some (Task.Check false)) }
     ensures asm { (faults_of (codes "asm" ∷ []) ≡ []) × (task_of (codes "asm" ∷ []) ≡ Some (Task.Assemble false)) }
     ensures dis { (faults_of (codes "dis" ∷ []) ≡ []) × (task_of (codes "dis" ∷ []) ≡ Some (Task.Disassemble false)) }
-    ensures store { (faults_of (codes "store" ∷ []) ≡ []) × (task_of (codes "store" ∷ []) ≡ Some (Task.Store 0 false)) }
+    ensures store { (faults_of (codes "store" ∷ []) ≡ []) × (task_of (codes "store" ∷ []) ≡ Some (Task.Store (storing_at 0 false))) }
     ensures serve { (faults_of (codes "serve" ∷ []) ≡ []) × (task_of (codes "serve" ∷ []) ≡ Some (Task.Serve plain_serving)) }
     ensures help { faults_of (codes "--help" ∷ []) ≡ ErrorKind.DisplayHelp ∷ [] }
     ensures version { faults_of (codes "--version" ∷ []) ≡ ErrorKind.DisplayVersion ∷ [] }
@@ -31,38 +31,54 @@ pub fn right_budgets()
         × (task_of (codes "run" ∷ codes "--budget" ∷ budget_limit_text ∷ []) ≡ Some (Task.Run budget_limit)) }
 {}
 
-/// `--port` gives `store` its port.
+/// `--port` gives `store` its port; `--idle` and `--memory` give it its bounds.
 pub fn right_ports()
     ensures word { (faults_of (codes "store" ∷ codes "--port" ∷ codes "8" ∷ []) ≡ [])
-        × (task_of (codes "store" ∷ codes "--port" ∷ codes "8" ∷ []) ≡ Some (Task.Store 8 false)) }
+        × (task_of (codes "store" ∷ codes "--port" ∷ codes "8" ∷ []) ≡ Some (Task.Store (storing_at 8 false))) }
     ensures most { (faults_of (codes "store" ∷ codes "--port=65535" ∷ []) ≡ [])
-        × (task_of (codes "store" ∷ codes "--port=65535" ∷ []) ≡ Some (Task.Store port_limit false)) }
+        × (task_of (codes "store" ∷ codes "--port=65535" ∷ []) ≡ Some (Task.Store (storing_at port_limit false))) }
     ensures great { faults_of (codes "store" ∷ codes "--port" ∷ codes "65536" ∷ []) ≢ [] }
     ensures text { faults_of (codes "store" ∷ codes "--port" ∷ codes "x" ∷ []) ≢ [] }
     ensures missing { faults_of (codes "store" ∷ codes "--port" ∷ []) ≢ [] }
+    ensures idle { (faults_of (codes "store" ∷ codes "--idle" ∷ codes "5" ∷ []) ≡ [])
+        × (task_of (codes "store" ∷ codes "--idle" ∷ codes "5" ∷ []) ≡ Some (Task.Store (record (storing_at 0 false) { idle = 5 }))) }
+    ensures memory { (faults_of (codes "store" ∷ codes "--memory=7" ∷ []) ≡ [])
+        × (task_of (codes "store" ∷ codes "--memory=7" ∷ []) ≡ Some (Task.Store (record (storing_at 0 false) { memory = 7 }))) }
+    ensures too_long { faults_of (codes "store" ∷ codes "--idle" ∷ codes "86401" ∷ []) ≢ [] }
+    ensures too_much { faults_of (codes "store" ∷ codes "--memory" ∷ codes "4294967296" ∷ []) ≢ [] }
 {}
 
-/// The options of `serve`, and numbers that are too small or too great for them. `--far` may be left out.
+/// The options of `serve`, and numbers that are too small or too great for them. `--far` and `--unix` may be left out. A port of 0
+/// that is asked for is known from none.
 pub fn right_services()
     ensures all { (faults_of all_of_serve ≡ [])
         × (task_of all_of_serve ≡ Some (Task.Serve (record {
           port = 7070;
+          has_port = true;
           connections = 8;
           workers = 0;
           budget = 64;
           sweep = true;
+          keep = 65536;
           far_timeout = 250;
           verbose = true;
         }))) }
     ensures far { (faults_of far_serving ≡ []) × (task_of far_serving ≡ Some (Task.Serve plain_serving))
         × (far_of far_serving ≡ Some (codes "127.0.0.1:7070")) }
     ensures no_far { far_of all_of_serve ≡ None }
+    ensures unix { (faults_of unix_serving ≡ []) × (task_of unix_serving ≡ Some (Task.Serve plain_serving))
+        × (unix_of unix_serving ≡ Some (codes "agent.sock")) }
+    ensures no_unix { unix_of all_of_serve ≡ None }
+    ensures no_path { faults_of (codes "serve" ∷ codes "--unix" ∷ []) ≢ [] }
+    ensures any_port { task_of (codes "serve" ∷ codes "--port=0" ∷ []) ≡ Some (Task.Serve (record plain_serving { has_port = true })) }
     ensures missing { faults_of (codes "serve" ∷ codes "--far" ∷ []) ≢ [] }
     ensures no_connection { faults_of (codes "serve" ∷ codes "--connections" ∷ codes "0" ∷ []) ≢ [] }
     ensures nine_connections { faults_of (codes "serve" ∷ codes "--connections=9" ∷ []) ≢ [] }
     ensures too_many_workers { faults_of (codes "serve" ∷ codes "--workers" ∷ codes "17" ∷ []) ≢ [] }
     ensures no_time { faults_of (codes "serve" ∷ codes "--far-timeout" ∷ codes "0" ∷ []) ≢ [] }
     ensures too_long { faults_of (codes "serve" ∷ codes "--far-timeout=600001" ∷ []) ≢ [] }
+    ensures too_few_kept { faults_of (codes "serve" ∷ codes "--keep" ∷ codes "65535" ∷ []) ≢ [] }
+    ensures too_many_kept { faults_of (codes "serve" ∷ codes "--keep=67108865" ∷ []) ≢ [] }
     ensures of_run { faults_of (codes "run" ∷ codes "--workers" ∷ codes "1" ∷ []) ≢ [] }
 {}
 
@@ -74,8 +90,8 @@ pub fn right_flags()
     ensures explain { (faults_of (codes "asm" ∷ codes "--explain" ∷ []) ≡ []) × (task_of (codes "asm" ∷ codes "--explain" ∷ []) ≡ Some (Task.Assemble true)) }
     ensures slots { (faults_of (codes "dis" ∷ codes "--slots" ∷ []) ≡ []) × (task_of (codes "dis" ∷ codes "--slots" ∷ []) ≡ Some (Task.Disassemble true)) }
     ensures verbose { (faults_of (codes "store" ∷ codes "--verbose" ∷ []) ≡ [])
-        × (task_of (codes "store" ∷ codes "--verbose" ∷ []) ≡ Some (Task.Store 0 true)) }
-    ensures short { (faults_of (codes "store" ∷ codes "-v" ∷ []) ≡ []) × (task_of (codes "store" ∷ codes "-v" ∷ []) ≡ Some (Task.Store 0 true)) }
+        × (task_of (codes "store" ∷ codes "--verbose" ∷ []) ≡ Some (Task.Store (storing_at 0 true))) }
+    ensures short { (faults_of (codes "store" ∷ codes "-v" ∷ []) ≡ []) × (task_of (codes "store" ∷ codes "-v" ∷ []) ≡ Some (Task.Store (storing_at 0 true))) }
 {}
 
 /// No argument at all, another one, `help`, a second one, an option of another subcommand and a flag given twice are

@@ -1,5 +1,6 @@
-//! What `-v` writes to standard error: a line each, after the time.
+//! What servers write to standard error: a line each, with `-v` after the time.
 
+use crate::servers::ledger::Moves;
 use crate::servers::moment::Moment;
 use console::DriveFault;
 use far_server::{CLIENT_LIMIT, Journal, Refusal};
@@ -10,7 +11,6 @@ use std::fmt::{self, Display, Formatter};
 use std::io::{Eprint, Error, ErrorKind};
 use std::net::SocketAddr;
 use std::time::Clock;
-use workers::{Direction, Moved, Request};
 
 /// Something that whoever runs a server has to know.
 #[derive(Clone, Copy, Drop, Debug, PartialEq, Eq)]
@@ -33,7 +33,9 @@ pub(crate) enum Note {
     Stayed(u32, StoreFault),
     Returned(u32),
     StayedFar(u32, StoreFault),
-    Kept(Tally, Tally),
+    Kept(Tally, Tally, Moves),
+    StayFar(Tally),
+    Lost(Tally),
 }
 
 /// Why the stream of a far server broke.
@@ -49,7 +51,7 @@ fn reason_of(kind: ErrorKind) -> &'static str {
 }
 
 /// The ending of the word for so many.
-fn ending_of(count: u64) -> &'static str {
+pub(crate) fn ending_of(count: u64) -> &'static str {
     if count == 1 { "" } else { "s" }
 }
 
@@ -91,9 +93,26 @@ impl Display for Note {
             Note::StayedFar(object, fault) => {
                 write!(f, "object {object} couldn't return: {fault}")
             }
-            Note::Kept(here, far) => {
+            Note::Kept(here, far, moves) => {
                 let (here, far) = (Counted(*here), Counted(*far));
-                write!(f, "the service ends: {here} here, {far} far")
+                write!(f, "the service ends: {here} here, {far} far; {moves}")
+            }
+            Note::StayFar(far) => {
+                let (are, stay) = if far.objects == 1 {
+                    ("is", "stays")
+                } else {
+                    ("are", "stay")
+                };
+                let far = Counted(*far);
+                write!(
+                    f,
+                    "{far} {are} far at the end, and {stay} in the far store, if that still runs"
+                )
+            }
+            Note::Lost(far) => {
+                let are = if far.objects == 1 { "is" } else { "are" };
+                let far = Counted(*far);
+                write!(f, "{far} {are} far at the end, and lost with this process")
             }
         }
     }
@@ -117,6 +136,48 @@ impl<R: Clock + Eprint> Notes<R> {
             let now = Moment::now(&self.rt);
             let _ = eprintln!(self.rt; "{now} {note}");
         }
+    }
+
+    /// Writes a line also if none was asked for, and then without the time.
+    pub fn say(&self, note: Note) {
+        if self.is_written {
+            self.write(note);
+        } else {
+            let _ = eprintln!(self.rt; "{note}");
+        }
+    }
+
+    /// A line that begins so, and then has the path of a socket file.
+    fn write_path(&self, text: &str, path: &str) {
+        if self.is_written {
+            let now = Moment::now(&self.rt);
+            let _ = eprintln!(self.rt; "{now} {text} {path}");
+        }
+    }
+
+    /// The clock by which lines have their times, if any are written.
+    pub fn clock(&self) -> Option<&R> {
+        if self.is_written {
+            Some(&self.rt)
+        } else {
+            None
+        }
+    }
+
+    /// The socket file of this path is listened at.
+    pub fn listening_at(&self, path: &str) {
+        self.write_path("listening at", path);
+    }
+
+    /// The socket file of this path can't be had.
+    pub fn refused_path(&self, path: &str, error: &Error) {
+        self.write_path(
+            match error.kind() {
+                ErrorKind::AddrInUse | ErrorKind::WouldBlock => "somebody listens at",
+                _ => "no socket can be made at",
+            },
+            path,
+        );
     }
 
     /// The far server at this address can't be connected to.
@@ -156,34 +217,5 @@ impl<R: Clock + Eprint> Journal for Notes<R> {
             Refusal::TooMany => Note::TooMany,
             Refusal::NoThread => Note::NoThread,
         });
-    }
-}
-
-impl<R: Clock + Eprint> ship_service::Journal for Notes<R> {
-    fn came(&self, client: u64) {
-        self.write(Note::Came(client));
-    }
-
-    fn went(&self, client: u64, outcome: Result<(), DriveFault>) {
-        self.write(match outcome {
-            Ok(()) => Note::Went(client),
-            Err(fault) => Note::Unheard(client, fault),
-        });
-    }
-
-    fn moved(&self, request: Request, moved: Moved) {
-        let object = request.number;
-        self.write(match (request.direction, moved) {
-            (Direction::Leave, Moved::Done) => Note::Left(object),
-            (Direction::Leave, Moved::Scoped) => Note::Held(object),
-            (Direction::Leave, Moved::Fault(fault)) => Note::Stayed(object, fault),
-            (Direction::Return, Moved::Done) => Note::Returned(object),
-            (Direction::Return, Moved::Fault(fault)) => Note::StayedFar(object, fault),
-            _ => return,
-        });
-    }
-
-    fn closed(&self, here: Tally, far: Tally) {
-        self.write(Note::Kept(here, far));
     }
 }

@@ -1,25 +1,32 @@
 //! `serve`: shares objects and machines with clients.
-ghost use Rattle.std.specs.Prelude.{◌≡◌, ◌++◌, ◌∷◌, [], option_map, IfErr, IfSome, OnOk};
-ghost use Rattle.agent.specs.ServeLeaves.{IsAddress, ReportsServe, ReportsService, ServeLeaves, ServesOver, Unconnected, listen_text, serve_status, serve_text};
+ghost use Rattle.std.specs.Prelude.{◌≡◌, ◌&&◌, is_some, false, ℕ, List, ◌++◌, ◌∷◌, [], None, Some, option_map, IfErr, IfOk, IfSome, OnOk};
+ghost use Rattle.world.specs.WorldState.{state_of};
+ghost use Rattle.ship_service.specs.Listening.{FindsHere, SaysAs, TellsClosingOf};
+ghost use Rattle.agent.specs.ServeLeaves.{IsAddress, IsDoorName, LeavesBy, ReportsServe, ReportsService, ServeLeaves, ServesOver, Unconnected};
+ghost use Rattle.agent.specs.ServeLeaves.{listen_text, serve_status, serve_text};
 
 use crate::arguments::Serving;
 use crate::failure::{ExitStatus, Failure, FailureLine, line_of};
 use crate::reporting::say;
 use crate::running::do_commands;
+use crate::servers::ledger::Ledger;
 use crate::servers::noted_stream::NotedStream;
 use crate::servers::notes::{Note, Notes};
 use far_server::Journal;
 use far_store::{FarStore, OwnStore};
-use far_stream::StreamStore;
-use listener::{NET_FAULT, bind};
+use far_stream::{Buffered, DeferringStore};
+use listener::{Door, NET_FAULT, Name, SocketFile, bind, bind_file, file_name, port_name};
 use ship_service::{ListenFault, Plan, listen_over};
 use std::alloc::Global;
+use std::fs::File;
 use std::io::{self, Eprint, Read, Write};
 use std::net::{Net, SocketAddr, TcpListener, TcpStream};
+use std::rt::Files;
 use std::sync::Wait;
 use std::thread::Threads;
 use std::time::{Clock, Duration};
 use streams::{NO_MEMORY, WRITE_FAULT};
+use workers::Upkeep;
 use world::World;
 
 /// Why a service ended otherwise than with its connections.
@@ -29,9 +36,13 @@ pub enum ServeFault {
     Address,
     /// The far server can't be reached.
     Unreachable,
+    /// It doesn't answer a first request, as one that has no room for another client.
+    Unanswered,
+    /// Both a port and a socket file are asked for.
+    Doors,
     /// The commands of the input weren't all done.
     Setup(Failure),
-    /// The port can't be had.
+    /// The port or the socket file can't be had.
     Bind,
     /// It ended later, for this reason.
     Listen(ListenFault),
@@ -67,11 +78,13 @@ impl ServeFault {
         ensures { result ≡ serve_status self }
     {
         match self {
-            ServeFault::Address => ExitStatus::InvalidArguments,
+            ServeFault::Address | ServeFault::Doors => ExitStatus::InvalidArguments,
             ServeFault::Setup(failure) => failure.status(),
             ServeFault::Listen(ListenFault::NotHere(_)) => ExitStatus::Refused,
-            ServeFault::Unreachable | ServeFault::Bind | ServeFault::Listen(_) =>
-                ExitStatus::Failed,
+            ServeFault::Unreachable
+            | ServeFault::Unanswered
+            | ServeFault::Bind
+            | ServeFault::Listen(_) => ExitStatus::Failed,
         }
     }
 
@@ -81,9 +94,10 @@ impl ServeFault {
     {
         match self {
             ServeFault::Address => line_of(b"error: --far takes an IP address and a port"),
+            ServeFault::Doors => line_of(b"error: --unix takes the place of --port"),
             ServeFault::Unreachable => line_of(b"far server can't be reached"),
             ServeFault::Setup(failure) => failure.line(),
-            ServeFault::Bind => line_of(NET_FAULT.as_bytes()),
+            ServeFault::Unanswered | ServeFault::Bind => line_of(NET_FAULT.as_bytes()),
             ServeFault::Listen(fault) => line_of_listening(fault),
         }
     }
@@ -102,21 +116,119 @@ fn report_service<E: Write>(outcome: Result<(), ServeFault>, errors: &mut E) -> 
     }
 }
 
-/// A listener on this port of 127.0.0.1, or on any free one where it is 0, of which the notes tell.
-fn bind_noted<R>(rt: &R, port: u16, notes: &Notes<R>) -> io::Result<TcpListener>
+/// Where clients come in, what it is called, and its file if it has one.
+struct Entrance<'a> {
+    door: Door,
+    name: Name,
+    file: Option<SocketFile<'a>>,
+}
+
+/// An entrance at this port of 127.0.0.1, or at any free one where it is 0, of which the notes tell.
+fn open_port<'a, R>(rt: &R, port: u16, notes: &Notes<R>) -> io::Result<Entrance<'a>>
 where
     R: Net<Listener = TcpListener, Stream = TcpStream> + Clock + Eprint,
+    ensures { IfOk result (λ entrance. IsDoorName None entrance.name.items) }
 {
     match bind(rt, port) {
         Ok((listener, address)) => {
             notes.listening(address.port());
-            Ok(listener)
+            Ok(Entrance {
+                door: Door::Port(listener),
+                name: port_name(address.port()),
+                file: None,
+            })
         }
         Err(error) => {
             notes.refused_port(port, &error);
             Err(error)
         }
     }
+}
+
+/// An entrance at the socket file of this path, of which the notes tell.
+fn open_file<'a, R>(
+    rt: &R,
+    alloc: Global,
+    path: &'a str,
+    notes: &Notes<R>,
+) -> io::Result<Entrance<'a>>
+where
+    R: Net + Files<File = File> + Clock + Eprint,
+    ensures { IfOk result (λ entrance. IsDoorName (Some path.entry.now) entrance.name.items) }
+{
+    let name = file_name(path)?;
+    match bind_file(rt, alloc, path) {
+        Ok((door, file)) => {
+            notes.listening_at(path);
+            Ok(Entrance {
+                door,
+                name,
+                file: Some(file),
+            })
+        }
+        Err(error) => {
+            notes.refused_path(path, &error);
+            Err(error)
+        }
+    }
+}
+
+/// An entrance at the socket file of this path, or at the port where there is none.
+fn open_entrance<'a, R>(
+    rt: &R,
+    alloc: Global,
+    port: u16,
+    unix: Option<&'a str>,
+    notes: &Notes<R>,
+) -> io::Result<Entrance<'a>>
+where
+    R: Net<Listener = TcpListener, Stream = TcpStream> + Files<File = File> + Clock + Eprint,
+    ensures { IfOk result (λ entrance. IsDoorName (option_map (λ text. text.now) unix.entry) entrance.name.items) }
+{
+    match unix {
+        Some(path) => open_file(rt, alloc, path, notes),
+        None => open_port(rt, port, notes),
+    }
+}
+
+/// Serves this world at an entrance, whose file goes at the end, until all connections have ended. Objects that leave go to this
+/// store.
+fn listen_at<F: FarStore + Drop + Send + Sync, R, W: Write>(
+    rt: &R,
+    alloc: Global,
+    serving: Serving,
+    entrance: Entrance,
+    writer: &mut W,
+    world: World<OwnStore>,
+    store: F,
+    far: Option<TcpStream>,
+    notes: &Notes<R>,
+) -> Result<(), ListenFault>
+where
+    F::Parcel: Send,
+    R: Files + Threads + Wait + Clock + Eprint + Sync,
+    ensures says { SaysAs (TellsClosingOf F F.RETURNS (state_of world)) entrance.entry.name.items (W.contents writer.old) (W.contents writer.new) result }
+    ensures here { FindsHere world.store.state.places result }
+{
+    let Entrance { door, name, file } = entrance;
+    let plan = Plan {
+        connections: serving.connections as usize,
+        workers: serving.workers as usize,
+        upkeep: Upkeep {
+            sweep: serving.sweep,
+            keep: u64::from(serving.keep),
+        },
+    };
+    let ledger = Ledger::new(notes);
+    let has_far_store = far.is_some();
+    let outcome = listen_over(
+        rt, alloc, door, &name, writer, world, store, far, plan, &ledger,
+    );
+    ledger.end(has_far_store);
+    if let Some(file) = file {
+        file.remove(rt);
+    }
+    outcome
 }
 
 /// Does the commands of the reader, and then those of clients, until all connections have ended. Objects that leave then go to
@@ -127,6 +239,7 @@ fn serve_over<F: FarStore + Drop + Send + Sync, R, I: Read, W: Write>(
     serving: Serving,
     store: F,
     far: Option<TcpStream>,
+    unix: Option<&str>,
     notes: Notes<R>,
     reader: &mut I,
     writer: &mut W,
@@ -134,6 +247,7 @@ fn serve_over<F: FarStore + Drop + Send + Sync, R, I: Read, W: Write>(
 where
     F::Parcel: Send,
     R: Net<Listener = TcpListener, Stream = TcpStream>
+        + Files<File = File>
         + Threads
         + Wait
         + Clock
@@ -142,21 +256,19 @@ where
         + Send
         + Sync,
     ensures { IfSome (I.remaining reader.old)
-        (λ input. ServesOver F F.RETURNS serving.budget input (W.contents writer.old) (W.contents writer.new) (I.remaining reader.new) result) }
+        (λ input. ServesOver F F.RETURNS serving.budget (option_map (λ text. text.now) unix.entry) input (W.contents writer.old) (W.contents writer.new)
+        (I.remaining reader.new) result) }
 {
     let world: World<OwnStore> = match do_commands(alloc, serving.budget, reader, writer) {
         Ok(world) => world,
         Err(failure) => return Err(ServeFault::Setup(failure)),
     };
-    let Ok(listener) = bind_noted(rt, serving.port, &notes) else {
+    let Ok(entrance) = open_entrance(rt, alloc, serving.port, unix, &notes) else {
         return Err(ServeFault::Bind);
     };
-    let plan = Plan {
-        connections: serving.connections as usize,
-        workers: serving.workers as usize,
-        sweep: serving.sweep,
-    };
-    match listen_over(rt, alloc, listener, writer, world, store, far, plan, &notes) {
+    match listen_at(
+        rt, alloc, serving, entrance, writer, world, store, far, &notes,
+    ) {
         Ok(()) => Ok(()),
         Err(fault) => Err(ServeFault::Listen(fault)),
     }
@@ -175,15 +287,35 @@ fn connect_within<R: Net<Listener = TcpListener, Stream = TcpStream>>(
     Ok(stream)
 }
 
+/// The client of a far server.
+type FarClient<R> = DeferringStore<Buffered<NotedStream<R>>>;
+
+/// A store over this stream, whose other end has answered a request.
+fn reach<R>(alloc: Global, stream: NotedStream<R>) -> Result<FarClient<R>, ServeFault>
+where
+    R: Clock + Eprint + Copy,
+    ensures { IfErr result (λ fault. (far : List ℕ) → IsAddress far → Unconnected far fault) }
+{
+    let Ok(buffered) = Buffered::new(alloc, stream) else {
+        return Err(ServeFault::Listen(ListenFault::Memory));
+    };
+    let mut store = DeferringStore::new(alloc, buffered);
+    match store.reach() {
+        Ok(()) => Ok(store),
+        Err(_) => Err(ServeFault::Unanswered),
+    }
+}
+
 /// The far store at a server, of which this is the address, and another handle of its stream, if it can be had. A read or write
-/// that takes longer than so many milliseconds breaks the store's stream, as any error of the device does.
+/// that takes longer than so many milliseconds breaks the store's stream, as any error of the device does, and so does an answer
+/// whose bytes come too slowly.
 fn connect<R>(
     rt: &R,
     alloc: Global,
     far: &str,
     timeout: u32,
     notes: Notes<R>,
-) -> Result<(StreamStore<NotedStream<R>>, Option<TcpStream>), ServeFault>
+) -> Result<(FarClient<R>, Option<TcpStream>), ServeFault>
 where
     R: Net<Listener = TcpListener, Stream = TcpStream> + Clock + Eprint + Copy,
     ensures ok { OnOk result (IsAddress far.now) }
@@ -197,8 +329,10 @@ where
         Ok(stream) => {
             notes.write(Note::Connected(address));
             let handle = stream.try_clone().ok();
-            let noted = NotedStream::new(stream, notes);
-            Ok((StreamStore::new(alloc, noted), handle))
+            match reach(alloc, NotedStream::new(*rt, stream, longest, notes)) {
+                Ok(store) => Ok((store, handle)),
+                Err(fault) => Err(fault),
+            }
         }
         Err(error) => {
             notes.unreached(address, &error);
@@ -208,16 +342,18 @@ where
 }
 
 /// Serves over the far server of this address, or over a store of this process where there is none.
-fn serve_at<R, I: Read, W: Write>(
+fn serve_with<R, I: Read, W: Write>(
     rt: &R,
     alloc: Global,
     serving: Serving,
     far: Option<&str>,
+    unix: Option<&str>,
     reader: &mut I,
     writer: &mut W,
 ) -> Result<(), ServeFault>
 where
     R: Net<Listener = TcpListener, Stream = TcpStream>
+        + Files<File = File>
         + Threads
         + Wait
         + Clock
@@ -226,41 +362,81 @@ where
         + Send
         + Sync,
     ensures { IfSome (I.remaining reader.old)
-        (λ input. ServeLeaves serving.budget (option_map (λ text. text.now) far.entry) input (W.contents writer.old) (W.contents writer.new)
-        (I.remaining reader.new) result) }
+        (λ input. LeavesBy false serving.budget (option_map (λ text. text.now) far.entry) (option_map (λ text. text.now) unix.entry) input
+        (W.contents writer.old) (W.contents writer.new) (I.remaining reader.new) result) }
 {
     let notes = Notes::new(*rt, serving.verbose);
     let Some(address) = far else {
         let store = OwnStore::new(alloc);
-        return serve_over(rt, alloc, serving, store, None, notes, reader, writer);
+        return serve_over(rt, alloc, serving, store, None, unix, notes, reader, writer);
     };
     match connect(rt, alloc, address, serving.far_timeout, notes) {
-        Ok((store, far)) => serve_over(rt, alloc, serving, store, far, notes, reader, writer),
+        Ok((store, far)) => serve_over(rt, alloc, serving, store, far, unix, notes, reader, writer),
         Err(fault) => Err(fault),
     }
 }
 
+/// Whether both a port and a socket file are asked for.
+fn is_twofold(serving: Serving, unix: Option<&str>) -> bool
+    ensures { result ≡ (serving.has_port && is_some unix.entry) }
+{
+    serving.has_port && unix.is_some()
+}
+
+/// The same, unless both a port and a socket file are asked for: then it reads nothing.
+fn serve_at<R, I: Read, W: Write>(
+    rt: &R,
+    alloc: Global,
+    serving: Serving,
+    far: Option<&str>,
+    unix: Option<&str>,
+    reader: &mut I,
+    writer: &mut W,
+) -> Result<(), ServeFault>
+where
+    R: Net<Listener = TcpListener, Stream = TcpStream>
+        + Files<File = File>
+        + Threads
+        + Wait
+        + Clock
+        + Eprint
+        + Copy
+        + Send
+        + Sync,
+    ensures { IfSome (I.remaining reader.old)
+        (λ input. ServeLeaves serving (option_map (λ text. text.now) far.entry) (option_map (λ text. text.now) unix.entry) input
+        (W.contents writer.old) (W.contents writer.new) (I.remaining reader.new) result) }
+{
+    if is_twofold(serving, unix) {
+        return Err(ServeFault::Doors);
+    }
+    serve_with(rt, alloc, serving, far, unix, reader, writer)
+}
+
 /// Connects to the far server of this address, `HOST:PORT`, if one is given: objects that leave go there, and stay in this
-/// process without one. Connecting, and each read and write of that stream, is bounded by the far time-out. Then does the
-/// commands of the reader to its end, as [`run`](crate::run) does, and writes their replies. Then listens on the port of
-/// 127.0.0.1, or on any free one where it is 0, says which on the writer, and shares the objects and machines that there are
-/// with as many connections as are asked for. Gives the exit status when all have ended. With `verbose` what happens is written
-/// to the runtime's standard error, beside what is told on `errors`.
+/// process without one. It has to answer a first request. Connecting, and each read and write of that stream, is bounded by the far
+/// time-out. Then does the commands of the reader to its end, as [`run`](crate::run) does, and writes their replies. Then listens at
+/// the socket file of the path, if one is given, or else on the port of 127.0.0.1, or on any free one where it is 0; says which on
+/// the writer, and shares the objects and machines that there are with as many connections as are asked for. Gives the exit status
+/// when all have ended; the socket file is removed then. With `verbose` what happens is written to the runtime's standard error,
+/// beside what is told on `errors`.
 ///
-/// What went wrong is told on `errors`: an address that isn't an IP address and a port, a far server that can't be reached, the
-/// first of a reader or a writer that failed in the input's commands, a port that can't be had, an object that isn't here, and
-/// then whatever came first. Without its far server nothing is read.
+/// What went wrong is told on `errors`: a port and a path that are both given, an address that isn't an IP address and a port, a far
+/// server that can't be reached or doesn't answer, the first of a reader or a writer that failed in the input's commands, a port or
+/// a file that can't be had, an object that isn't here, and then whatever came first. Without its far server nothing is read.
 pub fn run_service<R, I: Read, W: Write, E: Write>(
     rt: &R,
     alloc: Global,
     serving: Serving,
     far: Option<&str>,
+    unix: Option<&str>,
     reader: &mut I,
     writer: &mut W,
     errors: &mut E,
 ) -> u8
 where
     R: Net<Listener = TcpListener, Stream = TcpStream>
+        + Files<File = File>
         + Threads
         + Wait
         + Clock
@@ -269,9 +445,9 @@ where
         + Send
         + Sync,
     ensures { IfSome (I.remaining reader.old)
-        (λ input. ReportsServe (ServeLeaves serving.budget (option_map (λ text. text.now) far.entry) input (W.contents writer.old) (W.contents writer.new)
-        (I.remaining reader.new)) (E.contents errors.old) (E.contents errors.new) result) }
+        (λ input. ReportsServe (ServeLeaves serving (option_map (λ text. text.now) far.entry) (option_map (λ text. text.now) unix.entry) input
+        (W.contents writer.old) (W.contents writer.new) (I.remaining reader.new)) (E.contents errors.old) (E.contents errors.new) result) }
 {
-    let outcome = serve_at(rt, alloc, serving, far, reader, writer);
+    let outcome = serve_at(rt, alloc, serving, far, unix, reader, writer);
     report_service(outcome, errors)
 }

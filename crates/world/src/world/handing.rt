@@ -36,6 +36,7 @@ impl<F: FarStore> World<F> {
     pub fn parcel(&self, object: u32) -> Option<&F::Parcel>
         ensures some { IfSome result (λ p. F.bytes_in p.now ≡ bytes_of self.now.store.state.objects object) }
         ensures far { result ≡ None → StandsAt place.Far self.now.store.state object → ⊥ }
+        ensures returning { result ≡ None → StandsAt place.Returning self.now.store.state object → ⊥ }
     {
         self.store.parcel(object)
     }

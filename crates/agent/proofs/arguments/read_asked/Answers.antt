@@ -59,6 +59,13 @@ returns-clause-far g c =
     c.get_str.ensures ∙ first_value-rows (found_of c.in-Some.inner.now) (codes "far")
     ∙ ap (λ (o : Option (Text × List Row)). option_and_then (λ p. first_of (codes "far") p.1) o) pair
 
+pub returns-clause-unix : goal.returns-clause-unix
+returns-clause-unix g c =
+    let seen = joined _ _ _ _ (c.subcommand.ensures.name ∙ firsts _ _ _) c.subcommand.ensures.rows ∙ c.in_ok-matches.ensures.ok.1 in
+    let pair = rw c.in-Some.is at seen in
+    c.get_str-2.ensures ∙ first_value-rows (found_of c.in-Some.inner.now) (codes "unix")
+    ∙ ap (λ (o : Option (Text × List Row)). option_and_then (λ p. first_of (codes "unix") p.1) o) pair
+
 pub returns-in_err-matches-clause-err : goal.returns-in_err-matches-clause-err
 returns-in_err-matches-clause-err g c =
     let p = err_from_is_err_and c.from_residual.result c.from_residual.ensures.1 in

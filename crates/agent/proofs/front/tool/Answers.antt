@@ -13,7 +13,7 @@ use Rattle.agent.specs.DisLeaves.{DisLeaves}
 use Rattle.agent.specs.RunLeaves.{RunLeaves}
 use Rattle.agent.proofs.AsmReports.{explained_memory}
 use Rattle.agent.proofs.CheckReports.{checked_memory}
-use Rattle.agent.proofs.OutOfMemory.{reads_nothing, reported_over}
+use Rattle.agent.proofs.OutOfMemory.{does_nothing, memory_undone, reads_nothing, reported_over}
 use Rattle.agent.proofs.front.tool.Goals as goal
 
 pub returns-in-Err-clause-run : goal.returns-in-Err-clause-run
@@ -103,3 +103,19 @@ returns-in-Ok-Check-clause-check g c explains right asked =
     explained_run _ (λ input. CheckLeaves input (g.W.Write.contents c.args.writer.now) (g.W.Write.contents c.check.new.writer))
     (λ e input. ReportsCheck e input (g.E.Write.contents c.args.errors.now) (g.E.Write.contents c.check.new.errors)) _ _ _ _ same
     c.check.ensures.reported c.number-in-Ok-Check.ensures
+
+pub returns-in-Err-clause-store : goal.returns-in-Err-clause-store
+returns-in-Err-clause-store g c storing right asked = memory_undone (g.R.Read.remaining c.args.reader.now) _ c.in-Err.error _ _ _ _ c.show.result _ right
+    c.in-Err.ensures.err c.show.ensures c.number-in-Err.ensures
+
+pub returns-in-Err-clause-serve : goal.returns-in-Err-clause-serve
+returns-in-Err-clause-serve g c serving right asked = memory_undone (g.R.Read.remaining c.args.reader.now) _ c.in-Err.error _ _ _ _ c.show.result _ right
+    c.in-Err.ensures.err c.show.ensures c.number-in-Err.ensures
+
+pub returns-in-Ok-Store-clause-store : goal.returns-in-Ok-Store-clause-store
+returns-in-Ok-Store-clause-store g c storing right asked = does_nothing (g.R.Read.remaining c.args.reader.now) (g.W.Write.contents c.args.writer.now) _ _ _ _
+    c.report-in-Ok-Store.ensures c.number-in-Ok-Store.ensures
+
+pub returns-in-Ok-Store-clause-serve : goal.returns-in-Ok-Store-clause-serve
+returns-in-Ok-Store-clause-serve g c serving right asked = does_nothing (g.R.Read.remaining c.args.reader.now) (g.W.Write.contents c.args.writer.now) _ _ _ _
+    c.report-in-Ok-Store.ensures c.number-in-Ok-Store.ensures

@@ -1,6 +1,7 @@
 use Rattle.machine.proofs.Changes.{changes_one}
 use Rattle.machine.proofs.Confined.{steps_are_confined, steps_protect}
 use Rattle.machine.proofs.Fuel.{fuel_counts}
+use Rattle.machine.proofs.Granted.{entries_are_granted, replays_are_confined}
 use Rattle.machine.proofs.Replaying.{waited_did}
 use Rattle.machine.proofs.Stopping.{stopped_stays, stops_in_place, waits_in_place}
 use Rattle.agent.proofs.StepRows.{steps_are_rows}
@@ -17,4 +18,6 @@ returns g c = record {
   writes = changes_one;
   protects = steps_protect;
   confined = steps_are_confined;
+  granted = entries_are_granted;
+  alike = replays_are_confined;
 }

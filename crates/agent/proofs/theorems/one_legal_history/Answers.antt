@@ -7,4 +7,6 @@ returns c = record {
   lists = c.sorted_entries_run.ensures;
   legal = c.one_lists_are_legal.ensures;
   runs = c.legal_histories_run.ensures;
+  stamps = c.stamps_cover.ensures;
+  learnt = c.learnt_stands_before.ensures;
 }

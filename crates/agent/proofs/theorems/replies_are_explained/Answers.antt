@@ -7,4 +7,5 @@ returns g c = record {
   seen = c.answered_machines_are_seen.ensures;
   above = c.steps_stand_above.ensures;
   stay = c.opened_machines_stay.ensures;
+  granted = c.seen_machines_are_granted.ensures;
 }

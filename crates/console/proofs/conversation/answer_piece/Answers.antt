@@ -63,8 +63,8 @@ returns-in_err-answer_waiting-clause-err g c =
     rw x.1 (λ line l e. (
       drop n rest,
       shorter i.answers.0 rest _ n i.answers.1 (c.feed-taken.ensures.progress i.open_line more) more,
-      subst (λ y. FailsInReply g.A.Answerer.protocol (drop n rest) (g.A.Answerer.state c.args.answerer.now) y (g.L.Link.contents c.args.writer.now)
-          (g.L.Link.contents c.answer_waiting.new.writer) (g.A.Answerer.state c.answer_waiting.new.answerer))
+      subst (λ y. FailsInReply g.A.Answerer.protocol (drop n rest) (g.A.Answerer.state c.args.answerer.now) y (g.L.Link.contents c.args.link.now c.args.writer.now)
+          (g.L.Link.contents c.answer_waiting.new.link c.answer_waiting.new.writer) (g.A.Answerer.state c.answer_waiting.new.answerer))
           (whole line i.answers.0 rest _ n i.answers.1)
           (fails_more g.A.Answerer.protocol [] _ _ _ (drop n rest) _ _
           (fails_fed g.A.Answerer.protocol _ _ _ _ rest _ _ _ _ _ n (i.answers.2 line l e) (c.feed-taken.ensures.feeds i.open_line)

@@ -11,7 +11,7 @@ invariant-loop-rest g l = record {
   open_line : IsFalse l.console.waits;
   answers : (seen : List ℕ) × (l.piece ≡ seen ++ l.rest) × ((line : List ℕ) → IsLine line → l.fn.console.line ≡ clip line →
       AnswersSoFar g.A.Answerer.protocol (g.A.Answerer.state l.fn.answerer) (line
-      ++ seen) (g.L.Link.contents l.fn.writer) (g.L.Link.contents l.writer) (g.A.Answerer.state l.answerer) l.console)
+      ++ seen) (g.L.Link.contents l.fn.link l.fn.writer) (g.L.Link.contents l.link l.writer) (g.A.Answerer.state l.answerer) l.console)
       × (replies : List (List ℕ)) × (length replies ≡ line_ends seen)
       × StreamCalls g.L.Link.called l.reader l.fn.writer (map LineWritten replies) l.reader l.writer;
 }

@@ -20,7 +20,7 @@ pub returns-in_ok-write_line-clause-ok : goal.returns-in_ok-write_line-clause-ok
 returns-in_ok-write_line-clause-ok g c = λ line l e.
     let q = c.in-Some.ensures.some in
     let a = c.perform.ensures line l (reads_clip line c.in-Some.command (subst (λ x. Reads (SpellsCommand x) c.in-Some.command) e q.1)) in
-    let w = subst (λ x. Appends (g.L.Link.contents c.args.writer.now) (g.L.Link.contents c.write_line.new.writer) x) c.deref.ensures.0
+    let w = subst (λ x. Appends (g.L.Link.contents c.args.link.now c.args.writer.now) (g.L.Link.contents c.write_line.new.self c.write_line.new.writer) x) c.deref.ensures.0
     c.in_ok-write_line.ensures.ok in
     answers_line g.A.Answerer.protocol _ _ line _ _ _ _ _ (so_far_waits line _ q.0) a w q.2
 
@@ -28,7 +28,7 @@ pub returns-in_default-clause-ok : goal.returns-in_default-clause-ok
 returns-in_default-clause-ok g c = λ line l e.
     let q = c.in_default.ensures.none in
     rw (q.1, so_far_open line c.args.console.now.waits q.0)
-    (answers_none g.A.Answerer.protocol (g.A.Answerer.state c.args.answerer.now) line (g.L.Link.contents c.args.writer.now) c.args.console.now l e q.0)
+    (answers_none g.A.Answerer.protocol (g.A.Answerer.state c.args.answerer.now) line (g.L.Link.contents c.args.link.now c.args.writer.now) c.args.console.now l e q.0)
 
 pub returns-in_ok-write_line-clause-calls : goal.returns-in_ok-write_line-clause-calls
 returns-in_ok-write_line-clause-calls g c = (_ ∷ [], one_waits _ c.in-Some.ensures.some.0, (_, _, c.in_ok-write_line.ensures.written, (refl, refl)))

@@ -8,7 +8,7 @@ use Rattle.console.specs.StreamCalls.StreamCall.{ReadGave, ReadFailed, LineWritt
 use Rattle.console.specs.StreamCalls.Rounds.{Start, Round}
 use Rattle.console.specs.StreamCalls.UpToABreak.{AtOnce, InARound, AtTheEnd}
 use Rattle.console.proofs.CallsMade.{calls_append, ended_call}
-use Rattle.console.proofs.Exchanges.{answers_join, fails_join}
+use Rattle.console.proofs.Exchanges.{answers_join, answers_kept, fails_join}
 use Rattle.console.proofs.Endings.{none_seen, ends_whole, ends_cut, breaks_cut, stops_reading, stops_writing}
 use Rattle.console.proofs.conversation.converse_over.Goals as goal
 
@@ -32,12 +32,13 @@ pub loop-reads-preserved : goal.loop-reads-preserved
 loop-reads-preserved g c =
     let i = c.loop-reads.invariant in
     let a = c.in_ok-answer_piece-in-Ok.ensures in
-    let p = take c.in-Ok.n c.read.new.buffer in (
+    let p = take c.in-Ok.n c.read.new.buffer in
+    let k = answers_kept g.A.Answerer.protocol _ _ _ _ _ _ _ i.2 c.in-Ok.ensures.kept in (
       i.0 ++ p,
       Consumes-trans _ _ _ i.0 p i.1 c.in-Ok.ensures.bytes.0,
       rw (← append_assoc (held_bytes c.args.console.now) i.0 p)
-          (answers_join g.A.Answerer.protocol _ _ _ _ p _ _ _ _ _ i.2
-          (c.in_ok-answer_piece-in-Ok.ensures.ok i.2.rest i.2.is_open (ap (λ (h : Held). h.line) i.2.holds))),
+          (answers_join g.A.Answerer.protocol _ _ _ _ p _ _ _ _ _ k
+          (c.in_ok-answer_piece-in-Ok.ensures.ok k.rest k.is_open (ap (λ (h : Held). h.line) k.holds))),
       i.3 ++ ReadGave p ∷ map LineWritten a.calls.0,
       calls_append g.L.Link.called i.3 (ReadGave p ∷ map LineWritten a.calls.0) _ _ _ _ _ _ i.4 (_, _, c.in-Ok.ensures.gave, a.calls.2),
       Round _ i.3 p a.calls.0 i.5 (omega (arith, length-take c.in-Ok.n c.read.new.buffer, c.read.auto.buffer)) a.calls.1,
@@ -47,7 +48,8 @@ pub returns-in_err-answer_piece-in-Ok-clause-write : goal.returns-in_err-answer_
 returns-in_err-answer_piece-in-Ok-clause-write g c = λ _.
     let i = c.loop-reads.invariant in
     let p = take c.in-Ok.n c.read.new.buffer in
-    let f = c.in_err-answer_piece-in-Ok.ensures.err i.2.rest i.2.is_open (ap (λ (h : Held). h.line) i.2.holds) in
+    let k = answers_kept g.A.Answerer.protocol _ _ _ _ _ _ _ i.2 c.in-Ok.ensures.kept in
+    let f = c.in_err-answer_piece-in-Ok.ensures.err k.rest k.is_open (ap (λ (h : Held). h.line) k.holds) in
     stops_writing g.A.Answerer.protocol _ _ (held_bytes c.args.console.now) (i.0
     ++ p) _ _ _ _ f.0 (Consumes-trans _ _ _ i.0 p i.1 c.in-Ok.ensures.bytes.0) (omega (
       arith,
@@ -55,12 +57,13 @@ returns-in_err-answer_piece-in-Ok-clause-write g c = λ _.
       length-take c.in-Ok.n c.read.new.buffer,
       c.read.auto.buffer,
     ))
-    (rw (← append_assoc (held_bytes c.args.console.now) i.0 p) (fails_join g.A.Answerer.protocol f.0 _ _ _ _ p _ _ _ _ i.2 f.2))
+    (rw (← append_assoc (held_bytes c.args.console.now) i.0 p) (fails_join g.A.Answerer.protocol f.0 _ _ _ _ p _ _ _ _ k f.2))
 
 pub returns-in-Err-clause-read : goal.returns-in-Err-clause-read
 returns-in-Err-clause-read g c = λ _.
     let i = c.loop-reads.invariant in
-    stops_reading g.A.Answerer.protocol _ _ (held_bytes c.args.console.now) i.0 _ _ _ _ _ (Consumes-kept _ _ _ i.0 i.1 c.in-Err.ensures.bytes) i.2
+    stops_reading g.A.Answerer.protocol _ _ (held_bytes c.args.console.now) i.0 _ _ _ _ _ (Consumes-kept _ _ _ i.0 i.1 c.in-Err.ensures.bytes)
+    (answers_kept g.A.Answerer.protocol _ _ _ _ _ _ _ i.2 c.in-Err.ensures.kept)
 
 pub returns-clause-read : goal.returns-clause-read
 returns-clause-read g c = λ _.
@@ -73,7 +76,8 @@ returns-else-cut-clause-ok g c =
     let b = c.in-Ok-eq0.ensures.bytes in
     let zero : c.in-Ok-eq0.field-0 ≡ 0 = c.in-Ok-eq0.field-0-test in
     ends_whole g.A.Answerer.protocol _ _ (held_bytes c.args.console.now) i.0 _ _ _ _ _
-    (none_seen _ _ i.0 c.read.new.buffer c.in-Ok-eq0.field-0 zero (Consumes-trans _ _ _ i.0 _ i.1 b.0)) (b.1 zero (omega (arith, c.read.auto.buffer))) i.2
+    (none_seen _ _ i.0 c.read.new.buffer c.in-Ok-eq0.field-0 zero (Consumes-trans _ _ _ i.0 _ i.1 b.0)) (b.1 zero (omega (arith, c.read.auto.buffer)))
+    (answers_kept g.A.Answerer.protocol _ _ _ _ _ _ _ i.2 c.in-Ok-eq0.ensures.kept)
     (λ n. let t = c.rest-cut.ensures.1 (ap (λ (h : Held). h.waits) i.2.holds, n) in absurd (let e : true ≡ false = sym t ∙ c.if-cut.false in cc))
 
 pub returns-in_ok-write_line-in-Ok-eq0-clause-ok : goal.returns-in_ok-write_line-in-Ok-eq0-clause-ok
@@ -82,7 +86,8 @@ returns-in_ok-write_line-in-Ok-eq0-clause-ok g c =
     let b = c.in-Ok-eq0.ensures.bytes in
     let zero : c.in-Ok-eq0.field-0 ≡ 0 = c.in-Ok-eq0.field-0-test in
     ends_cut g.A.Answerer.protocol _ _ (held_bytes c.args.console.now) i.0 _ _ _ _ _ _
-    (none_seen _ _ i.0 c.read.new.buffer c.in-Ok-eq0.field-0 zero (Consumes-trans _ _ _ i.0 _ i.1 b.0)) (b.1 zero (omega (arith, c.read.auto.buffer))) i.2
+    (none_seen _ _ i.0 c.read.new.buffer c.in-Ok-eq0.field-0 zero (Consumes-trans _ _ _ i.0 _ i.1 b.0)) (b.1 zero (omega (arith, c.read.auto.buffer)))
+    (answers_kept g.A.Answerer.protocol _ _ _ _ _ _ _ i.2 c.in-Ok-eq0.ensures.kept)
     (c.rest-cut.ensures.0 c.if-cut.true).1 c.in_ok-write_line-in-Ok-eq0.ensures.ok
 
 pub returns-in_err-write_line-in-Ok-eq0-clause-write : goal.returns-in_err-write_line-in-Ok-eq0-clause-write
@@ -92,7 +97,8 @@ returns-in_err-write_line-in-Ok-eq0-clause-write g c = λ _.
     let zero : c.in-Ok-eq0.field-0 ≡ 0 = c.in-Ok-eq0.field-0-test in
     let r = c.in_err-write_line-in-Ok-eq0.ensures.err in
     breaks_cut g.A.Answerer.protocol _ _ (held_bytes c.args.console.now) i.0 _ _ _ _ _ _ r.0 r.1
-    (none_seen _ _ i.0 c.read.new.buffer c.in-Ok-eq0.field-0 zero (Consumes-trans _ _ _ i.0 _ i.1 b.0)) (b.1 zero (omega (arith, c.read.auto.buffer))) i.2
+    (none_seen _ _ i.0 c.read.new.buffer c.in-Ok-eq0.field-0 zero (Consumes-trans _ _ _ i.0 _ i.1 b.0)) (b.1 zero (omega (arith, c.read.auto.buffer)))
+    (answers_kept g.A.Answerer.protocol _ _ _ _ _ _ _ i.2 c.in-Ok-eq0.ensures.kept)
     (c.rest-cut.ensures.0 c.if-cut.true).1 r.2 r.3 r.4
 
 pub returns-in_err-answer_waiting-clause-calls : goal.returns-in_err-answer_waiting-clause-calls

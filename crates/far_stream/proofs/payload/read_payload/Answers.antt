@@ -12,14 +12,14 @@ returns-in-Ok-fill-clause-ok g c =
     let start_is : start ≡ length c.args.to.now.items = search rules in
     let len : length buffer ≡ c.args.count = search rules in
     let most : length buffer ≤ c.in-Ok-fill.n = search rules in
-    let room : c.resize.new.self.len ≡ start + length buffer = search rules in
+    let room : c.lengthen.new.bytes.len ≡ start + length buffer = search rules in
     let within : start ≤ length held = search rules in
     let front = front_of_grown start (start + c.args.count) c.args.to.now.items _ held (c.deref_mut.ensures.value
     ∙ c.in-Ok.ensures.items) start_is (omega arith) in (
       buffer,
       len,
       subst (Consumes _ _) (take_all c.in-Ok-fill.n buffer most) c.in-Ok-fill.ensures.came,
-      filled start c.resize.new.self.len (length held - start) held c.args.to.now.items _ buffer within room front,
+      filled start c.lengthen.new.bytes.len (length held - start) held c.args.to.now.items _ buffer within room front,
     )
 
 pub returns-in-Ok-2-clause-err : goal.returns-in-Ok-2-clause-err

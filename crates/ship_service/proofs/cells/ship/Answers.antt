@@ -1,5 +1,6 @@
-use Rattle.std.proofs.Common.{◌≡◌, ◌+◌, refl, sym, ◌∙◌, ap, subst, inr, None}
+use Rattle.std.proofs.Common.{◌≡◌, true, ◌+◌, refl, sym, ◌∙◌, ap, subst, inr, None}
 use Rattle.workers.specs.Cells.{CellState}
+use Rattle.workers.specs.TableNames.Passage.{Lends}
 use Rattle.ship_service.specs.Served.{IsCell}
 use Rattle.ship_service.proofs.Kept.{shipped_number, cell_now}
 use Rattle.ship_service.proofs.cells.ship.Goals as goal
@@ -15,10 +16,14 @@ returns g c =
       after = c.ship_lent-said.new.locked;
       said = c.ship_lent-said.result;
       exists = found.0;
-      before_is = was;
-      after_is = subst (IsCell g.K.TableName.opening g.K.TableName.starts (c.in-Ok.found.1 + 1)) c.deref.ensures
-          (cell_now _ _ _ c.deref.result.now (ap (λ (x : CellState). x.number) c.deref.ensures
-          ∙ (shipped_number _ _ _ _ _ t ∙ was.number_is)) c.fact-3.ensures.number c.fact-3.ensures.opening c.fact-3.ensures.stamped c.fact-3.ensures.fits);
+      holds = record {
+        before_is = was;
+        after_is = subst (IsCell g.K.TableName.opening g.K.TableName.starts (c.in-Ok.found.1 + 1)) c.deref.ensures
+            (cell_now _ _ _ c.deref.result.now (ap (λ (x : CellState). x.number) c.deref.ensures
+            ∙ (shipped_number _ _ _ _ _ t ∙ was.number_is)) c.fact-3.ensures.number c.fact-3.ensures.opening c.fact-3.ensures.stamped c.fact-3.ensures.fits);
+        lends = subst (λ (s : CellState). g.K.TableName.lent (Lends s) ≡ true) same c.in-Ok.ensures.lent;
+        leaves = c.give_back.ensures;
+      };
       empty = subst (λ (x : CellState). x.running ≡ None) same found.2;
       told_is = refl;
       ships = t;

@@ -1,6 +1,10 @@
+use Rattle.std.proofs.Common.{inl}
 use Rattle.ship_service.specs.Listening.{TellsClosing}
 use Rattle.ship_service.proofs.Saying.{says_after}
 use Rattle.ship_service.proofs.listening.listen_opened.Goals as goal
 
 pub returns-clause-says : goal.returns-clause-says
-returns-clause-says g c = says_after _ _ (g.W.Write.contents c.announce.new.writer) _ c.port.result c.close.result c.in-Ok-announce.ensures.ok c.close.ensures
+returns-clause-says g c = says_after _ c.args.name.now.items _ (g.W.Write.contents c.announce_at.new.writer) _ c.close.result c.in-Ok-announce_at.ensures.ok c.close.ensures
+
+pub returns-in_default-announce_at-clause-says : goal.returns-in_default-announce_at-clause-says
+returns-in_default-announce_at-clause-says g c = inl c.in_default-announce_at.ensures.err

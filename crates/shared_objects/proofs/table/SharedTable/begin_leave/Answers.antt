@@ -36,7 +36,7 @@ exchange-bytes-requires c = let n : ℕ = c.args.number in let h = c.compare_exc
       placed k (places.Moving b.bytes.items) c.args.mover.now.seat.me.0,
       (k, b) ∷ c.args.mover.now.seat.me.1,
     )) × (length b.bytes.items ≡ length (bytes_of c.args.mover.now.seat.me.0.opening k))) (object_home n)
-    (h.2.0 c.if-found-old.false) in
+    (h.2.1 c.if-found-old.false) in
     (h.0 ∙ c.requires.mover.0, (t.0, ap (λ m. m.1) t.1 ∙ ap (λ m. (n, t.0) ∷ rest m.1) (sym t.1)))
 
 pub push_reserved-requires : goal.push_reserved-requires
@@ -54,7 +54,7 @@ invariant_of-mover-2 c = let m = c.args.mover.now in let v : View = m.seat.me.0 
     let long : length z.lengths.items ≡ length key = ap length z.sizes ∙ length-map key length in
     let wide : n < length v.out = omega (arith, m.wide, ap length c.requires.mover.1) in
     let t = subst (λ k. (b : Body) × (◌≡◌ {A = Sat} c.compare_exchange-found.new.seat.me (placed k (places.Moving b.bytes.items) v, (k, b) ∷ m.seat.me.1))
-    × (length b.bytes.items ≡ length (bytes_of v.opening k))) (object_home n) (c.compare_exchange-found.ensures.2.0 c.if-found-old.false) in
+    × (length b.bytes.items ≡ length (bytes_of v.opening k))) (object_home n) (c.compare_exchange-found.ensures.2.1 c.if-found-old.false) in
     let x = c.exchange-bytes.ensures.3 in let r = c.turn.ensures.2 in
     let p : Whereabouts = places.Moving t.0.bytes.items in
     let e : c.turn.new.self.me.0 ≡ placed n p v = ap (λ y. y.0) r ∙ ap (λ y. y.0) x ∙ ap (λ y. y.0) t.1 in

@@ -13,7 +13,7 @@ fetch_sub-requires c = let t = c.args.self.now in let lt = c.requires.object in 
 )
 
 pub returns-clause-me : goal.returns-clause-me
-returns-clause-me c = let h = c.requires.held in let p = c.fetch_sub.ensures.2 in
+returns-clause-me c = let h = c.requires.held in let p = c.fetch_sub.ensures.2.1 in
     let is : turn c.args.n c.args.found h.0 ≡ p.0 = some_is (turn c.args.n c.args.found h.0) p.0 (sym h.1 ∙ p.1) in
     p.2 ∙ ap (λ (t : Turn). (worn_out t.object t.stamp c.args.seat.now.me.0, rest c.args.seat.now.me.1)) (sym is)
     ∙ ap (λ l. (worn_out c.args.n c.args.found c.args.seat.now.me.0, rest l)) h.2.1

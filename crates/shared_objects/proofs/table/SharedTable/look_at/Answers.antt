@@ -27,4 +27,4 @@ pub returns-clause-rule : goal.returns-clause-rule
 returns-clause-rule g c = let z = c.args.self.now in let v = c.args.actor.now.seat.me.0 in let k : ℕ = object_at (word_of c.args.number) in
     subst (λ (n : ℕ). Witness (table_returns z) (table_opening z) v n c.load.result) (object_home c.args.number)
     (subst (λ (o : List (List ℕ)). Witness (table_returns z) o v k c.load.result) c.requires.table.1
-    (subst (λ (r : Bool). Witness r g.T.Opened.opening v k c.load.result) c.requires.table.0 c.load.ensures.2.1))
+    (subst (λ (r : Bool). Witness r g.T.Opened.opening v k c.load.result) c.requires.table.0 c.load.ensures.2.2))

@@ -1,6 +1,8 @@
-use Rattle.std.proofs.Common.{ℕ, ap}
+use Rattle.std.proofs.Common.{ap}
 use Rattle.std.specs.Prelude.{Bool}
+use Rattle.workers.specs.TableNames.{Passage}
+use Rattle.workers.specs.TableNames.Passage.{Machine}
 use Rattle.workers.proofs.cell.Occupied.fact.Goals as goal
 
 pub returns : goal.returns
-returns g c = λ m low high. ap (λ (lent : ℕ → Bool). lent m) c.self.invariant
+returns g c = λ m low high. ap (λ (lent : Passage → Bool). lent (Machine m)) c.self.invariant

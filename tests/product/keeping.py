@@ -1,0 +1,178 @@
+#!/usr/bin/env python3
+"""What `serve --keep` keeps here, as its notes tell: keeping.py PROGRAM
+
+Objects leave until the bound is kept: at the start, when a machine that used more has ended, and while machines walk over much more than is kept.
+memory.py measures the memory, and how many leave in a second.
+"""
+from __future__ import annotations
+
+import os
+import pathlib
+import re
+import sys
+import threading
+import time
+
+sys.path.insert(0, str(pathlib.Path(__file__).resolve().parents[1]))
+from lib.checks import run_parts, want, want_equal
+from lib.programs import Client, Server, Service, ended, patience, until
+
+MOST = 65_536
+WORD, FUEL = 8, 1 << 60
+# What the walking machines find: so many objects of this length, of which a sixteenth fits below the bound.
+OBJECTS, LENGTH = 256, 4096
+MACHINES = 4
+# How many objects a machine keeps in scope.
+SCOPES = 4
+# How long they walk at least, in seconds, and how many objects leave meanwhile, by a program without checks.
+WALKS, LEAVE = 3, 300
+END = re.compile(
+    r"the service ends: (\d+) objects? of (\d+) bytes? here, (\d+) objects? of (\d+) bytes? far; (\d+) bytes? left, (\d+) bytes? returned, "
+    r"(\d+) faults? in (\d+) ms, (\d+) evictions?, (\d+) failures?, (\d+) pass(?:es)? of the bound"
+)
+# Uses objects 1 to 3, and goes on as long as it has fuel.
+USES = "".join(f"mov r1, {number}\nlsh r1, 32\nldxdw r0, [r1]\n" for number in (1, 2, 3)) + "again: ja again\n"
+# Walks over r2 objects, from the r3rd on. Exits if one doesn't begin with its number.
+WALK = """mov r6, r3
+next: mov r7, r6
+add r7, 1
+mov r8, r7
+lsh r8, 32
+ldxdw r9, [r8]
+jne r9, r7, wrong
+add r6, 1
+jlt r6, r2, next
+mov r6, 0
+ja next
+wrong: mov r0, r7
+exit
+"""
+
+
+class Here:
+    """Which objects are here, as the notes of a service tell while they come."""
+
+    def __init__(self, service: Service, objects: int) -> None:
+        self.here = set(range(1, objects + 1))
+        self.left: list[int] = []
+        self.most = 0
+        self.last = ""
+        self._errors = os.dup(service.process.stderr.fileno())
+        self._thread = threading.Thread(target=self._hear, daemon=True)
+        self._thread.start()
+
+    def _hear(self) -> None:
+        with open(self._errors, "rb") as errors:
+            for line in errors:
+                said = line.decode().rstrip("\n").partition(" ")[2]
+                words = said.split()
+                self.last = said if END.fullmatch(said) else self.last
+                if words[0] == "object" and words[2:] == ["left"]:
+                    self.here.discard(int(words[1]))
+                    self.left.append(int(words[1]))
+                if words[0] == "object" and words[2:] == ["returned"]:
+                    self.here.add(int(words[1]))
+                    self.most = max(self.most, len(self.here))
+
+    def end(self, service: Service) -> list[int]:
+        """The numbers of the last line, once the service has ended."""
+        status = service.process.wait(timeout=60)
+        self._thread.join(60)
+        found = END.fullmatch(self.last)
+        want(status == 0 and found is not None, f"the service ends with {status} and {self.last}")
+        return [int(number) for number in found.groups()] if found else []
+
+
+def code_of(program: str, text: str) -> str:
+    """The code of this assembly, in hex."""
+    status, code, errors = ended(program, "asm", given=text.encode())
+    want_equal((status, errors), (0, b""), "assembly")
+    return code.hex()
+
+
+def show_start(program: str) -> None:
+    """Where more is here than is kept when nobody uses anything, the first objects leave."""
+    service = Service(program, "--keep", 2 * MOST, "-v", setup=[f"make {MOST}"] * 4)
+    with service, Client(service) as client:
+        told = Here(service, 4)
+        until("two objects don't leave", lambda: len(told.left) == 2)
+        time.sleep(0.2)
+        want_equal(told.left, [1, 2], "the objects that leave")
+        client.end()
+        numbers = told.end(service)
+    want_equal(numbers, [2, 2 * MOST, 2, 2 * MOST, 2 * MOST, 0, 0, numbers[7], 2, 0, 0], "the last line")
+
+
+def show_in_use(program: str) -> None:
+    """A machine that keeps three objects in scope has all of them, above the bound. When it has ended two leave."""
+    code = code_of(program, USES)
+    service = Service(program, "--keep", MOST, "--workers", 1, "-v", setup=[f"make {MOST}"] * 3)
+    with service, Client(service) as client:
+        told = Here(service, 3)
+        until("objects don't leave at the start", lambda: len(told.here) == 1)
+        want_equal(client.ask(f"ship {4_000_000 // patience(program)} 0 0 0 0 0 {code}"), "shipped 1", "the machine")
+        until("the machine doesn't end", lambda: client.ask("regs 1").split()[4] == "spent")
+        until("objects don't leave", lambda: len(told.here) == 1)
+        client.end()
+        numbers = told.end(service)
+    want_equal(numbers[:4], [1, MOST, 2, 2 * MOST], "what is here and far at the end")
+    want(numbers[6] >= 2 and numbers[10] >= 1, f"objects came back, above the bound: {numbers}")
+
+
+def shown(number: int) -> str:
+    return (number.to_bytes(WORD, "little") * (LENGTH // WORD)).hex()
+
+
+def show_walk(program: str) -> str:
+    """Machines walk over sixteen times as much as is kept. No more is here than what is kept and what they have in scope, all go on, and each object is
+    as it was."""
+    walk = code_of(program, WALK)
+    setup = [line for number in range(1, OBJECTS + 1) for line in (f"make {LENGTH}", f"put {number} 0 {shown(number)}")]
+    ships = [f"ship {FUEL} 0 {OBJECTS} {OBJECTS // MACHINES * number} 0 0 {walk}" for number in range(MACHINES)]
+    with Server(program) as far:
+        service = Service(program, "--far", f"127.0.0.1:{far.port}", "--keep", MOST, "--workers", MACHINES, "-v", setup=[*setup, *ships])
+        with service, Client(service) as client:
+            told = Here(service, OBJECTS)
+            fitting = MOST // LENGTH
+            until("the bound isn't kept", lambda: len(told.here) <= fitting + MACHINES * SCOPES)
+            told.most, before = 0, len(told.left)
+            fuels = [int(client.ask(f"regs {number}").split()[3]) for number in range(1, MACHINES + 1)]
+            start = time.monotonic()
+            time.sleep(WALKS)
+            # On a busy machine they walk for longer.
+            until("few objects leave", lambda: len(told.left) - before >= LEAVE // patience(program))
+            left, most, walked = len(told.left) - before, told.most, time.monotonic() - start
+
+            def goes_on(number: int, had: int) -> bool:
+                words = client.ask(f"regs {number}").split()
+                want(words[4] == "run", f"machine {number} has ended: {words[:5]}")
+                return int(words[3]) < had
+
+            for number, had in enumerate(fuels, 1):
+                until(f"machine {number} stands still", lambda: goes_on(number, had))
+            for number in range(1, MACHINES + 1):
+                want_equal(client.ask(f"break {number} 1"), "ok", "a breakpoint")
+            for number in range(1, MACHINES + 1):
+                until(f"machine {number} isn't paused", lambda: client.ask(f"regs {number}").split()[4] == "paused")
+            for number in range(1, OBJECTS + 1):
+                want_equal(client.ask_until(f"get {number} 0 {LENGTH}", "bytes "), f"bytes {shown(number)}", f"object {number}")
+            client.end()
+            numbers = told.end(service)
+    want(most <= fitting + MACHINES * SCOPES + 1, f"{most} objects were here, where {fitting} fit below the bound")
+    want_equal((numbers[0] + numbers[2], numbers[9]), (OBJECTS, 0), "objects and failures in the last line")
+    want_equal((numbers[4], numbers[8]), (LENGTH * numbers[8], len(told.left)), "bytes and evictions in the last line")
+    want_equal(numbers[5], LENGTH * numbers[6], "bytes that returned, and faults, in the last line")
+    return f"{left / walked:.0f} evictions a second, at most {most} of {OBJECTS} objects here, {1000 * numbers[7] / max(numbers[6], 1):.0f} us for a fault"
+
+
+def show_wrong_words(program: str) -> None:
+    """A bound that is too small or too great for any object, or no number."""
+    for word in ("65535", "67108865", "x", "-1", ""):
+        status, output, errors = ended(program, "serve", f"--keep={word}")
+        want((status, output) == (2, b"") and b"'--keep <BYTES>'" in errors, f"--keep={word}: {status}, {errors!r}")
+    errors = ended(program, "serve", "--keep", "65535")[2]
+    want(errors.startswith(b"error: invalid value '65535' for '--keep <BYTES>': 65535 is not in 65536..=67108864\n"), f"--keep 65535: {errors!r}")
+
+
+if __name__ == "__main__":
+    run_parts("keeping", [show_start, show_in_use, show_walk, show_wrong_words])
