@@ -30,8 +30,8 @@ SUMS = "bf16000000000000" "8500000004000000" "7963000000000000" "b70400000000000
 COPIES = "bf16000000000000" "bf27000000000000" "8500000004000000" "7973000000000000" "7b36080000000000" "0500fcff00000000"
 # the slot after `call 4`, at which both pause, and how many instructions a sum has beside three for each number
 AT, COPIES_AT, AROUND = 2, 3, 5
-# the numbers of requests that end in the connection's own turns: 8, 305 and 905 instructions, where it does up to 1,024
-SHORT = [1, 100, 300]
+# the numbers of requests that end in the connection's own turns: 8, 305 and 3,905 instructions, where it does up to 4,096
+SHORT = [1, 100, 1_300]
 # the number of one that doesn't
 LONG = 20_000
 # how many replies come together, and how often

@@ -63,7 +63,7 @@ TakesTurns opening starts lent m (suc n) old new = (mid : SeatState) × TakesTur
 
 -- how many turns of a machine that it has resumed a connection takes, before a worker goes on with it: this project's choice
 abbrev pub own_turns : ℕ
-own_turns = 16
+own_turns = 64
 
 -- At most so many turns of machine m, and a last one, which may be of no instruction.
 pub record GoesOn (opening : List (List ℕ)) (starts : List MachineState) (lent : Passage → Bool) (m : ℕ) (old : SeatState) (after : CellState)

@@ -16,7 +16,7 @@ use workers::{Locked, Pool, TableName};
 use world::Reply;
 
 /// How many turns a connection does of a machine that it has resumed, before a worker goes on with it: this project's choice.
-const OWN_TURNS: usize = 16;
+const OWN_TURNS: usize = 64;
 
 /// Whether the command was answered that a paused machine goes on.
 pub(crate) fn resumes(command: MachineCommand, said: &Reply) -> bool
