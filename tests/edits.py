@@ -4,8 +4,8 @@
 Each edit is made in a copy of its crate, and checked there by `rt check` over what the repository's own checks have kept. Edits of different functions
 are made at once. One is refused if a goal stays open, or if the answer to one is refused. If only a name is missing, in a proof that speaks of what the
 edit took away, or if the edit doesn't compile, it shows nothing: it counts as not tried, and fails. If all edits of a crate are refused, edits/TRIED gets
-a checksum of its sources and edits, and the goal that refused each. `--check` fails if a crate differs from that or has no TRIED, and names the command.
-The gate fails if a crate differs from that, and names those that have none.
+a checksum of its sources and edits, and the goal that refused each. `--check`, and so the gate, fails if a crate differs from that or has no TRIED, and
+names the command.
 """
 from __future__ import annotations
 
@@ -240,10 +240,9 @@ def say(what: str, crates: list[str]) -> int:
     return len(crates)
 
 
-def say_changed(with_new: bool = False) -> int:
-    """How many crates have changed since their edits were tried. Those whose edits weren't tried yet are named, and count if that is asked for."""
-    untried = say("have edits that weren't tried yet", new())
-    return with_new * untried + say("have changed since their edits were tried", changed())
+def say_changed() -> int:
+    """How many crates there are whose edits weren't tried on their sources as they are. They are named."""
+    return say("have edits that weren't tried yet", new()) + say("have changed since their edits were tried", changed())
 
 
 if __name__ == "__main__":
@@ -251,7 +250,7 @@ if __name__ == "__main__":
     if not words:
         sys.exit(__doc__)
     if words == ["--check"]:
-        sys.exit(1 if say_changed(with_new=True) else 0)
+        sys.exit(1 if say_changed() else 0)
     rt, *names = words
     known = with_edits()
     unknown = [name for name in names if name not in known]
