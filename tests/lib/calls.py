@@ -30,7 +30,7 @@ EITHER = [
     "tests/product/install.py PROGRAM",
     "tests/product/verbose.py PROGRAM",
     "tests/product/keeping.py PROGRAM",
-    "tests/product/spelling.py",
+    "tests/product/spelling.py PROGRAM",
     "tests/product/door.py PROGRAM",
     "tests/product/conformance.py PROGRAM",
     "tests/product/client.py PROGRAM",

@@ -48,14 +48,14 @@ COMPILES = re.compile(r"make .*examples/c|clang |llvm-|bpfagent-\w+ .*\.c\b|edit
 # Up to five arguments, so that a program that looks at fewer is found out.
 INVALID = [[], ["help"], ["steps"], ["run", "check"], ["run", "--budget", "67108865"], ["check", "x"], [b"\xff"], ["run", "--budget"],
            ["run", "--budget", "8", "x"], ["run", "--budget", "8", "--budget", "8"], ["run", "--budget", "8", "asm", "dis"],
-           ["dis", "--slots", "--slots"], ["asm", "--slots"], ["dis", "--explain"], ["check", "--explain", "--explain"],
+           ["dis", "--slots", "--slots"], ["dis", "--llvm", "--llvm"], ["asm", "--slots"], ["asm", "--llvm"], ["dis", "--explain"], ["check", "--explain", "--explain"],
            ["asm", "--explain", "--explain"], ["asm", "--explain", "x"], ["store", "--port", "65536"], ["store", "x"], ["store", "--workers", "1"],
            ["serve", "x"], ["serve", "--connections", "0"], ["serve", "--connections", "9"], ["serve", "--workers", "17"],
            ["serve", "--sweep", "--sweep"], ["serve", "--keep", "65535"], ["run", "--workers", "1"]]
 # What the help of each subcommand has to name: what it reads, what it writes, and what it returns.
 HELP = {"run": [b"make LENGTH", b"ship2", b"unwatch", b"67108864", b"Status 0", b"Status 3"],
         "check": [b"bytes, not hex", b"ok N", b"slot S: WHY", b"FallsOff", b"--explain", b"Status 1"],
-        "asm": [b"1048576", b"acmpxchg", b"--explain", b"line L: WHY", b"Status 1"], "dis": [b"bytes, not hex", b"--slots", b"slot S: WHY", b"Status 1"],
+        "asm": [b"1048576", b"acmpxchg", b"--explain", b"line L: WHY", b"Status 1"], "dis": [b"bytes, not hex", b"--slots", b"--llvm", b"slot S: WHY", b"Status 1"],
         "store": [b"127.0.0.1", b"listening P", b"client N: WHY", b"--port", b"Status 0", b"Status 3"],
         "serve": [b"127.0.0.1", b"listening P", b"unserved", b"--port", b"--connections", b"--workers", b"--budget", b"--sweep", b"--keep", b"closed",
                   b"Status 0", b"Status 1", b"Status 3"]}
@@ -117,7 +117,8 @@ def show_statuses(program: str) -> None:
             (["run"], b"step 1\nstep 1", b"none\ncut\n"), (["run"], b"steps\n", b"bad\n"),
             (["run", "--budget", "8"], b"make 9\nmake 8\n", b"noroom\nmade 1\n"), (["check"], EXIT * 2, b"ok 2\n"), (["check", "--explain"], EXIT, b"ok 1\n"),
             (["asm"], b"lddw r0, -1\nexit\n", ALL_ONES), (["asm", "--explain"], b"lddw r0, -1\nexit\n", ALL_ONES),
-            (["dis"], ALL_ONES, b"lddw r0, 0xffffffffffffffff\nexit\n"), (["dis", "--slots"], ALL_ONES, b"0: lddw r0, 0xffffffffffffffff\n2: exit\n")]
+            (["dis"], ALL_ONES, b"lddw r0, 0xffffffffffffffff\nexit\n"), (["dis", "--slots"], ALL_ONES, b"0: lddw r0, 0xffffffffffffffff\n2: exit\n"),
+            (["dis", "--llvm"], ALL_ONES, b"r0 = -1 ll\nexit\n"), (["dis", "--llvm", "--slots"], ALL_ONES, b"0: r0 = -1 ll\n2: exit\n")]
     for arguments, given, output in done:
         is_done(program, arguments, given, output)
     refused = [([task], given, line) for task, given, line in REFUSED]

@@ -14,6 +14,7 @@ use Rattle.agent.specs.OptionNumbers.{HasNumber, NumberOption, number_rule}
 use Rattle.agent.specs.declared.arguments.Task.{Task}
 use Rattle.agent.specs.declared.arguments.Task.TheVariants.{Run, Check, Assemble, Disassemble, Store, Serve}
 use Rattle.agent.specs.declared.arguments.Serving.{Serving}
+use Rattle.agent.specs.declared.arguments.Showing.{Showing}
 use Rattle.agent.specs.declared.arguments.Storing.{Storing}
 use Rattle.agent.specs.declared.arguments.Server.{Server}
 use Rattle.agent.specs.declared.arguments.Server.TheVariants as server
@@ -50,9 +51,9 @@ check_shape = flagged_shape (codes "check") (codes "explain")
 abbrev pub asm_shape : Shape
 asm_shape = flagged_shape (codes "asm") (codes "explain")
 
--- `dis`, with its flag
+-- `dis`, with its flags
 abbrev pub dis_shape : Shape
-dis_shape = flagged_shape (codes "dis") (codes "slots")
+dis_shape = record (new_shape (codes "dis")) { rules = flag_rule (codes "slots") ∷ flag_rule (codes "llvm") ∷ [] }
 
 -- the greatest port
 abbrev pub port_limit : ℕ
@@ -169,6 +170,10 @@ is_told None = false
 abbrev pub is_given : Text → List Row → Bool
 is_given name rows = is_told (option_and_then (λ r. r.source) (find (λ r. bytes_eq r.id name) rows))
 
+-- how these matches ask to show code
+abbrev pub showing_in : List Row → Showing
+showing_in rows = record { has_slots = is_set (codes "slots") rows; is_llvm = is_set (codes "llvm") rows }
+
 -- how these numbers, and the flag, ask to keep
 abbrev pub storing_of : Bool → Option ℕ → Option ℕ → Option ℕ → Option Storing
 storing_of verbose (Some port) (Some idle) (Some memory) = Some (record { port = port; idle = idle; memory = memory; verbose = verbose })
@@ -205,7 +210,7 @@ abbrev pub task_named : Text → List Row → Option Task
 task_named name rows = if bytes_eq name (codes "run") then option_map Run (number_in (codes "budget") rows)
     else (if bytes_eq name (codes "check") then Some (Check (is_set (codes "explain") rows))
     else (if bytes_eq name (codes "asm") then Some (Assemble (is_set (codes "explain") rows))
-    else (if bytes_eq name (codes "dis") then Some (Disassemble (is_set (codes "slots") rows))
+    else (if bytes_eq name (codes "dis") then Some (Disassemble (showing_in rows))
     else (if bytes_eq name (codes "store") then option_map Store (storing_in rows)
     else (if bytes_eq name (codes "serve") then option_map Serve (serving_in rows) else None)))))
 

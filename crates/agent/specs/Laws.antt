@@ -3,11 +3,16 @@ use Rattle.std.specs.Prelude.{◌≡◌, ℕ, Bool, [], ◌∷◌, List, IsSome,
 use Rattle.clap.specs.Words.{Text}
 use Rattle.agent.specs.CommandLine.{budget_limit, faults_of, task_of}
 use Rattle.agent.specs.declared.arguments.Serving.{Serving}
+use Rattle.agent.specs.declared.arguments.Showing.{Showing}
 use Rattle.agent.specs.declared.arguments.Storing.{Storing}
 
 -- right arguments name a task
 abbrev pub RightArgumentsNameATask : Type 0
 RightArgumentsNameATask = (arguments : List Text) → faults_of arguments ≡ [] → IsSome (task_of arguments)
+
+-- what `dis` asks for with `--slots` or without, and with `--llvm` or without
+abbrev pub showing_as : Bool → Bool → Showing
+showing_as has_slots is_llvm = record { has_slots = has_slots; is_llvm = is_llvm }
 
 -- what `serve` alone asks for
 abbrev pub plain_serving : Serving

@@ -3,7 +3,7 @@ ghost use Rattle.std.specs.Prelude.{◌≡◌, ◌≢◌, ℕ, List, Result, [],
 ghost use Rattle.clap.specs.Words.{app_of, found_of, new_app, new_rule, rows_of, rule_of, subcommand_of, subcommand_rows_of, with_subcommand, HasKind};
 ghost use Rattle.agent.specs.CommandLine.{HasServing, HasStoring, IsFarAs, IsLocal, IsUnixAs, asm_shape, bare, budget_option, check_shape, command_line};
 ghost use Rattle.agent.specs.CommandLine.{connections_option, dis_shape, far_of, far_rule, far_timeout_option, faults_of, flag_rule, flagged_shape};
-ghost use Rattle.agent.specs.CommandLine.{idle_option, is_given, is_set, is_told, keep_option, memory_option, number_in, port_option, run_shape, serve_shape, server_task, serving_in};
+ghost use Rattle.agent.specs.CommandLine.{idle_option, is_given, is_set, is_told, keep_option, memory_option, number_in, port_option, run_shape, serve_shape, server_task, serving_in, showing_in};
 ghost use Rattle.agent.specs.CommandLine.{store_shape, storing_in, task_named, task_of, unix_of, unix_rule, verbose_rule, workers_option};
 ghost use Rattle.agent.specs.OptionNumbers.{HasNumber, ParsesAs, number_rule, parses_as};
 ghost use Rattle.agent.specs.declared.arguments.Server.{Server};
@@ -37,13 +37,21 @@ pub enum Task {
     Check { explains: bool },
     /// To turn assembly into raw code, and to explain an error where that is asked for.
     Assemble { explains: bool },
-    /// To show raw code as assembly, each instruction after the number of its slot where that is
-    /// asked for.
-    Disassemble { has_slots: bool },
+    /// To show raw code as text.
+    Disassemble(Showing),
     /// To keep what clients send away.
     Store(Storing),
     /// To do the commands of the input, and then those of clients.
     Serve(Serving),
+}
+
+/// How `dis` shows code.
+#[derive(Clone, Copy, Drop, Debug, PartialEq, Eq)]
+pub struct Showing {
+    /// Whether the number of its slot stands before each instruction.
+    pub has_slots: bool,
+    /// Whether instructions are spelled as `llvm-objdump` spells them.
+    pub is_llvm: bool,
 }
 
 /// How `store` keeps.
@@ -296,18 +304,22 @@ fn make_asm<'a>(alloc: Global) -> Result<Command<'a>, AllocError>
     )
 }
 
-/// `dis`, with its option.
+/// `dis`, with its options.
 fn make_dis<'a>(alloc: Global) -> Result<Command<'a>, AllocError>
     ensures { IfOk result (λ c. ((app_of c).top ≡ dis_shape) × IsLocal c) }
 {
-    make_flagged(
+    make_subcommand(
         alloc,
         "dis",
         "Show the raw code of standard input as assembly",
         DIS_HELP,
+    )
+    .arg(make_flag(
+        alloc,
         "slots",
         "Show the number of its slot before each instruction",
-    )
+    ))?
+    .arg(make_flag(alloc, "llvm", "Spell each instruction as llvm-objdump does"))
 }
 
 /// `store`, with its options.
@@ -463,6 +475,16 @@ fn is_given<'a>(matches: &ArgMatches<'a>, name: &str) -> bool
     is_told(matches.value_source(name))
 }
 
+/// How the matches of `dis` ask to show code.
+fn read_showing<'a>(matches: &ArgMatches<'a>) -> Showing
+    ensures { result ≡ showing_in (rows_of (found_of matches.now)) }
+{
+    Showing {
+        has_slots: is_set(matches, "slots"),
+        is_llvm: is_set(matches, "llvm"),
+    }
+}
+
 /// How the matches of `store` ask to keep.
 fn read_storing<'a>(matches: &ArgMatches<'a>) -> Storing
     requires { HasStoring (rows_of (found_of matches.now)) }
@@ -511,9 +533,7 @@ fn task_called<'a>(name: &str, matches: &ArgMatches<'a>) -> Option<Task>
         "asm" => Some(Task::Assemble {
             explains: is_set(matches, "explain"),
         }),
-        "dis" => Some(Task::Disassemble {
-            has_slots: is_set(matches, "slots"),
-        }),
+        "dis" => Some(Task::Disassemble(read_showing(matches))),
         "store" => Some(Task::Store(read_storing(matches))),
         "serve" => Some(Task::Serve(read_serving(matches))),
         _ => None,

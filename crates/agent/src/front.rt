@@ -14,7 +14,7 @@ ghost use Rattle.agent.specs.Reports.{ReportsOutcome};
 ghost use Rattle.agent.specs.RunLeaves.{RunLeaves};
 ghost use Rattle.streams.specs.Streams.{ConsumesAtMost};
 
-use crate::arguments::{Serving, Storing, Task, VERSION, read_arguments};
+use crate::arguments::{Serving, Showing, Storing, Task, VERSION, read_arguments};
 use crate::assembly::{asm, check, dis};
 use crate::failure::{ExitStatus, Failure};
 use crate::reporting::{report, say};
@@ -122,9 +122,9 @@ pub fn tool<'a, S: AsStr, R: Read, W: Write, E: Write>(
     ensures asm { (explains : Bool) → faults_of (map S.text arguments.entry.now) ≡ [] → task_of (map S.text arguments.entry.now) ≡ Some (Task.Assemble explains)
         → IfSome (R.remaining reader.old) (λ input. ReportsAsmOutcome explains input (AsmLeaves input (W.contents writer.old) (W.contents writer.new))
         (E.contents errors.old) (E.contents errors.new) result) }
-    ensures dis { (has_slots : Bool) → faults_of (map S.text arguments.entry.now) ≡ []
-        → task_of (map S.text arguments.entry.now) ≡ Some (Task.Disassemble has_slots)
-        → IfSome (R.remaining reader.old) (λ input. ReportsOutcome (DisLeaves has_slots input (W.contents writer.old) (W.contents writer.new))
+    ensures dis { (showing : Showing) → faults_of (map S.text arguments.entry.now) ≡ []
+        → task_of (map S.text arguments.entry.now) ≡ Some (Task.Disassemble showing)
+        → IfSome (R.remaining reader.old) (λ input. ReportsOutcome (DisLeaves showing input (W.contents writer.old) (W.contents writer.new))
         (E.contents errors.old) (E.contents errors.new) result) }
     ensures store { (storing : Storing) → faults_of (map S.text arguments.entry.now) ≡ []
         → task_of (map S.text arguments.entry.now) ≡ Some (Task.Store storing)
@@ -138,7 +138,7 @@ pub fn tool<'a, S: AsStr, R: Read, W: Write, E: Write>(
         → ConsumesAtMost check_limit (R.remaining reader.old) (R.remaining reader.new) }
     ensures consumed_by_asm { (explains : Bool) → task_of (map S.text arguments.entry.now) ≡ Some (Task.Assemble explains)
         → ConsumesAtMost asm_limit (R.remaining reader.old) (R.remaining reader.new) }
-    ensures consumed_by_dis { (has_slots : Bool) → task_of (map S.text arguments.entry.now) ≡ Some (Task.Disassemble has_slots)
+    ensures consumed_by_dis { (showing : Showing) → task_of (map S.text arguments.entry.now) ≡ Some (Task.Disassemble showing)
         → ConsumesAtMost check_limit (R.remaining reader.old) (R.remaining reader.new) }
     ensures invalid { faults_of (map S.text arguments.entry.now) ≢ []
         → ShowsOneOf (faults_of (map S.text arguments.entry.now)) (W.contents writer.old) (W.contents writer.new)
@@ -149,8 +149,8 @@ pub fn tool<'a, S: AsStr, R: Read, W: Write, E: Write>(
         Ok(Task::Run { budget }) => report(run(alloc, budget, reader, writer), errors).number(),
         Ok(Task::Check { explains }) => { check(alloc, explains, reader, writer, errors).number() }
         Ok(Task::Assemble { explains }) => { asm(alloc, explains, reader, writer, errors).number() }
-        Ok(Task::Disassemble { has_slots }) => {
-            report(dis(alloc, has_slots, reader, writer), errors).number()
+        Ok(Task::Disassemble(showing)) => {
+            report(dis(alloc, showing, reader, writer), errors).number()
         }
         Ok(Task::Store(_) | Task::Serve(_)) => report(Ok(()), errors).number(),
         Err(error) => show(alloc, error, writer, errors).number(),

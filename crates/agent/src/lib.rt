@@ -11,9 +11,9 @@ mod servers;
 mod theorems;
 
 pub use arguments::{
-    Server, Serving, Storing, Task, VERSION, asked_server, invalid_arguments, invalid_budgets,
-    right_arguments, right_arguments_name_a_task, right_budgets, right_flags, right_ports,
-    right_services,
+    Server, Serving, Showing, Storing, Task, VERSION, asked_server, invalid_arguments,
+    invalid_budgets, right_arguments, right_arguments_name_a_task, right_budgets, right_flags,
+    right_ports, right_services,
 };
 pub use assembly::dis;
 pub use failure::{ExitStatus, Failure};

@@ -68,6 +68,7 @@ Usage: bpfagent dis [OPTIONS]
 
 Options:
       --slots  Show the number of its slot before each instruction
+      --llvm   Spell each instruction as llvm-objdump does
   -h, --help   Print help
 
 ";

@@ -54,6 +54,19 @@ fn slots_stand_before_the_lines(rt: HostRuntime) {
     );
 }
 
+/// The words of `dis`, and what it shows of `ALL_ONES`: lines of llvm-objdump 19 with `--mcpu=v4` and `--no-print-imm-hex`.
+const LLVM_LINES: &[(&[&str], &[u8])] = &[
+    (&["dis", "--llvm"], b"r0 = -1 ll\nexit\n"),
+    (&["dis", "--slots", "--llvm"], b"0: r0 = -1 ll\n2: exit\n"),
+];
+
+#[test]
+fn code_becomes_text_of_llvm(rt: HostRuntime) {
+    for &(words, text) in LLVM_LINES {
+        leaves(&rt, rt.alloc(), words, ALL_ONES, (0, text, b""));
+    }
+}
+
 /// Texts with a wrong line, and what is said of it.
 const WRONG_LINES: &[(&[u8], &[u8])] = &[
     (b"exit\nexot\n", b"line 2: Word\n"),

@@ -115,7 +115,9 @@ stream failed, or out of memory. Standard error says which.";
 pub const DIS_HELP: &str = "\
 Reads raw code (bytes, not hex) from standard input, and writes assembly to
 standard output, a line for each instruction. 'bpfagent asm' makes the same
-code of it, unless slots are shown. If the code isn't valid, standard error has
+code of it. With --slots or --llvm the text is for people, and 'asm' doesn't
+read it. --llvm spells each instruction as llvm-objdump of LLVM 19 does with
+'-d --mcpu=v4 --no-print-imm-hex'. If the code isn't valid, standard error has
 'slot S: WHY', as for 'bpfagent check'.
 
 Example:

@@ -7,6 +7,7 @@ use Rattle.assembler.specs.Spelling.{Spells}
 use Rattle.disassembler.specs.TextOf.{IsTextOf}
 use Rattle.agent.specs.AsmLeaves.{Assembles, text_of_bytes}
 use Rattle.agent.specs.DisLeaves.{Disassembles}
+use Rattle.agent.specs.Laws.{showing_as}
 use Rattle.agent.specs.declared.failure.Failure.TheVariants.{WrongLine, InputTooLong}
 
 -- What `asm` finds about this text are these bytes: it finds no others, no line that is wrong, and not that it is too long.
@@ -22,5 +23,5 @@ TextIsAssembled = (bytes text : List ℕ) → IsTextOf bytes text → IsAssemble
 
 -- `dis` makes of what `asm` makes of an input the canonical spelling of what the input spells, where that is valid code.
 abbrev pub AssembledIsShown : Type 0
-AssembledIsShown = (input code shown : List ℕ) → Assembles input (Ok code) → Disassembles false code (Ok shown)
+AssembledIsShown = (input code shown : List ℕ) → Assembles input (Ok code) → Disassembles (showing_as false false) code (Ok shown)
     → (instrs : List Instr) × Spells (text_of_bytes input) instrs × (shown ≡ text_of instrs)

@@ -3,7 +3,7 @@
 
 ghost use Rattle.std.specs.Prelude.{◌≡◌, ◌≢◌, [], ◌∷◌, None, Some, codes, true, false};
 ghost use Rattle.agent.specs.CommandLine.{budget_limit, budget_limit_text, far_of, faults_of, port_limit, task_of, unix_of};
-ghost use Rattle.agent.specs.Laws.{RightArgumentsNameATask, all_of_serve, far_serving, plain_serving, storing_at, unix_serving};
+ghost use Rattle.agent.specs.Laws.{RightArgumentsNameATask, all_of_serve, far_serving, plain_serving, showing_as, storing_at, unix_serving};
 
 use crate::arguments::Task;
 use clap::error::ErrorKind;
@@ -14,7 +14,7 @@ pub fn right_arguments()
     ensures run { (faults_of (codes "run" ∷ []) ≡ []) × (task_of (codes "run" ∷ []) ≡ Some (Task.Run budget_limit)) }
     ensures check { (faults_of (codes "check" ∷ []) ≡ []) × (task_of (codes "check" ∷ []) ≡ Some (Task.Check false)) }
     ensures asm { (faults_of (codes "asm" ∷ []) ≡ []) × (task_of (codes "asm" ∷ []) ≡ Some (Task.Assemble false)) }
-    ensures dis { (faults_of (codes "dis" ∷ []) ≡ []) × (task_of (codes "dis" ∷ []) ≡ Some (Task.Disassemble false)) }
+    ensures dis { (faults_of (codes "dis" ∷ []) ≡ []) × (task_of (codes "dis" ∷ []) ≡ Some (Task.Disassemble (showing_as false false))) }
     ensures store { (faults_of (codes "store" ∷ []) ≡ []) × (task_of (codes "store" ∷ []) ≡ Some (Task.Store (storing_at 0 false))) }
     ensures serve { (faults_of (codes "serve" ∷ []) ≡ []) × (task_of (codes "serve" ∷ []) ≡ Some (Task.Serve plain_serving)) }
     ensures help { faults_of (codes "--help" ∷ []) ≡ ErrorKind.DisplayHelp ∷ [] }
@@ -82,13 +82,18 @@ pub fn right_services()
     ensures of_run { faults_of (codes "run" ∷ codes "--workers" ∷ codes "1" ∷ []) ≢ [] }
 {}
 
-/// `--slots` asks `dis` for the slots, `--explain` asks `check` and `asm` for an explanation; `-v` and `--verbose` ask `store` to
+/// `--slots` asks `dis` for the slots, `--llvm` for the spelling of `llvm-objdump`; `--explain` asks `check` and `asm` for an explanation; `-v` and `--verbose` ask `store` to
 /// write down what happens.
 pub fn right_flags()
     ensures explain_check { (faults_of (codes "check" ∷ codes "--explain" ∷ []) ≡ [])
         × (task_of (codes "check" ∷ codes "--explain" ∷ []) ≡ Some (Task.Check true)) }
     ensures explain { (faults_of (codes "asm" ∷ codes "--explain" ∷ []) ≡ []) × (task_of (codes "asm" ∷ codes "--explain" ∷ []) ≡ Some (Task.Assemble true)) }
-    ensures slots { (faults_of (codes "dis" ∷ codes "--slots" ∷ []) ≡ []) × (task_of (codes "dis" ∷ codes "--slots" ∷ []) ≡ Some (Task.Disassemble true)) }
+    ensures slots { (faults_of (codes "dis" ∷ codes "--slots" ∷ []) ≡ [])
+        × (task_of (codes "dis" ∷ codes "--slots" ∷ []) ≡ Some (Task.Disassemble (showing_as true false))) }
+    ensures llvm { (faults_of (codes "dis" ∷ codes "--llvm" ∷ []) ≡ [])
+        × (task_of (codes "dis" ∷ codes "--llvm" ∷ []) ≡ Some (Task.Disassemble (showing_as false true))) }
+    ensures both { (faults_of (codes "dis" ∷ codes "--llvm" ∷ codes "--slots" ∷ []) ≡ [])
+        × (task_of (codes "dis" ∷ codes "--llvm" ∷ codes "--slots" ∷ []) ≡ Some (Task.Disassemble (showing_as true true))) }
     ensures verbose { (faults_of (codes "store" ∷ codes "--verbose" ∷ []) ≡ [])
         × (task_of (codes "store" ∷ codes "--verbose" ∷ []) ≡ Some (Task.Store (storing_at 0 true))) }
     ensures short { (faults_of (codes "store" ∷ codes "-v" ∷ []) ≡ []) × (task_of (codes "store" ∷ codes "-v" ∷ []) ≡ Some (Task.Store (storing_at 0 true))) }

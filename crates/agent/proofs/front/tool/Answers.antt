@@ -44,17 +44,17 @@ returns-in-Err-clause-asm g c explains right asked =
     (λ input unread kept. (tt, kept)) (λ input. explained_memory explains input _ _ _)
 
 pub returns-in-Err-clause-dis : goal.returns-in-Err-clause-dis
-returns-in-Err-clause-dis g c has_slots right asked =
+returns-in-Err-clause-dis g c showing right asked =
     reported_over (g.R.Read.remaining c.args.reader.now) _ c.in-Err.error _ _ _ _ c.show.result _ right c.in-Err.ensures.err
     c.show.ensures c.number-in-Err.ensures
-    (λ input. DisLeaves has_slots input (g.W.Write.contents c.args.writer.now) (g.W.Write.contents c.show.new.writer))
+    (λ input. DisLeaves showing input (g.W.Write.contents c.args.writer.now) (g.W.Write.contents c.show.new.writer))
     (λ input. Reports (g.E.Write.contents c.args.errors.now) (g.E.Write.contents c.show.new.errors)) (λ input unread kept. (tt, kept)) (λ input says. says)
 
 pub returns-in-Err-clause-consumed_by_asm : goal.returns-in-Err-clause-consumed_by_asm
 returns-in-Err-clause-consumed_by_asm g c explains asked = reads_nothing asm_limit (g.R.Read.remaining c.args.reader.now)
 
 pub returns-in-Err-clause-consumed_by_dis : goal.returns-in-Err-clause-consumed_by_dis
-returns-in-Err-clause-consumed_by_dis g c has_slots asked = reads_nothing check_limit (g.R.Read.remaining c.args.reader.now)
+returns-in-Err-clause-consumed_by_dis g c showing asked = reads_nothing check_limit (g.R.Read.remaining c.args.reader.now)
 
 reported_run : (given : Option (List ℕ)) (work : List ℕ → Result ⊤ Failure
     → Type 0) (before after : Option (List ℕ)) (outcome : Result ⊤ Failure) (status : ExitStatus) (number : ℕ)
@@ -80,11 +80,11 @@ returns-in-Ok-Run-clause-run g c budget right asked =
     (rw same c.run.ensures) c.report.ensures c.number.ensures
 
 pub returns-in-Ok-Disassemble-clause-dis : goal.returns-in-Ok-Disassemble-clause-dis
-returns-in-Ok-Disassemble-clause-dis g c has_slots right asked =
-    let told : Some (Disassemble c.in-Ok-Disassemble.has_slots) ≡ Some (Disassemble has_slots) =
+returns-in-Ok-Disassemble-clause-dis g c showing right asked =
+    let told : Some (Disassemble c.in-Ok-Disassemble.showing) ≡ Some (Disassemble showing) =
     ap Some (sym c.in-Ok-Disassemble.field-0-is) ∙ sym c.in-Ok-Disassemble.ensures.ok.1 ∙ asked in
-    let same : has_slots ≡ c.in-Ok-Disassemble.has_slots = cc in
-    reported_run _ (λ input. DisLeaves has_slots input (g.W.Write.contents c.args.writer.now) (g.W.Write.contents c.dis.new.writer)) _ _ _ _ _
+    let same : showing ≡ c.in-Ok-Disassemble.showing = cc in
+    reported_run _ (λ input. DisLeaves showing input (g.W.Write.contents c.args.writer.now) (g.W.Write.contents c.dis.new.writer)) _ _ _ _ _
     (rw same c.dis.ensures.left) c.report-in-Ok-Disassemble.ensures c.number-in-Ok-Disassemble.ensures
 
 pub returns-in-Ok-Assemble-clause-asm : goal.returns-in-Ok-Assemble-clause-asm
