@@ -26,7 +26,7 @@ import unittest
 import unittest.mock
 import urllib.error
 from pathlib import Path
-from typing import ClassVar
+from typing import ClassVar, Iterator
 
 from bpfagent.front.clients import Client
 from bpfagent.front.kept import Kept, objects_of, written_by
@@ -155,7 +155,7 @@ class Clients(unittest.TestCase):
             def is_dropped() -> bool:
                 nonlocal read
                 # So it has never read all that there is for it, and the front sees that it reads.
-                while len(read) < min(80_000 * (time.monotonic() - begun), len(expected)):
+                while len(read) < min(56_000 * (time.monotonic() - begun), len(expected)):
                     piece = slow.recv(1 << 13)
                     self.assertTrue(piece, "a client that reads slowly was dropped")
                     read += piece
@@ -409,11 +409,16 @@ class Access(unittest.TestCase):
             starting = "import os, sys; os.dup2(int(sys.argv[1]), 3); os.environ['LISTEN_PID'] = str(os.getpid()); os.execv(sys.argv[2], sys.argv[2:])"
             environment = {**os.environ, "LISTEN_FDS": "1", "NOTIFY_SOCKET": f"{name}/n"}
 
-            def start(listens: socket.socket) -> subprocess.Popen[bytes]:
+            @contextlib.contextmanager
+            def start(listens: socket.socket) -> Iterator[subprocess.Popen[bytes]]:
                 words = [sys.executable, "-c", starting, str(listens.fileno()), *FRONT, str(setup), "--program", PROGRAM]
-                return subprocess.Popen(
+                with subprocess.Popen(
                     words, stdin=subprocess.DEVNULL, stdout=subprocess.PIPE, stderr=subprocess.PIPE, env=environment, pass_fds=[listens.fileno(), 3]
-                )
+                ) as process:
+                    try:
+                        yield process
+                    finally:
+                        process.kill()
 
             with socket.socket(socket.AF_UNIX, socket.SOCK_DGRAM) as notes:
                 notes.bind(f"{name}/n")
