@@ -141,8 +141,7 @@ class Clients(unittest.TestCase):
 
     def test_unread(self) -> None:
         """A client that never reads is held back and then dropped, and holds nobody up. One that reads slowly stays."""
-        front, before = self.front, self.front.number('clients_went_total{why="unread"}')
-        with front.connect() as silent, front.connect() as slow, front.connect() as other:
+        with Front("make 8\nmake 4096\n", "--client-timeout", "8") as front, front.connect() as silent, front.connect() as slow, front.connect() as other:
             silent.settimeout(1.0)
             sent = 0
             with contextlib.suppress(socket.timeout):
@@ -152,24 +151,24 @@ class Clients(unittest.TestCase):
             slow.sendall(b"get 2 0 4096\n" * 128)
             expected, read, begun = (b"bytes " + b"00" * 4096 + b"\n") * 128, b"", time.monotonic()
 
-            def is_dropped() -> bool:
+            def reads(most: int) -> None:
                 nonlocal read
-                # So it has never read all that there is for it, and the front sees that it reads.
-                while len(read) < min(56_000 * (time.monotonic() - begun), len(expected)):
+                while len(read) < min(most, len(expected)):
                     piece = slow.recv(1 << 13)
                     self.assertTrue(piece, "a client that reads slowly was dropped")
                     read += piece
+
+            def is_dropped() -> bool:
+                # At this rate the front has something for it all the time, and sees that it reads.
+                reads(int(28_000 * (time.monotonic() - begun)))
                 self.assertEqual(line_of(other, b"get 2 0 1\n"), b"bytes 00\n")
-                return front.number('clients_went_total{why="unread"}') > before and time.monotonic() > begun + 6
+                return front.number('clients_went_total{why="unread"}') > 0 and time.monotonic() > begun + 10
 
             self.assertTrue(within(SECONDS, is_dropped))
-            while len(read) < len(expected):
-                piece = slow.recv(1 << 16)
-                self.assertTrue(piece, "a client that reads slowly was dropped")
-                read += piece
+            reads(len(expected))
             self.assertEqual(read, expected)
-            self.assertEqual(front.number('clients_went_total{why="unread"}'), before + 1)
-        self.gone()
+            self.assertEqual(front.number('clients_went_total{why="unread"}'), 1)
+            self.assertEqual(front.end()[0], 0)
 
     def test_health(self) -> None:
         """Health and numbers are told, and nothing else."""
