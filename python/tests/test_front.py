@@ -6,13 +6,13 @@ clients and bytes.
 """
 from __future__ import annotations
 
+import asyncio
 import contextlib
 import hashlib
-import importlib.util
+import hmac
+import json
 import os
 import random
-import re
-import resource
 import shutil
 import signal
 import socket
@@ -25,178 +25,25 @@ import time
 import unittest
 import unittest.mock
 import urllib.error
-import urllib.request
 from pathlib import Path
-from types import TracebackType
-from typing import Callable, ClassVar, Iterator, Optional, Sequence, Union
+from typing import ClassVar, Iterator
 
+from bpfagent.front.clients import Client
 from bpfagent.front.kept import Kept, objects_of, written_by
 from bpfagent.front.numbers import Numbers
 from bpfagent.front.saving import Damaged, restored, save
 from bpfagent.shared import SharedAgent
 from bpfagent.streams import AUTHORITY, CERTIFICATE, KEY
+from fronts import FRONT, IS_SLOW, LOOPS, Front, line_of, lines_of, probing, reply_of, within
 from support import PROGRAM, SECONDS
 
-from lib.programs import Server, has_gone
+from lib.programs import Server, processor_time
 
-FRONT = [sys.executable, "-m", "bpfagent.front.main"]
-# The same by the loop of asyncio, also where uvloop is installed.
-PLAIN = [sys.executable, "-c", "import sys; sys.modules['uvloop'] = None; from bpfagent.front.main import main; main()"]
-LOOPS = [FRONT, PLAIN] if importlib.util.find_spec("uvloop") else [FRONT]
-IS_SLOW = bool(PROGRAM) and b"AddressSanitizer" in Path(PROGRAM).read_bytes()
 # Clients in turn, at once, and those that vanish; objects that are saved, and those of 64 KiB that are moved.
 IN_TURN, AT_ONCE, VANISHING, OBJECTS, LONG_OBJECTS = (20, 12, 6, 20, 1) if IS_SLOW else (1000, 200, 100, 1024, 1024)
 # `exit`, as one slot; and r0 += 1, back to it.
 EXIT = "9500000000000000"
 ENDLESS = "0700000001000000" "0500feff00000000"
-Address = Union[str, "tuple[str, int]"]
-
-
-class Front:
-    """A started front on a Unix socket in a folder of its own, and on TCP."""
-
-    def __init__(self, setup: str, *options: str, agent: Sequence[str] = (), command: Sequence[str] = FRONT, most: int = 0) -> None:
-        self.folder = Path(tempfile.mkdtemp(prefix="front-"))
-        file = self.folder / "setup"
-        file.write_text(setup)
-        self.path = str(self.folder / "s")
-        words = [*command, str(file), "--program", PROGRAM, "--metrics", "0", "--unix", self.path, "--listen", "127.0.0.1:0", *options, "--", *agent]
-
-        def limit() -> None:
-            if most:
-                resource.setrlimit(resource.RLIMIT_NOFILE, (most, most))
-
-        self.process = subprocess.Popen(
-            words, stdin=subprocess.DEVNULL, stdout=subprocess.PIPE, stderr=subprocess.PIPE, text=True, preexec_fn=limit
-        )
-        assert self.process.stdout and self.process.stderr
-        self.errors: list[str] = []
-        self._reader = threading.Thread(target=self.errors.extend, args=(iter(self.process.stderr.readline, ""),))
-        self._reader.start()
-        listening = [self.process.stdout.readline().split() for _ in range(2)]
-        self.tcp = ("127.0.0.1", int(listening[1][1].rpartition(":")[2]) if listening[1] else 0)
-        self.port = int(self.said(r"numbers are told port=(\d+)")) if listening[1] else 0
-
-    def said(self, form: str) -> str:
-        """What a line of its standard error has in a group, when it is written."""
-        found: list[str] = []
-
-        def look() -> bool:
-            found.extend(match[1] for line in list(self.errors) if (match := re.search(form, line)))
-            return bool(found)
-
-        if not within(SECONDS, look):
-            raise AssertionError(f"no line has {form}: {self.errors}")
-        return found[0]
-
-    def connect(self, is_tcp: bool = False, timeout: float = SECONDS) -> socket.socket:
-        made = socket.socket(socket.AF_INET if is_tcp else socket.AF_UNIX)
-        made.settimeout(timeout)
-        made.connect(self.tcp if is_tcp else self.path)
-        return made
-
-    def tell(self, content: bytes, is_tcp: bool = False) -> bytes:
-        """What is answered to these bytes and the end of the input."""
-        with self.connect(is_tcp) as stream:
-            stream.sendall(content)
-            stream.shutdown(socket.SHUT_WR)
-            return b"".join(iter(lambda: stream.recv(1 << 16), b""))
-
-    def metrics(self, path: str = "metrics") -> str:
-        with urllib.request.urlopen(f"http://127.0.0.1:{self.port}/{path}", timeout=SECONDS) as answer:
-            return str(answer.read().decode())
-
-    def number(self, name: str) -> float:
-        """A number of the metrics."""
-        found = re.search(rf"^bpfagent_front_{re.escape(name)} ([0-9.]+)$", self.metrics(), re.MULTILINE)
-        return float(found[1]) if found else 0.0
-
-    def agents(self) -> list[int]:
-        """The processes of its agents. One that was killed is listed until its end is known."""
-        told = subprocess.run(["pgrep", "-P", str(self.process.pid)], stdout=subprocess.PIPE, text=True, check=False)
-        return [number for number in map(int, told.stdout.split()) if not has_gone(number)]
-
-    def kill_agent(self) -> None:
-        """Kills its agent, and waits for the next one."""
-        if not within(SECONDS, lambda: len(self.agents()) == 1):
-            raise AssertionError(f"these are its agents: {self.agents()}")
-        [agent] = self.agents()
-        count = self.number("restarts_total")
-        os.kill(agent, signal.SIGKILL)
-        if not within(SECONDS, lambda: self.number("restarts_total") > count):
-            raise AssertionError("there is no next agent")
-
-    def end(self, number: int = signal.SIGTERM) -> tuple[int, str]:
-        """Sends a signal, and gives the status and the last state."""
-        self.process.send_signal(number)
-        assert self.process.stdout
-        told = self.process.stdout.read()
-        return self.process.wait(SECONDS), told
-
-    def __enter__(self) -> Front:
-        return self
-
-    def __exit__(self, kind: Optional[type[BaseException]], error: Optional[BaseException], trace: Optional[TracebackType]) -> None:
-        if self.process.poll() is None:
-            self.process.kill()
-        self.process.wait(SECONDS)
-        self._reader.join(SECONDS)
-        for stream in (self.process.stdout, self.process.stderr):
-            if stream:
-                stream.close()
-        shutil.rmtree(self.folder)
-
-
-def line_of(stream: socket.socket, content: bytes) -> bytes:
-    """The reply to a line."""
-    stream.sendall(content)
-    return reply_of(stream)
-
-
-def lines_of(stream: socket.socket, content: bytes) -> bytes:
-    """The replies to lines."""
-    stream.sendall(content)
-    return reply_of(stream, content.count(b"\n"))
-
-
-def reply_of(stream: socket.socket, lines: int = 1) -> bytes:
-    """The next replies."""
-    read = b""
-    while read.count(b"\n") < lines:
-        piece = stream.recv(1 << 16)
-        if not piece:
-            raise ConnectionError("the connection was closed")
-        read += piece
-    return read
-
-
-def within(seconds: float, is_so: Callable[[], bool]) -> bool:
-    """Whether a call comes to be true, looked at with growing pauses."""
-    until, pause = time.monotonic() + seconds, 0.002
-    while time.monotonic() < until:
-        if is_so():
-            return True
-        time.sleep(pause)
-        pause = min(2 * pause, 0.1)
-    return False
-
-
-@contextlib.contextmanager
-def probing(front: Front) -> Iterator[None]:
-    """Connects every 10 ms, says nothing and goes."""
-    done = threading.Event()
-
-    def probe() -> None:
-        while not done.wait(0.01):
-            front.connect(is_tcp=True).close()
-
-    probes = threading.Thread(target=probe)
-    probes.start()
-    try:
-        yield
-    finally:
-        done.set()
-        probes.join()
 
 
 @unittest.skipUnless(PROGRAM, "needs BPFAGENT")
@@ -294,25 +141,34 @@ class Clients(unittest.TestCase):
 
     def test_unread(self) -> None:
         """A client that never reads is held back and then dropped, and holds nobody up. One that reads slowly stays."""
-        front, before = self.front, self.front.number('clients_went_total{why="unread"}')
-        with front.connect() as silent, front.connect() as slow, front.connect() as other:
-            for stream in (silent, slow):
-                stream.setblocking(False)
-                sent = 0
-                with contextlib.suppress(BlockingIOError):
-                    while sent < 10_000_000:
-                        sent += stream.send(b"get 2 0 4096\n" * 1000)
-                self.assertLess(sent, 10_000_000)
-            slow.settimeout(SECONDS)
+        with Front("make 8\nmake 4096\n", "--client-timeout", "8") as front, front.connect() as silent, front.connect() as slow, front.connect() as other:
+            silent.settimeout(1.0)
+            sent = 0
+            with contextlib.suppress(socket.timeout):
+                while sent < 10_000_000:
+                    sent += silent.send(b"get 2 0 4096\n" * 1000)
+            self.assertLess(sent, 10_000_000)
+            slow.sendall(b"get 2 0 4096\n" * 128)
+            expected, read, begun = (b"bytes " + b"00" * 4096 + b"\n") * 128, b"", time.monotonic()
+
+            def reads(most: int) -> None:
+                nonlocal read
+                while len(read) < min(most, len(expected)):
+                    piece = slow.recv(1 << 13)
+                    self.assertTrue(piece, "a client that reads slowly was dropped")
+                    read += piece
 
             def is_dropped() -> bool:
-                self.assertTrue(slow.recv(1 << 16))
+                # At this rate the front has something for it all the time, and sees that it reads.
+                reads(int(28_000 * (time.monotonic() - begun)))
                 self.assertEqual(line_of(other, b"get 2 0 1\n"), b"bytes 00\n")
-                return front.number('clients_went_total{why="unread"}') == before + 1
+                return front.number('clients_went_total{why="unread"}') > 0 and time.monotonic() > begun + 10
 
             self.assertTrue(within(SECONDS, is_dropped))
-            self.assertTrue(slow.recv(1 << 16))
-        self.gone()
+            reads(len(expected))
+            self.assertEqual(read, expected)
+            self.assertEqual(front.number('clients_went_total{why="unread"}'), 1)
+            self.assertEqual(front.end()[0], 0)
 
     def test_health(self) -> None:
         """Health and numbers are told, and nothing else."""
@@ -328,6 +184,28 @@ class Clients(unittest.TestCase):
             with socket.create_connection(("127.0.0.1", front.port)) as stream, stream.makefile("rb") as answer:
                 stream.sendall(request)
                 self.assertEqual(answer.readline().split()[1], status)
+
+    def test_counts(self) -> None:
+        """Bytes, lines and refusals are counted, by their kind."""
+        front, names = self.front, ["received_bytes_total", "sent_bytes_total", "seconds_count"]
+        names += ['requests_total{command="get"}', 'requests_total{command="put"}', 'requests_total{command="other"}', 'clients_came_total{door="tcp"}']
+        names += ['refusals_total{reply="outside"}', 'refusals_total{reply="bad"}', 'refusals_total{reply="unserved"}']
+        before, sent = [front.number(name) for name in names], b"get 1 0 1\nget 1 8 1\nput 1 9 00\nfoo 1\nmake 8\n"
+        replies = front.tell(sent, is_tcp=True)
+        self.assertRegex(replies, rb"^bytes [0-9a-f]{2}\noutside\noutside\nbad\nunserved\n$")
+        counted = [front.number(name) - number for name, number in zip(names, before)]
+        self.assertEqual(counted, [len(sent), len(replies), 5, 2, 1, 1, 1, 2, 1, 1])
+
+    def test_json(self) -> None:
+        """With --log json each line on standard error is an object with the time and what has happened."""
+        with Front("make 8\n", "--log", "json", "-v") as front:
+            front.tell(b"get 1 0 1\n")
+            front.kill_agent()
+            self.assertEqual(front.end()[0], 0)
+        told = [json.loads(line) for line in front.errors]
+        for line in told:
+            self.assertRegex(line["time"], r"^\d{4}-\d\d-\d\dT\d\d:\d\d:\d\dZ$")
+        self.assertLessEqual({"numbers are told", "an agent serves", "the agent ended", "agent"}, {line["what"] for line in told})
 
     def test_descriptors(self) -> None:
         """When no descriptor is left, clients wait to be accepted, and are served when others go."""
@@ -358,6 +236,47 @@ class Access(unittest.TestCase):
                     self.assertEqual(silent.recv(1), b"")
                 self.assertEqual(front.number('requests_total{command="get"}'), 1)
                 self.assertTrue(within(SECONDS, lambda: front.number('clients_went_total{why="denied"}') >= 6))
+
+    def test_compared(self) -> None:
+        """How long it takes to compare a first line with the token tells nothing of the token."""
+
+        async def came(line: bytes) -> list[unittest.mock._Call]:
+            host = unittest.mock.Mock(token=b"secret", client_seconds=SECONDS, numbers=Numbers())
+            with unittest.mock.patch("bpfagent.front.clients.hmac.compare_digest", wraps=hmac.compare_digest) as compared:
+                client, transport = Client(host, "unix"), unittest.mock.Mock()
+                client.begin(transport)
+                client.data_received(line)
+                compared.assert_called_once_with(line[:-1], b"token secret")
+                client.connection_lost(None)
+            return list(transport.write.mock_calls)
+
+        for line, answer in ((b"token secret\n", b"ok\n"), (b"token secreT\n", b"denied\n"), (b"token\n", b"denied\n")):
+            self.assertEqual(asyncio.run(came(line)), [unittest.mock.call(answer)])
+
+    def test_private(self) -> None:
+        """The agent listens at a socket file in a private folder, which goes with it, however it ends."""
+        with tempfile.TemporaryDirectory(dir="/tmp") as name, unittest.mock.patch.dict(os.environ, {"TMPDIR": name}):
+
+            def folders() -> list[Path]:
+                return list(Path(name).iterdir())
+
+            with Front("make 8\n") as front:
+                [agent], [folder] = front.agents(), folders()
+                words = Path(f"/proc/{agent}/cmdline").read_bytes().split(b"\0")
+                self.assertEqual(words[words.index(b"--unix") + 1], os.fsencode(folder / "agent.sock"))
+                self.assertEqual(folder.stat().st_mode & 0o777, 0o700)
+                front.kill_agent()
+                self.assertTrue(within(SECONDS, lambda: folder not in folders() and len(folders()) == 1))
+                self.assertEqual(front.end()[0], 0)
+            self.assertEqual(folders(), [])
+            for setup, program in (("make 0\n", PROGRAM), ("make 8\n", "/nowhere/bpfagent")):
+                file = front.folder.with_suffix(".setup")
+                file.write_text(setup)
+                words_given = [*FRONT, str(file), "--program", program]
+                done = subprocess.run(words_given, stdin=subprocess.DEVNULL, capture_output=True, text=True, timeout=SECONDS, check=False)
+                file.unlink()
+                self.assertEqual((done.returncode, done.stdout, done.stderr.count("\n")), (1, "", 1))
+                self.assertEqual(folders(), [])
 
     def test_refused(self) -> None:
         """Options, sockets and setups that can't be had are a line and a status, and leave nothing behind."""
@@ -399,9 +318,11 @@ class Access(unittest.TestCase):
 
     def test_unix(self) -> None:
         """The socket's mode is the one given; a socket that was left is replaced, one that answers isn't."""
-        with Front("make 8\n", "--mode", "0620", "--group", str(os.getgid())) as front:
+        # Only root may give a file to a group to which it doesn't belong.
+        group = os.getgid() if os.getuid() else os.getgid() + 1
+        with Front("make 8\n", "--mode", "0620", "--group", str(group)) as front:
             path = Path(front.path)
-            self.assertEqual((path.stat().st_mode & 0o777, path.stat().st_gid), (0o620, os.getgid()))
+            self.assertEqual((path.stat().st_mode & 0o777, path.stat().st_gid), (0o620, group))
             words = [*FRONT, str(front.folder / "setup"), "--program", PROGRAM, "--unix", str(path)]
             done = subprocess.run(words, stdin=subprocess.DEVNULL, capture_output=True, text=True, timeout=SECONDS, check=False)
             self.assertEqual((done.returncode, done.stdout), (1, ""))
@@ -487,11 +408,16 @@ class Access(unittest.TestCase):
             starting = "import os, sys; os.dup2(int(sys.argv[1]), 3); os.environ['LISTEN_PID'] = str(os.getpid()); os.execv(sys.argv[2], sys.argv[2:])"
             environment = {**os.environ, "LISTEN_FDS": "1", "NOTIFY_SOCKET": f"{name}/n"}
 
-            def start(listens: socket.socket) -> subprocess.Popen[bytes]:
+            @contextlib.contextmanager
+            def start(listens: socket.socket) -> Iterator[subprocess.Popen[bytes]]:
                 words = [sys.executable, "-c", starting, str(listens.fileno()), *FRONT, str(setup), "--program", PROGRAM]
-                return subprocess.Popen(
+                with subprocess.Popen(
                     words, stdin=subprocess.DEVNULL, stdout=subprocess.PIPE, stderr=subprocess.PIPE, env=environment, pass_fds=[listens.fileno(), 3]
-                )
+                ) as process:
+                    try:
+                        yield process
+                    finally:
+                        process.kill()
 
             with socket.socket(socket.AF_UNIX, socket.SOCK_DGRAM) as notes:
                 notes.bind(f"{name}/n")
@@ -525,20 +451,65 @@ class Agents(unittest.TestCase):
             front.said(r"lost_objects=(1) first_lost=\[2\]")
             self.assertEqual(front.end()[0], 0)
 
+    def test_unhealthy(self) -> None:
+        """While no agent can be started, health says so. Clients wait, and go on when there is one."""
+        with tempfile.TemporaryDirectory() as name:
+            program, is_broken = Path(name) / "program", Path(name) / "broken"
+            program.write_text(f'#!/bin/sh\n[ -e {is_broken} ] && exit 1\nexec {os.path.abspath(PROGRAM)} "$@"\n')
+            program.chmod(0o755)
+            with Front("make 8\n", "--program", str(program)) as front, front.connect() as client:
+                self.assertEqual(line_of(client, b"put 1 0 2a\n"), b"ok\n")
+                self.assertEqual(front.metrics("health"), "ok\n")
+                is_broken.touch()
+                os.kill(front.agents()[0], signal.SIGKILL)
+                front.said(r"(no agent could be started)")
+                with self.assertRaises(urllib.error.HTTPError) as raised:
+                    front.metrics("health")
+                self.assertEqual(raised.exception.code, 503)
+                client.sendall(b"get 1 0 1\n")
+                is_broken.unlink()
+                self.assertEqual(reply_of(client), b"bytes 2a\n")
+                self.assertEqual(front.metrics("health"), "ok\n")
+                self.assertEqual(front.end()[0], 0)
+
+    def test_grace(self) -> None:
+        """At the end replies may take --grace seconds, and no longer. Nobody comes any more."""
+        with Front("make 4096\n", "--grace", "5", "--client-timeout", "3600") as front, front.connect() as reads, front.connect() as silent:
+            for stream in (reads, silent):
+                stream.sendall(b"get 1 0 4096\n" * 64)
+            self.assertTrue(within(SECONDS, lambda: front.number('requests_total{command="get"}') == 128))
+            begun = time.monotonic()
+            front.process.send_signal(signal.SIGTERM)
+
+            def is_closed() -> bool:
+                try:
+                    front.connect(is_tcp=True).close()
+                except ConnectionRefusedError:
+                    return True
+                return False
+
+            self.assertTrue(within(SECONDS, is_closed))
+            self.assertEqual(reply_of(reads, 64), (b"bytes " + b"00" * 4096 + b"\n") * 64)
+            self.assertEqual(reads.recv(1), b"")
+            self.assertEqual(front.process.wait(SECONDS), 0)
+            self.assertGreater(time.monotonic() - begun, 4.5)
+
     def test_killed_under_load(self) -> None:
         """Whoever writes while agents are killed sees a pause, and each byte as it was acknowledged."""
         with Front("make 64\n") as front:
             done, wrong = threading.Event(), []
 
             def write(index: int) -> None:
-                with front.connect(is_tcp=index % 2 == 0) as stream:
-                    value = 0
-                    while not done.is_set():
-                        value += 1
-                        replies = line_of(stream, b"put 1 %d %08x\n" % (8 * index, value)) + line_of(stream, b"get 1 %d 4\n" % (8 * index))
-                        if replies != b"ok\nbytes %08x\n" % value:
-                            wrong.append(replies)
-                            return
+                replies, value = b"", 0
+                try:
+                    with front.connect(is_tcp=index % 2 == 0) as stream:
+                        while not done.is_set() and replies == (b"ok\nbytes %08x\n" % value if value else b""):
+                            value += 1
+                            replies = line_of(stream, b"put 1 %d %08x\n" % (8 * index, value)) + line_of(stream, b"get 1 %d 4\n" % (8 * index))
+                except OSError as why:
+                    wrong.append(f"{value}: {why}")
+                if replies != b"ok\nbytes %08x\n" % value:
+                    wrong.append(f"{value}: {replies!r}")
 
             writers = [threading.Thread(target=write, args=(index,)) for index in range(8)]
             for writer in writers:
@@ -595,14 +566,16 @@ class Agents(unittest.TestCase):
                 self.assertEqual(front.tell(puts), b"ok\n" * 16)
             exits = f"ship 10 0 0 0 0 0 {EXIT}\n".encode()
             self.assertEqual(front.tell(exits * 48).count(b"shipped"), 48)
+            before = processor_time(front.process.pid)
             self.assertEqual(front.tell(exits), b"shipped 1\n")
-            seconds = front.said(r"were used up .* seconds=([0-9.]+)")
+            front.said(r"were used up .* seconds=([0-9.]+)")
+            spent = processor_time(front.process.pid) - before
             status, told = front.end()
             self.assertEqual(status, 0)
             for number, content in objects.items():
                 self.assertIn(f"object {number} 65536 {hashlib.sha256(content).hexdigest()}\n", told)
-            # On a quiet machine this takes less than 2 s, as bench/front.py measures it. Otherwise it takes 30, for an object that doesn't come.
-            self.assertLess(float(seconds), 25.0)
+            # On a quiet machine this takes less than 2 s, as bench/front.py measures it. On a busy one the clock says little of it.
+            self.assertLess(spent, 8.0)
 
     def test_end_under_load(self) -> None:
         """SIGTERM under load: what was acknowledged is in the state that is saved."""
@@ -635,12 +608,14 @@ class Agents(unittest.TestCase):
     def test_save_and_restore(self) -> None:
         """All objects that there can be are saved and come back. They are also what an agent gets that takes over."""
         with tempfile.TemporaryDirectory() as name:
-            saved, setup, numbers = Path(name) / "saved", "make 64\n" * OBJECTS, range(1, OBJECTS + 1)
-            with Front(setup, "--save", str(saved)) as front:
+            saved, numbers = Path(name) / "saved", range(1, OBJECTS + 1)
+            # The bytes of an object that a machine may write aren't kept. The next agent has those of the file.
+            setup, words = "make 64\n" * OBJECTS + f"ship2 1 0 0 0 0 0 {EXIT} w1\n", ["--workers", "0"]
+            with Front(setup, "--save", str(saved), agent=words) as front:
                 puts = b"".join(b"put %d 0 %064x\n" % (number, number * number) for number in numbers)
                 self.assertEqual(front.tell(puts), b"ok\n" * OBJECTS)
                 self.assertEqual(front.end()[0], 0)
-            with Front(setup, "--restore", str(saved)) as front:
+            with Front(setup, "--restore", str(saved), agent=words) as front:
                 front.kill_agent()
                 gets = b"".join(b"get %d 0 32\n" % number for number in numbers)
                 self.assertEqual(front.tell(gets), b"".join(b"bytes %064x\n" % (number * number) for number in numbers))
@@ -662,6 +637,17 @@ class Counting(unittest.TestCase):
         self.assertEqual(numbers.faults, {name: 1 for name in names})
         for name in names:
             self.assertIn(f'bpfagent_front_faults_total{{fault="{name}"}} 1\n', numbers.text())
+
+
+    def test_histogram(self) -> None:
+        """A line counts in each bucket whose end it doesn't pass."""
+        numbers = Numbers()
+        numbers.timed(0.0002, 3)
+        numbers.timed(9.0, 1)
+        said = numbers.text()
+        for end, count in (("0.0001", 0), ("0.00025", 3), ("2.5", 3), ("+Inf", 4)):
+            self.assertIn(f'bpfagent_front_seconds_bucket{{le="{end}"}} {count}\n', said)
+        self.assertIn("bpfagent_front_seconds_sum 9.000600\nbpfagent_front_seconds_count 4\n", said)
 
 
 class Keeping(unittest.TestCase):
@@ -699,6 +685,11 @@ class Files(unittest.TestCase):
                     other.write_bytes(damaged)
                     with self.assertRaises(Damaged):
                         restored(other, lengths)
+            # Each object's digest counts, also where the file's end has been made anew.
+            forged = whole[: whole.rindex(b"end ")].replace(hashlib.sha256(b"abc").hexdigest().encode(), b"0" * 64)
+            other.write_bytes(forged + f"end {hashlib.sha256(forged).hexdigest()}\n".encode())
+            with self.assertRaises(Damaged):
+                restored(other, lengths)
             other.write_bytes(whole + b"x")
             for wrong in ({1: 3}, {1: 3, 7: 9, 8: 1}, {1: 4, 7: 9}):
                 with self.assertRaises(Damaged):

@@ -4,8 +4,8 @@
 Each part takes so many seconds, and the parts run side by side. With 0 seconds only what is stored is run. The seed is the day unless one is given.
 
 `agent` compares the program with the reference: conversations with `run`, and with `serve --workers 0` over TCP; code for `check` and `dis`, whose text
-`asm` has to make that code of. What is expected comes from tests/reference. An input whose answer differs is made smaller as long as it still differs; a conversation is kept as
-tests/fuzzed/SEED.script, which tests/product/program.py runs from then on.
+`asm` has to make that code of. What is expected comes from tests/reference. An input whose answer differs is made smaller as long as it still differs, and
+kept in tests/fuzzed. What is there is compared from then on, also with 0 seconds, and by tests/product/program.py.
 
 `elf`, `dwarf`, `dap`, `gateway` and `front` change what is stored in tests/hostile/corpus: object files, their debugging information, an editor's
 messages, replies of Redis, and lines of clients with files of saved objects. What comes of it is an answer or a clear error within a second, in little
@@ -16,6 +16,7 @@ memory, without a traceback and control characters. A case that fails is kept in
 from __future__ import annotations
 
 import argparse
+import json
 import os
 import pathlib
 import random
@@ -69,11 +70,6 @@ class Talk:
         """What the reference answers."""
         agent = Agent(self.budget)
         return [agent.reply(line) for line in self.lines]
-
-    def script(self) -> str:
-        """The conversation as a script of examples/ is written."""
-        head = [f"--- --budget {self.budget}"]
-        return "\n".join([*head, *(text for line, reply in zip(self.lines, self.replies()) for text in (line, f"> {reply}"))]) + "\n"
 
 
 # ---- making inputs
@@ -238,6 +234,9 @@ def difference_of_code(program: str, code: bytes) -> str:
     return ""
 
 
+COMPARE = {"run": difference_of_run, "serve": difference_of_service}
+
+
 # ---- making what differs smaller
 
 
@@ -256,13 +255,37 @@ def smaller(parts: list[T], differs: Callable[[list[T]], bool]) -> list[T]:
     return parts
 
 
-def kept(program: str, seed: str, talk: Talk, compare: Callable[[str, Talk], str]) -> str:
-    """Keeps the smallest conversation that differs; where it lies."""
+def kept(program: str, name: str, kind: str, talk: Talk) -> str:
+    """Keeps the smallest conversation that differs; why it does, and where it lies."""
+    compare = COMPARE[kind]
     talk.lines = smaller(talk.lines, lambda lines: bool(compare(program, Talk(talk.budget, lines))))
+    return f"{compare(program, talk)}; {written(name, {'kind': kind, 'budget': talk.budget, 'lines': talk.lines})}"
+
+
+def kept_code(program: str, name: str, code: bytes) -> str:
+    """Keeps the least code that differs; why it does, and where it lies."""
+    slots = smaller([code[at : at + 8] for at in range(0, len(code), 8)], lambda some: bool(difference_of_code(program, b"".join(some))))
+    return f"{difference_of_code(program, b''.join(slots))}; {written(name, {'kind': 'code', 'code': b''.join(slots).hex()})}"
+
+
+def written(name: str, case: dict[str, object]) -> str:
+    """Writes a case that differs; where it lies. It is JSON, since a line may be empty, or have any character."""
     KEPT.mkdir(exist_ok=True)
-    path = KEPT / f"{seed}.script"
-    path.write_text(talk.script())
-    return f"{compare(program, talk)}; kept as {path.relative_to(ROOT)}"
+    (KEPT / f"{name}.json").write_text(json.dumps(case, indent=1) + "\n")
+    return f"kept as {KEPT.name}/{name}.json"
+
+
+def stored(program: str) -> str:
+    """Compares what was kept; how much that is."""
+    cases = sorted(KEPT.glob("*.json"))
+    for path in cases:
+        case = json.loads(path.read_text())
+        if case["kind"] == "code":
+            why = difference_of_code(program, bytes.fromhex(case["code"]))
+        else:
+            why = COMPARE[case["kind"]](program, Talk(case["budget"], case["lines"]))
+        want(not why, f"{path.name}: {why}")
+    return f"agent: {len(cases)} stored cases; no difference"
 
 
 def rounds(seed: str) -> Iterator[random.Random]:
@@ -275,24 +298,24 @@ def rounds(seed: str) -> Iterator[random.Random]:
 
 def fuzz(program: str, seconds: float, seed: str) -> str:
     """Compares until the time is over; what was done."""
+    stored(program)
     until = time.monotonic() + seconds
     talks = lines = services = codes = 0
     for number_of, chance in enumerate(rounds(seed)):
         if time.monotonic() > until:
             break
         talk = conversation(chance)
-        if difference_of_run(program, talk):
-            raise Failed(kept(program, f"{seed}.{number_of}", talk, difference_of_run))
+        if COMPARE["run"](program, talk):
+            raise Failed(f"run: {kept(program, f'{seed}.{number_of}', 'run', talk)}")
         talks, lines = talks + 1, lines + len(talk.lines)
         if number_of % EACH == 0:
             talk = conversation(chance, has_moves=False)
-            if why := difference_of_service(program, talk):
-                raise Failed(f"serve, round {seed}.{number_of}: {why}")
+            if COMPARE["serve"](program, talk):
+                raise Failed(f"serve: {kept(program, f'{seed}.{number_of}', 'serve', talk)}")
             services += 1
             for code in (code_of(chance), valid_code(chance)):
                 if difference_of_code(program, code):
-                    slots = smaller([code[at : at + 8] for at in range(0, len(code), 8)], lambda some: bool(difference_of_code(program, b"".join(some))))
-                    raise Failed(f"code {b''.join(slots).hex()}, round {seed}.{number_of}: {difference_of_code(program, b''.join(slots))}")
+                    raise Failed(f"code: {kept_code(program, f'{seed}.{number_of}', code)}")
                 codes += 1
     want(talks and services and codes, "nothing was compared in this time")
     return f"seed {seed}: {talks} conversations of {lines} lines, {services} with a service, {codes} programs; no difference"
@@ -346,7 +369,7 @@ def run_part(program: str, seconds: float, seed: str, part: str) -> str:
     """Why a part failed; empty if it didn't. What was done is printed."""
     try:
         if part == "agent":
-            said = fuzz(program, seconds, seed) if seconds else "agent: program.py runs what is stored"
+            said = fuzz(program, seconds, seed) if seconds else stored(program)
         else:
             said = library(seconds, seed) if part == "library" else hostile(program, seconds, seed, part)
     except (Failed, OSError, ValueError, subprocess.TimeoutExpired) as why:

@@ -23,6 +23,7 @@ import tempfile
 from typing import Any, Collection, Iterator, Sequence
 
 sys.path.insert(0, str(pathlib.Path(__file__).resolve().parents[1]))
+import fuzz
 from lib import package
 from lib.checks import run_parts, want, want_equal
 from lib.far import greeted
@@ -278,9 +279,10 @@ def show_wrong_fields(program: str) -> str:
 
 
 def show_examples(program: str) -> str:
-    """The scripts of examples/ and those that `make fuzz` kept, and that the examples' code is valid and is what they ship."""
+    """The scripts of examples/, what `make fuzz` kept, and that the examples' code is valid and is what they ship."""
     count = 0
-    for path in (*examples("*.script"), *sorted((ROOT / "tests/fuzzed").glob("*.script"))):
+    fuzz.stored(program)
+    for path in examples("*.script"):
         text = path.read_text()
         for arguments, talk in conversations(text):
             talk_to(program, arguments, talk)

@@ -49,8 +49,8 @@ class Host(Protocol):
     def went(self, client: Client, why: Gone) -> None:
         """A client went."""
 
-    def lane_of(self, client: Client, lines: bytes) -> Lane:
-        """The agent's connection to which these lines of a client go."""
+    def lane_of(self, client: Client, lines: bytes, count: int) -> Lane:
+        """The agent's connection to which so many lines of a client go."""
 
     def takes(self, client: Client, lines: bytes, replies: bytes) -> bool:
         """Notes what was answered. False if the lines have to wait for the next agent."""
@@ -59,11 +59,15 @@ class Host(Protocol):
         """Whether the next agent has all that a client knows, now that this one has gone."""
 
 
-def is_of_objects(lines: bytes) -> bool:
-    """Whether all lines are commands on objects."""
-    if not lines.startswith(OF_OBJECTS):
-        return False
-    return lines.find(b"\n") == len(lines) - 1 or all(line.startswith(OF_OBJECTS) for line in lines.splitlines())
+def is_of_objects(lines: bytes, count: int) -> bool:
+    """Whether so many lines all are commands on objects."""
+    return lines.startswith(OF_OBJECTS) and (count == 1 or all(line.startswith(OF_OBJECTS) for line in lines.splitlines()))
+
+
+def whole_lines(content: bytes) -> int:
+    """How many lines these bytes are, if they are whole ones that may go at once; otherwise 0."""
+    count = content.count(b"\n")
+    return count if count <= LINES and len(content) <= PIECE and content.endswith(b"\n") else 0
 
 
 class Client(asyncio.Protocol):
@@ -130,6 +134,10 @@ class Client(asyncio.Protocol):
     def data_received(self, data: bytes) -> None:
         """Bytes came."""
         self._numbers.bytes_in += len(data)
+        # Mostly a client that awaits nothing sends a whole line or some. They go on at once.
+        if not (self._waiting or self.is_busy or self._is_skipping) and self._is_free() and (count := whole_lines(data)):
+            self._send(data, count)
+            return
         if self._is_closing:
             return
         if self._is_skipping:
@@ -205,9 +213,13 @@ class Client(asyncio.Protocol):
 
     # ---- to the agent
 
+    def _is_free(self) -> bool:
+        """Whether lines of this client may go to the agent."""
+        return self._transport is not None and self._is_let_in and not (self.is_stalled or self._is_unread or self._is_closing or self._host.is_held)
+
     def go_on(self) -> None:
         """Sends what has come to the agent, if nothing of this client is on its way."""
-        if self._transport and self._is_let_in and not (self.is_busy or self.is_stalled or self._is_unread or self._is_closing or self._host.is_held):
+        if not self.is_busy and self._is_free():
             self._send_next()
         if self._is_paused or len(self._waiting) > MOST:
             self._pace()
@@ -225,7 +237,7 @@ class Client(asyncio.Protocol):
     def _next_lines(self) -> tuple[bytes, int]:
         """The next whole lines that may go, and how many."""
         waiting = self._waiting
-        if waiting.endswith(b"\n") and len(waiting) <= PIECE and (count := waiting.count(b"\n")) <= LINES:
+        if count := whole_lines(waiting):
             self._waiting = b""
             return waiting, count
         count, end = end_of_lines(waiting[:PIECE], 0, LINES)
@@ -239,7 +251,7 @@ class Client(asyncio.Protocol):
 
     def _send(self, lines: bytes, count: int) -> None:
         self.is_busy, self._sent, self._count, self._since = True, lines, count, time.perf_counter()
-        self._host.lane_of(self, lines).ask(lines, count, self)
+        self._host.lane_of(self, lines, count).ask(lines, count, self)
 
     def answered(self, replies: bytes) -> None:
         """The agent's replies to the lines that were on their way."""

@@ -4,14 +4,17 @@ from __future__ import annotations
 import re
 from typing import Iterable, Mapping
 
-# The number of an object in a command, as the agent reads it.
-OBJECT = re.compile(rb"^(?:get|put|leave|return) (0x[0-9a-fA-F]{1,16}|[0-9]{1,20}) ", re.MULTILINE)
+# The number of an object in a command, as the agent reads it. It stands in so many bytes of a line.
+OBJECT = re.compile(rb"^(?:get|put|leave|return) (0x[0-9a-fA-F]{1,16}|[0-9]{1,20})(?![^ \n])", re.MULTILINE)
+HEAD = 30
+# Lines that are shorter together are looked through as they are.
+SHORT = 256
 WRITABLE = re.compile(rb"w([0-9]{1,4})")
 
 
 def objects_of(lines: bytes) -> set[int]:
     """The objects that commands name."""
-    heads = b"\n".join([line[:30] + b" " for line in lines.split(b"\n")])
+    heads = lines if len(lines) < SHORT else b"\n".join([line[:HEAD] for line in lines.split(b"\n")])
     return {int(number, 0) for number in OBJECT.findall(heads) if number[:1] != b"0" or number[1:2] == b"x"}
 
 
@@ -35,6 +38,8 @@ class Kept:
         self._lengths = lengths
         self._objects: dict[int, bytearray] = {}
         self.unkept: set[int] = set()
+        # Whether a command can't change an object that is kept.
+        self.is_all_unkept = not lengths
 
     def base(self, objects: Mapping[int, bytes]) -> None:
         """These are the bytes now."""
@@ -62,6 +67,7 @@ class Kept:
         for number in numbers:
             self.unkept.add(number)
             self._objects.pop(number, None)
+        self.is_all_unkept = self.unkept.issuperset(self._lengths)
 
     def objects(self) -> dict[int, bytes]:
         """The objects that have other bytes than when they were made."""

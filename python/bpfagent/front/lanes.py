@@ -100,7 +100,14 @@ class Lane:
         content, at, waiting = self._rest + data if self._rest else data, 0, self._waiting
         while waiting:
             count, asker = waiting[0]
-            done, end = end_of_lines(content, at, count - self._count)
+            if count == 1:
+                done, end = 1, content.find(b"\n", at) + 1
+                if not end:
+                    break
+            elif len(waiting) == 1 and not self._count and content.count(b"\n", at) == count and content.endswith(b"\n"):
+                done, end = count, len(content)
+            else:
+                done, end = end_of_lines(content, at, count - self._count)
             if self._count + done < count:
                 self._got, self._count = self._got + content[at:end], self._count + done
                 at = end

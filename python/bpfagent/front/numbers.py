@@ -8,7 +8,7 @@ from bisect import bisect_left
 from collections import Counter
 from typing import AsyncIterator, Callable, Iterator
 
-from ..limits import MACHINES
+from ..limits import MACHINES, OBJECTS
 
 # The upper ends of the histogram's buckets, in seconds.
 BUCKETS = [0.00005, 0.0001, 0.00025, 0.0005, 0.001, 0.0025, 0.005, 0.01, 0.025, 0.05, 0.1, 0.25, 0.5, 1.0, 2.5]
@@ -21,6 +21,8 @@ OTHER = b"other"
 DONE = (b"bytes ", b"ok")
 # No word of these is longer.
 WORD = 12
+# Lines are counted when so many bytes of them and of their replies have come, or when somebody asks for the numbers: together it takes less time.
+UNCOUNTED = 1 << 14
 # What the agent tells of its objects, and under which name it is counted.
 MOVES = [
     (re.compile(r"object \d+ left$"), "left"),
@@ -51,8 +53,10 @@ class Numbers:
         self.clients = 0
         self.bytes_in = self.bytes_out = 0
         self.restarts = 0
-        self.shipped = 0
+        self._shipped = 0
         self.objects = self.objects_left = 0
+        self._uncounted: list[tuple[bytes, bytes]] = []
+        self._size = 0
         self.came: Counter[str] = Counter()
         self.went: Counter[str] = Counter()
         self.commands: Counter[bytes] = Counter()
@@ -70,18 +74,34 @@ class Numbers:
     def answered(self, lines: bytes, replies: bytes) -> None:
         """Counts lines with their replies."""
         self.bytes_out += len(replies)
-        for line, reply in zip(lines.split(b"\n"), replies.split(b"\n")):
-            if not reply:
-                continue
-            command = line[:WORD].partition(b" ")[0]
-            self.commands[command if command in COMMANDS else OTHER] += 1
-            if reply.startswith(DONE):
-                continue
-            answer = reply.partition(b" ")[0]
+        self._uncounted.append((lines, replies))
+        self._size += len(lines) + len(replies)
+        if self._size > UNCOUNTED:
+            self._count()
+
+    def _count(self) -> None:
+        """Counts what came since the last time."""
+        uncounted, self._uncounted, self._size = self._uncounted, [], 0
+        lines = b"".join([lines for lines, _ in uncounted]).split(b"\n")
+        del lines[-1]
+        for command, count in Counter([line[:WORD].partition(b" ")[0] for line in lines]).items():
+            self.commands[command if command in COMMANDS else OTHER] += count
+        replies = b"".join([replies for _, replies in uncounted]).split(b"\n")
+        for answer, count in Counter([reply.partition(b" ")[0] for reply in replies if not reply.startswith(DONE)]).items():
             if answer in REFUSALS:
-                self.refusals[answer] += 1
+                self.refusals[answer] += count
             elif answer == b"shipped":
-                self.shipped += 1
+                self._shipped += count
+
+    def begin(self, machines: int, objects: int) -> None:
+        """Another agent begins, with so many machines and objects."""
+        self._count()
+        self._shipped, self.objects, self.objects_left = machines, objects, OBJECTS - objects
+
+    def machines(self) -> int:
+        """How many machines the agent has made."""
+        self._count()
+        return self._shipped
 
     def heard(self, line: str) -> None:
         """Counts a move or a fault of which the agent tells."""
@@ -92,6 +112,7 @@ class Numbers:
 
     def text(self) -> str:
         """The numbers in the text of Prometheus."""
+        self._count()
         return "".join(f"{line}\n" for line in self._lines())
 
     def _lines(self) -> Iterator[str]:
@@ -105,7 +126,7 @@ class Numbers:
         yield from single("received_bytes_total", "counter", "Bytes from clients.", self.bytes_in)
         yield from single("sent_bytes_total", "counter", "Bytes of replies.", self.bytes_out)
         yield from single("restarts_total", "counter", "Agents that took the place of another.", self.restarts)
-        yield from single("machines_left", "gauge", "Machines that the agent can still be shipped.", max(MACHINES - self.shipped, 0))
+        yield from single("machines_left", "gauge", "Machines that the agent can still be shipped.", max(MACHINES - self._shipped, 0))
         yield from single("objects", "gauge", "Objects of the agent.", self.objects)
         yield from single("objects_left", "gauge", "Objects that a setup could make beside them.", self.objects_left)
         yield "# HELP bpfagent_front_seconds Time from sending a line to the agent to its reply."

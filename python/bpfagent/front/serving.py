@@ -11,7 +11,7 @@ import sys
 import time
 from typing import Any, Awaitable, Callable, Mapping, Optional, Sequence, cast
 
-from ..limits import MACHINES, OBJECTS
+from ..limits import MACHINES
 from ..replies import Broken
 from . import doors
 from .clients import Client, Gone, is_of_objects
@@ -32,7 +32,7 @@ LASTED = 60.0
 SILENT = 10.0
 # The states of a machine that could still do something.
 ALIVE = ("run", "paused")
-SHIPS = (b"ship ", b"ship2 ")
+SHIPS, PUT = (b"ship ", b"ship2 "), b"put "
 FULL = b"full"
 
 
@@ -96,27 +96,25 @@ class Front:
             self._log.say("a client went", why=why.value)
         self._changed.set()
 
-    def lane_of(self, client: Client, lines: bytes) -> Lane:
-        """The agent's connection to which these lines of a client go."""
-        lane = client.lane
-        if lane and not (client.knows_machines or self._kept.unkept) and is_of_objects(lines):
-            return lane
-        assert self._agent
-        if not client.knows_machines and not is_of_objects(lines):
+    def lane_of(self, client: Client, lines: bytes, count: int) -> Lane:
+        """The agent's connection to which so many lines of a client go."""
+        if not client.knows_machines and not is_of_objects(lines, count):
             client.knows_machines = client.is_first = True
             client.leave_lane()
         if client.knows_machines:
-            self._lose(self._changed_by(lines))
+            if not self._kept.is_all_unkept:
+                self._lose(self._changed_by(lines))
         elif self._kept.unkept and not client.knows_unkept:
             client.knows_unkept = not self._kept.unkept.isdisjoint(objects_of(lines))
         if client.lane is None:
+            assert self._agent
             client.lane = self._agent.of_machines() if client.knows_machines else self._agent.of_objects
             client.lane.clients += 1
         return client.lane
 
     def _changed_by(self, lines: bytes) -> set[int]:
         """The objects that a client with machines changes by these lines, or lets machines change."""
-        found = objects_of(lines) if b"put " in lines else set()
+        found = objects_of(lines) if lines.find(PUT) >= 0 else set()
         if b"ship" in lines:
             found = found.union(*(written_by(line, self._setup.lengths) for line in lines.split(b"\n")))
         return found - self._kept.unkept
@@ -130,17 +128,19 @@ class Front:
 
     def takes(self, client: Client, lines: bytes, replies: bytes) -> bool:
         """Notes what was answered. False if the lines have to wait for the next agent, since this one has no number for a machine."""
-        if FULL in replies and self._is_refused(lines, replies):
-            is_first, self._is_used_up = client.is_first, True
-            self._needs_next.set()
-            if is_first and lines.count(b"\n") == 1:
-                client.knows_machines, client.is_stalled = False, True
-                client.leave_lane()
-                return False
-        client.is_first = False
+        if not client.knows_machines:
+            if lines.find(PUT) >= 0:
+                self._kept.wrote(lines, replies)
+        else:
+            if replies.find(FULL) >= 0 and self._is_refused(lines, replies):
+                is_first, self._is_used_up = client.is_first, True
+                self._needs_next.set()
+                if is_first and lines.count(b"\n") == 1:
+                    client.knows_machines, client.is_stalled = False, True
+                    client.leave_lane()
+                    return False
+            client.is_first = False
         self.numbers.answered(lines, replies)
-        if b"put " in lines and not client.knows_machines:
-            self._kept.wrote(lines, replies)
         return True
 
     def _is_refused(self, lines: bytes, replies: bytes) -> bool:
@@ -192,8 +192,7 @@ class Front:
             self._kept.lose(written_by(line, self._setup.lengths))
             self._kept.wrote(line, reply.encode("ascii"))
         self._kept.base(objects)
-        self.numbers.shipped, self.numbers.objects = self._setup.machines, len(self._setup.lengths)
-        self.numbers.objects_left = OBJECTS - len(self._setup.lengths)
+        self.numbers.begin(self._setup.machines, len(self._setup.lengths))
         self._agent_ended()
 
     def _heard(self, line: str) -> None:
@@ -212,7 +211,7 @@ class Front:
         assert self._agent
         lost = sorted(self._kept.unkept)
         objects = {**self._restored, **self._kept.objects()}
-        self._log.say("the agent ended", machines=self.numbers.shipped, lost_objects=len(lost), first_lost=lost[:8])
+        self._log.say("the agent ended", machines=self.numbers.machines(), lost_objects=len(lost), first_lost=lost[:8])
         await self._agent.kill()
         self._agent, pause = None, FIRST_PAUSE
         while True:

@@ -4,6 +4,7 @@ from __future__ import annotations
 import asyncio
 import contextlib
 import os
+import shutil
 import socket
 import time
 from collections import deque
@@ -14,7 +15,7 @@ from ..agent import PIECE
 from ..limits import MACHINES
 from ..protocol import why_bad
 from ..replies import FREED, MADE, REFUSAL, SHIPPED, Broken
-from ..service import GRACE, HOST, KEPT, LISTENING
+from ..service import GRACE, KEPT, LISTENING, SOCKET, private_folder
 from ..starting import environment, reason_of, telling
 from .lanes import Lane
 from .wires import Wires
@@ -76,8 +77,8 @@ class Setup:
 class Upstream:
     """A started agent with its connections."""
 
-    def __init__(self, process: asyncio.subprocess.Process, setup: Setup, wires: Wires, heard: Callable[[str], None]) -> None:
-        self.process, self.setup, self._wires = process, setup, wires
+    def __init__(self, process: asyncio.subprocess.Process, folder: Path, setup: Setup, wires: Wires, heard: Callable[[str], None]) -> None:
+        self.process, self._folder, self.setup, self._wires = process, folder, setup, wires
         self.lanes: list[Lane] = []
         self.has_ended = False
         self._heard = heard
@@ -91,12 +92,17 @@ class Upstream:
     ) -> Upstream:
         """Starts an agent, does its setup, and takes all its connections. `heard` gets each line of its standard error, and `ended` is
         called once if it ends before it is closed. Raises `Refused` or `Broken`, and leaves nothing behind then."""
-        words = ["serve", "--connections", str(CONNECTIONS), *telling([*arguments])]
-        process = await asyncio.create_subprocess_exec(
-            os.fspath(program), *words, stdin=asyncio.subprocess.PIPE, stdout=asyncio.subprocess.PIPE, stderr=asyncio.subprocess.PIPE,
-            limit=LINE_LIMIT, env=environment(), start_new_session=True,
-        )
-        made = cls(process, setup, wires, heard)
+        folder = private_folder()
+        words = ["serve", "--unix", os.fspath(folder / SOCKET), "--connections", str(CONNECTIONS), *telling([*arguments])]
+        try:
+            process = await asyncio.create_subprocess_exec(
+                os.fspath(program), *words, stdin=asyncio.subprocess.PIPE, stdout=asyncio.subprocess.PIPE, stderr=asyncio.subprocess.PIPE,
+                limit=LINE_LIMIT, env=environment(), start_new_session=True,
+            )
+        except BaseException:
+            folder.rmdir()
+            raise
+        made = cls(process, folder, setup, wires, heard)
         try:
             await asyncio.wait_for(made._begin(), START_SECONDS)
         except BaseException as why:
@@ -108,17 +114,17 @@ class Upstream:
         return made
 
     async def _begin(self) -> None:
-        """Does the setup, and takes all connections. Each has to answer, since somebody else may have taken one before."""
-        port = await self._listening()
+        """Does the setup, and takes all connections. Each has to answer, since another process of this user may have taken one before."""
+        await self._listens()
         for _ in range(CONNECTIONS):
-            connecting = socket.socket(socket.AF_INET, socket.SOCK_STREAM)
+            connecting = socket.socket(socket.AF_UNIX, socket.SOCK_STREAM)
             connecting.setblocking(False)
-            await asyncio.get_running_loop().sock_connect(connecting, (HOST, port))
+            await asyncio.get_running_loop().sock_connect(connecting, os.fspath(self._folder / SOCKET))
             self.lanes.append(Lane(self._wires, connecting, self._lost))
         await asyncio.gather(*(lane.tell([GREETING]) for lane in self.lanes))
 
-    async def _listening(self) -> int:
-        """Does the setup, and gives the port."""
+    async def _listens(self) -> None:
+        """Does the setup, and waits until the agent listens."""
         assert self.process.stdin and self.process.stdout
         sending = asyncio.ensure_future(self._send_setup(self.process.stdin))
         replies: list[str] = []
@@ -129,9 +135,9 @@ class Upstream:
                     status = await self.process.wait()
                     await asyncio.wait([self._errors], timeout=GRACE)
                     raise Broken(f"the agent ended with status {status} before it listened{reason_of(self._told)}")
-                if found := LISTENING.fullmatch(line[:-1]):
+                if LISTENING.fullmatch(line[:-1]):
                     self.setup.answered(replies)
-                    return int(found[1])
+                    return
                 replies.append(line[:-1])
         finally:
             sending.cancel()
@@ -194,6 +200,7 @@ class Upstream:
         await asyncio.sleep(0)
         await self.process.wait()
         await self._errors
+        shutil.rmtree(self._folder, ignore_errors=True)
 
     # ---- what it has
 
