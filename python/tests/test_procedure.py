@@ -444,13 +444,13 @@ class Faults(unittest.TestCase):
                 service.procedure(early, value)
 
     def test_a_client_that_was_killed(self) -> None:
-        """Between `put` and `resume`, and after it: the next client's requests get their own answers."""
-        with served() as service:
+        """Between `put` and `resume`, and after it: the next client's requests get their own answers, whatever the numbers were."""
+        with served(connections=6) as service:
             table = service.setup.make(16 * PLACES)
             service.procedure(TABLE, table, timeout=SECONDS).close()
             place = service.listen()
-            lines = [f"put 2 0 {REQUEST.pack(number, ADD, 5, 100, 0, 0).hex()}" for number in (1, 1000)]
-            for line, following, wanted in ((lines[0], "", 1), (lines[1], "\nresume 1", 102)):
+            lines = [f"put 2 0 {REQUEST.pack(number, ADD, 5, 100, 0, 0).hex()}" for number in (1, 1000, 1)]
+            for line, following, wanted in ((lines[0], "", 1), (lines[1], "\nresume 1", 102), (lines[2], "\nresume 1", 203)):
                 with reached(place, SECONDS) as killed:
                     killed.sendall(f"{line}{following}\n".encode())
                     # It has been done when it is answered; then the client goes without a word.

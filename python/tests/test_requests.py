@@ -180,6 +180,10 @@ class InPython(unittest.TestCase):
         self.assertLessEqual({"Python", "C", "gets", "C server"}, ways)
         for way, command in (("Redis", "redis-server"), ("memcached", "memcached"), ("in process", "in process (make lib)")):
             self.assertEqual(way in ways, command not in figures["skipped"])
+        # The answer is in the packet of its request, but for the scan, which a worker does.
+        trips = {(row, delay): value for row, delay, way, value in figures["times"] if way == "C, trips" and not row.startswith("scan")}
+        self.assertEqual(trips, dict.fromkeys(trips, 1))
+        self.assertGreater(len(trips), 6)
         self.assertLess(figures["more"]["48 machines wait, percent of a processor"], 0.1)
         print(f"skipped: {', '.join(figures['skipped']) or 'nothing'}")
 

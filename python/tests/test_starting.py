@@ -4,10 +4,12 @@ from __future__ import annotations
 import os
 import pathlib
 import re
+import subprocess
+import sys
 import tempfile
 import unittest
 import unittest.mock
-from typing import Callable
+from typing import Callable, Sequence
 
 from bpfagent import Agent, Service, Unloadable
 from bpfagent.image import program_path
@@ -26,6 +28,12 @@ elif sys.argv[1] == "serve":
     print("listening", threshold, flush=True)
 else:
     print(sys.argv[1:], threshold, sys.stdin.read())"""
+
+
+def said(words: Sequence[str]) -> tuple[int, str, str]:
+    """Status, output and errors of a command that is given one line."""
+    done = subprocess.run(words, input="make 1\n", capture_output=True, text=True, timeout=SECONDS)
+    return done.returncode, done.stdout, done.stderr
 
 
 class Starting(unittest.TestCase):
@@ -61,6 +69,18 @@ class Starting(unittest.TestCase):
                 done = ended(self.program, "check", "--explain", given=b"code", seconds=SECONDS)
                 self.assertEqual((done.returncode, done.stdout), (0, f"['check', '--explain'] {wanted} code\n".encode()))
                 self.assertEqual(os.environ.get(THRESHOLD_NAME), variables.get(THRESHOLD_NAME))
+
+    def test_commands(self) -> None:
+        """So do `bpfagent-cli`, which becomes the program, and `bpfagent-front`."""
+        self.with_environment(BPFAGENT=self.program)
+        for words, wanted in (((), "made 32768\n"), (("--", "--sweep"), "listening 32768\n")):
+            self.assertEqual(said([sys.executable, "-m", "bpfagent.cli", "--raw", *words]), (0, wanted, ""))
+        failing = program_of(self.folder / "failing", f"import os\nsys.exit('has ' + os.environ.get({THRESHOLD_NAME!r}, 'none'))")
+        setup = self.folder / "setup"
+        setup.write_text("make 8\n")
+        status, _, errors = said([sys.executable, "-m", "bpfagent.front.main", "--listen", "127.0.0.1:0", "--program", str(failing), str(setup)])
+        self.assertEqual(status, 1)
+        self.assertIn("the agent ended with status 1 before it listened: has 32768\n", errors)
 
     def test_name(self) -> None:
         """BPFAGENT comes before PATH."""

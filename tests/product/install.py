@@ -129,8 +129,8 @@ def show_found(program: str) -> None:
     """Through links, by PATH, by a relative name, with blanks in the prefix, and where a package has moved what was installed for it."""
     with installed(program, "a prefix/with  blanks") as prefix:
         want_answer(prefix / "bin/bpfagent", "a prefix with blanks")
-        links = prefix / "links"
-        links.mkdir()
+        links = prefix.parent / "links/of/others"
+        links.mkdir(parents=True)
         (links / "one").symlink_to(prefix / "bin/bpfagent")
         (links / "two").symlink_to("one")
         (prefix / "other").symlink_to("bin")

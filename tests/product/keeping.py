@@ -103,6 +103,21 @@ def show_start(program: str) -> None:
     want_equal(numbers, [2, 2 * MOST, 2, 2 * MOST, 2 * MOST, 0, 0, numbers[7], 2, 0, 0], "the last line")
 
 
+def show_second_chance(program: str) -> None:
+    """The mover looks at objects in turn. One that was used since it was looked at stays, and makes room at the next look."""
+    service = Service(program, "--keep", 2 * MOST, "--workers", 0, "-v", setup=[f"make {MOST}"] * 4)
+    with service, Client(service) as client:
+        told = Here(service, 4)
+        until("two objects don't leave", lambda: len(told.left) == 2)
+        for used, back, left in ((3, 1, [1, 2, 4]), (1, 2, [1, 2, 4, 3])):
+            client.ask_until(f"get {used} 0 1", "bytes 00")
+            want_equal(client.ask(f"return {back}"), f"asked {back}", "an object that is to come back")
+            until(f"no object makes room for object {back}: {told.left}", lambda: len(told.left) == len(left))
+            want_equal(told.left, left, "the objects that leave")
+        client.end()
+        told.end(service)
+
+
 def show_in_use(program: str) -> None:
     """A machine that keeps three objects in scope has all of them, above the bound. When it has ended two leave."""
     code = code_of(program, USES)
@@ -166,13 +181,17 @@ def show_walk(program: str) -> str:
 
 
 def show_wrong_words(program: str) -> None:
-    """A bound that is too small or too great for any object, or no number."""
+    """A bound that is too small or too great for any object, or no number. The least and the greatest are taken."""
     for word in ("65535", "67108865", "x", "-1", ""):
         status, output, errors = ended(program, "serve", f"--keep={word}")
         want((status, output) == (2, b"") and b"'--keep <BYTES>'" in errors, f"--keep={word}: {status}, {errors!r}")
+    for number in (MOST, 1 << 26):
+        with Service(program, "--keep", number) as service, Client(service) as client:
+            client.end()
+            want_equal(service.texts(), (0, "closed\n", ""), f"--keep {number}")
     errors = ended(program, "serve", "--keep", "65535")[2]
     want(errors.startswith(b"error: invalid value '65535' for '--keep <BYTES>': 65535 is not in 65536..=67108864\n"), f"--keep 65535: {errors!r}")
 
 
 if __name__ == "__main__":
-    run_parts("keeping", [show_start, show_in_use, show_walk, show_wrong_words])
+    run_parts("keeping", [show_start, show_second_chance, show_in_use, show_walk, show_wrong_words])

@@ -6,6 +6,7 @@ the unit's environment. With `--keep` four machines walk over 64 MiB of objects.
 """
 from __future__ import annotations
 
+import contextlib
 import hashlib
 import os
 import pathlib
@@ -20,11 +21,12 @@ from typing import Iterator, Sequence
 sys.path.insert(0, str(pathlib.Path(__file__).resolve().parents[1]))
 from lib.checks import run_parts, want, want_equal
 from lib.package import PACKAGE
-from lib.programs import LONG, Ask, Client, Server, Service, all_leave, ended, in_time, processor_time, run, size_of, until
+from lib.programs import LONG, Ask, Client, Listener, Server, Service, all_leave, ended, in_time, processor_time, run, size_of, until
 from lib.sources import ROOT
 
 sys.path.append(str(PACKAGE))
 import bpfagent
+from bpfagent.far import Store
 from bpfagent.starting import THRESHOLD_NAME
 
 UNIT = ROOT / "deploy/bpfagent@.service"
@@ -126,11 +128,33 @@ def of_service(store: str, program: str | pathlib.Path, environment: dict[str, s
     return said
 
 
-def show_installed(program: str) -> str:
-    """By the launcher that is installed."""
+@contextlib.contextmanager
+def installed(program: str) -> Iterator[str]:
+    """The launcher that is installed."""
     with tempfile.TemporaryDirectory(prefix="memory-") as room:
         run(sys.executable, "-B", ROOT / "tools/install.py", "--program", program, "--library", ROOT / "include/bpfagent.h", f"{room}/prefix")
-        return f"installed: {of_service(program, f'{room}/prefix/bin/bpfagent', plain())}"
+        yield f"{room}/prefix/bin/bpfagent"
+
+
+def show_installed(program: str) -> str:
+    """By the launcher that is installed."""
+    with installed(program) as launcher:
+        return f"installed: {of_service(program, launcher, plain())}"
+
+
+def show_store(program: str) -> str:
+    """A far store that is installed gives back the memory of what is forgotten, round after round."""
+    sizes = []
+    with installed(program) as launcher, Listener(launcher, "store", env=plain()) as server, Store(server.port or 0, timeout=LONG) as store:
+        for _ in range(ROUNDS):
+            kept = [store.put(content(number))[0] for number in range(1, OBJECTS + 1)]
+            for number in kept:
+                want(number is not None, "the store has no room")
+                store.forget(number or 0)
+            sizes.append(size_of(server.process.pid, "VmRSS"))
+            want(sizes[-1] < BOUND, f"{sizes[-1] >> 10} KiB of memory of a store that has forgotten {OBJECTS} objects of {LENGTH} bytes")
+    want(sizes[-1] < sizes[0] + GROWTH, f"the store grows from round to round: {[size >> 10 for size in sizes]} KiB")
+    return f"store: {max(sizes) / 2**20:.1f} MiB"
 
 
 def show_unit(program: str) -> str:
@@ -291,4 +315,4 @@ def show_fitting(program: str) -> str:
 
 
 if __name__ == "__main__":
-    run_parts("memory", [show_installed, show_unit, show_python, show_kept, show_fitting])
+    run_parts("memory", [show_installed, show_store, show_unit, show_python, show_kept, show_fitting])
