@@ -37,7 +37,7 @@ from bpfagent.shared import SharedAgent
 from bpfagent.streams import AUTHORITY, CERTIFICATE, KEY
 from support import PROGRAM, SECONDS
 
-from lib.programs import Server, has_gone
+from lib.programs import Server, has_gone, slowness
 
 FRONT = [sys.executable, "-m", "bpfagent.front.main"]
 # The same by the loop of asyncio, also where uvloop is installed.
@@ -206,7 +206,7 @@ class Clients(unittest.TestCase):
     @classmethod
     def setUpClass(cls) -> None:
         # A client that reads may be away for so long, on a busy machine.
-        cls.front = Front("make 8\nmake 4096\n", "--client-timeout", "4", "--grace", "10")
+        cls.front = Front("make 8\nmake 4096\n", "--client-timeout", "10", "--grace", "20")
 
     @classmethod
     def tearDownClass(cls) -> None:
@@ -601,8 +601,8 @@ class Agents(unittest.TestCase):
             self.assertEqual(status, 0)
             for number, content in objects.items():
                 self.assertIn(f"object {number} 65536 {hashlib.sha256(content).hexdigest()}\n", told)
-            # On a quiet machine this takes less than 2 s, as bench/front.py measures it. Otherwise it takes 30, for an object that doesn't come.
-            self.assertLess(float(seconds), 25.0)
+            # On a quiet machine this takes less than 2 s, as bench/front.py measures it, and 30 for an object that doesn't come.
+            self.assertLess(float(seconds) / slowness(), 25.0)
 
     def test_end_under_load(self) -> None:
         """SIGTERM under load: what was acknowledged is in the state that is saved."""
