@@ -378,6 +378,22 @@ class Conversations(Case):
         offsets = [str(at) for at in range(0, 65_536, 4096)]
         self.assertEqual(heard[:2], [[[word, "1", at] for at in offsets] for word in ("put", "get")])
 
+    def test_pauses(self) -> None:
+        """`wait` asks again after 20 us, since a machine may end within microseconds, and then ever more seldom."""
+        now, slept = [0.0], list[float]()
+
+        def sleep(seconds: float) -> None:
+            slept.append(seconds)
+            now[0] += seconds
+
+        states = iter(["run"] * 60 + ["exit"])
+        agent = unittest.mock.Mock(spec=Agent)
+        agent.regs.side_effect = lambda machine: Registers(machine, 0, 0, next(states), (0,) * 11)
+        with unittest.mock.patch("bpfagent.agent.time", sleep=sleep, monotonic=lambda: now[0]):
+            self.assertEqual(Agent.wait(agent, 1).state, "exit")
+        self.assertEqual(slept[:4], [0.00002] * 4)
+        self.assertEqual((slept, slept[-1], len(slept)), (sorted(slept), 0.05, 60))
+
     def test_service_replies(self) -> None:
         """What only a service answers."""
         self.over_tcp(SERVICE, lambda agent: self.converse(agent, SERVICE, set()))

@@ -354,6 +354,8 @@ class Ends(unittest.TestCase):
             own._lock.acquire()
             child = os.fork()
             if not child:
+                # One that waits for the lock ends, and so does the test.
+                signal.alarm(int(SECONDS))
                 with contextlib.suppress(BaseException):
                     try:
                         own.get(number, 0, 8)

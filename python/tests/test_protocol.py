@@ -49,6 +49,7 @@ int program(struct big *big)
     return result + (int)(one.key + key) * 0;
 }
 """
+NO_POINTER = "this is no pointer, but uint64_t: cast it, as in *(uint64_t *)"
 
 
 @functools.lru_cache(maxsize=None)
@@ -230,6 +231,10 @@ class Requests(unittest.TestCase):
         self.launch(arguments=(TABLE[1], "8"))
         self.assertTrue(all(made["verified"] for made in self.points(16, hitCondition="2")))
         self.editor.ask("configurationDone")
+        for _ in range(2):
+            self.assertEqual(self.editor.ask("evaluate", expression="i", frameId=self.stopped("breakpoint")["id"])["result"], "1")
+            # A restart counts hits from the beginning.
+            self.editor.ask("restart")
         self.assertEqual(self.editor.ask("evaluate", expression="i", frameId=self.stopped("breakpoint")["id"])["result"], "1")
         self.points(16, logMessage="i is {i}, {key + 1}, {1 / 0}")
         self.editor.ask("setFunctionBreakpoints", breakpoints=[{"name": "find"}])
@@ -242,6 +247,9 @@ class Requests(unittest.TestCase):
         self.assertEqual(self.editor.wait("exited"), {"exitCode": 2})
         for terms, why in (
             ({"condition": "nothing > 1"}, "the condition `nothing > 1` can't be read: nothing is called nothing there"),
+            ({"condition": "table->none > 1"}, "the condition `table->none > 1` can't be read: const struct table has no member none; it has count, pairs"),
+            ({"condition": "table->pairs[i].key && *i"}, f"the condition `table->pairs[i].key && *i` can't be read: {NO_POINTER}"),
+            ({"logMessage": "{table->pairs->none}"}, "the message's `table->pairs->none` can't be read: struct pair has no member none; it has key, value"),
             ({"hitCondition": "often"}, "`often` is no number of hits: 5, >= 5 and % 5 are some"),
             ({"logMessage": "{i +}"}, "the message's `i +` can't be read: the expression ends too early"),
         ):

@@ -105,6 +105,8 @@ VALUELESS = {
     "all ; 1": "`; 1` is no expression",
     "$r11": "$r11 isn't shown by the protocol here: there are $r0 to $r10, $slot and $fuel",
 }
+# Those that have none by their types alone, so that no condition is made of them.
+TYPELESS = ("all->none", "byte->x", "*(void *)all", "(struct nope *)5")
 
 
 @needs_debugger
@@ -503,6 +505,10 @@ class Sessions(unittest.TestCase):
                 self.assertEqual(terminal.ask(f"print {text}"), [f"{text} = {value}"])
             for text, why in VALUELESS.items():
                 self.assertEqual(terminal.ask(f"print {text}"), [why])
+            for text in VALUES:
+                self.assertRegex(terminal.ask(f"break program.c:12 if {text}")[0], r"^breakpoint \d+ at ")
+            for text in TYPELESS:
+                self.assertEqual(terminal.ask(f"break program.c:12 if {text}"), [f"the condition `{text}` can't be read: {VALUELESS[text]}"])
             self.assertEqual(terminal.ask("x/2xw all"), ["0x100000000 <object 1>: 0x00000005 0x04030201"])
             self.assertEqual(terminal.ask("x/4c all->name"), ["0x100000010 <object 1+16>: 110 'n' 97 'a' 109 'm' 101 'e'"])
             self.assertEqual(terminal.ask("x/s all->name")[0].split(": ")[1], '"name"')

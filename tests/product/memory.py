@@ -226,7 +226,9 @@ def looked_at(service: Service, client: Client, machines: int) -> tuple[int, flo
         most = max(most, size_of(service.process.pid, "VmRSS"))
         time.sleep(0.01)
     rate = (noted.left - before) / (time.monotonic() - start)
-    want(all(fuel(client, number) < had for number, had in enumerate(fuels, 1)), "a machine stands still")
+    for number, had in enumerate(fuels, 1):
+        # On a busy machine it may take a while until it goes on.
+        until(f"machine {number} stands still", lambda: fuel(client, number) < had)
     return most, rate
 
 

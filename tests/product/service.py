@@ -261,8 +261,14 @@ def away_unmissed(client: Client) -> None:
 def service_sweeps(program: str) -> None:
     """An object that nobody uses leaves by itself where the mover sweeps, and returns when it is missed."""
     service, client = opened(program, "--sweep", setup=["make 8", "put 1 0 2a"])
-    # Whoever looks uses it, so the looks are far apart.
-    until("the object doesn't leave by itself", lambda: client.ask("get 1 0 1") == "away 1", pause=0.1)
+    # Whoever looks uses it. So the looks are far apart, and ever farther, since a busy machine may keep the mover away between two of them.
+    pauses = (0.1 * 1.5**number for number in range(100))
+
+    def look() -> bool:
+        time.sleep(next(pauses))
+        return client.ask("get 1 0 1") == "away 1"
+
+    until("the object doesn't leave by itself", look)
     comes_back(client, "bytes 2a")
     want(client.end() == "" and service.ends_well({1: of_eight(42)}, may_be_out=True), "the end of a service that sweeps")
 

@@ -23,7 +23,7 @@ from typing import Callable, NamedTuple
 sys.path.insert(0, str(pathlib.Path(__file__).resolve().parents[1]))
 from lib.checks import Failed, run_parts, want
 from lib.far import NEVER, Far
-from lib.programs import Client, Server, Service, has_checks, is_heard, of_threads, processor_time, tells_what_is_out, threads_of, until
+from lib.programs import Client, Server, Service, has_checks, is_heard, of_threads, processor_time, slowness, tells_what_is_out, threads_of, until
 
 TRIES = 6
 # in how many turns processor time is measured
@@ -116,6 +116,16 @@ def measured(what: str, least: Callable[[], float], most: float, tries: int = TR
         if found[-1] <= most:
             return
     raise Slow(f"{what}: {found}, and not {most}")
+
+
+def in_time(what: str, took: Callable[[], float], most: float, tries: int = TRIES) -> None:
+    """The same of what the clock tells, of which a machine that is slow now may take more."""
+
+    def slowly() -> float:
+        found = took()
+        return found if found <= most else found / slowness()
+
+    measured(what, slowly, most, tries)
 
 
 def ship(number: int, code: str) -> str:
@@ -239,13 +249,13 @@ def show_trial(program: str, manner: str, workers: int, waiting: int, running: i
         elif waiting:
             measured("the share of a core that waits", lambda: trial.core(seconds), trial.bounds.core)
         asked = list(far.asked)
-        measured("replies, as a ratio to what they may take", trial.lateness, 1)
+        in_time("replies, as a ratio to what they may take", trial.lateness, 1)
         # a store that only lies does what clients ask of it meanwhile
         most = most_in_a_second(asked if manner == "lying" else list(far.asked))
         want(most <= REQUESTS, f"the far store is asked {most} times in a second")
         if manner in ("slow", "refusing"):
             trial.mend()
-        measured("the service ends after seconds", trial.ends_after, trial.bounds.end, 1)
+        in_time("the service ends after seconds", trial.ends_after, trial.bounds.end, 1)
 
 
 def show_trials(program: str) -> None:

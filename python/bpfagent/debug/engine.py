@@ -113,9 +113,12 @@ class Engine:
         return machine
 
     def begin_anew(self, agent: Conversation, is_service: bool) -> None:
-        """Forgets the machines and objects of an agent that has ended, for another. Breakpoints stay, and watched objects, which `watch_anew` sets."""
+        """Forgets the machines and objects of an agent that has ended, for another. Breakpoints stay, without their hits, and watched objects, which
+        `watch_anew` sets."""
         self.agent, self.is_service, self.has_worker, self.is_own = agent, is_service, False, False
         self.machines, self.objects = {}, {}
+        for point in self.breakpoints.values():
+            point.hits = 0
         for number in [watch.number for watch in self.watches.values() if watch.depth >= 0]:
             del self.watches[number]
 

@@ -4,10 +4,10 @@ from __future__ import annotations
 import operator
 import re
 from dataclasses import dataclass
-from typing import Callable, Collection, Mapping, Optional, Protocol
+from typing import Callable, Mapping, Optional, Protocol, Sequence
 
 from ..limits import LONGEST, WORD
-from .types import ARRAY, INTEGER, POINTER, UNSIGNED, VOID_TYPE, Type, member_bytes, number_of, pointer_to, shown
+from .types import ARRAY, INTEGER, POINTER, UNSIGNED, VOID_TYPE, Member, Type, member_bytes, number_of, pointer_to, shown
 
 TOKEN = re.compile(r"\s*(?:(0[xX][0-9a-fA-F]+|[0-9]+)|(\$?[A-Za-z_]\w*)|(->|[=!<>]=|&&|\|\||[-+*/%&.()\[\]<>!]))")
 # The digits of the greatest word, in each base.
@@ -85,21 +85,30 @@ def literal(token: str) -> Value:
     return integer(int(digits, base))
 
 
-# What stands for each value while an expression is only parsed.
+# The types of variables by their names; None where variables of one name have several.
+Names = Mapping[str, Optional[Type]]
+# What stands for a value of an unknown type while an expression is only parsed.
 NOTHING = Value(VOID_TYPE, why="it isn't computed")
+
+
+def unvalued(type_: Optional[Type]) -> Value:
+    """What stands for a value of this type."""
+    return Value(type_, why=NOTHING.why) if type_ else NOTHING
 
 
 class Unvalued:
     """The context of an expression that is only parsed: it has types and names, and no values."""
 
-    def __init__(self, types: Mapping[str, Type], names: Collection[str]) -> None:
+    def __init__(self, types: Mapping[str, Type], names: Names) -> None:
         self._types, self._names = types, names
 
     def named(self, name: str) -> Value:
         """The name of something that is there, though its value isn't."""
-        if name.lower() not in REGISTERS if name.startswith("$") else name not in self._names:
+        if name.startswith("$") and name.lower() in REGISTERS:
+            return unvalued(UNSIGNED)
+        if name.startswith("$") or name not in self._names:
             raise Invalid(f"nothing is called {name} there")
-        return NOTHING
+        return unvalued(self._names[name])
 
     def type_named(self, name: str) -> Optional[Type]:
         """The type of this name."""
@@ -135,8 +144,24 @@ class Parser:
         return found
 
     def _made(self, make: Callable[..., Value], *parts: object) -> Value:
-        """What an operation makes of its operands, which are parsed."""
-        return make(*parts) if self._is_evaluated else NOTHING
+        """What an operation makes of its operands, which are parsed; a value of its type alone if nothing is evaluated."""
+        return make(*parts) if self._is_evaluated else self._typed(make, parts)
+
+    def _typed(self, make: Callable[..., Value], parts: Sequence[object]) -> Value:
+        """The same as far as the types of its operands are known."""
+        first = parts[0]
+        if make is converted and isinstance(parts[1], Type):
+            return unvalued(parts[1])
+        if first is NOTHING or not isinstance(first, Value):
+            return NOTHING if first is NOTHING else unvalued(INTEGER)
+        if make == self._pointed:
+            return unvalued(target_of(first))
+        if make == self._member:
+            return unvalued(member_of(record_of(first, str(parts[1])), str(parts[2])).type)
+        if make is pointer_at:
+            return unvalued(pointer_to(first.type))
+        bare = first.type.bare
+        return unvalued(pointer_to(bare.target) if make is added and bare.kind in (POINTER, ARRAY) and bare.target else INTEGER)
 
     def _either(self) -> Value:
         return self._joined("||", self._both, either)
@@ -264,29 +289,41 @@ class Parser:
 
     def _pointed(self, pointer: Value) -> Value:
         """What a pointer points to."""
-        bare = pointer.type.bare
-        if bare.kind not in (POINTER, ARRAY) or not bare.target:
-            raise Invalid(f"this is no pointer, but {pointer.type}: cast it, as in *(uint64_t *)")
-        return self.at(bare.target, address_of(pointer))
-
-    def at(self, type_: Type, address: int) -> Value:
-        """The value of a type at an address."""
-        # no object has more bytes
-        if not 0 < type_.size <= LONGEST:
-            raise Invalid(f"{type_} has no size")
+        type_, address = target_of(pointer), address_of(pointer)
         return Value(type_, self._context.memory(address, type_.size), address)
 
     def _member(self, value: Value, sign: str, name: str) -> Value:
-        if sign == "->" or value.type.bare.kind == POINTER:
+        if record_of(value, sign) is not value.type:
             value = self._pointed(value)
-        if not value.type.is_record:
-            raise Invalid(f"{value.type} has no members")
-        member = value.type.member(name)
-        if not member:
-            names = ", ".join(member.name for member in value.type.bare.members if member.name)
-            raise Invalid(f"{value.type} has no member {name}; it has {names}")
+        member = member_of(value.type, name)
         address = None if value.address is None else value.address + member.offset
         return Value(member.type, member_bytes(member, value.bytes), address, is_part=bool(member.bits))
+
+
+def target_of(pointer: Value) -> Type:
+    """The type of what a pointer points to."""
+    bare = pointer.type.bare
+    if bare.kind not in (POINTER, ARRAY) or not bare.target:
+        raise Invalid(f"this is no pointer, but {pointer.type}: cast it, as in *(uint64_t *)")
+    # no object has more bytes
+    if not 0 < bare.target.size <= LONGEST:
+        raise Invalid(f"{bare.target} has no size")
+    return bare.target
+
+
+def record_of(value: Value, sign: str) -> Type:
+    """The struct or union that has the member behind a sign: that of the value, or of what it points to."""
+    return target_of(value) if sign == "->" or value.type.bare.kind == POINTER else value.type
+
+
+def member_of(record: Type, name: str) -> Member:
+    """The member of a struct or union."""
+    if not record.is_record:
+        raise Invalid(f"{record} has no members")
+    member = record.member(name)
+    if not member:
+        raise Invalid(f"{record} has no member {name}; it has {', '.join(member.name for member in record.bare.members if member.name)}")
+    return member
 
 
 def pointer_at(value: Value) -> Value:
@@ -367,6 +404,6 @@ def evaluate(text: str, context: Context) -> Value:
     return Parser(text, context).value()
 
 
-def parse(text: str, types: Mapping[str, Type], names: Collection[str]) -> None:
-    """Raises `Invalid` if an expression can't have a value: it can't be parsed, or names what isn't there."""
+def parse(text: str, types: Mapping[str, Type], names: Names) -> None:
+    """Raises `Invalid` if an expression can't have a value: it can't be parsed, names what isn't there, or asks a type for what it hasn't."""
     Parser(text, Unvalued(types, names), is_evaluated=False).value()

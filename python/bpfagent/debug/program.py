@@ -12,9 +12,10 @@ from typing import Optional, Sequence
 from ..image import Image, Unloadable, program_path
 from ..objectfile import SLOT, WIDE, instructions
 from ..starting import ended
+from .expressions import Names
 from .flow import Flow
 from .lines import NoDwarf, SourceLine, short
-from .symbols import Symbols, below
+from .symbols import Symbols, below, names_of
 
 EXIT = 0x95
 SECONDS = 30.0
@@ -82,10 +83,10 @@ class Program:
         function = self.symbols.function_at(slot) if self.symbols else None
         return function.name if function else ""
 
-    def names_at(self, slots: Sequence[int]) -> set[str]:
+    def names_at(self, slots: Sequence[int]) -> Names:
         """The names of the variables that are declared at one of these slots."""
         functions = [(slot, self.symbols.function_at(slot)) for slot in slots] if self.symbols else []
-        return {variable.name for slot, function in functions if function for scope in function.chain(slot) for variable in scope.variables}
+        return names_of(variable for slot, function in functions if function for scope in function.chain(slot) for variable in scope.variables)
 
     def place(self, text: str, here: Optional[SourceLine] = None) -> Place:
         """The place that FILE:LINE, LINE, FUNCTION or *SLOT means. A LINE alone is in the file of `here`."""

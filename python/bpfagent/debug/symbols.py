@@ -3,7 +3,7 @@ from __future__ import annotations
 
 import struct
 from dataclasses import dataclass, field
-from typing import TYPE_CHECKING, Any, Iterator, Optional, Sequence
+from typing import TYPE_CHECKING, Any, Iterable, Iterator, Optional, Sequence
 
 from ..image import Image
 from ..objectfile import SLOT, Linked, instructions, reading
@@ -143,6 +143,14 @@ def below(scope: Scope) -> Iterator[Scope]:
     yield scope
     for inner in scope.inner:
         yield from below(inner)
+
+
+def names_of(variables: Iterable[Variable]) -> dict[str, Optional[Type]]:
+    """The type of variables by their names; None where those of one name have several."""
+    found: dict[str, Optional[Type]] = {}
+    for variable in variables:
+        found[variable.name] = variable.type if found.get(variable.name, variable.type) is variable.type else None
+    return found
 
 
 def has_negative(function: Scope) -> bool:

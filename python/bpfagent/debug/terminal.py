@@ -17,14 +17,14 @@ from ..replies import Refused
 from . import views
 from .ending import Ending
 from .engine import Engine, Goal, Impossible, Stop, Unanswered
-from .expressions import Invalid, Value, evaluate, parse
+from .expressions import Invalid, Names, Value, evaluate, parse
 from .frames import Frame
 from .lines import NoDwarf, SourceLine
 from .points import Terms
 from .program import NoPlace, Program
 from .session import LEAVING
 from .stepping import Stepper
-from .symbols import Nowhere, below
+from .symbols import Nowhere, below, names_of
 from .types import FORMS, Type, formed_bytes
 
 # Where no home is known, this stays a path that can't be read or written.
@@ -370,12 +370,12 @@ class Terminal(cmd.Cmd):
             if not argument or number == max(self.displays):
                 print(f"{number}: {self._displayed(form, text)}")
 
-    def _names(self) -> tuple[Mapping[str, Type], set[str]]:
+    def _names(self) -> tuple[Mapping[str, Type], Names]:
         """The types of the program, and all names of its variables."""
         symbols = self._program().symbols
         if symbols is None:
-            return {}, set()
-        return symbols.named_types, {variable.name for function in symbols.functions for scope in below(function) for variable in scope.variables}
+            return {}, {}
+        return symbols.named_types, names_of(variable for function in symbols.functions for scope in below(function) for variable in scope.variables)
 
     def do_undisplay(self, argument: str) -> None:
         """undisplay [N]: no longer shows a value at each stop, or any."""

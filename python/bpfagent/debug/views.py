@@ -214,7 +214,8 @@ def or_else(lines: Iterable[str], none: str) -> Iterator[str]:
 def info_breakpoints(terminal: Terminal) -> Iterator[str]:
     """The breakpoints."""
     points = terminal.engine.breakpoints.values()
-    return or_else((f"{it.number}: {it.text} at {it}{', once' if it.terms.is_temporary else ''}, {it.hits} hits" for it in points), "no breakpoints")
+    lines = (f"{it.number}: {it.text} at {it}{', once' if it.terms.is_temporary else ''}, {it.hits} hit{'s' * (it.hits != 1)}" for it in points)
+    return or_else(lines, "no breakpoints")
 
 
 def info_watchpoints(terminal: Terminal) -> Iterator[str]:

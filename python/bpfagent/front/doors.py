@@ -107,12 +107,18 @@ def is_loopback(host: str) -> bool:
         return host == "localhost"
 
 
+def untaken(host: str, port: int, why: OSError) -> Unbound:
+    """Why a TCP port can't be listened on, in the system's words: Python adds to them, in several ways."""
+    reason = os.strerror(why.errno) if why.errno and why.errno > 0 else (why.strerror or str(why)).partition(" (while")[0]
+    return Unbound(f"{host}:{port}: {reason}")
+
+
 def tcp(host: str, port: int) -> socket.socket:
     """A socket that listens on a TCP port."""
     try:
         return socket.create_server((host, port), family=socket.AF_INET6 if ":" in host else socket.AF_INET, backlog=BACKLOG)
     except OSError as why:
-        raise Unbound(f"{host}:{port}: {why.strerror or why}") from None
+        raise untaken(host, port, why) from None
 
 
 def unix(path: Path, mode: int, group: Optional[int]) -> socket.socket:

@@ -9,6 +9,7 @@ from collections import Counter
 from typing import AsyncIterator, Callable, Iterator
 
 from ..limits import MACHINES, OBJECTS
+from .doors import untaken
 
 # The upper ends of the histogram's buckets, in seconds.
 BUCKETS = [0.00005, 0.0001, 0.00025, 0.0005, 0.001, 0.0025, 0.005, 0.01, 0.025, 0.05, 0.1, 0.25, 0.5, 1.0, 2.5]
@@ -181,7 +182,10 @@ async def told_on(host: str, port: int, numbers: Numbers, is_healthy: Callable[[
             await asyncio.wait_for(writer.drain(), PATIENCE)
         writer.close()
 
-    server = await asyncio.start_server(asked, host, port, limit=REQUEST_LIMIT)
+    try:
+        server = await asyncio.start_server(asked, host, port, limit=REQUEST_LIMIT)
+    except OSError as why:
+        raise untaken(host, port, why) from None
     try:
         yield server.sockets[0].getsockname()[1]
     finally:
