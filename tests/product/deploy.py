@@ -40,6 +40,8 @@ SCHEDULER, WORKER = {"app": "bpfagent-scheduler"}, {"app": "bpfagent-worker"}
 CLIENT, REDIS, OTHER = {"bpfagent-client": "true"}, {"bpfagent-redis": "true"}, {"app": "other"}
 REACHED = [(CLIENT, SCHEDULER, 8786), (WORKER, SCHEDULER, 8786), (SCHEDULER, WORKER, 8789), (WORKER, WORKER, 8789), (WORKER, REDIS, 6379)]
 PORTS = (22, 6379, 8786, 8787, 8788, 8789)
+# How long a command may take that ends at once on a quiet machine, in seconds.
+COMMAND = 600
 # How long a client waits that is to be served, also on a busy machine, and one that isn't, in seconds.
 SERVED, UNSERVED = 120, 15
 # Connects to a scheduler, with the files of a certificate if they are named, and has a worker compute. Each may take so many seconds.
@@ -68,12 +70,14 @@ def of_unit(program: str) -> None:
             unit = pathlib.Path(folder) / f"{name}7070.service"
             text = (DEPLOY / f"{name}.service").read_text().replace(f"{INSTALLED}-front", program).replace(INSTALLED, program)
             unit.write_text(text)
+            # The front says when clients may come, and so its socket may start it.
+            want("-front" not in name or "\nType=notify\n" in text and f"\nRequires={name}%i.socket\n" in text, f"{name} isn't started as it says")
             for socket in DEPLOY.glob(f"{name}.socket"):
                 unit.with_suffix(".socket").write_text(socket.read_text())
-            told = subprocess.run(["systemd-analyze", "verify", unit], capture_output=True, text=True, timeout=60)
+            told = subprocess.run(["systemd-analyze", "verify", unit], capture_output=True, text=True, timeout=COMMAND)
             want_equal((told.returncode, told.stderr), (0, ""), f"systemd-analyze verify {name}")
             reckoned = ["systemd-analyze", "security", "--offline=true", f"--threshold={EXPOSURE}", unit]
-            told = subprocess.run(reckoned, capture_output=True, text=True, timeout=60)
+            told = subprocess.run(reckoned, capture_output=True, text=True, timeout=COMMAND)
             want_equal(told.returncode, 0, f"systemd-analyze security {name}: {told.stdout[-200:]}")
             exposures.append(float(re.search(r"exposure level for \S+: ([0-9.]+)", told.stdout)[1]))
     want(exposures[1] <= exposures[0], f"the front's unit is exposed more than the service's: {exposures}")
@@ -90,7 +94,7 @@ def want_options(command: list[str]) -> None:
     """Dask's commands have these options."""
     if not shutil.which(command[0]):
         return
-    shown = subprocess.run([command[0], "--help"], capture_output=True, text=True, timeout=60, env={**os.environ, "COLUMNS": "200"}).stdout.split()
+    shown = subprocess.run([command[0], "--help"], capture_output=True, text=True, timeout=COMMAND, env={**os.environ, "COLUMNS": "200"}).stdout.split()
     known = {word for group in shown for word in group.replace(",", " ").split()}
     for word in command[1:]:
         want(not word.startswith("--") or word in known, f"{command[0]} has no option {word}")
@@ -163,6 +167,10 @@ def of_policies(program: str) -> None:
             for port in PORTS:
                 is_reached = is_let(policies, "Egress", one, other, port) and is_let(policies, "Ingress", other, one, port)
                 want_equal(is_reached, (one, other, port) in REACHED, f"whether {one} reaches port {port} of {other}")
+    for pod in (SCHEDULER, WORKER):
+        rules = [rule for it in policies if selects(it["spec"]["podSelector"], pod) for rule in it["spec"].get("egress", [])]
+        ports = {(it["protocol"], it["port"]) for rule in rules if any("namespaceSelector" in to for to in rule["to"]) for it in rule["ports"]}
+        want_equal(ports, {("UDP", 53), ("TCP", 53)}, f"what {pod} reaches in other namespaces, to find names")
 
 
 def of_compose(program: str) -> None:
@@ -218,7 +226,7 @@ def certificate(folder: pathlib.Path) -> None:
     """Makes the fleet's certificate, by the command of compose.yaml."""
     text = re.sub(r"\n#\s*", " ", (DEPLOY / "compose.yaml").read_text().replace("\\\n", "\n"))
     command = re.search(r"openssl req .*?-out out/tls/cert\.pem", text)[0]
-    subprocess.run(command.replace("out/tls", str(folder)).split(), check=True, capture_output=True, timeout=60)
+    subprocess.run(command.replace("out/tls", str(folder)).split(), check=True, capture_output=True, timeout=COMMAND)
 
 
 @contextlib.contextmanager
