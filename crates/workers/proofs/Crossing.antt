@@ -21,6 +21,7 @@ use Rattle.workers.specs.contracts.cell.Locked.TheInside as Inside
 use Rattle.workers.specs.contracts.cell.Occupied as Occupied
 use Rattle.workers.specs.contracts.cell.MachineCell as MachineCell
 use Rattle.workers.specs.contracts.requests.Requests as Requests
+use Rattle.workers.specs.contracts.passages.Passages as Passages
 use Rattle.workers.specs.contracts.pool.Pool as Pool
 use Rattle.workers.specs.contracts.movers.Mover as Mover
 use Rattle.workers.specs.contracts.movers.Mover.TheInside as MoverInside
@@ -54,6 +55,9 @@ module _ (K : RattleType) (g : Ghosts K.Denot) where
   pub occupied_send : IsSend (Occupied.the_row K g)
   occupied_send = search (sendable, crosses) depth 60 fits 20000
 
+  pub passages_sync : IsSync (Passages.the_row K g)
+  passages_sync = search (sendable, crosses) depth 60 fits 20000
+
   pub cell_sync : IsSync (MachineCell.the_row K g)
   cell_sync = search (locked_send, sendable, crosses) depth 60 fits 20000
 
@@ -72,7 +76,7 @@ module _ (F K P : RattleType) (gF : FarStores.Ghosts F.Denot P.Denot) (gK : Ghos
           search (sendable, crosses, shared.the_sync, lease.the_sync) depth 60 fits 5000,
           (
             search (sendable, crosses, shared.the_send, lease.the_send) depth 60 fits 5000,
-            (requests_sync, (search crosses, (search crosses, (search crosses, tt)))),
+            (requests_sync, (search crosses, (search crosses, (search crosses, (search (passages_sync, sendable, crosses) depth 20, tt))))),
           ),
         ),
       ),

@@ -6,6 +6,7 @@ mod closing;
 mod gate;
 mod job;
 mod movers;
+mod passages;
 mod patience;
 mod pool;
 mod requests;

@@ -15,6 +15,7 @@ use crate::cell::{Locked, MachineCell, Occupied, Ticket};
 use crate::closing::{PoolParts, parts_of};
 use crate::gate::Gate;
 use crate::job::{Direction, Job, Request, put_into};
+use crate::passages::Passages;
 use crate::patience::give_time;
 use crate::requests::Requests;
 use crate::table_name::TableName;
@@ -58,9 +59,8 @@ pub struct Pool<F: FarStore, K: TableName> {
     called: AtomicU64,
     // how many workers run whose gate is told of no instruction
     working: AtomicU64,
+    passages: Passages<K>,
     pub ghost of: { IsTableOf K.table K.opening shared.table },
-    // only here is it told what a lock lent, and with what it was left
-    ghost passages: { K.lent ≡ each_lent },
 }
 
 /// How a turn of a machine ended.
@@ -227,6 +227,7 @@ impl<F: FarStore, K: TableName> Pool<F, K> {
             queued: AtomicU64::new(0),
             called: AtomicU64::new(0),
             working: AtomicU64::new(0),
+            passages: Passages::new(),
         })
     }
 
@@ -250,20 +251,6 @@ impl<F: FarStore, K: TableName> Pool<F, K> {
         self.cells.get(number - 1)
     }
 
-    /// Says that a lock of a cell lent this.
-    fn tell_lent(&self, _locked: &Locked<K>)
-        ensures { K.lent (Lends _locked.now) ≡ true }
-    {
-        let _count = self.cells.len();
-    }
-
-    /// Says that a lock of a cell is left with this.
-    fn tell_left(&self, _locked: &Locked<K>)
-        ensures { K.lent (Leaves _locked.now) ≡ true }
-    {
-        let _count = self.cells.len();
-    }
-
     /// The lock of the cell of a number, if there are so many, once nobody else has it, with what it lends.
     pub fn lend<'a, R: Wait>(&'a self, rt: &R, number: usize) -> Option<MutexGuard<'a, Locked<K>>>
         ensures none { IfNone result ((1 ≤ number) × (number ≤ length self.now.cells.items) → ⊥) }
@@ -274,7 +261,7 @@ impl<F: FarStore, K: TableName> Pool<F, K> {
             return None;
         }
         let locked = self.cells[number - 1].lock(rt);
-        self.tell_lent(&locked);
+        self.passages.lent(&locked);
         Some(locked)
     }
 
@@ -282,7 +269,7 @@ impl<F: FarStore, K: TableName> Pool<F, K> {
     pub fn give_back(&self, locked: MutexGuard<'_, Locked<K>>)
         ensures { K.lent (Leaves (mutex_guard_value locked.entry)) ≡ true }
     {
-        self.tell_left(&locked);
+        self.passages.left(&locked);
     }
 
     /// Of the first so many cells those that are known to have machines.
@@ -630,6 +617,7 @@ impl<F: FarStore, K: TableName> Pool<F, K> {
             queued: _,
             called: _,
             working: _,
+            passages: _,
         } = self;
         let (seats, cells) = parts_of(alloc, cells)?;
         Ok(PoolParts {

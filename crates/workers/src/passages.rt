@@ -1,0 +1,48 @@
+//! What passes at the locks of cells.
+ghost use Rattle.std.specs.Prelude.{◌≡◌, true};
+ghost use Rattle.workers.specs.TableNames.{each_lent};
+ghost use Rattle.workers.specs.TableNames.Passage.{Lends, Leaves};
+
+use crate::cell::Locked;
+use crate::table_name::TableName;
+use std::marker::{Model, PhantomData};
+
+/// Says what the lock of a cell lent, and with what it was left. A pool has one and shows it to nobody, so who serves can't say so.
+#[derive(Drop)]
+pub struct Passages<K: TableName> {
+    of: PhantomData<K>,
+}
+
+impl<K: TableName> Model for Passages<K> {
+    ghost use Rattle.std.specs.Prelude.{◌≡◌, ⊤};
+    ghost use Rattle.workers.specs.TableNames.{each_lent};
+
+    ghost Value = { ⊤ };
+
+    ghost view = { λ p. tt };
+
+    ghost invariant = { λ p. K.lent ≡ each_lent };
+}
+
+impl<K: TableName> Passages<K> {
+    /// Those of the table that K names.
+    pub fn new() -> Self
+        requires { K.lent ≡ each_lent }
+    {
+        Passages { of: PhantomData }
+    }
+
+    /// Says that a lock of a cell lent this.
+    pub fn lent(&self, _locked: &Locked<K>)
+        ensures { K.lent (Lends _locked.now) ≡ true }
+    {
+        let _of = &self.of;
+    }
+
+    /// Says that a lock of a cell is left with this.
+    pub fn left(&self, _locked: &Locked<K>)
+        ensures { K.lent (Leaves _locked.now) ≡ true }
+    {
+        let _of = &self.of;
+    }
+}
