@@ -547,7 +547,7 @@ def measured(program: str, is_short: bool) -> Bench:
         delays = (0, 200) if is_short else (0, 200, 1_000)
         bench = Bench(program, pathlib.Path(folder), data_of(objects), 3 if is_short else 1_000, 1 if is_short else 5, delays)
         bench.build()
-        lists = [Task("list", f"list of {hops}", address(LIST), hops) for hops in ((1, 10) if is_short else (1, 3, 10, 100))]
+        lists = [Task("list", f"list of {hops}", address(LIST), hops) for hops in ((1, 100) if is_short else (1, 3, 10, 100))]
         tasks = [*lists, Task("tree", "tree", bench.data.root, TREE_KEYS), Task("table", "table", 0, KEYS)]
         with others(bench):
             for _ in range(bench.rounds):
