@@ -278,21 +278,23 @@ def all_back(made, count: int) -> None:
 
 class Killer(threading.Thread):
     """Kills a worker every so many seconds, within its block. It waits while half of the workers are dead, since on a busy machine
-    they might all be starting forever."""
+    they might all be starting forever, and asks for them anew, since Dask gives up one that dies while it starts."""
 
     def __init__(self, made, seconds: float) -> None:
         super().__init__(daemon=True)
         self.made, self.seconds, self.ended, self.killed = made, seconds, threading.Event(), 0
-        self.half = len(made.scheduler.workers) // 2
+        self.count = len(made.scheduler.workers)
 
     def run(self) -> None:
         chance = random.Random(1)
         while not self.ended.wait(self.seconds):
             alive = [it.pid for it in list(self.made.scheduler.workers.values())]
-            if len(alive) > self.half:
+            if len(alive) > self.count // 2:
                 with contextlib.suppress(ProcessLookupError):
                     os.kill(chance.choice(alive), signal.SIGKILL)
                     self.killed += 1
+            elif not self.ended.wait(1):
+                self.made.scale(self.count)
 
     def __enter__(self) -> Killer:
         self.start()

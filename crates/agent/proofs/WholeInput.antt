@@ -26,7 +26,7 @@ shown_whole : (showing : Showing) (limit : ℕ) (input : List ℕ) (result : Res
     → Disassembles showing (take limit input) result → Disassembles showing input result
 shown_whole showing limit input (Ok text) is h =
     subst (λ bytes. Disassembles showing bytes (Ok text))
-        (short 32768 limit input is (shown_short showing.is_llvm showing.has_slots (take limit input) text h)) h
+    (short 32768 limit input is (shown_short showing.is_llvm showing.has_slots (take limit input) text h)) h
 shown_whole showing limit input (Err (Refused error)) is h = (refused limit error.why error.slot input is h.0, h.1)
 shown_whole showing limit input (Err NoMemory) is h = tt
 shown_whole showing limit input (Err Read) is h = tt
