@@ -16,7 +16,7 @@ class Unkept(Exception):
     """Redis can't be reached, or it answered an error. `is_reached` says which."""
 
     def __init__(self, why: str, is_reached: bool = True) -> None:
-        super().__init__(why)
+        super().__init__(why.strip() or "an error without a text")
         self.is_reached = is_reached
 
 

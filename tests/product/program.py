@@ -23,13 +23,13 @@ import tempfile
 from typing import Any, Collection, Iterator, Sequence
 
 sys.path.insert(0, str(pathlib.Path(__file__).resolve().parents[1]))
-import fuzz
 from lib import package
 from lib.checks import run_parts, want, want_equal
 from lib.far import greeted
 from lib.programs import Process, ended, has_checks, of_data, patience, unreadable
 from lib.scripts import Talk, conversations
 from lib.sources import ROOT, pages
+from product import fuzz
 from reference.instructions import ROWS, USED, ZERO, Row
 
 EXIT = bytes.fromhex("9500000000000000")
