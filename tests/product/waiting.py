@@ -49,6 +49,8 @@ COUNTED = 0.5
 ADDING, QUIET = 4, 0.3
 # ldxdw r0, [r1] · exit
 LOADS = "7910000000000000" + EXIT
+# ldxdw r0, [r1] · ldxdw r0, [r2] · ldxdw r0, [r3] · ja -1, and the least bound of what is kept
+USES, BOUND = "7910000000000000" "7920000000000000" "7930000000000000" "0500ffff00000000", 65_536
 # add r3, 1 · ja -2
 COUNTS = "0703000001000000" "0500feff00000000"
 # lock add [r1], r2 · ja -2
@@ -285,10 +287,26 @@ def idle(program: str, workers: int) -> float:
         return found
 
 
+def idle_without_room(program: str) -> float:
+    """The same of one with more in use than it keeps: a machine is paused with three objects in scope."""
+    setup = [*[f"make {BOUND}"] * 3, f"ship {FUEL} {1 << 32} {2 << 32} {3 << 32} 0 0 {USES}", "break 1 3"]
+    with Service(program, "--keep", BOUND, "--workers", 1, setup=setup) as service, Client(service) as client:
+        until("the machine isn't paused", lambda: client.ask("regs 1").split()[4] == "paused")
+        time.sleep(0.2)
+        before = switches(service.process.pid)
+        time.sleep(1)
+        found = switches(service.process.pid) - before
+        for number in (1, 2, 3):
+            want(client.ask(f"get {number} 0 1") == "bytes 00", f"object {number}, which is in scope")
+        want(client.end() == "" and service.texts()[0] == 0, "the end of a service without room")
+        return found
+
+
 def show_idle(program: str) -> None:
     """Nobody runs who has nothing to do."""
     for workers in (1, 2, 16):
         measured(f"context switches a second, {workers} workers", lambda: idle(program, workers), SWITCHES)
+    measured("context switches a second, more in use than is kept", lambda: idle_without_room(program), SWITCHES)
 
 
 def show_too_many(program: str) -> None:
