@@ -12,6 +12,7 @@ import re
 import sys
 import threading
 import time
+from typing import Callable
 
 sys.path.insert(0, str(pathlib.Path(__file__).resolve().parents[1]))
 from lib.checks import run_parts, want, want_equal
@@ -24,6 +25,8 @@ OBJECTS, LENGTH = 256, 4096
 MACHINES = 4
 # How many objects a machine keeps in scope.
 SCOPES = 4
+# How long it may take until a few objects leave or the service ends, also on a busy machine, in seconds.
+SOON = 60
 # How long they walk at least, in seconds, and how many objects leave meanwhile, by a program without checks.
 WALKS, LEAVE = 3, 300
 END = re.compile(
@@ -76,11 +79,16 @@ class Here:
 
     def end(self, service: Service) -> list[int]:
         """The numbers of the last line, once the service has ended."""
-        status = service.process.wait(timeout=60)
-        self._thread.join(60)
+        status = service.process.wait(timeout=SOON)
+        self._thread.join(SOON)
         found = END.fullmatch(self.last)
         want(status == 0 and found is not None, f"the service ends with {status} and {self.last}")
         return [int(number) for number in found.groups()] if found else []
+
+
+def soon(what: str, look: Callable[[], object]) -> None:
+    """Waits until the mover has moved a few objects."""
+    until(what, look, SOON)
 
 
 def code_of(program: str, text: str) -> str:
@@ -95,7 +103,7 @@ def show_start(program: str) -> None:
     service = Service(program, "--keep", 2 * MOST, "-v", setup=[f"make {MOST}"] * 4)
     with service, Client(service) as client:
         told = Here(service, 4)
-        until("two objects don't leave", lambda: len(told.left) == 2)
+        soon("two objects don't leave", lambda: len(told.left) == 2)
         time.sleep(0.2)
         want_equal(told.left, [1, 2], "the objects that leave")
         client.end()
@@ -108,11 +116,11 @@ def show_second_chance(program: str) -> None:
     service = Service(program, "--keep", 2 * MOST, "--workers", 0, "-v", setup=[f"make {MOST}"] * 4)
     with service, Client(service) as client:
         told = Here(service, 4)
-        until("two objects don't leave", lambda: len(told.left) == 2)
+        soon("two objects don't leave", lambda: len(told.left) == 2)
         for used, back, left in ((3, 1, [1, 2, 4]), (1, 2, [1, 2, 4, 3])):
             client.ask_until(f"get {used} 0 1", "bytes 00")
             want_equal(client.ask(f"return {back}"), f"asked {back}", "an object that is to come back")
-            until(f"no object makes room for object {back}: {told.left}", lambda: len(told.left) == len(left))
+            soon(f"no object makes room for object {back}: {told.left}", lambda: len(told.left) == len(left))
             want_equal(told.left, left, "the objects that leave")
         client.end()
         told.end(service)
@@ -124,10 +132,10 @@ def show_in_use(program: str) -> None:
     service = Service(program, "--keep", MOST, "--workers", 1, "-v", setup=[f"make {MOST}"] * 3)
     with service, Client(service) as client:
         told = Here(service, 3)
-        until("objects don't leave at the start", lambda: len(told.here) == 1)
+        soon("objects don't leave at the start", lambda: len(told.here) == 1)
         want_equal(client.ask(f"ship {4_000_000 // patience(program)} 0 0 0 0 0 {code}"), "shipped 1", "the machine")
         until("the machine doesn't end", lambda: client.ask("regs 1").split()[4] == "spent")
-        until("objects don't leave", lambda: len(told.here) == 1)
+        soon("objects don't leave", lambda: len(told.here) == 1)
         client.end()
         numbers = told.end(service)
     want_equal(numbers[:4], [1, MOST, 2, 2 * MOST], "what is here and far at the end")
