@@ -1,7 +1,7 @@
 #!/usr/bin/env python3
 """Reads what `bpfagent serve -v` writes to standard error: verbose.py PROGRAM
 
-A whole session over a far store, a port that is taken, a far server that isn't there; without `-v` nothing.
+A whole session over a far store, one that ends with forgets kept back, a port that is taken, a far server that isn't there; without `-v` nothing.
 """
 from __future__ import annotations
 
@@ -15,7 +15,7 @@ import time
 sys.path.insert(0, str(pathlib.Path(__file__).resolve().parents[1]))
 from lib.checks import run_parts, want, want_equal
 from lib.far import Far
-from lib.programs import SECONDS, Server, Service, ended, noted, opened, tells_what_is_out
+from lib.programs import SECONDS, Listener, Server, Service, ended, noted, opened, tells_what_is_out
 
 # Closing such a socket breaks its connection.
 AT_ONCE = struct.pack("ii", 1, 0)
@@ -30,12 +30,13 @@ END = (
 OUT = "1 object of 24 bytes is far at the end, and stays in the far store, if that still runs"
 # What differs from session to session in the last line but one.
 VARIES = re.compile(r"in \d+ ms, 0 evictions, \d+ failures,")
+TIME = re.compile(r"in \d+ ms")
 
 
 class Told:
-    """What a service writes to standard error, read as it comes."""
+    """What a service or a far store writes to standard error, read as it comes."""
 
-    def __init__(self, service: Service, is_told: bool) -> None:
+    def __init__(self, service: Listener, is_told: bool) -> None:
         self.service = service
         self.is_told = is_told
         self.errors = b""
@@ -51,7 +52,7 @@ class Told:
             self.errors += line
 
     def end(self) -> tuple[bytes, bytes]:
-        """The service ends: its output, and all that it wrote to standard error."""
+        """It ends: its output, and all that it wrote to standard error."""
         self.errors += self.service.process.stderr.read()
         status, output, _ = self.service.end()
         want_equal(status, 0, "the end of the service")
@@ -105,6 +106,29 @@ def show_session(program: str) -> None:
     want_equal(ordered, wanted, "the notes of a session")
 
 
+def show_kept_back(program: str) -> None:
+    """An object has come home, and the service ends while it keeps the forget of its parcel back. Neither side tells of a stream that broke."""
+    with Server(program, "-v") as far:
+        service, client = opened(program, "-v", "--far", f"127.0.0.1:{far.port}", "--workers", 0, setup=["make 8"])
+        told = Told(service, True)
+        for command, note in (("leave 1", "object 1 left"), ("return 1", "object 1 returned")):
+            want_equal(client.ask(command), "asked 1", command)
+            told.hear(note)
+        want_equal(client.end(), "", "the end of the client")
+        notes, others = noted(told.end()[1])
+        wanted = [
+            f"connected to the far server 127.0.0.1:{far.port}", f"listening on 127.0.0.1:{service.port}", "client 1 came", "object 1 left",
+            "object 1 returned", "client 1 went",
+            "the service ends: 1 object of 8 bytes here, 0 objects of 0 bytes far; 8 bytes left, 8 bytes returned, 1 fault in T ms, 0 evictions, "
+            "0 failures, 0 passes of the bound",
+        ]
+        want_equal(([TIME.sub("in T ms", note) for note in notes], others), (wanted, []), "the notes of a service that keeps a forget back")
+        kept = Told(far, True)
+        kept.hear("client 1 went")
+        far.give("")
+        want_equal(noted(kept.end()[1]), ([f"listening on 127.0.0.1:{far.port}", "client 1 came", "client 1 went"], []), "the notes of its far store")
+
+
 def show_silence(program: str) -> None:
     """Without the flag the same session says what becomes of an object that is far at the end, if it had left in time, and nothing else."""
     with Server(program) as far:
@@ -144,4 +168,4 @@ def show_refusals(program: str) -> None:
 
 
 if __name__ == "__main__":
-    run_parts("verbose", [show_session, show_silence, show_slow_server, show_refusals])
+    run_parts("verbose", [show_session, show_kept_back, show_silence, show_slow_server, show_refusals])

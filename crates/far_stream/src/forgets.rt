@@ -49,11 +49,6 @@ impl Forgets {
         self.ids.len() >= DEFERRED_LIMIT
     }
 
-    /// Whether there is none.
-    pub fn is_empty(&self) -> bool {
-        self.ids.is_empty()
-    }
-
     /// Keeps one more back.
     pub fn keep(&mut self, id: u64)
         requires { length self.old < deferred_limit }

@@ -242,33 +242,58 @@ fn so_many_forgets_are_kept_back(rt: HostRuntime) {
     same!(rt; forgotten(rt.alloc(), DEFERRED + 1), Some((1, true)));
 }
 
-/// What `settle` writes after a put and a forget, and after one more call of it.
-fn settled(alloc: Global, says: &[u8]) -> ([usize; 3], u64) {
-    let heard = Heard::new();
-    let mut store = DeferringStore::new(alloc, Wire::new(says, SETTLED, &heard));
+/// A store over this wire after a put of `abc` and its forget.
+fn kept_back<'a>(alloc: Global, wire: Wire<'a>) -> DeferringStore<Wire<'a>> {
+    let mut store = DeferringStore::new(alloc, wire);
     if let Ok(bytes) = b"abc".as_slice().to_vec(alloc)
         && let Ok(parcel) = store.put(bytes)
     {
         store.forget(parcel);
     }
-    let before = heard.writes.get();
-    store.settle();
-    let after = heard.writes.get();
-    store.settle();
-    ([before, after, heard.writes.get()], store.faults())
+    store
 }
 
-/// A put of `abc` as id 1, its forget, and a forget of id 0.
-const SETTLED: &[u8] =
-    b"\x01\0\0\0\0\0\0\0\x01\0\0\0\x03abc\x03\0\0\0\0\0\0\0\x01\0\0\0\0\x03\0\0\0\0\0\0\0\0\0\0\0\0";
+/// How many writes there were after a put and a forget, after `reach`, and after one more call of it; and the faults.
+fn reached(alloc: Global, says: &[u8]) -> ([usize; 3], u64, bool) {
+    let heard = Heard::new();
+    let mut store = kept_back(alloc, Wire::new(says, REACHED, &heard));
+    let before = heard.writes.get();
+    let _found = store.reach();
+    let after = heard.writes.get();
+    let is_right = heard.is(REACHED_ONCE);
+    let _found = store.reach();
+    (
+        [before, after, heard.writes.get()],
+        store.faults(),
+        is_right,
+    )
+}
 
-/// Forgets that are left are sent at the end, once.
+/// A put of `abc` as id 1, its forget, and two forgets of id 0.
+const REACHED: &[u8] =
+    b"\x01\0\0\0\0\0\0\0\x01\0\0\0\x03abc\x03\0\0\0\0\0\0\0\x01\0\0\0\0\x03\0\0\0\0\0\0\0\0\0\0\0\0\x03\0\0\0\0\0\0\0\0\0\0\0\0";
+
+/// How many of these bytes come before the last of the forgets.
+const REACHED_ONCE: usize = 42;
+
+/// Forgets that are left are sent by `reach`, once.
 #[test]
-fn forgets_are_settled(rt: HostRuntime) {
+fn forgets_that_are_left_are_sent(rt: HostRuntime) {
     let says =
-        b"\0\0\0\0\0\0\0\0\x01\0\0\0\0\0\0\0\0\0\0\0\0\x01\0\0\0\0\x01\0\0\0\0\0\0\0\0\0\0\0\0";
-    same!(rt; settled(rt.alloc(), says), ([1, 2, 2], 0));
-    same!(rt; settled(rt.alloc(), DONE_ONE), ([1, 2, 2], 1));
+        b"\0\0\0\0\0\0\0\0\x01\0\0\0\0\0\0\0\0\0\0\0\0\x01\0\0\0\0\x01\0\0\0\0\0\0\0\0\0\0\0\0\x01\0\0\0\0\0\0\0\0\0\0\0\0";
+    same!(rt; reached(rt.alloc(), says), ([1, 2, 3], 0, true));
+    same!(rt; reached(rt.alloc(), DONE_ONE), ([1, 2, 2], 2, true));
+}
+
+/// A store that is dropped sends no forget that it kept back.
+#[test]
+fn forgets_are_dropped_with_the_store(rt: HostRuntime) {
+    let heard = Heard::new();
+    let store = kept_back(rt.alloc(), Wire::new(DONE_ONE, REACHED, &heard));
+    same!(rt; (heard.writes.get(), heard.reads.get()), (1, 1));
+    drop(store);
+    same!(rt; (heard.writes.get(), heard.reads.get()), (1, 1));
+    same!(rt; heard.is(PUT_ASKS), true);
 }
 
 /// Rounds of a put, a get and a forget, of these bytes, or of their beginning: how many were right, and how many faults there

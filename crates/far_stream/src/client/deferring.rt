@@ -118,14 +118,6 @@ impl<S: Read + Write + Drop> StreamStore<S> {
         read_forgotten(&mut self.stream, id)
     }
 
-    /// Sends these forgets, if there are any and the stream is well.
-    fn settle(&mut self, forgets: &mut Forgets) {
-        if !forgets.is_empty() && self.broken.is_none() {
-            let found = self.send_forget(forgets, 0);
-            let _told = self.noted(found);
-        }
-    }
-
     /// Counts what a request found, where that is a fault.
     fn noted<A>(&mut self, found: Result<A, StoreFault>) -> Result<A, StoreFault>
         ensures result { result ≡ found }
@@ -142,18 +134,12 @@ impl<S: Read + Write + Drop> StreamStore<S> {
 
 /// A [`StreamStore`] whose forgets wait for nothing: a forget is kept back, and sent ahead of the next request, in one write with
 /// it. Then its answer is read. A fault that a forget meets is counted there, and is that request's answer too. At most 64 forgets
-/// are kept back: one more is sent at once, with them. When it is dropped it sends those that are left, if the stream is well.
+/// are kept back: one more is sent at once, with them. [`DeferringStore::reach`] sends those that are left. When it is
+/// dropped it sends none: a server drops what it keeps for a client that goes.
+#[derive(Drop)]
 pub struct DeferringStore<S: Read + Write + Drop> {
     client: StreamStore<S>,
     forgets: Forgets,
-}
-
-impl<S: Read + Write + Drop> Drop for DeferringStore<S> {
-    fn drop(self) {
-        let DeferringStore { client, forgets } = self;
-        let (mut client, mut forgets) = (client, forgets);
-        client.settle(&mut forgets);
-    }
 }
 
 impl<S: Read + Write + Drop> Model for DeferringStore<S> {
@@ -197,11 +183,6 @@ impl<S: Read + Write + Drop> DeferringStore<S> {
     {
         let found = self.client.send_forget(&mut self.forgets, 0);
         self.client.noted(found)
-    }
-
-    /// Sends the forgets that are kept back, if there are any and the stream is well.
-    pub fn settle(&mut self) {
-        self.client.settle(&mut self.forgets);
     }
 }
 
