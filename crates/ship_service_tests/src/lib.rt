@@ -10,6 +10,8 @@ mod commands;
 #[cfg(test)]
 mod compared;
 #[cfg(test)]
+mod debugging;
+#[cfg(test)]
 mod devices;
 #[cfg(test)]
 mod listening;

@@ -23,7 +23,7 @@ const BUDGET: u32 = 1 << 26;
 
 /// What a service left that began with a world, beside what was answered.
 #[derive(Clone, Copy, Drop, Debug, PartialEq, Eq)]
-struct Left {
+pub struct Left {
     /// How many connections there are, and how many of them said something.
     connections: usize,
     conversations: usize,
@@ -35,13 +35,13 @@ struct Left {
 
 /// A world, and a service that begins with it.
 #[derive(Clone, Copy, Drop)]
-struct Script {
+pub struct Script {
     /// What the world is told, and answers.
-    world: Lines<'static>,
+    pub world: Lines<'static>,
     /// How many numbers a worker takes out of the queue before the first connection.
-    turns: u64,
+    pub turns: u64,
     /// What each connection says, one after the other, and what it is answered.
-    connections: &'static [Lines<'static>],
+    pub connections: &'static [Lines<'static>],
 }
 
 /// A service that began with a world.
@@ -65,6 +65,13 @@ fn world_tells(
     drive(&mut reader, &mut writer, &mut console, world)?;
     same!(rt; writer.taken.as_slice(), wanted);
     Ok(())
+}
+
+/// A world that was told this, and answered so.
+pub fn world_after(rt: &impl Abort, alloc: Global, lines: Lines) -> Result<World<OwnStore>, Fail> {
+    let mut world = World::new(alloc, BUDGET, OwnStore::new(alloc))?;
+    world_tells(rt, alloc, &mut world, lines)?;
+    Ok(world)
 }
 
 /// The service begins.
@@ -140,8 +147,7 @@ fn carry_on<R: Wait + Abort>(
     turns: u64,
     table: &[Lines],
 ) -> Result<Result<Left, OpenAgent>, Fail> {
-    let mut world = World::new(alloc, BUDGET, OwnStore::new(alloc))?;
-    world_tells(rt, alloc, &mut world, lines)?;
+    let world = world_after(rt, alloc, lines)?;
     match Opened::new(alloc, world) {
         Ok(opened) => Ok(serves::<OwnStore, Brand, R>(rt, alloc, opened, turns, table)),
         Err(why) => Ok(Err(why)),
@@ -149,7 +155,7 @@ fn carry_on<R: Wait + Abort>(
 }
 
 /// The world and the service of a script answer so.
-fn carry<R: Wait + Abort>(
+pub fn carry<R: Wait + Abort>(
     rt: &R,
     alloc: Global,
     script: &Script,
@@ -185,7 +191,7 @@ const WITHOUT_OBJECTS: &Script = &Script {
 };
 
 /// What one connection of a service left, whose worker did so many instructions of machine 3.
-fn one_said(done: u64, moved: Moved) -> Result<Left, OpenAgent> {
+pub fn one_said(done: u64, moved: Moved) -> Result<Left, OpenAgent> {
     Ok(Left {
         connections: 8,
         conversations: 1,
