@@ -12,7 +12,7 @@ use crate::common::program;
 use crate::gates::{Heard, LeftByFour, LeftByTwo, four, looks_at_fuel, numbers, two};
 use crate::leaving::steps;
 use crate::lent_turns::{LentLeft, turns_lent};
-use crate::locks::{Lent, lent_thrice};
+use crate::locks::{Lent, lent_after_turn, lent_thrice};
 use crate::moving::{MovesLeft, moves};
 use crate::turns::{Plan, TurnsLeft, turned};
 use crate::untold::{beside, beside_waiting};
@@ -47,6 +47,7 @@ pub enum Course {
     Fuel,
     Steps,
     Locks,
+    Worked,
     Moves,
     Turns(Plan),
     Waits,
@@ -64,6 +65,7 @@ pub enum Left {
     Fuel([u64; 2]),
     Steps([(Option<StepReply>, bool); 4]),
     Locks([Lent; 3]),
+    Worked(Lent),
     Moves(MovesLeft),
     Turns([TurnsLeft; 2]),
     Waits([[bool; 2]; 3]),
@@ -89,6 +91,7 @@ fn left_by<K: TableName + Send + Sync, R: Threads + Wait + Sync>(
         Course::Fuel => Ok(Left::Fuel(looks_at_fuel(rt, alloc, pool))),
         Course::Steps => Ok(Left::Steps(steps(rt, pool, mover))),
         Course::Locks => Ok(Left::Locks(lent_thrice(rt, pool))),
+        Course::Worked => Ok(Left::Worked(lent_after_turn(rt, pool))),
         Course::Moves => Ok(Left::Moves(moves(rt, alloc, pool, mover)?)),
         Course::Turns(plan) => Ok(Left::Turns(turned(rt, alloc, pool, mover, plan))),
         Course::Waits => Ok(Left::Waits(waits(rt, alloc, pool, mover)?)),

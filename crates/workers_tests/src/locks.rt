@@ -7,7 +7,8 @@ use debugger::{DebugCommand, Way};
 use far_store::{FarStore, OwnStore};
 use std::sync::Wait;
 use std::test::Fail;
-use workers::{Pool, TableName};
+use test_gates::UntoldRounds;
+use workers::{Pool, TableName, work};
 
 /// Up to which stamp machine 1 has seen, and whether it goes on.
 pub type Lent = Option<(u64, bool)>;
@@ -34,6 +35,12 @@ pub fn lent_thrice<K: TableName, R: Wait>(rt: &R, pool: &Pool<OwnStore, K>) -> [
     [first, second, lent(rt, pool)]
 }
 
+/// Machine 1 as its lock lends it after a turn of a worker, which takes another way to the lock.
+pub fn lent_after_turn<F: FarStore, K: TableName, R: Wait>(rt: &R, pool: &Pool<F, K>) -> Lent {
+    work(rt, &UntoldRounds::new(1), pool, 0);
+    lent(rt, pool)
+}
+
 /// Adds 1 to object 1, and pauses before.
 const PAUSING: Code = Code {
     fuel: 10,
@@ -46,5 +53,17 @@ const PAUSING: Code = Code {
 fn a_lock_lends_what_it_was_left_with(rt: HostRuntime) -> Result<(), Fail> {
     let wanted = [Some((0, true)), Some((0, false)), Some((1, false))];
     same!(rt; left_of(&rt, rt.alloc(), &[PAUSING], Course::Locks)?, Left::Locks(wanted));
+    Ok(())
+}
+
+/// Adds 1 to object 1.
+const ADDING: Code = Code {
+    debug: None,
+    ..PAUSING
+};
+
+#[test]
+fn a_lock_lends_what_a_worker_left(rt: HostRuntime) -> Result<(), Fail> {
+    same!(rt; left_of(&rt, rt.alloc(), &[ADDING], Course::Worked)?, Left::Worked(Some((1, false))));
     Ok(())
 }
