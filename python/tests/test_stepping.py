@@ -10,6 +10,8 @@ from typing import Iterator, Sequence
 from unittest import mock
 
 from bpfagent.debug.ending import Ending
+from bpfagent.debug.expressions import Value
+from bpfagent.debug.frames import Frame
 from bpfagent.debug.session import Plan, Session
 from bpfagent.debug.terminal import Terminal
 from support import TABLE, needs_debugger
@@ -201,6 +203,25 @@ class Sessions(unittest.TestCase):
             self.assertEqual(self.ask(terminal, "break sum_to if n == 1", "continue")[0], "machine 1, breakpoint 1")
             self.assertEqual(self.ask(terminal, "print n"), ["n = 1"])
             self.assertEqual(self.ask(terminal, "delete", "finish")[0], "machine 1: sum_to returned 5")
+
+    def test_asked(self) -> None:
+        """A condition is evaluated where its own breakpoint is hit, once for each hit, and nowhere else."""
+        with self.terminal(Plan(LOOPS, ["3"])) as terminal:
+            self.ask(terminal, "break 6 if n == 2", "break 10")
+            engine, asked = terminal.engine, list[str]()
+            evaluate = engine.evaluate
+
+            def noted(text: str, frame: Frame) -> Value:
+                asked.append(text)
+                return evaluate(text, frame)
+
+            with mock.patch.object(engine, "evaluate", noted):
+                self.assertEqual(self.places(terminal, ["continue", "next", "next", "next"]), ["program:6", "program:7", "program:5", "program:6"])
+                # n was 3, 2 and 1: the steps came to the line once more.
+                self.assertEqual(asked, ["n == 2"] * 3)
+                shown = [self.ask(terminal, "continue")[0] for _ in range(4)]
+                self.assertEqual(shown, ["machine 1, breakpoint 2"] * 3 + ["machine 1 ended: exit 000000000000001e (30)"])
+                self.assertEqual(asked, ["n == 2"] * 3)
 
 
 if __name__ == "__main__":
