@@ -38,9 +38,9 @@ def python() -> str:
 
 
 @functools.lru_cache(maxsize=None)
-def has(path: str, module: str) -> bool:
-    """Whether a Python has a module, which isn't imported: some take a second."""
-    looks = f"import importlib.util, sys; sys.exit(importlib.util.find_spec({module!r}) is None)"
+def has(path: str, modules: str) -> bool:
+    """Whether a Python has modules, such as "redis" or "setuptools, wheel". They aren't imported: some take a second."""
+    looks = f"import importlib.util, sys; sys.exit(any(importlib.util.find_spec(name) is None for name in {modules.split(', ')!r}))"
     return bool(shutil.which(path)) and subprocess.run([path, "-c", looks], stderr=subprocess.DEVNULL, timeout=SECONDS).returncode == 0
 
 

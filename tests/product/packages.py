@@ -163,6 +163,7 @@ def answers(prefix: pathlib.Path, is_whole: bool) -> None:
 
 def show_dist(program: str) -> str | None:
     """Wheel and source archive have classifiers and an address. The archive holds what the wheel is made of."""
+    want(has(sys.executable, "json, os") and not has(sys.executable, "json, no_such_module"), "it isn't seen which modules are there")
     if not any(has(python, "setuptools, wheel") for python in (sys.executable, DEBIAN)):
         return "no wheel was built, since setuptools and wheel aren't there"
     with tempfile.TemporaryDirectory(prefix="dist-") as name:
