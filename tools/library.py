@@ -75,6 +75,7 @@ def prove_over_ci(home: pathlib.Path) -> bool:
     sys.path.insert(0, str(home / "bin"))
     import rtlib  # the toolchain's own, which knows how a crate is checked
 
+    ARCHIVE.parent.mkdir(exist_ok=True)
     crate = rtlib.Crate(str(CRATE), str(ROOT), {})
     words = [*crate.words(["--jobs", "1"], keeps=False), "--toolchain", str(home / "toolchain"), "--backend", "llvm", "-o", str(ARCHIVE)]
     done = subprocess.run([rtlib.RATTLE, "build", *words], cwd=CRATE, stdout=subprocess.PIPE, stderr=subprocess.STDOUT, text=True, errors="replace")
