@@ -204,24 +204,38 @@ class Sessions(unittest.TestCase):
             self.assertEqual(self.ask(terminal, "print n"), ["n = 1"])
             self.assertEqual(self.ask(terminal, "delete", "finish")[0], "machine 1: sum_to returned 5")
 
+    @contextlib.contextmanager
+    def evaluated(self, terminal: Terminal) -> Iterator[list[str]]:
+        """The expressions that the engine evaluates meanwhile."""
+        found, evaluate = list[str](), terminal.engine.evaluate
+
+        def noted(text: str, frame: Frame) -> Value:
+            found.append(text)
+            return evaluate(text, frame)
+
+        with mock.patch.object(terminal.engine, "evaluate", noted):
+            yield found
+
     def test_asked(self) -> None:
         """A condition is evaluated where its own breakpoint is hit, once for each hit, and nowhere else."""
         with self.terminal(Plan(LOOPS, ["3"])) as terminal:
             self.ask(terminal, "break 6 if n == 2", "break 10")
-            engine, asked = terminal.engine, list[str]()
-            evaluate = engine.evaluate
-
-            def noted(text: str, frame: Frame) -> Value:
-                asked.append(text)
-                return evaluate(text, frame)
-
-            with mock.patch.object(engine, "evaluate", noted):
+            with self.evaluated(terminal) as asked:
                 self.assertEqual(self.places(terminal, ["continue", "next", "next", "next"]), ["program:6", "program:7", "program:5", "program:6"])
                 # n was 3, 2 and 1: the steps came to the line once more.
                 self.assertEqual(asked, ["n == 2"] * 3)
                 shown = [self.ask(terminal, "continue")[0] for _ in range(4)]
                 self.assertEqual(shown, ["machine 1, breakpoint 2"] * 3 + ["machine 1 ended: exit 000000000000001e (30)"])
                 self.assertEqual(asked, ["n == 2"] * 3)
+        with self.terminal(Plan(RECURSION, ["3"])) as terminal:
+            program = terminal.engine.machine(1).program
+            assert program and program.symbols
+            (outer,) = (site for site, target in program.calls.items() if program.symbols.function_at(site) != program.symbols.function_at(target))
+            self.ask(terminal, "break 14", "continue", f"break *{program.after(outer)} if n == 9")
+            with self.evaluated(terminal) as asked:
+                # The step ends the call there, and then goes on by instructions.
+                self.assertEqual(self.places(terminal, ["next", "next", "next"])[-1], "program:15")
+            self.assertEqual(asked, ["n == 9"])
 
 
 if __name__ == "__main__":
