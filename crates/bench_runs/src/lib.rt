@@ -1,19 +1,56 @@
-//! Runs of a machine in one call, for a program in C that measures them. It stands beside `bench_steps`, since a program that
-//! calls both `Machine::step` and `Machine::run` has two copies of all that a step does, and calls them.
+//! Runs of a machine in one call, as a host asks for them, for a program in C that measures them. It stands beside `bench_steps`,
+//! since a program that both steps and runs machines has two copies of all that a step does, and calls them.
 #![tactic(auto)]
 
-use bench_start::{Work, instructions_run, memory_of, start};
+use bench_start::{BUDGET, Work, grants_of, length_after};
+use debugger::{Start, StepReply, Way};
+use far_store::OwnStore;
+use machine::Stop;
 use std::alloc::Global;
+use world::{Event, ObjectLength, Reply, World};
 
-/// Runs the code as `start` has it, in one call. Gives R0 as the machine stops, and how many instructions ran; 0 where it doesn't
-/// start.
+/// A load of a byte from where R1 points, and the end.
+const LOAD: [u8; 16] = [
+    0x71, 0x10, 0, 0, 0, 0, 0, 0, //
+    0x95, 0, 0, 0, 0, 0, 0, 0,
+];
+
+/// Runs the code on the machine of that number, in one call. Gives R0 as the machine stops, and how many instructions ran; 0 where
+/// it doesn't start, or ends otherwise than by EXIT.
 #[unsafe(no_mangle)]
 pub extern "C" fn bpf_run(alloc: Global, code: &[u8], work: &Work, steps: &mut u64) -> u64 {
-    let Some((mut machine, mut store)) = start(alloc, code, *work) else {
+    let Some(mut world) = world_of(alloc, code, *work) else {
         return 0;
     };
-    let mut memory = memory_of(&mut store, *work);
-    let _ = machine.run(u64::MAX, &mut memory);
-    *steps = instructions_run(work, &machine);
-    machine.registers()[0]
+    let Some(run) = world.run_machine(work.machines, u64::MAX) else {
+        return 0;
+    };
+    *steps = run.ran;
+    match run.end {
+        Some(StepReply::Stopped(Stop::Exit(value))) => value,
+        _ => 0,
+    }
+}
+
+/// The objects, machines that have the last of them in their scopes, and the one that is measured.
+fn world_of(alloc: Global, code: &[u8], work: Work) -> Option<World<OwnStore>> {
+    let mut world = World::new(alloc, BUDGET, OwnStore::new(alloc)).ok()?;
+    for count in 0..work.objects {
+        let length = ObjectLength::new(length_after(count) as u64)?;
+        let _ = world.apply(Event::Make { length });
+    }
+    for who in 1..work.machines {
+        let last = Start::new(1, [(work.objects as u64) << 32, 0, 0, 0, 0]);
+        let _ = world.ship(last, &LOAD);
+        let _ = world.step(who, Way::Step);
+    }
+    let start = Start {
+        fuel: work.fuel,
+        arguments: [work.argument, 0, 0, 0, 0],
+        grants: grants_of(work)?,
+    };
+    match world.ship(start, code) {
+        Reply::Shipped { .. } => Some(world),
+        _ => None,
+    }
 }

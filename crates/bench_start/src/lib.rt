@@ -3,6 +3,7 @@
 
 ghost use Rattle.std.specs.Prelude.{◌≡◌, ◌≤◌, ◌-◌, None, IfSome};
 ghost use Rattle.machine.specs.Runs.{fuel_of_stop};
+ghost use Rattle.memory.specs.Objects.{object_bytes};
 
 use far_store::OwnStore;
 use isa_table::Size;
@@ -14,7 +15,7 @@ use scopes::MACHINE_LIMIT;
 use std::alloc::Global;
 
 /// How many bytes the objects that aren't far may have.
-const BUDGET: u32 = 67_108_864;
+pub const BUDGET: u32 = 67_108_864;
 
 /// How many bytes the first object has.
 const FIRST_BYTES: u32 = 65_536;
@@ -48,19 +49,15 @@ pub struct Work {
 pub fn start(alloc: Global, code: &[u8], work: Work) -> Option<(Machine, ObjectStore<OwnStore>)>
     ensures { IfSome result (λ started. work.machines ≤ 48) }
 {
-    if work.machines > MACHINE_LIMIT || work.granted > GRANT_LIMIT {
+    if work.machines > MACHINE_LIMIT {
         return None;
     }
+    let grants = grants_of(work)?;
     let program = load(alloc, code).ok()?;
     let mut store = store_of(alloc, work.objects)?;
     for who in 1..work.machines {
         hold(&mut store, who, work.objects);
     }
-    let grants = if work.granted == 0 {
-        Grants::all()
-    } else {
-        first_objects(work.granted)
-    };
     let arguments = [work.argument, 0, 0, 0, 0];
     let machine = Machine::granted(program, work.machines, work.fuel, arguments, grants);
     Some((machine, store))
@@ -88,6 +85,24 @@ pub fn instructions_run(work: &Work, machine: &Machine) -> u64
     }
 }
 
+/// The objects that the machine is granted, unless they are more than may be.
+pub fn grants_of(work: Work) -> Option<Grants> {
+    if work.granted > GRANT_LIMIT {
+        return None;
+    }
+    if work.granted == 0 {
+        return Some(Grants::all());
+    }
+    Some(first_objects(work.granted))
+}
+
+/// How many bytes the object has that is made after so many others.
+pub fn length_after(count: u32) -> u32
+    ensures { (1 ≤ result) × (result ≤ object_bytes) }
+{
+    if count == 0 { FIRST_BYTES } else { OTHER_BYTES }
+}
+
 /// The first objects, so many, for writing.
 fn first_objects(count: usize) -> Grants
     requires { count ≤ 16 }
@@ -106,8 +121,7 @@ fn first_objects(count: usize) -> Grants
 fn store_of(alloc: Global, objects: u32) -> Option<ObjectStore<OwnStore>> {
     let mut store = ObjectStore::new(alloc, BUDGET, OwnStore::new(alloc)).ok()?;
     for count in 0..objects {
-        let length = if count == 0 { FIRST_BYTES } else { OTHER_BYTES };
-        store.make(length).ok()?;
+        store.make(length_after(count)).ok()?;
     }
     Some(store)
 }

@@ -8,4 +8,5 @@ pub mod Keeping
 pub mod Placing
 pub mod Returning
 pub mod Leaving
+pub mod Leasing
 pub mod Forgetting

@@ -119,3 +119,6 @@ pub ruleset move_steps = (bytes_at, place_at, scopes_at, places_set, bytes_same,
 
 -- freeing
 pub ruleset free_steps = (bytes_at, place_at, bytes_set, places_same, scopes_same, parcel_at, sent_set)
+
+-- taking out and putting back
+pub ruleset lend_steps = (bytes_at, place_at, bytes_set, places_same, scopes_same, sent_at, sent_set)

@@ -7,3 +7,4 @@ pub mod Parts
 pub mod Lending
 pub mod Promised
 pub mod Handing
+pub mod Leases

@@ -13,6 +13,7 @@ ghost use Rattle.placement.specs.declared.places.Place.TheVariants as place;
 ghost use Rattle.pointer_word.specs.declared.word.WordPlace.TheVariants.{Local, Moving, Far};
 
 mod handing;
+mod lending;
 
 use far_store::{FarStore, StoreFault};
 use memory::{Action, Op, act, overwrite};

@@ -8,6 +8,7 @@
 mod bodies;
 mod errors;
 mod handing;
+mod lending;
 mod moving;
 mod parts;
 mod scoping;
@@ -17,4 +18,5 @@ mod stores;
 pub use errors::{GetError, MakeError, PartsError, PutError};
 pub use parts::Parts;
 pub use placement::{Moved, Place};
+pub use stores::leased::{Lease, LeasedMemory};
 pub use stores::{ObjectStore, StoreMemory};

@@ -9,6 +9,8 @@ ghost use Rattle.object_store.specs.declared.errors.GetError.{GetError};
 ghost use Rattle.object_store.specs.Calls.{Makes, Frees, Gets, Puts, BeginsLeave, EndsLeave, BeginsReturn, EndsReturn};
 
 mod handing;
+pub(crate) mod leased;
+mod lending;
 
 use crate::bodies::ObjectBody;
 use crate::errors::{GetError, MakeError, PartsError, PutError};

@@ -113,7 +113,7 @@ fn ship(alloc: Global, fuel: u64, arguments: [u64; 5], code: &[u8]) -> Result<Ev
 }
 
 /// The command. Where no object may have so many bytes there is none, and the test fails by this error.
-fn event(alloc: Global, say: Say) -> Result<Event, AllocError> {
+pub fn event(alloc: Global, say: Say) -> Result<Event, AllocError> {
     match say {
         Say::Make(length) => match ObjectLength::new(length) {
             Some(length) => Ok(Event::Make { length }),

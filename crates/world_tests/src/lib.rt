@@ -20,3 +20,5 @@ mod objects;
 mod parts;
 #[cfg(test)]
 mod rows;
+#[cfg(test)]
+mod running;

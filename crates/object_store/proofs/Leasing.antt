@@ -1,0 +1,271 @@
+-- An object that is out of a store.
+use Rattle.std.proofs.Common.{◌≡◌, ℕ, ◌+◌, ◌<◌, ◌≤◌, zero, suc, nat_eq, Bool, true, false, ◌||◌, ◌++◌, List, [], ◌∷◌, length, map, get_or, set, refl, sym, ap, ◌∙◌, cond, arith, inl, inr}
+use Rattle.std.proofs.lemmas.List.{length-map, length-set, set-set, set-get_or, set_past, get_or_past, get_or-set_same}
+use Rattle.std.specs.List.{list_any}
+use Rattle.std.proofs.lemmas.List.Folds.{list_any-append}
+use Rattle.std.proofs.lemmas.Bool.Decides.{nat_tests}
+use Rattle.isa_table.specs.declared.instr.Size.{Size}
+use Rattle.isa_table.specs.declared.instr.Size.TheVariants.{Byte, Half, Word, Double}
+use Rattle.isa_table.specs.Table.{size_bytes}
+use Rattle.placement.specs.declared.places.Place.TheVariants.{Here}
+use Rattle.memory.specs.declared.access.Op.{Op}
+use Rattle.memory.specs.declared.access.Reach.{Reach}
+use Rattle.memory.specs.declared.access.Reach.TheVariants.{Done, Away, Busy, Outside, Worn}
+use Rattle.memory.specs.Access.{IsInside, answer, after, count_of, size_of}
+use Rattle.memory.specs.Objects.{AreObjects, bytes_of, with_bytes, object_bytes}
+use Rattle.memory.proofs.Lengths.{length-after}
+use Rattle.memory.proofs.Accesses.{lengths}
+use Rattle.scopes.specs.Windows.{holds, noted, without_oldest}
+use Rattle.object_store.specs.Asking.{clean_after}
+use Rattle.object_store.specs.Stores.{StoreState, StoreWithin, Sent, StandsAt, place_of, sent_of, unsent, window_of}
+use Rattle.object_store.specs.Bodies.{Kept, IsKeptStore, bytes_in, place_in, scopes_in, sent_in}
+use Rattle.object_store.specs.Lending.{TouchesWithin}
+use Rattle.object_store.specs.Leases.{IsOut, IsIdle, IsLeased, IsLeasing, filled, without}
+use Rattle.object_store.proofs.Keeping.{near_filled, in_bytes, same_length}
+
+-- an access reaches a byte at least
+some_bytes : (size : Size) → 0 < size_bytes size
+some_bytes Byte = omega arith
+some_bytes Half = omega arith
+some_bytes Word = omega arith
+some_bytes Double = omega arith
+
+reaches_some : (op : Op) → 0 < count_of op
+reaches_some op = some_bytes (size_of op.action)
+
+-- ---- the list
+
+size_at : (objects : List (List ℕ)) (n k : ℕ) (b : List ℕ) (most : ℕ) → length b ≤ most → length (get_or objects k []) ≤ most
+    → length (get_or (set objects n b) k []) ≤ most
+size_at [] n k b most l h = h
+size_at (x ∷ xs) zero zero b most l h = l
+size_at (x ∷ xs) zero (suc k) b most l h = h
+size_at (x ∷ xs) (suc n) zero b most l h = h
+size_at (x ∷ xs) (suc n) (suc k) b most l h = size_at xs n k b most l h
+
+first_at : (objects : List (List ℕ)) (n : ℕ) (b : List ℕ) → 0 < n → get_or (set objects n b) 0 [] ≡ get_or objects 0 []
+first_at objects zero b h = absurd (omega arith)
+first_at [] (suc n) b h = refl
+first_at (x ∷ xs) (suc n) b h = refl
+
+objects_filled : (objects : List (List ℕ)) (n : ℕ) (b : List ℕ) → AreObjects objects → 0 < n → length b ≤ object_bytes → AreObjects (with_bytes objects n b)
+objects_filled objects n b o p l =
+    let count = length-set objects n b in
+    record {
+      none_at_zero = first_at objects n b p ∙ o.none_at_zero;
+      place_of_zero = omega (arith, o.place_of_zero);
+      limit = omega (arith, o.limit);
+      sizes = λ k. size_at objects n k b object_bytes l (o.sizes k);
+    }
+
+-- a store stays as it is kept, where an object is put at a number without bytes
+pub put_in : (old new : List Kept) (windows : List (List ℕ)) (budget spare left n : ℕ) (b : List ℕ) → IsKeptStore old windows budget spare → n < length old
+    → 0 < n → length b ≤ object_bytes → bytes_of (map bytes_in old) n ≡ []
+    → map bytes_in new ≡ with_bytes (map bytes_in old) n b → map place_in new ≡ map place_in old → map scopes_in new ≡ map scopes_in old
+    → place_of (map place_in old) n ≡ Here → left + length b ≡ spare → IsKeptStore new windows budget left
+put_in old new windows budget spare left n b k h p l z e q s f c =
+    let g = rw (f, z) at (near_filled (map bytes_in old) (map place_in old) n b (in_bytes old n h) (same_length old)) in
+    record {
+      objects = rw e (objects_filled (map bytes_in old) n b k.objects p l);
+      counts = rw s k.counts;
+      windows_are = k.windows_are;
+      budget_is = rw (e, q) (omega (arith, g, k.budget_is, c));
+    }
+
+not_zero : (objects : List (List ℕ)) (n : ℕ) → bytes_of objects 0 ≡ [] → 0 < length (bytes_of objects n) → 0 < n
+not_zero objects zero z l = let e = rw z at l in absurd (omega (arith, e))
+not_zero objects (suc n) z l = omega arith
+
+-- ---- what is seen
+
+-- an object that was out is back as it was
+pub seen_again : {X : Type 0} (s : StoreWithin X) (n : ℕ) (k : Kept) → k.bytes ≡ bytes_of s.state.objects n → sent_in k ≡ sent_of s.sent n
+    → filled (without s n) n k ≡ s
+seen_again {X} s n k b e =
+    let objects : set (set s.state.objects n []) n k.bytes ≡ s.state.objects =
+    set-set s.state.objects n [] k.bytes ∙ (ap (set s.state.objects n) b ∙ set-get_or s.state.objects n []) in
+    let sent : set (set s.sent n unsent) n (sent_in k) ≡ s.sent =
+    set-set s.sent n unsent (sent_in k) ∙ (ap (set s.sent n) e ∙ set-get_or s.sent n unsent) in
+    rw (objects, sent) refl
+
+-- what was taken out fits in again
+pub is_out : {X : Type 0} (bodies : List Kept) (windows : List (List ℕ)) (budget spare faults : ℕ) (far : X) (n : ℕ) (k : Kept)
+    → IsKeptStore bodies windows budget spare
+    → n < length bodies → 0 < length (bytes_of (map bytes_in bodies) n) → place_of (map place_in bodies) n ≡ Here
+    → k.bytes ≡ bytes_of (map bytes_in bodies) n → k.place ≡ Here
+    → IsOut {X = X} (record {
+      state = record {
+        objects = with_bytes (map bytes_in bodies) n [];
+        places = map place_in bodies;
+        windows = windows;
+        budget = budget;
+        faults = faults;
+      };
+      far = far;
+      sent = set (map sent_in bodies) n unsent;
+    }) n k
+is_out bodies windows budget spare faults far n k s h live p b t =
+    let count = length-set (map bytes_in bodies) n [] in
+    let sent = length-set (map sent_in bodies) n unsent in
+    let all = length-map bodies bytes_in in
+    let all_sent = length-map bodies sent_in in
+    let near = rw p at (near_filled (map bytes_in bodies) (map place_in bodies) n [] (in_bytes bodies n h) (same_length bodies)) in
+    record {
+      inside = omega (arith, count, all, h);
+      sent = omega (arith, sent, all_sent, h);
+      numbered = not_zero (map bytes_in bodies) n s.objects.none_at_zero live;
+      none = get_or-set_same (map bytes_in bodies) n [] [] (in_bytes bodies n h);
+      place = p;
+      there = t;
+      short = rw b (s.objects.sizes n);
+      room = rw b (omega (arith, near, s.budget_is));
+    }
+
+-- ---- windows
+
+same_number : (n : ℕ) → nat_eq n n ≡ true
+same_number n = grind (arith, nat_tests)
+
+either : (a b : Bool) → b ≡ true → (a || (b || false)) ≡ true
+either true b h = refl
+either false true h = refl
+either false false h = absurd (cc)
+
+by_held : (n : ℕ) (w : List ℕ) (b : Bool) → holds n w ≡ b → holds n (cond b w (without_oldest w ++ n ∷ [])) ≡ true
+by_held n w true h = h
+by_held n w false h = list_any-append (nat_eq n) (without_oldest w) (n ∷ []) ∙ either (list_any (nat_eq n) (without_oldest w)) (nat_eq n n) (same_number n)
+
+noted_by : (n : ℕ) (w : List ℕ) (b : Bool) → b ≡ true → cond b w (without_oldest w ++ n ∷ []) ≡ w
+noted_by n w true h = refl
+noted_by n w false h = absurd (cc)
+
+-- a number that is held is noted already
+noted_again : (n : ℕ) (w : List ℕ) → holds n w ≡ true → noted n w ≡ w
+noted_again n w h = noted_by n w (holds n w) h
+
+held_noted : (n : ℕ) (w : List ℕ) → holds n (noted n w) ≡ true
+held_noted n w = by_held n w (holds n w) refl
+
+-- so an object that was reached is in scope
+pub held_after : (windows : List (List ℕ)) (who n : ℕ) → who < length windows
+    → holds n (window_of (set windows who (noted n (window_of windows who))) who) ≡ true
+held_after windows who n h = rw (get_or-set_same windows who (noted n (window_of windows who)) [] h) (held_noted n (window_of windows who))
+
+-- ---- accesses to the object that is out
+
+-- The bytes that are seen of it, where no object is out too.
+seen_bytes : {X : Type 0} (who : ℕ) (s : StoreWithin X) (n : ℕ) (k : Kept) → IsLeasing who s n k → bytes_of (with_bytes s.state.objects n k.bytes) n ≡ k.bytes
+seen_bytes who s n k (h, inl i) = get_or_past (set s.state.objects n k.bytes) n [] (let e = length-set s.state.objects n k.bytes in omega (arith, e, i.past))
+    ∙ sym i.none
+seen_bytes who s n k (h, inr l) = get_or-set_same s.state.objects n k.bytes [] l.out.inside
+
+pub told_outside : {X : Type 0} (who : ℕ) (s : StoreWithin X) (n : ℕ) (k : Kept) (op : Op) → IsLeasing who s n k → (IsInside op (length k.bytes) → ⊥)
+    → TouchesWithin who (filled s n k) n op Outside (filled s n k)
+told_outside who s n k op l h = record {
+  touches = (λ i. h (rw (seen_bytes who s n k l) at i), refl);
+  far = refl;
+  sent = refl;
+}
+
+no_room : (op : Op) → IsInside op 0 → ⊥
+no_room op h = let e = reaches_some op in omega (arith, h, e)
+
+-- an object is out
+pub leased : {X : Type 0} (who : ℕ) (s : StoreWithin X) (n : ℕ) (k : Kept) (op : Op) → IsLeasing who s n k → IsInside op (length k.bytes) → IsLeased who s n k
+leased who s n k op (h, inl i) o = absurd (no_room op (rw i.none at o))
+leased who s n k op (h, inr l) o = l
+
+pub told_done : {X : Type 0} (who : ℕ) (s : StoreWithin X) (n : ℕ) (k new : Kept) (op : Op) (x : ℕ) → IsLeased who s n k → IsInside op (length k.bytes)
+    → x ≡ answer op k.bytes → new ≡ record k { bytes = after op k.bytes; clean = clean_after op.action k.clean }
+    → TouchesWithin who (filled s n k) n op (Done x) (filled s n new)
+told_done who s n k new op x l i a e =
+    let seen : bytes_of (set s.state.objects n k.bytes) n ≡ k.bytes = get_or-set_same s.state.objects n k.bytes [] l.out.inside in
+    let got : sent_of (set s.sent n (sent_in k)) n ≡ sent_in k = get_or-set_same s.sent n (sent_in k) unsent l.out.sent in
+    let objects : set (set s.state.objects n k.bytes) n (after op (bytes_of (set s.state.objects n k.bytes) n)) ≡ set s.state.objects n (after op k.bytes) =
+    set-set s.state.objects n k.bytes (after op (bytes_of (set s.state.objects n k.bytes) n)) ∙ ap (λ (b : List ℕ). set s.state.objects n (after op b)) seen in
+    let windows : set s.state.windows who (noted n (window_of s.state.windows who)) ≡ s.state.windows =
+    ap (set s.state.windows who) (noted_again n (window_of s.state.windows who) l.held) ∙ set-get_or s.state.windows who [] in
+    let sent : set (set s.sent n (sent_in k)) n (record (sent_of (set s.sent n (sent_in k)) n) {
+      clean = clean_after op.action (sent_of (set s.sent n (sent_in k)) n).clean;
+    }) ≡ set s.sent n (record { parcel = k.parcel; clean = clean_after op.action k.clean }) =
+    set-set s.sent n (sent_in k) _ ∙ ap (λ (t : Sent). set s.sent n (record t { clean = clean_after op.action t.clean })) got in
+    rw e (record {
+      touches = (rw seen i, l.out.place, rw seen a, rw (objects, windows) refl);
+      far = refl;
+      sent = sym sent;
+    })
+
+pub still_leased : {X : Type 0} (who : ℕ) (s : StoreWithin X) (n : ℕ) (k new : Kept) (op : Op) → IsLeased who s n k → IsInside op (length k.bytes)
+    → new ≡ record k { bytes = after op k.bytes; clean = clean_after op.action k.clean } → IsLeased who s n new
+still_leased who s n k new op l i e =
+    let long : length (after op k.bytes) ≡ length k.bytes = length-after op k.bytes i in
+    rw e (record {
+      out = record {
+        inside = l.out.inside;
+        sent = l.out.sent;
+        numbered = l.out.numbered;
+        none = l.out.none;
+        place = l.out.place;
+        there = l.out.there;
+        short = rw long l.out.short;
+        room = rw long l.out.room;
+      };
+      live = rw long l.live;
+      window = l.window;
+      held = l.held;
+    })
+
+-- ---- accesses to other objects
+
+-- none is out, so that the store is seen as it is
+pub idle_seen : {X : Type 0} (s : StoreWithin X) (n : ℕ) (k : Kept) → IsIdle s n k → filled s n k ≡ s
+idle_seen s n k i = rw (set_past s.state.objects n k.bytes i.past, set_past s.sent n (sent_in k) i.unsent) refl
+
+-- an object with bytes is out
+pub out_of : {X : Type 0} (who : ℕ) (s : StoreWithin X) (n : ℕ) (k : Kept) → IsLeasing who s n k → 0 < length k.bytes → IsLeased who s n k
+out_of who s n k (h, inl i) l = let e = rw i.none at l in absurd (omega (arith, e))
+out_of who s n k (h, inr l) z = l
+
+-- and without bytes none is
+pub none_out : {X : Type 0} (who : ℕ) (s : StoreWithin X) (n : ℕ) (k : Kept) → IsLeasing who s n k → length k.bytes ≡ 0 → filled s n k ≡ s
+none_out who s n k (h, inl i) l = idle_seen s n k i
+none_out who s n k (h, inr o) l = absurd (omega (arith, o.live, l))
+
+-- and it stays so
+pub still_idle : {X : Type 0} (who : ℕ) (s new : StoreWithin X) (at n : ℕ) (k : Kept) (op : Op) (r : Reach) → TouchesWithin who s n op r new → IsIdle s at k
+    → IsIdle new at k
+still_idle who s new at n k op Outside t i =
+    record { past = rw (ap (λ (x : StoreState). x.objects) t.touches.1) i.past; unsent = rw t.sent i.unsent; none = i.none }
+still_idle who s new at n k op Away t i =
+    record { past = rw (ap (λ (x : StoreState). x.objects) t.touches.2) i.past; unsent = rw t.sent i.unsent; none = i.none }
+still_idle who s new at n k op Busy t i = absurd t.touches
+still_idle who s new at n k op Worn t i = absurd t.touches
+still_idle who s new at n k op (Done x) t i =
+    let objects = length-set s.state.objects n (after op (bytes_of s.state.objects n)) in
+    let sent = length-set s.sent n (record (sent_of s.sent n) { clean = clean_after op.action (sent_of s.sent n).clean }) in
+    record {
+      past = rw (ap (λ (x : StoreState). x.objects) t.touches.3) (omega (arith, objects, i.past));
+      unsent = rw t.sent (omega (arith, sent, i.unsent));
+      none = i.none;
+    }
+
+-- the object that was reached is here, and in scope
+pub record IsReached {X : Type 0} (who : ℕ) (s : StoreWithin X) (n : ℕ) : Type 0 where
+  pub stands : StandsAt Here s.state n
+  pub window : who < length s.state.windows
+  pub held : holds n (window_of s.state.windows who) ≡ true
+
+pub reached : {X : Type 0} (who : ℕ) (s new : StoreWithin X) (n : ℕ) (op : Op) (x : ℕ) → TouchesWithin who s n op (Done x) new → who < length new.state.windows
+    → IsReached who new n
+reached {X} who s new n op x t h =
+    let long : length (bytes_of new.state.objects n) ≡ length (bytes_of s.state.objects n) =
+    lengths s.state.objects new.state.objects n n op (Done x) (t.touches.0, t.touches.2, ap (λ (y : StoreState). y.objects) t.touches.3) in
+    let windows : new.state.windows ≡ set s.state.windows who (noted n (window_of s.state.windows who)) = ap (λ (y : StoreState). y.windows) t.touches.3 in
+    let places : new.state.places ≡ s.state.places = ap (λ (y : StoreState). y.places) t.touches.3 in
+    let some = reaches_some op in
+    let count = length-set s.state.windows who (noted n (window_of s.state.windows who)) in
+    record {
+      stands = (omega (arith, long, some, t.touches.0), rw places t.touches.1);
+      window = h;
+      held = rw windows (held_after s.state.windows who n (let w = rw windows at h in omega (arith, count, w)));
+    }
