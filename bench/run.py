@@ -82,13 +82,13 @@ class Bench:
 def steps(bench: Bench) -> None:
     if wrong := list(differing()):
         raise OSError("\n".join(["the forms of the interpreter in C differ", *wrong]))
-    for side, title in (("steps", "Machine::step, called once an instruction"), ("runs", "Machine::run, called once a program")):
+    for side, title in (("steps", "Machine::step, called once an instruction"), ("runs", "World::run_machine, called once a program")):
         made = bench.linked(f"bench_{side}", "bench/steps.c", "bench/flat.c")
         count(made, MADE / f"counts_{side}")
         print(title, flush=True)
         bench.run(side[:-1], made, PROGRAMS, MADE / f"counts_{side}")
     made = bench.linked("bench_runs", "-DPLACE=16", "bench/steps.c", "bench/flat.c")
-    print("Machine::run, its code 16 bytes further", flush=True)
+    print("World::run_machine, its code 16 bytes further", flush=True)
     bench.run("run, 16 bytes further", made, PROGRAMS, MADE / "counts_runs", "all")
     for form in OTHERS:
         beside_form(bench, form)
