@@ -166,27 +166,42 @@ static struct code straight_additions(void)
     return straight_code(MADE_OF(R0_AND_R2), MADE_OF({ 0xdb, 1, 2, 8, 0x00 }, { 0xc3, 1, 2, 16, 0x00 }));
 }
 
-/* Loads from five objects in turn, whose addresses count up by `stride` objects. */
-static struct code loads_in_turn(int32_t stride)
+/* Forty loads in a loop, from so many objects in turn. A machine has four of them in its scopes. */
+static struct code loads_in_turn(int objects)
 {
     struct code c = { .length = 0 };
-    for (int k = 0; k < 5; k++) {
-        put(&c, 0x18, k + 2, 0, 0, 0);
-        put(&c, 0, 0, 0, 0, 1 + k * stride);
+    for (int k = 0; k < objects; k++) {
+        put(&c, 0x18, k + 1, 0, 0, 0);
+        put(&c, 0, 0, 0, 0, 1 + k);
     }
-    for (int k = 0; k < 5; k++) put(&c, 0x79, 0, k + 2, 8, 0);
-    back_to(&c, 10);
+    for (int k = 0; k < 40; k++) put(&c, 0x79, 0, k % objects + 1, 8, 0);
+    back_to(&c, (size_t)objects * 2);
     return c;
 }
 
-static struct code loads_in_open(void)
-{
-    return loads_in_turn(0);
-}
-
-static struct code loads_in_new(void)
+static struct code loads_of_1(void)
 {
     return loads_in_turn(1);
+}
+
+static struct code loads_of_2(void)
+{
+    return loads_in_turn(2);
+}
+
+static struct code loads_of_4(void)
+{
+    return loads_in_turn(4);
+}
+
+static struct code loads_of_5(void)
+{
+    return loads_in_turn(5);
+}
+
+static struct code loads_of_8(void)
+{
+    return loads_in_turn(8);
 }
 
 #define COMPILED 5
@@ -212,8 +227,11 @@ static const struct {
     { "loads, 4000 slots", straight_loads, { OBJECT(1), 1, 1, 0 } },
     { "stores, 4000 slots", straight_stores, { OBJECT(1), 1, 1, 0 } },
     { "additions, 4000 slots", straight_additions, { OBJECT(1), 1, 1, 0 } },
-    { "loads, open scope", loads_in_open, { OBJECT(1), 5, 1, 0 } },
-    { "loads, new scope", loads_in_new, { OBJECT(1), 5, 1, 0 } },
+    { "loads, 1 in turn", loads_of_1, { OBJECT(1), 8, 1, 0 } },
+    { "loads, 2 in turn", loads_of_2, { OBJECT(1), 8, 1, 0 } },
+    { "loads, 4 in turn", loads_of_4, { OBJECT(1), 8, 1, 0 } },
+    { "loads, 5 in turn", loads_of_5, { OBJECT(1), 8, 1, 0 } },
+    { "loads, 8 in turn", loads_of_8, { OBJECT(1), 8, 1, 0 } },
     { "loads, 16 granted", loads, { OBJECT(1), 1, 1, 16 } },
     { "loads, 1024 objects", loads, { OBJECT(1024), 1024, 1, 0 } },
     { "loads, 48 machines", loads, { OBJECT(1), 1, 48, 0 } },

@@ -4,7 +4,7 @@
 counts.py STEPS FOLDER [AGENT NAME..] > COUNTS
 
 For each program that STEPS measures, or for those named, a line: those of a step of the agent, those of a step of the flat interpreter
-in C, and the program's name. Those of the agent are taken from the file AGENT, an earlier COUNTS. Without it, then those of a load of the agent in two settings: an open scope and a new one, all objects granted and 16 of them,
+in C, and the program's name. Those of the agent are taken from the file AGENT, an earlier COUNTS. Without it, then those of a load of the agent in two settings: one object and several in turn, all objects granted and 16 of them,
 one object and 1024, one machine and 48. Each is the difference of two runs of different length by the instructions of the program
 that ran between them. Nothing is written where there is no valgrind.
 """
@@ -25,7 +25,10 @@ PROGRAMS = [
 # Programs without a loop.
 STRAIGHT = ["arithmetic, 4000 slots", "loads, 4000 slots", "stores, 4000 slots", "additions, 4000 slots"]
 SETTINGS = [
-    ("loads, open and new scope", "loads, open scope", "loads, new scope"),
+    ("loads, 1 and 2 objects in turn", "loads, 1 in turn", "loads, 2 in turn"),
+    ("loads, 1 and 4 objects in turn", "loads, 1 in turn", "loads, 4 in turn"),
+    ("loads, 1 and 5 objects in turn", "loads, 1 in turn", "loads, 5 in turn"),
+    ("loads, 1 and 8 objects in turn", "loads, 1 in turn", "loads, 8 in turn"),
     ("loads, all and 16 granted", "loads", "loads, 16 granted"),
     ("loads, 1 and 1024 objects", "loads", "loads, 1024 objects"),
     ("loads, 1 and 48 machines", "loads", "loads, 48 machines"),

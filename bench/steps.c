@@ -205,11 +205,14 @@ static int run_once(const char *folder, const char *side, const char *name, uint
 static void growth(void)
 {
     const struct setting alone = { OBJECT(1), 1, 1, 0 }, many_objects = { OBJECT(1024), 1024, 1, 0 };
-    const struct setting many_machines = { OBJECT(1), 1, 48, 0 }, five_objects = { OBJECT(1), 5, 1, 0 }, sixteen_grants = { OBJECT(1), 1, 1, 16 };
-    const struct code c = loads(), same = loads_in_turn(0), other = loads_in_turn(1);
+    const struct setting many_machines = { OBJECT(1), 1, 48, 0 }, eight_objects = { OBJECT(1), 8, 1, 0 }, sixteen_grants = { OBJECT(1), 1, 1, 16 };
+    const struct code c = loads(), one = loads_in_turn(1), two = loads_in_turn(2), four = loads_in_turn(4), five = loads_in_turn(5), eight = loads_in_turn(8);
     scales("loads, 1 and 1024 objects", &c, alone, &c, many_objects);
     scales("loads, 1 and 48 machines", &c, alone, &c, many_machines);
-    scales("loads, open and new scope", &same, five_objects, &other, five_objects);
+    scales("loads, 1 and 2 objects in turn", &one, eight_objects, &two, eight_objects);
+    scales("loads, 1 and 4 objects in turn", &one, eight_objects, &four, eight_objects);
+    scales("loads, 1 and 5 objects in turn", &one, eight_objects, &five, eight_objects);
+    scales("loads, 1 and 8 objects in turn", &one, eight_objects, &eight, eight_objects);
     scales("loads, all and 16 granted", &c, alone, &c, sixteen_grants);
 }
 
