@@ -3,11 +3,9 @@
 #![tactic(auto)]
 
 use bench_start::{BUDGET, Work, grants_of, length_after};
-use debugger::{Start, StepReply, Way};
 use far_store::OwnStore;
-use machine::Stop;
 use std::alloc::Global;
-use world::{Event, ObjectLength, Reply, World};
+use world::{Event, MachineCommand, ObjectLength, Reply, ShowCommand, Start, Way, World};
 
 /// A load of a byte from where R1 points, and the end.
 const LOAD: [u8; 16] = [
@@ -16,18 +14,20 @@ const LOAD: [u8; 16] = [
 ];
 
 /// Runs the code on the machine of that number, in one call. Gives R0 as the machine stops, and how many instructions ran; 0 where
-/// it doesn't start, or ends otherwise than by EXIT.
+/// it doesn't start.
 #[unsafe(no_mangle)]
 pub extern "C" fn bpf_run(alloc: Global, code: &[u8], work: &Work, steps: &mut u64) -> u64 {
     let Some(mut world) = world_of(alloc, code, *work) else {
         return 0;
     };
-    let Some(run) = world.run_machine(work.machines, u64::MAX) else {
+    let machine = work.machines;
+    let Some(run) = world.run_machine(machine, u64::MAX) else {
         return 0;
     };
     *steps = run.ran;
-    match run.end {
-        Some(StepReply::Stopped(Stop::Exit(value))) => value,
+    let command = MachineCommand::Show(ShowCommand::Regs);
+    match world.apply(Event::Machine { machine, command }) {
+        Reply::Registers { shown, .. } => shown.registers[0],
         _ => 0,
     }
 }
