@@ -190,6 +190,10 @@ class Ranges(unittest.TestCase):
                 (lambda it: own.get(it, 0, 1), of_object),
                 (lambda it: own.get(number, it, 1), [65_536, 2**32, -1]),
                 (lambda it: own.get(number, 0, it), [0, 65_537, 2**64 + 1, -1]),
+                (lambda it: own.get_into(it, 0, bytearray(1)), of_object),
+                (lambda it: own.get_into(number, it, bytearray(1)), [65_536, 2**32, -1]),
+                (lambda it: own.write(it, b"1"), of_object),
+                (lambda it: own.read(number, it), [65_537, 2**32 + 1, 2**64 + 1, -1]),
                 *[(getattr(own, name), of_machine) for name in ("step", "one", "run", "regs", "out", "resume")],
                 *[(lambda it, name=name: getattr(own, name)(machine, it), of_slot) for name in ("break_", "unbreak", "line")],
                 (lambda it: own.watch(machine, it, 8), [2**64, -1]),
@@ -200,7 +204,10 @@ class Ranges(unittest.TestCase):
                 (lambda it: own.ship(EXIT, it), [2**64, -1]),
                 (lambda it: own.ship(EXIT, 1, it), [2**64, -1]),
                 (lambda it: own.ship2(EXIT, 1, {it: "r"}), of_object),
-                (Engine, [2**26 + 1, 2**32, -1]),
+                (lambda it: own.ship2(EXIT, it, {}), [2**64, -1]),
+                (lambda it: own.ship2(EXIT, 1, {}, 0, it), [2**64, -1]),
+                (lambda it: Engine.text(EXIT, it), of_slot),
+                (Engine, [2**26 + 1, 2**32, 2**32 + 8, -1]),
             ]
             for call, wrong in calls:
                 for number_of in wrong:
@@ -209,8 +216,8 @@ class Ranges(unittest.TestCase):
                 for text in ("1", 1.0, None):
                     with self.assertRaises(TypeError, msg=f"{call} of {text!r}"):
                         call(text)  # type: ignore[arg-type]
-            with self.assertRaises(ValueError):
-                own.put(number, 0, b"")
+            for refused in (lambda: own.put(number, 0, b""), lambda: own.get_into(number, 0, bytearray(65_537)), lambda: own.ship(EXIT * 4400, 1)):
+                self.assertRaises(ValueError, refused)
             self.assertEqual((own.get(number, 0, 8), own.objects(), own.place_of(number)), (b"12345678", [number], ("here", 8)))
 
     def test_buffers(self) -> None:
@@ -232,6 +239,14 @@ class Ranges(unittest.TestCase):
                 own.get_into(number, 0, memoryview(b"12345678"))
             with self.assertRaises(TypeError):
                 own.put(number, 0, "text")  # type: ignore[arg-type]
+
+    def test_no_copies(self) -> None:
+        """A call reads `bytes`, and what may be written, where they lie."""
+        content, given = b"12345678", bytearray(b"12345678")
+        self.assertIs(engine.read_from(content), content)
+        read = engine.read_from(given)
+        given[0] = 0x2A
+        self.assertEqual(bytes(read), b"*2345678")
 
 
 @needs_library
@@ -513,6 +528,18 @@ class Finding(unittest.TestCase):
                 made = source.with_name(f"lib{len(text)}.so")
                 subprocess.run(["cc", "-shared", "-fPIC", "-o", str(made), str(source)], check=True, timeout=SECONDS)
                 self.assertIn(f"tried {made} ({why}): BPFAGENT_LIBRARY names another", self.tried(BPFAGENT_LIBRARY=str(made)))
+
+    @unittest.skipUnless(shutil.which("cc"), "needs a C compiler")
+    def test_fits(self) -> None:
+        """One whose version has another third part is taken."""
+        later = library.VERSION + 1
+        self.assertEqual(later // library.FITS, library.VERSION // library.FITS)
+        with tempfile.TemporaryDirectory() as folder:
+            source, made = pathlib.Path(folder, "later.c"), str(pathlib.Path(folder, "later.so"))
+            source.write_text("".join(f"int bpfagent_{name}(void) {{ return {later if name == 'version' else 0}; }}\n" for name in library.CALLS))
+            subprocess.run(["cc", "-shared", "-fPIC", "-o", made, str(source)], check=True, timeout=SECONDS)
+            with mock.patch.dict(os.environ, BPFAGENT_LIBRARY=made):
+                self.assertEqual(library.library().calls["version"](), later)
 
 
 if __name__ == "__main__":

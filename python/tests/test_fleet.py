@@ -17,7 +17,7 @@ import sys
 import time
 import unittest
 import unittest.mock
-from typing import Any, Callable, Iterator, TypeVar
+from typing import Any, Callable, Iterator, Optional, TypeVar
 
 from support import PROGRAM, ROOT, SECONDS, needs_debugger
 
@@ -37,6 +37,7 @@ from bpfagent.fleet.lines import ByLines
 from bpfagent.fleet.store import Read
 from bpfagent.image import load
 from bpfagent.library import library_if_there
+from bpfagent.line_engine import LineEngine
 from redis.backoff import NoBackoff
 from redis.retry import Retry
 
@@ -251,6 +252,25 @@ class FleetTest(unittest.TestCase):
                 self.fails(lambda: owner.run(transfer("a", "b", 8)), Refused, "nomem")
             owner.run(transfer("a", "b", 16))
             self.assertEqual(value(store.get("b")), 21, "the account after an agent without memory")
+
+    def test_bytes(self) -> None:
+        """In this process objects travel as bytes, without a line, and what a worker has isn't fetched again."""
+        if not library_if_there():
+            self.skipTest("needs the library of `make lib`: BPFAGENT_LIBRARY names it")
+        content, asked, execution = number(7) + bytes(65_528), list[Optional[bytes]](), InProcess()
+        self.addCleanup(execution.close)
+
+        def read(key: str, known: Optional[bytes]) -> tuple[bytes, Optional[bytes]]:
+            asked.append(known)
+            return b"1", None if known == b"1" else content
+
+        put = unittest.mock.patch.object(Engine, "put", autospec=True, side_effect=Engine.put)
+        with put as puts, unittest.mock.patch.object(LineEngine, "tell", side_effect=AssertionError("a line is written")):
+            for _ in range(2):
+                execution.execute(Job(code("spin"), {"x": "w"}, ("x", "x", 1)), read)
+        self.assertEqual((asked, puts.call_count), ([None, b"1"], 2))
+        for call in puts.call_args_list:
+            self.assertIs(call.args[3], content)
 
     def test_once(self) -> None:
         """A job that is run again, and one whose keys others change in between."""
