@@ -53,7 +53,8 @@ LIBRARY = [
     "tools/library.py RT --over-ci",
     "tests/product/embed.py RT",
     "tests/product/fuzz.py PROGRAM 10 --part library",
-    "tests/product/python_package.py PROGRAM --library test_engine test_agent test_ship test_terminal test_adapter test_wheel test_fleet",
+    "tests/product/python_package.py PROGRAM --library test_engine test_agent test_ship test_shipping test_terminal test_stepping "
+    "test_adapter test_protocol test_wrong_words test_wheel test_fleet",
     "tests/product/consumer.py RT PROGRAM",
     "tests/product/packages.py PROGRAM",
 ]
