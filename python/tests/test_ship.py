@@ -253,6 +253,9 @@ class Ships(unittest.TestCase):
                     for number in keys:
                         child.send_signal(number)
                     keys = ()
+            if keys:
+                # It would run for ever.
+                child.kill()
             output = child.communicate(timeout=SECONDS)[0]
         os.close(shown)
         return child.returncode, output, said.decode().replace("\r\n", "\n")
