@@ -50,8 +50,10 @@ AMOUNT = 1000
 BUSY = 30_000
 # emit R1; exit with it, one more.
 EMIT = bytes.fromhex("bf16000000000000 8500000003000000 bf61000000000000 0701000001000000 8500000003000000 bf10000000000000 9500000000000000")
-# ldxdw r0, [r1]; ja -1.
+# ldxdw r0, [r1]; ja -1. stdw [r1], 7; ja -1. ldxdw r0, [r1]; exit.
 ENDLESS = bytes.fromhex("7910000000000000 0500ffff00000000")
+WRITING = bytes.fromhex("7a01000007000000 0500ffff00000000")
+READING = bytes.fromhex("7910000000000000 9500000000000000")
 
 
 def code(name: str) -> bytes:
@@ -174,6 +176,7 @@ class FleetTest(unittest.TestCase):
         """Results, objects and stops of one agent, by itself."""
         with setting_of_one() as setting:
             store, owner = accounts_in(setting, AMOUNT, 0), self.owner(setting)
+            self.assertIsInstance(owner._execution, InProcess if library_if_there() else ByLines)
             self.assertEqual(owner.run(transfer("a", "b", 300)), Result(1, ()), "a transfer")
             self.assertEqual(owner.run(transfer("b", "a", 301)), Result(0, ()), "one of more than there is")
             self.assertEqual((value(store.get("a")), value(store.get("b"))), (AMOUNT - 300, 300), "the accounts")
@@ -186,6 +189,8 @@ class FleetTest(unittest.TestCase):
                 lambda: owner.run(Job(ENDLESS, {"a": "r"}, ("a",), 5, {0: "endless.c:3"})), JobStopped, "stopped spent at slot 1, ja -1, at endless.c:3"
             )
             self.assertEqual((stopped.why, stopped.slot, stopped.registers[0]), ("spent", 1, AMOUNT - 300), "an endless program")
+            self.fails(lambda: owner.run(Job(WRITING, {"a": "w"}, ("a",), 5)), JobStopped, "spent")
+            self.assertEqual(owner.run(Job(READING, {"a": "r"}, ("a",))).value, AMOUNT - 300, "what a job sees of another that wrote and stopped")
             job = Job(code("transfer"), {"a": "r", "b": "w"}, ("a", "b", 1))
             self.assertEqual(self.fails(lambda: owner.run(job), JobStopped, "stxdw [r1], r").why, "notgranted", "a write to a key that may only be read")
             self.assertEqual((value(store.get("a")), value(store.get("b"))), (AMOUNT - 300, 300), "the accounts after a stop")

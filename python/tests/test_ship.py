@@ -25,7 +25,8 @@ from unittest import mock
 
 import bpfagent
 import stand_in
-from bpfagent import Service, Unloadable, address, image, load
+from bpfagent import Service, Unloadable, address, image, load, own
+from bpfagent.library import library_if_there
 from bpfagent.ship import SLOW, main
 from support import PROGRAM, ROOT, SECONDS, has_elftools, heard, program_of, usage_of
 
@@ -286,6 +287,16 @@ class Ships(unittest.TestCase):
         status, output, said = self.on_terminal(self.codes["exit"], until="$")
         self.assertEqual((status, output, said), (0, f"stopped 1 exit {0:016x} = {0}\n1 instructions\n", f"{SLOW}\n" if is_told else ""))
         self.want_said([self.codes["exit"]], 0, f"stopped 1 exit {0:016x} = {0}\n1 instructions\n", "")
+
+    def test_ways(self) -> None:
+        """A program runs in this process if the library is there and no program is named, otherwise by a worker; after a setup by lines."""
+        near = own.InProcess if library_if_there() else None
+        ways: list[tuple[Optional[str], bool, type[object]]] = [
+            (None, False, near or own.Served), (None, True, near or own.Stepped), (PROGRAM, False, own.Served), (PROGRAM, True, own.Stepped)
+        ]
+        for program, has_setup, kind in ways:
+            with own.opened(program, SECONDS, has_setup) as made:
+                self.assertIs(type(made), kind, (program, has_setup))
 
     def test_service(self) -> None:
         """A program of a service, run by this client or by workers: its objects by their numbers, one that is away, a stop, no service."""

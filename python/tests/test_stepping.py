@@ -9,11 +9,14 @@ import unittest
 from typing import Iterator, Sequence
 from unittest import mock
 
+from bpfagent import Agent
 from bpfagent.debug.ending import Ending
 from bpfagent.debug.expressions import Value
 from bpfagent.debug.frames import Frame
 from bpfagent.debug.session import Plan, Session
 from bpfagent.debug.terminal import Terminal
+from bpfagent.library import library_if_there
+from bpfagent.line_engine import LineEngine
 from support import TABLE, needs_debugger
 
 STEPPING = pathlib.Path(__file__).resolve().parent / "stepping"
@@ -147,6 +150,7 @@ class Sessions(unittest.TestCase):
     def test_long(self) -> None:
         """A step over a loop on one line goes at the machine's speed, over the library as over a service of its own."""
         with self.terminal(Plan(self.source(LONG), ["3000"], fuel=10**6, machines=2)) as terminal:
+            self.assertIsInstance(terminal.engine.agent, LineEngine if library_if_there() else Agent)
             self.ask(terminal, "break 5", "continue", "delete", "next")
             self.assertEqual(self.places(terminal, ["until", "until"])[-1], "program:7")
             self.assertEqual(self.ask(terminal, "print n", "continue"), ["machine 1 ended: exit 000000000044a444 (4498500)"])
