@@ -405,6 +405,30 @@ class Ends(unittest.TestCase):
                     break
             self.assertGreater(counts[-1], 10, f"{counts}, and the slowest took {slowest:.3f} s")
 
+    def test_turns(self) -> None:
+        """A call that keeps Python's lock does 2,000 instructions, one that lets it go a chunk, and a long run pauses if there are other threads."""
+        with Engine() as own:
+            counts: dict[str, list[int]] = {"calls": [], "long_calls": []}
+
+            def noted(name: str) -> Callable[..., int]:
+                call = getattr(own._library, name)["run"]
+
+                def run(agent: object, machine: int, count: int, end: object) -> int:
+                    counts[name].append(count)
+                    return int(call(agent, machine, count, end))
+
+                return run
+
+            with mock.patch.dict(own._library.calls, run=noted("calls")), mock.patch.dict(own._library.long_calls, run=noted("long_calls")):
+                own.run(own.ship(spin(300_000), 2**40))
+            self.assertEqual(counts, {"calls": [2_000], "long_calls": [1 << 17] * 5})
+            for threads, pauses in ((1, set[float]()), (2, {0.00005})):
+                now = iter(range(1000))
+                with mock.patch("bpfagent.engine.threading.active_count", lambda: threads), mock.patch("bpfagent.engine.time") as clock:
+                    clock.monotonic = lambda: next(now) * 0.001
+                    own.run(own.ship(spin(3_000_000), 2**40))
+                self.assertEqual({call.args[0] for call in clock.sleep.call_args_list}, pauses)
+
     def test_leaks(self) -> None:
         """Engines that nobody closes are freed."""
 
