@@ -2,8 +2,9 @@
 //! since a program that both steps and runs machines has two copies of all that a step does, and calls them.
 #![tactic(auto)]
 
-use bench_start::{BUDGET, Work, grants_of, length_after};
+use bench_start::{BUDGET, Work, first_objects, length_after};
 use far_store::OwnStore;
+use machine::{GRANT_LIMIT, Grants};
 use std::alloc::Global;
 use world::{Event, MachineCommand, ObjectLength, Reply, ShowCommand, Start, Way, World};
 
@@ -34,6 +35,9 @@ pub extern "C" fn bpf_run(alloc: Global, code: &[u8], work: &Work, steps: &mut u
 
 /// The objects, machines that have the last of them in their scopes, and the one that is measured.
 fn world_of(alloc: Global, code: &[u8], work: Work) -> Option<World<OwnStore>> {
+    if work.granted > GRANT_LIMIT {
+        return None;
+    }
     let mut world = World::new(alloc, BUDGET, OwnStore::new(alloc)).ok()?;
     for count in 0..work.objects {
         let length = ObjectLength::new(length_after(count) as u64)?;
@@ -44,10 +48,15 @@ fn world_of(alloc: Global, code: &[u8], work: Work) -> Option<World<OwnStore>> {
         let _ = world.ship(last, &LOAD);
         let _ = world.step(who, Way::Step);
     }
+    let grants = if work.granted == 0 {
+        Grants::all()
+    } else {
+        first_objects(work.granted)
+    };
     let start = Start {
         fuel: work.fuel,
         arguments: [work.argument, 0, 0, 0, 0],
-        grants: grants_of(work)?,
+        grants,
     };
     match world.ship(start, code) {
         Reply::Shipped { .. } => Some(world),

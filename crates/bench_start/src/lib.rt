@@ -49,15 +49,19 @@ pub struct Work {
 pub fn start(alloc: Global, code: &[u8], work: Work) -> Option<(Machine, ObjectStore<OwnStore>)>
     ensures { IfSome result (λ started. work.machines ≤ 48) }
 {
-    if work.machines > MACHINE_LIMIT {
+    if work.machines > MACHINE_LIMIT || work.granted > GRANT_LIMIT {
         return None;
     }
-    let grants = grants_of(work)?;
     let program = load(alloc, code).ok()?;
     let mut store = store_of(alloc, work.objects)?;
     for who in 1..work.machines {
         hold(&mut store, who, work.objects);
     }
+    let grants = if work.granted == 0 {
+        Grants::all()
+    } else {
+        first_objects(work.granted)
+    };
     let arguments = [work.argument, 0, 0, 0, 0];
     let machine = Machine::granted(program, work.machines, work.fuel, arguments, grants);
     Some((machine, store))
@@ -85,17 +89,6 @@ pub fn instructions_run(work: &Work, machine: &Machine) -> u64
     }
 }
 
-/// The objects that the machine is granted, unless they are more than may be.
-pub fn grants_of(work: Work) -> Option<Grants> {
-    if work.granted > GRANT_LIMIT {
-        return None;
-    }
-    if work.granted == 0 {
-        return Some(Grants::all());
-    }
-    Some(first_objects(work.granted))
-}
-
 /// How many bytes the object has that is made after so many others.
 pub fn length_after(count: u32) -> u32
     ensures { (1 ≤ result) × (result ≤ object_bytes) }
@@ -104,7 +97,7 @@ pub fn length_after(count: u32) -> u32
 }
 
 /// The first objects, so many, for writing.
-fn first_objects(count: usize) -> Grants
+pub fn first_objects(count: usize) -> Grants
     requires { count ≤ 16 }
 {
     let mut grants = Grants::none();
