@@ -45,6 +45,8 @@ bpfagent --version
 man -w bpfagent-ship 2> /dev/null || ls /usr/share/man/man1/bpfagent-ship.1.gz
 bpfagent-ship --version
 bpfagent-front --version
+printf 'mov r0, 7\\nexit\\n' | bpfagent asm > /tmp/seven.code
+bpfagent-ship /tmp/seven.code
 python3 -c 'import bpfagent, bpfagent.library as found
 print(found.library().path)
 with bpfagent.Engine() as engine: print(engine.read(engine.make_of(b"hello"), 5))'
