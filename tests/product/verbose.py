@@ -27,7 +27,7 @@ END = (
     "the service ends: 2 objects of 9 bytes here, 1 object of 24 bytes far; 32 bytes left, 8 bytes returned, 1 fault in T ms, 0 evictions, N failures, "
     "0 passes of the bound"
 )
-OUT = "1 object of 24 bytes is far at the end, and stays in the far store, if that still runs"
+OUT = "1 object of 24 bytes is far at the end, and dropped by the far store"
 # What differs from session to session in the last line but one.
 VARIES = re.compile(r"in \d+ ms, 0 evictions, \d+ failures,")
 TIME = re.compile(r"in \d+ ms")

@@ -133,7 +133,7 @@ impl<'a, R: Clock + Eprint> Ledger<'a, R> {
         self.notes.write(Note::Kept(here, far, self.moves()));
         if far.objects > 0 {
             self.notes.say(if has_far_store {
-                Note::StayFar(far)
+                Note::Dropped(far)
             } else {
                 Note::Lost(far)
             });

@@ -34,7 +34,7 @@ pub(crate) enum Note {
     Returned(u32),
     StayedFar(u32, StoreFault),
     Kept(Tally, Tally, Moves),
-    StayFar(Tally),
+    Dropped(Tally),
     Lost(Tally),
 }
 
@@ -97,16 +97,12 @@ impl Display for Note {
                 let (here, far) = (Counted(*here), Counted(*far));
                 write!(f, "the service ends: {here} here, {far} far; {moves}")
             }
-            Note::StayFar(far) => {
-                let (are, stay) = if far.objects == 1 {
-                    ("is", "stays")
-                } else {
-                    ("are", "stay")
-                };
+            Note::Dropped(far) => {
+                let are = if far.objects == 1 { "is" } else { "are" };
                 let far = Counted(*far);
                 write!(
                     f,
-                    "{far} {are} far at the end, and {stay} in the far store, if that still runs"
+                    "{far} {are} far at the end, and dropped by the far store"
                 )
             }
             Note::Lost(far) => {
