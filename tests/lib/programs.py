@@ -45,7 +45,7 @@ PIDFD_GETFD = 438
 LISTENING = re.compile(r"listening (\d+)\n")
 # A line that a server writes with `-v`.
 # What a service says at its end of objects that are far.
-LEFT_OUT = re.compile(r"(\d+) objects? of \d+ bytes? (?:is|are) far at the end, and (?:stays? in the far store, if that still runs|lost with this process)\n")
+LEFT_OUT = re.compile(r"(\d+) objects? of \d+ bytes? (?:is|are) far at the end, and (?:dropped by the far store|lost with this process)\n")
 NOTED = re.compile(r"(\d{4}-\d{2}-\d{2}T\d{2}:\d{2}:\d{2}\.\d{3})Z (.*)")
 
 
