@@ -203,7 +203,12 @@ def tried_together(rt: str, copied: pathlib.Path, group: Mapping[pathlib.Path, P
 
 def try_edits(rt: str, copied: pathlib.Path) -> Iterator[tuple[pathlib.Path, Verdict]]:
     """What comes of each edit of a copied crate. Those of different functions are made at once, and alone only if nothing refused them then."""
-    left = sorted((copied / "edits").glob("*.edit"))
+    left = []
+    for edit in sorted((copied / "edits").glob("*.edit")):
+        if all(old in (copied / file).read_text() for file, old, _ in changes_of(edit)):
+            left.append(edit)
+        else:
+            yield edit, Verdict("NOT TRIED", "a text that it changes isn't in its file")
     for group in groups_of({edit: place for edit in left if (place := place_of(copied, edit))}):
         for edit, verdict in tried_together(rt, copied, group):
             left.remove(edit)
