@@ -1,14 +1,19 @@
-"""Eleven of the rows as bars, in one picture: docs/performance.svg. bench/figures.json has all."""
+#!/usr/bin/env python3
+"""Draws eleven of the rows of bench/figures.json as bars, in one picture: docs/performance.svg. It needs matplotlib (Debian's python3-matplotlib)."""
 from __future__ import annotations
 
 import math
-from html import escape
+import sys
 from pathlib import Path
 from typing import Iterator
 
-from rows import Row
+from rows import Row, load_figures, words
 
-PICTURE = Path(__file__).resolve().parents[1] / "docs/performance.svg"
+ROOT = Path(__file__).resolve().parents[1]
+sys.path.append(str(ROOT / "examples/scaling"))
+from plots import CLOSE, Picture, blank, name_of, save
+
+PICTURE = ROOT / "docs/performance.svg"
 # The rows that are drawn, by part and name, and what stands beside each.
 SHOWN = {
     ("step", "mean of the five"): "a step, mean of five programs",
@@ -24,10 +29,11 @@ SHOWN = {
     ("far store", "put of 65536 bytes"): "a put of 65,536 bytes to a far store",
 }
 
-WIDTH, LEFT, RIGHT, TOP = 860, 300, 60, 62
-LINE, BAR, TICK = 30, 10, 0.5
-TIME, COUNTS, AXIS = "#1b6ca8", "#8e9aa6", "#555555"
-TITLE = "ours divided by the same in C: 1 is equal, less is better"
+# Inches, how high a bar is of a row, and how far apart the ticks are.
+WIDE, HIGH, THICK, TICK = 9.0, 5.0, 0.36, 0.5
+# What the bars of a row are, each with its colour.
+KINDS = {"time": "#1b6ca8", "machine instructions": "#8e9aa6"}
+TITLE = "ours divided by the same in C (a ratio: 1 is equal, less is better)"
 
 
 def drawn_rows(rows: list[Row]) -> dict[str, Row]:
@@ -36,55 +42,54 @@ def drawn_rows(rows: list[Row]) -> dict[str, Row]:
     return {label: known[place] for place, label in SHOWN.items() if place in known}
 
 
-def figures(row: Row) -> list[tuple[float, str]]:
-    """The bars of a row, each with its colour: time, and machine instructions."""
-    both = ((row.ratio, TIME), (row.counts, COUNTS))
-    return [(ratio, colour) for ratio, colour in both if ratio is not None]
+def ratios(rows: dict[str, Row], kind: str) -> dict[str, float]:
+    """The bars of a kind by what stands beside them: of time, or of machine instructions."""
+    both = {label: row.ratio if kind == "time" else row.counts for label, row in rows.items()}
+    return {label: ratio for label, ratio in both.items() if ratio is not None}
 
 
-def x_of(ratio: float, longest: float) -> float:
-    return LEFT + ratio / longest * (WIDTH - LEFT - RIGHT)
+def longest(rows: dict[str, Row]) -> float:
+    """The number at the right end: that of a tick."""
+    return max([1.0, *(math.ceil(ratio / TICK) * TICK for kind in KINDS for ratio in ratios(rows, kind).values())])
 
 
-def bars(rows: dict[str, Row], longest: float) -> Iterator[str]:
-    for index, (label, row) in enumerate(rows.items()):
-        y = TOP + index * LINE
-        yield f'<text x="{LEFT - 8}" y="{y + 15}" text-anchor="end">{escape(label)}</text>'
-        for place, (ratio, colour) in enumerate(figures(row)):
-            top, end = y + 1 + place * (BAR + 1), x_of(ratio, longest)
-            yield f'<rect x="{LEFT}" y="{top}" width="{end - LEFT:.1f}" height="{BAR}" fill="{colour}"/>'
-            yield f'<text class="ratio" x="{end + 4:.1f}" y="{top + BAR - 1}" font-size="10">{ratio:.2f}</text>'
-
-
-def axis(bottom: int, longest: float) -> Iterator[str]:
-    """A line with a number at each tick, what the numbers are, and a line where both sides are equal."""
-    yield f'<path d="M{LEFT} {bottom}H{WIDTH - RIGHT}" stroke="{AXIS}"/>'
-    for count in range(round(longest / TICK) + 1):
-        x = x_of(count * TICK, longest)
-        yield f'<path d="M{x:.1f} {bottom}v5" stroke="{AXIS}"/><text x="{x:.1f}" y="{bottom + 18}" text-anchor="middle">{count * TICK:.1f}</text>'
-    yield f'<text x="{(LEFT + WIDTH - RIGHT) / 2:.0f}" y="{bottom + 36}" text-anchor="middle">{TITLE}</text>'
-    one = x_of(1, longest)
-    yield f'<path d="M{one:.1f} {TOP - 6}V{bottom}" stroke="#c0392b" stroke-dasharray="4 3"/>'
-
-
-def picture(rows: list[Row]) -> str:
-    """The bars, as long as the longest, over an axis."""
+def draw(rows: list[Row], path: Path = PICTURE) -> None:
+    """Writes the picture: the rows from above, of each its bars, and behind a bar its number."""
     shown = drawn_rows(rows)
-    longest = max([1.0, *(math.ceil(ratio / TICK) * TICK for row in shown.values() for ratio, _ in figures(row))])
-    bottom = TOP + LINE * len(shown)
-    high = bottom + 48
-    return "\n".join([
-        f'<svg xmlns="http://www.w3.org/2000/svg" width="{WIDTH}" height="{high}" font-family="sans-serif" font-size="12">',
-        f"<title>{TITLE}</title>",
-        f'<rect width="{WIDTH}" height="{high}" fill="white"/>',
-        f'<rect x="{LEFT}" y="20" width="{BAR}" height="{BAR}" fill="{TIME}"/><text x="{LEFT + 16}" y="29">time</text>',
-        f'<rect x="{LEFT + 80}" y="20" width="{BAR}" height="{BAR}" fill="{COUNTS}"/><text x="{LEFT + 96}" y="29">machine instructions</text>',
-        *bars(shown, longest),
-        *axis(bottom, longest),
-        "</svg>",
-        "",
-    ])
+    figure = blank(WIDE, HIGH)
+    axes = figure.subplots()
+    axes.set(xlim=(0, longest(shown)), ylim=(len(shown) - 0.5, -0.5), xlabel=TITLE)
+    axes.set_xticks([count * TICK for count in range(round(longest(shown) / TICK) + 1)])
+    axes.set_yticks(range(len(shown)), list(shown))
+    axes.tick_params(axis="y", length=0)
+    axes.spines[["top", "right"]].set_visible(False)
+    axes.patch.set_gid("frame")
+    axes.axvline(1, color="#c0392b", linestyle="--", linewidth=1)
+    places = {label: place for place, label in enumerate(shown)}
+    for number, (kind, colour) in enumerate(KINDS.items()):
+        bars = ratios(shown, kind)
+        drawn = axes.barh([places[label] + (number - 0.5) * THICK for label in bars], list(bars.values()), THICK, color=colour, label=kind)
+        white = {"facecolor": "white", "edgecolor": "none", "pad": 0.5}
+        texts = axes.bar_label(drawn, fmt="%.2f", padding=3, fontsize=8, bbox=white)
+        for label, bar, text in zip(bars, drawn, texts):
+            bar.set_gid(name_of(kind, label))
+            text.set_gid(name_of("number", kind, label))
+    axes.legend(loc="lower left", bbox_to_anchor=(0, 1), ncol=len(KINDS), frameon=False)
+    save(figure, path)
 
 
-def draw(rows: list[Row]) -> None:
-    PICTURE.write_text(picture(rows))
+def differing(rows: list[Row], path: Path = PICTURE) -> Iterator[str]:
+    """What of the rows the picture doesn't show, by the length of a bar or by its number."""
+    shown, picture = drawn_rows(rows), Picture(path)
+    yield from (f"{path.name} has no {text!r}" for text in (TITLE, *KINDS, *shown) if text not in picture.texts)
+    for kind in KINDS:
+        for label, ratio in ratios(shown, kind).items():
+            length = max((across for across, _ in picture.shares("frame", name_of(kind, label))), default=0.0) * longest(shown)
+            number = picture.text(name_of("number", kind, label))
+            if not math.isclose(length, ratio, rel_tol=CLOSE) or number != f"{ratio:.2f}":
+                yield f"{path.name} shows {kind} of {label} by a bar of {length:.3f} and {number!r}, and not as {ratio:.3f}"
+
+
+if __name__ == "__main__":
+    words("bars.py", 0, 0)
+    draw(load_figures())

@@ -3,7 +3,8 @@
 
 Steps, lines, accesses to shared objects, a far store over TCP and a service, and the time of a line of assembly. Where there is
 valgrind, each with its machine instructions, which repeat exactly on a busy machine too. It needs a C compiler. What was measured
-is kept in bench/figures.json, a row a line, and drawn as docs/performance.svg; worse.py compares it with the last commit's.
+is kept in bench/figures.json, a row a line, and drawn as docs/performance.svg by bars.py, which needs matplotlib; worse.py compares
+it with the last commit's.
 """
 from __future__ import annotations
 
@@ -14,7 +15,6 @@ import subprocess
 import sys
 from typing import Callable, Iterable
 
-from bars import draw
 from counts import PROGRAMS as MEASURED, STRAIGHT
 from forms import COMPILER, OTHERS, Form, differing
 from rows import Row, joined, read_rows, store_figures, words
@@ -212,7 +212,8 @@ def main() -> None:
             parts[name](bench)
     except (OSError, subprocess.SubprocessError) as wrong:
         sys.exit(f"bench: {wrong}")
-    draw(store_figures(bench.rows))
+    store_figures(bench.rows)
+    sys.exit(subprocess.run([sys.executable, "-B", "bench/bars.py"], cwd=ROOT).returncode)
 
 
 if __name__ == "__main__":

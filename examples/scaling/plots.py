@@ -1,14 +1,32 @@
-"""Diagrams with logarithmic axes, side by side, as SVG. Standard library only."""
+"""Diagrams with logarithmic axes, side by side, as SVG: drawn by matplotlib, and read again by the standard library alone."""
 from __future__ import annotations
 
 import math
+import os
+import re
+import sys
 from dataclasses import dataclass
+from pathlib import Path
+from typing import Any, Iterator, Sequence
+from xml.etree import ElementTree
 
-WIDE, HIGH, LEFT, TOP, APART = 400, 260, 60, 40, 500
-# How far below a diagram stand what its numbers across are, and the first line's name.
-ACROSS, NAMES = 38, 62
+# The Python that has what apt-get installs.
+DEBIAN = "/usr/bin/python3"
+SVG = "{http://www.w3.org/2000/svg}"
 COLOURS = ["#1b6ca8", "#c0392b", "#2e8b57", "#8e44ad", "#b9770e", "#566573"]
-DASHES = ["", "7 3", "2 3", "9 3 2 3", "12 4", "4 2"]
+DASHES: list[Any] = ["solid", (0, (5, 2)), (0, (1, 1.5)), (0, (6, 2, 1, 2)), (0, (9, 3)), (0, (3, 1.5))]
+# Text stays text, and the same version of matplotlib draws the same bytes.
+STYLE = {
+    "svg.fonttype": "none",
+    "svg.hashsalt": "bpfagent",
+    "font.sans-serif": ["DejaVu Sans", "Verdana"],
+    "axes.axisbelow": True,
+    "grid.color": "#dddddd",
+}
+# Inches of each diagram, and the share of its width that is free beside its first and last points.
+WIDE, HIGH, FREE = 5.0, 4.4, 0.04
+# How far a number that is read from a picture may be off: its places have six digits.
+CLOSE = 1e-4
 
 
 @dataclass(frozen=True)
@@ -19,6 +37,22 @@ class Curve:
     points: list[tuple[float, float]]
 
 
+@dataclass(frozen=True)
+class Panel:
+    """A diagram: what its numbers up and across are, with their units, its curves, and the numbers across that are written."""
+
+    up: str
+    across: str
+    curves: list[Curve]
+    marks: list[float]
+
+    def limits(self) -> tuple[tuple[float, float], tuple[float, float]]:
+        """The least and the greatest number, across and up. Up they are powers of ten."""
+        places, rates = zip(*(point for curve in self.curves for point in curve.points))
+        free = (max(places) / min(places)) ** FREE
+        return (min(places) / free, max(places) * free), (10 ** math.floor(math.log10(min(rates))), 10 ** math.ceil(math.log10(max(rates))))
+
+
 def short(number: float) -> str:
     """Two digits, with k or M."""
     for unit, name in ((1e6, "M"), (1e3, "k")):
@@ -27,65 +61,94 @@ def short(number: float) -> str:
     return f"{number:.2g}" if number < 99.5 else f"{number:.0f}"
 
 
-class Panel:
-    """A diagram, the so-many-th from the left."""
-
-    def __init__(self, number: int, title: str, curves: list[Curve], marks: list[float]) -> None:
-        """`title` says what is shown, with its unit, and behind `, by` what the numbers across are. `marks` are those that are written."""
-        self.left, self.lines, self.marks = LEFT + number * APART, curves, marks
-        self.title, _, self.below = title.partition(", by ")
-        rates = [rate for curve in curves for _, rate in curve.points]
-        places = [place for curve in curves for place, _ in curve.points]
-        self.low, self.high = math.floor(math.log10(min(rates))), math.ceil(math.log10(max(rates)))
-        self.first, self.last = math.log10(min(places)), math.log10(max(places))
-
-    def across(self, place: float) -> float:
-        return self.left + (math.log10(place) - self.first) / (self.last - self.first) * WIDE
-
-    def up(self, rate: float) -> float:
-        return TOP + HIGH - (math.log10(rate) - self.low) / (self.high - self.low) * HIGH
-
-    def axes(self) -> list[str]:
-        """Frame, lines at each power of ten with their numbers, and what both axes show."""
-        parts = [
-            f'<rect x="{self.left}" y="{TOP}" width="{WIDE}" height="{HIGH}" fill="none" stroke="#444"/>',
-            f'<text x="{self.left}" y="{TOP - 14}" font-weight="bold">{self.title}</text>',
-            f'<text x="{self.left + WIDE // 2}" y="{TOP + HIGH + ACROSS}" text-anchor="middle">{self.below}</text>',
-        ]
-        for power in range(self.low, self.high + 1):
-            y = self.up(10**power)
-            parts += [
-                f'<path d="M{self.left} {y:.1f}h{WIDE}" stroke="#ddd"/>',
-                f'<text x="{self.left - 8}" y="{y + 4:.1f}" text-anchor="end">{short(10**power)}</text>',
-            ]
-        for place in self.marks:
-            x = self.across(place)
-            parts += [f'<path d="M{x:.1f} {TOP + HIGH}v5" stroke="#444"/>', f'<text x="{x:.1f}" y="{TOP + HIGH + 19}" text-anchor="middle">{place:g}</text>']
-        return parts
-
-    def curves(self) -> list[str]:
-        """Each line, and its name below."""
-        parts = []
-        for k, curve in enumerate(self.lines):
-            points = " ".join(f"{self.across(place):.1f},{self.up(rate):.1f}" for place, rate in curve.points)
-            style = f'fill="none" stroke="{COLOURS[k]}" stroke-width="2" stroke-dasharray="{DASHES[k]}"'
-            y = TOP + HIGH + NAMES + 18 * k
-            parts += [
-                f'<polyline points="{points}" {style}/>',
-                f'<path d="M{self.left} {y - 4}h34" {style}/>',
-                f'<text x="{self.left + 42}" y="{y}">{curve.name}</text>',
-            ]
-        return parts
+def name_of(*words: object) -> str:
+    """The name of a group of a picture."""
+    return re.sub(r"\W+", "-", " ".join(map(str, words)))
 
 
-def picture(panels: list[Panel]) -> str:
-    """Diagrams side by side."""
-    names = max(len(panel.lines) for panel in panels)
-    wide, high = LEFT + APART * (len(panels) - 1) + WIDE + 20, TOP + HIGH + NAMES + 18 * names
-    parts = [
-        f'<svg xmlns="http://www.w3.org/2000/svg" width="{wide}" height="{high}" font-family="sans-serif" font-size="12">',
-        f'<rect width="{wide}" height="{high}" fill="white"/>',
-    ]
-    for panel in panels:
-        parts += [*panel.axes(), *panel.curves()]
-    return "\n".join([*parts, "</svg>"])
+def blank(wide: float, high: float) -> Any:
+    """An empty figure of matplotlib. If this Python has no matplotlib, Debian's runs the script. If that has none, a line says so and ends it."""
+    try:
+        import matplotlib
+        from matplotlib.figure import Figure
+    except ImportError:
+        if os.path.realpath(sys.executable) != os.path.realpath(DEBIAN) and os.access(DEBIAN, os.X_OK):
+            os.execv(DEBIAN, [DEBIAN, *sys.argv])
+        sys.exit(f"{Path(sys.argv[0]).name}: this needs matplotlib: apt-get install python3-matplotlib")
+    matplotlib.rcdefaults()
+    matplotlib.rcParams.update(STYLE)
+    return Figure(figsize=(wide, high), layout="constrained")
+
+
+def save(figure: Any, path: Path) -> None:
+    """Writes a figure, without the date."""
+    figure.savefig(path, format="svg", metadata={"Creator": None, "Date": None})
+
+
+def draw(panels: Sequence[Panel], path: Path) -> None:
+    """Writes diagrams side by side."""
+    figure = blank(WIDE * len(panels), HIGH)
+    for number, (panel, axes) in enumerate(zip(panels, figure.subplots(1, len(panels), squeeze=False)[0])):
+        across, up = panel.limits()
+        axes.set(xscale="log", yscale="log", xlim=across, ylim=up, xlabel=panel.across, ylabel=panel.up)
+        axes.set_xticks(panel.marks, [f"{mark:g}" for mark in panel.marks])
+        axes.set_xticks([], minor=True)
+        ticks = [digit * 10**power for power in range(round(math.log10(up[0])), round(math.log10(up[1]))) for digit in (1, 2, 5)] + [up[1]]
+        axes.set_yticks(ticks, [short(tick) for tick in ticks])
+        axes.set_yticks([], minor=True)
+        axes.grid()
+        axes.patch.set_gid(name_of("frame", number))
+        for curve, colour, dash in zip(panel.curves, COLOURS, DASHES):
+            axes.plot(*zip(*curve.points), color=colour, linestyle=dash, marker="o", markersize=4, label=curve.name, gid=name_of("curve", number, curve.name))
+        axes.legend(loc="upper center", bbox_to_anchor=(0.5, -0.14), frameon=False, handlelength=4)
+    save(figure, path)
+
+
+class Picture:
+    """What a picture shows, by the names of its groups. Where there is no such picture, a line says so and ends the script."""
+
+    def __init__(self, path: Path) -> None:
+        try:
+            self._root = ElementTree.parse(path).getroot()
+        except (OSError, ElementTree.ParseError) as why:
+            sys.exit(f"{path}: {why}")
+        self.texts = [text.text for text in self._root.iter(f"{SVG}text")]
+
+    def text(self, name: str) -> str:
+        """The text of a group."""
+        return "".join(text for group in self._root.findall(f".//{SVG}g[@id='{name}']") for text in group.itertext()).strip()
+
+    def points(self, name: str) -> list[tuple[float, float]]:
+        """The corners of a line or a box."""
+        drawn = "".join(path.get("d", "") for path in self._root.findall(f".//{SVG}g[@id='{name}']/{SVG}path"))
+        return [(float(x), float(y)) for x, y in re.findall(r"[ML] ([-\d.]+) ([-\d.]+)", drawn)]
+
+    def shares(self, frame: str, name: str) -> list[tuple[float, float]]:
+        """The corners as shares of a frame's width, from its left, and of its height, from its foot."""
+        corners = self.points(frame) or [(0.0, 0.0), (1.0, 1.0)]
+        (left, top), (right, foot) = min(corners), max(corners)
+        return [((x - left) / (right - left), (foot - y) / (foot - top)) for x, y in self.points(name)]
+
+
+def between(limits: tuple[float, float], share: float) -> float:
+    """The number at this share of a logarithmic axis."""
+    return limits[0] * math.pow(limits[1] / limits[0], share)
+
+
+def told(points: Sequence[tuple[float, float]]) -> str:
+    """Points in words."""
+    return ", ".join(f"{rate:g} at {place:g}" for place, rate in points) or "nothing"
+
+
+def differing(panels: Sequence[Panel], path: Path) -> Iterator[str]:
+    """What of these diagrams a picture doesn't show."""
+    picture = Picture(path)
+    for number, panel in enumerate(panels):
+        across, up = panel.limits()
+        yield from (f"{path.name} has no {text!r}" for text in (panel.across, panel.up, *(it.name for it in panel.curves)) if text not in picture.texts)
+        for curve in panel.curves:
+            shares = picture.shares(name_of("frame", number), name_of("curve", number, curve.name))
+            found = [(between(across, x), between(up, y)) for x, y in shares]
+            pairs = [pair for one, other in zip(found, curve.points) for pair in zip(one, other)]
+            if len(found) != len(curve.points) or not all(math.isclose(*pair, rel_tol=CLOSE) for pair in pairs):
+                yield f"{path.name} shows {curve.name} as {told(found)}, and not as {told(curve.points)}"

@@ -1,8 +1,8 @@
 #!/usr/bin/env python3
 """Writes the tables and the picture of docs/SCALING.md anew from figures.json: report.py [--check]
 
-A table stands between `<!-- NAME -->` and `<!-- end -->`. With --check nothing is written, and the status is 1 if the page or the
-picture isn't what the figures make it. Standard library only.
+A table stands between `<!-- NAME -->` and `<!-- end -->`. With --check nothing is written, and the status is 1 if a table or the
+picture doesn't show the figures. Only drawing needs matplotlib (Debian's python3-matplotlib).
 """
 from __future__ import annotations
 
@@ -13,11 +13,11 @@ from typing import Iterator
 
 import costs
 import figures as kept
-from plots import Curve, Panel, picture, short
+from plots import Curve, Panel, differing, draw, short
 
 HERE = pathlib.Path(__file__).resolve().parent
 DOCS = HERE.parents[1] / "docs"
-PAGE = DOCS / "SCALING.md"
+PAGE, PICTURE = DOCS / "SCALING.md", DOCS / "scaling-measured.svg"
 # Objects of which the bytes a second are shown, in bytes.
 LARGE = 4096
 WAYS = {"agents": "agents", "plain": "plain Python"}
@@ -91,8 +91,8 @@ def facts(figures: dict) -> str:
     )
 
 
-def measured(rows: list[dict]) -> str:
-    """The picture of jobs and bytes by agents."""
+def measured(rows: list[dict]) -> list[Panel]:
+    """The diagrams of jobs and bytes by agents."""
     agents = [float(it) for it in dict.fromkeys(row["agents"] for row in rows)]
     short_one, *_ = kinds(rows)
     long_one = max(kinds(rows), key=lambda kind: kind[1] if kind[1] < 100_000 else 0)
@@ -108,19 +108,25 @@ def measured(rows: list[dict]) -> str:
         for length in sizes
         for way, name in WAYS.items()
     ]
-    return picture([Panel(0, "jobs a second, by workers", jobs, agents), Panel(1, "MB a second, by workers", moved, agents)])
+    return [Panel("jobs a second", "workers", jobs, agents), Panel("MB a second", "workers", moved, agents)]
 
 
-def made(figures: dict) -> Iterator[tuple[pathlib.Path, str]]:
-    """The page and the picture as the figures make them."""
+def page(figures: dict) -> str:
+    """The page as the figures make it."""
     text = PAGE.read_text()
     blocks = {"throughput": throughput(figures["rows"]), "examples": examples(figures), "facts": facts(figures)}
     for name, content in blocks.items():
         text, count = re.subn(rf"(<!-- {name} -->\n).*?(\n<!-- end -->)", lambda found: found[1] + content + found[2], text, flags=re.S)
         if count != 1:
             raise SystemExit(f"{PAGE} has {count} places for {name}")
-    yield PAGE, text
-    yield DOCS / "scaling-measured.svg", measured(figures["rows"]) + "\n"
+    return text
+
+
+def wrong(figures: dict) -> Iterator[str]:
+    """What of the figures page and picture don't show."""
+    if PAGE.read_text() != page(figures):
+        yield f"{PAGE.name} hasn't the tables that the figures make"
+    yield from differing(measured(figures["rows"]), PICTURE)
 
 
 def main() -> None:
@@ -131,11 +137,12 @@ def main() -> None:
         figures = kept.load()
     except (OSError, ValueError, KeyError, TypeError) as why:
         sys.exit(f"{kept.FIGURES}: {why}")
-    for path, text in made(figures):
-        if sys.argv[1:] and (not path.is_file() or path.read_text() != text):
-            sys.exit(f"{path} isn't what the figures make it: run {pathlib.Path(sys.argv[0]).name}")
-        if not sys.argv[1:]:
-            path.write_text(text)
+    if sys.argv[1:]:
+        if found := list(wrong(figures)):
+            sys.exit("\n".join([*found, "run report.py"]))
+        return
+    draw(measured(figures["rows"]), PICTURE)
+    PAGE.write_text(page(figures))
 
 
 if __name__ == "__main__":

@@ -26,15 +26,18 @@ A refusal says why. The command changed nothing, and the conversation goes on:
 `Agent.reach(place)` talks to a service in the same way, and `Service` starts one. An `Engine` is an agent in this process, by the
 library for C, and has the same methods. README.md of this package shows two clients of one service. An agent isn't for several threads at once: give each its own connection.
 """
-from . import interrupt as _interrupt  # noqa: F401, I001 - it is heard during the other imports
-from .agent import ARGUMENTS, PIECE, REPLY, STACK, Agent, address, patiently
-from .engine import Engine, FarStore
-from .image import Image, Unloadable, load
-from .library import NoLibrary
-from .procedure import Exhausted, Failed, Procedure
-from .protocol import why_bad
-from .replies import Broken, Closed, Hit, Move, NotExited, Paused, Ran, Refused, Registers, Run, Step, Stopped, Waiting
-from .service import Service
+from importlib import import_module
+from typing import TYPE_CHECKING
+
+if TYPE_CHECKING:
+    from .agent import ARGUMENTS, PIECE, REPLY, STACK, Agent, address, patiently
+    from .engine import Engine, FarStore
+    from .image import Image, Unloadable, load
+    from .library import NoLibrary
+    from .procedure import Exhausted, Failed, Procedure
+    from .protocol import why_bad
+    from .replies import Broken, Closed, Hit, Move, NotExited, Paused, Ran, Refused, Registers, Run, Step, Stopped, Waiting
+    from .service import Service
 
 __version__ = "0.9.0"
 __all__ = [
@@ -70,3 +73,19 @@ __all__ = [
     "patiently",
     "why_bad",
 ]
+# The modules that have these names.
+_MODULES = ("agent", "engine", "image", "library", "procedure", "protocol", "replies", "service")
+
+if not TYPE_CHECKING:
+
+    def __getattr__(name: str) -> object:
+        """Imports a name's module when the name is first used. So a program calls `keep` of `interrupt` before it imports the others."""
+        if name not in __all__:
+            raise AttributeError(f"module {__name__!r} has no attribute {name!r}")
+        modules = (import_module(f".{module}", __name__) for module in _MODULES)
+        found = globals()[name] = next(getattr(module, name) for module in modules if hasattr(module, name))
+        return found
+
+    def __dir__() -> list[str]:
+        """The names, used or not."""
+        return sorted({*globals(), *__all__})

@@ -1,6 +1,12 @@
 """The command `bpfagent-cli`: a shell for the commands of docs/PROTOCOL.md, over an agent of its own or a service."""
 from __future__ import annotations
 
+# Before the imports: an interrupt during them ends the program quietly.
+if __name__ == "__main__":
+    import bpfagent.programs
+
+    bpfagent.programs.run("cli")
+
 import argparse
 import contextlib
 import os
@@ -251,7 +257,3 @@ def main(words: Optional[Sequence[str]] = None) -> None:
     if given.place and served is not None:
         options.error("-- starts a service, and a place is one that runs")
     guarded(NAME, lambda: talk(given, served), Unreachable, Unloadable, Broken)
-
-
-if __name__ == "__main__":
-    main()

@@ -25,13 +25,12 @@ def guarded(name: str, call: Callable[[], None], *faults: type[BaseException]) -
     for stream in (sys.stdout, sys.stderr):
         if hasattr(stream, "reconfigure"):
             stream.reconfigure(errors="backslashreplace")
-    is_kept = interrupt.is_kept()
     try:
-        if is_kept:
-            interrupt.let()
-        call()
-        if sys.stdout:
-            sys.stdout.flush()
+        # Behind this block an interrupt ends the process at once. Nothing is left to be done, and Python's own end would show a traceback.
+        with interrupt.raising():
+            call()
+            if sys.stdout:
+                sys.stdout.flush()
     except BrokenPipeError:
         os.dup2(os.open(os.devnull, os.O_WRONLY), sys.stdout.fileno())
         sys.exit(1)
@@ -39,10 +38,6 @@ def guarded(name: str, call: Callable[[], None], *faults: type[BaseException]) -
         sys.exit(interrupt.INTERRUPTED)
     except known as why:
         sys.exit(f"{name}: {printable(fault_text(why), KEPT)}")
-    finally:
-        # Nothing is left to be done, and Python's own end would show a traceback.
-        if is_kept:
-            interrupt.keep()
 
 
 def open_standard_streams() -> None:

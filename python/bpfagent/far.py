@@ -5,6 +5,12 @@ its id, its length and its SHA-256. The store is `bpfagent store`, `bpfagent-red
 """
 from __future__ import annotations
 
+# Before the imports: an interrupt during them ends the program quietly.
+if __name__ == "__main__":
+    import bpfagent.programs
+
+    bpfagent.programs.run("far")
+
 import argparse
 import hashlib
 import os
@@ -127,7 +133,3 @@ def main() -> None:
     options.add_argument("texts", type=text_of, nargs="*", default=[], metavar="TEXT", help=f"1 to {LIMIT} bytes")
     given = options.parse_args()
     guarded("bpfagent.far", lambda: send_and_fetch(given.port, given.texts), Broken)
-
-
-if __name__ == "__main__":
-    main()

@@ -10,6 +10,12 @@ next one tries again. Standard error says once that Redis can't be reached, and 
 """
 from __future__ import annotations
 
+# Before the imports: an interrupt during them ends the program quietly.
+if __name__ == "__main__":
+    import bpfagent.programs
+
+    bpfagent.programs.run("gateway")
+
 import argparse
 import contextlib
 import hashlib
@@ -342,7 +348,3 @@ def main() -> None:
     """The command line."""
     given = parser().parse_args()
     guarded("bpfagent-redis", lambda: run(given), Unbound, Unusable)
-
-
-if __name__ == "__main__":
-    main()

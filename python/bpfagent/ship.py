@@ -5,6 +5,12 @@ process, to a new service, or to one that runs already. Its stop, what it emitte
 """
 from __future__ import annotations
 
+# Before the imports: an interrupt during them ends the program quietly.
+if __name__ == "__main__":
+    import bpfagent.programs
+
+    bpfagent.programs.run("ship")
+
 import argparse
 import functools
 import json
@@ -425,7 +431,3 @@ def main(words: Optional[Sequence[str]] = None) -> None:
     if why := wrong(given):
         options.error(why)
     guarded("bpfagent-ship", lambda: told(given) if given.json else ship(given), *FAULTS)
-
-
-if __name__ == "__main__":
-    main()

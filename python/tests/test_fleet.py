@@ -371,13 +371,6 @@ class FleetTest(unittest.TestCase):
         calm, dying = (simulate_fleet.Simulated(simulate_fleet.far(10, 1), slow, 64, 10, deaths).rate() for deaths in (0.0, 1.0))
         self.assertTrue(0.8 < dying / calm < 0.97, f"of ten agents one dies each second, for a second and a job: {dying / calm:.0%} of the jobs are done")
 
-    def test_page(self) -> None:
-        """The tables and pictures of the page are those of the figures."""
-        done = subprocess.run(
-            [sys.executable, ROOT / "examples/scaling/report.py", "--check"], stdout=subprocess.PIPE, stderr=subprocess.STDOUT, text=True, timeout=SECONDS
-        )
-        self.assertEqual((done.returncode, done.stdout), (0, ""), "report.py --check")
-
     def test_cluster(self) -> None:
         """Keys in hash slots."""
         with engines.cluster(silent=BUSY) as servers:

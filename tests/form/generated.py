@@ -1,7 +1,8 @@
 #!/usr/bin/env python3
 """Compares what scripts write with what they write now: lists of tests, however they are laid out, files that stand in several crates, the number of
-replies that `script_runner` tells, and the ratios in docs/performance.svg, with those of bench/figures.json. With --vectors it also makes the long scripts
-of crates/script_runner again, by an interpreter of RFC 9669 of its own, and says whether the replies of the other scripts are those that it gives.
+replies that `script_runner` tells, and the numbers that docs/performance.svg, docs/SCALING.md and its picture show, with the figures. With --vectors it
+also makes the long scripts of crates/script_runner again, by an interpreter of RFC 9669 of its own, and says whether the replies of the other scripts are
+those that it gives.
 """
 from __future__ import annotations
 
@@ -11,10 +12,15 @@ import re
 import subprocess
 import sys
 import tempfile
+from dataclasses import replace
 from typing import Iterator, Sequence
 
-sys.path[:0] = [str(pathlib.Path(__file__).resolve().parents[1]), str(pathlib.Path(__file__).resolve().parents[2] / "bench")]
-from bars import PICTURE, drawn_rows, figures
+TOP = pathlib.Path(__file__).resolve().parents[2]
+sys.path[:0] = [str(TOP / "tests"), str(TOP / "bench"), str(TOP / "examples/scaling")]
+import bars
+import plots
+import report as scaling
+from figures import load as load_parts
 from lib.checks import report
 from lib.sources import LITERAL, ROOT
 from rows import load_figures
@@ -81,11 +87,24 @@ def miscounted_replies() -> Iterator[str]:
             yield f"{RUNNER}/stdout says {line!r}, and {name} has {replies} replies"
 
 
-def differing_picture() -> Iterator[str]:
-    """The ratios of the picture, and those that were measured."""
-    measured = [f"{ratio:.2f}" for row in drawn_rows(load_figures()).values() for ratio, _ in figures(row)]
-    if re.findall(r'class="ratio"[^>]*>([\d.]+)<', PICTURE.read_text()) != measured:
-        yield f"{PICTURE.relative_to(ROOT)} doesn't show what bench/figures.json has: {measured}"
+def differing_pictures() -> Iterator[str]:
+    """The figures that a page or its picture doesn't show."""
+    yield from bars.differing(load_figures())
+    yield from scaling.wrong(load_parts())
+
+
+def unseen_changes() -> Iterator[str]:
+    """The figures of a picture that could be others by a hundredth, and it would still seem to show them."""
+    rows, panels = load_figures(), scaling.measured(load_parts()["rows"])
+    for row in bars.drawn_rows(rows).values():
+        for changed in (replace(row, ratio=1.01 * (row.ratio or 0)), replace(row, ours=1.01 * (row.ours or 0))):
+            if changed != row and not list(bars.differing([changed if it is row else it for it in rows])):
+                yield f"{bars.PICTURE.name} seems to show other figures of {row.part}, {row.name}"
+    for curve, at in ((curve, at) for panel in panels for curve in panel.curves for at in range(len(curve.points))):
+        points = [(place, rate * (1.01 if number == at else 1)) for number, (place, rate) in enumerate(curve.points)]
+        changed_panels = [replace(it, curves=[replace(one, points=points) if one is curve else one for one in it.curves]) for it in panels]
+        if not list(plots.differing(changed_panels, scaling.PICTURE)):
+            yield f"{scaling.PICTURE.name} seems to show another point {at} of {curve.name}"
 
 
 def differing_vectors() -> Iterator[str]:
@@ -101,6 +120,7 @@ def differing_vectors() -> Iterator[str]:
 
 if __name__ == "__main__":
     has_vectors = sys.argv[1:] == ["--vectors"]
-    found = [*differing(), *differing_places(), *differing_copies(), *miscounted_replies(), *differing_picture(), *(differing_vectors() if has_vectors else [])]
-    more = ", and so are the long scripts; the replies of all scripts are those of the interpreter" if has_vectors else ""
-    report(found, f"lists of tests are what they are made from{more}")
+    found = [*differing(), *differing_places(), *differing_copies(), *miscounted_replies(), *differing_pictures(), *unseen_changes()]
+    found += differing_vectors() if has_vectors else []
+    more = "; so are the long scripts; the replies of all scripts are those of the interpreter" if has_vectors else ""
+    report(found, f"lists of tests are what they are made from, and pictures show what was measured{more}")

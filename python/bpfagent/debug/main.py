@@ -1,6 +1,12 @@
 """The command `bpfagent-debug`."""
 from __future__ import annotations
 
+# Before the imports: an interrupt during them ends the program quietly.
+if __name__ == "__main__":
+    import bpfagent.programs
+
+    bpfagent.programs.run("debug.main")
+
 import argparse
 from typing import Callable, Optional, Sequence
 
@@ -101,7 +107,3 @@ def main(words: Optional[Sequence[str]] = None) -> None:
     if why := wrong(given):
         options.error(why)
     guarded("bpfagent-debug", lambda: debug(given), Impossible, Unshippable, Unloadable, Unprepared, NoDwarf, NoMessage, Broken, Refused)
-
-
-if __name__ == "__main__":
-    main()

@@ -1,6 +1,12 @@
 """The command `bpfagent-front`: one agent for any number of clients."""
 from __future__ import annotations
 
+# Before the imports: an interrupt during them ends the program quietly.
+if __name__ == "__main__":
+    import bpfagent.programs
+
+    bpfagent.programs.run("front.main")
+
 import argparse
 import asyncio
 import contextlib
@@ -195,7 +201,3 @@ def main(words: Optional[Sequence[str]] = None) -> None:
     status: list[int] = []
     guarded(NAME, lambda: status.append(run(given)), Wrong, Refused, Broken, Damaged, doors.Unbound)
     sys.exit(status[0])
-
-
-if __name__ == "__main__":
-    main()
