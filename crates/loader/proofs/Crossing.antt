@@ -4,9 +4,8 @@ use denote.RattleType.{RattleType}
 use denote.Param.Send.{IsSend, EachSend, recorded_send, enum_send, view_send, sendable}
 use denote.Param.SendFields.{declared_send}
 use Rattle.std.proofs.Crossing.{crosses}
-use Rattle.isa_table.specs.contracts.instr.Instr as Instr
 use Rattle.loader.specs.contracts.rows.Row as Row
-use Rattle.loader.specs.contracts.rows.Fields as Fields
+use Rattle.loader.specs.contracts.rows.Operands as Operands
 use Rattle.loader.specs.contracts.program.CodeEntry as CodeEntry
 use Rattle.loader.specs.contracts.program.CodeEntry.TheInside as Inside
 use Rattle.loader.specs.contracts.program.Program as Program
@@ -25,14 +24,11 @@ each_bare ((field ∷ fields) ∷ variants) b = absurd b
 row_send : IsSend Row.the_row
 row_send = search (recorded_send, enum_send, each_bare, tt)
 
-fields_send : IsSend Fields.the_row
-fields_send = search (sendable, crosses) depth 60 fits 20000
-
-instr_send : IsSend Instr.the_row
-instr_send = search (sendable, crosses) depth 60 fits 20000
+operands_send : IsSend Operands.the_row
+operands_send = search (sendable, crosses) depth 60 fits 20000
 
 entry_send : IsSend CodeEntry.the_row
-entry_send = search (declared_send Inside.the_type (row_send, (row_send, (search sendable, (fields_send, (instr_send, tt))))), view_send)
+entry_send = search (declared_send Inside.the_type (row_send, (row_send, (search sendable, (search sendable, (operands_send, tt))))), view_send)
 
 pub program_send : IsSend Program.the_row
 program_send = search (sendable, crosses, entry_send) depth 60 fits 20000

@@ -4,6 +4,7 @@
 mod checks;
 mod laws;
 mod loading;
+mod meaning;
 mod pairs;
 mod program;
 mod rows;
@@ -12,5 +13,5 @@ mod writing;
 pub use laws::{refused_for_one_reason, valid_code_is_taken};
 pub use loading::{CODE_LIMIT, LoadError, Why, load};
 pub use program::{CodeEntry, Program};
-pub use rows::{Fields, Row};
+pub use rows::{Operands, Row};
 pub use writing::encode_all;

@@ -1,5 +1,5 @@
 -- Each entry of a machine was granted, and the machine learns nothing of anything else.
-use Rattle.std.proofs.Common.{◌≡◌, ℕ, zero, suc, ◌+◌, Bool, List, [], ◌∷◌, ◌++◌, All, None, refl, ap, sym, ◌∙◌, subst, append_assoc, arith, inl, inr, ◌⊎◌}
+use Rattle.std.proofs.Common.{◌≡◌, ℕ, zero, suc, Bool, List, [], ◌∷◌, ◌++◌, All, None, refl, ap, sym, ◌∙◌, subst, append_assoc, arith, inl, inr, ◌⊎◌}
 use Rattle.std.proofs.lemmas.List.Elements.{All-nil, All-cons, All-append}
 use Rattle.isa_table.specs.declared.instr.Instr.{Instr}
 use Rattle.memory.specs.declared.access.Reach.TheVariants as reach
@@ -10,7 +10,7 @@ use Rattle.memory.specs.Memories.{entries_added}
 use Rattle.machine.specs.Granted.{WasGranted, EntriesAreGranted, AnswersAgree, ReplaysAreConfined}
 use Rattle.machine.specs.Grants.{GrantState}
 use Rattle.machine.specs.MachineState.{MachineState}
-use Rattle.machine.specs.Replay.{recorded_memory, Replays, StopsThere, IsReplay}
+use Rattle.machine.specs.Replay.{recorded_memory, Replays, StopsThere}
 use Rattle.machine.specs.Rows.{Request, MemoryAnswer, asks, told}
 use Rattle.machine.specs.Rows.Request.{Nothing, Touch, Measure}
 use Rattle.machine.specs.Rows.MemoryAnswer.{NoAnswer, Reached, Measured}

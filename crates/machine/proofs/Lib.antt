@@ -4,6 +4,7 @@ pub mod TableOfRights
 pub mod NextSlots
 pub mod FrameOrder
 pub mod DoneRows
+mod AnyRow
 pub mod ValidRows
 pub mod StepCases
 pub mod OneWay

@@ -2,7 +2,8 @@
 #![tactic(auto)]
 
 mod accesses;
-mod entries;
+mod alu;
+mod calls;
 mod grants;
 mod jumps;
 mod laws;
@@ -13,6 +14,7 @@ mod processor;
 mod registers;
 mod rights;
 mod rows;
+mod run_arms;
 mod runs;
 mod state;
 
