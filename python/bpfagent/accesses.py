@@ -10,8 +10,6 @@ from .replies import Registers
 
 # The memory operand of an instruction in assembly.
 OPERAND = re.compile(r"\[r(\d+)([+-]\d+)?\]")
-# The stops that an access to memory may be.
-OF_MEMORY = ("outside", "misaligned", "notgranted")
 
 
 def place_text(address: int) -> str:

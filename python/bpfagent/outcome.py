@@ -4,21 +4,16 @@ from __future__ import annotations
 from dataclasses import dataclass, field
 from typing import Any, Callable, Iterator, Mapping, Optional, Union
 
-from .accesses import OF_MEMORY, access_text
+from .accesses import access_text
 from .agent import Agent
 from .engine import Engine
 from .numerals import as_text, decimal, signed
 from .replies import Refused, Run, Stopped
+from .stops import stop_kind
 
 AnyAgent = Union[Agent, Engine]
 # As many bytes of each object are shown if nothing else is said.
 SHOWN = 256
-# What to do about a stop.
-HINTS = {
-    "spent": "it has no fuel left: --fuel N gives more",
-    "misaligned": "an atomic operation takes a place at a multiple of its size",
-    "depth": "at most eight calls may be open",
-}
 
 
 @dataclass
@@ -101,8 +96,9 @@ def outcome_of(
     if stop.value is None:
         registers = agent.regs(machine)
         found.slot, found.instruction, found.source = registers.slot, agent.line(machine, registers.slot), place(registers.slot)
-        found.access = access_text(found.instruction, registers, lengths) if stop.why in OF_MEMORY else ""
-        found.hint = HINTS.get(stop.why, "")
+        kind = stop_kind(stop.why)
+        found.access = access_text(found.instruction, registers, lengths) if kind.is_access else ""
+        found.hint = kind.hint
     if shown:
         found.objects = {number: (length, first_of(agent, number, min(length, shown))) for number, length in (lengths or {}).items()}
     return found

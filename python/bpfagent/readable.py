@@ -5,13 +5,13 @@ import contextlib
 import re
 from typing import Callable, Iterator, Protocol, Sequence
 
-from .accesses import OF_MEMORY, access_text, place_text
+from .accesses import access_text, place_text
 from .agent import STACK
 from .limits import OBJECTS
 from .numerals import as_text, decimal, signed
-from .outcome import HINTS
 from .protocol import BYTES, page, why_bad
 from .replies import EMITTED, REGISTERS, SHOWN, Registers, words_of
+from .stops import stop_kind
 
 INDENT = "  "
 # The bytes of a row, and the most rows that are shown.
@@ -83,8 +83,9 @@ def on_stopped(agent: Talker, line: str, words: Sequence[str]) -> Iterator[str]:
     registers = registers_of(agent.tell(f"regs {machine}"))
     text = instruction_at(agent, machine, registers.slot)
     yield f"at slot {registers.slot}: {text}"
-    access = access_text(text, registers, None) if why in OF_MEMORY else ""
-    yield from filter(None, (access, HINTS.get(why, "").partition(":")[0]))
+    kind = stop_kind(why)
+    access = access_text(text, registers, None) if kind.is_access else ""
+    yield from filter(None, (access, kind.hint.partition(":")[0]))
 
 
 def on_slot(agent: Talker, line: str, words: Sequence[str]) -> Iterator[str]:

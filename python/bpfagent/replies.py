@@ -9,6 +9,8 @@ import re
 from dataclasses import dataclass
 from typing import Callable, Optional, Union
 
+from .stops import STOPS
+
 NUMBER = "(0|[1-9][0-9]{0,19})"
 WORD = "[0-9a-f]{16}"
 REFUSAL = re.compile(
@@ -22,7 +24,7 @@ FREED = re.compile(f"freed {NUMBER}")
 MOVED = re.compile(f"(?P<move>leaving|left|returning|home|asked) (?P<number>{NUMBER})")
 SHIPPED = re.compile(f"shipped {NUMBER}")
 STEPPED = re.compile(f"(?P<how>ran|hit|paused|waiting) (?P<machine>{NUMBER}) (?P<number>{NUMBER})")
-STOPPED = re.compile(f"stopped (?P<machine>{NUMBER}) (?:exit (?P<value>{WORD})|(?P<why>spent|misaligned|notgranted|outside|depth|worn))")
+STOPPED = re.compile(f"stopped (?P<machine>{NUMBER}) (?:exit (?P<value>{WORD})|(?P<why>{'|'.join(STOPS)}))")
 EMITTED = re.compile(f"out {NUMBER}((?: {WORD})*)")
 SHOWN = re.compile(f"line {NUMBER} {NUMBER} (.+)")
 REGISTERS = re.compile(f"regs {NUMBER} {NUMBER} {NUMBER} ([a-z]+)((?: {WORD}){{11}})")

@@ -30,6 +30,7 @@ from unittest import mock
 import bpfagent
 from bpfagent import Agent, Closed, Engine, NoLibrary, Refused, Run, Stopped, Waiting, address, engine, library
 from bpfagent.line_engine import LineEngine
+from bpfagent.stops import STOPS
 from support import PROGRAM, ROOT, SECONDS
 from test_agent import EXIT, SCRIPTS, called, refusal_of
 
@@ -482,6 +483,7 @@ class Names(unittest.TestCase):
         assert synopsis
         stops, places = (re.findall(r"`(\w+)", text) for text in synopsis.groups())
         self.assertEqual({name for name in loaded.stops.values() if name}, {*stops, "worn"})
+        self.assertEqual({*STOPS, "exit"}, {*stops, "worn"}, "the package's table")
         self.assertEqual(list(loaded.places.values()), places)
         self.assertEqual(loaded.states, {0: "run", 1: "paused"})
         wrongs = {number: name.title().replace("_", "") for name, number in re.findall(r"BPFAGENT_WRONG_(\w+) = (\d+)", HEADER)}

@@ -3,10 +3,11 @@ from __future__ import annotations
 
 from typing import TYPE_CHECKING, Iterable, Iterator, Optional
 
-from ..accesses import OF_MEMORY, access_text, place_text
+from ..accesses import access_text, place_text
 from ..agent import STACK
 from ..limits import SLOTS
 from ..replies import RUNNING
+from ..stops import stop_kind
 from .engine import Engine, Impossible, Stop
 from .frames import CALL, TOP, Unreadable
 from .lines import SourceLine, short
@@ -20,14 +21,6 @@ if TYPE_CHECKING:
 AROUND = 5
 ROW = 16
 CHARACTERS = Type("base", "char", 1, encoding=6)
-STOPS = {
-    "spent": "it has no fuel left",
-    "outside": "an access to bytes that aren't all there",
-    "misaligned": "an atomic operation at no multiple of its size",
-    "notgranted": "an access to an object without the grant that it needs",
-    "depth": "a ninth nested call",
-    "worn": "an access whose stamp would be too great",
-}
 
 
 def source_line(at: SourceLine, mark: str = "") -> str:
@@ -108,12 +101,12 @@ def place_lines(engine: Engine, stop: Stop) -> Iterator[str]:
 
 def stop_text(stop: Stop) -> str:
     """The stop of a program that has gone wrong, in words."""
-    return f"{stop.text} ({STOPS.get(stop.text, 'a stop')})"
+    return f"{stop.text} ({stop_kind(stop.text).text})"
 
 
 def access_lines(engine: Engine, stop: Stop) -> Iterator[str]:
     """Which memory an instruction was about to reach, if that stopped it."""
-    if stop.text in OF_MEMORY:
+    if stop_kind(stop.text).is_access:
         found = access_text(
             engine.agent.line(stop.machine, stop.slot), engine.registers(stop.machine), {number: length for number, length, _ in engine.all_objects()}
         )
