@@ -4,8 +4,8 @@
 Each edit is made in a copy of its crate, and checked there by `rt check` over what the repository's own checks have kept. Edits of different functions
 are made at once. One is refused if a goal stays open, or if the answer to one is refused. If only a name is missing, in a proof that speaks of what the
 edit took away, or if the edit doesn't compile, it shows nothing: it counts as not tried, and fails. If all edits of a crate are refused, edits/TRIED gets
-a checksum of its sources and edits, and the goal that refused each. `--check`, and so the gate, fails if a crate differs from that or has no TRIED, and
-names the command.
+a checksum of its sources and edits, and the goal that refused each. `--check`, and so the gate, fails if a crate differs from that, has no TRIED, or has
+one without the goal of an edit. It names the command.
 """
 from __future__ import annotations
 
@@ -23,6 +23,8 @@ from lib.calls import need_toolchain
 from lib.sources import ROOT, blanked, changes_of, crates, crates_below, function_places
 
 TRIED = "TRIED"
+# A line of TRIED on an edit: its name and the goal that refused it.
+NOTED = re.compile(r"^(\S+\.edit): \S", re.MULTILINE)
 # How long one check may take, in seconds. The first one may have to prove all that is below.
 SECONDS = 3 * 3600
 COMMENT = re.compile(r"^\s*(?:--|//).*\n", re.MULTILINE)
@@ -76,15 +78,25 @@ def note_of(crate: str) -> pathlib.Path:
     return ROOT / "crates" / crate / "edits" / TRIED
 
 
-def new() -> list[str]:
-    """The crates whose edits weren't tried yet."""
-    return [crate for crate in with_edits() if not note_of(crate).is_file()]
+def why_untried(crate: str) -> str:
+    """Why a crate's edits have to be tried; empty if they needn't be."""
+    if not note_of(crate).is_file():
+        return "have edits that weren't tried yet"
+    note = note_of(crate).read_text()
+    if note.split()[:1] != [checksum(ROOT / "crates" / crate)]:
+        return "have changed since their edits were tried"
+    if NOTED.findall(note) != [edit.name for edit in edits_of(crate)]:
+        return "have a TRIED without the goal that refused each edit"
+    return ""
 
 
-def changed() -> list[str]:
-    """The crates whose edits were tried on other sources."""
-    noted = {crate: note_of(crate).read_text() for crate in with_edits() if note_of(crate).is_file()}
-    return [crate for crate, note in noted.items() if note.split()[:1] != [checksum(ROOT / "crates" / crate)]]
+def untried() -> dict[str, list[str]]:
+    """The crates whose edits have to be tried, by the reason."""
+    found: dict[str, list[str]] = {}
+    for crate in with_edits():
+        if why := why_untried(crate):
+            found.setdefault(why, []).append(crate)
+    return found
 
 
 def judged(status: int, said: str) -> Verdict:
@@ -238,16 +250,12 @@ def try_crate(rt: str, crate: str) -> tuple[int, int]:
         return len(refused), wrong
 
 
-def say(what: str, crates: list[str]) -> int:
-    """How many crates these are; they are named with the command."""
-    if crates:
-        print(f"edits: {len(crates)} crates {what}: make edits NAME='{' '.join(crates)}'", flush=True)
-    return len(crates)
-
-
 def say_changed() -> int:
-    """How many crates there are whose edits weren't tried on their sources as they are. They are named."""
-    return say("have edits that weren't tried yet", new()) + say("have changed since their edits were tried", changed())
+    """How many crates there are whose edits have to be tried. They are named with the command."""
+    found = untried()
+    for why, names in found.items():
+        print(f"edits: {len(names)} crates {why}: make edits NAME='{' '.join(names)}'", flush=True)
+    return sum(len(names) for names in found.values())
 
 
 if __name__ == "__main__":
@@ -261,7 +269,7 @@ if __name__ == "__main__":
     unknown = [name for name in names if name not in known]
     if unknown:
         sys.exit(f"edits: {', '.join(unknown)}: no crate with a folder edits/")
-    chosen = names or [*changed(), *new()]
+    chosen = names or [name for found in untried().values() for name in found]
     if not chosen:
         print("edits: no crate has changed since its edits were tried")
         sys.exit()
