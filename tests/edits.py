@@ -2,10 +2,10 @@
 """Tries the edits of crates/*/edits, wrong bodies that the prover has to refuse: edits.py RT [CRATE..], edits.py --check
 
 Each edit is made in a copy of its crate, and checked there by `rt check` over what the repository's own checks have kept. Edits of different functions
-are made at once. One is refused if a goal stays open, or if the answer to one is refused. If only a name is missing, in a proof that speaks of what the
-edit took away, or if the edit doesn't compile, it shows nothing: it counts as not tried, and fails. If all edits of a crate are refused, edits/TRIED gets
-a checksum of its sources and edits, and the goal that refused each. `--check`, and so the gate, fails if a crate differs from that, has no TRIED, or has
-one without the goal of an edit. It names the command.
+are made at once. The prover refuses an edit if a goal stays open, or if it refuses an answer, a lemma or a statement of specs/. These show nothing: a name
+that is missing in a proof that speaks of what the edit took away, a loop's invariants that fail, an edit that doesn't compile. An edit with nothing else
+counts as not tried, and fails. If all edits of a crate are refused, edits/TRIED gets a checksum of its sources and edits, and the goal that refused each.
+`--check`, and so the gate, fails if a crate differs from that, has no TRIED, or has one without the goal of an edit. It names the command.
 """
 from __future__ import annotations
 
@@ -31,10 +31,13 @@ COMMENT = re.compile(r"^\s*(?:--|//).*\n", re.MULTILINE)
 IMPORT = re.compile(r"^(.*\buse [^{\n]*)\{([^{}]*)\};?$", re.MULTILINE)
 TEXT = re.compile(r'("(?:[^"\\\n]|\\.)*")')
 LAST = re.compile(r"[,;]([)}\]])")
-# What `rt check` says: a goal that stays open, one that is false for some values, and an error in a proof, which may go on in further lines.
+# What `rt check` says: a goal that stays open, one that is false for some values, and an error in a proof or in a statement, which may go on in further
+# lines.
 OPEN = re.compile(r"^\w+ (\S+): no proof: expected answers in (?:\./)?(\S+); `search` did not prove (.*)$", re.MULTILINE)
 FALSE = re.compile(r"^note: `([^`]*)` of (\S+) may be false", re.MULTILINE)
-WRONG = re.compile(r"^(?:\./)?(proofs/\S+?):\d+:\d+: error: (?:`([^`]*)`: )?(.*(?:\n[ \t]+.*)*)", re.MULTILINE)
+WRONG = re.compile(r"^(?:\./)?((?:proofs|specs)/\S+?):\d+:\d+: error: (?:`([^`]*)`: )?(.*(?:\n[ \t]+.*)*)", re.MULTILINE)
+# A function's loop invariants. They are written for the body as it was, so an error in them says nothing of its clauses.
+INVARIANTS = "Invariants.antt"
 MISSING = re.compile(r"has no field|has no `|is not in scope|was not admitted")
 REACHED = re.compile(r"^(?:logic=not-proved|only=\d+ proved=\d+)", re.MULTILINE)
 UNCOMPILED = re.compile(r"^\S+:\d+:\d+: error.*$", re.MULTILINE)
@@ -106,17 +109,18 @@ def judged(status: int, said: str) -> Verdict:
     if not REACHED.search(said):
         found = UNCOMPILED.search(said)
         return Verdict("NOT TRIED", f"it doesn't reach the prover: {found[0] if found else said[-200:]}")
-    wrong = WRONG.findall(said)
-    lost = {pathlib.PurePath(file).parent for file, _, text in wrong if MISSING.search(text)}
+    wrong = [(pathlib.PurePath(file), name, text) for file, name, text in WRONG.findall(said)]
+    empty = [(file, text) for file, _, text in wrong if MISSING.search(text) or file.name == INVARIANTS]
+    lost = {file.parent for file, _ in empty}
     false = set(FALSE.findall(said))
     opened = [(goal, function, file) for function, file, goals in OPEN.findall(said) for goal in re.findall(r"`([^`]+)`", goals)]
-    # a goal of a function whose proof lacks a name may be open for that alone, unless values are known at which it is false
+    # a goal of a function whose proof lacks a name or an invariant may be open for that alone, unless values are known at which it is false
     goals = [f"`{goal}` of {function}" for goal, function, file in opened if pathlib.PurePath(file).parent not in lost or (goal, file) in false]
-    goals += [f"`{name}` of {file}" for file, name, text in wrong if name and not MISSING.search(text)]
+    goals += [f"`{name}` of {file}" for file, name, text in wrong if name and (file, text) not in empty]
     if goals:
         return Verdict("refused", goals[0])
-    names = [f"{file}: {' '.join(text.split())[:200]}" for file, _, text in wrong if MISSING.search(text)]
-    return Verdict("NOT TRIED", f"only a name is missing: {names[0]}" if names else f"no goal refuses it: {said[-200:]}")
+    names = [f"{file}: {' '.join(text.split())[:200]}" for file, text in empty]
+    return Verdict("NOT TRIED", f"only a name or an invariant is missing: {names[0]}" if names else f"no goal refuses it: {said[-200:]}")
 
 
 def copy_crate(crate: str, to: pathlib.Path) -> pathlib.Path:
