@@ -31,6 +31,7 @@ EITHER = [
     "tests/product/verbose.py PROGRAM",
     "tests/product/keeping.py PROGRAM",
     "tests/product/spelling.py PROGRAM",
+    "tests/product/explained.py PROGRAM",
     "tests/product/fuzzing.py",
     "tests/product/door.py PROGRAM",
     "tests/product/conformance.py PROGRAM",

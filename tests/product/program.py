@@ -8,7 +8,6 @@ from __future__ import annotations
 
 import concurrent.futures
 import contextlib
-import itertools
 import os
 import pathlib
 import re
@@ -16,11 +15,10 @@ import resource
 import shlex
 import shutil
 import socket
-import struct
 import subprocess
 import sys
 import tempfile
-from typing import Any, Collection, Iterator, Sequence
+from typing import Any, Sequence
 
 sys.path.insert(0, str(pathlib.Path(__file__).resolve().parents[1]))
 from lib import package
@@ -30,15 +28,12 @@ from lib.programs import Process, ended, has_checks, of_data, patience, unreadab
 from lib.scripts import Talk, conversations
 from lib.sources import ROOT, pages
 from product import fuzz
-from reference.instructions import ROWS, USED, ZERO, Row
 
 EXIT = bytes.fromhex("9500000000000000")
 ALL_ONES = bytes.fromhex("18000000ffffffff00000000ffffffff") + EXIT
 SECONDS = 20
 # How many runs of it go on side by side.
 PROCESSES = 4
-# The fields of a slot beside its opcode (RFC 9669, section 3.1).
-FIELDS = ("dst", "src", "offset", "imm")
 # What the program may have of data, in bytes, while it runs the conversations of examples/.
 SCRIPT_DATA = 8 << 20
 PROGRAM = "crates/bpfagent/out/bpfagent"
@@ -241,43 +236,6 @@ def talk_to(program: str, arguments: Sequence[str], talk: Talk) -> None:
         want_equal(process.end(), (0, b"", b""), "the end of a conversation")
 
 
-def choices(row: Row) -> tuple[dict[str, Collection[int]], dict[int, str]]:
-    """What the four fields of a row may hold here, where there is no platform, and the names of its instructions by what tells them apart."""
-    taken = dict(zip(FIELDS, row[1:5]))
-    if row.kind in ("call", "wide"):
-        taken["src"] = {0: "call", 1: "call local"} if row.kind == "call" else ZERO
-    return taken, next((numbers for numbers in taken.values() if isinstance(numbers, dict)), {0: row.text.split()[0]} if row.text else {})
-
-
-def said_of(taken: Collection[int], name: str) -> str:
-    """What a field may hold, in words: a register, or the numbers of the instructions that they name, or 0."""
-    if isinstance(taken, dict):
-        return " or ".join(f"{number} in {named}" for number, named in sorted(taken.items()))
-    return f"{'0 to 10' if taken is USED else '0'} in {name}"
-
-
-def wrong_fields() -> Iterator[tuple[bytes, str, str]]:
-    """For each instruction, a slot for each field that holds what it may not hold: the slot, the fault, and the explanation."""
-    for opcode, row in ROWS.items():
-        taken, names = choices(row)
-        for (key, name), field in itertools.product(names.items(), FIELDS):
-            held = {other: key if isinstance(numbers, dict) else 0 for other, numbers in taken.items()}
-            held[field] = 13 if field in ("dst", "src") else -13
-            if held[field] not in taken[field]:
-                slot = struct.pack("<BBhi", opcode, held["dst"] | held["src"] << 4, held["offset"], held["imm"])
-                said = f"{slot.hex()}: {field} is {held[field]}, and has to be {said_of(taken[field], name)}; see RFC 9669, sections 3 to 5\n"
-                yield slot, "Register" if taken[field] is USED else "Field", said
-
-
-def show_wrong_fields(program: str) -> str:
-    """`check --explain` names the field that is wrong, its number, and what the table of tests/reference has there. A program that is
-    many times slower is asked for fewer."""
-    cases = sorted(set(wrong_fields()))[:: 8 if has_checks(program) else 1]
-    for slot, fault, said in cases:
-        want_ended(program, ["check", "--explain"], slot + bytes(8), 1, b"", f"slot 0: {fault}\n{said}".encode())
-    return f"{len(cases)} wrong fields are named"
-
-
 def show_examples(program: str) -> str:
     """The scripts of examples/, what `make fuzz` kept, and that the examples' code is valid and is what they ship."""
     count = 0
@@ -330,7 +288,7 @@ def show_documents(program: str) -> str:
 
 
 SHOWN = [
-    show_statuses, show_version, show_help_examples, show_faults, show_closed, show_offsets, show_no_memory, show_wrong_fields, show_examples,
+    show_statuses, show_version, show_help_examples, show_faults, show_closed, show_offsets, show_no_memory, show_examples,
     show_documents,
 ]
 
