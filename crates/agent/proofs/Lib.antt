@@ -2,8 +2,8 @@ pub mod CheckedPrefix
 pub mod WholeInput
 pub mod Encoded
 pub mod OutOfMemory
-pub mod AsmReports
-pub mod CheckReports
+pub mod Shown
+pub mod Reported
 pub mod FirstSlot
 pub mod ErrorShown
 pub mod Numbers
@@ -16,4 +16,3 @@ pub mod Globals
 pub mod StepRows
 pub mod RunOutputs
 pub mod ServiceOutputs
-pub mod TextParts

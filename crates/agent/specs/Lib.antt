@@ -1,7 +1,5 @@
 pub mod Failures
 pub mod CheckLeaves
-pub mod FaultsExplained
-pub mod CodeExplained
 pub mod Leaves
 pub mod AsmLeaves
 pub mod DisLeaves
@@ -12,7 +10,7 @@ pub mod Reports
 pub mod ErrorShown
 pub mod Explained
 pub mod Laws
-pub mod LeavesUndone
+pub mod TaskLeaves
 pub mod StoreLeaves
 pub mod ServeLeaves
 pub mod Theorems

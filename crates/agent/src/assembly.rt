@@ -3,6 +3,7 @@
 mod assembling;
 mod checking;
 mod disassembling;
+mod explained;
 mod explaining;
 mod faults;
 mod refusals;

@@ -1,20 +1,11 @@
 //! The whole program over its arguments and streams.
-ghost use Rattle.std.specs.Prelude.{◌≡◌, ◌≢◌, ℕ, Bool, [], map, Some, IfSome};
-ghost use Rattle.std.specs.Io.KnownBytes.{Keeps};
+ghost use Rattle.std.specs.Prelude.{◌≡◌, ◌≢◌, [], map, Some};
 ghost use Rattle.clap.specs.Words.{kind_of};
-ghost use Rattle.agent.specs.AsmLeaves.{AsmLeaves, asm_limit};
-ghost use Rattle.agent.specs.CheckLeaves.{CheckLeaves, check_limit};
-ghost use Rattle.agent.specs.CodeExplained.{ReportsCheckOutcome};
 ghost use Rattle.agent.specs.CommandLine.{faults_of, task_of};
-ghost use Rattle.agent.specs.DisLeaves.{DisLeaves};
-ghost use Rattle.agent.specs.Explained.{ReportsAsmOutcome};
-ghost use Rattle.agent.specs.ErrorShown.{Shows, ShowsError, ShowsHelp, ShowsOneOf, ShowsVersion, version_line};
-ghost use Rattle.agent.specs.LeavesUndone.{LeavesUndone};
-ghost use Rattle.agent.specs.Reports.{ReportsOutcome};
-ghost use Rattle.agent.specs.RunLeaves.{RunLeaves};
-ghost use Rattle.streams.specs.Streams.{ConsumesAtMost};
+ghost use Rattle.agent.specs.ErrorShown.{Shows, ShowsError, ShowsHelp, ShowsVersion, version_line};
+ghost use Rattle.agent.specs.TaskLeaves.{TaskLeaves, WrongLeaves};
 
-use crate::arguments::{Serving, Showing, Storing, Task, VERSION, read_arguments};
+use crate::arguments::{Task, VERSION, read_arguments};
 use crate::assembly::{asm, check, dis};
 use crate::failure::{ExitStatus, Failure};
 use crate::reporting::{report, say};
@@ -112,47 +103,34 @@ pub fn tool<'a, S: AsStr, R: Read, W: Write, E: Write>(
     writer: &mut W,
     errors: &mut E,
 ) -> u8
-    ensures run { (budget : ℕ) → faults_of (map S.text arguments.entry.now) ≡ [] → task_of (map S.text arguments.entry.now) ≡ Some (Task.Run budget)
-        → IfSome (R.remaining reader.old) (λ input. ReportsOutcome
-        (RunLeaves budget input (W.contents writer.old) (W.contents writer.new) (R.remaining reader.new))
-        (E.contents errors.old) (E.contents errors.new) result) }
-    ensures check { (explains : Bool) → faults_of (map S.text arguments.entry.now) ≡ [] → task_of (map S.text arguments.entry.now) ≡ Some (Task.Check explains)
-        → IfSome (R.remaining reader.old) (λ input. ReportsCheckOutcome explains input (CheckLeaves input (W.contents writer.old) (W.contents writer.new))
-        (E.contents errors.old) (E.contents errors.new) result) }
-    ensures asm { (explains : Bool) → faults_of (map S.text arguments.entry.now) ≡ [] → task_of (map S.text arguments.entry.now) ≡ Some (Task.Assemble explains)
-        → IfSome (R.remaining reader.old) (λ input. ReportsAsmOutcome explains input (AsmLeaves input (W.contents writer.old) (W.contents writer.new))
-        (E.contents errors.old) (E.contents errors.new) result) }
-    ensures dis { (showing : Showing) → faults_of (map S.text arguments.entry.now) ≡ []
-        → task_of (map S.text arguments.entry.now) ≡ Some (Task.Disassemble showing)
-        → IfSome (R.remaining reader.old) (λ input. ReportsOutcome (DisLeaves showing input (W.contents writer.old) (W.contents writer.new))
-        (E.contents errors.old) (E.contents errors.new) result) }
-    ensures store { (storing : Storing) → faults_of (map S.text arguments.entry.now) ≡ []
-        → task_of (map S.text arguments.entry.now) ≡ Some (Task.Store storing)
-        → LeavesUndone (R.remaining reader.old) (R.remaining reader.new) (W.contents writer.old) (W.contents writer.new)
-        (E.contents errors.old) (E.contents errors.new) result }
-    ensures serve { (serving : Serving) → faults_of (map S.text arguments.entry.now) ≡ []
-        → task_of (map S.text arguments.entry.now) ≡ Some (Task.Serve serving)
-        → LeavesUndone (R.remaining reader.old) (R.remaining reader.new) (W.contents writer.old) (W.contents writer.new)
-        (E.contents errors.old) (E.contents errors.new) result }
-    ensures consumed { (explains : Bool) → task_of (map S.text arguments.entry.now) ≡ Some (Task.Check explains)
-        → ConsumesAtMost check_limit (R.remaining reader.old) (R.remaining reader.new) }
-    ensures consumed_by_asm { (explains : Bool) → task_of (map S.text arguments.entry.now) ≡ Some (Task.Assemble explains)
-        → ConsumesAtMost asm_limit (R.remaining reader.old) (R.remaining reader.new) }
-    ensures consumed_by_dis { (showing : Showing) → task_of (map S.text arguments.entry.now) ≡ Some (Task.Disassemble showing)
-        → ConsumesAtMost check_limit (R.remaining reader.old) (R.remaining reader.new) }
-    ensures invalid { faults_of (map S.text arguments.entry.now) ≢ []
-        → ShowsOneOf (faults_of (map S.text arguments.entry.now)) (W.contents writer.old) (W.contents writer.new)
-        (E.contents errors.old) (E.contents errors.new) result }
-    ensures unread { faults_of (map S.text arguments.entry.now) ≢ [] → Keeps (R.remaining reader.old) (R.remaining reader.new) }
+    ensures right { (task : Task) → faults_of (map S.text arguments.entry.now) ≡ [] → task_of (map S.text arguments.entry.now) ≡ Some task
+        → TaskLeaves task (record {
+          input = R.remaining reader.old;
+          unread = R.remaining reader.new;
+          out_before = W.contents writer.old;
+          out_after = W.contents writer.new;
+          errors_before = E.contents errors.old;
+          errors_after = E.contents errors.new;
+        }) result }
+    ensures wrong { faults_of (map S.text arguments.entry.now) ≢ []
+        → WrongLeaves (faults_of (map S.text arguments.entry.now)) (record {
+          input = R.remaining reader.old;
+          unread = R.remaining reader.new;
+          out_before = W.contents writer.old;
+          out_after = W.contents writer.new;
+          errors_before = E.contents errors.old;
+          errors_after = E.contents errors.new;
+        }) result }
 {
     match read_arguments(alloc, arguments) {
         Ok(Task::Run { budget }) => report(run(alloc, budget, reader, writer), errors).number(),
-        Ok(Task::Check { explains }) => { check(alloc, explains, reader, writer, errors).number() }
-        Ok(Task::Assemble { explains }) => { asm(alloc, explains, reader, writer, errors).number() }
+        Ok(Task::Check { explains }) => check(alloc, explains, reader, writer, errors).number(),
+        Ok(Task::Assemble { explains }) => asm(alloc, explains, reader, writer, errors).number(),
         Ok(Task::Disassemble(showing)) => {
             report(dis(alloc, showing, reader, writer), errors).number()
         }
-        Ok(Task::Store(_) | Task::Serve(_)) => report(Ok(()), errors).number(),
+        Ok(Task::Store(_)) => report(Ok(()), errors).number(),
+        Ok(Task::Serve(_)) => report(Ok(()), errors).number(),
         Err(error) => show(alloc, error, writer, errors).number(),
     }
 }

@@ -2,13 +2,14 @@
 ghost use Rattle.std.specs.Prelude.{◌≡◌, IfOk, IfErr, IfSome, Ok, Err};
 ghost use Rattle.std.specs.Char.{encode_utf8};
 ghost use Rattle.std.specs.String.{string_bytes};
-ghost use Rattle.std.specs.Prelude.{⊤, Result, Bool, Option, List, ℕ};
+ghost use Rattle.std.specs.Prelude.{⊤, Result};
 ghost use Rattle.agent.specs.AsmLeaves.{AsmLeaves, Assembles, asm_limit, char_text, text_of_bytes};
-ghost use Rattle.agent.specs.Explained.{ReportsAsm};
+ghost use Rattle.agent.specs.Explained.{ReportsAs};
 ghost use Rattle.agent.specs.declared.failure.Failure.{Failure};
 ghost use Rattle.streams.specs.Streams.{ConsumesAtMost};
 
-use crate::assembly::explaining::report_explained;
+use crate::assembly::explained::report_explained;
+use crate::assembly::explaining::explanation;
 use crate::failure::{ExitStatus, Failure};
 use crate::reporting::report;
 use assembler::{Why, assemble};
@@ -76,10 +77,10 @@ fn report_asm<E: Write>(
     input: &[u8],
     errors: &mut E,
 ) -> ExitStatus
-    ensures { ReportsAsm explains input.now (E.contents errors.old) (E.contents errors.new) outcome result }
+    ensures { ReportsAs explains (E.contents errors.old) (E.contents errors.new) outcome result }
 {
     if explains {
-        return report_explained(outcome, input, errors);
+        return report_explained(outcome, &explanation(outcome, input), errors);
     }
     report(outcome, errors)
 }
@@ -95,12 +96,12 @@ pub(crate) fn asm<R: Read, W: Write, E: Write>(
 ) -> ExitStatus
     ensures reported { IfSome (R.remaining reader.old) (λ input. (outcome : Result ⊤ Failure)
         × AsmLeaves input (W.contents writer.old) (W.contents writer.new) outcome
-        × ReportsAsm explains input (E.contents errors.old) (E.contents errors.new) outcome result) }
+        × ReportsAs explains (E.contents errors.old) (E.contents errors.new) outcome result) }
     ensures consumed { ConsumesAtMost asm_limit (R.remaining reader.old) (R.remaining reader.new) }
 {
     let input = match read_at_most(alloc, reader, TEXT_LIMIT + 1) {
         Ok(input) => input,
-        Err(fault) => return report_asm(explains, Err(Failure::from(fault)), b"", errors),
+        Err(fault) => return report(Err(Failure::from(fault)), errors),
     };
     let outcome = put_code(alloc, &input, writer);
     report_asm(explains, outcome, &input, errors)

@@ -1,12 +1,13 @@
 //! `check`: raw code in, whether it is valid out.
 ghost use Rattle.std.specs.Prelude.{◌≡◌, ◌⊎◌, IfSome, Result, Err, ⊤};
 ghost use Rattle.agent.specs.CheckLeaves.{CheckLeaves, Finds, check_limit, ok_line};
-ghost use Rattle.agent.specs.CodeExplained.{ReportsCheck, ReportsExplainedCode};
+ghost use Rattle.agent.specs.Explained.{ReportsAs, ReportsExplaining};
 ghost use Rattle.agent.specs.Reports.{Reports};
 ghost use Rattle.agent.specs.declared.failure.Failure.{Failure};
 ghost use Rattle.streams.specs.Streams.{ConsumesAtMost};
 
-use crate::assembly::refusals::report_refusal;
+use crate::assembly::explained::report_explained;
+use crate::assembly::refusals::explanation;
 use crate::failure::{ExitStatus, Failure};
 use crate::reporting::report;
 use loader::{CODE_LIMIT, LoadError, load};
@@ -46,23 +47,20 @@ fn put_slots<W: Write>(alloc: Global, code: &[u8], writer: &mut W) -> Result<(),
     Ok(())
 }
 
-/// Reports what was found about the code: a refusal with an explanation, or that there is no memory for one.
-fn report_explained<E: Write>(
+/// Reports what was found about the code with an explanation of a refusal, or that there is no memory for one.
+fn report_check<E: Write>(
     alloc: Global,
     outcome: Result<(), Failure>,
     code: &[u8],
     errors: &mut E,
 ) -> ExitStatus
-    ensures { ReportsExplainedCode code.now (E.contents errors.old) (E.contents errors.new) outcome result
+    ensures { ReportsExplaining (E.contents errors.old) (E.contents errors.new) outcome result
         ⊎ ((error : LoadError) × (outcome ≡ Err (Failure.Refused error))
         × Reports (E.contents errors.old) (E.contents errors.new) (Err Failure.NoMemory) result) }
 {
-    match outcome {
-        Ok(()) => ExitStatus::Done,
-        Err(failure) => match failure {
-            Failure::Refused(error) => report_refusal(alloc, code, error, errors),
-            other => report(Err(other), errors),
-        },
+    match explanation(alloc, outcome, code) {
+        Ok(text) => report_explained(outcome, &text, errors),
+        Err(_) => report(Err(Failure::NoMemory), errors),
     }
 }
 
@@ -77,7 +75,7 @@ pub(crate) fn check<R: Read, W: Write, E: Write>(
 ) -> ExitStatus
     ensures reported { IfSome (R.remaining reader.old) (λ input. (outcome : Result ⊤ Failure)
         × CheckLeaves input (W.contents writer.old) (W.contents writer.new) outcome
-        × ReportsCheck explains input (E.contents errors.old) (E.contents errors.new) outcome result) }
+        × ReportsAs explains (E.contents errors.old) (E.contents errors.new) outcome result) }
     ensures consumed { ConsumesAtMost check_limit (R.remaining reader.old) (R.remaining reader.new) }
 {
     let code = match read_at_most(alloc, reader, CHECK_LIMIT) {
@@ -86,7 +84,7 @@ pub(crate) fn check<R: Read, W: Write, E: Write>(
     };
     let outcome = put_slots(alloc, &code, writer);
     if explains {
-        return report_explained(alloc, outcome, &code, errors);
+        return report_check(alloc, outcome, &code, errors);
     }
     report(outcome, errors)
 }

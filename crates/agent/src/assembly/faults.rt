@@ -1,11 +1,6 @@
 //! What `check --explain` says of bytes that begin with no instruction.
-ghost use Rattle.std.specs.Prelude.{◌≡◌, ◌≤◌, ◌++◌, length, take, drop, OnOk};
-ghost use Rattle.hex.specs.Hex.{encode_lower};
-ghost use Rattle.bpf_codec.specs.Faults.{IsLeastFault, has_reserved_bits};
-ghost use Rattle.agent.specs.FaultsExplained.{allowed_text, choice_text, choices_text, differs, encoding_text, fault_text, field_of, field_text, fields_text};
-ghost use Rattle.agent.specs.FaultsExplained.{fits_in, half_text, held_text, is_like, is_meant, loaded_text, meant, no_opcode_text, number_in, opcode_text};
-ghost use Rattle.agent.specs.FaultsExplained.{other_text, others_text, packet_text, place_name, platform_text, reserved_text, second_text, sets_reserved_bits};
-ghost use Rattle.agent.specs.FaultsExplained.{short_text, shown_in, slot_text, some_fits_in, wrong_text};
+ghost use Rattle.std.specs.Prelude.{◌≤◌, length};
+ghost use Rattle.bpf_codec.specs.Faults.{IsLeastFault};
 
 use asm_table::mnemonic_of;
 use bpf_codec::{Fault, Field, Slot, layout_of, may_hold_in, rows_at, slot_at};
@@ -26,9 +21,7 @@ enum FieldPlace {
 }
 
 /// The field's name.
-fn place_name(place: FieldPlace) -> &'static [u8]
-    ensures { result.now ≡ place_name place }
-{
+fn place_name(place: FieldPlace) -> &'static [u8] {
     match place {
         FieldPlace::Dst => b"dst",
         FieldPlace::Src => b"src",
@@ -38,9 +31,7 @@ fn place_name(place: FieldPlace) -> &'static [u8]
 }
 
 /// The number that a slot holds there.
-fn number_in(place: FieldPlace, f: Slot) -> u32
-    ensures { result ≡ number_in place f }
-{
+fn number_in(place: FieldPlace, f: Slot) -> u32 {
     match place {
         FieldPlace::Dst => u32::from(f.dst),
         FieldPlace::Src => u32::from(f.src),
@@ -50,9 +41,7 @@ fn number_in(place: FieldPlace, f: Slot) -> u32
 }
 
 /// The same as it is shown: offset and imm are signed.
-fn shown_in(place: FieldPlace, f: Slot) -> i32
-    ensures { result ≡ shown_in place f }
-{
+fn shown_in(place: FieldPlace, f: Slot) -> i32 {
     match place {
         FieldPlace::Dst => i32::from(f.dst),
         FieldPlace::Src => i32::from(f.src),
@@ -62,9 +51,7 @@ fn shown_in(place: FieldPlace, f: Slot) -> i32
 }
 
 /// What an instruction has there.
-fn field_of(place: FieldPlace, instr: Instr) -> Field
-    ensures { result ≡ field_of place instr }
-{
+fn field_of(place: FieldPlace, instr: Instr) -> Field {
     let layout = layout_of(instr);
     match place {
         FieldPlace::Dst => layout.dst,
@@ -75,16 +62,12 @@ fn field_of(place: FieldPlace, instr: Instr) -> Field
 }
 
 /// Whether the instruction's row may hold what the slot holds there.
-fn fits_in(place: FieldPlace, f: Slot, instr: Instr) -> bool
-    ensures { result ≡ fits_in place f instr }
-{
+fn fits_in(place: FieldPlace, f: Slot, instr: Instr) -> bool {
     may_hold_in(field_of(place, instr), number_in(place, f))
 }
 
 /// Whether some of these rows may.
-fn some_fits_in(place: FieldPlace, f: Slot, rows: &[Instr]) -> bool
-    ensures { result ≡ some_fits_in place f rows.now }
-{
+fn some_fits_in(place: FieldPlace, f: Slot, rows: &[Instr]) -> bool {
     for row in rows {
         if fits_in(place, f, *row) {
             return true;
@@ -94,17 +77,12 @@ fn some_fits_in(place: FieldPlace, f: Slot, rows: &[Instr]) -> bool
 }
 
 /// Whether the row may hold it, or none may.
-fn is_like(place: FieldPlace, f: Slot, rows: &[Instr], row: Instr) -> bool
-    ensures { result ≡ is_like place f rows.now row }
-{
+fn is_like(place: FieldPlace, f: Slot, rows: &[Instr], row: Instr) -> bool {
     !some_fits_in(place, f, rows) || fits_in(place, f, row)
 }
 
 /// Whether the row may hold what the slot holds, except in the fields in which none may.
-#[tactic(auto, unfolding(crate::specs::FaultsExplained::is_meant))]
-fn is_meant(f: Slot, rows: &[Instr], row: Instr) -> bool
-    ensures { result ≡ is_meant f rows.now row }
-{
+fn is_meant(f: Slot, rows: &[Instr], row: Instr) -> bool {
     is_like(FieldPlace::Dst, f, rows, row)
         && is_like(FieldPlace::Src, f, rows, row)
         && is_like(FieldPlace::Offset, f, rows, row)
@@ -112,9 +90,7 @@ fn is_meant(f: Slot, rows: &[Instr], row: Instr) -> bool
 }
 
 /// The first row that is meant.
-fn meant(f: Slot, rows: &[Instr]) -> Option<Instr>
-    ensures { result ≡ meant f rows.now rows.now }
-{
+fn meant(f: Slot, rows: &[Instr]) -> Option<Instr> {
     for row in rows {
         if is_meant(f, rows, *row) {
             return Some(*row);
@@ -124,24 +100,18 @@ fn meant(f: Slot, rows: &[Instr]) -> Option<Instr>
 }
 
 /// Adds a number in decimal.
-pub(crate) fn put_decimal<I: Integer>(out: &mut Vec<u8>, number: I) -> Added
-    ensures { OnOk result (out.new.items ≡ out.old.items ++ I.text number) }
-{
+pub(crate) fn put_decimal<I: Integer>(out: &mut Vec<u8>, number: I) -> Added {
     out.extend_from_slice(itoa::Buffer::new().format(number).as_bytes())
 }
 
 /// Adds bytes in hex.
-pub(crate) fn put_hex(alloc: Global, out: &mut Vec<u8>, bytes: &[u8]) -> Added
-    ensures { OnOk result (out.new.items ≡ out.old.items ++ encode_lower bytes.now) }
-{
+pub(crate) fn put_hex(alloc: Global, out: &mut Vec<u8>, bytes: &[u8]) -> Added {
     let digits = hex::encode(alloc, bytes)?;
     out.extend_from_slice(digits.as_bytes())
 }
 
 /// Adds the numbers that a field may hold.
-fn put_allowed(out: &mut Vec<u8>, field: Field) -> Added
-    ensures { OnOk result (out.new.items ≡ out.old.items ++ allowed_text field) }
-{
+fn put_allowed(out: &mut Vec<u8>, field: Field) -> Added {
     match field {
         Field::Register(_) => out.extend_from_slice(b"0 to 10"),
         Field::Only(n) => put_decimal(out, n),
@@ -150,18 +120,14 @@ fn put_allowed(out: &mut Vec<u8>, field: Field) -> Added
 }
 
 /// Adds the same, and in which instruction.
-fn put_choice(out: &mut Vec<u8>, place: FieldPlace, instr: Instr) -> Added
-    ensures { OnOk result (out.new.items ≡ out.old.items ++ choice_text place instr) }
-{
+fn put_choice(out: &mut Vec<u8>, place: FieldPlace, instr: Instr) -> Added {
     put_allowed(out, field_of(place, instr))?;
     out.extend_from_slice(b" in ")?;
     out.extend_from_slice(mnemonic_of(&instr).name())
 }
 
 /// Whether two fields hold different numbers in every instruction.
-fn differs(first: Field, other: Field) -> bool
-    ensures { result ≡ differs first other }
-{
+fn differs(first: Field, other: Field) -> bool {
     match (first, other) {
         (Field::Only(m), Field::Only(n)) => m != n,
         _ => false,
@@ -169,9 +135,7 @@ fn differs(first: Field, other: Field) -> bool
 }
 
 /// Adds what a field may hold in another row, where that differs from the first one.
-fn put_other(out: &mut Vec<u8>, place: FieldPlace, first: Instr, row: Instr) -> Added
-    ensures { OnOk result (out.new.items ≡ out.old.items ++ other_text place first row) }
-{
+fn put_other(out: &mut Vec<u8>, place: FieldPlace, first: Instr, row: Instr) -> Added {
     if !differs(field_of(place, first), field_of(place, row)) {
         return Ok(());
     }
@@ -180,9 +144,7 @@ fn put_other(out: &mut Vec<u8>, place: FieldPlace, first: Instr, row: Instr) -> 
 }
 
 /// Adds the same of each row.
-fn put_others(out: &mut Vec<u8>, place: FieldPlace, first: Instr, rows: &[Instr]) -> Added
-    ensures { OnOk result (out.new.items ≡ out.old.items ++ others_text place first rows.now) }
-{
+fn put_others(out: &mut Vec<u8>, place: FieldPlace, first: Instr, rows: &[Instr]) -> Added {
     for row in rows {
         put_other(out, place, first, *row)?;
     }
@@ -190,26 +152,20 @@ fn put_others(out: &mut Vec<u8>, place: FieldPlace, first: Instr, rows: &[Instr]
 }
 
 /// Adds what a field may hold in each of these rows, the first of which is meant.
-fn put_choices(out: &mut Vec<u8>, place: FieldPlace, first: Instr, rows: &[Instr]) -> Added
-    ensures { OnOk result (out.new.items ≡ out.old.items ++ choices_text place first rows.now) }
-{
+fn put_choices(out: &mut Vec<u8>, place: FieldPlace, first: Instr, rows: &[Instr]) -> Added {
     put_choice(out, place, first)?;
     put_others(out, place, first, rows)
 }
 
 /// Adds what a slot holds in a field.
-fn put_held(out: &mut Vec<u8>, place: FieldPlace, f: Slot) -> Added
-    ensures { OnOk result (out.new.items ≡ out.old.items ++ held_text place f) }
-{
+fn put_held(out: &mut Vec<u8>, place: FieldPlace, f: Slot) -> Added {
     out.extend_from_slice(place_name(place))?;
     out.extend_from_slice(b" is ")?;
     put_decimal(out, shown_in(place, f))
 }
 
 /// Adds what is said of a field that is wrong.
-fn put_wrong(out: &mut Vec<u8>, place: FieldPlace, f: Slot, first: Instr, rows: &[Instr]) -> Added
-    ensures { OnOk result (out.new.items ≡ out.old.items ++ wrong_text place f first rows.now) }
-{
+fn put_wrong(out: &mut Vec<u8>, place: FieldPlace, f: Slot, first: Instr, rows: &[Instr]) -> Added {
     put_held(out, place, f)?;
     out.extend_from_slice(b", and has to be ")?;
     put_choices(out, place, first, rows)?;
@@ -217,9 +173,7 @@ fn put_wrong(out: &mut Vec<u8>, place: FieldPlace, f: Slot, first: Instr, rows: 
 }
 
 /// Adds what is said of a field.
-fn put_field(out: &mut Vec<u8>, place: FieldPlace, f: Slot, first: Instr, rows: &[Instr]) -> Added
-    ensures { OnOk result (out.new.items ≡ out.old.items ++ field_text place f first rows.now) }
-{
+fn put_field(out: &mut Vec<u8>, place: FieldPlace, f: Slot, first: Instr, rows: &[Instr]) -> Added {
     if some_fits_in(place, f, rows) {
         return Ok(());
     }
@@ -227,9 +181,7 @@ fn put_field(out: &mut Vec<u8>, place: FieldPlace, f: Slot, first: Instr, rows: 
 }
 
 /// Adds what is said of each field of the slot.
-fn put_fields(out: &mut Vec<u8>, f: Slot, first: Instr, rows: &[Instr]) -> Added
-    ensures { OnOk result (out.new.items ≡ out.old.items ++ fields_text f first rows.now) }
-{
+fn put_fields(out: &mut Vec<u8>, f: Slot, first: Instr, rows: &[Instr]) -> Added {
     put_field(out, FieldPlace::Dst, f, first, rows)?;
     put_field(out, FieldPlace::Src, f, first, rows)?;
     put_field(out, FieldPlace::Offset, f, first, rows)?;
@@ -237,9 +189,7 @@ fn put_fields(out: &mut Vec<u8>, f: Slot, first: Instr, rows: &[Instr]) -> Added
 }
 
 /// Adds the same where an instruction is meant, otherwise a general rule.
-fn put_slot(out: &mut Vec<u8>, first: Option<Instr>, f: Slot, rows: &[Instr]) -> Added
-    ensures { OnOk result (out.new.items ≡ out.old.items ++ slot_text first f rows.now) }
-{
+fn put_slot(out: &mut Vec<u8>, first: Option<Instr>, f: Slot, rows: &[Instr]) -> Added {
     match first {
         Some(first) => put_fields(out, f, first, rows),
         None => out.extend_from_slice(
@@ -249,43 +199,32 @@ fn put_slot(out: &mut Vec<u8>, first: Option<Instr>, f: Slot, rows: &[Instr]) ->
 }
 
 /// Whether one of the second slot's reserved bits is set (RFC 9669, section 3.2).
-#[tactic(auto, unfolding(bpf_codec::specs::Faults::has_reserved_bits))]
 fn has_reserved_bits(bytes: &[u8]) -> bool
     requires { 16 ≤ length bytes.now }
-    ensures { result ≡ has_reserved_bits bytes.now }
 {
     bytes[8] != 0 || bytes[9] != 0 || bytes[10] != 0 || bytes[11] != 0
 }
 
 /// Whether it is a wide instruction, and its second slot has such bits.
-#[tactic(auto, unfolding(crate::specs::FaultsExplained::sets_reserved_bits, bpf_codec::specs::Faults::has_second, bpf_codec::specs::Faults::is_wide))]
-fn sets_reserved_bits(bytes: &[u8]) -> bool
-    ensures { result ≡ sets_reserved_bits bytes.now }
-{
+fn sets_reserved_bits(bytes: &[u8]) -> bool {
     bytes.len() >= 16 && bytes[0] == 0x18 && has_reserved_bits(bytes)
 }
 
 /// The first four bytes of the second slot, as many as there are.
-fn second_head(bytes: &[u8]) -> &[u8]
-    ensures { result.now ≡ take 4 (drop 8 bytes.now) }
-{
+fn second_head(bytes: &[u8]) -> &[u8] {
     let rest = &bytes[bytes.len().min(8)..];
     &rest[..rest.len().min(4)]
 }
 
 /// Adds what is said of reserved bits that are set.
-fn put_reserved(alloc: Global, out: &mut Vec<u8>, bytes: &[u8]) -> Added
-    ensures { OnOk result (out.new.items ≡ out.old.items ++ reserved_text bytes.now) }
-{
+fn put_reserved(alloc: Global, out: &mut Vec<u8>, bytes: &[u8]) -> Added {
     out.extend_from_slice(b"the second slot begins with ")?;
     put_hex(alloc, out, second_head(bytes))?;
     out.extend_from_slice(b", and has to begin with 00000000 in lddw; ")
 }
 
 /// Adds what is said of a second slot.
-fn put_second(alloc: Global, out: &mut Vec<u8>, bytes: &[u8]) -> Added
-    ensures { OnOk result (out.new.items ≡ out.old.items ++ second_text bytes.now) }
-{
+fn put_second(alloc: Global, out: &mut Vec<u8>, bytes: &[u8]) -> Added {
     if !sets_reserved_bits(bytes) {
         return Ok(());
     }
@@ -295,7 +234,6 @@ fn put_second(alloc: Global, out: &mut Vec<u8>, bytes: &[u8]) -> Added
 /// Adds what is said of an instruction's slots in which a field is wrong.
 fn put_encoding(alloc: Global, out: &mut Vec<u8>, bytes: &[u8]) -> Added
     requires { 8 ≤ length bytes.now }
-    ensures { OnOk result (out.new.items ≡ out.old.items ++ encoding_text bytes.now) }
 {
     let f = slot_at(bytes);
     let rows = rows_at(f.opcode);
@@ -307,16 +245,13 @@ fn put_encoding(alloc: Global, out: &mut Vec<u8>, bytes: &[u8]) -> Added
 /// Adds the opcode, in hex.
 fn put_opcode(alloc: Global, out: &mut Vec<u8>, bytes: &[u8]) -> Added
     requires { 8 ≤ length bytes.now }
-    ensures { OnOk result (out.new.items ≡ out.old.items ++ opcode_text bytes.now) }
 {
     out.extend_from_slice(b"opcode 0x")?;
     put_hex(alloc, out, &bytes[..1])
 }
 
 /// What `lddw` loads, by its source field (RFC 9669, section 5.4).
-fn loaded_text(source: u8) -> &'static [u8]
-    ensures { result.now ≡ loaded_text source }
-{
+fn loaded_text(source: u8) -> &'static [u8] {
     match source {
         1 => b"a map by its file descriptor",
         2 => b"an address in a map, by the map's file descriptor",
@@ -328,9 +263,7 @@ fn loaded_text(source: u8) -> &'static [u8]
 }
 
 /// Adds what is asked of a platform: by `lddw`, or else by a call with source 2 (RFC 9669, section 4.3.1).
-fn put_platform(out: &mut Vec<u8>, f: Slot) -> Added
-    ensures { OnOk result (out.new.items ≡ out.old.items ++ platform_text f) }
-{
+fn put_platform(out: &mut Vec<u8>, f: Slot) -> Added {
     if f.opcode != 0x18 {
         return out.extend_from_slice(
             b"src is 2, so call calls a function by its BTF ID; there is no platform here to supply it (RFC 9669, section 4.3.1)",
@@ -346,7 +279,6 @@ fn put_platform(out: &mut Vec<u8>, f: Slot) -> Added
 /// Adds what is said of an opcode that no instruction has.
 fn put_no_opcode(alloc: Global, out: &mut Vec<u8>, bytes: &[u8]) -> Added
     requires { 8 ≤ length bytes.now }
-    ensures { OnOk result (out.new.items ≡ out.old.items ++ no_opcode_text bytes.now) }
 {
     out.extend_from_slice(b"no instruction has ")?;
     put_opcode(alloc, out, bytes)?;
@@ -356,7 +288,6 @@ fn put_no_opcode(alloc: Global, out: &mut Vec<u8>, bytes: &[u8]) -> Added
 /// Adds what is said of a wide instruction whose second slot isn't there whole.
 fn put_half(out: &mut Vec<u8>, bytes: &[u8]) -> Added
     requires { 8 ≤ length bytes.now }
-    ensures { OnOk result (out.new.items ≡ out.old.items ++ half_text bytes.now) }
 {
     out.extend_from_slice(b"lddw takes two slots, and the second one has ")?;
     put_decimal(out, bytes.len() - 8)?;
@@ -366,7 +297,6 @@ fn put_half(out: &mut Vec<u8>, bytes: &[u8]) -> Added
 /// Adds what is said of legacy packet access.
 fn put_packet(alloc: Global, out: &mut Vec<u8>, bytes: &[u8]) -> Added
     requires { 8 ≤ length bytes.now }
-    ensures { OnOk result (out.new.items ≡ out.old.items ++ packet_text bytes.now) }
 {
     put_opcode(alloc, out, bytes)?;
     out.extend_from_slice(
@@ -375,9 +305,7 @@ fn put_packet(alloc: Global, out: &mut Vec<u8>, bytes: &[u8]) -> Added
 }
 
 /// Adds what is said of a slot that isn't there whole.
-fn put_short(out: &mut Vec<u8>, bytes: &[u8]) -> Added
-    ensures { OnOk result (out.new.items ≡ out.old.items ++ short_text bytes.now) }
-{
+fn put_short(out: &mut Vec<u8>, bytes: &[u8]) -> Added {
     out.extend_from_slice(b"the slot has ")?;
     put_decimal(out, bytes.len())?;
     out.extend_from_slice(b" of 8 bytes (RFC 9669, section 3.1)")
@@ -387,7 +315,6 @@ fn put_short(out: &mut Vec<u8>, bytes: &[u8]) -> Added
 #[tactic(auto, using(crate::proofs::FirstSlot::whole))]
 pub(crate) fn put_fault(alloc: Global, out: &mut Vec<u8>, bytes: &[u8], fault: Fault) -> Added
     requires { IsLeastFault fault bytes.now }
-    ensures { OnOk result (out.new.items ≡ out.old.items ++ fault_text fault bytes.now) }
 {
     match fault {
         Fault::Opcode => put_no_opcode(alloc, out, bytes),
