@@ -13,7 +13,7 @@ import json
 import pathlib
 import struct
 import sys
-from typing import Any, Collection, Iterator
+from typing import Any, Collection, Iterator, List
 
 sys.path.insert(0, str(pathlib.Path(__file__).resolve().parents[1]))
 from lib.checks import run_parts, want, want_equal
@@ -28,7 +28,7 @@ SECONDS = 20
 PROCESSES = 4
 
 # The subcommand, the input, and the two lines.
-Case = list[Any]
+Case = List[Any]
 
 
 def stored() -> list[Case]:
