@@ -145,7 +145,7 @@ pub struct LeasedMemory<'a, F: FarStore> {
 }
 
 impl<F: FarStore> ObjectStore<F> {
-    /// No object is out.
+    /// No object is out. The clause alone reads `who`.
     pub fn lease_none(&self, who: usize) -> Lease<F>
         requires { HasWindow who }
         ensures ready { IsLeasing who self.now result.at result.body }
