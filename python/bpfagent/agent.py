@@ -13,7 +13,7 @@ import subprocess
 import time
 from collections import deque
 from types import TracebackType
-from typing import Callable, Iterable, Iterator, Mapping, Optional, Sequence, TypeVar, Union
+from typing import Callable, Iterator, Mapping, Optional, Sequence, TypeVar, Union
 
 from . import replies
 from .arguments import (
@@ -30,12 +30,12 @@ from .arguments import (
     of_stack,
     of_start,
     ship_line,
-    size_of,
     within,
 )
 from .limits import ARGUMENTS as ARGUMENTS
 from .limits import LONGEST
 from .limits import PIECE as PIECE
+from .objects import Objects
 from .printable import printable
 from .replies import RUNNING, Broken, Hit, Move, Ran, Refused, Registers, Run, Step, Waiting, step_of, words_of
 from .starting import environment, found_program
@@ -110,7 +110,7 @@ class Faults:
             self._end(error)
 
 
-class Agent:
+class Agent(Objects):
     """A conversation with an agent, which is a context manager.
 
     Each method is a command. It raises `Refused` if the agent refuses the command, and `Broken` if the conversation is over.
@@ -338,12 +338,6 @@ class Agent:
         lines = [get_line(number, offset + place * PIECE, size) for place, size in enumerate(sizes)]
         return b"".join(self._content(line, reply, size) for line, reply, size in zip(lines, self.tell_all(lines), sizes))
 
-    def make_of(self, content: Bytes) -> int:
-        """Makes an object of these bytes, and gives its number."""
-        number = self.make(size_of(of_bytes(content)))
-        self.write(number, content)
-        return number
-
     def _bytes(self, line: str, length: int) -> bytes:
         """The bytes that a command shows, which have this length."""
         return self._content(line, self.tell(line), length)
@@ -379,34 +373,6 @@ class Agent:
         if move not in moves or int(found["number"]) != number:
             raise self._broken(f"{line!r} was answered {found[0]!r}")
         return move
-
-    def send_away(self, number: int) -> None:
-        """Takes an object of `run` to the far store."""
-        self.leave(number)
-        self.left(number)
-
-    def bring_home(self, number: int, others: Iterable[int] = ()) -> None:
-        """Brings an object of `run` back from the far store. Where there is no room, others are sent away, one after the other;
-        those that can't go now are passed over."""
-        rest = iter(others)
-        while True:
-            try:
-                self.return_(number)
-                break
-            except Refused as refusal:
-                if refusal.word != "noroom" or not self._send_one_of(rest):
-                    raise
-        self.returned(number)
-
-    def _send_one_of(self, numbers: Iterable[int]) -> bool:
-        """Sends the first of these objects away that can go; whether there was one."""
-        for number in numbers:
-            try:
-                self.send_away(number)
-                return True
-            except Refused:
-                pass
-        return False
 
     # ---- machines
 

@@ -20,8 +20,7 @@ import threading
 import time
 import weakref
 from ctypes import byref, c_char, c_size_t, c_uint32, c_uint64
-from types import TracebackType
-from typing import Callable, Iterable, Mapping, NoReturn, Optional, Protocol, Sequence, TypeVar, Union
+from typing import Callable, Mapping, NoReturn, Optional, Protocol, Sequence, Union
 
 from .arguments import (
     Bytes,
@@ -41,8 +40,10 @@ from .arguments import (
     size_of,
     within,
 )
+from .closing import Closing
 from .library import HIT, NOAGENT, OK, PAUSED, RAN, REFUSED, STOPPED, WAITING, WORDS, Call, End, Grant, Handle, Library, Parcel, Refusal, Shown, WrongLine, library
 from .limits import LONGEST, OBJECTS, SLOTS, STACK_SIZE, WORD
+from .objects import Objects
 from .replies import Closed, Hit, Move, Paused, Ran, Refused, Registers, Run, Step, Stopped, Waiting
 
 # After so many instructions signals are heard, and other threads may use the engine: less than 50 ms, however dear they are.
@@ -58,7 +59,6 @@ BUDGET = OBJECTS * LONGEST
 # The most values that a machine emits, and bytes of its lines of assembly.
 EMITTED, LINE = 64, 256
 EXIT, IS_STOPPED = 1, 2
-E = TypeVar("E", bound="Engine")
 
 
 class FarStore(Protocol):
@@ -95,7 +95,7 @@ def delete(library: Library, handle: Handle) -> None:
     library.calls["delete"](byref(handle))
 
 
-class Engine:
+class Engine(Objects, Closing):
     """An agent in this process, which is a context manager.
 
     Several threads may use it: a lock is held around each call, and a run gives it up after each 131,072 instructions. After `close`, and in
@@ -128,12 +128,6 @@ class Engine:
         """Ends the agent, with all of its objects and machines."""
         with self._lock:
             self._finalizer()
-
-    def __enter__(self: E) -> E:
-        return self
-
-    def __exit__(self, kind: Optional[type[BaseException]], error: Optional[BaseException], trace: Optional[TracebackType]) -> None:
-        self.close()
 
     def __reduce__(self) -> NoReturn:
         raise TypeError("an engine can't be copied, nor sent to another process")
@@ -218,12 +212,6 @@ class Engine:
     def read(self, number: int, length: int, offset: int = 0) -> bytes:
         """Reads so many bytes, in one call."""
         return self.get(number, offset, length) if within(length, LONGEST, 0, "a length") else b""
-
-    def make_of(self, content: Bytes) -> int:
-        """Makes an object of these bytes, and gives its number."""
-        number = self.make(size_of(of_bytes(content)))
-        self.write(number, content)
-        return number
 
     def place_of(self, number: int) -> tuple[str, int]:
         """Where an object is, `here`, `leaving`, `far` or `returning`, and how many bytes it has."""
@@ -328,32 +316,6 @@ class Engine:
         forgets = getattr(self._store, "forget", None)
         if forgets:
             forgets(number)
-
-    def send_away(self, number: int) -> None:
-        """Takes an object to the far store."""
-        self.leave(number)
-        self.left(number)
-
-    def bring_home(self, number: int, others: Iterable[int] = ()) -> None:
-        """Brings an object back from the far store. Where there is no room, others are sent away, one after the other; those that can't go
-        now are passed over."""
-        rest = iter(others)
-        while True:
-            try:
-                self.return_(number)
-                break
-            except Refused as refusal:
-                if refusal.word != "noroom" or not any(self._goes(other) for other in rest):
-                    raise
-        self.returned(number)
-
-    def _goes(self, number: int) -> bool:
-        """Sends an object away if it can go; whether it did."""
-        try:
-            self.send_away(number)
-            return True
-        except Refused:
-            return False
 
     # ---- machines
 

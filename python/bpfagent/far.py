@@ -15,9 +15,9 @@ import argparse
 import hashlib
 import os
 import struct
-from types import TracebackType
 from typing import Optional
 
+from .closing import Closing
 from .commands import add_version, fault_text, guarded, port_of
 from .replies import Broken
 from .streams import connected
@@ -31,7 +31,7 @@ LIMIT = 65_536
 SECONDS = 60.0
 
 
-class Store:
+class Store(Closing):
     """A store at the other end of a connection, which is a context manager.
 
     The store isn't trusted: bytes that come home are taken only if their digest is right. A method raises `Broken` if the
@@ -51,12 +51,6 @@ class Store:
         """Ends the conversation. The store forgets all that this client has sent."""
         self._is_over = True
         self.stream.close()
-
-    def __enter__(self) -> Store:
-        return self
-
-    def __exit__(self, kind: Optional[type[BaseException]], error: Optional[BaseException], trace: Optional[TracebackType]) -> None:
-        self.close()
 
     def ask(self, kind: int, number: int, payload: bytes = b"") -> tuple[int, bytes]:
         """Status and bytes of the answer to a request of this kind for an id. Only a put has a payload."""

@@ -7,6 +7,7 @@ from types import TracebackType
 from typing import Callable, Optional, Union
 
 from .agent import SHORT_PAUSE, Agent, PathLike, pauses
+from .closing import Closing
 from .engine import CHUNK, Engine
 from .image import program_path
 from .library import library_if_there
@@ -32,7 +33,7 @@ def fetch(agent: Union[Agent, Engine], number: int) -> None:
             raise
 
 
-class InProcess:
+class InProcess(Closing):
     """An agent in this process, which is a context manager."""
 
     def __init__(self) -> None:
@@ -50,10 +51,8 @@ class InProcess:
                 return Run(found.last, instructions)
             seen(self.agent.regs(machine))
 
-    def __enter__(self) -> InProcess:
-        return self
-
-    def __exit__(self, kind: Optional[type[BaseException]], error: Optional[BaseException], trace: Optional[TracebackType]) -> None:
+    def close(self) -> None:
+        """Ends the agent."""
         self.agent.close()
 
 

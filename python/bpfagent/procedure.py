@@ -9,10 +9,10 @@ import time
 from collections import deque
 from concurrent.futures import ThreadPoolExecutor
 from dataclasses import dataclass
-from types import TracebackType
 from typing import TYPE_CHECKING, Callable, Iterable, Iterator, Mapping, Optional, Sequence, Union
 
 from .agent import ARGUMENTS, SHORT_PAUSE, Agent, address, patiently, pauses
+from .closing import Closing
 from .image import Image, Unloadable
 from .limits import MACHINES, WORD
 from .replies import PAUSED, REGISTERS, RUNNING, Broken, Refused, Waiting
@@ -221,7 +221,7 @@ def taken_over(agent: Agent, number: int, request: int) -> Machine:
     return Machine(number, request, max(asked, answered) % WORD)
 
 
-class Procedure:
+class Procedure(Closing):
     """A program of a service that answers requests for as long as the service lives. It is a context manager.
 
     It is called as a function with up to five numbers, from several threads too: each call takes a free machine. The value is the
@@ -285,12 +285,6 @@ class Procedure:
                 self._agent.close()
         if self._threads:
             self._threads.shutdown()
-
-    def __enter__(self) -> Procedure:
-        return self
-
-    def __exit__(self, kind: Optional[type[BaseException]], error: Optional[BaseException], trace: Optional[TracebackType]) -> None:
-        self.close()
 
     # ---- requests
 

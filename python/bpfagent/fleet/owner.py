@@ -2,9 +2,9 @@
 from __future__ import annotations
 
 import threading
-from types import TracebackType
-from typing import Optional, Union
+from typing import Union
 
+from ..closing import Closing
 from ..library import library_if_there
 from .inprocess import InProcess
 from .jobs import Job, Result
@@ -12,7 +12,7 @@ from .lines import ByLines
 from .store import Setting, Store
 
 
-class Owner:
+class Owner(Closing):
     """What runs a worker's jobs: agents in this process, or one that is asked by lines. It is a context manager that ends it."""
 
     def __init__(self, setting: Setting) -> None:
@@ -32,9 +32,3 @@ class Owner:
         """Ends the agent, after the job that runs. A further job starts another."""
         with self._lock:
             self._execution.close()
-
-    def __enter__(self) -> Owner:
-        return self
-
-    def __exit__(self, kind: Optional[type[BaseException]], error: Optional[BaseException], trace: Optional[TracebackType]) -> None:
-        self.close()
