@@ -63,10 +63,14 @@ def add_version(options: argparse.ArgumentParser) -> None:
     options.add_argument("--version", action="version", version=f"%(prog)s {__version__}")
 
 
-def parsed(options: argparse.ArgumentParser, words: Optional[Sequence[str]]) -> argparse.Namespace:
-    """What the options of a command line are. They may stand among its arguments; behind `--` there are none."""
+def parsed(options: argparse.ArgumentParser, words: Optional[Sequence[str]], wrong: Callable[[argparse.Namespace], str]) -> argparse.Namespace:
+    """What the options of a command line are. They may stand among its arguments; behind `--` there are none. If they go wrong together,
+    `wrong` says why, and the command ends with status 2."""
     given = sys.argv[1:] if words is None else words
-    return options.parse_args(given) if "--" in given else options.parse_intermixed_args(given)
+    found = options.parse_args(given) if "--" in given else options.parse_intermixed_args(given)
+    if why := wrong(found):
+        options.error(why)
+    return found
 
 
 def port_of(text: str) -> int:

@@ -426,8 +426,5 @@ def wrong(given: argparse.Namespace) -> str:
 
 def main(words: Optional[Sequence[str]] = None) -> None:
     """The command line."""
-    options = parser()
-    given = parsed(options, words)
-    if why := wrong(given):
-        options.error(why)
+    given = parsed(parser(), words, wrong)
     guarded("bpfagent-ship", lambda: told(given) if given.json else ship(given), *FAULTS)

@@ -102,8 +102,5 @@ def debug(given: argparse.Namespace) -> None:
 
 def main(words: Optional[Sequence[str]] = None) -> None:
     """The command line."""
-    options = parser()
-    given = parsed(options, words)
-    if why := wrong(given):
-        options.error(why)
+    given = parsed(parser(), words, wrong)
     guarded("bpfagent-debug", lambda: debug(given), Impossible, Unshippable, Unloadable, Unprepared, NoDwarf, NoMessage, Broken, Refused)
