@@ -17,9 +17,9 @@ from typing import Callable
 sys.path.insert(0, str(pathlib.Path(__file__).resolve().parents[1]))
 from lib.checks import run_parts, want, want_equal
 from lib.programs import Client, Server, Service, ended, patience, until
+from lib.walking import code_of, content, ships
 
 MOST = 65_536
-WORD, FUEL = 8, 1 << 60
 # What the walking machines find: so many objects of this length, of which a sixteenth fits below the bound.
 OBJECTS, LENGTH = 256, 4096
 MACHINES = 4
@@ -35,21 +35,6 @@ END = re.compile(
 )
 # Uses objects 1 to 3, and goes on as long as it has fuel.
 USES = "".join(f"mov r1, {number}\nlsh r1, 32\nldxdw r0, [r1]\n" for number in (1, 2, 3)) + "again: ja again\n"
-# Walks over r2 objects, from the r3rd on. Exits if one doesn't begin with its number.
-WALK = """mov r6, r3
-next: mov r7, r6
-add r7, 1
-mov r8, r7
-lsh r8, 32
-ldxdw r9, [r8]
-jne r9, r7, wrong
-add r6, 1
-jlt r6, r2, next
-mov r6, 0
-ja next
-wrong: mov r0, r7
-exit
-"""
 
 
 class Here:
@@ -89,13 +74,6 @@ class Here:
 def soon(what: str, look: Callable[[], object]) -> None:
     """Waits until the mover has moved a few objects."""
     until(what, look, SOON)
-
-
-def code_of(program: str, text: str) -> str:
-    """The code of this assembly, in hex."""
-    status, code, errors = ended(program, "asm", given=text.encode())
-    want_equal((status, errors), (0, b""), "assembly")
-    return code.hex()
 
 
 def show_start(program: str) -> None:
@@ -142,18 +120,13 @@ def show_in_use(program: str) -> None:
     want(numbers[6] >= 2 and numbers[10] >= 1, f"objects came back, above the bound: {numbers}")
 
 
-def shown(number: int) -> str:
-    return (number.to_bytes(WORD, "little") * (LENGTH // WORD)).hex()
-
-
 def show_walk(program: str) -> str:
     """Machines walk over sixteen times as much as is kept. No more is here than what is kept and what they have in scope, all go on, and each object is
     as it was."""
-    walk = code_of(program, WALK)
-    setup = [line for number in range(1, OBJECTS + 1) for line in (f"make {LENGTH}", f"put {number} 0 {shown(number)}")]
-    ships = [f"ship {FUEL} 0 {OBJECTS} {OBJECTS // MACHINES * number} 0 0 {walk}" for number in range(MACHINES)]
+    setup = [line for number in range(1, OBJECTS + 1) for line in (f"make {LENGTH}", f"put {number} 0 {content(number, LENGTH).hex()}")]
     with Server(program) as far:
-        service = Service(program, "--far", f"127.0.0.1:{far.port}", "--keep", MOST, "--workers", MACHINES, "-v", setup=[*setup, *ships])
+        walking = [*setup, *ships(program, MACHINES, OBJECTS)]
+        service = Service(program, "--far", f"127.0.0.1:{far.port}", "--keep", MOST, "--workers", MACHINES, "-v", setup=walking)
         with service, Client(service) as client:
             told = Here(service, OBJECTS)
             fitting = MOST // LENGTH
@@ -178,7 +151,7 @@ def show_walk(program: str) -> str:
             for number in range(1, MACHINES + 1):
                 until(f"machine {number} isn't paused", lambda: client.ask(f"regs {number}").split()[4] == "paused")
             for number in range(1, OBJECTS + 1):
-                want_equal(client.ask_until(f"get {number} 0 {LENGTH}", "bytes "), f"bytes {shown(number)}", f"object {number}")
+                want_equal(client.ask_until(f"get {number} 0 {LENGTH}", "bytes "), f"bytes {content(number, LENGTH).hex()}", f"object {number}")
             client.end()
             numbers = told.end(service)
     want(most <= fitting + MACHINES * SCOPES + 1, f"{most} objects were here, where {fitting} fit below the bound")

@@ -23,6 +23,7 @@ from lib.checks import run_parts, want, want_equal
 from lib.package import PACKAGE
 from lib.programs import LONG, Ask, Client, Listener, Server, Service, all_leave, ended, in_time, processor_time, run, size_of, until
 from lib.sources import ROOT
+from lib.walking import WORD, content, ships
 
 sys.path.append(str(PACKAGE))
 import bpfagent
@@ -30,7 +31,7 @@ from bpfagent.far import Store
 from bpfagent.starting import THRESHOLD_NAME
 
 UNIT = ROOT / "deploy/bpfagent@.service"
-LENGTH, PIECE, WORD = 65_536, 4096, 8
+LENGTH, PIECE = 65_536, 4096
 OBJECTS, ROUNDS = 1000, 10
 # How many bytes of memory a service may have whose objects are far, and by how many it may have grown in the last round.
 BOUND, GROWTH = 10 << 20, 1 << 20
@@ -44,27 +45,6 @@ EVICTIONS, SMALL_EVICTIONS, AGAIN = 200, 2000, 3
 SMALL, KEEP_SMALL = 4096, 1 << 20
 # How many objects a machine walks over that fit below the bound, and how much longer it may take then.
 FITTING, SLOWER, TRIES = 200, 1.03, 6
-FUEL = 1 << 60
-# Walks over objects, the first of which is number r1 and of which there are r2, for ever, from the r3rd on. Exits if one doesn't begin with its number.
-WALK = """mov r6, r3
-next: mov r7, r6
-add r7, r1
-mov r8, r7
-lsh r8, 32
-ldxdw r9, [r8]
-jne r9, r7, wrong
-add r6, 1
-jlt r6, r2, next
-mov r6, 0
-ja next
-wrong: mov r0, r7
-exit
-"""
-
-
-def content(number: int, length: int = LENGTH) -> bytes:
-    """What object NUMBER holds: its number, again and again."""
-    return number.to_bytes(WORD, "little") * (length // WORD)
 
 
 def setup(count: int, length: int = LENGTH) -> Iterator[str]:
@@ -72,7 +52,7 @@ def setup(count: int, length: int = LENGTH) -> Iterator[str]:
     for number in range(1, count + 1):
         yield f"make {length}"
         for offset in range(0, length, PIECE):
-            yield f"put {number} {offset} {content(number)[:PIECE].hex()}"
+            yield f"put {number} {offset} {content(number, LENGTH)[:PIECE].hex()}"
     if count < ALL:
         yield f"make {WORD}"
 
@@ -90,7 +70,7 @@ def each_begins(ask: Ask, count: int) -> None:
     while rest:
         replies = ask([f"get {number} 0 {WORD}" for number in rest])
         for number, reply in zip(rest, replies):
-            want(reply in (f"bytes {content(number)[:WORD].hex()}", f"away {number}", f"busy {number}"), f"object {number} begins with {reply}")
+            want(reply in (f"bytes {content(number, LENGTH)[:WORD].hex()}", f"away {number}", f"busy {number}"), f"object {number} begins with {reply}")
         rest = [number for number, reply in zip(rest, replies) if not reply.startswith("bytes")]
         want(time.monotonic() < end, f"{len(rest)} objects don't come home")
 
@@ -111,7 +91,7 @@ def rounds(pid: int, ask: Ask) -> str:
 
 def want_left(lines: Sequence[str]) -> None:
     """The service left each object as it was."""
-    told = [f"object {number} {LENGTH} {hashlib.sha256(content(number)).hexdigest()}" for number in range(1, OBJECTS + 1)]
+    told = [f"object {number} {LENGTH} {hashlib.sha256(content(number, LENGTH)).hexdigest()}" for number in range(1, OBJECTS + 1)]
     want(list(lines[: OBJECTS + 1]) == ["closed", *told], f"the service left {lines[:2]} ..")
 
 
@@ -147,7 +127,7 @@ def show_store(program: str) -> str:
     sizes = []
     with installed(program) as launcher, Listener(launcher, "store", env=plain()) as server, Store(server.port or 0, timeout=LONG) as store:
         for _ in range(ROUNDS):
-            kept = [store.put(content(number))[0] for number in range(1, OBJECTS + 1)]
+            kept = [store.put(content(number, LENGTH))[0] for number in range(1, OBJECTS + 1)]
             for number in kept:
                 want(number is not None, "the store has no room")
                 store.forget(number or 0)
@@ -194,19 +174,6 @@ class Noted:
         with open(self._errors, "rb") as errors:
             for line in errors:
                 self.left += line.endswith(b" left\n")
-
-
-def walker(program: str) -> str:
-    """The code of WALK, in hex."""
-    status, code, errors = ended(program, "asm", given=WALK.encode())
-    want_equal((status, errors), (0, b""), "the walking program")
-    return code.hex()
-
-
-def ships(program: str, machines: int, objects: int) -> list[str]:
-    """Machines that walk over so many objects, from different ones on."""
-    code = walker(program)
-    return [f"ship {FUEL} 1 {objects} {objects // machines * number} 0 0 {code}" for number in range(machines)]
 
 
 def fuel(client: Client, machine: int) -> int:
