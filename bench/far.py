@@ -9,13 +9,11 @@ digest alone is that of the kit's sha2, and in C one written as FIPS 180-4 says 
 from __future__ import annotations
 
 import hashlib
-import os
-import subprocess
 import sys
-import time
 
 from counts import can_count, counted
 from rows import words
+from timing import timed
 
 LENGTHS = {64: (1_000, 41_000), 65_536: (40, 840)}
 COUNTED = {64: (100, 300), 65_536: (4, 12)}
@@ -24,15 +22,10 @@ RUNS = 11
 
 def run(program: str, kind: str, count: int, length: int) -> tuple[float, float]:
     """The processor time and the time that passed, in seconds."""
-    start = time.monotonic()
-    process = subprocess.Popen([program, kind, str(count), str(length)], stdout=subprocess.PIPE)
-    assert process.stdout is not None
-    with process.stdout as output:
-        said = output.read()
-    _, status, used = os.wait4(process.pid, 0)
-    if status or int(said) != expected(kind, count, length):
-        sys.exit(f"{program} {kind} {count} {length}: status {status}, {said!r}")
-    return used.ru_utime + used.ru_stime, time.monotonic() - start
+    used, passed, printed = timed(program, kind, count, length)
+    if int(printed) != expected(kind, count, length):
+        sys.exit(f"{program} {kind} {count} {length}: {printed!r}")
+    return used, passed
 
 
 def expected(kind: str, count: int, length: int) -> int:

@@ -10,12 +10,10 @@ one thread. Where there is valgrind, machine instructions of an access too, whic
 from __future__ import annotations
 
 import os
-import subprocess
-import sys
-import time
 
 from counts import can_count, counted
 from rows import words
+from timing import timed
 
 KINDS = ["load", "store", "add"]
 SHORT, LONG = 1_000_000, 11_000_000
@@ -25,12 +23,7 @@ RUNS = 11
 
 def run(program: str, kind: str, count: int, threads: int) -> tuple[float, float]:
     """The processor time and the time that passed, in seconds."""
-    start = time.monotonic()
-    process = subprocess.Popen([program, kind, str(count), str(threads)], stdout=subprocess.DEVNULL)
-    _, status, used = os.wait4(process.pid, 0)
-    if status:
-        sys.exit(f"{program} {kind} {count} {threads}: status {status}")
-    return used.ru_utime + used.ru_stime, time.monotonic() - start
+    return timed(program, kind, count, threads)[:2]
 
 
 def fastest(programs: list[str], kind: str, threads: int, which: int) -> list[float]:

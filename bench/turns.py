@@ -7,13 +7,11 @@ there is valgrind, machine instructions too, counted by callgrind, in the same w
 """
 from __future__ import annotations
 
-import os
 import struct
-import subprocess
-import sys
 
 from counts import can_count, counted
 from rows import words
+from timing import timed
 
 RUNS = 11
 # The fuel of a short run and of a long one, for a time and for a count.
@@ -48,11 +46,7 @@ KINDS = {
 
 def processor_time(program: str, fuel: int, code: str) -> float:
     """The seconds that a run takes of processors."""
-    process = subprocess.Popen([program, str(fuel), code], stdout=subprocess.DEVNULL)
-    _, status, used = os.wait4(process.pid, 0)
-    if status:
-        sys.exit(f"{program} {fuel} {code}: status {status}")
-    return used.ru_utime + used.ru_stime
+    return timed(program, fuel, code)[0]
 
 
 def fastest(programs: list[str], code: str) -> list[float]:
