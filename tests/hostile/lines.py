@@ -14,8 +14,7 @@ from typing import Sequence
 
 from bpfagent.front.saving import Damaged, restored
 
-from lib.checks import Failed
-from lib.programs import Process, patience, processor_time, size_of, until
+from lib.programs import patience, processor_time, size_of
 
 from hostile.changes import changed
 from hostile.frame import HANGS, MEMORY, MOMENT, OTHERS, TRIES

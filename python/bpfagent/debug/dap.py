@@ -4,7 +4,7 @@ from __future__ import annotations
 import contextlib
 import os
 import sys
-from typing import Any, Callable, Optional
+from typing import Callable, Optional
 
 from .. import limits
 from ..commands import address_text, fault_text
