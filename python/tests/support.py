@@ -14,6 +14,7 @@ import shutil
 import signal
 import subprocess
 import sys
+import tempfile
 import termios
 import time
 import unittest
@@ -21,6 +22,7 @@ from types import ModuleType, TracebackType
 from typing import Callable, Iterator, Optional, Sequence
 
 from bpfagent import Agent, Service, patiently
+from bpfagent.far import Store
 
 ROOT = pathlib.Path(__file__).resolve().parents[2]
 # What these tests share with those of the product.
@@ -69,6 +71,13 @@ def with_signals(case: unittest.TestCase) -> None:
         case.addCleanup(signal.signal, number, signal.signal(number, signal.SIG_DFL))
 
 
+def folder_of(case: unittest.TestCase, parent: Optional[str] = None) -> pathlib.Path:
+    """A folder for a test, which is removed after it. It is in `parent`, or where the system keeps such folders."""
+    made = tempfile.TemporaryDirectory(dir=parent)
+    case.addCleanup(made.cleanup)
+    return pathlib.Path(made.name)
+
+
 def has_elftools() -> bool:
     """Whether pyelftools is installed."""
     return importlib.util.find_spec("elftools") is not None
@@ -108,6 +117,13 @@ def usage_of(main: Callable[[Sequence[str]], None], words: Sequence[str]) -> tup
         except SystemExit as ended:
             return ended.code, output.getvalue(), errors.getvalue()
     raise AssertionError(f"{words} are taken")
+
+
+def kept(store: Store, content: bytes) -> tuple[int, bytes]:
+    """Id and digest of bytes that a store takes."""
+    number, digest = store.put(content)
+    assert number is not None
+    return number, digest
 
 
 def changes(client: Agent, number: int) -> bool:

@@ -7,7 +7,6 @@ import pathlib
 import shutil
 import signal
 import subprocess
-import tempfile
 import time
 import unittest
 from typing import Any, Callable, Optional
@@ -16,7 +15,7 @@ import stand_in
 from bpfagent import patiently
 from bpfagent.agent import pauses
 from support import DEBUG, DEBUGGER, ENDLESS, SECONDS, SIGNALS, TABLE, changes, editor_module, endless_service, hang, needs_debugger
-from support import is_at_once, is_soon, noting_program, silent_program, until_asked, until_gone, with_signals
+from support import folder_of, is_at_once, is_soon, noting_program, silent_program, until_asked, until_gone, with_signals
 
 Body = dict[str, Any]
 SOURCE = {"path": str(DEBUG / "table.c")}
@@ -29,9 +28,7 @@ class Sessions(unittest.TestCase):
     """Sessions of an editor with the debugger."""
 
     def setUp(self) -> None:
-        folder = tempfile.TemporaryDirectory()
-        self.addCleanup(folder.cleanup)
-        self.folder = pathlib.Path(folder.name)
+        self.folder = folder_of(self)
         self.editor = editor_module().Editor([*DEBUGGER, "--dap"], is_quiet=True)
         self.addCleanup(self.editor.__exit__)
 
@@ -45,6 +42,17 @@ class Sessions(unittest.TestCase):
         with self.assertRaises(RuntimeError) as found:
             self.ask(command, **arguments)
         return str(found.exception).removeprefix(f"{command}: ")
+
+    def leave(self) -> None:
+        """The editor disconnects, and the debugger ends well."""
+        self.ask("disconnect")
+        self.assertEqual(self.editor.process.wait(SECONDS), 0)
+
+    def endless(self) -> pathlib.Path:
+        """The source of a program that doesn't end."""
+        path = self.folder / "endless.c"
+        path.write_text(ENDLESS)
+        return path
 
     def stopped(self, machine: int, reason: str) -> list[Body]:
         """The frames of a machine, once it has stopped for this reason."""
@@ -119,8 +127,7 @@ class Sessions(unittest.TestCase):
         self.assertEqual(self.ask("continue", threadId=1), {"allThreadsContinued": False})
         self.assertEqual(self.editor.wait("exited")["body"]["exitCode"], 40)
         self.editor.wait("terminated")
-        self.ask("disconnect")
-        self.assertEqual(self.editor.process.wait(SECONDS), 0)
+        self.leave()
 
     def test_serve(self) -> None:
         """The same over `serve` with four workers and three machines, each a thread; then the other two go on."""
@@ -132,13 +139,11 @@ class Sessions(unittest.TestCase):
         for thread in (1, 2, 3):
             self.ask("continue", threadId=thread)
         self.assertEqual(self.editor.wait("exited")["body"]["exitCode"], 40)
-        self.ask("disconnect")
-        self.assertEqual(self.editor.process.wait(SECONDS), 0)
+        self.leave()
 
     def test_attach(self) -> None:
         """A service that runs: pause, a breakpoint on a function, evaluate, and leave; the machine goes on."""
-        path = self.folder / "endless.c"
-        path.write_text(ENDLESS)
+        path = self.endless()
         with endless_service(path) as service:
             other = service.connect(SECONDS)
             self.ask("initialize")
@@ -157,8 +162,7 @@ class Sessions(unittest.TestCase):
             self.assertEqual(other.regs(1).state, "paused")
             self.ask("setFunctionBreakpoints", breakpoints=[])
             self.ask("continue", threadId=1)
-            self.ask("disconnect")
-            self.assertEqual(self.editor.process.wait(SECONDS), 0)
+            self.leave()
             self.assertTrue(changes(other, 1), "the machine doesn't go on")
 
     def test_looking(self) -> None:
@@ -184,7 +188,7 @@ class Sessions(unittest.TestCase):
         stack = self.ask("readMemory", memoryReference="1:0xffffffff00000ff8", count=8)
         self.assertEqual(base64.b64decode(stack["data"]), (1 << 32).to_bytes(8, "little"))
         self.assertEqual(self.ask("dataBreakpointInfo", name="$r1", frameId=frame["id"])["dataId"], None)
-        self.ask("disconnect")
+        self.leave()
 
     def test_wrong(self) -> None:
         """Requests that can't be done are refused with a reason, and the session goes on."""
@@ -224,12 +228,11 @@ class Sessions(unittest.TestCase):
         self.ask("continue", threadId=1)
         self.editor.wait("terminated")
         self.assertEqual(self.refused("continue", threadId=1), "machine 1 has stopped: exit 0000000000000028")
-        self.ask("disconnect")
+        self.leave()
 
     def test_pause(self) -> None:
         """A program that doesn't end is paused while it runs here, looked at, and goes on; requests are answered meanwhile."""
-        path = self.folder / "endless.c"
-        path.write_text(ENDLESS)
+        path = self.endless()
         self.launch(program=str(path), arguments=("+8",), fuel=2**63)
         self.ask("configurationDone")
         counts = [0]
@@ -245,13 +248,11 @@ class Sessions(unittest.TestCase):
             if len(counts) > 3:
                 break
         self.assertEqual(len(counts), 4, counts)
-        self.ask("disconnect")
-        self.assertEqual(self.editor.process.wait(SECONDS), 0)
+        self.leave()
 
     def test_terminate(self) -> None:
         """The editor ends a program that goes on, in `run` and in a service, hears so, and may begin another."""
-        path = self.folder / "endless.c"
-        path.write_text(ENDLESS)
+        path = self.endless()
         ways: list[Body] = [{}, {"serve": True, "workers": 4}]
         for options in ways:
             self.launch(program=str(path), arguments=("+8",), fuel=2**63, **options)
@@ -259,8 +260,7 @@ class Sessions(unittest.TestCase):
             self.ask("terminate")
             self.editor.wait("terminated")
             self.assertEqual(self.refused("threads"), "nothing is debugged yet: launch or attach comes first")
-        self.ask("disconnect")
-        self.assertEqual(self.editor.process.wait(SECONDS), 0)
+        self.leave()
 
     def test_another(self) -> None:
         """A program that is begun after another has threads, and none of the other's breakpoints."""
@@ -281,8 +281,7 @@ class Sessions(unittest.TestCase):
             self.editor.wait("terminated")
             self.ask("terminate")
             self.editor.wait("terminated")
-        self.ask("disconnect")
-        self.assertEqual(self.editor.process.wait(SECONDS), 0)
+        self.leave()
 
     def test_condition(self) -> None:
         """A breakpoint with a condition stops only where it holds."""
@@ -294,7 +293,7 @@ class Sessions(unittest.TestCase):
         self.ask("setBreakpoints", source=SOURCE, breakpoints=[])
         self.ask("continue", threadId=1)
         self.assertEqual(self.editor.wait("exited")["body"]["exitCode"], 2)
-        self.ask("disconnect")
+        self.leave()
 
     def test_stop(self) -> None:
         """A program that goes wrong stops with the reason, and can be looked at."""
@@ -309,12 +308,11 @@ class Sessions(unittest.TestCase):
             self.ask("evaluate", expression="table", frameId=frames[0]["id"])["result"]
             + self.refused("evaluate", expression="*table", frameId=frames[0]["id"]),
         )
-        self.ask("disconnect")
+        self.leave()
 
     def test_hung(self) -> None:
         """An editor that disconnects from a service that has hung hears what may stay there, and isn't kept waiting."""
-        path = self.folder / "endless.c"
-        path.write_text(ENDLESS)
+        path = self.endless()
         self.assertTrue(is_soon(self.left_hung, path))
 
     def left_hung(self, path: pathlib.Path) -> float:
@@ -416,8 +414,7 @@ class Sessions(unittest.TestCase):
 
     def test_signals(self) -> None:
         """A signal that ends the debugger leaves the machines of a service as a disconnection does."""
-        path = self.folder / "endless.c"
-        path.write_text(ENDLESS)
+        path = self.endless()
         with_signals(self)
         for number in SIGNALS:
             with endless_service(path) as service:

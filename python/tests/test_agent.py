@@ -24,7 +24,7 @@ from typing import Callable, Optional, Sequence
 import bpfagent
 import stand_in
 from bpfagent import Agent, Broken, Engine, Hit, Move, Paused, Ran, Refused, Registers, Run, Step, Stopped, Waiting, address
-from support import PROGRAM, ROOT, SECONDS, program_of, until_gone
+from support import PROGRAM, ROOT, SECONDS, folder_of, program_of, until_gone
 
 from form.protocol import commands
 from lib.programs import until
@@ -544,9 +544,7 @@ class Services(Case):
     """Started services, of the program and of a stand-in."""
 
     def setUp(self) -> None:
-        folder = tempfile.TemporaryDirectory()
-        self.addCleanup(folder.cleanup)
-        self.folder = pathlib.Path(folder.name)
+        self.folder = folder_of(self)
 
     def stand_in(self, setup: Talk, *talks: Talk) -> str:
         """A program whose `serve` answers these lines."""

@@ -5,7 +5,6 @@ import os
 import pathlib
 import re
 import shutil
-import tempfile
 import unittest
 from concurrent.futures import ThreadPoolExecutor
 from typing import Callable, Optional
@@ -14,7 +13,7 @@ from unittest import mock
 from bpfagent import Agent, address
 from bpfagent.compiler import NEWEST, OLDER, Uncompiled, compile_c, processor_of
 from bpfagent.objectfile import link
-from support import PROGRAM, ROOT, SECONDS, has_elftools
+from support import PROGRAM, ROOT, SECONDS, folder_of, has_elftools
 
 EXAMPLES = ROOT / "examples/c"
 # All that Debian may have, each once.
@@ -56,9 +55,7 @@ class Clangs(unittest.TestCase):
     """Compiles with each of them."""
 
     def setUp(self) -> None:
-        folder = tempfile.TemporaryDirectory()
-        self.addCleanup(folder.cleanup)
-        self.folder = pathlib.Path(folder.name)
+        self.folder = folder_of(self)
 
     def compiled(self, source: pathlib.Path, *flags: str) -> bytes:
         """The object file of a program."""

@@ -13,20 +13,13 @@ from typing import Sequence
 import stand_in
 from bpfagent import Broken
 from bpfagent.far import DONE, HEAD, LIMIT, REFUSED_ID, Store
-from support import PROGRAM, ROOT, SECONDS
+from support import PROGRAM, ROOT, SECONDS, kept
 
 from lib.programs import Server
 
 
 def frame(kind: int, number: int, payload: bytes = b"", length: int | None = None) -> bytes:
     return HEAD.pack(kind, number, len(payload) if length is None else length) + payload
-
-
-def kept(store: Store, content: bytes) -> tuple[int, bytes]:
-    """Id and digest of bytes that a store takes."""
-    number, digest = store.put(content)
-    assert number is not None
-    return number, digest
 
 
 def called(words: Sequence[str]) -> tuple[int, str, str]:

@@ -22,13 +22,13 @@ import tempfile
 import threading
 import time
 import unittest
-from typing import Any, Callable, Optional
+from typing import Any, Optional
 
 from bpfagent import __version__
 from bpfagent.far import DONE, FORGET, GET, LIMIT, NO_ROOM, PUT, REFUSED_ID, Store
-from support import PROGRAM, ROOT, SECONDS
+from support import PROGRAM, ROOT, SECONDS, kept
 
-from lib.programs import Client, Listener, Server, Service, ended, few_times, free_port, is_heard, object_line, of_threads, processor_time, redis_server
+from lib.programs import Client, Listener, Server, Service, ended, few_times, free_port, is_heard, object_line, of_threads, processor_time, redis_server, until
 from product.store import KEPT, frame, talk, unanswered
 
 HAS_REDIS = importlib.util.find_spec("redis") is not None
@@ -180,21 +180,6 @@ class Gateway(Server):
         assert self.port, "the gateway doesn't listen"
 
 
-def eventually(holds: Callable[[], bool], what: str) -> None:
-    """What comes to hold in time."""
-    end = time.monotonic() + SECONDS
-    while not holds():
-        assert time.monotonic() < end, what
-        time.sleep(0.005)
-
-
-def kept(store: Store, content: bytes) -> tuple[int, bytes]:
-    """Id and digest of bytes that a store takes."""
-    number, digest = store.put(content)
-    assert number is not None
-    return number, digest
-
-
 def setUpModule() -> None:
     """Where the tests run in the background, an interrupt is ignored, and would be by the gateways too."""
     signal.signal(signal.SIGINT, signal.default_int_handler)
@@ -269,7 +254,7 @@ class Gateways(unittest.TestCase):
         two.put(b"more")
         two.forget(2)
         one.close()
-        eventually(lambda: list(redis.kept.values()) == [b"two"], f"the keys of a client that has gone: {redis.kept}")
+        until(f"the keys of a client that has gone: {redis.kept}", lambda: list(redis.kept.values()) == [b"two"])
         self.assertTrue(gateway.end() == (0, b"", b"") and redis.kept == {}, f"the keys of a gateway that has ended: {redis.kept}")
         gone = [words[1] for words in redis.heard if words[0] == b"DEL"]
         self.assertTrue(len(gone) == len(set(gone)) == 3, f"what was deleted: {gone}")
@@ -382,7 +367,7 @@ class Gateways(unittest.TestCase):
             self.assertTrue(store.put(b"abc")[0] == 1 and len(redis.kept) == 1, "a parcel before the signal")
             gateway.process.send_signal(number)
             self.assertTrue(gateway.process.wait(timeout=SECONDS) == 0, f"a gateway that gets {number.name}")
-            eventually(lambda: redis.kept == {}, f"keys of a gateway that got {number.name}")
+            until(f"keys of a gateway that got {number.name}", lambda: redis.kept == {})
             self.assertTrue(gateway.end() == (0, b"", b""), f"what a gateway says that gets {number.name}")
             store.close()
             redis.end()
@@ -424,7 +409,7 @@ class Gateways(unittest.TestCase):
             for client in clients:
                 client.setblocking(False)
                 client.connect_ex(("127.0.0.1", gateway.port))
-            eventually(lambda: len(os.listdir(f"/proc/{gateway.process.pid}/fd")) == most, "the gateway has descriptors left")
+            until("the gateway has descriptors left", lambda: len(os.listdir(f"/proc/{gateway.process.pid}/fd")) == most)
 
             def cost() -> float:
                 before = processor_time(gateway.process.pid)
@@ -489,7 +474,7 @@ class Gateways(unittest.TestCase):
         back.kept = redis.kept
         time.sleep(0.1)
         self.assertEqual(there.get(number, digest), b"abc")
-        eventually(lambda: len(back.kept) == 3, "keys of a client that went while Redis was away stay")
+        until("keys of a client that went while Redis was away stay", lambda: len(back.kept) == 3)
         self.assertEqual(there.get(number, digest), b"abc")
         there.close()
         self.assertEqual(gateway.end()[0], 0)
@@ -505,9 +490,9 @@ class Gateways(unittest.TestCase):
             self.assertEqual(len(redis.kept), 2)
             killed.process.kill()
             killed.process.wait(SECONDS)
-        eventually(lambda: list(redis.kept.values()) == [b"abc"], "the other gateway's keys are deleted")
+        until("the other gateway's keys are deleted", lambda: list(redis.kept.values()) == [b"abc"])
         with Gateway(redis.address, "--port", str(port)) as again:
-            eventually(lambda: redis.kept == {}, "keys of a gateway that was killed stay")
+            until("keys of a gateway that was killed stay", lambda: redis.kept == {})
             self.assertEqual(again.end()[0], 0)
         self.assertEqual((other.end()[0], killed.end()[0]), (0, -signal.SIGKILL))
         redis.end()
@@ -543,7 +528,7 @@ class Gateways(unittest.TestCase):
                     time.sleep(0.2)
                 self.assertEqual(store.get(number, digest), b"abc")
                 gateway.process.kill()
-            eventually(lambda: bool(client.dbsize() == 0), "a key of a gateway that was killed doesn't expire")
+            until("a key of a gateway that was killed doesn't expire", lambda: bool(client.dbsize() == 0))
             self.assertEqual(gateway.end()[0], -signal.SIGKILL)
 
     @needs_redis
@@ -577,7 +562,7 @@ class Gateways(unittest.TestCase):
             self.assertEqual(made.returncode, 0, made.stderr)
             files = ["--tls-cert-file", cert, "--tls-key-file", key, "--tls-ca-cert-file", cert, "--tls-auth-clients", "no"]
             with redis_server("--tls-port", str(secure), *files):
-                eventually(lambda: is_heard("127.0.0.1", secure), "redis-server doesn't listen for TLS")
+                until("redis-server doesn't listen for TLS", lambda: is_heard("127.0.0.1", secure))
                 self.conversation(Gateway(f"rediss://localhost:{secure}?ssl_ca_certs={cert}"))
                 status, _, errors = Gateway(f"rediss://localhost:{secure}").end()
                 self.assertTrue(status == 0 and errors.startswith(b"redis: can't be reached: ") and b"certificate" in errors, errors)
@@ -614,7 +599,7 @@ class Gateways(unittest.TestCase):
             self.assertGreater(sum(int(node.ask("DBSIZE")) for node in nodes), 90)
             gateway.end()
             with Gateway(f"127.0.0.1:{nodes[1].port}", "--port", str(port)) as again:
-                eventually(lambda: all(node.ask("DBSIZE") == "0" for node in nodes), "keys of a gateway that was killed stay in the Cluster")
+                until("keys of a gateway that was killed stay in the Cluster", lambda: all(node.ask("DBSIZE") == "0" for node in nodes))
                 self.assertEqual(again.end(), (0, b"", b""))
 
     def test_service(self) -> None:
@@ -625,14 +610,14 @@ class Gateways(unittest.TestCase):
         service = Service(PROGRAM, "--far", f"127.0.0.1:{gateway.port}", "--workers", 0, setup=["make 8", f"put 1 0 {held.hex()}"])
         client = Client(service)
         self.assertTrue(client.ask("leave 1") == "asked 1", "a request to the mover")
-        eventually(lambda: list(redis.kept.values()) == [held], f"the object is in Redis: {redis.kept}")
+        until(f"the object is in Redis: {redis.kept}", lambda: list(redis.kept.values()) == [held])
         redis.instead += [b"$8\r\nabcdefgh\r\n", b"-OOM\r\n"]
         self.assertTrue(client.ask("get 1 0 8") == "away 1", "an object that is away")
         self.assertTrue(
             client.ask_until("get 1 0 8", "bytes", pause=0.001) == f"bytes {held.hex()}" and redis.instead == [], "the object that came home at the third time"
         )
         client.until_away(1, f"bytes {held.hex()}")
-        eventually(lambda: len(redis.kept) <= 1, f"what is in Redis after the next request of an object that was home: {redis.kept}")
+        until(f"what is in Redis after the next request of an object that was home: {redis.kept}", lambda: len(redis.kept) <= 1)
         client.ask_until("get 1 0 8", "bytes", pause=0.001)
         self.assertTrue(client.end() == "" and service.ends_with([object_line(1, held)]), "the end of a service over the gateway")
         self.assertTrue(gateway.end()[0] == 0 and redis.kept == {}, "the gateway of a service")

@@ -4,18 +4,16 @@ from __future__ import annotations
 import ast
 import importlib
 import os
-import pathlib
 import re
 import signal
 import socket
 import subprocess
 import sys
-import tempfile
 import unittest
 from typing import Callable
 
 import bpfagent
-from support import ROOT, SECONDS, heard
+from support import ROOT, SECONDS, folder_of, heard
 
 PACKAGE = ROOT / "python/bpfagent"
 MODULES = ("ship", "far", "gateway", "debug.main", "front.main", "cli")
@@ -48,9 +46,7 @@ class Interrupts(unittest.TestCase):
     """Each import interrupts itself, so that no time decides."""
 
     def setUp(self) -> None:
-        folder = tempfile.TemporaryDirectory()
-        self.addCleanup(folder.cleanup)
-        self.folder = pathlib.Path(folder.name)
+        self.folder = folder_of(self)
 
     def ended(self, imported: str, *command: str, before: Callable[[], object] = heard) -> tuple[int, str]:
         """Status and errors of a command of Python in which the import of a module is interrupted."""

@@ -2,7 +2,6 @@
 from __future__ import annotations
 
 import contextlib
-import os
 import pathlib
 import socket
 import stat
@@ -21,8 +20,8 @@ from bpfagent.debug.session import attached
 from bpfagent.procedure import reached
 from bpfagent.shared import SharedAgent
 from bpfagent.ship import Unshippable, connected
+from support import PROGRAM, folder_of
 
-PROGRAM = os.environ.get("BPFAGENT", "")
 SECONDS = 60.0
 
 
@@ -49,9 +48,7 @@ class TestPlaces(unittest.TestCase):
     """Each kind of place, and what is no place."""
 
     def setUp(self) -> None:
-        folder = tempfile.TemporaryDirectory(dir="/tmp")
-        self.addCleanup(folder.cleanup)
-        self.folder = pathlib.Path(folder.name)
+        self.folder = folder_of(self, "/tmp")
         self.path = self.folder / "agent.sock"
 
     def test_reached(self) -> None:
@@ -102,9 +99,7 @@ class TestService(unittest.TestCase):
     """Where `Service` has its service listen."""
 
     def setUp(self) -> None:
-        folder = tempfile.TemporaryDirectory(dir="/tmp")
-        self.addCleanup(folder.cleanup)
-        self.folder = pathlib.Path(folder.name)
+        self.folder = folder_of(self, "/tmp")
         self.with_folder(self.folder)
 
     def with_folder(self, folder: pathlib.Path) -> None:

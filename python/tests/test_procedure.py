@@ -10,18 +10,17 @@ import shutil
 import signal
 import socket
 import struct
-import tempfile
 import threading
 import time
 import unittest
 from concurrent.futures import Future, ThreadPoolExecutor
 from typing import Callable, Iterator, Optional
 
-from bpfagent import Agent, Broken, Exhausted, Failed, Image, Procedure, Refused, Service, Unloadable, address, load
-from bpfagent.procedure import ALL, ANSWER, LENGTH, REQUEST, Machine, Stopped, Turn
+from bpfagent import Broken, Exhausted, Failed, Image, Procedure, Refused, Service, Unloadable, address, load
+from bpfagent.procedure import ALL, ANSWER, REQUEST, Machine, Stopped, Turn
 from bpfagent.shared import SharedAgent
 from bpfagent.streams import reached
-from support import PROGRAM, ROOT, SECONDS, has_elftools
+from support import PROGRAM, ROOT, SECONDS, folder_of, has_elftools
 
 EXAMPLES = ROOT / "examples/requests"
 TABLE, TREE, FILTER = (EXAMPLES / f"{name}.c" for name in ("table", "tree", "filter"))
@@ -85,9 +84,7 @@ class Awaits(unittest.TestCase):
     """The slot at which a program pauses."""
 
     def setUp(self) -> None:
-        folder = tempfile.TemporaryDirectory()
-        self.addCleanup(folder.cleanup)
-        self.folder = pathlib.Path(folder.name)
+        self.folder = folder_of(self)
 
     def compiled(self, text: str, *flags: str) -> Image:
         """A program of this text."""
@@ -300,9 +297,7 @@ class Faults(unittest.TestCase):
     """Machines that stop or don't answer, objects that are far, a service that goes."""
 
     def setUp(self) -> None:
-        folder = tempfile.TemporaryDirectory()
-        self.addCleanup(folder.cleanup)
-        self.careless = pathlib.Path(folder.name, "careless.c")
+        self.careless = folder_of(self) / "careless.c"
         self.careless.write_text(CARELESS)
         self.line = CARELESS.splitlines().index("        answer_request(request, number, *(uint64_t *)request->arguments[0], REQUEST_DONE);") + 1
 

@@ -8,7 +8,6 @@ import importlib.util
 import json
 import os
 import pathlib
-import tempfile
 import threading
 import unittest
 from typing import Any, Iterator
@@ -16,7 +15,7 @@ from typing import Any, Iterator
 from bpfagent.debug.channel import Channel, Ended
 from bpfagent.debug.dap import Adapter
 from bpfagent.debug.ending import Ending
-from support import DEBUG, ENDLESS, SECONDS, TABLE, needs_debugger
+from support import DEBUG, ENDLESS, SECONDS, TABLE, folder_of, needs_debugger
 
 Body = dict[str, Any]
 HERE = pathlib.Path(__file__).resolve().parent
@@ -152,9 +151,7 @@ class Requests(unittest.TestCase):
     """Sessions of an editor."""
 
     def setUp(self) -> None:
-        folder = tempfile.TemporaryDirectory()
-        self.addCleanup(folder.cleanup)
-        self.folder = pathlib.Path(folder.name)
+        self.folder = folder_of(self)
         self.editor = Editor()
         self.addCleanup(self.editor.close)
 

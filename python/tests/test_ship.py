@@ -17,7 +17,6 @@ import socket
 import struct
 import subprocess
 import sys
-import tempfile
 import time
 import unittest
 from typing import Optional, Sequence
@@ -28,7 +27,7 @@ import stand_in
 from bpfagent import Service, Unloadable, address, image, load, own
 from bpfagent.library import library_if_there
 from bpfagent.ship import SLOW, main
-from support import PROGRAM, ROOT, SECONDS, has_elftools, heard, program_of, usage_of
+from support import PROGRAM, ROOT, SECONDS, folder_of, has_elftools, heard, program_of, usage_of
 
 from lib.far import Far
 from lib.programs import has_checks, until
@@ -129,9 +128,7 @@ class Ships(unittest.TestCase):
     """Each test has a folder with raw code of four programs."""
 
     def setUp(self) -> None:
-        folder = tempfile.TemporaryDirectory()
-        self.addCleanup(folder.cleanup)
-        self.folder = pathlib.Path(folder.name)
+        self.folder = folder_of(self)
         self.codes: dict[str, str] = {}
         for name, code in (("exit", EXIT), ("endless", ENDLESS), ("loads", LOADS), ("emits", EMITS)):
             path = self.folder / f"{name}.code"

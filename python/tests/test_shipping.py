@@ -5,14 +5,12 @@ import contextlib
 import io
 import json
 import os
-import pathlib
 import subprocess
-import tempfile
 import unittest
 from typing import Any
 
 from bpfagent import outcome, ship
-from support import DEBUGGER, PROGRAM, SECONDS, usage_of
+from support import DEBUGGER, PROGRAM, SECONDS, folder_of, usage_of
 
 # `ldxdw r0, [r1]`, `exit`; `mov r0, -1`, `exit`; `call 3` of R1, `exit`; `callx r1`.
 LOADS, NEGATIVE, EMITS = "79100000000000009500000000000000", "b7000000ffffffff9500000000000000", "85000000030000009500000000000000"
@@ -54,9 +52,7 @@ class Shipping(unittest.TestCase):
     """Each in this process, with a program or the library behind it."""
 
     def setUp(self) -> None:
-        room = tempfile.TemporaryDirectory()
-        self.addCleanup(room.cleanup)
-        self.folder = pathlib.Path(room.name)
+        self.folder = folder_of(self)
 
     def code(self, text: str) -> str:
         """The file of this code, in hex."""

@@ -2,11 +2,9 @@
 from __future__ import annotations
 
 import os
-import pathlib
 import re
 import subprocess
 import sys
-import tempfile
 import unittest
 import unittest.mock
 from typing import Callable, Sequence
@@ -14,7 +12,7 @@ from typing import Callable, Sequence
 from bpfagent import Agent, Service, Unloadable
 from bpfagent.image import program_path
 from bpfagent.starting import THRESHOLD_NAME, ended
-from support import SECONDS, program_of
+from support import SECONDS, folder_of, program_of
 
 # What a stand-in for bpfagent answers: the threshold, as the number of an object, a port, or as it is.
 ANSWERS = f"""import os
@@ -38,9 +36,7 @@ def said(words: Sequence[str]) -> tuple[int, str, str]:
 
 class Starting(unittest.TestCase):
     def setUp(self) -> None:
-        room = tempfile.TemporaryDirectory()
-        self.addCleanup(room.cleanup)
-        self.folder = pathlib.Path(room.name)
+        self.folder = folder_of(self)
         self.program = str(program_of(self.folder / "bpfagent", ANSWERS))
 
     def with_environment(self, **variables: str) -> None:

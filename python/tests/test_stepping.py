@@ -4,7 +4,6 @@ from __future__ import annotations
 import contextlib
 import io
 import pathlib
-import tempfile
 import unittest
 from typing import Iterator, Sequence
 from unittest import mock
@@ -17,7 +16,7 @@ from bpfagent.debug.session import Plan, Session
 from bpfagent.debug.terminal import Terminal
 from bpfagent.library import library_if_there
 from bpfagent.line_engine import LineEngine
-from support import TABLE, needs_debugger
+from support import TABLE, folder_of, needs_debugger
 
 STEPPING = pathlib.Path(__file__).resolve().parent / "stepping"
 NESTED, LOOPS, LOOPED, RECURSION = (str(STEPPING / f"{name}.c") for name in ("nested", "loops", "looped", "recursion"))
@@ -82,9 +81,7 @@ class Sessions(unittest.TestCase):
     """What a person types, and what is shown."""
 
     def setUp(self) -> None:
-        folder = tempfile.TemporaryDirectory()
-        self.addCleanup(folder.cleanup)
-        self.folder = pathlib.Path(folder.name)
+        self.folder = folder_of(self)
 
     def source(self, text: str) -> str:
         """The path of a C file of this text."""

@@ -16,7 +16,7 @@ from bpfagent import Service, patiently
 from bpfagent.debug.main import main
 from bpfagent.debug.terminal import SILENCE
 from support import DEBUGGER, ENDLESS, PROGRAM, ROOT, SECONDS, SIGNALS, TABLE
-from support import Pseudoterminal, changes, endless_service, hang, heard, is_at_once, is_soon, needs_debugger, noting_program, program_of
+from support import Pseudoterminal, changes, endless_service, folder_of, hang, heard, is_at_once, is_soon, needs_debugger, noting_program, program_of
 from support import silent_program, stop, until_asked, until_gone, until_running, usage_of, with_signals
 
 DEEP = """#include "bpfagent.h"
@@ -114,18 +114,17 @@ class Sessions(unittest.TestCase):
     """Sessions of a person with the debugger."""
 
     def setUp(self) -> None:
-        self.folder = tempfile.TemporaryDirectory()
-        self.addCleanup(self.folder.cleanup)
+        self.folder = folder_of(self)
 
     def debugger(self, *arguments: str) -> Pseudoterminal:
         """The debugger in a terminal."""
-        made = Pseudoterminal(*arguments, home=self.folder.name)
+        made = Pseudoterminal(*arguments, home=str(self.folder))
         self.addCleanup(made.__exit__, None, None, None)
         return made
 
     def source(self, text: str) -> str:
         """The path of a C file of this text."""
-        path = pathlib.Path(self.folder.name) / "program.c"
+        path = self.folder / "program.c"
         path.write_text(text)
         return str(path)
 
@@ -182,7 +181,7 @@ class Sessions(unittest.TestCase):
         shown = {}
         for version in ("-gdwarf-4", "-gdwarf-5"):
             for level in ("-O0", "-O2"):
-                path = f"{self.folder.name}/table{version}{level}.o"
+                path = f"{self.folder}/table{version}{level}.o"
                 flags = ["-target", "bpf", "-mcpu=v3", level, version, "-ffreestanding", f"-I{ROOT / 'python/bpfagent/include'}"]
                 subprocess.run(["clang", *flags, "-c", "table.c", "-o", path], cwd=ROOT / "examples/debug", check=True, timeout=SECONDS)
                 with self.debugger(path, *TABLE[1:]) as terminal:
@@ -286,7 +285,7 @@ class Sessions(unittest.TestCase):
 
     def left_hung_program(self, options: list[str]) -> float:
         """Leaves a program that the debugger started, and that has hung. Gives how long that takes."""
-        note = pathlib.Path(self.folder.name) / "number"
+        note = self.folder / "number"
         program = noting_program(note.with_name("starts"), note)
         with self.debugger("--bpfagent", str(program), *options, self.source(ENDLESS), "+8") as terminal:
             stop(int(note.read_text()))
@@ -326,7 +325,7 @@ class Sessions(unittest.TestCase):
 
     def interrupted_at_program(self, options: list[str], said: str) -> float:
         """The same of a program that the debugger started."""
-        note = pathlib.Path(self.folder.name) / "number"
+        note = self.folder / "number"
         program = noting_program(note.with_name("starts"), note)
         with self.debugger("--bpfagent", str(program), *options, self.source(ENDLESS), "+8") as terminal:
             number = int(note.read_text())
@@ -383,7 +382,7 @@ class Sessions(unittest.TestCase):
     def test_silent(self) -> None:
         """A signal ends the debugger at once while it waits for the first reply of a service, or of a program that it started."""
         with_signals(self)
-        folder = pathlib.Path(self.folder.name)
+        folder = self.folder
         started: dict[tuple[str, ...], tuple[str, Callable[[], int]]] = {(): silent_program(folder), ("--serve",): silent_program(folder, "shipped 1", "ok")}
         for number in (signal.SIGINT, *SIGNALS):
             for service in (stand_in.silent, stand_in.full):
@@ -393,7 +392,7 @@ class Sessions(unittest.TestCase):
 
     def test_recognition(self) -> None:
         """Machines of two programs, one with other code of the same shape, and one that isn't known."""
-        paths = [pathlib.Path(self.folder.name) / f"{name}.c" for name in ("seven", "eight", "nine")]
+        paths = [self.folder / f"{name}.c" for name in ("seven", "eight", "nine")]
         for path, value in zip(paths, (7, 8, 9)):
             path.write_text(f'#include "bpfagent.h"\nuint64_t program(uint64_t n)\n{{\n    n += {value};\n    return n;\n}}\n')
         with Service(PROGRAM, "--workers", "2", "--connections", "1", timeout=SECONDS) as service:
@@ -415,7 +414,7 @@ class Sessions(unittest.TestCase):
     def test_flags(self) -> None:
         """A machine that bpfagent-ship shipped is recognized with its flags, and without them the debugger names them."""
         with Service(PROGRAM, "--workers", "0", "--connections", "2", timeout=SECONDS) as service:
-            code = pathlib.Path(self.folder.name) / "optimized.code"
+            code = self.folder / "optimized.code"
             subprocess.run([*DEBUGGER[:2], "bpfagent.ship", "--output", str(code), TABLE[0]], check=True, timeout=SECONDS)
             service.setup.ship(code.read_bytes(), 100)
             at = service.listen()
@@ -493,7 +492,7 @@ class Sessions(unittest.TestCase):
 
     def test_types(self) -> None:
         """Values of each kind of type, and memory in each form."""
-        data = pathlib.Path(self.folder.name) / "all"
+        data = self.folder / "all"
         address = 1 << 32
         content = (5).to_bytes(4, "little") + bytes([1, 2, 3, 4]) + b"\xfe\xffa\0\x02\0b\0" + b"name\0\0\0\0" + bytes([0b10101101, 0, 0, 0]) + bytes(4)
         content += address.to_bytes(8, "little") + (-7).to_bytes(8, "little", signed=True) + (address + 3).to_bytes(8, "little")
