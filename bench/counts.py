@@ -3,10 +3,11 @@
 
 counts.py STEPS FOLDER [AGENT NAME..] > COUNTS
 
-For each program that STEPS measures, or for those named, a line: those of a step of the agent, those of a step of the flat interpreter
-in C, and the program's name. Those of the agent are taken from the file AGENT, an earlier COUNTS. Without it, then those of a load of the agent in two settings: one object and several in turn, all objects granted and 16 of them,
-one object and 1024, one machine and 48. Each is the difference of two runs of different length by the instructions of the program
-that ran between them. Nothing is written where there is no valgrind.
+For each program that STEPS measures, or for those named, it writes a line. The line has the instructions of a step of the agent, those of a step of
+the flat interpreter in C, and the program's name. Those of the agent are taken from the file AGENT, an earlier COUNTS. Without AGENT, lines of a load
+of the agent in two settings follow: one object and several in turn, all objects granted and 16 of them, one object and 1024, one machine and 48. Each
+is the difference of two runs of different length by the instructions of the program that ran between them. Nothing is written where there is no
+valgrind.
 """
 from __future__ import annotations
 

@@ -1,10 +1,10 @@
 #!/usr/bin/env python3
 """A far store over TCP beside the same in plain C, in one run: far.py PROGRAM C_PROGRAM
 
-Client and server are two threads of one program. A put includes the forget after it, so that the server keeps one thing at a
-time. A time is the difference of a long run and a short one, without the programs' start; runs are interleaved, and of each the
-fastest counts: processor time of both threads, and the time that passed. Where there is valgrind, machine instructions too. The
-digest alone is that of the kit's sha2, and in C one written as FIPS 180-4 says it; both are compared with Python's.
+Client and server are two threads of one program. A put includes the forget after it, so that the server keeps one thing at a time. A time is the
+difference of a long run and a short one, without the programs' start. Runs are interleaved, and of each the fastest counts. Both the processor time
+of both threads and the time that passed are told. Where there is valgrind, machine instructions too. The digest alone is that of the kit's sha2, and
+in C one written as FIPS 180-4 says it; both are compared with Python's.
 """
 from __future__ import annotations
 

@@ -1,6 +1,6 @@
 #!/usr/bin/env python3
-"""Cost of a line with its reply: the agent beside a plain line loop in C, on the same scripts; and what the number of objects,
-of machines, of breakpoints and of scopes costs a `step` that loads from an object. All as ratios in one run.
+"""The cost of a line with its reply: the agent beside a plain line loop in C, on the same scripts. Also what the number of objects, of machines, of
+breakpoints and of scopes costs a `step` that loads from an object. All as ratios in one run.
 
 lines.py AGENT LINES [STEPS]
 

@@ -1,9 +1,9 @@
 #!/usr/bin/env python3
 """Replies of a service to `get`, beside one in C: replies.py PROGRAM C_PROGRAM
 
-Each connection asks by a process of its own for eight bytes of its own object, 500 lines at a time, and reads the replies: replies a
-second of all connections together, over the time that passed, and the processor time of the service for each. Runs are interleaved,
-and the median of the runs' ratios counts. Where there is valgrind, the machine instructions of a reply too, without the system's own.
+Each connection asks by a process of its own for eight bytes of its own object, 500 lines at a time, and reads the replies. What counts is how many
+replies come in a second over all connections together, and the processor time of the service for each. Runs are interleaved, and the median of the
+runs' ratios counts. Where there is valgrind, the machine instructions of a reply too, without the system's own.
 """
 from __future__ import annotations
 

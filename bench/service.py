@@ -5,8 +5,8 @@ An instruction of a machine that one worker runs, under the machine's lock, besi
 machine's fuel says was done between two looks at it. And the round trip of a `get` of eight bytes over TCP, beside a server that
 answers this command alone: the time that passed. Runs are interleaved, and of each the fastest counts.
 
-Then, of the service alone: how long `regs` of a running machine takes, and a program from `ship` to its `exit`, for 1, 4 and 16
-workers; and how many of 100 `get` are answered `busy`, for one and for eight clients, on an object that 1, 4 and 16 machines add to.
+Then, of the service alone, how long `regs` of a running machine takes, and a program from `ship` to its `exit`, for 1, 4 and 16 workers. At last how
+many of 100 `get` are answered `busy`, for one and for eight clients, on an object that 1, 4 and 16 machines add to.
 """
 from __future__ import annotations
 

@@ -31,8 +31,8 @@ COMMENT = re.compile(r"^\s*(?:--|//).*\n", re.MULTILINE)
 IMPORT = re.compile(r"^(.*\buse [^{\n]*)\{([^{}]*)\};?$", re.MULTILINE)
 TEXT = re.compile(r'("(?:[^"\\\n]|\\.)*")')
 LAST = re.compile(r"[,;]([)}\]])")
-# What `rt check` says: a goal that stays open, one that is false for some values, and an error in a proof or in a statement, which may go on in further
-# lines.
+# What `rt check` says of a goal that stays open, of one that is false for some values, and of an error in a proof or in a statement. An error may go
+# on in further lines.
 OPEN = re.compile(r"^\w+ (\S+): no proof: expected answers in (?:\./)?(\S+); `search` did not prove (.*)$", re.MULTILINE)
 FALSE = re.compile(r"^note: `([^`]*)` of (\S+) may be false", re.MULTILINE)
 WRONG = re.compile(r"^(?:\./)?((?:proofs|specs)/\S+?):\d+:\d+: error: (?:`([^`]*)`: )?(.*(?:\n[ \t]+.*)*)", re.MULTILINE)

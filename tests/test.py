@@ -1,9 +1,9 @@
 #!/usr/bin/env python3
 """Whether everything works, without a proof, in minutes: test.py RT
 
-Builds the program as `make try` does, and runs the scripts over it; beside that the tests of every crate by `rt try --test`, many crates in one
-compilation, as many at a time as processors and memory allow; at the end what looks at time. The last line is `N passed, M failed`: tests of crates
-and scripts.
+Builds the program as `make try` does, and runs the scripts over it. Beside that it runs the tests of every crate by `rt try --test`, many crates in
+one compilation, as many at a time as processors and memory allow. At the end comes what looks at time. The last line is `N passed, M failed`: tests
+of crates and scripts.
 """
 from __future__ import annotations
 
@@ -21,8 +21,8 @@ from lib.sources import ROOT, crates, tests_in
 
 Call = Callable[[], Done]
 PROGRAM = "out/bpfagent-unproved"
-# What building and running crates' tests takes of memory at most, in bytes, and how long it or a script may take, in seconds, also on a machine that
-# does much else.
+# How many bytes of memory the building and running of crates' tests takes at most. How many seconds that, or a script, may take, also on a busy
+# machine.
 OF_A_CRATE = 4_000_000_000
 SECONDS = 3600
 # How long the tests of crates that are compiled together may take, in seconds, also on a machine that does much else.

@@ -1,9 +1,9 @@
 #!/usr/bin/env python3
 """Installs program and library: install.py [--uninstall] [--part PART ..] [--libdir FOLDER] [--mandir FOLDER] [--docdir FOLDER] PREFIX
 
-Below PREFIX it writes bin/bpfagent, which starts libexec/bpfagent/bpfagent, include/bpfagent.h, lib/libbpfagent.a, bpfagent.pc for
-pkg-config, a package for CMake's find_package, the man pages, the completions of the shells, systemd's unit, pages and examples; if
-`make lib` has linked it, also the shared library with its links, and bpfagent-shared.pc. --destdir is put before PREFIX in every path.
+Below PREFIX it writes bin/bpfagent, which starts libexec/bpfagent/bpfagent, include/bpfagent.h and lib/libbpfagent.a. It writes bpfagent.pc for
+pkg-config, a package for CMake's find_package, the man pages, the completions of the shells, systemd's unit, pages and examples. If `make lib` has
+linked the shared library, it also writes that with its links, and bpfagent-shared.pc. --destdir is put before PREFIX in every path.
 
 A part is what a Debian package of its name has. With --part only that is installed, without a list, since a package manager keeps one.
 

@@ -277,8 +277,8 @@ def all_back(made, count: int) -> None:
 
 
 class Killer(threading.Thread):
-    """Kills a worker every so many seconds, within its block. It waits while half of the workers are dead, since on a busy machine
-    they might all be starting forever, and asks for them anew, since Dask gives up one that dies while it starts."""
+    """Kills a worker every so many seconds, within its block. It waits while half of the workers are dead, since on a busy machine they might all be
+    starting forever. It asks for them anew, since Dask gives up one that dies while it starts."""
 
     def __init__(self, made, seconds: float) -> None:
         super().__init__(daemon=True)

@@ -1,10 +1,10 @@
 #!/usr/bin/env python3
 """Measures a fleet on this machine and keeps the figures: measure_fleet.py PROGRAM [options]
 
-Jobs and bytes a second by agents, by size of object and by length of program, beside plain Python on the same workers; the
-processor time that a job takes of each part; what a lost worker costs; and the examples of words and transfers, also while workers
-and a node of Redis are killed. The figures go to figures.json, from which report.py makes the tables and plots of docs/SCALING.md
-and simulate_fleet.py its costs. All parts take a quarter of an hour on four processors.
+Jobs and bytes a second by agents, by size of object and by length of program, beside plain Python on the same workers. Then the processor time that a
+job takes of each part, and what a lost worker costs. At last the examples of words and transfers, also while workers and a node of Redis are killed.
+The figures go to figures.json, from which report.py makes the tables and plots of docs/SCALING.md and simulate_fleet.py its costs. All parts take a
+quarter of an hour on four processors.
 
 Each part is kept as soon as it is measured, with the program, the machine and the load. So an interrupted run keeps what it has,
 and --part measures what is still to come. --size 0.1 measures a tenth of the jobs, which goes to out/figures.json unless --output

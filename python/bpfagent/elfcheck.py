@@ -1,7 +1,7 @@
 """Whether an object file is one that can be read in a moment, looked at before pyelftools reads it.
 
-pyelftools trusts a file's numbers: it makes as many zeros as a section without content has bytes, inflates whatever a section says, and
-takes a minute for some hundred thousand symbols. The numbers are those of the ELF format (System V gABI, "Sections").
+pyelftools trusts a file's numbers. It makes as many zeros as a section without content has bytes, and inflates whatever a section says.
+Some hundred thousand symbols take it a minute. The numbers are those of the ELF format (System V gABI, "Sections").
 """
 from __future__ import annotations
 

@@ -9,8 +9,8 @@ milliseconds, since no line is written for them:
     ...     engine.run_until(engine.ship(code, 100, address(number), 2)).value
     42
 
-The header's rules are kept here: numbers are tested, since ctypes would cut 2^32 + 1 to 1; a lock is held around each call; a handle is
-never copied, and not used after its end or in a forked child. Several threads may use one `Engine`.
+The rules of `include/bpfagent.h` are kept here. Numbers are tested, since ctypes would cut 2^32 + 1 to 1. A lock is held around each call.
+A handle is never copied, and not used after its end or in a forked child. Several threads may use one `Engine`.
 """
 from __future__ import annotations
 

@@ -229,7 +229,7 @@ class Keeper(threading.Thread):
             self._parcels.close()
 
     def _sweep(self) -> None:
-        """Deletes the keys of this gateway that belong to no client which is there: of one that went while Redis was away, or of the
+        """Deletes the keys of this gateway that belong to no client any more. The client went while Redis was away, or was one of the
         gateway that was at this port before."""
         if self._is_swept:
             return

@@ -1,6 +1,6 @@
-"""An agent that nobody else uses, for a command that runs a program to its end: in this process if the library is there, otherwise in a
-service of its own with one worker. Neither writes a line for each instruction. After a setup objects may be far: then a program that isn't in
-this process is stepped, and they are brought home as it comes to them."""
+"""An agent that nobody else uses, for a command that runs a program to its end. It is in this process if the library is there, otherwise in
+a service of its own with one worker. Neither writes a line for each instruction. After a setup objects may be far: then a program that
+isn't in this process is stepped, and they are brought home as it comes to them."""
 from __future__ import annotations
 
 from types import TracebackType

@@ -227,8 +227,8 @@ class Procedure(Closing):
     It is called as a function with up to five numbers, from several threads too: each call takes a free machine. The value is the
     answer's result. `call_async` is the same for asyncio, and `map` sends many requests.
 
-    A call raises `Failed` for a status other than 0, `Stopped` if the machine stopped, `Exhausted` if none is left, `TimeoutError` if
-    no answer comes in time, `Broken` if the service has gone, and `Refused` if it refuses a command.
+    A call raises `Failed` for a status other than 0, `Stopped` if the machine stopped, and `Exhausted` if none is left. It raises
+    `TimeoutError` if no answer comes in time, `Broken` if the service has gone, and `Refused` if it refuses a command.
     """
 
     Failed, Stopped, Exhausted = Failed, Stopped, Exhausted

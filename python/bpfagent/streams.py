@@ -14,7 +14,7 @@ import ssl
 import subprocess
 import threading
 import time
-from typing import Any, Callable, Optional, Protocol, TypeVar, Union
+from typing import Any, Callable, Optional, Protocol, TypeVar
 
 PIECE = 1 << 16
 LAST_PORT = 65_535
@@ -221,12 +221,13 @@ class Connection:
         self._socket.close()
 
 
-class SecureConnection:
+class SecureConnection(Connection):
     """The same by TLS. One thread may receive while another one sends, which OpenSSL takes only one after the other."""
 
     def __init__(self, made: ssl.SSLSocket) -> None:
+        super().__init__(made)
         made.setblocking(False)
-        self._socket, self._turn = made, threading.Lock()
+        self._turn = threading.Lock()
 
     def send(self, content: bytes, until: Optional[float]) -> None:
         """Writes all of these bytes."""
@@ -250,13 +251,7 @@ class SecureConnection:
                 events = select.POLLOUT
             wait_for(self._socket, events, until)
 
-    def close(self) -> None:
-        """Ends the connection, also for a thread that reads from it."""
-        with contextlib.suppress(OSError):
-            self._socket.shutdown(socket.SHUT_RDWR)
-        self._socket.close()
 
-
-def connection_over(made: socket.socket) -> Union[Connection, SecureConnection]:
+def connection_over(made: socket.socket) -> Connection:
     """The connection over a connected socket."""
     return SecureConnection(made) if isinstance(made, ssl.SSLSocket) else Connection(made)

@@ -1,5 +1,5 @@
-"""A stand-in for `bpfagent serve` that answers stored lines: what a client sends has to be the next stored command, letter by
-letter, and is answered the reply that stands there."""
+"""A stand-in for `bpfagent serve` that answers stored lines. What a client sends has to be the next stored command, letter by letter. The stored
+reply answers it."""
 from __future__ import annotations
 
 import contextlib

@@ -1,8 +1,7 @@
 """The client: conversations by its methods, wrong replies, streams that end or fail, runs, and services.
 
-The conversations are those of the documents and of examples/, each command by a method and each reply from its value, with a
-started `run`, and over TCP with a stand-in that answers stored lines, letter by letter. What the documents of the package show
-is run too.
+The conversations are those of the documents and of examples/. Each command is given by a method, and each reply is compared with its value. They are
+held with a started `run`, and over TCP with a stand-in that answers stored lines. What the documents of the package show is run too.
 """
 from __future__ import annotations
 

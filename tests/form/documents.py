@@ -1,7 +1,7 @@
 #!/usr/bin/env python3
-"""Checks that documents are true as far as a script can see it: links lead to a file and a heading, files, targets of make and options of scripts
-are there, quoted Rust stands in the file that is named before it, a table of sentences names clauses and fields of its files, the picture of the
-crates is that of crates.txt. With --write the script draws it.
+"""Checks that documents are true as far as a script can see it. Links lead to a file and a heading. Files, targets of make and options of scripts are
+there. Quoted Rattle stands in the file that is named before it. A table of sentences names clauses and fields of its files. The picture of the crates
+is that of crates.txt. With --write the script draws it.
 """
 from __future__ import annotations
 

@@ -1,8 +1,8 @@
 #!/usr/bin/env python3
-"""Compares what scripts write with what they write now: lists of tests, however they are laid out, files that stand in several crates, the number of
-replies that `script_runner` tells, and the numbers that docs/performance.svg, docs/SCALING.md and its picture show, with the figures. With --vectors it
-also makes the long scripts of crates/script_runner again, by an interpreter of RFC 9669 of its own, and says whether the replies of the other scripts are
-those that it gives.
+"""Compares stored files with what their scripts write now: lists of tests, however they are laid out, and files that stand in several crates. The
+number of replies that `script_runner` tells is that of its scripts. The numbers of docs/performance.svg, of docs/SCALING.md and of its picture are
+those of the figures. With --vectors it also makes the long scripts of crates/script_runner again, by an interpreter of RFC 9669 of its own, and says
+whether the replies of the other scripts are those that it gives.
 """
 from __future__ import annotations
 

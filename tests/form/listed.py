@@ -1,6 +1,6 @@
 #!/usr/bin/env python3
-"""Checks that the gate passes over nothing: a folder of crates/ that isn't in crates.txt, a folder of edits of another name, a file that no `mod`
-leads to, a test that is left out, an edit that can't be made, a script or a part of one that nothing calls.
+"""Checks that the gate passes over nothing. It finds a folder of crates/ that isn't in crates.txt, a folder of edits of another name, and an edit
+that can't be made. It finds a file that no `mod` leads to, a test that is left out, and a script or a part of one that nothing calls.
 """
 from __future__ import annotations
 

@@ -1,7 +1,7 @@
 #!/usr/bin/env python3
-"""Compares the examples of README.md and docs/PROTOCOL.md with the script that the tests run, and README's with what `make run` shows. Of each
-command of the synopsis the page has a part, in the same order, and explains each of its replies there or among those of all commands; its tables have
-no other reply. The synopsis, the Python client and the C header have the commands of the program's table.
+"""Compares the examples of README.md and docs/PROTOCOL.md with the script that the tests run, and README's with what `make run` shows. The page has a
+part for each command of the synopsis, in the same order. It explains each reply there or among those of all commands, and its tables have no other
+reply. The synopsis, the Python client and the C header have the commands of the program's table.
 
 With --write it writes that script, and the commands of the synopsis with the replies that the page has for them. A new command comes last there.
 """

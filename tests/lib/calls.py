@@ -1,7 +1,7 @@
 """What `make test` and `make prove` run over the program. A line is a call; a new script gets a line in EITHER or ALONE, or in TEST and in PROVE.
 
-PROGRAM is the program: that of `make try` for `make test`, the proved one for `make prove`, which calls those with BOTH a second time with the program
-of Rattle's own compiler. RT is the toolchain's command.
+PROGRAM is the program: that of `make try` for `make test`, the proved one for `make prove`. `make prove` calls those with BOTH a second time, with
+the program of Rattle's own compiler. RT is the toolchain's command.
 """
 from __future__ import annotations
 

@@ -1,8 +1,8 @@
 #!/usr/bin/env python3
 """Runs `bpfagent serve --unix`: door.py PROGRAM
 
-The name that it says and the file's mode under each umask; another user, and a web page's request; files that are there already, paths that
-can't be had, several services at one path; what is there after the end and after a signal.
+It says the right name, and the file has the right mode under each umask. Another user and a web page can't use it. Files may be there already, paths
+can't be had, and several services want one path. The end and a signal leave no more than they should.
 """
 from __future__ import annotations
 

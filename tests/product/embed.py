@@ -1,9 +1,9 @@
 #!/usr/bin/env python3
 """The library for C at work: embed.py RT
 
-The library is built by the commands of docs/EMBEDDING.md, and linked with the programs of examples/embed/, which say by themselves whether all is as it
-should be: the static one and the shared one, with each compiler, its sanitizers, and under valgrind. The shared one exports what the header declares. The
-page's pieces of C are compiled. What isn't installed is skipped, and named.
+The library is built by the commands of docs/EMBEDDING.md, and linked with the programs of examples/embed/. These say by themselves whether all is as
+it should be. The static library and the shared one are tried with each compiler, its sanitizers, and under valgrind. The shared one exports what the
+header declares. The page's pieces of C are compiled. What isn't installed is skipped, and named.
 """
 from __future__ import annotations
 

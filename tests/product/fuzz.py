@@ -3,13 +3,14 @@
 
 Each part takes so many seconds, and the parts run side by side. With 0 seconds only what is stored is run. The seed is the day unless one is given.
 
-`agent` compares the program with the reference: conversations with `run`, and with `serve --workers 0` over TCP; code for `check` and `dis`, whose text
-`asm` has to make that code of. What is expected comes from tests/reference. An input whose answer differs is made smaller as long as it still differs, and
-kept in tests/fuzzed. What is there is compared from then on, also with 0 seconds, and by tests/product/program.py.
+`agent` compares the program with the reference, in conversations with `run`, and with `serve --workers 0` over TCP. It also compares `check` and
+`dis` of code, and `asm` has to make the same code of the text of `dis`. What is expected comes from tests/reference. An input whose answer differs is
+made smaller as long as it still differs, and kept in tests/fuzzed. What is there is compared from then on, also with 0 seconds, and by
+tests/product/program.py.
 
-`elf`, `dwarf`, `dap`, `gateway` and `front` change what is stored in tests/hostile/corpus: object files, their debugging information, an editor's
-messages, replies of Redis, and lines of clients with files of saved objects. What comes of it is an answer or a clear error within a second, in little
-memory, without a traceback and control characters. A case that fails is kept in tests/hostile/kept.
+`elf`, `dwarf`, `dap`, `gateway` and `front` change what is stored in tests/hostile/corpus. These are object files, their debugging information, an
+editor's messages, replies of Redis, and lines of clients with files of saved objects. What comes of it is an answer or a clear error within a second,
+in little memory, without a traceback and control characters. A case that fails is kept in tests/hostile/kept.
 
 `library` calls the library for C, built by `make lib`, as libFuzzer says: tests/hostile/library.c has what is looked at.
 """

@@ -1,8 +1,8 @@
 #!/usr/bin/env python3
 """What `serve --keep` keeps here, as its notes tell: keeping.py PROGRAM
 
-Objects leave until the bound is kept: at the start, when a machine that used more has ended, and while machines walk over much more than is kept.
-memory.py measures the memory, and how many leave in a second.
+Objects leave until the bound is kept. They do so at the start, when a machine that used more has ended, and while machines walk over much more than
+is kept. memory.py measures the memory, and how many leave in a second.
 """
 from __future__ import annotations
 

@@ -1,8 +1,9 @@
 #!/usr/bin/env python3
 """How much memory a service has whose objects leave: memory.py PROGRAM
 
-1,000 objects of 64 KiB leave for `bpfagent store` and come back, ten times: by the program as it is installed, by `Service` of the Python package, and in
-the unit's environment. With `--keep` four machines walk over 64 MiB of objects. PROGRAM is the proved one: that of `make try` has an allocator of its own.
+1,000 objects of 64 KiB leave for `bpfagent store` and come back, ten times. That is done by the program as it is installed, by `Service` of the
+Python package, and in the unit's environment. With `--keep` four machines walk over 64 MiB of objects. PROGRAM is the proved one: that of `make try`
+has an allocator of its own.
 """
 from __future__ import annotations
 

@@ -1,8 +1,8 @@
 #!/usr/bin/env python3
 """Runs the program as a user would: program.py PROGRAM
 
-Each status and stream, what a closed or failing stream leaves and how far the input was read then, what the documents show, and the conversations of
-examples/ over pipes, line by line, so that a program that waits for more is found out.
+The parts look at each status and stream, at what a closed or failing stream leaves, and at how far the input was read then. They run what the
+documents show. The conversations of examples/ go over pipes, line by line, so that a program that waits for more is found out.
 """
 from __future__ import annotations
 

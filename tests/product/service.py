@@ -1,10 +1,10 @@
 #!/usr/bin/env python3
 """Runs `bpfagent serve` with clients over TCP: service.py PROGRAM
 
-The conversations of docs/PROTOCOL.md and examples/serve with their clients, workers and the mover at work, eight clients at once over a counter
-that leaves and returns, over machines that they debug and over accounts under a lock, whose object is away while machines are
-within their loops, conversations that are cut off, objects that are kept by `bpfagent store`, to their last byte, also when that is
-killed, each status, too few threads, and what is left when the service has closed.
+The conversations of docs/PROTOCOL.md and examples/serve are held with their clients, workers and the mover at work. Eight clients at once use a
+counter that leaves and returns, machines that they debug, and accounts under a lock, whose object is away while machines are within their loops.
+Conversations are cut off. Objects are kept by `bpfagent store`, to their last byte, also when that is killed. Each status comes, there are too few
+threads, and what the closed service leaves is looked at.
 """
 from __future__ import annotations
 

@@ -1,9 +1,9 @@
 #!/usr/bin/env python3
 """Runs `bpfagent store` with clients of another language: store.py PROGRAM
 
-Byte for byte what docs/FAR-MEMORY.md shows, clients that break the protocol, 1025 parcels of each of 64 clients, the 65th, memory that
-is given back, too few threads, too few files, the end of standard input while clients are connected, what `-v` writes, each status, and that it
-listens on 127.0.0.1 alone.
+It answers byte for byte what docs/FAR-MEMORY.md shows. Clients break the protocol, 64 clients have 1025 parcels each, and a 65th comes. There are too
+few threads and too few files, and standard input ends while clients are connected. Memory is given back, each status comes, `-v` writes what it
+should, and the store listens on 127.0.0.1 alone.
 """
 from __future__ import annotations
 

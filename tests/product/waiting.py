@@ -1,12 +1,12 @@
 #!/usr/bin/env python3
 """Machines that wait keep nobody up, whatever the far store does: waiting.py PROGRAM
 
-A service over a far store of this script that is slow, silent, refuses, lies or ends the connection, or over `bpfagent store`, which
-is killed; with 1, 2 and 16 workers and up to 48 machines, of which some, all or none wait. How long replies and the end of the service
-take, what processor time machines that wait take of the others and in all, how often the store is asked, whether machines go on when it is
-well again, how often threads of an idle service run, and how many of 100 `get` are answered `busy` on an object that machines add to.
-What is measured and was too much is measured again, six times at most, since other programs may be in the way; and a trial begins again,
-with new services, since one may stay slower than another by how its memory happens to lie. Whatever else is wrong fails at once.
+The far store is one of this script, which is slow, silent, refuses, lies or ends the connection, or `bpfagent store`, which is killed. The service
+has 1, 2 and 16 workers and up to 48 machines, of which some, all or none wait. The script measures how long replies and the end of the service take,
+and what processor time machines that wait take of the others and in all. It counts how often the store is asked, how often threads of an idle service
+run, and how many of 100 `get` are answered `busy` on an object that machines add to. Machines have to go on when the store is well again. What was
+too much is measured again, six times at most, since other programs may be in the way. Each time a trial begins with new services, since one may stay
+slower than another by how its memory happens to lie. Whatever else is wrong fails at once.
 """
 from __future__ import annotations
 

@@ -1,7 +1,7 @@
 """The bytes of all objects in a file, with their digests.
 
-A line `bpfagent-objects 1 COUNT`, then of each object a line `object N LENGTH SHA256`, its bytes and a line end, and at last a line
-`end SHA256` with the digest of all that stands before it.
+The first line is `bpfagent-objects 1 COUNT`. Each object has a line `object N LENGTH SHA256`, its bytes and a line end. The last line is
+`end SHA256`, with the digest of all that stands before it.
 """
 from __future__ import annotations
 
