@@ -21,7 +21,7 @@ from lib.sources import ROOT, crates, crates_below
 TOGETHER = [
     ["shared_objects_tests", "workers_tests", "mover_tests", "ship_service_tests", "far_stream_tests"],
     ["memory_tests", "object_store_tests", "machine_tests", "debugger_tests", "world_tests", "console_tests"],
-    ["asm_tests", "agent_tests", "error_tests"],
+    ["asm_tests", "agent_tests"],
 ]
 NAME = "joined"
 # What a crate's module is called: no crate has this name, so what the module uses is still the crate.

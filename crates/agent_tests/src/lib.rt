@@ -12,6 +12,8 @@ mod checking;
 #[cfg(test)]
 mod compared;
 #[cfg(test)]
+mod errors;
+#[cfg(test)]
 mod help_list;
 #[cfg(test)]
 mod moving;

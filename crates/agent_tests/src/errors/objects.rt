@@ -1,6 +1,6 @@
 //! Errors of objects, and of stores that they are sent to.
 
-use crate::told::are_told;
+use crate::errors::told::are_told;
 use far_store::StoreFault;
 use far_stream::StreamFault;
 use object_store::{GetError, MakeError, PartsError, PutError};

@@ -1,6 +1,6 @@
 //! Errors of streams, and of conversations and servers over them.
 
-use crate::told::are_told;
+use crate::errors::told::are_told;
 use console::{DriveFault, LineFault};
 use far_server::ServerFault;
 use std::test::Fail;

@@ -1,6 +1,6 @@
 //! Errors of code: slots, and code as a whole.
 
-use crate::told::are_told;
+use crate::errors::told::are_told;
 use bpf_codec::Fault;
 use loader::{LoadError, Why};
 use std::test::Fail;

@@ -1,7 +1,7 @@
 //! Errors of assembly: tokens, and lines.
 
 use crate::compared::same;
-use crate::told::are_told;
+use crate::errors::told::are_told;
 use asm_grammar::Why;
 use asm_text::Fault;
 use std::test::Fail;
