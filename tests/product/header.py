@@ -30,30 +30,6 @@ STRUCTS = {
 }
 WORDS = {"u8": "uint8_t", "u32": "uint32_t", "u64": "uint64_t", "usize": "size_t", "bool": "bool", **STRUCTS}
 
-# Where the numbers of each enum stand: in a variant of Code in src/codes.rt, or in an arm of one of its functions.
-REPLIES = {
-    "OK": "Code Done", "RAN": "code_of_reply Ran", "HIT": "code_of_reply Hit", "WAITING": "code_of_reply Waiting", "PAUSED": "code_of_reply Paused",
-    "STOPPED": "code_of_reply Stopped", "NOMEM": "code_of_reply NoMemory", "FULL": "code_of_reply Full", "NOROOM": "code_of_reply NoRoom",
-    "OUTSIDE": "code_of_reply Outside", "AWAY": "code_of_reply Away", "IS_HERE": "code_of_place Here", "IS_LEAVING": "code_of_place Leaving",
-    "IS_FAR": "code_of_place Far", "IS_RETURNING": "code_of_place Returning", "SCOPED": "code_of_reply Scoped", "FAULT_HERE": "code_of_fault Here",
-    "FAULT_FAR": "code_of_fault _", "NOSLOT": "code_of_reply NoSlot", "NOWATCH": "code_of_reply NoWatch", "NOTPAUSED": "code_of_reply NotPaused",
-    "REFUSED": "code_of_reply Refused", "NONE": "code_of_reply Missing", "DAMAGED": "Code Damaged", "SHORT": "Code Short",
-    "NOAGENT": "Code NoAgent", "BAD": "Code Bad",
-}
-STOPS = {
-    "GOES_ON": "stop_of_state _", "EXIT": "code_of_stop Exit", "STOP_OUTSIDE": "code_of_stop Outside", "MISALIGNED": "code_of_stop Misaligned",
-    "DEPTH": "code_of_stop Depth", "SPENT": "code_of_stop Spent", "WORN": "code_of_stop Worn", "NOT_GRANTED": "code_of_stop NotGranted",
-}
-STATES = {"RUNNING": "code_of_state Running", "IS_PAUSED": "code_of_state Paused", "IS_STOPPED": "code_of_state Stopped"}
-PLACES = {"HERE": "number_of_place Here", "LEAVING": "number_of_place Leaving", "FAR": "number_of_place Far", "RETURNING": "number_of_place Returning"}
-WRONG = {
-    "WRONG_WORD": "number Word", "WRONG_OPERAND": "number Operand", "WRONG_RANGE": "number Range", "WRONG_LABEL": "number Label",
-    "WRONG_TWICE_LABEL": "number TwiceLabel", "WRONG_TOO_LONG": "number TooLong",
-}
-ENUMS = {"bpfagent_reply": REPLIES, "bpfagent_stop": STOPS, "bpfagent_state": STATES, "bpfagent_place": PLACES, "bpfagent_wrong": WRONG}
-# Arms that say what another one says, or that pass the question on: none of them is a number of its own.
-SHARED = {"code_of_reply Misplaced", "code_of_reply Faulted", "code_of_reply _", "number Memory"}
-
 Signature = tuple[str, list[str]]
 
 
@@ -108,36 +84,28 @@ def show_functions() -> str:
     return f"{len(ours)} exports"
 
 
-def arms(text: str) -> dict[str, int]:
-    """The number of each arm of each function, and of each variant of Code, StopCode and the like."""
-    numbers = {}
-    for code, body in re.findall(r"(?s)enum (\w*Code) \{(.*?)\n\}", text):
-        numbers.update({f"{code} {name}": int(number) for name, number in re.findall(r"(\w+) = (\d+),", body)})
-    for name, body in re.findall(r"(?s)fn (\w+)\([^)]*\)[^{]*(?:ensures[^\n]*\n)*\{(.*?)\n\}", text):
-        for arm, code, variant, number in re.findall(r"(?:\w+::)?(\w+)(?: \{ \.\. \}|\(\w+\))? => (?:(\w*Code)::(\w+) as u32|(\d+)),", body):
-            numbers[f"{name} {arm}"] = int(number) if number else numbers[f"{code} {variant}"]
-    return numbers
+def enums_of_crate() -> dict[str, dict[str, str]]:
+    """The numbers of src/numbers.rt by their names, under the headings that name the enums of the header."""
+    parts = re.split(r"(?m)^// -+ enum (\w+)$", (CRATE / "src/numbers.rt").read_text())
+    numbers = [dict(re.findall(r"const (\w+): \w+ = (.*);", uncommented(part))) for part in parts[::2]]
+    want(not numbers[0], f"no heading names the enum of {', '.join(numbers[0])}")
+    return dict(zip(parts[1::2], numbers[1:]))
 
 
-def declared_enums() -> dict[str, dict[str, int]]:
+def enums_of_header() -> dict[str, dict[str, str]]:
+    """The numbers that the header declares, in the same form."""
     bodies = re.findall(r"(?s)enum (bpfagent_\w+) \{(.*?)\}", TEXT)
-    return {name: {one: int(number) for one, number in re.findall(r"BPFAGENT_(\w+) = (\d+)", body)} for name, body in bodies}
+    return {name: dict(re.findall(r"BPFAGENT_(\w+)(?: = (\w+))?", body)) for name, body in bodies}
 
 
 def show_enums() -> str:
-    codes = arms(uncommented((CRATE / "src/codes.rt").read_text()))
-    why = uncommented((ROOT / "crates/asm_grammar/src/why.rt").read_text())
-    codes.update({f"number {arm}": int(number) for arm, number in re.findall(r"(\w+) = (\d+),", why)})
-    enums = declared_enums()
-    want_equal(sorted(enums), sorted(ENUMS), "the enums of the header")
-    for name, sources_of in ENUMS.items():
-        want_equal(enums[name], {one: codes.get(source) for one, source in sources_of.items()}, name)
-    variants = sorted(number for source, number in codes.items() if source.startswith("Code "))
-    want_equal(sorted(enums["bpfagent_reply"].values()), variants, "the numbers of Code")
-    named = {source for enum in ENUMS.values() for source in enum.values()} | SHARED
-    for function in ("code_of_reply", "code_of_place", "code_of_fault", "code_of_stop", "code_of_state", "number_of_place", "number"):
-        unnamed = [arm for arm in codes if arm.split()[0] == function and arm not in named]
-        want(not unnamed, f"the header names no {', '.join(unnamed)}")
+    """The enums are those of src/numbers.rt, and no definition in specs/Codes.antt has a number of its own."""
+    enums, ours = enums_of_header(), enums_of_crate()
+    want_equal(sorted(enums), sorted(ours), "the enums of the header")
+    for name, numbers in ours.items():
+        want_equal(enums[name], numbers, name)
+    own = re.findall(r"(?m)^.* = \d+$", (CRATE / "specs/Codes.antt").read_text())
+    want(not own, f"specs/Codes.antt cites no constant in {', '.join(own)}")
     told = re.findall(r'case (BPFAGENT_\w+): return "(\w+)";', TEXT)
     want_equal(told, [(f"BPFAGENT_{one}", f"BPFAGENT_{one}") for one in enums["bpfagent_reply"]], "bpfagent_name")
     return f"{sum(map(len, enums.values()))} numbers"

@@ -1,5 +1,5 @@
 -- Replies, places and stops as the numbers that the header names.
-use Rattle.std.specs.Prelude.{ℕ, zero, suc, Option, Some, None}
+use Rattle.std.specs.Prelude.{ℕ, nat_eq, cond, Option, Some, None}
 use Rattle.placement.specs.declared.places.Place.{Place}
 use Rattle.placement.specs.declared.places.Place.TheVariants as place
 use Rattle.placement.specs.declared.places.Moved.{Moved}
@@ -19,90 +19,90 @@ use Rattle.debugger.specs.declared.replies.StepReply.TheVariants as step_reply
 use Rattle.world.specs.declared.replies.Reply.{Reply}
 use Rattle.world.specs.declared.replies.Reply.TheVariants as reply
 use Rattle.world.specs.Answers.{reply_to_move}
+use Rattle.bpfagent_c.specs.declared.numbers.TheConstants.{OK, RAN, HIT, WAITING, PAUSED, STOPPED, NOMEM, FULL, NOROOM, OUTSIDE, AWAY}
+use Rattle.bpfagent_c.specs.declared.numbers.TheConstants.{IS_HERE, IS_LEAVING, IS_FAR, IS_RETURNING, SCOPED, FAULT_HERE, FAULT_FAR, NOSLOT, NOWATCH}
+use Rattle.bpfagent_c.specs.declared.numbers.TheConstants.{NOTPAUSED, REFUSED, NONE, DAMAGED, NOAGENT}
+use Rattle.bpfagent_c.specs.declared.numbers.TheConstants.{EXIT, STOP_OUTSIDE, MISALIGNED, DEPTH, SPENT, WORN, NOT_GRANTED, GOES_ON}
+use Rattle.bpfagent_c.specs.declared.numbers.TheConstants.{RUNNING, IS_PAUSED, IS_STOPPED, HERE, LEAVING, FAR, RETURNING}
 
 -- the object is in this place, where the command can't be done
 abbrev pub code_of_place : Place → ℕ
-code_of_place place.Here = 15
-code_of_place place.Leaving = 16
-code_of_place place.Far = 17
-code_of_place place.Returning = 18
+code_of_place place.Here = IS_HERE
+code_of_place place.Leaving = IS_LEAVING
+code_of_place place.Far = IS_FAR
+code_of_place place.Returning = IS_RETURNING
 
 -- the far store failed, and the object is in this place again
 abbrev pub code_of_fault : Place → ℕ
-code_of_fault place.Here = 20
-code_of_fault _ = 21
+code_of_fault place.Here = FAULT_HERE
+code_of_fault _ = FAULT_FAR
 
 -- the number of a reply
 abbrev pub code_of_reply : Reply → ℕ
-code_of_reply (reply.Ran m slot) = 1
-code_of_reply (reply.Hit m slot) = 2
-code_of_reply (reply.Waiting m n) = 3
-code_of_reply (reply.Paused m slot) = 4
-code_of_reply (reply.Stopped m s) = 5
-code_of_reply reply.NoMemory = 10
-code_of_reply reply.Full = 11
-code_of_reply reply.NoRoom = 12
-code_of_reply reply.Outside = 13
-code_of_reply (reply.Away n) = 14
+code_of_reply (reply.Ran m slot) = RAN
+code_of_reply (reply.Hit m slot) = HIT
+code_of_reply (reply.Waiting m n) = WAITING
+code_of_reply (reply.Paused m slot) = PAUSED
+code_of_reply (reply.Stopped m s) = STOPPED
+code_of_reply reply.NoMemory = NOMEM
+code_of_reply reply.Full = FULL
+code_of_reply reply.NoRoom = NOROOM
+code_of_reply reply.Outside = OUTSIDE
+code_of_reply (reply.Away n) = AWAY
 code_of_reply (reply.Misplaced n p) = code_of_place p
-code_of_reply (reply.Scoped n) = 19
+code_of_reply (reply.Scoped n) = SCOPED
 code_of_reply (reply.Faulted n p) = code_of_fault p
-code_of_reply reply.NoSlot = 22
-code_of_reply reply.NoWatch = 23
-code_of_reply reply.NotPaused = 24
-code_of_reply (reply.Refused e) = 25
-code_of_reply reply.Missing = 26
-code_of_reply _ = 0
+code_of_reply reply.NoSlot = NOSLOT
+code_of_reply reply.NoWatch = NOWATCH
+code_of_reply reply.NotPaused = NOTPAUSED
+code_of_reply (reply.Refused e) = REFUSED
+code_of_reply reply.Missing = NONE
+code_of_reply _ = OK
 
 -- the number of what a call answers: that of the reply, or that there is no agent
 abbrev pub code_of : Option Reply → ℕ
-code_of None = 30
+code_of None = NOAGENT
 code_of (Some r) = code_of_reply r
 
 -- the number of what a step was answered, where there may be no such machine
 abbrev pub code_of_step : Option StepReply → ℕ
-code_of_step (Some (step_reply.Ran slot)) = 1
-code_of_step (Some (step_reply.Hit slot)) = 2
-code_of_step (Some (step_reply.Waiting n)) = 3
-code_of_step (Some (step_reply.Paused slot)) = 4
-code_of_step (Some (step_reply.Stopped s)) = 5
-code_of_step None = 26
+code_of_step (Some (step_reply.Ran slot)) = RAN
+code_of_step (Some (step_reply.Hit slot)) = HIT
+code_of_step (Some (step_reply.Waiting n)) = WAITING
+code_of_step (Some (step_reply.Paused slot)) = PAUSED
+code_of_step (Some (step_reply.Stopped s)) = STOPPED
+code_of_step None = NONE
 
 -- the number of what a run ended with, where all of its steps may have run
 abbrev pub code_of_end : Option StepReply → ℕ
-code_of_end None = 1
+code_of_end None = RAN
 code_of_end (Some told) = code_of_step (Some told)
 
--- the number of a stop; 0 is for none
+-- the number of a stop
 abbrev pub code_of_stop : Stop → ℕ
-code_of_stop (stop.Exit v) = 1
-code_of_stop stop.Outside = 2
-code_of_stop stop.Misaligned = 3
-code_of_stop stop.Depth = 4
-code_of_stop stop.Spent = 5
-code_of_stop stop.Worn = 6
-code_of_stop stop.NotGranted = 7
-
--- what an exit leaves in R0
-abbrev pub value_of_stop : Stop → ℕ
-value_of_stop (stop.Exit v) = v
-value_of_stop _ = 0
+code_of_stop (stop.Exit v) = EXIT
+code_of_stop stop.Outside = STOP_OUTSIDE
+code_of_stop stop.Misaligned = MISALIGNED
+code_of_stop stop.Depth = DEPTH
+code_of_stop stop.Spent = SPENT
+code_of_stop stop.Worn = WORN
+code_of_stop stop.NotGranted = NOT_GRANTED
 
 -- whether a machine goes on, as a number
 abbrev pub code_of_state : State → ℕ
-code_of_state state.Running = 0
-code_of_state state.Paused = 1
-code_of_state (state.Stopped s) = 2
+code_of_state state.Running = RUNNING
+code_of_state state.Paused = IS_PAUSED
+code_of_state (state.Stopped s) = IS_STOPPED
 
--- the number of the stop of a machine that is stopped; 0 for another
+-- the number of the stop of a machine that is stopped, or that another one goes on
 abbrev pub stop_of_state : State → ℕ
 stop_of_state (state.Stopped s) = code_of_stop s
-stop_of_state _ = 0
+stop_of_state _ = GOES_ON
 
 -- bytes didn't come back: they are others, or the far store failed
 abbrev pub code_of_lost : StoreFault → ℕ
-code_of_lost Damaged = 27
-code_of_lost _ = 21
+code_of_lost Damaged = DAMAGED
+code_of_lost _ = FAULT_FAR
 
 -- the number of what was answered where the bytes of object n came back
 abbrev pub code_of_back : ℕ → Moved → ℕ
@@ -111,25 +111,22 @@ code_of_back n m = code_of_reply (reply_to_move (reply.Home n) place.Far n m)
 
 -- a place as a number
 abbrev pub number_of_place : Place → ℕ
-number_of_place place.Here = 0
-number_of_place place.Leaving = 1
-number_of_place place.Far = 2
-number_of_place place.Returning = 3
+number_of_place place.Here = HERE
+number_of_place place.Leaving = LEAVING
+number_of_place place.Far = FAR
+number_of_place place.Returning = RETURNING
 
 -- the place of a number
 abbrev pub place_numbered : ℕ → Option Place
-place_numbered zero = Some place.Here
-place_numbered (suc zero) = Some place.Leaving
-place_numbered (suc (suc zero)) = Some place.Far
-place_numbered (suc (suc (suc zero))) = Some place.Returning
-place_numbered _ = None
+place_numbered n = cond (nat_eq n HERE) (Some place.Here) (cond (nat_eq n LEAVING) (Some place.Leaving) (cond (nat_eq n FAR) (Some place.Far)
+    (cond (nat_eq n RETURNING) (Some place.Returning) None)))
 
 -- the number for code that is refused for this reason
 abbrev pub code_of_why : Why → ℕ
-code_of_why why.Memory = 10
-code_of_why _ = 25
+code_of_why why.Memory = NOMEM
+code_of_why _ = REFUSED
 
 -- the number for a text that is refused for this reason
 abbrev pub code_of_text : WrongText → ℕ
-code_of_text wrong_text.Memory = 10
-code_of_text _ = 25
+code_of_text wrong_text.Memory = NOMEM
+code_of_text _ = REFUSED

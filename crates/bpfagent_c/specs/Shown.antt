@@ -5,6 +5,8 @@ use Rattle.memory.specs.Objects.{object_limit}
 use Rattle.loader.specs.Refusals.{why_number}
 use Rattle.machine.specs.declared.grants.Grant.{Grant}
 use Rattle.machine.specs.Grants.{GrantState}
+use Rattle.machine.specs.declared.state.Stop.{Stop}
+use Rattle.machine.specs.declared.state.Stop.TheVariants as stop
 use Rattle.debugger.specs.declared.commands.Way.{Way}
 use Rattle.debugger.specs.declared.commands.MachineCommand.TheVariants.{Step}
 use Rattle.debugger.specs.declared.replies.StepReply.{StepReply}
@@ -22,7 +24,8 @@ use Rattle.bpfagent_c.specs.declared.shown.End.{End}
 use Rattle.bpfagent_c.specs.declared.shown.Granted.{Granted}
 use Rattle.bpfagent_c.specs.declared.shown.Refusal.{Refusal}
 use Rattle.bpfagent_c.specs.declared.shown.Registers.{Registers}
-use Rattle.bpfagent_c.specs.Codes.{code_of_step, code_of_end, code_of_stop, value_of_stop, code_of_state, stop_of_state}
+use Rattle.bpfagent_c.specs.declared.numbers.TheConstants.{GOES_ON, NOAGENT, NONE}
+use Rattle.bpfagent_c.specs.Codes.{code_of_step, code_of_end, code_of_stop, code_of_state, stop_of_state}
 
 -- ---- numbers
 
@@ -98,6 +101,11 @@ grants_of gs = record { all = false; listed = map grant_of gs }
 
 -- ---- steps
 
+-- what an exit leaves in R0
+abbrev pub value_of_stop : Stop → ℕ
+value_of_stop (stop.Exit v) = v
+value_of_stop _ = 0
+
 -- what a step was answered: where the machine is, or the object that it waits for, or R0 at an exit
 abbrev pub value_of_step : StepReply → ℕ
 value_of_step (step_reply.Ran slot) = slot
@@ -106,10 +114,10 @@ value_of_step (step_reply.Waiting n) = n
 value_of_step (step_reply.Paused slot) = slot
 value_of_step (step_reply.Stopped s) = value_of_stop s
 
--- why the machine is stopped; 0 where it isn't
+-- why the machine is stopped, or that it goes on
 abbrev pub stop_of_step : StepReply → ℕ
 stop_of_step (step_reply.Stopped s) = code_of_stop s
-stop_of_step _ = 0
+stop_of_step _ = GOES_ON
 
 -- how many steps ran, of one
 abbrev pub ran_of_step : StepReply → ℕ
@@ -123,7 +131,7 @@ end_of_step (Some told) old = record { ran = ran_of_step told; value = value_of_
 
 -- how a run ended, of which so many steps ran
 abbrev pub end_after : ℕ → Option StepReply → End
-end_after ran None = record { ran = ran; value = 0; stop = 0 }
+end_after ran None = record { ran = ran; value = 0; stop = GOES_ON }
 end_after ran (Some told) = record { ran = ran; value = value_of_step told; stop = stop_of_step told }
 
 -- how a run ended, where there may be no such machine
@@ -133,7 +141,7 @@ end_of_run (Some run) old = end_after run.ran run.end
 
 -- its number
 abbrev pub code_of_run : Option MachineRun → ℕ
-code_of_run None = 26
+code_of_run None = NONE
 code_of_run (Some run) = code_of_end run.end
 
 -- the agent's machine m makes a step, in this way, and number and end are those of what it was answered
@@ -155,5 +163,5 @@ pub record Runs (m n : ℕ) (old : Agent) (before : End) (number : ℕ) (new : A
 -- there is no agent, and nothing is written
 pub record IsWithout (old : Agent) (before : End) (number : ℕ) (new : Agent) (after : End) : Type 0 where
   pub none : new.live ≡ false
-  pub number_is : number ≡ 30
+  pub number_is : number ≡ NOAGENT
   pub end_is : after ≡ before

@@ -17,6 +17,7 @@ use Rattle.bpfagent_c.specs.declared.shown.Refusal.{Refusal}
 use Rattle.bpfagent_c.specs.declared.texts.WrongLine.{WrongLine}
 use Rattle.bpfagent_c.specs.declared.texts.LineError.{LineError}
 use Rattle.bpfagent_c.specs.declared.texts.LineError.TheVariants as line_error
+use Rattle.bpfagent_c.specs.declared.numbers.TheConstants.{NOMEM, NOSLOT, OK, REFUSED}
 use Rattle.bpfagent_c.specs.Codes.{code_of_why, code_of_text}
 use Rattle.bpfagent_c.specs.Shown.{over}
 
@@ -29,7 +30,7 @@ Checks code (Some e) = Refuses code e.slot e.why
 
 -- its number
 abbrev pub code_of_check : Option LoadError → ℕ
-code_of_check None = 0
+code_of_check None = OK
 code_of_check (Some e) = code_of_why e.why
 
 -- slot and reason, where the code isn't valid
@@ -51,7 +52,7 @@ Assembles text (Err e) = (meaning text ≡ Err e) ⊎ (e.why ≡ wrong_text.Memo
 
 -- its number
 abbrev pub code_of_assembly : Result (List ℕ) AsmError → ℕ
-code_of_assembly (Ok code) = 0
+code_of_assembly (Ok code) = OK
 code_of_assembly (Err e) = code_of_text e.why
 
 -- ---- lines
@@ -65,10 +66,10 @@ Lines code slot (Err line_error.Memory) = Unit {0}
 
 -- its number
 abbrev pub code_of_line : Result (List ℕ) LineError → ℕ
-code_of_line (Ok text) = 0
-code_of_line (Err line_error.Refused) = 25
-code_of_line (Err line_error.NoSlot) = 22
-code_of_line (Err line_error.Memory) = 10
+code_of_line (Ok text) = OK
+code_of_line (Err line_error.Refused) = REFUSED
+code_of_line (Err line_error.NoSlot) = NOSLOT
+code_of_line (Err line_error.Memory) = NOMEM
 
 -- ---- what is written of either
 

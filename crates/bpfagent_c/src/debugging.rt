@@ -9,8 +9,9 @@ ghost use Rattle.bpfagent_c.specs.Codes.{code_of};
 ghost use Rattle.bpfagent_c.specs.Told.{Commanded, Told};
 ghost use Rattle.bpfagent_c.specs.Shown.{registers_of, values_of, value_count_of, bytes_of, text_of, text_count_of};
 
-use crate::codes::{Code, code_of, code_of_stack};
+use crate::codes::{code_of, code_of_stack};
 use crate::handle::{Agent, give, take};
+use crate::numbers::{NOAGENT, NOMEM, OK};
 use crate::shown::{Registers, write_bytes, write_values};
 use crate::telling::{show, tell_debug};
 use std::alloc::Global;
@@ -65,13 +66,13 @@ pub extern "C" fn bpfagent_stack(
 ) -> u32
     ensures told { (given : Option Reply) × Commanded agent.old (Event.Machine machine (MachineCommand.Show (ShowCommand.Stack offset (length bytes.old))))
         given agent.new × (result ≡ code_of given) × (bytes.new ≡ bytes_of given bytes.old) }
-    ensures memory { result ≢ 10 }
+    ensures memory { result ≢ NOMEM }
 {
     let Some(world) = take(agent, alloc) else {
-        return Code::NoAgent as u32;
+        return NOAGENT;
     };
     let number = match world.read_stack(machine, offset, bytes) {
-        Ok(()) => Code::Done as u32,
+        Ok(()) => OK,
         Err(error) => code_of_stack(error),
     };
     give(agent, alloc, world);

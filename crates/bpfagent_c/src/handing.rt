@@ -18,8 +18,9 @@ ghost use Rattle.bpfagent_c.specs.Codes.{code_of, code_of_reply};
 ghost use Rattle.bpfagent_c.specs.Told.{Commanded, HasNone};
 ghost use Rattle.bpfagent_c.specs.Handing.{Forgets, IsCalm, bytes_at, left_count, left_digest, left_over};
 
-use crate::codes::{Code, code_of_back, code_of_moved};
+use crate::codes::{code_of_back, code_of_moved};
 use crate::handle::{Agent, give, take};
+use crate::numbers::{DAMAGED, FAULT_FAR, FAULT_HERE, NOAGENT, OK, SHORT};
 use crate::shown::Parcel;
 use library_store::LibraryStore;
 use object_store::{Moved, Place};
@@ -51,7 +52,7 @@ fn leave_into(
         × (buffer.new ≡ left_over told (bytes_of world.old.store.state.objects object) buffer.old)
         × (size.new ≡ left_count told (bytes_of world.old.store.state.objects object) size.old)
         × (parcel.new.digest ≡ left_digest told (bytes_of world.old.store.state.objects object) parcel.old.digest) }
-    ensures works { result ≢ 20 }
+    ensures works { result ≢ FAULT_HERE }
 {
     let count = world.length(object);
     let moved = world.left_into(object, &mut buffer[..count]);
@@ -78,19 +79,20 @@ pub extern "C" fn bpfagent_left_into(
         × (buffer.new ≡ left_over told (bytes_at agent.old object) buffer.old) × (size.new ≡ left_count told (bytes_at agent.old object) size.old)
         × (parcel.new.digest ≡ left_digest told (bytes_at agent.old object) parcel.old.digest) }
     ensures short { agent.old.live ≡ true → length buffer.old < length (bytes_at agent.old object)
-        → (result ≡ 28) × IsCalm agent.old agent.new × (buffer.new ≡ buffer.old) × (size.new ≡ length (bytes_at agent.old object)) × (parcel.new ≡ parcel.old) }
-    ensures none { agent.old.live ≡ false → (result ≡ 30) × HasNone agent.old agent.new × (buffer.new ≡ buffer.old)
+        → (result ≡ SHORT) × IsCalm agent.old agent.new × (buffer.new ≡ buffer.old) × (size.new ≡ length (bytes_at agent.old object))
+        × (parcel.new ≡ parcel.old) }
+    ensures none { agent.old.live ≡ false → (result ≡ NOAGENT) × HasNone agent.old agent.new × (buffer.new ≡ buffer.old)
         × (size.new ≡ size.old) × (parcel.new ≡ parcel.old) }
-    ensures works { result ≢ 20 }
+    ensures works { result ≢ FAULT_HERE }
 {
     let Some(mut world) = take(agent, alloc) else {
-        return Code::NoAgent as u32;
+        return NOAGENT;
     };
     let count = world.length(object);
     if count > buffer.len() {
         give(agent, alloc, world);
         *size = count;
-        return Code::Short as u32;
+        return SHORT;
     }
     let number = leave_into(&mut world, object, buffer, size, parcel);
     give(agent, alloc, world);
@@ -123,14 +125,14 @@ pub extern "C" fn bpfagent_returned_from(
 ) -> u32
     requires premise { agent.old.live ≡ true → Alike (bytes_at agent.old object) bytes.now → bytes.now ≡ bytes_at agent.old object }
     ensures told { (given : Option Reply) × Commanded agent.old (Event.Object object (ObjectCommand.Move Move.Returned)) given agent.new
-        × ((result ≡ code_of given) ⊎ ((result ≡ 27) × (code_of given ≡ 21))) }
-    ensures back { result ≡ 0 → bytes.now ≡ bytes_at agent.old object }
-    ensures damaged { result ≡ 27 → bytes.now ≢ bytes_at agent.old object }
-    ensures others { result ≡ 21 → bytes.now ≢ bytes_at agent.old object → ⊥ }
+        × ((result ≡ code_of given) ⊎ ((result ≡ DAMAGED) × (code_of given ≡ FAULT_FAR))) }
+    ensures back { result ≡ OK → bytes.now ≡ bytes_at agent.old object }
+    ensures damaged { result ≡ DAMAGED → bytes.now ≢ bytes_at agent.old object }
+    ensures others { result ≡ FAULT_FAR → bytes.now ≢ bytes_at agent.old object → ⊥ }
 {
     match take_back(agent, alloc, object, bytes) {
         Some(moved) => code_of_back(moved),
-        None => Code::NoAgent as u32,
+        None => NOAGENT,
     }
 }
 
@@ -138,10 +140,10 @@ pub extern "C" fn bpfagent_returned_from(
 #[unsafe(no_mangle)]
 pub extern "C" fn bpfagent_forget(alloc: Global, agent: &mut Agent, object: u32) -> u32
     ensures told { agent.old.live ≡ true → Forgets object agent.old result agent.new }
-    ensures none { agent.old.live ≡ false → (result ≡ 30) × HasNone agent.old agent.new }
+    ensures none { agent.old.live ≡ false → (result ≡ NOAGENT) × HasNone agent.old agent.new }
 {
     let Some(mut world) = take(agent, alloc) else {
-        return Code::NoAgent as u32;
+        return NOAGENT;
     };
     let moved = world.forget(object);
     give(agent, alloc, world);

@@ -10,6 +10,7 @@ mod life;
 mod loose;
 mod machines;
 mod names;
+mod numbers;
 mod objects;
 mod places;
 mod shown;

@@ -2,8 +2,8 @@
 ghost use Rattle.std.specs.Prelude.{◌≡◌, ◌≢◌, true, false, IfSome};
 ghost use Rattle.world.specs.WorldState.{opened_world};
 
-use crate::codes::Code;
 use crate::handle::{Agent, give, take};
+use crate::numbers::{NOMEM, OK};
 use library_store::LibraryStore;
 use std::alloc::Global;
 use world::World;
@@ -23,15 +23,15 @@ fn world_of(alloc: Global, budget: u32, store: LibraryStore) -> Option<Box<World
 
 /// Makes an agent over this store in a handle.
 fn open(agent: &mut Agent, alloc: Global, budget: u32, store: LibraryStore) -> u32
-    ensures ok { result ≡ 0 → (agent.new.live ≡ true) × (agent.new.held.state ≡ opened_world budget store.faults store) }
-    ensures refused { result ≢ 0 → (result ≡ 10) × (agent.new ≡ agent.old) }
+    ensures ok { result ≡ OK → (agent.new.live ≡ true) × (agent.new.held.state ≡ opened_world budget store.faults store) }
+    ensures refused { result ≢ OK → (result ≡ NOMEM) × (agent.new ≡ agent.old) }
 {
     match world_of(alloc, budget, store) {
         Some(world) => {
             give(agent, alloc, world);
-            Code::Done as u32
+            OK
         }
-        None => Code::NoMemory as u32,
+        None => NOMEM,
     }
 }
 
@@ -39,8 +39,8 @@ fn open(agent: &mut Agent, alloc: Global, budget: u32, store: LibraryStore) -> u
 /// had is freed; out of memory it stays.
 #[unsafe(no_mangle)]
 pub extern "C" fn bpfagent_new(alloc: Global, agent: &mut Agent, budget: u32) -> u32
-    ensures ok { result ≡ 0 → (agent.new.live ≡ true) × (agent.new.held.state ≡ opened_world budget 0 (record { keeps = true; faults = 0 })) }
-    ensures refused { result ≢ 0 → (result ≡ 10) × (agent.new ≡ agent.old) }
+    ensures ok { result ≡ OK → (agent.new.live ≡ true) × (agent.new.held.state ≡ opened_world budget 0 (record { keeps = true; faults = 0 })) }
+    ensures refused { result ≢ OK → (result ≡ NOMEM) × (agent.new ≡ agent.old) }
 {
     open(agent, alloc, budget, LibraryStore::keeping(alloc))
 }
@@ -48,8 +48,8 @@ pub extern "C" fn bpfagent_new(alloc: Global, agent: &mut Agent, budget: u32) ->
 /// The same, of an agent whose caller keeps the bytes of its far objects.
 #[unsafe(no_mangle)]
 pub extern "C" fn bpfagent_new_handing(alloc: Global, agent: &mut Agent, budget: u32) -> u32
-    ensures ok { result ≡ 0 → (agent.new.live ≡ true) × (agent.new.held.state ≡ opened_world budget 0 (record { keeps = false; faults = 0 })) }
-    ensures refused { result ≢ 0 → (result ≡ 10) × (agent.new ≡ agent.old) }
+    ensures ok { result ≡ OK → (agent.new.live ≡ true) × (agent.new.held.state ≡ opened_world budget 0 (record { keeps = false; faults = 0 })) }
+    ensures refused { result ≢ OK → (result ≡ NOMEM) × (agent.new ≡ agent.old) }
 {
     open(agent, alloc, budget, LibraryStore::handing(alloc))
 }
@@ -65,7 +65,7 @@ pub extern "C" fn bpfagent_delete(alloc: Global, agent: &mut Agent)
 /// The version of the library.
 #[unsafe(no_mangle)]
 pub extern "C" fn bpfagent_version() -> u32
-    ensures { result ≡ 900 }
+    ensures { result ≡ VERSION }
 {
     VERSION
 }

@@ -8,8 +8,9 @@ ghost use Rattle.bpfagent_c.specs.Codes.{code_of};
 ghost use Rattle.bpfagent_c.specs.Told.{Commanded};
 ghost use Rattle.bpfagent_c.specs.Shown.{shipped_of, refusal_of, grants_of, AreGrants, Steps, Runs, IsWithout};
 
-use crate::codes::{Code, code_of, code_of_end, code_of_step};
+use crate::codes::{code_of, code_of_end, code_of_step};
 use crate::handle::{Agent, give, take};
+use crate::numbers::{BAD, NOAGENT, NONE};
 use crate::shown::{End, Granted, Refusal, grants_of};
 use std::alloc::Global;
 use world::{Reply, Start, Way};
@@ -81,10 +82,10 @@ pub extern "C" fn bpfagent_ship_granted(
     ensures told { AreGrants granted.now → (given : Option Reply)
         × Commanded agent.old (Event.Ship (record { fuel = fuel; arguments = r1 ∷ r2 ∷ r3 ∷ r4 ∷ r5 ∷ []; grants = grants_of granted.now }) code.now) given
         agent.new × (result ≡ code_of given) × (machine.new ≡ shipped_of given machine.old) × (refusal.new ≡ refusal_of given refusal.old) }
-    ensures bad { (AreGrants granted.now → ⊥) → (result ≡ 31) × (agent.new ≡ agent.old) × (machine.new ≡ machine.old) × (refusal.new ≡ refusal.old) }
+    ensures bad { (AreGrants granted.now → ⊥) → (result ≡ BAD) × (agent.new ≡ agent.old) × (machine.new ≡ machine.old) × (refusal.new ≡ refusal.old) }
 {
     let Some(grants) = grants_of(granted) else {
-        return Code::Bad as u32;
+        return BAD;
     };
     let start = Start {
         fuel,
@@ -101,12 +102,12 @@ fn make_step(agent: &mut Agent, alloc: Global, machine: usize, way: Way, end: &m
     ensures none { agent.old.live ≡ false → IsWithout agent.old end.old result agent.new end.new }
 {
     let Some(mut world) = take(agent, alloc) else {
-        return Code::NoAgent as u32;
+        return NOAGENT;
     };
     let told = world.step(machine, way);
     give(agent, alloc, world);
     let Some(told) = told else {
-        return Code::Missing as u32;
+        return NONE;
     };
     *end = End::of_step(told);
     code_of_step(told)
@@ -153,12 +154,12 @@ pub extern "C" fn bpfagent_run(
     ensures none { agent.old.live ≡ false → IsWithout agent.old end.old result agent.new end.new }
 {
     let Some(mut world) = take(agent, alloc) else {
-        return Code::NoAgent as u32;
+        return NOAGENT;
     };
     let run = world.run_machine(machine, n);
     give(agent, alloc, world);
     let Some(run) = run else {
-        return Code::Missing as u32;
+        return NONE;
     };
     *end = End::of_run(run.ran, run.end);
     code_of_end(run.end)

@@ -13,22 +13,28 @@ ghost use Rattle.placement.specs.declared.places.Place.{Place};
 ghost use Rattle.bpfagent_c.specs.Codes.{code_of_state, code_of_stop, place_numbered, stop_of_state};
 ghost use Rattle.bpfagent_c.specs.Shown.{over};
 
-use crate::codes::{Code, place_numbered, state_numbered};
+use crate::codes::{place_numbered, state_numbered};
+use crate::numbers::{
+    BAD, OK, WRONG_LABEL, WRONG_OPERAND, WRONG_RANGE, WRONG_TOO_LONG, WRONG_TWICE_LABEL, WRONG_WORD,
+};
 use crate::shown::write_bytes;
 use asm_grammar::Why as WrongText;
 use bpf_codec::Fault;
 use console::{name_of_place, name_of_state};
 use loader::Why;
 
+/// The number of a reason that the header doesn't name, since where memory ran out no line is told.
+const WRONG_MEMORY: u32 = 7;
+
 /// Writes a name: as many bytes as there is room for, and how many it has.
 fn tell_name(name: &[u8], text: &mut [u8], count: &mut usize) -> u32
-    ensures number { result ≡ 0 }
+    ensures number { result ≡ OK }
     ensures text { text.new ≡ over name.now text.old }
     ensures count { count.new ≡ length name.now }
 {
     write_bytes(text, name);
     *count = name.len();
-    Code::Done as u32
+    OK
 }
 
 /// The name of a machine's state, as `regs` shows it: that of its stop if it is stopped.
@@ -39,27 +45,27 @@ pub extern "C" fn bpfagent_state_name(
     text: &mut [u8],
     count: &mut usize,
 ) -> u32
-    ensures known { result ≡ 0 → (found : State) × (code_of_state found ≡ state) × (stop_of_state found ≡ stop)
+    ensures known { result ≡ OK → (found : State) × (code_of_state found ≡ state) × (stop_of_state found ≡ stop)
         × (text.new ≡ over (state_name found) text.old) × (count.new ≡ length (state_name found)) }
-    ensures unknown { result ≢ 0 → (result ≡ 31) × ((one : State) → code_of_state one ≡ state → stop_of_state one ≢ stop)
+    ensures unknown { result ≢ OK → (result ≡ BAD) × ((one : State) → code_of_state one ≡ state → stop_of_state one ≢ stop)
         × (text.new ≡ text.old) × (count.new ≡ count.old) }
 {
     match state_numbered(state, stop) {
         Some(found) => tell_name(name_of_state(found), text, count),
-        None => Code::Bad as u32,
+        None => BAD,
     }
 }
 
 /// The name of a place.
 #[unsafe(no_mangle)]
 pub extern "C" fn bpfagent_place_name(place: u32, text: &mut [u8], count: &mut usize) -> u32
-    ensures known { result ≡ 0 → (found : Place) × (place_numbered place ≡ Some found)
+    ensures known { result ≡ OK → (found : Place) × (place_numbered place ≡ Some found)
         × (text.new ≡ over (place_name found) text.old) × (count.new ≡ length (place_name found)) }
-    ensures unknown { result ≢ 0 → (result ≡ 31) × (place_numbered place ≡ None) × (text.new ≡ text.old) × (count.new ≡ count.old) }
+    ensures unknown { result ≢ OK → (result ≡ BAD) × (place_numbered place ≡ None) × (text.new ≡ text.old) × (count.new ≡ count.old) }
 {
     match place_numbered(place) {
         Some(found) => tell_name(name_of_place(found), text, count),
-        None => Code::Bad as u32,
+        None => BAD,
     }
 }
 
@@ -104,13 +110,13 @@ fn why_numbered(number: u32) -> Option<Why>
 /// The name of the reason for which code is refused.
 #[unsafe(no_mangle)]
 pub extern "C" fn bpfagent_reason_name(reason: u32, text: &mut [u8], count: &mut usize) -> u32
-    ensures known { result ≡ 0 → (found : Why) × (why_number found ≡ reason)
+    ensures known { result ≡ OK → (found : Why) × (why_number found ≡ reason)
         × (text.new ≡ over (why_name found) text.old) × (count.new ≡ length (why_name found)) }
-    ensures unknown { result ≢ 0 → (result ≡ 31) × ((one : Why) → why_number one ≢ reason) × (text.new ≡ text.old) × (count.new ≡ count.old) }
+    ensures unknown { result ≢ OK → (result ≡ BAD) × ((one : Why) → why_number one ≢ reason) × (text.new ≡ text.old) × (count.new ≡ count.old) }
 {
     match why_numbered(reason) {
         Some(found) => tell_name(found.name(), text, count),
-        None => Code::Bad as u32,
+        None => BAD,
     }
 }
 
@@ -120,13 +126,13 @@ fn wrong_numbered(number: u32) -> Option<WrongText>
     ensures none { IfNone result ((wrong : WrongText) → wrong_number wrong ≢ number) }
 {
     match number {
-        1 => Some(WrongText::Word),
-        2 => Some(WrongText::Operand),
-        3 => Some(WrongText::Range),
-        4 => Some(WrongText::Label),
-        5 => Some(WrongText::TwiceLabel),
-        6 => Some(WrongText::TooLong),
-        7 => Some(WrongText::Memory),
+        WRONG_WORD => Some(WrongText::Word),
+        WRONG_OPERAND => Some(WrongText::Operand),
+        WRONG_RANGE => Some(WrongText::Range),
+        WRONG_LABEL => Some(WrongText::Label),
+        WRONG_TWICE_LABEL => Some(WrongText::TwiceLabel),
+        WRONG_TOO_LONG => Some(WrongText::TooLong),
+        WRONG_MEMORY => Some(WrongText::Memory),
         _ => None,
     }
 }
@@ -134,12 +140,12 @@ fn wrong_numbered(number: u32) -> Option<WrongText>
 /// The name of the reason for which a text is refused.
 #[unsafe(no_mangle)]
 pub extern "C" fn bpfagent_wrong_name(wrong: u32, text: &mut [u8], count: &mut usize) -> u32
-    ensures known { result ≡ 0 → (found : WrongText) × (wrong_number found ≡ wrong)
+    ensures known { result ≡ OK → (found : WrongText) × (wrong_number found ≡ wrong)
         × (text.new ≡ over (wrong_name found) text.old) × (count.new ≡ length (wrong_name found)) }
-    ensures unknown { result ≢ 0 → (result ≡ 31) × ((one : WrongText) → wrong_number one ≢ wrong) × (text.new ≡ text.old) × (count.new ≡ count.old) }
+    ensures unknown { result ≢ OK → (result ≡ BAD) × ((one : WrongText) → wrong_number one ≢ wrong) × (text.new ≡ text.old) × (count.new ≡ count.old) }
 {
     match wrong_numbered(wrong) {
         Some(found) => tell_name(found.name().as_bytes(), text, count),
-        None => Code::Bad as u32,
+        None => BAD,
     }
 }

@@ -9,8 +9,9 @@ ghost use Rattle.bpfagent_c.specs.Codes.{code_of};
 ghost use Rattle.bpfagent_c.specs.Told.{Commanded, Told};
 ghost use Rattle.bpfagent_c.specs.Shown.{made_of, bytes_of};
 
-use crate::codes::{Code, code_of, code_of_get};
+use crate::codes::{code_of, code_of_get};
 use crate::handle::{Agent, give, take};
+use crate::numbers::{BAD, NOAGENT, NOMEM, OK};
 use crate::telling::{command, tell_move, tell_object};
 use memory::OBJECT_BYTES;
 use std::alloc::Global;
@@ -30,10 +31,10 @@ pub extern "C" fn bpfagent_make(
     ensures told { (1 ≤ length) × (length ≤ object_bytes)
         → (given : Option Reply) × Commanded agent.old (Event.Make length) given agent.new × (result ≡ code_of given)
         × (object.new ≡ made_of given object.old) }
-    ensures bad { ((1 ≤ length) × (length ≤ object_bytes) → ⊥) → (result ≡ 31) × (agent.new ≡ agent.old) × (object.new ≡ object.old) }
+    ensures bad { ((1 ≤ length) × (length ≤ object_bytes) → ⊥) → (result ≡ BAD) × (agent.new ≡ agent.old) × (object.new ≡ object.old) }
 {
     let Some(length) = ObjectLength::new(length) else {
-        return Code::Bad as u32;
+        return BAD;
     };
     let given = command(agent, alloc, Event::Make { length });
     if let Some(Reply::Made { object: number }) = &given {
@@ -111,13 +112,13 @@ pub extern "C" fn bpfagent_put(
 fn get(agent: &mut Agent, alloc: Global, object: u32, offset: u32, bytes: &mut [u8]) -> u32
     ensures told { (given : Option Reply) × Commanded agent.old (Event.Object object (ObjectCommand.Get offset (length bytes.old))) given agent.new
         × (result ≡ code_of given) × (bytes.new ≡ bytes_of given bytes.old) }
-    ensures memory { result ≢ 10 }
+    ensures memory { result ≢ NOMEM }
 {
     let Some(world) = take(agent, alloc) else {
-        return Code::NoAgent as u32;
+        return NOAGENT;
     };
     let number = match world.read(object, offset, bytes) {
-        Ok(()) => Code::Done as u32,
+        Ok(()) => OK,
         Err(error) => code_of_get(error),
     };
     give(agent, alloc, world);
@@ -136,7 +137,7 @@ pub extern "C" fn bpfagent_get(
     ensures told { (given : Option Reply) × Commanded agent.old
         (Event.Object object (ObjectCommand.Get offset (min (length bytes.old) (object_bytes + 1)))) given agent.new
         × (result ≡ code_of given) × (bytes.new ≡ bytes_of given bytes.old) }
-    ensures memory { result ≢ 10 }
+    ensures memory { result ≢ NOMEM }
 {
     let count = bytes.len().min(TOO_MANY);
     get(agent, alloc, object, offset, &mut bytes[..count])

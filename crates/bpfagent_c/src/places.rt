@@ -7,8 +7,9 @@ ghost use Rattle.bpfagent_c.specs.Told.{HasNone};
 ghost use Rattle.bpfagent_c.specs.Shown.{over};
 ghost use Rattle.bpfagent_c.specs.Handing.{IsCalm, IsIn, bytes_at, is_at, standing};
 
-use crate::codes::{Code, number_of_place, place_numbered};
+use crate::codes::{number_of_place, place_numbered};
 use crate::handle::{Agent, give, take};
+use crate::numbers::{BAD, NOAGENT, NONE, OK};
 use crate::shown::write_numbers;
 use arrayvec::ArrayVec;
 use library_store::LibraryStore;
@@ -26,24 +27,24 @@ pub extern "C" fn bpfagent_place_of(
     place: &mut u32,
     size: &mut usize,
 ) -> u32
-    ensures found { result ≡ 0 → (found : Place) × IsIn agent.old object (Some found) × IsCalm agent.old agent.new × (place.new ≡ number_of_place found)
+    ensures found { result ≡ OK → (found : Place) × IsIn agent.old object (Some found) × IsCalm agent.old agent.new × (place.new ≡ number_of_place found)
         × (size.new ≡ length (bytes_at agent.old object)) }
-    ensures missing { result ≡ 26 → IsIn agent.old object None × IsCalm agent.old agent.new × (place.new ≡ place.old) × (size.new ≡ size.old) }
-    ensures none { result ≡ 30 → HasNone agent.old agent.new × (place.new ≡ place.old) × (size.new ≡ size.old) }
-    ensures each { (result ≡ 0) ⊎ ((result ≡ 26) ⊎ (result ≡ 30)) }
+    ensures missing { result ≡ NONE → IsIn agent.old object None × IsCalm agent.old agent.new × (place.new ≡ place.old) × (size.new ≡ size.old) }
+    ensures none { result ≡ NOAGENT → HasNone agent.old agent.new × (place.new ≡ place.old) × (size.new ≡ size.old) }
+    ensures each { (result ≡ OK) ⊎ ((result ≡ NONE) ⊎ (result ≡ NOAGENT)) }
 {
     let Some(world) = take(agent, alloc) else {
-        return Code::NoAgent as u32;
+        return NOAGENT;
     };
     let found = world.place(object);
     let count = world.length(object);
     give(agent, alloc, world);
     let Some(found) = found else {
-        return Code::Missing as u32;
+        return NONE;
     };
     *place = number_of_place(found);
     *size = count;
-    Code::Done as u32
+    OK
 }
 
 /// Whether there is an object of this number in a place.
@@ -81,21 +82,21 @@ pub extern "C" fn bpfagent_objects(
     count: &mut usize,
 ) -> u32
     ensures told { (p : Place) → place_numbered place ≡ Some p → agent.old.live ≡ true
-        → (result ≡ 0) × IsCalm agent.old agent.new × (objects.new ≡ over (standing p agent.old.held.state.store.state object_limit) objects.old)
+        → (result ≡ OK) × IsCalm agent.old agent.new × (objects.new ≡ over (standing p agent.old.held.state.store.state object_limit) objects.old)
         × (count.new ≡ length (standing p agent.old.held.state.store.state object_limit)) }
-    ensures bad { place_numbered place ≡ None → (result ≡ 31) × (agent.new ≡ agent.old) × (objects.new ≡ objects.old) × (count.new ≡ count.old) }
+    ensures bad { place_numbered place ≡ None → (result ≡ BAD) × (agent.new ≡ agent.old) × (objects.new ≡ objects.old) × (count.new ≡ count.old) }
     ensures none { (p : Place) → place_numbered place ≡ Some p → agent.old.live ≡ false
-        → (result ≡ 30) × HasNone agent.old agent.new × (objects.new ≡ objects.old) × (count.new ≡ count.old) }
+        → (result ≡ NOAGENT) × HasNone agent.old agent.new × (objects.new ≡ objects.old) × (count.new ≡ count.old) }
 {
     let Some(place) = place_numbered(place) else {
-        return Code::Bad as u32;
+        return BAD;
     };
     let Some(world) = take(agent, alloc) else {
-        return Code::NoAgent as u32;
+        return NOAGENT;
     };
     let found = objects_in(&world, place);
     give(agent, alloc, world);
     write_numbers(objects, found.as_slice());
     *count = found.len();
-    Code::Done as u32
+    OK
 }

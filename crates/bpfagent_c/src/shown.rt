@@ -2,12 +2,13 @@
 ghost use Rattle.std.specs.Prelude.{◌≡◌, Some, IfSome, IfNone};
 ghost use Rattle.loader.specs.Refusals.{why_number};
 ghost use Rattle.bpfagent_c.specs.Codes.{code_of_state, stop_of_state};
-ghost use Rattle.bpfagent_c.specs.Shown.{over, grant_of, grants_of, IsGrant, AreGrants, end_after, value_of_step, stop_of_step, ran_of_step};
+ghost use Rattle.bpfagent_c.specs.Shown.{over, grant_of, grants_of, IsGrant, AreGrants, end_after, value_of_step, value_of_stop, stop_of_step, ran_of_step};
 
-use crate::codes::{code_of_state, code_of_stop, stop_of_state, value_of_stop};
+use crate::codes::{code_of_state, code_of_stop, stop_of_state};
+use crate::numbers::GOES_ON;
 use debugger::StepReply;
 use loader::LoadError;
-use machine::{GRANT_LIMIT, Grant, Grants};
+use machine::{GRANT_LIMIT, Grant, Grants, Stop};
 use memory::OBJECT_LIMIT;
 use world::Shown;
 
@@ -122,6 +123,16 @@ impl Refusal {
     }
 }
 
+/// What an exit leaves in R0; 0 at another stop.
+fn value_of_stop(stop: Stop) -> u64
+    ensures { result ≡ value_of_stop stop }
+{
+    match stop {
+        Stop::Exit(value) => value,
+        _ => 0,
+    }
+}
+
 impl End {
     /// How steps ended, of which so many ran, and one was answered so.
     pub(crate) fn after(ran: u64, told: StepReply) -> End
@@ -129,9 +140,9 @@ impl End {
     {
         let (value, stop) = match told {
             StepReply::Ran(slot) | StepReply::Hit(slot) | StepReply::Paused(slot) => {
-                (slot as u64, 0)
+                (slot as u64, GOES_ON)
             }
-            StepReply::Waiting(object) => (object as u64, 0),
+            StepReply::Waiting(object) => (object as u64, GOES_ON),
             StepReply::Stopped(stop) => (value_of_stop(stop), code_of_stop(stop)),
         };
         End { ran, value, stop }
@@ -155,7 +166,7 @@ impl End {
             None => End {
                 ran,
                 value: 0,
-                stop: 0,
+                stop: GOES_ON,
             },
             Some(told) => End::after(ran, told),
         }

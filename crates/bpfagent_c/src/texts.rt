@@ -8,7 +8,8 @@ ghost use Rattle.bpfagent_c.specs.Codes.{code_of_text};
 ghost use Rattle.bpfagent_c.specs.Texts.{Assembles, Checks, Lines, code_of_assembly, code_of_check, code_of_line, found_count, found_over, refusal_of_check};
 ghost use Rattle.bpfagent_c.specs.Texts.{wrong_by, wrong_of};
 
-use crate::codes::{Code, code_of_text, code_of_why};
+use crate::codes::{code_of_text, code_of_why};
+use crate::numbers::{NOMEM, NOSLOT, OK, REFUSED};
 use crate::shown::{Refusal, write_bytes};
 use asm_grammar::Why as WrongText;
 use assembler::{AsmError, assemble_bytes};
@@ -56,7 +57,7 @@ impl Refusal {
         ensures written { self.new ≡ refusal_of_check found self.old }
     {
         let Some(error) = found else {
-            return Code::Done as u32;
+            return OK;
         };
         if error.why != Why::Memory {
             *self = Refusal::of(&error);
@@ -126,7 +127,7 @@ pub extern "C" fn bpfagent_assemble(
         Ok(found) => {
             write_bytes(code, found.as_slice());
             *count = found.len();
-            Code::Done as u32
+            OK
         }
         Err(error) => wrong.tell(&error),
     }
@@ -159,9 +160,9 @@ fn code_of_error(error: LineError) -> u32
     ensures { result ≡ code_of_line (Err error) }
 {
     match error {
-        LineError::Refused => Code::Refused as u32,
-        LineError::NoSlot => Code::NoSlot as u32,
-        LineError::Memory => Code::NoMemory as u32,
+        LineError::Refused => REFUSED,
+        LineError::NoSlot => NOSLOT,
+        LineError::Memory => NOMEM,
     }
 }
 
@@ -181,7 +182,7 @@ pub extern "C" fn bpfagent_text(
         Ok(found) => {
             write_bytes(text, found.as_slice());
             *count = found.len();
-            Code::Done as u32
+            OK
         }
         Err(error) => code_of_error(error),
     }

@@ -4,6 +4,7 @@ use Rattle.library_store.specs.Calls.{LibraryState}
 use Rattle.world.specs.WorldState.{WorldWithin, state_of}
 use Rattle.world.specs.Answers.{AnswersGet, refused_get}
 use Rattle.world.specs.declared.replies.Reply.TheVariants.{Bytes}
+use Rattle.bpfagent_c.specs.declared.numbers.TheConstants.{NOMEM, OK}
 use Rattle.bpfagent_c.proofs.Reading.{over_as_many, refused_shows_nothing}
 use Rattle.bpfagent_c.proofs.objects.get.Goals as goal
 use Rattle.bpfagent_c.proofs.objects.get.Goals.{in-Ok, in-Err}
@@ -31,7 +32,7 @@ returns c =
               w.number-is,
               over_as_many c.read.new.into c.args.bytes.now (search rules),
             );
-            memory = λ e. let k : 0 ≡ 10 = sym w.number-is ∙ e in
+            memory = λ e. let k : OK ≡ NOMEM = sym w.number-is ∙ e in
                 omega (arith, k);
           }
       | in-Err w ↦
