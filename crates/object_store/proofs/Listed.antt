@@ -1,12 +1,30 @@
 -- What is read of one object of a list, and what a change at one leaves.
-use Rattle.std.proofs.Common.{◌≡◌, ℕ, ◌<◌, ◌≤◌, List, [], length, map, set, get_or, sym, ap, ◌∙◌, arith}
+use Rattle.std.proofs.Common.{◌≡◌, ℕ, ◌<◌, ◌≤◌, zero, suc, List, [], ◌∷◌, refl, length, map, set, get_or, sym, ap, ◌∙◌, arith}
 use Rattle.std.proofs.lemmas.List.{get_or-map, map-set, length-map}
 use Rattle.std.proofs.Math.ListN.{get_or-eq_default}
 use Rattle.std.proofs.Math.Seq.{map-set_same}
 use Rattle.placement.specs.declared.places.Place.TheVariants as place
-use Rattle.placement.specs.declared.places.Place.{Place}
-use Rattle.object_store.specs.Bodies.{Kept, IsPlaced, IsCounted, bytes_in, place_in, scopes_in, sent_in}
-use Rattle.object_store.specs.Stores.{Sent, unsent}
+use Rattle.memory.specs.Objects.{bytes_of}
+use Rattle.object_store.specs.Bodies.{Kept, body_at, no_body, IsCounted, bytes_in, place_in, scopes_in, sent_in}
+use Rattle.object_store.specs.Stores.{Sent, unsent, place_of, sent_of}
+
+-- what callers see at a number is that of what is kept there
+at_part : {Y : Type 0} (f : Kept → Y) (bodies : List Kept) (n : ℕ) → get_or (map f bodies) n (f no_body) ≡ f (body_at bodies n)
+at_part f [] n = refl
+at_part f (b ∷ bodies) zero = refl
+at_part f (b ∷ bodies) (suc n) = at_part f bodies n
+
+pub at_bytes : (bodies : List Kept) (n : ℕ) → bytes_of (map bytes_in bodies) n ≡ (body_at bodies n).bytes
+at_bytes bodies n = at_part bytes_in bodies n
+
+pub at_place : (bodies : List Kept) (n : ℕ) → place_of (map place_in bodies) n ≡ (body_at bodies n).place
+at_place bodies n = at_part place_in bodies n
+
+pub at_scopes : (bodies : List Kept) (n : ℕ) → get_or (map scopes_in bodies) n 0 ≡ (body_at bodies n).scopes
+at_scopes bodies n = at_part scopes_in bodies n
+
+pub at_sent : (bodies : List Kept) (n : ℕ) → sent_of (map sent_in bodies) n ≡ sent_in (body_at bodies n)
+at_sent bodies n = at_part sent_in bodies n
 
 pub bytes_at : (bodies : List Kept) (i : ℕ) (d : Kept) → i < length bodies → (get_or bodies i d).bytes ≡ get_or (map bytes_in bodies) i []
 bytes_at bodies i d h = sym (get_or-map bytes_in bodies i d [] h)
@@ -57,9 +75,6 @@ pub bytes_by : (bodies : List Kept) (i : ℕ) (d b : Kept) (f : List ℕ → Lis
     → map bytes_in (set bodies i b) ≡ set (map bytes_in bodies) i (f (get_or (map bytes_in bodies) i []))
 bytes_by bodies i d b f h e = map-set bytes_in bodies i b ∙ ap (set (map bytes_in bodies) i) (e ∙ ap f (bytes_at bodies i d h))
 
-pub place_by : (bodies : List Kept) (i : ℕ) (b : Kept) (p : Place) → b.place ≡ p → map place_in (set bodies i b) ≡ set (map place_in bodies) i p
-place_by bodies i b p e = map-set place_in bodies i b ∙ ap (set (map place_in bodies) i) e
-
 pub scopes_by : (bodies : List Kept) (i : ℕ) (d b : Kept) (f : ℕ → ℕ) → i < length bodies → b.scopes ≡ f (get_or bodies i d).scopes
     → map scopes_in (set bodies i b) ≡ set (map scopes_in bodies) i (f (get_or (map scopes_in bodies) i 0))
 scopes_by bodies i d b f h e = map-set scopes_in bodies i b ∙ ap (set (map scopes_in bodies) i) (e ∙ ap f (scopes_at bodies i d h))
@@ -69,15 +84,6 @@ pub sent_by : (bodies : List Kept) (i : ℕ) (d b : Kept) (f : Sent → Sent) �
 sent_by bodies i d b f h e = map-set sent_in bodies i b ∙ ap (set (map sent_in bodies) i) (e ∙ ap f (sent_at bodies i d h))
 
 -- ---- of all parts of it
-
--- in another place
-pub placed_at : (bodies : List Kept) (i : ℕ) (d b : Kept) (p : Place) → b ≡ record (get_or bodies i d) { place = p } → IsPlaced bodies i p (set bodies i b)
-placed_at bodies i d b p e = record {
-  bytes = bytes_same bodies i b d (ap bytes_in e);
-  places = place_by bodies i b p (ap place_in e);
-  counts = scopes_same bodies i b d (ap scopes_in e);
-  sent = sent_same bodies i b d (ap sent_in e);
-}
 
 -- held by another number of windows
 pub counted_at : (bodies : List Kept) (i : ℕ) (d b : Kept) (f : ℕ → ℕ) → i < length bodies
@@ -113,12 +119,3 @@ changed_at bodies i d b f g h e = record {
 
 -- an access
 pub ruleset at_steps = (bytes_at, no_bytes_at, place_at, scopes_at, bytes_set, places_same, scopes_same, parcel_at, clean_at, sent_set)
-
--- a move
-pub ruleset move_steps = (bytes_at, place_at, scopes_at, places_set, bytes_same, scopes_same, sent_at, parcel_at, clean_at, sent_set, sent_same)
-
--- freeing
-pub ruleset free_steps = (bytes_at, place_at, bytes_set, places_same, scopes_same, parcel_at, sent_set)
-
--- taking out and putting back
-pub ruleset lend_steps = (bytes_at, place_at, bytes_set, places_same, scopes_same, sent_at, sent_set)

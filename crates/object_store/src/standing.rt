@@ -1,5 +1,5 @@
 //! One object of a list: whether an access can be done, and what is done to it.
-ghost use Rattle.std.specs.Prelude.{◌≡◌, ◌<◌, length, map, set, get_or, None, false, IfSome, IsSome, IfOk};
+ghost use Rattle.std.specs.Prelude.{◌≡◌, ◌<◌, length, map, set, None, false, IfSome, IsSome, IfOk};
 ghost use Rattle.memory.specs.Access.{answer, after};
 ghost use Rattle.memory.specs.Objects.{Reaches, HasRange, bytes_of, with_bytes, range_of, with_range};
 ghost use Rattle.object_store.specs.Stores.{place_of, sent_of};
@@ -160,13 +160,4 @@ pub fn write_range<F: FarStore>(
     ensures sent { map sent_in bodies.new ≡ set (map sent_in bodies.old) number (record (sent_of (map sent_in bodies.old) number) { clean = false }) }
 {
     bodies[number].write(offset, bytes);
-}
-
-/// How many windows hold a number.
-#[tactic(auto, using(crate::proofs::Listed::at_steps))]
-pub fn scopes_at<F: FarStore>(bodies: &[ObjectBody<F>], number: usize) -> u8
-    requires { number < length bodies.now }
-    ensures { result ≡ get_or (map scopes_in bodies.now) number 0 }
-{
-    bodies[number].scopes()
 }
