@@ -1,15 +1,15 @@
 -- Replies that are written together.
-use Rattle.std.proofs.Common.{◌≡◌, ℕ, ◌+◌, ◌<◌, List, [], ◌∷◌, ◌++◌, length, length-append, refl, sym, ap, ◌∙◌, append_assoc, append-nil, Option, Some, None, subst, arith}
+use Rattle.std.proofs.Common.{◌≡◌, ℕ, ◌<◌, List, [], ◌∷◌, ◌++◌, length, length-append, refl, sym, ap, ◌∙◌, append_assoc, append-nil, Option, Some, None, subst, arith}
 use Rattle.std.specs.Bool.{⊤}
 use Rattle.std.proofs.Common.{◌⊎◌, IfSome, inl, inr, Result, Ok, Err, OnOk, OnErr}
 use Rattle.std.proofs.lemmas.List.{append_cancel_left}
 use Rattle.std.proofs.KnownBytes.{Appends-kept, Appends-nil, Appends-trans}
 use Rattle.std.specs.Result.{IsErrOf}
-use Rattle.std.specs.Io.KnownBytes.{Appends, Keeps, append_known}
+use Rattle.std.specs.Io.KnownBytes.{Appends, Keeps}
 use Rattle.streams.specs.Streams.{AppendsPart}
 use Rattle.console.specs.declared.fault.DriveFault.{DriveFault}
 use Rattle.console.specs.declared.fault.DriveFault.TheVariants as drive
-use Rattle.console.specs.Lines.{IsLine, cut_of}
+use Rattle.console.specs.Lines.{cut_of}
 use Rattle.console.specs.Held.{Held}
 use Rattle.console.specs.Conversations.{Protocol, Exchange, DueReply, FailsInCut, FailsInReply, AnswersAll, StopsReading, StopsWriting}
 use Rattle.console.specs.StreamCalls.{StreamCall, StreamCalls}

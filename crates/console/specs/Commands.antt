@@ -1,5 +1,5 @@
 -- Which line spells which command. Names, parameters and limits are this project's choice.
-use Rattle.std.specs.Prelude.{◌≡◌, ℕ, ◌≤◌, ◌-◌, ◌/◌, ◌^◌, Bool, true, false, List, [], ◌∷◌, length, slice_index, codes, find, Option, Some, None, Result, Ok}
+use Rattle.std.specs.Prelude.{◌≡◌, ℕ, ◌≤◌, ◌-◌, ◌/◌, ◌^◌, Bool, true, false, List, [], ◌∷◌, ◌++◌, length, slice_index, codes, decimal, find, flat_map, Option, Some, None, Result, Ok}
 use Rattle.std.specs.Prelude.{Err}
 use Rattle.std.specs.Str.{bytes_eq}
 use Rattle.loader.specs.ValidCode.{code_limit}
@@ -15,7 +15,7 @@ use Rattle.world.specs.declared.events.Event.{Event}
 use Rattle.world.specs.declared.events.Event.TheVariants.{Make, Ship, Object, Machine}
 use Rattle.world.specs.declared.events.ObjectCommand.TheVariants.{Free, Put, Get, Move}
 use Rattle.world.specs.declared.world.moving.Move.TheVariants as move
-use Rattle.console.specs.Lines.{line_limit}
+use Rattle.console.specs.Lines.{ended, line_limit}
 use Rattle.console.specs.Tokens.{tokens_of, within, AreNumbers, AreBytes}
 use Rattle.console.specs.Granting.{object_number, AreGrants}
 use Rattle.console.specs.declared.fault.LineFault.{LineFault}
@@ -112,6 +112,10 @@ first_named name kinds = find (λ kind. bytes_eq name (form_of kind).name) kinds
 abbrev pub kind_named : List ℕ → Option Kind
 kind_named name = first_named name all_kinds
 
+-- the name
+abbrev pub command_name : Kind → List ℕ
+command_name kind = (form_of kind).name
+
 -- the limits of the numbers after the name
 abbrev pub number_limits : Kind → List Limits
 number_limits kind = (form_of kind).numbers
@@ -123,6 +127,30 @@ most_bytes kind = (form_of kind).bytes
 -- whether words that grant objects may come last
 abbrev pub takes_grants : Kind → Bool
 takes_grants kind = (form_of kind).takes_grants
+
+-- ---- the table as a text
+
+-- a space, and the least and the most that a number may be
+abbrev pub limits_text : Limits → List ℕ
+limits_text limits = codes " " ++ decimal limits.least ++ codes "-" ++ decimal limits.most
+
+-- how many bytes may come, where some have to
+abbrev pub bytes_text : Option ℕ → List ℕ
+bytes_text (Some most) = codes " bytes-" ++ decimal most
+bytes_text None = []
+
+-- that words that grant objects may come last, where they may
+abbrev pub grants_text : Bool → List ℕ
+grants_text true = codes " grants"
+grants_text false = []
+
+-- the line of a kind of command
+abbrev pub command_line : Kind → List ℕ
+command_line kind = ended (command_name kind ++ flat_map limits_text (number_limits kind) ++ bytes_text (most_bytes kind) ++ grants_text (takes_grants kind))
+
+-- the lines of all commands
+abbrev pub command_lines : List ℕ
+command_lines = flat_map command_line all_kinds
 
 -- ---- the commands
 

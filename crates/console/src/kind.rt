@@ -1,7 +1,7 @@
 //! The commands: their names, and what comes after the name. All of it is this project's choice.
 ghost use Rattle.std.specs.Prelude.{◌≡◌, ◌≤◌, ◌<◌, ℕ, take, get_or, slice_index, length};
 ghost use Rattle.console.specs.Tokens.{within, IsWithin};
-ghost use Rattle.console.specs.Commands.{event_with, first_named, form_of, kind_named, most_bytes, number_limits, numbered, takes_grants};
+ghost use Rattle.console.specs.Commands.{command_name, event_with, first_named, form_of, kind_named, most_bytes, number_limits, numbered, takes_grants};
 
 use crate::commands::LINE_LIMIT;
 use crate::numbers::{NUMBERS, Numbers};
@@ -41,7 +41,7 @@ pub enum Kind {
 }
 
 /// All of them.
-const KINDS: &[Kind] = &[
+pub const KINDS: &[Kind] = &[
     Kind::Make,
     Kind::Free,
     Kind::Put,
@@ -205,6 +205,14 @@ impl Kind {
         ensures { result ≡ kind_named name.now }
     {
         find_named(name, KINDS)
+    }
+
+    /// The name.
+    pub fn name(self) -> &'static [u8]
+        ensures name { result.now ≡ command_name self }
+        ensures short { length result.now ≤ 8 }
+    {
+        self.form().name
     }
 
     /// The limits of the numbers after the name.

@@ -13,6 +13,7 @@ mod laws;
 mod link;
 mod numbers;
 mod replies;
+mod table;
 mod tokens;
 
 pub use answerer::Answerer;
@@ -26,3 +27,4 @@ pub use replies::{
     REPLY_LIMIT, ReplyLine, name_of_place, name_of_state, print_bytes, print_fault, print_reply,
     put_named,
 };
+pub use table::{CommandTable, command_table};

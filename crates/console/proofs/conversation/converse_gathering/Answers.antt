@@ -1,6 +1,5 @@
-use Rattle.std.proofs.Common.{sym}
 use Rattle.console.specs.Held.{held_bytes}
-use Rattle.console.proofs.Gathers.{calls_grow, short_of, short_by_write, answers_whole, stops_whole}
+use Rattle.console.proofs.Gathers.{calls_grow, short_of, short_by_write, answers_whole}
 use Rattle.console.proofs.conversation.converse_gathering.Goals as goal
 
 pub returns-in_default-clause-write : goal.returns-in_default-clause-write
