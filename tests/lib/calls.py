@@ -15,7 +15,7 @@ from dataclasses import dataclass
 
 from lib.sources import ROOT
 
-FORM = [f"tests/form/{name}.py" for name in ("protocol", "definitions", "generated", "failures", "documents", "kinds", "listed", "planted")]
+FORM = [f"tests/form/{name}.py" for name in ("definitions", "generated", "failures", "documents", "kinds", "listed", "planted")]
 
 # What both targets run, one by one; `make prove` from when `rt ci` has built the program, beside what it still does. So none of them calls the
 # toolchain.
@@ -36,6 +36,7 @@ EITHER = [
     "tests/product/door.py PROGRAM",
     "tests/product/conformance.py PROGRAM",
     "tests/product/client.py PROGRAM",
+    "tests/product/protocol.py PROGRAM",
 ]
 # Beside the tests of crates.
 TEST = [*EITHER, "tests/product/sweep.py PROGRAM --thin", "tests/product/fuzz.py PROGRAM 0"]

@@ -47,18 +47,20 @@ INVALID = [[], ["help"], ["steps"], ["run", "check"], ["run", "--budget", "67108
            ["dis", "--slots", "--slots"], ["dis", "--llvm", "--llvm"], ["asm", "--slots"], ["asm", "--llvm"], ["dis", "--explain"], ["check", "--explain", "--explain"],
            ["asm", "--explain", "--explain"], ["asm", "--explain", "x"], ["store", "--port", "65536"], ["store", "x"], ["store", "--workers", "1"],
            ["serve", "x"], ["serve", "--connections", "0"], ["serve", "--connections", "9"], ["serve", "--workers", "17"],
-           ["serve", "--sweep", "--sweep"], ["serve", "--keep", "65535"], ["run", "--workers", "1"]]
+           ["serve", "--sweep", "--sweep"], ["serve", "--keep", "65535"], ["run", "--workers", "1"], ["commands", "make"], ["commands", "--explain"]]
 # What the help of each subcommand has to name: what it reads, what it writes, and what it returns.
 HELP = {"run": [b"make LENGTH", b"ship2", b"unwatch", b"67108864", b"Status 0", b"Status 3"],
         "check": [b"bytes, not hex", b"ok N", b"slot S: WHY", b"FallsOff", b"--explain", b"Status 1"],
         "asm": [b"1048576", b"acmpxchg", b"--explain", b"line L: WHY", b"Status 1"], "dis": [b"bytes, not hex", b"--slots", b"--llvm", b"slot S: WHY", b"Status 1"],
         "store": [b"127.0.0.1", b"listening P", b"client N: WHY", b"--port", b"Status 0", b"Status 3"],
         "serve": [b"127.0.0.1", b"listening P", b"unserved", b"--port", b"--connections", b"--workers", b"--budget", b"--sweep", b"--keep", b"closed",
-                  b"Status 0", b"Status 1", b"Status 3"]}
+                  b"Status 0", b"Status 1", b"Status 3"],
+        "commands": [b"LEAST-MOST", b"bytes-N", b"grants", b"Status 0", b"Status 3"]}
 # What an installed program doesn't have: the pages of the repository.
 PAGES = re.compile(rb"docs/|\.md\b|https?:|README")
 # What the examples of help write, those that end by themselves.
-SHOWN_BY_HELP = {"run": b"made 1\nok\nbytes 616263\n", "asm": b" b7 00 00 00 07 00 00 00 95 00 00 00 00 00 00 00\n", "dis": b"0: mov r0, 7\n1: exit\n"}
+SHOWN_BY_HELP = {"run": b"made 1\nok\nbytes 616263\n", "asm": b" b7 00 00 00 07 00 00 00 95 00 00 00 00 00 00 00\n", "dis": b"0: mov r0, 7\n1: exit\n",
+                 "commands": b"get 1-1024 0-65535 1-4096\n"}
 # What is refused, at last with the longest lines: code that jumps into a wide instruction from its last slot, texts wrong at their end.
 WIDE = bytes.fromhex("18000000000000000000000000000000")
 JUMPS_INSIDE = WIDE + EXIT * 4093 + bytes.fromhex("050001f000000000")
@@ -171,7 +173,8 @@ def show_faults(program: str) -> None:
     for task in ("run", "check", "asm", "dis"):
         with unreadable() as fails:
             want_ended(program, [task], b"", 3, b"", b"read fault\n", stdin=fails)
-    for arguments, given in ((["run"], b"step 1\n"), (["check"], EXIT), (["asm"], b"exit\n"), (["dis"], EXIT), (["--help"], b""), (["--version"], b"")):
+    written = [(["run"], b"step 1\n"), (["check"], EXIT), (["asm"], b"exit\n"), (["dis"], EXIT), *(([word], b"") for word in ("commands", "--help", "--version"))]
+    for arguments, given in written:
         with open("/dev/full", "wb") as full:
             want_ended(program, arguments, given, 3, b"", b"write fault\n", stdout=full)
 

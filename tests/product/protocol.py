@@ -1,7 +1,9 @@
 #!/usr/bin/env python3
-"""Compares the examples of README.md and docs/PROTOCOL.md with the script that the tests run, and README's with what `make run` shows. The page has a
-part for each command of the synopsis, in the same order. It explains each reply there or among those of all commands, and its tables have no other
-reply. The synopsis, the Python client and the C header have the commands of the program's table.
+"""Compares README.md and docs/PROTOCOL.md with the program and with each other: protocol.py PROGRAM [--write]
+
+The synopsis, the Python client and the C header have the commands that `bpfagent commands` lists. Of each command of the synopsis the page has a part,
+in the same order, and explains each of its replies there or among those of all commands; its tables have no other reply. The examples are those of the
+script that the tests run, and README's is what `make run` shows.
 
 With --write it writes that script, and the commands of the synopsis with the replies that the page has for them. A new command comes last there.
 """
@@ -15,39 +17,38 @@ import sys
 from typing import Iterator, NamedTuple
 
 sys.path.insert(0, str(pathlib.Path(__file__).resolve().parents[1]))
-from lib.checks import Failed, report
+from lib.checks import Failed, report, want
+from lib.programs import SECONDS, ended, patience, unreadable
 from lib.sources import ROOT
 
+SELF, NAME = "tests/product/protocol.py", "bpfagent commands"
 DOCUMENTS = ["README.md", "docs/PROTOCOL.md"]
 PROTOCOL = ROOT / "docs/PROTOCOL.md"
 SCRIPT = ROOT / "crates/script_runner/data/protocol.script"
 SHOWN = ROOT / "crates/bpfagent"
-HEAD = "# The examples of README.md and docs/PROTOCOL.md; tests/form/protocol.py compares them.\n"
+HEAD = f"# The examples of README.md and docs/PROTOCOL.md; {SELF} compares them.\n"
 SYNOPSIS = re.compile(r"^## Synopsis\n.*?^```\n(.*?)^```\n", re.S | re.M)
 # A line of the synopsis: the command, whose words are single letters or in capitals, and its replies, which begin with a longer word.
 LINE = re.compile(r"(?P<command>[a-z]\w*(?: (?:[a-z]|[A-Z]\w*|\.\.))*)(?: +(?P<replies>[a-z]\w.*))?")
 # Where the replies begin in the synopsis, unless a command is longer.
 COLUMN = 36
-TABLE = ROOT / "crates/console/src/kind.rt"
 CLIENT = ROOT / "python/bpfagent/agent.py"
 HEADER = ROOT / "include/bpfagent.h"
-# All commands: if ROW matches fewer, a row has another form.
-KINDS = re.compile(r"const KINDS: &\[Kind\] = &\[(.*?)\];", re.S)
-# A row of the table: the command's name, its limits, and the fields in which it differs from a row of numbers alone.
-ROW = re.compile(r"Kind::\w+ => (?:Form \{(?P<fields>[^}]*?)\.\.)?numbered\(b\"(?P<name>\w+)\", &(?P<limits>\[[^\]]*\]|START)\)")
-# What the synopsis calls a number with these limits. `ANY` alone is an address, and six of it begin a machine.
-WORDS = {
-    "OBJECT": "n", "MACHINE": "m", "OBJECT_LENGTH": "LENGTH", "RANGE_LENGTH": "LENGTH", "OBJECT_OFFSET": "OFFSET", "STACK_OFFSET": "OFFSET",
-    "SLOT": "SLOT", "ANY": "ADDRESS",
-}
+# A line of the program's table: the command's name, the limits of its numbers, how many bytes come at most, and whether words that grant do.
+ROW = re.compile(r"(?P<name>[a-z]\w*)(?P<limits>(?: \d+-\d+)*)(?: bytes-(?P<bytes>\d+))?(?P<grants> grants)?")
+# What the synopsis calls a number with these limits. Any number is an address, and six of them begin a machine.
+ANY, RANGE_LENGTH = "0-18446744073709551615", "1-4096"
+WORDS = {"1-1024": "n", "1-48": "m", "1-65536": "LENGTH", RANGE_LENGTH: "LENGTH", "0-65535": "OFFSET", "0-4095": "SLOT", ANY: "ADDRESS"}
+# A stack has as many bytes as code has slots at most. Before a length it is one of its bytes.
+BEFORE_LENGTH = {"0-4095": "OFFSET"}
 START = ["FUEL", "A1", "A2", "A3", "A4", "A5"]
-BYTES = {"RANGE_LIMIT": "BYTES", "LINE_LIMIT": "CODE"}
+BYTES = {"4096": "BYTES", "70000": "CODE"}
 # The export for a command that grants objects.
 GRANTING = {"ship2": "ship_granted"}
 
 
 class Command(NamedTuple):
-    """A row of the table of commands: its name, and the synopsis' words for what comes after it."""
+    """A line of the table of commands: its name, and the synopsis' words for what comes after it."""
 
     name: str
     words: list[str]
@@ -125,25 +126,38 @@ def missing_stops(text: str) -> list[str]:
     return [stop for stop in re.findall(r"^\| `stopped m ([^`]*)` \|", text, re.M) if stop != "STOP" and f"`{stop}`" not in named]
 
 
-def commands() -> list[Command]:
-    """The table that lines are read by. A row that can't be read is refused, since --write would take its line from the page."""
-    text = TABLE.read_text()
-    found = [Command(row["name"], words_of(row["name"], row["limits"], row["fields"] or "")) for row in ROW.finditer(text)]
-    listed = KINDS.search(text)
-    count = listed[1].count("Kind::") if listed else 0
-    if not found or len(found) != count:
-        raise Failed(f"{TABLE.name}: {len(found)} rows of the table can be read, and KINDS has {count} commands")
+def commands(program: str) -> list[Command]:
+    """The table that lines are read by, as the program shows it, which reads nothing then. A line that can't be read is refused, since --write would
+    take that command from the page."""
+    with unreadable() as given:
+        status, output, errors = ended(program, "commands", stdin=given, seconds=SECONDS * patience(program))
+    want((status, errors) == (0, b"") and output.endswith(b"\n"), f"{NAME} ended with {status}, {output!r}, {errors!r}")
+    found = [command_of(line) for line in output.decode().removesuffix("\n").split("\n")]
+    want(len({command.name for command in found}) == len(found), f"{NAME} names a command twice")
     return found
 
 
-def words_of(name: str, limits: str, fields: str) -> list[str]:
-    """The words for numbers of these limits, and for bytes and grants where these fields say that they follow."""
-    numbers = [] if limits == "START" else re.findall(r"\w+", limits)
-    carried = re.findall(r"bytes: Some\((\w+)\)", fields)
-    if unknown := [*({*numbers} - {*WORDS}), *({*carried} - {*BYTES})]:
-        raise Failed(f"{TABLE.name}: `{name}` has the limits {', '.join(sorted(unknown))}, for which tests/form/protocol.py has no word")
-    words = START if limits == "START" else [WORDS[limit] for limit in numbers]
-    return [*words, *(BYTES[limit] for limit in carried), *["G .."] * ("takes_grants: true" in fields)]
+def command_of(line: str) -> Command:
+    row = ROW.fullmatch(line)
+    if not row:
+        raise Failed(f"{NAME} has a line that can't be read: {line!r}")
+    return Command(row["name"], [*words_of(line, row["limits"].split()), *carried_by(line, row["bytes"]), *["G .."] * bool(row["grants"])])
+
+
+def words_of(line: str, limits: list[str]) -> list[str]:
+    """The words for numbers of these limits."""
+    if limits[: len(START)] == [ANY] * len(START):
+        return [*START, *words_of(line, limits[len(START) :])]
+    if unknown := {*limits} - {*WORDS}:
+        raise Failed(f"{NAME}: {line!r} has the limits {', '.join(sorted(unknown))}, for which {SELF} has no word")
+    return [BEFORE_LENGTH.get(limit, WORDS[limit]) if after == RANGE_LENGTH else WORDS[limit] for limit, after in zip(limits, [*limits[1:], ""])]
+
+
+def carried_by(line: str, most: str | None) -> list[str]:
+    """The word for so many bytes, where some come."""
+    if most and most not in BYTES:
+        raise Failed(f"{NAME}: {line!r} has {most} bytes, for which {SELF} has no word")
+    return [BYTES[most]] if most else []
 
 
 def client_methods(tree: ast.Module) -> dict[str, int]:
@@ -184,7 +198,7 @@ def synopsis_drifts(text: str, known: list[Command]) -> Iterator[str]:
     """The lines of the synopsis that --write would change, and what it would make of them."""
     found, made = (SYNOPSIS.search(page)[1].splitlines() for page in (text, with_commands(text, known)))
     if found != made:
-        yield f"the synopsis of {PROTOCOL.name} isn't what {TABLE.name} says: tests/form/protocol.py --write makes it so"
+        yield f"the synopsis of {PROTOCOL.name} isn't what {NAME} says: {SELF} PROGRAM --write makes it so"
         yield from (line for line in difflib.ndiff(found, made) if line.startswith(("-", "+")))
 
 
@@ -196,20 +210,23 @@ def wrong(text: str, script: str, known: list[Command]) -> Iterator[str]:
         yield f"the synopsis of {PROTOCOL.name} doesn't name the stops {stops}"
     yield from (f"{PROTOCOL.name}: {line}" for line in unexplained(text))
     if SCRIPT.read_text() != script:
-        yield f"{SCRIPT.name} isn't what {' and '.join(DOCUMENTS)} say: tests/form/protocol.py --write makes it so"
+        yield f"{SCRIPT.name} isn't what {' and '.join(DOCUMENTS)} say: {SELF} PROGRAM --write makes it so"
     pairs = zip(*((SHOWN / name).read_text().splitlines() for name in ("stdin", "stdout")))
     if "".join(f"{command}\n> {reply}\n" for command, reply in pairs) not in examples("README.md"):
         yield "README.md doesn't show the conversation of `make run`, crates/bpfagent/stdin and stdout"
 
 
 def main() -> None:
+    program, *options = sys.argv[1:] or [""]
+    if not program or options not in ([], ["--write"]):
+        sys.exit((__doc__ or "").split("\n")[0])
     text = PROTOCOL.read_text()
     if not SYNOPSIS.search(text):
         sys.exit(f"{PROTOCOL.name} has no synopsis")
     script = HEAD + "".join("---\n" + "".join(examples(document)) for document in DOCUMENTS)
     try:
-        known = commands()
-        if sys.argv[1:] == ["--write"]:
+        known = commands(program)
+        if options:
             text = with_commands(text, known)
             PROTOCOL.write_text(text)
             SCRIPT.write_text(script)

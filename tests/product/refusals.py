@@ -42,7 +42,7 @@ SWAP = bytes.fromhex("d401000018000000")
 LOOP = bytes.fromhex("b7000000000000000700000001000000a500feff030000009500000000000000")
 OTHERS = [(["check"], WIDE), (["check", "--explain"], JUMP), (["check", "--explain"], b"\x7fELF" + bytes(60)), (["check", "--explain"], bytes(9)),
           (["check", "--explain"], SWAP), (["asm"], TEXT), (["asm", "--explain"], TEXT + b"\nexot"), (["dis"], WIDE), (["dis"], LOOP),
-          (["dis", "--slots"], WIDE), (["dis", "--llvm"], WIDE), (["--help"], b""), (["--version"], b""), (["run", "--wrong"], b""),
+          (["dis", "--slots"], WIDE), (["dis", "--llvm"], WIDE), (["--help"], b""), (["--version"], b""), (["commands"], b""), (["run", "--wrong"], b""),
           (["asm"], b"jump +1\n"), (["asm"], b"mov r0\n"), (["asm"], b"mov r0, 2147483648\n"), (["asm"], b"ja x\n"), (["asm"], b"a:\na:\n"),
           (["run"], b"\n" + b"a" * 70_001 + b"\nregs 1")]
 # How many allocations of one conversation are tried before its first line.

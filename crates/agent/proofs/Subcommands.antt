@@ -12,7 +12,7 @@ use Rattle.clap.specs.Simple.{App, Shape, built, entered, filled, names_of, rows
 use Rattle.clap.specs.Takes.{is_given}
 use Rattle.clap.specs.Walk.{Held, Row, Rule, Text, answers_to, finished, nothing_held, settled, walk, walk_from}
 use Rattle.clap.proofs.OnLiterals.{clap_on_literals}
-use Rattle.agent.specs.CommandLine.{HasServing, HasStoring, asm_shape, budget_option, check_shape, command_line, connections_option, dis_shape}
+use Rattle.agent.specs.CommandLine.{HasServing, HasStoring, asm_shape, budget_option, check_shape, command_line, commands_shape, connections_option, dis_shape}
 use Rattle.agent.specs.CommandLine.{far_rule, far_timeout_option, faults_of, flag_rule, idle_option, keep_option, memory_option, port_option, run_shape}
 use Rattle.agent.specs.CommandLine.{serve_shape, store_shape, task_named, task_of, unix_rule, verbose_rule, workers_option}
 use Rattle.agent.specs.OptionNumbers.{HasNumber, NumberOption, number_rule}
@@ -92,18 +92,20 @@ serve_plain = (
 )
 
 module _ (P : Option Shape → Type 0) where
-  among_at : (x y z w v u : Bool) → P None → P (Some (with_help run_shape)) → P (Some (with_help check_shape)) → P (Some (with_help asm_shape))
+  among_at : (x y z w v u t : Bool) → P None → P (Some (with_help run_shape)) → P (Some (with_help check_shape)) → P (Some (with_help asm_shape))
       → P (Some (with_help dis_shape)) → P (Some (with_help store_shape)) → P (Some (with_help serve_shape))
+      → P (Some (with_help commands_shape))
       → P (cond x (Some (with_help run_shape))
       (cond y (Some (with_help check_shape)) (cond z (Some (with_help asm_shape))
-      (cond w (Some (with_help dis_shape)) (cond v (Some (with_help store_shape)) (cond u (Some (with_help serve_shape)) None))))))
-  among_at true y z w v u none run check asm dis store serve = run
-  among_at false true z w v u none run check asm dis store serve = check
-  among_at false false true w v u none run check asm dis store serve = asm
-  among_at false false false true v u none run check asm dis store serve = dis
-  among_at false false false false true u none run check asm dis store serve = store
-  among_at false false false false false true none run check asm dis store serve = serve
-  among_at false false false false false false none run check asm dis store serve = none
+      (cond w (Some (with_help dis_shape)) (cond v (Some (with_help store_shape)) (cond u (Some (with_help serve_shape)) (cond t (Some (with_help commands_shape)) None)))))))
+  among_at true y z w v u t none run check asm dis store serve commands = run
+  among_at false true z w v u t none run check asm dis store serve commands = check
+  among_at false false true w v u t none run check asm dis store serve commands = asm
+  among_at false false false true v u t none run check asm dis store serve commands = dis
+  among_at false false false false true u t none run check asm dis store serve commands = store
+  among_at false false false false false true t none run check asm dis store serve commands = serve
+  among_at false false false false false false true none run check asm dis store serve commands = commands
+  among_at false false false false false false false none run check asm dis store serve commands = none
 
 -- ---- what is entered has a task, and its numbers
 
@@ -170,8 +172,8 @@ entered_good (Some p) f =
     (answers_to p.0 (codes "run", [])) (answers_to p.0 (codes "check", [])) (answers_to p.0 (codes "asm", [])) (answers_to p.0 (
       codes "dis",
       [],
-    )) (answers_to p.0 (codes "store", [])) (answers_to p.0 (codes "serve", []))
-    (λ _. tt) (run_entered p.1) (λ _. (refl, tt)) (λ _. (refl, tt)) (λ _. (refl, tt)) (store_entered p.1) (serve_entered p.1) f
+    )) (answers_to p.0 (codes "store", [])) (answers_to p.0 (codes "serve", [])) (answers_to p.0 (codes "commands", []))
+    (λ _. tt) (run_entered p.1) (λ _. (refl, tt)) (λ _. (refl, tt)) (λ _. (refl, tt)) (store_entered p.1) (serve_entered p.1) (λ _. (refl, tt)) f
 
 -- right arguments enter a subcommand
 pub right_enters : (arguments : List Text) → faults_of arguments ≡ []

@@ -12,7 +12,7 @@ use Rattle.clap.specs.declared.parser.matches.ValueSource.{ValueSource}
 use Rattle.clap.specs.declared.parser.matches.ValueSource.TheVariants.{CommandLine, DefaultValue}
 use Rattle.agent.specs.OptionNumbers.{HasNumber, NumberOption, number_rule}
 use Rattle.agent.specs.declared.arguments.Task.{Task}
-use Rattle.agent.specs.declared.arguments.Task.TheVariants.{Run, Check, Assemble, Disassemble, Store, Serve}
+use Rattle.agent.specs.declared.arguments.Task.TheVariants.{Run, Check, Assemble, Disassemble, Store, Serve, Commands}
 use Rattle.agent.specs.declared.arguments.Serving.{Serving}
 use Rattle.agent.specs.declared.arguments.Showing.{Showing}
 use Rattle.agent.specs.declared.arguments.Storing.{Storing}
@@ -112,6 +112,10 @@ serve_shape = record (new_shape (codes "serve")) {
       ∷ number_rule budget_option ∷ flag_rule (codes "sweep") ∷ number_rule keep_option ∷ far_rule ∷ number_rule far_timeout_option ∷ verbose_rule ∷ [];
 }
 
+-- `commands`, which has no option
+abbrev pub commands_shape : Shape
+commands_shape = new_shape (codes "commands")
+
 -- a command that passes no argument on to its subcommands
 abbrev pub IsLocal : Command → Type 0
 IsLocal c = (out-Command c).has_globals ≡ false
@@ -130,8 +134,9 @@ bare = record {
 
 -- the command line, as `clap` reads it
 abbrev pub command_line : App
-command_line = with_subcommand (with_subcommand
-    (with_subcommand (with_subcommand (with_subcommand (with_subcommand bare run_shape) check_shape) asm_shape) dis_shape) store_shape) serve_shape
+command_line = with_subcommand (with_subcommand (with_subcommand
+    (with_subcommand (with_subcommand (with_subcommand (with_subcommand bare run_shape) check_shape) asm_shape) dis_shape) store_shape) serve_shape)
+    commands_shape
 
 -- the kinds of error that these arguments may give: none, where they are right
 abbrev pub faults_of : List Text → Kinds
@@ -212,7 +217,8 @@ task_named name rows = if bytes_eq name (codes "run") then option_map Run (numbe
     else (if bytes_eq name (codes "asm") then Some (Assemble (is_set (codes "explain") rows))
     else (if bytes_eq name (codes "dis") then Some (Disassemble (showing_in rows))
     else (if bytes_eq name (codes "store") then option_map Store (storing_in rows)
-    else (if bytes_eq name (codes "serve") then option_map Serve (serving_in rows) else None)))))
+    else (if bytes_eq name (codes "serve") then option_map Serve (serving_in rows)
+    else (if bytes_eq name (codes "commands") then Some Commands else None))))))
 
 -- what right arguments ask for: the subcommand that they name
 abbrev pub task_of : List Text → Option Task

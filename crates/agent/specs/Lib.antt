@@ -3,6 +3,7 @@ pub mod CheckLeaves
 pub mod Leaves
 pub mod AsmLeaves
 pub mod DisLeaves
+pub mod CommandsLeaves
 pub mod RunLeaves
 pub mod CommandLine
 pub mod OptionNumbers

@@ -5,13 +5,14 @@ use Rattle.clap.specs.Words.{Kinds}
 use Rattle.streams.specs.Streams.{ConsumesAtMost}
 use Rattle.agent.specs.AsmLeaves.{AsmLeaves, asm_limit}
 use Rattle.agent.specs.CheckLeaves.{CheckLeaves, check_limit}
+use Rattle.agent.specs.CommandsLeaves.{CommandsLeaves}
 use Rattle.agent.specs.DisLeaves.{DisLeaves}
 use Rattle.agent.specs.ErrorShown.{ShowsOneOf}
 use Rattle.agent.specs.Explained.{ReportsOutcomeAs}
 use Rattle.agent.specs.Reports.{ReportsOutcome}
 use Rattle.agent.specs.RunLeaves.{RunLeaves}
 use Rattle.agent.specs.declared.arguments.Task.{Task}
-use Rattle.agent.specs.declared.arguments.Task.TheVariants.{Run, Check, Assemble, Disassemble, Store, Serve}
+use Rattle.agent.specs.declared.arguments.Task.TheVariants.{Run, Check, Assemble, Disassemble, Store, Serve, Commands}
 use Rattle.agent.specs.declared.failure.Failure.{Failure}
 use Rattle.agent.specs.declared.failure.Failure.TheVariants.{NoMemory}
 
@@ -36,7 +37,7 @@ abbrev pub LeavesUndone : StreamStates → ℕ → Type 0
 LeavesUndone s number = Keeps s.input s.unread × Keeps s.out_before s.out_after × ReportsOutcome IsUndone s.errors_before s.errors_after number
 
 -- The streams and the status after this task. Over an input that is known it leaves what its own definition says, and all but `run` read
--- a part of any input that has a bound.
+-- a part of any input that has a bound; `commands` reads nothing.
 abbrev pub TaskLeaves : Task → StreamStates → ℕ → Type 0
 TaskLeaves (Run budget) s number = IfSome s.input (λ input.
     ReportsOutcome (RunLeaves budget input s.out_before s.out_after s.unread) s.errors_before s.errors_after number)
@@ -51,6 +52,7 @@ TaskLeaves (Disassemble showing) s number = IfSome s.input (λ input.
     × ConsumesAtMost check_limit s.input s.unread
 TaskLeaves (Store storing) s number = LeavesUndone s number
 TaskLeaves (Serve serving) s number = LeavesUndone s number
+TaskLeaves Commands s number = ReportsOutcome (CommandsLeaves s.out_before s.out_after) s.errors_before s.errors_after number × Keeps s.input s.unread
 
 -- The same after arguments that may give these kinds of error: one of them is answered, or out of memory, and nothing is read.
 abbrev pub WrongLeaves : Kinds → StreamStates → ℕ → Type 0

@@ -1,7 +1,7 @@
 //! The arguments of the command line.
 ghost use Rattle.std.specs.Prelude.{◌≡◌, ◌≢◌, ℕ, List, Result, [], None, Some, map, codes, option_map, IfOk, IfErr, IfSome};
 ghost use Rattle.clap.specs.Words.{app_of, found_of, new_app, new_rule, rows_of, rule_of, subcommand_of, subcommand_rows_of, with_subcommand, HasKind};
-ghost use Rattle.agent.specs.CommandLine.{HasServing, HasStoring, IsFarAs, IsLocal, IsUnixAs, asm_shape, bare, budget_option, check_shape, command_line};
+ghost use Rattle.agent.specs.CommandLine.{HasServing, HasStoring, IsFarAs, IsLocal, IsUnixAs, asm_shape, bare, budget_option, check_shape, command_line, commands_shape};
 ghost use Rattle.agent.specs.CommandLine.{connections_option, dis_shape, far_of, far_rule, far_timeout_option, faults_of, flag_rule, flagged_shape};
 ghost use Rattle.agent.specs.CommandLine.{idle_option, is_given, is_set, is_told, keep_option, memory_option, number_in, port_option, run_shape, serve_shape, server_task, serving_in, showing_in};
 ghost use Rattle.agent.specs.CommandLine.{store_shape, storing_in, task_named, task_of, unix_of, unix_rule, verbose_rule, workers_option};
@@ -15,7 +15,7 @@ use clap::error::ErrorKind;
 use clap::parser::ValueSource;
 use clap::{Arg, ArgAction, ArgMatches, Command, Error, value_parser};
 use help_texts::{
-    ABOUT, ASM_HELP, CHECK_HELP, DIS_HELP, RUN_HELP, SERVE_HELP, STORE_HELP, TOP_HELP,
+    ABOUT, ASM_HELP, CHECK_HELP, COMMANDS_HELP, DIS_HELP, RUN_HELP, SERVE_HELP, STORE_HELP, TOP_HELP,
 };
 pub use laws::{
     invalid_arguments, invalid_budgets, right_arguments, right_arguments_name_a_task,
@@ -43,6 +43,8 @@ pub enum Task {
     Store(Storing),
     /// To do the commands of the input, and then those of clients.
     Serve(Serving),
+    /// To show the table of commands.
+    Commands,
 }
 
 /// How `dis` shows code.
@@ -364,6 +366,18 @@ fn make_serve<'a>(alloc: Global) -> Result<Command<'a>, AllocError>
     .arg(make_verbose(alloc))
 }
 
+/// `commands`.
+fn make_commands<'a>(alloc: Global) -> Command<'a>
+    ensures { ((app_of result).top ≡ commands_shape) × IsLocal result }
+{
+    make_subcommand(
+        alloc,
+        "commands",
+        "List the commands of run, and what each takes",
+        COMMANDS_HELP,
+    )
+}
+
 /// The command line without its subcommands.
 fn make_top<'a>(alloc: Global) -> Result<Command<'a>, AllocError>
     ensures { IfOk result (λ c. app_of c ≡ bare) }
@@ -399,6 +413,7 @@ fn make_command<'a>(alloc: Global) -> Result<Command<'a>, AllocError>
     let line = add(line, make_dis(alloc)?)?;
     let line = add(line, make_store(alloc)?)?;
     let line = add(line, make_serve(alloc)?)?;
+    let line = add(line, make_commands(alloc))?;
     Ok(line)
 }
 
@@ -536,6 +551,7 @@ fn task_called<'a>(name: &str, matches: &ArgMatches<'a>) -> Option<Task>
         "dis" => Some(Task::Disassemble(read_showing(matches))),
         "store" => Some(Task::Store(read_storing(matches))),
         "serve" => Some(Task::Serve(read_serving(matches))),
+        "commands" => Some(Task::Commands),
         _ => None,
     }
 }

@@ -7,6 +7,7 @@ ghost use Rattle.agent.specs.TaskLeaves.{TaskLeaves, WrongLeaves};
 
 use crate::arguments::{Task, VERSION, read_arguments};
 use crate::assembly::{asm, check, dis};
+use crate::commands::commands;
 use crate::failure::{ExitStatus, Failure};
 use crate::reporting::{report, say};
 use crate::running::run;
@@ -131,6 +132,7 @@ pub fn tool<'a, S: AsStr, R: Read, W: Write, E: Write>(
         }
         Ok(Task::Store(_)) => report(Ok(()), errors).number(),
         Ok(Task::Serve(_)) => report(Ok(()), errors).number(),
+        Ok(Task::Commands) => report(commands(writer), errors).number(),
         Err(error) => show(alloc, error, writer, errors).number(),
     }
 }

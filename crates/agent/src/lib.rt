@@ -3,6 +3,7 @@
 
 mod arguments;
 mod assembly;
+mod commands;
 mod failure;
 mod front;
 mod reporting;

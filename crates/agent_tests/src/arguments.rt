@@ -2,7 +2,7 @@
 
 use crate::compared::same;
 use crate::help_list::{
-    ASM_HELP, CHECK_HELP, DIS_HELP, RUN_HELP, SERVE_HELP, STORE_HELP, TOP_HELP,
+    ASM_HELP, CHECK_HELP, COMMANDS_HELP, DIS_HELP, RUN_HELP, SERVE_HELP, STORE_HELP, TOP_HELP,
 };
 use crate::outcome::{ended, leaves};
 use agent::refuse_arguments;
@@ -19,12 +19,13 @@ const TOP_HEAD: &str =
 Usage: bpfagent <COMMAND>
 
 Commands:
-  run    Do the commands of standard input, one a line
-  check  Check the raw code of standard input
-  asm    Turn the assembly of standard input into raw code
-  dis    Show the raw code of standard input as assembly
-  store  Keep the objects of other agents
-  serve  Share objects and machines with clients
+  run       Do the commands of standard input, one a line
+  check     Check the raw code of standard input
+  asm       Turn the assembly of standard input into raw code
+  dis       Show the raw code of standard input as assembly
+  store     Keep the objects of other agents
+  serve     Share objects and machines with clients
+  commands  List the commands of run, and what each takes
 
 Options:
   -h, --help     Print help
@@ -105,8 +106,17 @@ Options:
 
 ";
 
+const COMMANDS_HEAD: &str = "List the commands of run, and what each takes
+
+Usage: bpfagent commands
+
+Options:
+  -h, --help  Print help
+
+";
+
 const NO_SUBCOMMAND: &str = "error: 'bpfagent' requires a subcommand but one was not provided
-  [subcommands: run, check, asm, dis, store, serve]
+  [subcommands: run, check, asm, dis, store, serve, commands]
 
 Usage: bpfagent <COMMAND>
 
@@ -208,6 +218,7 @@ const HELPS: &[(&[&str], &str, &str)] = &[
     (&["asm", "--help"], ASM_HEAD, ASM_HELP),
     (&["dis", "-h"], DIS_HEAD, DIS_HELP),
     (&["serve", "--help"], SERVE_HEAD, SERVE_HELP),
+    (&["commands", "-h"], COMMANDS_HEAD, COMMANDS_HELP),
     (&["run", "--help"], RUN_HEAD, RUN_HELP),
     (&["run", "--budget", "8", "-h"], RUN_HEAD, RUN_HELP),
 ];

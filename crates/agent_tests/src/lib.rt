@@ -10,6 +10,8 @@ mod budgets;
 #[cfg(test)]
 mod checking;
 #[cfg(test)]
+mod commands;
+#[cfg(test)]
 mod compared;
 #[cfg(test)]
 mod errors;

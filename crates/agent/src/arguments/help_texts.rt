@@ -9,9 +9,10 @@ store and back";
 pub(crate) const TOP_HELP: &str = "\
 'bpfagent run' answers commands, 'bpfagent serve' those of many clients at the
 same time. 'check', 'asm' and 'dis' are for those who write programs. 'store'
-keeps what leaves a service. 'bpfagent COMMAND --help' says more of each.
+keeps what leaves a service. 'commands' is for those who write clients.
+'bpfagent COMMAND --help' says more of each.
 
-Each command reads standard input. Status 0: done. Status 1: the input is
+Each command but 'commands' reads standard input. Status 0: done. Status 1: the input is
 refused. Status 2: invalid arguments. Status 3: a stream failed, or out of
 memory. Unless the status is 0, standard error says what is wrong.";
 
@@ -178,3 +179,18 @@ Status 0: all connections have ended. Status 1: an object is on its way or far
 when standard input ends; standard error has \"object N isn't here\". Status 3:
 the far server can't be reached, the port or the socket file can't be had, a
 stream failed, or out of memory. Standard error says which.";
+
+/// What help says of `commands`.
+pub(crate) const COMMANDS_HELP: &str = "\
+Writes a line to standard output for each command of 'bpfagent run', and reads
+nothing. The line has the command's name, and then what comes after it:
+
+  LEAST-MOST  a number, and what it may be
+  bytes-N     1 to N bytes, as hex digits
+  grants      any number of words, each of which grants an object
+
+Example:
+  bpfagent commands | grep get
+
+Status 0: the lines are written. Status 3: the output failed, or out of memory.
+Standard error says which.";

@@ -8,7 +8,7 @@ ghost use Rattle.agent.specs.Laws.{RightArgumentsNameATask, all_of_serve, far_se
 use crate::arguments::Task;
 use clap::error::ErrorKind;
 
-/// `run`, `check`, `asm`, `dis`, `store` and `serve` alone are right arguments, and ask for what they are called; `--help` asks for
+/// `run`, `check`, `asm`, `dis`, `store`, `serve` and `commands` alone are right arguments, and ask for what they are called; `--help` asks for
 /// help, `--version` for the version.
 pub fn right_arguments()
     ensures run { (faults_of (codes "run" ∷ []) ≡ []) × (task_of (codes "run" ∷ []) ≡ Some (Task.Run budget_limit)) }
@@ -17,6 +17,7 @@ pub fn right_arguments()
     ensures dis { (faults_of (codes "dis" ∷ []) ≡ []) × (task_of (codes "dis" ∷ []) ≡ Some (Task.Disassemble (showing_as false false))) }
     ensures store { (faults_of (codes "store" ∷ []) ≡ []) × (task_of (codes "store" ∷ []) ≡ Some (Task.Store (storing_at 0 false))) }
     ensures serve { (faults_of (codes "serve" ∷ []) ≡ []) × (task_of (codes "serve" ∷ []) ≡ Some (Task.Serve plain_serving)) }
+    ensures commands { (faults_of (codes "commands" ∷ []) ≡ []) × (task_of (codes "commands" ∷ []) ≡ Some Task.Commands) }
     ensures help { faults_of (codes "--help" ∷ []) ≡ ErrorKind.DisplayHelp ∷ [] }
     ensures version { faults_of (codes "--version" ∷ []) ≡ ErrorKind.DisplayVersion ∷ [] }
     ensures short_version { faults_of (codes "-V" ∷ []) ≡ ErrorKind.DisplayVersion ∷ [] }
@@ -106,6 +107,7 @@ pub fn invalid_arguments()
     ensures other { faults_of (codes "steps" ∷ []) ≢ [] }
     ensures help { faults_of (codes "help" ∷ []) ≢ [] }
     ensures second { faults_of (codes "run" ∷ codes "check" ∷ []) ≢ [] }
+    ensures table { faults_of (codes "commands" ∷ codes "make" ∷ []) ≢ [] }
     ensures option { faults_of (codes "check" ∷ codes "--budget" ∷ codes "8" ∷ []) ≢ [] }
     ensures flag { faults_of (codes "asm" ∷ codes "--slots" ∷ []) ≢ [] }
     ensures twice { faults_of (codes "dis" ∷ codes "--slots" ∷ codes "--slots" ∷ []) ≢ [] }

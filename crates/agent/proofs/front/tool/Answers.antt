@@ -13,7 +13,7 @@ use Rattle.agent.specs.TaskLeaves.{LeavesUndone, StreamStates, TaskLeaves}
 use Rattle.agent.specs.declared.arguments.Serving.{Serving}
 use Rattle.agent.specs.declared.arguments.Storing.{Storing}
 use Rattle.agent.specs.declared.arguments.Task.{Task}
-use Rattle.agent.specs.declared.arguments.Task.TheVariants.{Assemble, Check, Run, Disassemble, Serve, Store}
+use Rattle.agent.specs.declared.arguments.Task.TheVariants.{Assemble, Check, Commands, Run, Disassemble, Serve, Store}
 use Rattle.agent.specs.declared.failure.Failure.{Failure}
 use Rattle.agent.specs.declared.failure.ExitStatus.{ExitStatus}
 use Rattle.agent.proofs.OutOfMemory.{does_nothing, memory_leaves}
@@ -104,3 +104,12 @@ returns-in-Ok-Serve-clause-right g c task right asked =
     serve_left task c.in-Ok-Serve.field-0 _ c.in-Ok-Serve.field-0-is (sym c.in-Ok-Serve.ensures.ok.1 ∙ asked) _ _
     (does_nothing (g.R.Read.remaining c.args.reader.now) (g.W.Write.contents c.args.writer.now) _ _ _ _ c.report-in-Ok-Serve.ensures
     c.number-in-Ok-Serve.ensures)
+
+pub returns-in-Ok-Commands-clause-right : goal.returns-in-Ok-Commands-clause-right
+returns-in-Ok-Commands-clause-right g c task right asked =
+    let told : Some Commands ≡ Some task = ap Some (sym c.in-Ok-Commands.field-0-is) ∙ sym c.in-Ok-Commands.ensures.ok.1 ∙ asked in
+    let same : task ≡ Commands = cc in
+    rw same (
+      (c.commands.result, c.report-in-Ok-Commands.result, c.commands.ensures, c.report-in-Ok-Commands.ensures, c.number-in-Ok-Commands.ensures),
+      Keeps-refl (g.R.Read.remaining c.args.reader.now),
+    )
