@@ -310,4 +310,6 @@ SHOWN = [
 
 
 if __name__ == "__main__":
+    # A shell that starts this in the background has it ignored, and so would the services.
+    signal.signal(signal.SIGINT, signal.default_int_handler)
     run_parts("door", SHOWN)
