@@ -22,10 +22,9 @@ from typing import Callable, Optional, Sequence
 
 import bpfagent
 import stand_in
-from bpfagent import Agent, Broken, Engine, Hit, Move, Paused, Ran, Refused, Registers, Run, Step, Stopped, Waiting, address
+from bpfagent import Agent, Broken, Engine, Hit, Move, Paused, Ran, Refused, Registers, Run, Step, Stopped, Waiting, address, protocol
 from support import PROGRAM, ROOT, SECONDS, folder_of, program_of, until_gone
 
-from form.protocol import commands
 from lib.programs import until
 from lib.scripts import Talk, conversations
 
@@ -357,7 +356,7 @@ class Conversations(Case):
                 self.over_tcp(
                     [(command if reply == "bad" else canonical(command), reply) for command, reply in talk], lambda agent: self.converse(agent, talk, used)
                 )
-        self.assertEqual(used, {command.name for command in commands()}, "commands of the conversations")
+        self.assertEqual(used, {*protocol.commands()}, "commands of the conversations")
 
     def test_together(self) -> None:
         """A long `write` and a long `read` send all of their lines before one is answered. The first refusal of them is raised."""
