@@ -15,7 +15,8 @@ use clap::error::ErrorKind;
 use clap::parser::ValueSource;
 use clap::{Arg, ArgAction, ArgMatches, Command, Error, value_parser};
 use help_texts::{
-    ABOUT, ASM_HELP, CHECK_HELP, COMMANDS_HELP, DIS_HELP, RUN_HELP, SERVE_HELP, STORE_HELP, TOP_HELP,
+    ABOUT, ASM_HELP, CHECK_HELP, COMMANDS_HELP, DIS_HELP, RUN_HELP, SERVE_HELP, STORE_HELP,
+    TOP_HELP,
 };
 pub use laws::{
     invalid_arguments, invalid_budgets, right_arguments, right_arguments_name_a_task,
