@@ -4,7 +4,7 @@ use Rattle.std.specs.Vec.{with_items}
 use Rattle.std.proofs.lemmas.List.{with_items_is, get_or_default, get_or-set_same, length-map, length-set, map-set, set-get_or}
 use Rattle.placement.specs.declared.places.Place.{Place}
 use Rattle.placement.specs.declared.places.Place.TheVariants.{Here}
-use Rattle.memory.specs.Objects.{IsLive, number_count, object_bytes, bytes_of}
+use Rattle.memory.specs.Objects.{HasRange, IsLive, number_count, object_bytes, bytes_of}
 use Rattle.object_store.specs.Stores.{StoreWithin, Sent, StandsAt, IsScoped, holders, unsent, place_of, sent_of, near_length, near_bytes}
 use Rattle.object_store.specs.Bodies.{Kept, IsKeptStore, bytes_in, place_in, scopes_in, sent_in, body_at, no_body}
 use Rattle.object_store.proofs.Listed.{at_bytes, at_place, at_scopes, at_sent}
@@ -80,6 +80,19 @@ found {lent} {s} {n} {from} v d kept seen is stands value all =
       again = λ l. get_or-set_same (map bytes_in v.items) n l [] (let e = length-map v.items bytes_in in omega (arith, e, inside));
       stands_at = λ p. get_or-set_same (map place_in v.items) n p Here (let e = length-map v.items place_in in omega (arith, e, inside));
     }
+
+-- the same of one that is here, and has this range
+pub found_in : {X Z : Type 0} {lent : List Kept} {windows : List (List ℕ)} {budget spare faults : ℕ} {far : X} {s : StoreWithin X} {n : ℕ}
+    (v : Vec Kept Z) (d : Kept) (offset count : ℕ) → IsKeptStore v.items windows budget spare × (v.cap ≡ number_count)
+    → ◌≡◌ {A = StoreWithin X} (record {
+      state = record { objects = map bytes_in v.items; places = map place_in v.items; windows = windows; budget = budget; faults = faults };
+      far = far;
+      sent = map sent_in v.items;
+    }) s → HasRange (map bytes_in v.items) n offset count × (place_of (map place_in v.items) n ≡ Here) → lent ≡ v.items → length lent ≡ v.len
+    → (offset + count ≤ length (get_or lent n d).bytes) × IsFound s v lent n Here (get_or lent n d)
+found_in {lent} {s} {n} v d offset count kept seen h value all =
+    let there : IsFound s v lent n Here (get_or lent n d) = found v d kept seen refl (rw (← seen) (h.0.0, h.1)) value all in
+    (rw there.bytes h.0.1, there)
 
 not_some : (n : ℕ) → (0 < n → ⊥) → n ≡ 0
 not_some zero h = refl

@@ -35,6 +35,15 @@ no_bytes_at bodies i h = get_or-eq_default (map bytes_in bodies) [] (let l = len
 pub place_at : (bodies : List Kept) (i : ℕ) (d : Kept) → i < length bodies → (get_or bodies i d).place ≡ get_or (map place_in bodies) i place.Here
 place_at bodies i d h = sym (get_or-map place_in bodies i d place.Here h)
 
+-- what is read at a number is what callers see there
+pub record IsRead (bodies : List Kept) (n : ℕ) (k : Kept) : Type 0 where
+  pub bytes : k.bytes ≡ bytes_of (map bytes_in bodies) n
+  pub place : k.place ≡ place_of (map place_in bodies) n
+
+pub read_at : {bodies : List Kept} {k : Kept} (n : ℕ) → n < length bodies → k ≡ get_or bodies n k → IsRead bodies n k
+read_at {bodies} {k} n h is =
+    record { bytes = ap bytes_in is ∙ bytes_at bodies n k h; place = ap place_in is ∙ place_at bodies n k h }
+
 pub scopes_at : (bodies : List Kept) (i : ℕ) (d : Kept) → i < length bodies → (get_or bodies i d).scopes ≡ get_or (map scopes_in bodies) i 0
 scopes_at bodies i d h = sym (get_or-map scopes_in bodies i d 0 h)
 

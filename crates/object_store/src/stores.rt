@@ -16,9 +16,7 @@ use crate::bodies::ObjectBody;
 use crate::errors::{GetError, MakeError, PartsError, PutError};
 use crate::parts::{Parts, first_away, from_one, take_all};
 use crate::scoping::{close, note};
-use crate::standing::{
-    Standing, act_at, copy_range, length_at, place_at, read_range, stand, stand_range, write_range,
-};
+use crate::standing::{Standing, act_at, length_at, place_at, stand, stand_range};
 use far_store::FarStore;
 use memory::{Memory, OBJECT_LIMIT, Op, Reach};
 use placement::{Moved, Place};
@@ -196,7 +194,7 @@ impl<F: FarStore> ObjectStore<F> {
         match stand_range(bodies, index, offset, count) {
             Standing::Outside => Err(GetError::Outside),
             Standing::Away => Err(GetError::Away),
-            Standing::Here => match copy_range(self.alloc, bodies, index, offset, count) {
+            Standing::Here => match bodies[index].copy(self.alloc, offset, count) {
                 Ok(bytes) => Ok(bytes),
                 Err(_) => Err(GetError::Memory),
             },
@@ -215,7 +213,7 @@ impl<F: FarStore> ObjectStore<F> {
             Standing::Outside => Err(GetError::Outside),
             Standing::Away => Err(GetError::Away),
             Standing::Here => {
-                read_range(bodies, index, offset, into);
+                bodies[index].read(offset, into);
                 Ok(())
             }
         }
@@ -233,7 +231,8 @@ impl<F: FarStore> ObjectStore<F> {
             Standing::Outside => Err(PutError::Outside),
             Standing::Away => Err(PutError::Away),
             Standing::Here => {
-                write_range(self.bodies.as_mut_slice(), index, offset, bytes);
+                let bodies = self.bodies.as_mut_slice();
+                bodies[index].write(offset, bytes);
                 Ok(())
             }
         }
