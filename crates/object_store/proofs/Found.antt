@@ -6,8 +6,8 @@ use Rattle.placement.specs.declared.places.Place.{Place}
 use Rattle.placement.specs.declared.places.Place.TheVariants.{Here}
 use Rattle.memory.specs.Objects.{HasRange, IsLive, number_count, object_bytes, bytes_of}
 use Rattle.object_store.specs.Stores.{StoreWithin, Sent, StandsAt, IsScoped, holders, unsent, place_of, sent_of, near_length, near_bytes}
-use Rattle.object_store.specs.Bodies.{Kept, IsKeptStore, bytes_in, place_in, scopes_in, sent_in, body_at, no_body}
-use Rattle.object_store.proofs.Listed.{at_bytes, at_place, at_scopes, at_sent}
+use Rattle.object_store.specs.Bodies.{Kept, IsKeptStore, bytes_in, place_in, scopes_in, sent_in}
+use Rattle.object_store.proofs.Listed.{body_at, no_body, at_bytes, at_place, at_scopes, at_sent}
 use Rattle.object_store.proofs.Keeping.{changed, near_one, not_zero}
 
 in_list : (bodies : List Kept) (n : ℕ) → 0 < length (bytes_of (map bytes_in bodies) n) → n < length bodies

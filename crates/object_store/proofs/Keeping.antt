@@ -8,8 +8,9 @@ use Rattle.placement.specs.declared.places.Place.TheVariants.{Here}
 use Rattle.memory.specs.Objects.{AreObjects, bytes_of, with_bytes, object_limit, object_bytes}
 use Rattle.object_store.specs.Stores.{place_of, near_length, near_bytes}
 use Rattle.scopes.specs.Windows.{window_count}
-use Rattle.object_store.specs.Bodies.{Kept, body_at, no_body, CountsHold, IsKeptStore, bytes_in, place_in, scopes_in}
+use Rattle.object_store.specs.Bodies.{Kept, CountsHold, IsKeptStore, bytes_in, place_in, scopes_in}
 use Rattle.object_store.proofs.Objects_kept.{objects_stay, objects_made, objects_filled}
+use Rattle.object_store.proofs.Listed.{body_at, no_body}
 use Rattle.object_store.proofs.Counting.{uncounted_more, counts_at_first, none_held}
 
 -- ---- the budget

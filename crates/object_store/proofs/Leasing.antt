@@ -18,11 +18,11 @@ use Rattle.memory.proofs.Accesses.{lengths}
 use Rattle.scopes.specs.Windows.{holds, noted, without_oldest}
 use Rattle.object_store.specs.Asking.{clean_after}
 use Rattle.object_store.specs.Stores.{StoreState, StoreWithin, Sent, StandsAt, place_of, sent_of, unsent, window_of}
-use Rattle.object_store.specs.Bodies.{Kept, IsKeptStore, body_at, no_body, bytes_in, place_in, sent_in}
+use Rattle.object_store.specs.Bodies.{Kept, IsKeptStore, bytes_in, place_in, sent_in}
 use Rattle.object_store.specs.Lending.{TouchesWithin}
 use Rattle.object_store.specs.Leases.{IsOut, IsIdle, IsLeased, IsLeasing, filled, without}
 use Rattle.object_store.proofs.Keeping.{near_filled, in_bytes, not_zero, same_length}
-use Rattle.object_store.proofs.Listed.{at_bytes, at_place}
+use Rattle.object_store.proofs.Listed.{body_at, no_body, at_bytes, at_place}
 
 -- an access reaches a byte at least
 some_bytes : (size : Size) → 0 < size_bytes size

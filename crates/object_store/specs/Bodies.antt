@@ -70,14 +70,6 @@ pub record IsKept {P : Type 0} (stands_for : P
   -- and its parcel stands for its bytes as they are
   pub same_clean : clean ≡ true → sent stands_for parcel ≡ contents stands_for out bytes parcel
 
--- no object
-abbrev pub no_body : Kept
-no_body = record { bytes = []; place = Here; scopes = 0; parcel = None; clean = false }
-
--- what is kept at number n
-abbrev pub body_at : List Kept → ℕ → Kept
-body_at bodies n = get_or bodies n no_body
-
 -- What it is once its bytes came back: the same, and clean, or, where the store doesn't promise that, as many.
 abbrev pub ReturnsTo : Bool → Kept → Kept → Type 0
 ReturnsTo true old new = new ≡ record old { place = Here; clean = true }

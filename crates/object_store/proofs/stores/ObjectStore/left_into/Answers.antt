@@ -1,4 +1,4 @@
-use Rattle.std.proofs.Common.{refl, sym, ◌∙◌, arith}
+use Rattle.std.proofs.Common.{refl, ◌∙◌, arith}
 use Rattle.object_store.proofs.Found.{found, seen, put_back}
 use Rattle.placement.specs.declared.places.Place.TheVariants.{Far}
 use Rattle.object_store.proofs.stores.ObjectStore.left_into.Goals as goal
@@ -20,29 +20,16 @@ invariant_of-self g c =
     c.as_mut_slice-bodies.ensures.value c.as_mut_slice-bodies.ensures.len in
     put_back c.self.invariant there c.end_leave_into.ensures.done refl there.short (omega (arith, there.size, c.length-gained.ensures.length))
 
-pub returns-in-Some-Leaving-clause-ends : goal.returns-in-Some-Leaving-clause-ends
-returns-in-Some-Leaving-clause-ends g c =
+pub returns-in-Some-Leaving : goal.returns-in-Some-Leaving
+returns-in-Some-Leaving g c =
     let there = found c.self.inside.bodies c.index-bodies-index.result c.self.invariant c.self.view_is c.in-Some-Leaving.field-0-is c.in-Some-Leaving.ensures.some
     c.as_mut_slice-bodies.ensures.value c.as_mut_slice-bodies.ensures.len in
     let now = seen there c.end_leave_into.ensures.done in
-    rw (← c.self.view_is, now.bytes, now.places, there.bytes_stay) (there.stands, c.end_leave_into.ensures.faults, refl)
-
-pub returns-in-Some-Leaving-clause-asks : goal.returns-in-Some-Leaving-clause-asks
-returns-in-Some-Leaving-clause-asks g c =
-    let there = found c.self.inside.bodies c.index-bodies-index.result c.self.invariant c.self.view_is c.in-Some-Leaving.field-0-is c.in-Some-Leaving.ensures.some
-    c.as_mut_slice-bodies.ensures.value c.as_mut_slice-bodies.ensures.len in
-    let now = seen there c.end_leave_into.ensures.done in
-    rw (← c.self.view_is, now.sent, ← there.parcel, ← there.clean, ← there.bytes) (c.end_leave_into.ensures.puts, refl)
-
-pub returns-in-Some-Leaving-clause-bytes : goal.returns-in-Some-Leaving-clause-bytes
-returns-in-Some-Leaving-clause-bytes g c =
-    let there = found c.self.inside.bodies c.index-bodies-index.result c.self.invariant c.self.view_is c.in-Some-Leaving.field-0-is c.in-Some-Leaving.ensures.some
-    c.as_mut_slice-bodies.ensures.value c.as_mut_slice-bodies.ensures.len in
-    λ done. c.end_leave_into.ensures.into ∙ sym there.same
-
-pub returns-in-Some-Leaving-clause-far : goal.returns-in-Some-Leaving-clause-far
-returns-in-Some-Leaving-clause-far g c =
-    let there = found c.self.inside.bodies c.index-bodies-index.result c.self.invariant c.self.view_is c.in-Some-Leaving.field-0-is c.in-Some-Leaving.ensures.some
-    c.as_mut_slice-bodies.ensures.value c.as_mut_slice-bodies.ensures.len in
-    let now = seen there c.end_leave_into.ensures.done in
-    λ done. rw (now.bytes, now.places, there.bytes_stay) (there.stands.0, there.stands_at Far)
+    rw (← c.self.view_is, now.bytes, now.places, now.sent, there.bytes_stay, ← there.parcel, ← there.clean, ← there.bytes) (record {
+      ends = ((there.live, there.stands.1), c.end_leave_into.ensures.faults, refl);
+      asks = (c.end_leave_into.ensures.puts, refl);
+      bytes = λ h. c.end_leave_into.ensures.into;
+      kept = λ h. absurd (h refl);
+      far = λ h. (there.live, there.stands_at Far);
+      never = λ f h. cc;
+    })

@@ -1,5 +1,4 @@
-use Rattle.std.proofs.Common.{◌≡◌, refl, sym, ◌∙◌, arith}
-use Rattle.far_store.specs.declared.fault.StoreFault.TheVariants.{Damaged}
+use Rattle.std.proofs.Common.{◌≡◌, refl, arith}
 use Rattle.object_store.proofs.Found.{found, seen, put_back}
 use Rattle.object_store.proofs.stores.ObjectStore.returned_from.Goals as goal
 
@@ -26,50 +25,28 @@ invariant_of-self-in-Err g c =
     c.as_mut_slice-bodies.ensures.value c.as_mut_slice-bodies.ensures.len in
     put_back c.self.invariant there c.in-Err.ensures.failed refl there.short (omega (arith, there.size, c.length-length.ensures.length))
 
-pub returns-in-Ok-clause-ends : goal.returns-in-Ok-clause-ends
-returns-in-Ok-clause-ends g c =
+pub returns-in-Ok : goal.returns-in-Ok
+returns-in-Ok g c =
     let there = found c.self.inside.bodies c.index-bodies-index.result c.self.invariant c.self.view_is c.in-Some-Returning.field-0-is c.in-Some-Returning.ensures.some
     c.as_mut_slice-bodies.ensures.value c.as_mut_slice-bodies.ensures.len in
     let now = seen there c.in-Ok.ensures.done in
-    rw (← c.self.view_is, now.bytes, now.places, there.bytes_stay, c.in-Ok.ensures.calm) (there.stands, refl)
+    rw (← c.self.view_is, now.bytes, now.places, now.sent, there.bytes_stay, ← there.parcel, ← there.bytes, c.in-Ok.ensures.calm) (record {
+      ends = ((there.live, there.stands.1), refl);
+      asks = (rw c.in-Ok.ensures.done at c.in-Ok.ensures.gets, refl);
+      given = λ h. c.in-Ok.ensures.given;
+      damaged = λ h. absurd (cc);
+      others = λ f h. absurd (cc);
+    })
 
-pub returns-in-Ok-clause-asks : goal.returns-in-Ok-clause-asks
-returns-in-Ok-clause-asks g c =
-    let there = found c.self.inside.bodies c.index-bodies-index.result c.self.invariant c.self.view_is c.in-Some-Returning.field-0-is c.in-Some-Returning.ensures.some
-    c.as_mut_slice-bodies.ensures.value c.as_mut_slice-bodies.ensures.len in
-    let now = seen there c.in-Ok.ensures.done in
-    rw (← c.self.view_is, now.bytes, now.sent, there.bytes_stay, ← there.parcel, ← there.bytes) (rw c.in-Ok.ensures.done at c.in-Ok.ensures.gets, refl)
-
-pub returns-in-Ok-clause-given : goal.returns-in-Ok-clause-given
-returns-in-Ok-clause-given g c =
-    let there = found c.self.inside.bodies c.index-bodies-index.result c.self.invariant c.self.view_is c.in-Some-Returning.field-0-is c.in-Some-Returning.ensures.some
-    c.as_mut_slice-bodies.ensures.value c.as_mut_slice-bodies.ensures.len in
-    λ done. c.in-Ok.ensures.given ∙ sym there.same
-
-pub returns-in-Err-clause-ends : goal.returns-in-Err-clause-ends
-returns-in-Err-clause-ends g c =
+pub returns-in-Err : goal.returns-in-Err
+returns-in-Err g c =
     let there = found c.self.inside.bodies c.index-bodies-index.result c.self.invariant c.self.view_is c.in-Some-Returning.field-0-is c.in-Some-Returning.ensures.some
     c.as_mut_slice-bodies.ensures.value c.as_mut_slice-bodies.ensures.len in
     let now = seen there c.in-Err.ensures.failed in
-    rw (← c.self.view_is, now.bytes, now.places, there.bytes_stay) (there.stands, c.in-Err.ensures.fault, refl)
-
-pub returns-in-Err-clause-asks : goal.returns-in-Err-clause-asks
-returns-in-Err-clause-asks g c =
-    let there = found c.self.inside.bodies c.index-bodies-index.result c.self.invariant c.self.view_is c.in-Some-Returning.field-0-is c.in-Some-Returning.ensures.some
-    c.as_mut_slice-bodies.ensures.value c.as_mut_slice-bodies.ensures.len in
-    let now = seen there c.in-Err.ensures.failed in
-    rw (← c.self.view_is, now.sent, there.sent_stays, ← there.parcel, ← there.bytes) (c.in-Err.ensures.vain, refl)
-
-pub returns-in-Err-clause-damaged : goal.returns-in-Err-clause-damaged
-returns-in-Err-clause-damaged g c =
-    let there = found c.self.inside.bodies c.index-bodies-index.result c.self.invariant c.self.view_is c.in-Some-Returning.field-0-is c.in-Some-Returning.ensures.some
-    c.as_mut_slice-bodies.ensures.value c.as_mut_slice-bodies.ensures.len in
-    λ h. let is : c.in-Err.fault ≡ Damaged = cc in
-    rw there.same (c.in-Err.ensures.damaged is)
-
-pub returns-in-Err-clause-others : goal.returns-in-Err-clause-others
-returns-in-Err-clause-others g c =
-    let there = found c.self.inside.bodies c.index-bodies-index.result c.self.invariant c.self.view_is c.in-Some-Returning.field-0-is c.in-Some-Returning.ensures.some
-    c.as_mut_slice-bodies.ensures.value c.as_mut_slice-bodies.ensures.len in
-    λ f h others. let is : f ≡ c.in-Err.fault = cc in
-    is ∙ c.in-Err.ensures.others (rw there.same at others)
+    rw (← c.self.view_is, now.bytes, now.places, now.sent, there.bytes_stay, there.sent_stays, ← there.parcel, ← there.bytes) (record {
+      ends = ((there.live, there.stands.1), c.in-Err.ensures.fault, refl);
+      asks = (c.in-Err.ensures.vain, refl);
+      given = λ h. absurd (cc);
+      damaged = λ h. c.in-Err.ensures.damaged (cc);
+      others = λ f h. let is : f ≡ c.in-Err.fault = cc in rw is c.in-Err.ensures.others;
+    })
