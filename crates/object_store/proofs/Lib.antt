@@ -5,7 +5,8 @@ pub mod Objects_kept
 pub mod Wording
 pub mod Counting
 pub mod Keeping
+pub mod Placing
 pub mod Returning
 pub mod Leaving
 pub mod Leasing
-pub mod Found
+pub mod Forgetting

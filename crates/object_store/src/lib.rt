@@ -7,6 +7,9 @@
 
 mod bodies;
 mod errors;
+mod handing;
+mod lending;
+mod moving;
 mod parts;
 mod scoping;
 mod standing;

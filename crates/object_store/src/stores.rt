@@ -1,7 +1,7 @@
 //! The objects of an agent, and their moves to a far store and back.
-ghost use Rattle.std.specs.Prelude.{◌≡◌, ◌≢◌, ◌≤◌, [], ◌∷◌, ◌++◌, true, false, map, set, None, Ok, Err, IfOk, IfErr, IfSome, OnOk, OnErr, length};
+ghost use Rattle.std.specs.Prelude.{◌≡◌, ◌≢◌, ◌≤◌, [], ◌∷◌, ◌++◌, false, map, set, None, Ok, Err, IfOk, IfErr, IfSome, OnOk, OnErr, length};
 ghost use Rattle.memory.specs.Objects.{IsLive, bytes_of, object_bytes, object_limit};
-ghost use Rattle.object_store.specs.Stores.{HasWindow, IsStore, IsScoped, StandsAt, Touches, store_start, with_window, unsent, sent_of};
+ghost use Rattle.object_store.specs.Stores.{HasWindow, IsStore, StandsAt, Touches, store_start, with_window, unsent, sent_of};
 ghost use Rattle.object_store.specs.Asking.{AsksNothing, AsksToFree, AsksToLeave, AsksToReturn, sent_after};
 ghost use Rattle.far_store.specs.Calls.{Calls};
 ghost use Rattle.object_store.specs.Parts.{AllHere, RefusesParts, bodies_of, forgets_all};
@@ -14,9 +14,13 @@ mod lending;
 
 use crate::bodies::ObjectBody;
 use crate::errors::{GetError, MakeError, PartsError, PutError};
+use crate::moving::{begin_leave_at, begin_return_at, end_leave_at, end_return_at, free_at};
 use crate::parts::{Parts, first_away, from_one, take_all};
 use crate::scoping::{close, note};
-use crate::standing::{Standing, act_at, length_at, place_at, stand, stand_range};
+use crate::standing::{
+    Standing, act_at, copy_range, length_at, place_at, read_range, scopes_at, stand, stand_range,
+    write_range,
+};
 use far_store::FarStore;
 use memory::{Memory, OBJECT_LIMIT, Op, Reach};
 use placement::{Moved, Place};
@@ -135,17 +139,6 @@ impl<F: FarStore> ObjectStore<F> {
         }
     }
 
-    /// Whether a machine has an object in scope.
-    fn is_scoped(&self, number: u32) -> bool
-        requires { IsLive self.now.state.objects number }
-        ensures scoped { result ≡ true → IsScoped self.now.state number }
-        ensures free { result ≡ false → IsScoped self.now.state number → ⊥ }
-    {
-        let index = number as usize;
-        let bodies = self.bodies.as_slice();
-        bodies[index].scopes() > 0
-    }
-
     /// Frees an object that is here and in no scope. Its number is not used again.
     pub fn free(&mut self, number: u32) -> Moved
         ensures frees { Frees self.old.state number result self.new.state }
@@ -155,12 +148,13 @@ impl<F: FarStore> ObjectStore<F> {
         match self.place(number) {
             None => Moved::NoObject,
             Some(Place::Here) => {
-                if self.is_scoped(number) {
+                let bodies = self.bodies.as_slice();
+                if scopes_at(bodies, index) > 0 {
                     return Moved::Scoped;
                 }
                 let freed = self.length(number as u64) as u32;
                 let bodies = self.bodies.as_mut_slice();
-                bodies[index].free(self.alloc, &mut self.store);
+                free_at(self.alloc, &mut self.store, bodies, index);
                 self.spare += freed;
                 Moved::Done
             }
@@ -194,7 +188,7 @@ impl<F: FarStore> ObjectStore<F> {
         match stand_range(bodies, index, offset, count) {
             Standing::Outside => Err(GetError::Outside),
             Standing::Away => Err(GetError::Away),
-            Standing::Here => match bodies[index].copy(self.alloc, offset, count) {
+            Standing::Here => match copy_range(self.alloc, bodies, index, offset, count) {
                 Ok(bytes) => Ok(bytes),
                 Err(_) => Err(GetError::Memory),
             },
@@ -213,7 +207,7 @@ impl<F: FarStore> ObjectStore<F> {
             Standing::Outside => Err(GetError::Outside),
             Standing::Away => Err(GetError::Away),
             Standing::Here => {
-                bodies[index].read(offset, into);
+                read_range(bodies, index, offset, into);
                 Ok(())
             }
         }
@@ -231,8 +225,7 @@ impl<F: FarStore> ObjectStore<F> {
             Standing::Outside => Err(PutError::Outside),
             Standing::Away => Err(PutError::Away),
             Standing::Here => {
-                let bodies = self.bodies.as_mut_slice();
-                bodies[index].write(offset, bytes);
+                write_range(self.bodies.as_mut_slice(), index, offset, bytes);
                 Ok(())
             }
         }
@@ -277,11 +270,10 @@ impl<F: FarStore> ObjectStore<F> {
         match self.place(number) {
             None => Moved::NoObject,
             Some(Place::Here) => {
-                if self.is_scoped(number) {
+                if scopes_at(self.bodies.as_slice(), index) > 0 {
                     return Moved::Scoped;
                 }
-                let bodies = self.bodies.as_mut_slice();
-                bodies[index].begin_leave();
+                begin_leave_at(self.bodies.as_mut_slice(), index);
                 Moved::Done
             }
             Some(place) => Moved::Misplaced(place),
@@ -299,7 +291,7 @@ impl<F: FarStore> ObjectStore<F> {
             Some(Place::Leaving) => {
                 let gained = self.length(number as u64) as u32;
                 let bodies = self.bodies.as_mut_slice();
-                match bodies[index].end_leave(self.alloc, &mut self.store) {
+                match end_leave_at(self.alloc, &mut self.store, bodies, index) {
                     Ok(()) => {
                         self.spare += gained;
                         Moved::Done
@@ -324,8 +316,7 @@ impl<F: FarStore> ObjectStore<F> {
                 if needed > self.spare {
                     return Moved::NoRoom;
                 }
-                let bodies = self.bodies.as_mut_slice();
-                bodies[index].begin_return();
+                begin_return_at(self.bodies.as_mut_slice(), index);
                 self.spare -= needed;
                 Moved::Done
             }
@@ -344,7 +335,7 @@ impl<F: FarStore> ObjectStore<F> {
             Some(Place::Returning) => {
                 let length = self.length(number as u64) as u32;
                 let bodies = self.bodies.as_mut_slice();
-                match bodies[index].end_return(&mut self.store) {
+                match end_return_at(&mut self.store, bodies, index) {
                     Ok(()) => Moved::Done,
                     Err(fault) => {
                         self.spare += length;

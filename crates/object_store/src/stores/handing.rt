@@ -11,6 +11,7 @@ ghost use Rattle.far_store.specs.declared.fault.StoreFault.{StoreFault};
 ghost use Rattle.far_store.specs.declared.fault.StoreFault.TheVariants.{Damaged};
 
 use super::ObjectStore;
+use crate::handing::{end_leave_into_at, end_return_from_at, free_far_at, parcel_at};
 use far_store::{FarStore, HandsOut};
 use placement::{Moved, Place};
 
@@ -21,12 +22,7 @@ impl<F: FarStore> ObjectStore<F> {
         ensures far { result ≡ None → StandsAt place.Far self.now.state number → ⊥ }
         ensures returning { result ≡ None → StandsAt place.Returning self.now.state number → ⊥ }
     {
-        let bodies = self.bodies.as_slice();
-        let index = number as usize;
-        if index >= bodies.len() {
-            return None;
-        }
-        bodies[index].parcel()
+        parcel_at(self.bodies.as_slice(), number as usize)
     }
 
     /// Frees an object that is far, and lets go of its parcel. Its number is not used again.
@@ -39,7 +35,7 @@ impl<F: FarStore> ObjectStore<F> {
             None => Moved::NoObject,
             Some(Place::Far) => {
                 let bodies = self.bodies.as_mut_slice();
-                bodies[index].free_far(&mut self.store);
+                free_far_at(&mut self.store, bodies, index);
                 Moved::Done
             }
             Some(place) => Moved::Misplaced(place),
@@ -65,7 +61,7 @@ impl<F: HandsOut> ObjectStore<F> {
             Some(Place::Leaving) => {
                 let gained = self.length(number as u64) as u32;
                 let bodies = self.bodies.as_mut_slice();
-                bodies[index].end_leave_into(self.alloc, &mut self.store, into);
+                end_leave_into_at(self.alloc, &mut self.store, bodies, index, into);
                 self.spare += gained;
                 Moved::Done
             }
@@ -89,7 +85,7 @@ impl<F: HandsOut> ObjectStore<F> {
             Some(Place::Returning) => {
                 let length = self.length(number as u64) as u32;
                 let bodies = self.bodies.as_mut_slice();
-                match bodies[index].end_return_from(&mut self.store, bytes) {
+                match end_return_from_at(&mut self.store, bodies, index, bytes) {
                     Ok(()) => Moved::Done,
                     Err(fault) => {
                         self.spare += length;

@@ -7,6 +7,7 @@ ghost use Rattle.placement.specs.declared.places.Place.TheVariants as place;
 
 use super::ObjectStore;
 use crate::bodies::ObjectBody;
+use crate::lending::{fill_at, take_at};
 use far_store::FarStore;
 
 impl<F: FarStore> ObjectStore<F> {
@@ -30,7 +31,7 @@ impl<F: FarStore> ObjectStore<F> {
         let index = number as usize;
         let gained = self.length(number as u64) as u32;
         let bodies = self.bodies.as_mut_slice();
-        let taken = bodies[index].take(self.alloc);
+        let taken = take_at(self.alloc, bodies, index);
         self.spare += gained;
         taken
     }
@@ -40,10 +41,9 @@ impl<F: FarStore> ObjectStore<F> {
         requires { IsOut self.old number body }
         ensures { self.new ≡ filled self.old number body }
     {
-        let index = number as usize;
         let needed = body.len() as u32;
         let bodies = self.bodies.as_mut_slice();
-        bodies[index].fill(body);
+        fill_at(bodies, number as usize, body);
         self.spare -= needed;
     }
 }
