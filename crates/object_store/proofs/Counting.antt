@@ -1,7 +1,7 @@
 -- The count of an object stays the number of windows that hold it, whatever a window notes or gives up.
 use Rattle.std.proofs.Common.{◌≡◌, ℕ, zero, suc, ◌||◌, IfSome, ◌+◌, ◌-◌, ◌<◌, ◌≤◌, nat_eq, Bool, true, false, cond, List, [], ◌∷◌, ◌++◌, length, replicate, map}
 use Rattle.std.proofs.Common.{set, get_or, refl, sym, ◌∙◌, subst, arith, nat_le, ◌≢◌, Option, Some, None}
-use Rattle.std.proofs.lemmas.List.{map-set, get_or-set_same, get_or-set_other, length-set}
+use Rattle.std.proofs.lemmas.List.{get_or-set_same, get_or-set_other, length-set}
 use Rattle.std.proofs.lemmas.List.Sums.{sum_by-set, sum_by-cons}
 use Rattle.std.specs.List.{list_any}
 use Rattle.std.proofs.lemmas.List.Folds.{list_any-append}
@@ -9,21 +9,15 @@ use Rattle.std.proofs.lemmas.Bool.Decides.{nat_tests}
 use Rattle.scopes.specs.Windows.{holds, noted, pushed_out, AreDistinct}
 use Rattle.object_store.specs.Stores.{holders, weight}
 use Rattle.object_store.specs.Bodies.{Kept, CountsHold, lessened, grown, scopes_in}
-use Rattle.object_store.proofs.Listed.{scopes_at, bytes_same, places_same, sent_same}
 
 neither : (a b : Bool) → (a || b) ≡ false → (a ≡ false) × (b ≡ false)
 neither true b h = absurd (cc)
 neither false b h = (refl, h)
 
-pub scopes_set : (bodies : List Kept) (i : ℕ) (b : Kept) → map scopes_in (set bodies i b) ≡ set (map scopes_in bodies) i b.scopes
-scopes_set bodies i b = map-set scopes_in bodies i b
-
 pub below_counts : (bodies : List Kept) (i : ℕ) → 0 < get_or (map scopes_in bodies) i 0 → i < length bodies
 below_counts [] i h = absurd (omega arith)
 below_counts (b ∷ bodies) zero h = omega arith
 below_counts (b ∷ bodies) (suc i) h = let g = below_counts bodies i h in omega arith
-
-pub ruleset body_steps = (scopes_set, scopes_at, bytes_same, places_same, sent_same)
 
 -- ---- weights
 

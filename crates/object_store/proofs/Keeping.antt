@@ -1,15 +1,16 @@
 -- A store stays as it is always kept.
-use Rattle.std.proofs.Common.{◌≡◌, ℕ, ◌+◌, ◌<◌, ◌≤◌, zero, suc, Bool, true, false, List, [], ◌∷◌, ◌++◌, length, slice_index_or, map, set, take, drop, replicate}
+use Rattle.std.proofs.Common.{◌≡◌, ℕ, ◌+◌, ◌<◌, ◌≤◌, zero, suc, false, List, [], ◌∷◌, ◌++◌, length, slice_index_or, map, set, take, drop, replicate}
 use Rattle.std.proofs.Common.{None, refl, sym, ap, ◌∙◌, arith}
-use Rattle.std.proofs.lemmas.List.{length-map, length-set, map-append}
-use Rattle.std.proofs.Math.Seq.{take-append_seam}
+use Rattle.std.proofs.lemmas.List.{length-map, map-append, map-set}
+use Rattle.std.proofs.Math.Seq.{take-append_seam, map-set_same}
 use Rattle.placement.specs.declared.places.Place.{Place}
-use Rattle.placement.specs.declared.places.Place.TheVariants.{Here, Far, Returning}
+use Rattle.placement.specs.declared.places.Place.TheVariants.{Here}
 use Rattle.memory.specs.Objects.{AreObjects, bytes_of, with_bytes, object_limit, object_bytes}
 use Rattle.object_store.specs.Stores.{place_of, near_length, near_bytes}
 use Rattle.scopes.specs.Windows.{window_count}
-use Rattle.object_store.specs.Bodies.{Kept, CountsHold, IsKeptStore, BytesBack, bytes_in, place_in, scopes_in}
-use Rattle.object_store.proofs.Objects_kept.{objects_stay, objects_made, objects_freed}
+use Rattle.object_store.specs.Bodies.{Kept, CountsHold, IsKeptStore, bytes_in, place_in, scopes_in}
+use Rattle.object_store.proofs.Objects_kept.{objects_stay, objects_made, objects_filled}
+use Rattle.object_store.proofs.Listed.{body_at, no_body}
 use Rattle.object_store.proofs.Counting.{uncounted_more, counts_at_first, none_held}
 
 -- ---- the budget
@@ -46,25 +47,37 @@ same_length bodies = length-map bodies place_in ∙ sym (length-map bodies bytes
 pub in_bytes : (bodies : List Kept) (n : ℕ) → n < length bodies → n < length (map bytes_in bodies)
 in_bytes bodies n h = let e = length-map bodies bytes_in in omega arith
 
+-- where one object is another
+near_set : (bodies : List Kept) (n : ℕ) (b : Kept) → n < length bodies
+    → near_bytes (map bytes_in (set bodies n b)) (map place_in (set bodies n b)) + near_length (body_at bodies n).place (body_at bodies n).bytes
+    ≡ near_bytes (map bytes_in bodies) (map place_in bodies) + near_length b.place b.bytes
+near_set [] n b h = absurd (omega arith)
+near_set (x ∷ xs) zero b h = omega arith
+near_set (x ∷ xs) (suc n) b h = let g = near_set xs n b (omega arith) in omega (arith, g)
+
 -- an object that isn't far is in the sum
 pub near_one : (bodies : List Kept) (n : ℕ) → n < length bodies
-    → near_length (place_of (map place_in bodies) n) (bytes_of (map bytes_in bodies) n) ≤ near_bytes (map bytes_in bodies) (map place_in bodies)
-near_one bodies n h = let g = near_placed (map bytes_in bodies) (map place_in bodies) n Far (in_bytes bodies n h) (same_length bodies) in omega (arith, g)
+    → near_length (body_at bodies n).place (body_at bodies n).bytes ≤ near_bytes (map bytes_in bodies) (map place_in bodies)
+near_one bodies n h = let g = near_set bodies n no_body h in omega (arith, g)
+
+pub not_zero : (objects : List (List ℕ)) (n : ℕ) → bytes_of objects 0 ≡ [] → 0 < length (bytes_of objects n) → 0 < n
+not_zero objects zero z l = let e = rw z at l in absurd (omega (arith, e))
+not_zero objects (suc n) z l = omega arith
 
 -- ---- changes
 
--- to another place
-pub placed : (old new : List Kept) (windows : List (List ℕ)) (budget spare left n : ℕ) (from p : Place) → IsKeptStore old windows budget spare → n < length old
-    → place_of (map place_in old) n ≡ from → map bytes_in new ≡ map bytes_in old → map place_in new ≡ set (map place_in old) n p
-    → map scopes_in new ≡ map scopes_in old
-    → left + near_length p (bytes_of (map bytes_in old) n) ≡ spare + near_length from (bytes_of (map bytes_in old) n) → IsKeptStore new windows budget left
-placed old new windows budget spare left n from p k h f b q s e =
-    let g = rw f at (near_placed (map bytes_in old) (map place_in old) n p (in_bytes old n h) (same_length old)) in
+-- one object is another
+pub changed : (bodies : List Kept) (windows : List (List ℕ)) (budget spare left n : ℕ) (b : Kept) → IsKeptStore bodies windows budget spare → n < length bodies
+    → 0 < n → b.scopes ≡ (body_at bodies n).scopes → length b.bytes ≤ object_bytes
+    → left + near_length b.place b.bytes ≡ spare + near_length (body_at bodies n).place (body_at bodies n).bytes
+    → IsKeptStore (set bodies n b) windows budget left
+changed bodies windows budget spare left n b k h p scopes short room =
+    let g = near_set bodies n b h in
     record {
-      objects = rw b k.objects;
-      counts = rw s k.counts;
+      objects = rw (map-set bytes_in bodies n b) (objects_filled (map bytes_in bodies) n b.bytes k.objects p short);
+      counts = rw (map-set_same scopes_in bodies n b no_body scopes) k.counts;
       windows_are = k.windows_are;
-      budget_is = rw (b, q) (omega (arith, g, k.budget_is, e));
+      budget_is = omega (arith, g, k.budget_is, room);
     }
 
 -- with other bytes, as many
@@ -79,42 +92,6 @@ filled old new windows after budget spare n b k h l e q s w f =
       windows_are = w;
       budget_is = rw (e, q) (omega (arith, g, k.budget_is, l));
     }
-
--- without bytes
-pub emptied : (old new : List Kept) (windows : List (List ℕ)) (budget spare left n : ℕ) → IsKeptStore old windows budget spare → n < length old
-    → map bytes_in new ≡ with_bytes (map bytes_in old) n [] → map place_in new ≡ map place_in old → map scopes_in new ≡ map scopes_in old
-    → place_of (map place_in old) n ≡ Here
-    → left ≡ spare + length (bytes_of (map bytes_in old) n) → IsKeptStore new windows budget left
-emptied old new windows budget spare left n k h b q s f e =
-    let g = rw f at (near_filled (map bytes_in old) (map place_in old) n [] (in_bytes old n h) (same_length old)) in
-    record {
-      objects = rw b (objects_freed (map bytes_in old) n k.objects);
-      counts = rw s k.counts;
-      windows_are = k.windows_are;
-      budget_is = rw (b, q) (omega (arith, g, k.budget_is, e));
-    }
-
--- back, over a store that returns what was put or one that may not
-pub came_back : (returns : Bool) (old new : List Kept) (windows : List (List ℕ)) (budget spare n : ℕ) → IsKeptStore old windows budget spare → n < length old
-    → place_of (map place_in old) n ≡ Returning → BytesBack returns (map bytes_in old) n (map bytes_in new) → map place_in new ≡ set (map place_in old) n Here
-    → map scopes_in new ≡ map scopes_in old → IsKeptStore new windows budget spare
-came_back true old new windows budget spare n k h f b q s = placed old new windows budget spare spare n Returning Here k h f b q s refl
-came_back false old new windows budget spare n k h f b q s =
-    let objects = map bytes_in old in
-    let places = map place_in old in
-    let back = bytes_of (map bytes_in new) n in
-    let inside = in_bytes old n h in
-    let same = rw f at (near_filled objects places n back inside (same_length old)) in
-    let count = length-set objects n back in
-    let there = rw f at (near_placed (with_bytes objects n back) places n Here (omega (arith, inside, count)) (omega (arith, same_length old, count))) in
-    record {
-      objects = rw b.1 (objects_stay objects n back k.objects b.0);
-      counts = rw s k.counts;
-      windows_are = k.windows_are;
-      budget_is = rw (b.1, q) (omega (arith, same, there, k.budget_is, b.0));
-    }
-
--- ---- made
 
 pub made : (old new : List Kept) (body : Kept) (windows : List (List ℕ)) (budget spare left : ℕ) → IsKeptStore old windows budget spare
     → new ≡ old ++ body ∷ [] → body.place ≡ Here → body.scopes ≡ 0

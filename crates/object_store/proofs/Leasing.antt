@@ -1,6 +1,6 @@
 -- An object that is out of a store.
-use Rattle.std.proofs.Common.{◌≡◌, ℕ, ◌+◌, ◌<◌, ◌≤◌, zero, suc, nat_eq, Bool, true, false, ◌||◌, ◌++◌, List, [], ◌∷◌, length, map, get_or, set, refl, sym, ap, ◌∙◌, cond, arith, inl, inr}
-use Rattle.std.proofs.lemmas.List.{length-map, length-set, set-set, set-get_or, set_past, get_or_past, get_or-set_same}
+use Rattle.std.proofs.Common.{◌≡◌, ℕ, ◌<◌, nat_eq, Bool, true, false, ◌||◌, ◌++◌, List, [], ◌∷◌, Vec, length, map, get_or, set, refl, sym, ap, ◌∙◌, cond, arith, inl, inr}
+use Rattle.std.proofs.lemmas.List.{length-map, length-set, set-set, set-get_or, set_past, get_or_default, get_or_past, get_or-set_same}
 use Rattle.std.specs.List.{list_any}
 use Rattle.std.proofs.lemmas.List.Folds.{list_any-append}
 use Rattle.std.proofs.lemmas.Bool.Decides.{nat_tests}
@@ -12,16 +12,17 @@ use Rattle.memory.specs.declared.access.Op.{Op}
 use Rattle.memory.specs.declared.access.Reach.{Reach}
 use Rattle.memory.specs.declared.access.Reach.TheVariants.{Done, Away, Busy, Outside, Worn}
 use Rattle.memory.specs.Access.{IsInside, answer, after, count_of, size_of}
-use Rattle.memory.specs.Objects.{AreObjects, bytes_of, with_bytes, object_bytes}
+use Rattle.memory.specs.Objects.{bytes_of, with_bytes}
 use Rattle.memory.proofs.Lengths.{length-after}
 use Rattle.memory.proofs.Accesses.{lengths}
 use Rattle.scopes.specs.Windows.{holds, noted, without_oldest}
 use Rattle.object_store.specs.Asking.{clean_after}
 use Rattle.object_store.specs.Stores.{StoreState, StoreWithin, Sent, StandsAt, place_of, sent_of, unsent, window_of}
-use Rattle.object_store.specs.Bodies.{Kept, IsKeptStore, bytes_in, place_in, scopes_in, sent_in}
+use Rattle.object_store.specs.Bodies.{Kept, IsKeptStore, bytes_in, place_in, sent_in}
 use Rattle.object_store.specs.Lending.{TouchesWithin}
 use Rattle.object_store.specs.Leases.{IsOut, IsIdle, IsLeased, IsLeasing, filled, without}
-use Rattle.object_store.proofs.Keeping.{near_filled, in_bytes, same_length}
+use Rattle.object_store.proofs.Keeping.{near_filled, in_bytes, not_zero, same_length}
+use Rattle.object_store.proofs.Listed.{body_at, no_body, at_bytes, at_place}
 
 -- an access reaches a byte at least
 some_bytes : (size : Size) → 0 < size_bytes size
@@ -35,46 +36,31 @@ reaches_some op = some_bytes (size_of op.action)
 
 -- ---- the list
 
-size_at : (objects : List (List ℕ)) (n k : ℕ) (b : List ℕ) (most : ℕ) → length b ≤ most → length (get_or objects k []) ≤ most
-    → length (get_or (set objects n b) k []) ≤ most
-size_at [] n k b most l h = h
-size_at (x ∷ xs) zero zero b most l h = l
-size_at (x ∷ xs) zero (suc k) b most l h = h
-size_at (x ∷ xs) (suc n) zero b most l h = h
-size_at (x ∷ xs) (suc n) (suc k) b most l h = size_at xs n k b most l h
+-- a number of the list is without bytes
+pub record IsVacant {Z : Type 0} (v : Vec Kept Z) (n : ℕ) (k : Kept) : Type 0 where
+  pub inside : n < length v.items
+  pub is : k ≡ body_at v.items n
+  pub place : k.place ≡ Here
+  pub empty : k.bytes ≡ []
+  pub stays : set (map place_in v.items) n Here ≡ map place_in v.items
 
-first_at : (objects : List (List ℕ)) (n : ℕ) (b : List ℕ) → 0 < n → get_or (set objects n b) 0 [] ≡ get_or objects 0 []
-first_at objects zero b h = absurd (omega arith)
-first_at [] (suc n) b h = refl
-first_at (x ∷ xs) (suc n) b h = refl
-
-objects_filled : (objects : List (List ℕ)) (n : ℕ) (b : List ℕ) → AreObjects objects → 0 < n → length b ≤ object_bytes → AreObjects (with_bytes objects n b)
-objects_filled objects n b o p l =
-    let count = length-set objects n b in
+-- which it is where its object is out
+pub vacant : {X Z : Type 0} {lent : List Kept} {windows : List (List ℕ)} {budget faults n : ℕ} {far : X} {k : Kept} (v : Vec Kept Z) (d : Kept)
+    → IsOut {X = X} (record {
+      state = record { objects = map bytes_in v.items; places = map place_in v.items; windows = windows; budget = budget; faults = faults };
+      far = far;
+      sent = map sent_in v.items;
+    }) n k → lent ≡ v.items → IsVacant v n (get_or lent n d)
+vacant {lent} {n} v d out value =
+    let inside : n < length v.items = let e = length-map v.items bytes_in in omega (arith, e, out.inside) in
+    let one : get_or lent n d ≡ body_at v.items n = rw value (get_or_default v.items n d no_body inside) in
     record {
-      none_at_zero = first_at objects n b p ∙ o.none_at_zero;
-      place_of_zero = omega (arith, o.place_of_zero);
-      limit = omega (arith, o.limit);
-      sizes = λ k. size_at objects n k b object_bytes l (o.sizes k);
+      inside = inside;
+      is = one;
+      place = ap place_in one ∙ sym (at_place v.items n) ∙ out.place;
+      empty = ap bytes_in one ∙ sym (at_bytes v.items n) ∙ out.none;
+      stays = ap (set (map place_in v.items) n) (sym out.place) ∙ set-get_or (map place_in v.items) n Here;
     }
-
--- a store stays as it is kept, where an object is put at a number without bytes
-pub put_in : (old new : List Kept) (windows : List (List ℕ)) (budget spare left n : ℕ) (b : List ℕ) → IsKeptStore old windows budget spare → n < length old
-    → 0 < n → length b ≤ object_bytes → bytes_of (map bytes_in old) n ≡ []
-    → map bytes_in new ≡ with_bytes (map bytes_in old) n b → map place_in new ≡ map place_in old → map scopes_in new ≡ map scopes_in old
-    → place_of (map place_in old) n ≡ Here → left + length b ≡ spare → IsKeptStore new windows budget left
-put_in old new windows budget spare left n b k h p l z e q s f c =
-    let g = rw (f, z) at (near_filled (map bytes_in old) (map place_in old) n b (in_bytes old n h) (same_length old)) in
-    record {
-      objects = rw e (objects_filled (map bytes_in old) n b k.objects p l);
-      counts = rw s k.counts;
-      windows_are = k.windows_are;
-      budget_is = rw (e, q) (omega (arith, g, k.budget_is, c));
-    }
-
-not_zero : (objects : List (List ℕ)) (n : ℕ) → bytes_of objects 0 ≡ [] → 0 < length (bytes_of objects n) → 0 < n
-not_zero objects zero z l = let e = rw z at l in absurd (omega (arith, e))
-not_zero objects (suc n) z l = omega arith
 
 -- ---- what is seen
 

@@ -5,8 +5,7 @@ pub mod Objects_kept
 pub mod Wording
 pub mod Counting
 pub mod Keeping
-pub mod Placing
 pub mod Returning
 pub mod Leaving
 pub mod Leasing
-pub mod Forgetting
+pub mod Found

@@ -1,5 +1,5 @@
 -- Objects stay objects where one is made or freed.
-use Rattle.std.proofs.Common.{◌≡◌, ℕ, ◌≤◌, zero, suc, List, [], ◌∷◌, ◌++◌, length, get_or, set, refl, length-append, arith, ◌∙◌}
+use Rattle.std.proofs.Common.{◌≡◌, ℕ, ◌<◌, ◌≤◌, zero, suc, List, [], ◌∷◌, ◌++◌, length, get_or, set, refl, length-append, arith, ◌∙◌}
 use Rattle.std.proofs.lemmas.List.{get_or_append_left, length-set}
 use Rattle.memory.specs.Objects.{AreObjects, bytes_of, with_bytes, object_limit, object_bytes}
 use Rattle.memory.proofs.Lengths.{length-set_at}
@@ -40,22 +40,26 @@ objects_made objects b o room l =
       sizes = λ k. short_end objects b k object_bytes (o.sizes k) l;
     }
 
--- objects stay objects where one is freed
-emptied_at_most : (objects : List (List ℕ)) (n k : ℕ) → length (get_or (set objects n []) k []) ≤ length (get_or objects k [])
-emptied_at_most [] n k = omega arith
-emptied_at_most (x ∷ xs) zero zero = omega arith
-emptied_at_most (x ∷ xs) zero (suc k) = omega arith
-emptied_at_most (x ∷ xs) (suc n) zero = omega arith
-emptied_at_most (x ∷ xs) (suc n) (suc k) = emptied_at_most xs n k
+-- objects stay objects where one gets other bytes
+size_at : (objects : List (List ℕ)) (n k : ℕ) (b : List ℕ) (most : ℕ) → length b ≤ most → length (get_or objects k []) ≤ most
+    → length (get_or (set objects n b) k []) ≤ most
+size_at [] n k b most l h = h
+size_at (x ∷ xs) zero zero b most l h = l
+size_at (x ∷ xs) zero (suc k) b most l h = h
+size_at (x ∷ xs) (suc n) zero b most l h = h
+size_at (x ∷ xs) (suc n) (suc k) b most l h = size_at xs n k b most l h
 
-pub objects_freed : (objects : List (List ℕ)) (n : ℕ) → AreObjects objects → AreObjects (with_bytes objects n [])
-objects_freed objects n o =
-    let count = length-set objects n [] in
-    let none = o.none_at_zero in
-    let zeroth = rw none at (emptied_at_most objects n 0) in
+first_at : (objects : List (List ℕ)) (n : ℕ) (b : List ℕ) → 0 < n → get_or (set objects n b) 0 [] ≡ get_or objects 0 []
+first_at objects zero b h = absurd (omega arith)
+first_at [] (suc n) b h = refl
+first_at (x ∷ xs) (suc n) b h = refl
+
+pub objects_filled : (objects : List (List ℕ)) (n : ℕ) (b : List ℕ) → AreObjects objects → 0 < n → length b ≤ object_bytes → AreObjects (with_bytes objects n b)
+objects_filled objects n b o p l =
+    let count = length-set objects n b in
     record {
-      none_at_zero = empty (get_or (set objects n []) 0 []) (omega (arith, zeroth));
+      none_at_zero = first_at objects n b p ∙ o.none_at_zero;
       place_of_zero = omega (arith, o.place_of_zero);
       limit = omega (arith, o.limit);
-      sizes = λ k. omega (arith, emptied_at_most objects n k, o.sizes k);
+      sizes = λ k. size_at objects n k b object_bytes l (o.sizes k);
     }

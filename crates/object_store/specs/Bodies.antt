@@ -5,7 +5,7 @@ use Rattle.pointer_word.specs.declared.word.WordPlace.TheVariants.{Local, Moving
 use Rattle.pointer_word.specs.Words.{WordRecord}
 use Rattle.placement.specs.declared.places.Place.{Place}
 use Rattle.placement.specs.declared.places.Place.TheVariants.{Here, Leaving, Far, Returning}
-use Rattle.memory.specs.Objects.{AreObjects, bytes_of, with_bytes}
+use Rattle.memory.specs.Objects.{AreObjects}
 use Rattle.object_store.specs.Stores.{Sent, holders, near_bytes}
 use Rattle.scopes.specs.Windows.{window_count}
 
@@ -91,24 +91,12 @@ scopes_in k = k.scopes
 abbrev pub sent_in : Kept → Sent
 sent_in k = record { parcel = k.parcel; clean = k.clean }
 
--- One object is in another place, and nothing else has changed.
-pub record IsPlaced (old : List Kept) (n : ℕ) (p : Place) (new : List Kept) : Type 0 where
-  pub bytes : map bytes_in new ≡ map bytes_in old
-  pub places : map place_in new ≡ set (map place_in old) n p
-  pub counts : map scopes_in new ≡ map scopes_in old
-  pub sent : map sent_in new ≡ map sent_in old
-
 -- So many windows hold the objects, and nothing else has changed.
 pub record IsCounted (old : List Kept) (held : List ℕ) (new : List Kept) : Type 0 where
   pub counts : map scopes_in new ≡ held
   pub bytes : map bytes_in new ≡ map bytes_in old
   pub places : map place_in new ≡ map place_in old
   pub sent : map sent_in new ≡ map sent_in old
-
--- The bytes of all objects once those of object n came back: the same, or, where the store doesn't promise that, as many.
-abbrev pub BytesBack : Bool → List (List ℕ) → ℕ → List (List ℕ) → Type 0
-BytesBack true old n new = new ≡ old
-BytesBack false old n new = (length (bytes_of new n) ≡ length (bytes_of old n)) × (new ≡ with_bytes old n (bytes_of new n))
 
 -- ---- counts
 

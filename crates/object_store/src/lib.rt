@@ -7,9 +7,6 @@
 
 mod bodies;
 mod errors;
-mod handing;
-mod lending;
-mod moving;
 mod parts;
 mod scoping;
 mod standing;

@@ -8,7 +8,6 @@ use crate::bodies::ObjectBody;
 use far_store::FarStore;
 use scopes::Window;
 
-#[tactic(auto, using(crate::proofs::Counting::body_steps))]
 #[inline(always)]
 fn open_scope<F: FarStore>(bodies: &mut [ObjectBody<F>], number: usize)
     requires object { number < length bodies.old }
@@ -18,7 +17,6 @@ fn open_scope<F: FarStore>(bodies: &mut [ObjectBody<F>], number: usize)
     bodies[number].open_scope();
 }
 
-#[tactic(auto, using(crate::proofs::Counting::body_steps))]
 #[inline(always)]
 fn end_scope<F: FarStore>(bodies: &mut [ObjectBody<F>], number: usize)
     requires object { number < length bodies.old }

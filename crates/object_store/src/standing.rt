@@ -1,7 +1,7 @@
 //! One object of a list: whether an access can be done, and what is done to it.
-ghost use Rattle.std.specs.Prelude.{◌≡◌, ◌<◌, length, map, set, get_or, None, false, IfSome, IsSome, IfOk};
+ghost use Rattle.std.specs.Prelude.{◌≡◌, ◌<◌, length, map, set, None, IfSome, IsSome};
 ghost use Rattle.memory.specs.Access.{answer, after};
-ghost use Rattle.memory.specs.Objects.{Reaches, HasRange, bytes_of, with_bytes, range_of, with_range};
+ghost use Rattle.memory.specs.Objects.{Reaches, bytes_of, with_bytes};
 ghost use Rattle.object_store.specs.Stores.{place_of, sent_of};
 ghost use Rattle.object_store.specs.Asking.{clean_after};
 ghost use Rattle.object_store.specs.Bodies.{bytes_in, place_in, scopes_in, sent_in};
@@ -12,7 +12,6 @@ use crate::bodies::ObjectBody;
 use far_store::FarStore;
 use memory::Op;
 use placement::Place;
-use std::alloc::{AllocError, Global};
 
 /// What stands in the way of an access.
 #[derive(Clone, Copy, Drop, Debug, PartialEq, Eq)]
@@ -108,65 +107,4 @@ pub fn act_at<F: FarStore>(bodies: &mut [ObjectBody<F>], number: usize, op: &Op)
         (record (sent_of (map sent_in bodies.old) number) { clean = clean_after op.now.action (sent_of (map sent_in bodies.old) number).clean }) }
 {
     bodies[number].act(op)
-}
-
-/// A copy of a range.
-#[tactic(auto, using(crate::proofs::Listed::at_steps))]
-pub fn copy_range<F: FarStore>(
-    alloc: Global,
-    bodies: &[ObjectBody<F>],
-    number: usize,
-    offset: usize,
-    count: usize,
-) -> Result<Vec<u8>, AllocError>
-    requires found { number < length bodies.now }
-    requires here { place_of (map place_in bodies.now) number ≡ place.Here }
-    requires inside { HasRange (map bytes_in bodies.now) number offset count }
-    ensures { IfOk result (λ v. v.items ≡ range_of (map bytes_in bodies.now) number offset count) }
-{
-    bodies[number].copy(alloc, offset, count)
-}
-
-/// Copies a range over these bytes, which are as many.
-#[tactic(auto, using(crate::proofs::Listed::at_steps))]
-pub fn read_range<F: FarStore>(
-    bodies: &[ObjectBody<F>],
-    number: usize,
-    offset: usize,
-    into: &mut [u8],
-)
-    requires found { number < length bodies.now }
-    requires here { place_of (map place_in bodies.now) number ≡ place.Here }
-    requires inside { HasRange (map bytes_in bodies.now) number offset (length into.old) }
-    ensures { into.new ≡ range_of (map bytes_in bodies.now) number offset (length into.old) }
-{
-    bodies[number].read(offset, into);
-}
-
-/// Writes over a range.
-#[tactic(auto, using(crate::proofs::Listed::at_steps))]
-pub fn write_range<F: FarStore>(
-    bodies: &mut [ObjectBody<F>],
-    number: usize,
-    offset: usize,
-    bytes: &[u8],
-)
-    requires found { number < length bodies.old }
-    requires here { place_of (map place_in bodies.old) number ≡ place.Here }
-    requires inside { HasRange (map bytes_in bodies.old) number offset (length bytes.now) }
-    ensures bytes { map bytes_in bodies.new ≡ with_range (map bytes_in bodies.old) number offset bytes.now }
-    ensures places { map place_in bodies.new ≡ map place_in bodies.old }
-    ensures counts { map scopes_in bodies.new ≡ map scopes_in bodies.old }
-    ensures sent { map sent_in bodies.new ≡ set (map sent_in bodies.old) number (record (sent_of (map sent_in bodies.old) number) { clean = false }) }
-{
-    bodies[number].write(offset, bytes);
-}
-
-/// How many windows hold a number.
-#[tactic(auto, using(crate::proofs::Listed::at_steps))]
-pub fn scopes_at<F: FarStore>(bodies: &[ObjectBody<F>], number: usize) -> u8
-    requires { number < length bodies.now }
-    ensures { result ≡ get_or (map scopes_in bodies.now) number 0 }
-{
-    bodies[number].scopes()
 }

@@ -1,7 +1,7 @@
 //! The objects of an agent, and their moves to a far store and back.
-ghost use Rattle.std.specs.Prelude.{◌≡◌, ◌≢◌, ◌≤◌, [], ◌∷◌, ◌++◌, false, map, set, None, Ok, Err, IfOk, IfErr, IfSome, OnOk, OnErr, length};
+ghost use Rattle.std.specs.Prelude.{◌≡◌, ◌≢◌, ◌≤◌, [], ◌∷◌, ◌++◌, true, false, map, set, None, Ok, Err, IfOk, IfErr, IfSome, OnOk, OnErr, length};
 ghost use Rattle.memory.specs.Objects.{IsLive, bytes_of, object_bytes, object_limit};
-ghost use Rattle.object_store.specs.Stores.{HasWindow, IsStore, StandsAt, Touches, store_start, with_window, unsent, sent_of};
+ghost use Rattle.object_store.specs.Stores.{HasWindow, IsStore, IsScoped, StandsAt, Touches, store_start, with_window, unsent, sent_of};
 ghost use Rattle.object_store.specs.Asking.{AsksNothing, AsksToFree, AsksToLeave, AsksToReturn, sent_after};
 ghost use Rattle.far_store.specs.Calls.{Calls};
 ghost use Rattle.object_store.specs.Parts.{AllHere, RefusesParts, bodies_of, forgets_all};
@@ -14,13 +14,9 @@ mod lending;
 
 use crate::bodies::ObjectBody;
 use crate::errors::{GetError, MakeError, PartsError, PutError};
-use crate::moving::{begin_leave_at, begin_return_at, end_leave_at, end_return_at, free_at};
 use crate::parts::{Parts, first_away, from_one, take_all};
 use crate::scoping::{close, note};
-use crate::standing::{
-    Standing, act_at, copy_range, length_at, place_at, read_range, scopes_at, stand, stand_range,
-    write_range,
-};
+use crate::standing::{Standing, act_at, length_at, place_at, stand, stand_range};
 use far_store::FarStore;
 use memory::{Memory, OBJECT_LIMIT, Op, Reach};
 use placement::{Moved, Place};
@@ -139,6 +135,17 @@ impl<F: FarStore> ObjectStore<F> {
         }
     }
 
+    /// Whether a machine has an object in scope.
+    fn is_scoped(&self, number: u32) -> bool
+        requires { IsLive self.now.state.objects number }
+        ensures scoped { result ≡ true → IsScoped self.now.state number }
+        ensures free { result ≡ false → IsScoped self.now.state number → ⊥ }
+    {
+        let index = number as usize;
+        let bodies = self.bodies.as_slice();
+        bodies[index].scopes() > 0
+    }
+
     /// Frees an object that is here and in no scope. Its number is not used again.
     pub fn free(&mut self, number: u32) -> Moved
         ensures frees { Frees self.old.state number result self.new.state }
@@ -148,13 +155,12 @@ impl<F: FarStore> ObjectStore<F> {
         match self.place(number) {
             None => Moved::NoObject,
             Some(Place::Here) => {
-                let bodies = self.bodies.as_slice();
-                if scopes_at(bodies, index) > 0 {
+                if self.is_scoped(number) {
                     return Moved::Scoped;
                 }
                 let freed = self.length(number as u64) as u32;
                 let bodies = self.bodies.as_mut_slice();
-                free_at(self.alloc, &mut self.store, bodies, index);
+                bodies[index].free(self.alloc, &mut self.store);
                 self.spare += freed;
                 Moved::Done
             }
@@ -188,7 +194,7 @@ impl<F: FarStore> ObjectStore<F> {
         match stand_range(bodies, index, offset, count) {
             Standing::Outside => Err(GetError::Outside),
             Standing::Away => Err(GetError::Away),
-            Standing::Here => match copy_range(self.alloc, bodies, index, offset, count) {
+            Standing::Here => match bodies[index].copy(self.alloc, offset, count) {
                 Ok(bytes) => Ok(bytes),
                 Err(_) => Err(GetError::Memory),
             },
@@ -207,7 +213,7 @@ impl<F: FarStore> ObjectStore<F> {
             Standing::Outside => Err(GetError::Outside),
             Standing::Away => Err(GetError::Away),
             Standing::Here => {
-                read_range(bodies, index, offset, into);
+                bodies[index].read(offset, into);
                 Ok(())
             }
         }
@@ -225,7 +231,8 @@ impl<F: FarStore> ObjectStore<F> {
             Standing::Outside => Err(PutError::Outside),
             Standing::Away => Err(PutError::Away),
             Standing::Here => {
-                write_range(self.bodies.as_mut_slice(), index, offset, bytes);
+                let bodies = self.bodies.as_mut_slice();
+                bodies[index].write(offset, bytes);
                 Ok(())
             }
         }
@@ -270,10 +277,11 @@ impl<F: FarStore> ObjectStore<F> {
         match self.place(number) {
             None => Moved::NoObject,
             Some(Place::Here) => {
-                if scopes_at(self.bodies.as_slice(), index) > 0 {
+                if self.is_scoped(number) {
                     return Moved::Scoped;
                 }
-                begin_leave_at(self.bodies.as_mut_slice(), index);
+                let bodies = self.bodies.as_mut_slice();
+                bodies[index].begin_leave();
                 Moved::Done
             }
             Some(place) => Moved::Misplaced(place),
@@ -291,7 +299,7 @@ impl<F: FarStore> ObjectStore<F> {
             Some(Place::Leaving) => {
                 let gained = self.length(number as u64) as u32;
                 let bodies = self.bodies.as_mut_slice();
-                match end_leave_at(self.alloc, &mut self.store, bodies, index) {
+                match bodies[index].end_leave(self.alloc, &mut self.store) {
                     Ok(()) => {
                         self.spare += gained;
                         Moved::Done
@@ -316,7 +324,8 @@ impl<F: FarStore> ObjectStore<F> {
                 if needed > self.spare {
                     return Moved::NoRoom;
                 }
-                begin_return_at(self.bodies.as_mut_slice(), index);
+                let bodies = self.bodies.as_mut_slice();
+                bodies[index].begin_return();
                 self.spare -= needed;
                 Moved::Done
             }
@@ -335,7 +344,7 @@ impl<F: FarStore> ObjectStore<F> {
             Some(Place::Returning) => {
                 let length = self.length(number as u64) as u32;
                 let bodies = self.bodies.as_mut_slice();
-                match end_return_at(&mut self.store, bodies, index) {
+                match bodies[index].end_return(&mut self.store) {
                     Ok(()) => Moved::Done,
                     Err(fault) => {
                         self.spare += length;

@@ -11,7 +11,6 @@ ghost use Rattle.far_store.specs.declared.fault.StoreFault.{StoreFault};
 ghost use Rattle.far_store.specs.declared.fault.StoreFault.TheVariants.{Damaged};
 
 use super::ObjectStore;
-use crate::handing::{end_leave_into_at, end_return_from_at, free_far_at, parcel_at};
 use far_store::{FarStore, HandsOut};
 use placement::{Moved, Place};
 
@@ -22,7 +21,12 @@ impl<F: FarStore> ObjectStore<F> {
         ensures far { result ≡ None → StandsAt place.Far self.now.state number → ⊥ }
         ensures returning { result ≡ None → StandsAt place.Returning self.now.state number → ⊥ }
     {
-        parcel_at(self.bodies.as_slice(), number as usize)
+        let bodies = self.bodies.as_slice();
+        let index = number as usize;
+        if index >= bodies.len() {
+            return None;
+        }
+        bodies[index].parcel()
     }
 
     /// Frees an object that is far, and lets go of its parcel. Its number is not used again.
@@ -35,7 +39,7 @@ impl<F: FarStore> ObjectStore<F> {
             None => Moved::NoObject,
             Some(Place::Far) => {
                 let bodies = self.bodies.as_mut_slice();
-                free_far_at(&mut self.store, bodies, index);
+                bodies[index].free_far(&mut self.store);
                 Moved::Done
             }
             Some(place) => Moved::Misplaced(place),
@@ -61,7 +65,7 @@ impl<F: HandsOut> ObjectStore<F> {
             Some(Place::Leaving) => {
                 let gained = self.length(number as u64) as u32;
                 let bodies = self.bodies.as_mut_slice();
-                end_leave_into_at(self.alloc, &mut self.store, bodies, index, into);
+                bodies[index].end_leave_into(self.alloc, &mut self.store, into);
                 self.spare += gained;
                 Moved::Done
             }
@@ -85,7 +89,7 @@ impl<F: HandsOut> ObjectStore<F> {
             Some(Place::Returning) => {
                 let length = self.length(number as u64) as u32;
                 let bodies = self.bodies.as_mut_slice();
-                match end_return_from_at(&mut self.store, bodies, index, bytes) {
+                match bodies[index].end_return_from(&mut self.store, bytes) {
                     Ok(()) => Moved::Done,
                     Err(fault) => {
                         self.spare += length;

@@ -7,7 +7,6 @@ ghost use Rattle.placement.specs.declared.places.Place.TheVariants as place;
 
 use super::ObjectStore;
 use crate::bodies::ObjectBody;
-use crate::lending::{fill_at, take_at};
 use far_store::FarStore;
 
 impl<F: FarStore> ObjectStore<F> {
@@ -31,7 +30,7 @@ impl<F: FarStore> ObjectStore<F> {
         let index = number as usize;
         let gained = self.length(number as u64) as u32;
         let bodies = self.bodies.as_mut_slice();
-        let taken = take_at(self.alloc, bodies, index);
+        let taken = bodies[index].take(self.alloc);
         self.spare += gained;
         taken
     }
@@ -41,9 +40,10 @@ impl<F: FarStore> ObjectStore<F> {
         requires { IsOut self.old number body }
         ensures { self.new ≡ filled self.old number body }
     {
+        let index = number as usize;
         let needed = body.len() as u32;
         let bodies = self.bodies.as_mut_slice();
-        fill_at(bodies, number as usize, body);
+        bodies[index].fill(body);
         self.spare -= needed;
     }
 }

@@ -1,25 +1,29 @@
-use Rattle.std.proofs.Common.{◌≡◌, ◌<◌, length, map, arith, rules}
-use Rattle.std.proofs.lemmas.List.{with_items_is}
-use Rattle.placement.specs.declared.places.Place.TheVariants.{Here}
-use Rattle.memory.specs.Access.{replaced}
-use Rattle.memory.specs.Objects.{HasRange, bytes_of}
-use Rattle.object_store.specs.Stores.{place_of}
-use Rattle.object_store.specs.Bodies.{bytes_in, place_in}
+use Rattle.std.proofs.Common.{length, refl, arith}
 use Rattle.memory.proofs.Lengths.{length-replaced}
-use Rattle.object_store.proofs.Keeping.{filled}
+use Rattle.object_store.proofs.Found.{found_in, seen, put_back}
 use Rattle.object_store.proofs.stores.ObjectStore.put.Goals as goal
+
+pub write-requires : goal.write-requires
+write-requires g c =
+    let there = found_in c.self.inside.bodies c.index-bodies-index.result c.args.offset (length c.args.bytes.now) c.self.invariant c.self.view_is
+    (rw c.as_slice.ensures.value at c.in-Here.ensures.stands) c.as_mut_slice-bodies.ensures.value c.as_mut_slice-bodies.ensures.len in
+    record { here = there.1.place; inside = there.0 }
 
 pub invariant_of-self : goal.invariant_of-self
 invariant_of-self g c =
-    let whole = with_items_is c.self.inside.bodies c.write_range.new.bodies (omega (arith, c.write_range.auto.bodies, c.as_mut_slice.ensures.len)) in
-    let value = c.as_mut_slice.ensures.value in
-    let found : c.args.number < length c.self.inside.bodies.items = search rules in
-    let from : place_of (map place_in c.self.inside.bodies.items) c.args.number ≡ Here = search rules in
-    let inside : HasRange (map bytes_in c.self.inside.bodies.items) c.args.number c.args.offset (length c.args.bytes.now) = search rules in
-    rw whole (
-      filled c.self.inside.bodies.items c.write_range.new.bodies _ c.self.inside.windows _ _ c.args.number
-          (replaced c.args.offset c.args.bytes.now (bytes_of (map bytes_in c.self.inside.bodies.items) c.args.number)) c.self.invariant.0 found
-          (length-replaced _ _ _ inside.1) (rw value at c.write_range.ensures.bytes) (rw value at c.write_range.ensures.places)
-          (rw (c.write_range.ensures.counts, value) c.self.invariant.0.counts) c.self.invariant.0.windows_are from,
-      c.self.invariant.1,
-    )
+    let there = found_in c.self.inside.bodies c.index-bodies-index.result c.args.offset (length c.args.bytes.now) c.self.invariant c.self.view_is
+    (rw c.as_slice.ensures.value at c.in-Here.ensures.stands) c.as_mut_slice-bodies.ensures.value c.as_mut_slice-bodies.ensures.len in
+    let long = length-replaced c.args.offset c.args.bytes.now _ there.0 in
+    put_back c.self.invariant there.1 c.write.ensures refl (rw long there.1.short) (rw there.1.place (omega (arith, long)))
+
+pub returns-in-Here : goal.returns-in-Here
+returns-in-Here g c =
+    let there = found_in c.self.inside.bodies c.index-bodies-index.result c.args.offset (length c.args.bytes.now) c.self.invariant c.self.view_is
+    (rw c.as_slice.ensures.value at c.in-Here.ensures.stands) c.as_mut_slice-bodies.ensures.value c.as_mut_slice-bodies.ensures.len in
+    let now = seen there.1 c.write.ensures in
+    rw (← c.self.view_is, now.bytes, now.places, now.sent, there.1.place, there.1.place_stays, ← there.1.parcel, ← there.1.bytes) (record {
+      puts = ((there.1.live, there.0), there.1.stands.1, refl);
+      far = refl;
+      sent = refl;
+      same = tt;
+    })

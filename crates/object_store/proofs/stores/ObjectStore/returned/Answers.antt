@@ -1,58 +1,52 @@
-use Rattle.std.proofs.Common.{map, refl, ◌∙◌, arith}
-use Rattle.std.proofs.lemmas.List.{with_items_is}
-use Rattle.placement.specs.declared.places.Place.TheVariants.{Far}
-use Rattle.object_store.specs.Stores.{StoreState}
-use Rattle.object_store.specs.Bodies.{bytes_in, place_in}
-use Rattle.object_store.proofs.Keeping.{came_back}
-use Rattle.object_store.proofs.Returning.{comes_back}
-use Rattle.object_store.proofs.Placing.{found, fits_back, placed_back, seen_placed}
+use Rattle.std.proofs.Common.{refl, arith}
+use Rattle.object_store.proofs.Returning.{returned_as, as_long, comes_back}
+use Rattle.object_store.proofs.Found.{found, seen, put_back}
 use Rattle.object_store.proofs.stores.ObjectStore.returned.Goals as goal
 
+pub end_return-requires : goal.end_return-requires
+end_return-requires g c =
+    let there = found c.self.inside.bodies c.index-bodies-index.result c.self.invariant c.self.view_is c.in-Some-Returning.field-0-is c.in-Some-Returning.ensures.some
+    c.as_mut_slice-bodies.ensures.value c.as_mut_slice-bodies.ensures.len in
+    record { returning = there.place; live = there.live }
+
 pub overflow_add-self : goal.overflow_add-self
-overflow_add-self g c = omega (arith, fits_back c.self.invariant.0 (found c.self.view_is c.in-Some-Returning.field-0-is c.in-Some-Returning.ensures.some) refl)
+overflow_add-self g c = let there = found c.self.inside.bodies c.index-bodies-index.result c.self.invariant c.self.view_is c.in-Some-Returning.field-0-is c.in-Some-Returning.ensures.some
+    c.as_mut_slice-bodies.ensures.value c.as_mut_slice-bodies.ensures.len in
+    omega (arith, there.size, there.fits, c.length-length.ensures.length, c.self.invariant.0.budget_is)
 
 pub invariant_of-self : goal.invariant_of-self
-invariant_of-self g c = let there = found c.self.view_is c.in-Some-Returning.field-0-is c.in-Some-Returning.ensures.some in
-    let value = c.as_mut_slice-bodies.ensures.value in
-    rw (with_items_is c.self.inside.bodies c.end_return_at.new.bodies (c.end_return_at.auto.bodies ∙ c.as_mut_slice-bodies.ensures.len)) (
-      came_back g.F.FarStore.RETURNS c.self.inside.bodies.items c.end_return_at.new.bodies _ _ _ c.args.number c.self.invariant.0 there.inside there.place
-          (rw value at c.in-Ok.ensures.bytes) (rw value at c.in-Ok.ensures.here) (rw value at c.in-Ok.ensures.counts),
-      c.self.invariant.1,
-    )
+invariant_of-self g c =
+    let there = found c.self.inside.bodies c.index-bodies-index.result c.self.invariant c.self.view_is c.in-Some-Returning.field-0-is c.in-Some-Returning.ensures.some
+    c.as_mut_slice-bodies.ensures.value c.as_mut_slice-bodies.ensures.len in
+    let long = as_long g.F.FarStore.RETURNS _ _ c.in-Ok.ensures.done in
+    put_back c.self.invariant there (returned_as g.F.FarStore.RETURNS _ _ c.in-Ok.ensures.done) refl (rw long there.short) (omega (arith, long))
 
 pub invariant_of-self-in-Err : goal.invariant_of-self-in-Err
-invariant_of-self-in-Err g c = placed_back c.self.inside.bodies c.end_return_at.new.bodies Far c.self.invariant
-    (found c.self.view_is c.in-Some-Returning.field-0-is c.in-Some-Returning.ensures.some)
-    c.as_mut_slice-bodies.ensures.value c.end_return_at.auto.bodies c.as_mut_slice-bodies.ensures.len c.in-Err.ensures.same c.in-Err.ensures.far
-    c.in-Err.ensures.counts (let count = rw (← c.self.view_is) at c.length-length.ensures.length in omega (arith, count))
+invariant_of-self-in-Err g c =
+    let there = found c.self.inside.bodies c.index-bodies-index.result c.self.invariant c.self.view_is c.in-Some-Returning.field-0-is c.in-Some-Returning.ensures.some
+    c.as_mut_slice-bodies.ensures.value c.as_mut_slice-bodies.ensures.len in
+    put_back c.self.invariant there c.in-Err.ensures.failed refl there.short (omega (arith, there.size, c.length-length.ensures.length))
 
 pub returns-in-Ok : goal.returns-in-Ok
 returns-in-Ok g c =
-    let value = c.as_mut_slice-bodies.ensures.value in
-    let old : StoreState = record {
-      objects = map bytes_in c.self.inside.bodies.items;
-      places = map place_in c.self.inside.bodies.items;
-      windows = c.self.inside.windows;
-      budget = c.self.inside.budget;
-      faults = g.F.FarStore.faults_of c.self.inside.store;
-    } in
-    rw (
-      ← c.self.view_is,
-      with_items_is c.self.inside.bodies c.end_return_at.new.bodies (c.end_return_at.auto.bodies
-          ∙ c.as_mut_slice-bodies.ensures.len),
-    ) (record {
+    let there = found c.self.inside.bodies c.index-bodies-index.result c.self.invariant c.self.view_is c.in-Some-Returning.field-0-is c.in-Some-Returning.ensures.some
+    c.as_mut_slice-bodies.ensures.value c.as_mut_slice-bodies.ensures.len in
+    let now = seen there (returned_as g.F.FarStore.RETURNS _ _ c.in-Ok.ensures.done) in
+    rw (← c.self.view_is, now.bytes, now.places, now.sent, ← there.parcel, there.again c.end_return.new.self.bytes) (record {
       ends = (
-        rw (c.in-Some-Returning.field-0-is, ← c.self.view_is) at c.in-Some-Returning.ensures.some,
-        comes_back g.F.FarStore.RETURNS old (map bytes_in c.end_return_at.new.bodies) (map place_in c.end_return_at.new.bodies)
-            (g.F.FarStore.faults_of c.end_return_at.new.store) c.args.number
-            (rw value at c.in-Ok.ensures.bytes) (rw value at c.in-Ok.ensures.here) c.in-Ok.ensures.calm,
+        there.stands,
+        comes_back g.F.FarStore.RETURNS _ _ c.args.number _ c.end_return.new.self there.bytes (there.again c.end_return.new.self.bytes) c.in-Ok.ensures.done
+            c.in-Ok.ensures.calm,
       );
-      asks = (rw value at c.in-Ok.ensures.gets, rw value at c.in-Ok.ensures.sent);
+      asks = (c.in-Ok.ensures.gets, refl);
     })
 
 pub returns-in-Err : goal.returns-in-Err
-returns-in-Err g c = rw (← c.self.view_is, with_items_is c.self.inside.bodies _ (c.end_return_at.auto.bodies ∙ c.as_mut_slice-bodies.ensures.len)) (record {
-  ends = seen_placed _ Far (found c.self.view_is c.in-Some-Returning.field-0-is c.in-Some-Returning.ensures.some) c.in-Err.ensures.fault
-      c.as_mut_slice-bodies.ensures.value c.in-Err.ensures.same c.in-Err.ensures.far;
-  asks = rw (← c.as_mut_slice-bodies.ensures.value) (c.in-Err.ensures.vain, c.in-Err.ensures.kept);
-})
+returns-in-Err g c =
+    let there = found c.self.inside.bodies c.index-bodies-index.result c.self.invariant c.self.view_is c.in-Some-Returning.field-0-is c.in-Some-Returning.ensures.some
+    c.as_mut_slice-bodies.ensures.value c.as_mut_slice-bodies.ensures.len in
+    let now = seen there c.in-Err.ensures.failed in
+    rw (← c.self.view_is, now.bytes, now.places, now.sent, there.bytes_stay, there.sent_stays, ← there.parcel, ← there.bytes) (record {
+      ends = ((there.live, there.stands.1), c.in-Err.ensures.fault, refl);
+      asks = (c.in-Err.ensures.vain, refl);
+    })

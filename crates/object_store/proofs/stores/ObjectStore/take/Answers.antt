@@ -1,33 +1,35 @@
-use Rattle.std.proofs.Common.{◌∙◌, map, refl, arith}
-use Rattle.std.proofs.lemmas.List.{with_items_is}
+use Rattle.std.proofs.Common.{map, refl, ap, ◌∙◌, arith}
 use Rattle.object_store.specs.Stores.{StoreWithin}
 use Rattle.object_store.specs.Bodies.{bytes_in, place_in, sent_in}
-use Rattle.object_store.proofs.Keeping.{emptied}
-use Rattle.object_store.proofs.Placing.{found, fits_back}
+use Rattle.object_store.proofs.Found.{found, seen, put_back}
 use Rattle.object_store.proofs.Leasing.{is_out, seen_again}
 use Rattle.object_store.proofs.stores.ObjectStore.take.Goals as goal
 
+pub take-taken-requires : goal.take-taken-requires
+take-taken-requires g c =
+    let there = found c.self.inside.bodies c.index-bodies-index.result c.self.invariant c.self.view_is refl c.requires c.as_mut_slice-bodies.ensures.value c.as_mut_slice-bodies.ensures.len in
+    record { here = there.place }
+
 pub overflow_add-self : goal.overflow_add-self
-overflow_add-self g c = let count = rw (← c.self.view_is) at c.length-gained.ensures.length in
-    omega (arith, count, fits_back c.self.invariant.0 (found c.self.view_is refl c.requires) refl)
+overflow_add-self g c =
+    let there = found c.self.inside.bodies c.index-bodies-index.result c.self.invariant c.self.view_is refl c.requires c.as_mut_slice-bodies.ensures.value c.as_mut_slice-bodies.ensures.len in
+    omega (arith, there.size, there.fits, c.length-gained.ensures.length, c.self.invariant.0.budget_is)
 
 pub invariant_of-self : goal.invariant_of-self
-invariant_of-self g c = let there = found c.self.view_is refl c.requires in
-    let count = rw (← c.self.view_is) at c.length-gained.ensures.length in
-    let value = c.as_mut_slice-bodies.ensures.value in
-    rw (with_items_is c.self.inside.bodies c.take_at-taken.new.bodies (c.take_at-taken.auto.bodies ∙ c.as_mut_slice-bodies.ensures.len)) (
-      emptied c.self.inside.bodies.items c.take_at-taken.new.bodies _ _ _ _ c.args.number c.self.invariant.0 there.inside
-          (rw value at c.take_at-taken.ensures.bytes) (rw value at c.take_at-taken.ensures.places) (rw value at c.take_at-taken.ensures.counts) there.place
-          (omega (arith, count)),
-      c.self.invariant.1,
-    )
+invariant_of-self g c =
+    let there = found c.self.inside.bodies c.index-bodies-index.result c.self.invariant c.self.view_is refl c.requires c.as_mut_slice-bodies.ensures.value c.as_mut_slice-bodies.ensures.len in
+    put_back c.self.invariant there c.take-taken.ensures.left refl (omega arith) (omega (arith, there.size, c.length-gained.ensures.length))
+
+pub returns-clause-without : goal.returns-clause-without
+returns-clause-without g c =
+    let there = found c.self.inside.bodies c.index-bodies-index.result c.self.invariant c.self.view_is refl c.requires c.as_mut_slice-bodies.ensures.value c.as_mut_slice-bodies.ensures.len in
+    let now = seen there c.take-taken.ensures.left in
+    rw (← c.self.view_is, now.bytes, now.places, now.sent, there.place_stays) refl
 
 pub returns-clause-seen : goal.returns-clause-seen
 returns-clause-seen g c =
-    let value = c.as_mut_slice-bodies.ensures.value in
-    let bytes = rw value at c.take_at-taken.ensures.bytes in
-    let places = rw value at c.take_at-taken.ensures.places in
-    let sent = rw value at c.take_at-taken.ensures.sent in
+    let there = found c.self.inside.bodies c.index-bodies-index.result c.self.invariant c.self.view_is refl c.requires c.as_mut_slice-bodies.ensures.value c.as_mut_slice-bodies.ensures.len in
+    let now = seen there c.take-taken.ensures.left in
     let old : StoreWithin _ = record {
       state = record {
         objects = map bytes_in c.self.inside.bodies.items;
@@ -39,22 +41,13 @@ returns-clause-seen g c =
       far = c.self.inside.store;
       sent = map sent_in c.self.inside.bodies.items;
     } in
-    rw (
-      ← c.self.view_is,
-      with_items_is c.self.inside.bodies c.take_at-taken.new.bodies (c.take_at-taken.auto.bodies ∙ c.as_mut_slice-bodies.ensures.len),
-      bytes,
-      places,
-      sent,
-    )
-    (seen_again old c.args.number c.take_at-taken.result (rw value at c.take_at-taken.ensures.taken) (rw value at c.take_at-taken.ensures.kept))
+    rw (← c.self.view_is, now.bytes, now.places, now.sent, there.place_stays)
+    (seen_again old c.args.number c.take-taken.result (ap bytes_in c.take-taken.ensures.taken ∙ there.bytes) (ap sent_in c.take-taken.ensures.taken ∙ there.sent))
 
 pub returns-clause-out : goal.returns-clause-out
 returns-clause-out g c =
-    let value = c.as_mut_slice-bodies.ensures.value in
-    let bytes = rw value at c.take_at-taken.ensures.bytes in
-    let places = rw value at c.take_at-taken.ensures.places in
-    let sent = rw value at c.take_at-taken.ensures.sent in
-    let there = found c.self.view_is refl c.requires in
-    rw (with_items_is c.self.inside.bodies c.take_at-taken.new.bodies (c.take_at-taken.auto.bodies ∙ c.as_mut_slice-bodies.ensures.len), bytes, places, sent)
-    (is_out c.self.inside.bodies.items c.self.inside.windows _ _ _ _ c.args.number c.take_at-taken.result c.self.invariant.0 there.inside there.live there.place
-    (rw value at c.take_at-taken.ensures.taken) c.take_at-taken.ensures.there)
+    let there = found c.self.inside.bodies c.index-bodies-index.result c.self.invariant c.self.view_is refl c.requires c.as_mut_slice-bodies.ensures.value c.as_mut_slice-bodies.ensures.len in
+    let now = seen there c.take-taken.ensures.left in
+    rw (now.bytes, now.places, now.sent, there.place_stays)
+    (is_out c.self.inside.bodies.items c.self.inside.windows _ _ _ _ c.args.number c.take-taken.result c.self.invariant.0 there.inside there.stands.0
+    there.stands.1 (ap bytes_in c.take-taken.ensures.taken ∙ there.bytes) (ap place_in c.take-taken.ensures.taken ∙ there.place))
