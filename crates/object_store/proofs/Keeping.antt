@@ -1,15 +1,15 @@
 -- A store stays as it is always kept.
-use Rattle.std.proofs.Common.{◌≡◌, ℕ, ◌+◌, ◌<◌, ◌≤◌, zero, suc, false, List, [], ◌∷◌, ◌++◌, length, slice_index_or, map, set, take, drop, replicate}
+use Rattle.std.proofs.Common.{◌≡◌, ℕ, ◌+◌, ◌<◌, ◌≤◌, zero, suc, false, List, [], ◌∷◌, ◌++◌, length, slice_index_or, map, set, replicate}
 use Rattle.std.proofs.Common.{None, refl, sym, ap, ◌∙◌, arith}
 use Rattle.std.proofs.lemmas.List.{length-map, map-append, map-set}
-use Rattle.std.proofs.Math.Seq.{take-append_seam, map-set_same}
+use Rattle.std.proofs.Math.Seq.{map-set_same}
 use Rattle.placement.specs.declared.places.Place.{Place}
 use Rattle.placement.specs.declared.places.Place.TheVariants.{Here}
 use Rattle.memory.specs.Objects.{AreObjects, bytes_of, with_bytes, object_limit, object_bytes}
 use Rattle.object_store.specs.Stores.{place_of, near_length, near_bytes}
 use Rattle.scopes.specs.Windows.{window_count}
-use Rattle.object_store.specs.Bodies.{Kept, CountsHold, IsKeptStore, bytes_in, place_in, scopes_in}
-use Rattle.object_store.proofs.Objects_kept.{objects_stay, objects_made, objects_filled}
+use Rattle.object_store.specs.Bodies.{Kept, IsKeptStore, bytes_in, place_in, scopes_in}
+use Rattle.object_store.proofs.Objects_kept.{objects_made, objects_filled}
 use Rattle.object_store.proofs.Listed.{body_at, no_body}
 use Rattle.object_store.proofs.Counting.{uncounted_more, counts_at_first, none_held}
 
@@ -80,19 +80,6 @@ changed bodies windows budget spare left n b k h p scopes short room =
       budget_is = omega (arith, g, k.budget_is, room);
     }
 
--- with other bytes, as many
-pub filled : (old new : List Kept) (windows after : List (List ℕ)) (budget spare n : ℕ) (b : List ℕ) → IsKeptStore old windows budget spare → n < length old
-    → length b ≡ length (bytes_of (map bytes_in old) n) → map bytes_in new ≡ with_bytes (map bytes_in old) n b → map place_in new ≡ map place_in old
-    → CountsHold (map scopes_in new) after → length after ≡ window_count → place_of (map place_in old) n ≡ Here → IsKeptStore new after budget spare
-filled old new windows after budget spare n b k h l e q s w f =
-    let g = rw f at (near_filled (map bytes_in old) (map place_in old) n b (in_bytes old n h) (same_length old)) in
-    record {
-      objects = rw e (objects_stay (map bytes_in old) n b k.objects l);
-      counts = s;
-      windows_are = w;
-      budget_is = rw (e, q) (omega (arith, g, k.budget_is, l));
-    }
-
 pub made : (old new : List Kept) (body : Kept) (windows : List (List ℕ)) (budget spare left : ℕ) → IsKeptStore old windows budget spare
     → new ≡ old ++ body ∷ [] → body.place ≡ Here → body.scopes ≡ 0
     → length old ≤ object_limit → length body.bytes ≤ object_bytes → left + length body.bytes ≡ spare → IsKeptStore new windows budget left
@@ -107,10 +94,6 @@ made old new body windows budget spare left k e p s room short l =
       windows_are = k.windows_are;
       budget_is = rw (bytes, places, p) (omega (arith, g, k.budget_is, l));
     }
-
--- a list that is written back whole
-pub all_new : {X : Type 0} (n : ℕ) (xs ws : List X) → length ws ≡ n → take n (ws ++ drop (length ws) xs) ≡ ws
-all_new n xs ws e = rw (sym e) (take-append_seam ws (drop (length ws) xs))
 
 -- ---- at first
 

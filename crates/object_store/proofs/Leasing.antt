@@ -1,6 +1,6 @@
 -- An object that is out of a store.
 use Rattle.std.proofs.Common.{◌≡◌, ℕ, ◌<◌, nat_eq, Bool, true, false, ◌||◌, ◌++◌, List, [], ◌∷◌, Vec, length, map, get_or, set, refl, sym, ap, ◌∙◌, cond, arith, inl, inr}
-use Rattle.std.proofs.lemmas.List.{length-map, length-set, set-set, set-get_or, set_past, get_or_default, get_or_past, get_or-set_same}
+use Rattle.std.proofs.lemmas.List.{length-map, length-set, set-set, set-get_or, get_or_default, get_or-set_same}
 use Rattle.std.specs.List.{list_any}
 use Rattle.std.proofs.lemmas.List.Folds.{list_any-append}
 use Rattle.std.proofs.lemmas.Bool.Decides.{nat_tests}
@@ -9,18 +9,16 @@ use Rattle.isa_table.specs.declared.instr.Size.TheVariants.{Byte, Half, Word, Do
 use Rattle.isa_table.specs.Table.{size_bytes}
 use Rattle.placement.specs.declared.places.Place.TheVariants.{Here}
 use Rattle.memory.specs.declared.access.Op.{Op}
-use Rattle.memory.specs.declared.access.Reach.{Reach}
-use Rattle.memory.specs.declared.access.Reach.TheVariants.{Done, Away, Busy, Outside, Worn}
+use Rattle.memory.specs.declared.access.Reach.TheVariants.{Done}
 use Rattle.memory.specs.Access.{IsInside, answer, after, count_of, size_of}
 use Rattle.memory.specs.Objects.{bytes_of, with_bytes}
-use Rattle.memory.proofs.Lengths.{length-after}
 use Rattle.memory.proofs.Accesses.{lengths}
 use Rattle.scopes.specs.Windows.{holds, noted, without_oldest}
 use Rattle.object_store.specs.Asking.{clean_after}
 use Rattle.object_store.specs.Stores.{StoreState, StoreWithin, Sent, StandsAt, place_of, sent_of, unsent, window_of}
 use Rattle.object_store.specs.Bodies.{Kept, IsKeptStore, bytes_in, place_in, sent_in}
 use Rattle.object_store.specs.Lending.{TouchesWithin}
-use Rattle.object_store.specs.Leases.{IsOut, IsIdle, IsLeased, IsLeasing, filled, without}
+use Rattle.object_store.specs.Leases.{IsOut, IsLeased, IsLeasing, filled, without}
 use Rattle.object_store.proofs.Keeping.{near_filled, in_bytes, not_zero, same_length}
 use Rattle.object_store.proofs.Listed.{body_at, no_body, at_bytes, at_place}
 
@@ -31,7 +29,7 @@ some_bytes Half = omega arith
 some_bytes Word = omega arith
 some_bytes Double = omega arith
 
-reaches_some : (op : Op) → 0 < count_of op
+pub reaches_some : (op : Op) → 0 < count_of op
 reaches_some op = some_bytes (size_of op.action)
 
 -- ---- the list
@@ -139,20 +137,6 @@ held_after windows who n h = rw (get_or-set_same windows who (noted n (window_of
 
 -- ---- accesses to the object that is out
 
--- The bytes that are seen of it, where no object is out too.
-seen_bytes : {X : Type 0} (who : ℕ) (s : StoreWithin X) (n : ℕ) (k : Kept) → IsLeasing who s n k → bytes_of (with_bytes s.state.objects n k.bytes) n ≡ k.bytes
-seen_bytes who s n k (h, inl i) = get_or_past (set s.state.objects n k.bytes) n [] (let e = length-set s.state.objects n k.bytes in omega (arith, e, i.past))
-    ∙ sym i.none
-seen_bytes who s n k (h, inr l) = get_or-set_same s.state.objects n k.bytes [] l.out.inside
-
-pub told_outside : {X : Type 0} (who : ℕ) (s : StoreWithin X) (n : ℕ) (k : Kept) (op : Op) → IsLeasing who s n k → (IsInside op (length k.bytes) → ⊥)
-    → TouchesWithin who (filled s n k) n op Outside (filled s n k)
-told_outside who s n k op l h = record {
-  touches = (λ i. h (rw (seen_bytes who s n k l) at i), refl);
-  far = refl;
-  sent = refl;
-}
-
 no_room : (op : Op) → IsInside op 0 → ⊥
 no_room op h = let e = reaches_some op in omega (arith, h, e)
 
@@ -181,59 +165,12 @@ told_done who s n k new op x l i a e =
       sent = sym sent;
     })
 
-pub still_leased : {X : Type 0} (who : ℕ) (s : StoreWithin X) (n : ℕ) (k new : Kept) (op : Op) → IsLeased who s n k → IsInside op (length k.bytes)
-    → new ≡ record k { bytes = after op k.bytes; clean = clean_after op.action k.clean } → IsLeased who s n new
-still_leased who s n k new op l i e =
-    let long : length (after op k.bytes) ≡ length k.bytes = length-after op k.bytes i in
-    rw e (record {
-      out = record {
-        inside = l.out.inside;
-        sent = l.out.sent;
-        numbered = l.out.numbered;
-        none = l.out.none;
-        place = l.out.place;
-        there = l.out.there;
-        short = rw long l.out.short;
-        room = rw long l.out.room;
-      };
-      live = rw long l.live;
-      window = l.window;
-      held = l.held;
-    })
-
 -- ---- accesses to other objects
-
--- none is out, so that the store is seen as it is
-pub idle_seen : {X : Type 0} (s : StoreWithin X) (n : ℕ) (k : Kept) → IsIdle s n k → filled s n k ≡ s
-idle_seen s n k i = rw (set_past s.state.objects n k.bytes i.past, set_past s.sent n (sent_in k) i.unsent) refl
 
 -- an object with bytes is out
 pub out_of : {X : Type 0} (who : ℕ) (s : StoreWithin X) (n : ℕ) (k : Kept) → IsLeasing who s n k → 0 < length k.bytes → IsLeased who s n k
 out_of who s n k (h, inl i) l = let e = rw i.none at l in absurd (omega (arith, e))
 out_of who s n k (h, inr l) z = l
-
--- and without bytes none is
-pub none_out : {X : Type 0} (who : ℕ) (s : StoreWithin X) (n : ℕ) (k : Kept) → IsLeasing who s n k → length k.bytes ≡ 0 → filled s n k ≡ s
-none_out who s n k (h, inl i) l = idle_seen s n k i
-none_out who s n k (h, inr o) l = absurd (omega (arith, o.live, l))
-
--- and it stays so
-pub still_idle : {X : Type 0} (who : ℕ) (s new : StoreWithin X) (at n : ℕ) (k : Kept) (op : Op) (r : Reach) → TouchesWithin who s n op r new → IsIdle s at k
-    → IsIdle new at k
-still_idle who s new at n k op Outside t i =
-    record { past = rw (ap (λ (x : StoreState). x.objects) t.touches.1) i.past; unsent = rw t.sent i.unsent; none = i.none }
-still_idle who s new at n k op Away t i =
-    record { past = rw (ap (λ (x : StoreState). x.objects) t.touches.2) i.past; unsent = rw t.sent i.unsent; none = i.none }
-still_idle who s new at n k op Busy t i = absurd t.touches
-still_idle who s new at n k op Worn t i = absurd t.touches
-still_idle who s new at n k op (Done x) t i =
-    let objects = length-set s.state.objects n (after op (bytes_of s.state.objects n)) in
-    let sent = length-set s.sent n (record (sent_of s.sent n) { clean = clean_after op.action (sent_of s.sent n).clean }) in
-    record {
-      past = rw (ap (λ (x : StoreState). x.objects) t.touches.3) (omega (arith, objects, i.past));
-      unsent = rw t.sent (omega (arith, sent, i.unsent));
-      none = i.none;
-    }
 
 -- the object that was reached is here, and in scope
 pub record IsReached {X : Type 0} (who : ℕ) (s : StoreWithin X) (n : ℕ) : Type 0 where

@@ -6,7 +6,7 @@ use Rattle.std.proofs.Math.Seq.{map-set_same}
 use Rattle.placement.specs.declared.places.Place.TheVariants as place
 use Rattle.memory.specs.Objects.{bytes_of}
 use Rattle.object_store.specs.Bodies.{Kept, IsCounted, bytes_in, place_in, scopes_in, sent_in}
-use Rattle.object_store.specs.Stores.{Sent, unsent, place_of, sent_of}
+use Rattle.object_store.specs.Stores.{place_of, sent_of}
 
 -- no object
 abbrev pub no_body : Kept
@@ -64,27 +64,6 @@ counted_at bodies i d b f h e = record {
   bytes = map-set_same bytes_in bodies i b d (ap bytes_in e);
   places = map-set_same place_in bodies i b d (ap place_in e);
   sent = map-set_same sent_in bodies i b d (ap sent_in e);
-}
-
--- with other bytes, of which the far store has something else
-pub record IsChanged (old : List Kept) (n : ℕ) (f : List ℕ → List ℕ) (g : Sent → Sent) (new : List Kept) : Type 0 where
-  pub bytes : map bytes_in new ≡ set (map bytes_in old) n (f (get_or (map bytes_in old) n []))
-  pub places : map place_in new ≡ map place_in old
-  pub counts : map scopes_in new ≡ map scopes_in old
-  pub sent : map sent_in new ≡ set (map sent_in old) n (g (get_or (map sent_in old) n unsent))
-
-pub changed_at : (bodies : List Kept) (i : ℕ) (d b : Kept) (f : List ℕ → List ℕ) (g : Sent → Sent) → i < length bodies
-    → b ≡ record (get_or bodies i d) {
-      bytes = f (get_or bodies i d).bytes;
-      parcel = (g (sent_in (get_or bodies i d))).parcel;
-      clean = (g (sent_in (get_or bodies i d))).clean;
-    }
-    → IsChanged bodies i f g (set bodies i b)
-changed_at bodies i d b f g h e = record {
-  bytes = map-set bytes_in bodies i b ∙ ap (set (map bytes_in bodies) i) (ap bytes_in e ∙ ap f (bytes_at bodies i d h));
-  places = map-set_same place_in bodies i b d (ap place_in e);
-  counts = map-set_same scopes_in bodies i b d (ap scopes_in e);
-  sent = map-set sent_in bodies i b ∙ ap (set (map sent_in bodies) i) (ap sent_in e ∙ ap g (sym (get_or-map sent_in bodies i d unsent h)));
 }
 
 pub ruleset at_steps = (bytes_at, no_bytes_at, place_at)

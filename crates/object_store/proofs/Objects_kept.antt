@@ -1,26 +1,7 @@
--- Objects stay objects where one is made or freed.
+-- Objects stay objects where one is made, or gets other bytes.
 use Rattle.std.proofs.Common.{◌≡◌, ℕ, ◌<◌, ◌≤◌, zero, suc, List, [], ◌∷◌, ◌++◌, length, get_or, set, refl, length-append, arith, ◌∙◌}
 use Rattle.std.proofs.lemmas.List.{get_or_append_left, length-set}
-use Rattle.memory.specs.Objects.{AreObjects, bytes_of, with_bytes, object_limit, object_bytes}
-use Rattle.memory.proofs.Lengths.{length-set_at}
-
-empty : (xs : List ℕ) → length xs ≡ 0 → xs ≡ []
-empty [] h = refl
-empty (x ∷ xs) h = absurd (omega arith)
-
--- objects stay objects where one gets as many other bytes
-pub objects_stay : (objects : List (List ℕ)) (n : ℕ) (b : List ℕ) → AreObjects objects → length b ≡ length (bytes_of objects n)
-    → AreObjects (with_bytes objects n b)
-objects_stay objects n b o h =
-    let count = length-set objects n b in
-    let zeroth = length-set_at objects n 0 b h in
-    let none = o.none_at_zero in
-    record {
-      none_at_zero = empty (get_or (set objects n b) 0 []) (rw none at zeroth);
-      place_of_zero = omega (arith, o.place_of_zero);
-      limit = omega (arith, o.limit);
-      sizes = λ k. omega (arith, length-set_at objects n k b h, o.sizes k);
-    }
+use Rattle.memory.specs.Objects.{AreObjects, with_bytes, object_limit, object_bytes}
 
 -- objects stay objects where one is made
 short_end : (objects : List (List ℕ)) (b : List ℕ) (k n : ℕ) → length (get_or objects k []) ≤ n → length b ≤ n → length (get_or (objects ++ b ∷ []) k []) ≤ n

@@ -1,10 +1,8 @@
-//! One object of a list: whether an access can be done, and what is done to it.
-ghost use Rattle.std.specs.Prelude.{◌≡◌, ◌<◌, length, map, set, None, IfSome, IsSome};
-ghost use Rattle.memory.specs.Access.{answer, after};
-ghost use Rattle.memory.specs.Objects.{Reaches, bytes_of, with_bytes};
-ghost use Rattle.object_store.specs.Stores.{place_of, sent_of};
-ghost use Rattle.object_store.specs.Asking.{clean_after};
-ghost use Rattle.object_store.specs.Bodies.{bytes_in, place_in, scopes_in, sent_in};
+//! One object of a list: how long it is, where it is, and whether an access can be done.
+ghost use Rattle.std.specs.Prelude.{◌≡◌, ◌<◌, length, map, None, IfSome, IsSome};
+ghost use Rattle.memory.specs.Objects.{bytes_of};
+ghost use Rattle.object_store.specs.Stores.{place_of};
+ghost use Rattle.object_store.specs.Bodies.{bytes_in, place_in};
 ghost use Rattle.object_store.specs.Standings.{Stands, StandsRange};
 ghost use Rattle.placement.specs.declared.places.Place.TheVariants as place;
 
@@ -90,21 +88,4 @@ pub fn stand_range<F: FarStore>(
         Place::Here => Standing::Here,
         _ => Standing::Away,
     }
-}
-
-/// Does an access on an object.
-#[tactic(auto, using(crate::proofs::Listed::at_steps))]
-#[inline(always)]
-pub fn act_at<F: FarStore>(bodies: &mut [ObjectBody<F>], number: usize, op: &Op) -> u64
-    requires found { number < length bodies.old }
-    requires here { place_of (map place_in bodies.old) number ≡ place.Here }
-    requires inside { Reaches (map bytes_in bodies.old) number op.now }
-    ensures answer { result ≡ answer op.now (bytes_of (map bytes_in bodies.old) number) }
-    ensures bytes { map bytes_in bodies.new ≡ with_bytes (map bytes_in bodies.old) number (after op.now (bytes_of (map bytes_in bodies.old) number)) }
-    ensures places { map place_in bodies.new ≡ map place_in bodies.old }
-    ensures counts { map scopes_in bodies.new ≡ map scopes_in bodies.old }
-    ensures sent { map sent_in bodies.new ≡ set (map sent_in bodies.old) number
-        (record (sent_of (map sent_in bodies.old) number) { clean = clean_after op.now.action (sent_of (map sent_in bodies.old) number).clean }) }
-{
-    bodies[number].act(op)
 }

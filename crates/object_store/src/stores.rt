@@ -16,7 +16,7 @@ use crate::bodies::ObjectBody;
 use crate::errors::{GetError, MakeError, PartsError, PutError};
 use crate::parts::{Parts, first_away, from_one, take_all};
 use crate::scoping::{close, note};
-use crate::standing::{Standing, act_at, length_at, place_at, stand, stand_range};
+use crate::standing::{Standing, length_at, place_at, stand, stand_range};
 use far_store::FarStore;
 use memory::{Memory, OBJECT_LIMIT, Op, Reach};
 use placement::{Moved, Place};
@@ -251,8 +251,8 @@ impl<F: FarStore> ObjectStore<F> {
             Standing::Outside => Reach::Outside,
             Standing::Away => Reach::Away,
             Standing::Here => {
-                let answer = act_at(self.bodies.as_mut_slice(), index, op);
                 let bodies = self.bodies.as_mut_slice();
+                let answer = bodies[index].act(op);
                 note(bodies, &mut self.windows, who, number);
                 Reach::Done(answer)
             }

@@ -1,30 +1,54 @@
-use Rattle.std.proofs.Common.{◌≡◌, ◌<◌, ◌++◌, ◌∙◌, length, map, take, drop, arith, rules}
-use Rattle.std.proofs.lemmas.List.{with_items_is}
-use Rattle.placement.specs.declared.places.Place.TheVariants.{Here}
-use Rattle.memory.specs.Access.{after}
-use Rattle.memory.specs.Objects.{Reaches, bytes_of}
-use Rattle.object_store.specs.Stores.{place_of}
-use Rattle.object_store.specs.Bodies.{bytes_in, place_in}
+use Rattle.std.proofs.Common.{refl, arith}
 use Rattle.memory.proofs.Lengths.{length-after}
-use Rattle.object_store.proofs.Keeping.{all_new, filled}
+use Rattle.object_store.proofs.Found.{found_for, put_there, seen_held, back_held}
 use Rattle.object_store.proofs.stores.ObjectStore.touch.Goals as goal
+
+pub note-requires-clause-counts : goal.note-requires-clause-counts
+note-requires-clause-counts g c =
+    let there = found_for c.self.inside.bodies c.index-bodies-index.result c.args.op.now c.self.invariant c.self.view_is
+    (rw c.as_slice.ensures.value at c.in-Here.ensures.stands) c.as_mut_slice-bodies.ensures.value c.as_mut_slice-bodies.ensures.len in
+    let long = length-after c.args.op.now _ there.0 in
+    let old = put_there {left = c.self.inside.spare} c.self.invariant there.1 c.act-answer.ensures.new refl (rw long there.1.short)
+    (rw there.1.place (omega (arith, long))) in
+    old.counts
 
 pub invariant_of-self : goal.invariant_of-self
 invariant_of-self g c =
-    let value = c.as_mut_slice.ensures.value in
-    let first = with_items_is c.self.inside.bodies c.act_at-answer.new.bodies (omega (arith, c.act_at-answer.auto.bodies, c.as_mut_slice.ensures.len)) in
-    let again = c.as_mut_slice-bodies.ensures.value ∙ first in
-    let second = all_new c.self.inside.bodies.len
-    (take c.self.inside.bodies.len (c.act_at-answer.new.bodies ++ drop (length c.act_at-answer.new.bodies) c.self.inside.bodies.items)) c.note.new.bodies
-    (omega (arith, c.note.auto.bodies, c.as_mut_slice-bodies.ensures.len)) in
-    let found : c.args.number < length c.self.inside.bodies.items = search rules in
-    let from : place_of (map place_in c.self.inside.bodies.items) c.args.number ≡ Here = search rules in
-    let inside : Reaches (map bytes_in c.self.inside.bodies.items) c.args.number c.args.op.now = search rules in
-    rw second (
-      filled c.self.inside.bodies.items c.note.new.bodies _ c.note.new.windows _ _ c.args.number
-          (after c.args.op.now (bytes_of (map bytes_in c.self.inside.bodies.items) c.args.number)) c.self.invariant.0 found
-          (length-after c.args.op.now _ inside) (rw again at c.note.ensures.bytes ∙ rw value at c.act_at-answer.ensures.bytes)
-          (rw again at c.note.ensures.places ∙ rw value at c.act_at-answer.ensures.places)
-          c.note.ensures.counts (omega (arith, c.note.auto.windows, c.self.invariant.0.windows_are)) from,
-      c.self.invariant.1,
-    )
+    let there = found_for c.self.inside.bodies c.index-bodies-index.result c.args.op.now c.self.invariant c.self.view_is
+    (rw c.as_slice.ensures.value at c.in-Here.ensures.stands) c.as_mut_slice-bodies.ensures.value c.as_mut_slice-bodies.ensures.len in
+    let long = length-after c.args.op.now _ there.0 in
+    let old = put_there {left = c.self.inside.spare} c.self.invariant there.1 c.act-answer.ensures.new refl (rw long there.1.short)
+    (rw there.1.place (omega (arith, long))) in
+    back_held c.self.invariant there.1 (record {
+      long = c.note.auto.bodies;
+      bytes = c.note.ensures.bytes;
+      places = c.note.ensures.places;
+      sent = c.note.ensures.sent;
+    }) old c.note.ensures.counts (omega (arith, c.note.auto.windows, c.self.invariant.0.windows_are))
+
+pub returns-in-Here : goal.returns-in-Here
+returns-in-Here g c =
+    let there = found_for c.self.inside.bodies c.index-bodies-index.result c.args.op.now c.self.invariant c.self.view_is
+    (rw c.as_slice.ensures.value at c.in-Here.ensures.stands) c.as_mut_slice-bodies.ensures.value c.as_mut_slice-bodies.ensures.len in
+    let now = seen_held there.1 c.act-answer.ensures.new (record {
+      long = c.note.auto.bodies;
+      bytes = c.note.ensures.bytes;
+      places = c.note.ensures.places;
+      sent = c.note.ensures.sent;
+    }) in
+    rw (
+      ← c.self.view_is,
+      now.bytes,
+      now.places,
+      now.sent,
+      c.note.ensures.windows,
+      there.1.place,
+      there.1.place_stays,
+      ← there.1.parcel,
+      ← there.1.clean,
+      ← there.1.bytes,
+    ) (record {
+      touches = (there.0, there.1.stands.1, c.act-answer.ensures.answer, refl);
+      far = refl;
+      sent = refl;
+    })
