@@ -258,8 +258,10 @@ impl<F: FarStore> ObjectBody<F> {
         ensures answer { result ≡ answer op.now self.old.bytes }
         ensures new { self.new ≡ record self.old { bytes = after op.now self.old.bytes; clean = clean_after op.now.action self.old.clean } }
     {
-        // A compare-exchange can write, whatever it finds.
-        self.clean = self.clean && matches!(&op.action, Action::Load { .. });
+        // A compare-exchange can write, whatever it finds. A load doesn't write the mark again, since it is done more often.
+        if !matches!(&op.action, Action::Load { .. }) {
+            self.clean = false;
+        }
         act(self.bytes.as_mut_slice(), op)
     }
 
