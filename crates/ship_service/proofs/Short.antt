@@ -22,7 +22,7 @@ use Rattle.world.specs.declared.replies.Reply.{Reply}
 use Rattle.world.specs.declared.replies.Reply.TheVariants as reply
 use Rattle.console.specs.Replies.{IsShort}
 use Rattle.console.specs.Commands.{range_limit}
-use Rattle.console.proofs.CommandReading.{AsksShort, step_short, show_short, debug_short}
+use Rattle.console.proofs.CommandReading.{AsksShort, show_short}
 use Rattle.ship_service.specs.declared.replies.ServiceReply.{ServiceReply}
 use Rattle.ship_service.specs.declared.replies.ServiceReply.TheVariants.{Plain}
 use Rattle.ship_service.specs.Replies.{IsShortReply}
@@ -71,9 +71,9 @@ object_short old new n (object.Move m) told h short = move_short old.view.openin
 
 cell_short : (before after : CellState) (m : ℕ) (c : MachineCommand) (told : Reply) → AnswersCell c before m told after
     → AsksShort (event.Machine m c) → IsShort told
-cell_short before after m (Step way) told h short = subst IsShort (sym h.1) (step_short m h.0)
+cell_short before after m (Step way) told h short = subst IsShort (sym h.1) tt
 cell_short before after m (Show command) told h short = subst IsShort (sym h.1) (show_short m command h.2.0.debuggee h.0 h.2.2 short)
-cell_short before after m (Debug command) told h short = subst IsShort (sym h.1) (debug_short h.0)
+cell_short before after m (Debug command) told h short = subst IsShort (sym h.1) tt
 
 lent_short : (old new : SeatState) (before after : CellState) (m : ℕ) (c : MachineCommand) (told : Reply) → AnswersLent c old before m told new after
     → AsksShort (event.Machine m c) → IsShort told
