@@ -11,6 +11,7 @@ use Rattle.shared_objects.specs.declared.touching.Fetched.TheVariants as fetched
 use Rattle.machine.specs.MachineState.{MachineState}
 use Rattle.debugger.specs.declared.commands.MachineCommand.{MachineCommand}
 use Rattle.debugger.specs.declared.commands.MachineCommand.TheVariants.{Step, Show, Debug}
+use Rattle.debugger.specs.declared.replies.ShowReply.{ShowReply}
 use Rattle.workers.specs.Cells.{SeatState, CellState}
 use Rattle.workers.specs.TableNames.{Passage}
 use Rattle.world.specs.declared.events.Event.{Event}
@@ -58,8 +59,12 @@ get_tells_short old new n offset size told (inr h) short = subst IsShortReply (s
 no_bytes : (opening : List (List ℕ)) (n : ℕ) (m : Move) (b : List ℕ) → ServesMove opening n m (Plain (reply.Bytes b)) → ⊥
 no_bytes opening n m b h = grind arith
 
+no_show : (opening : List (List ℕ)) (n : ℕ) (m : Move) (k : ℕ) (s : ShowReply) → ServesMove opening n m (Plain (reply.Shown k s)) → ⊥
+no_show opening n m k s h = grind arith
+
 move_short : (opening : List (List ℕ)) (n : ℕ) (m : Move) (told : ServiceReply) → ServesMove opening n m told → IsShortReply told
 move_short opening n m (Plain (reply.Bytes b)) h = absurd (no_bytes opening n m b h)
+move_short opening n m (Plain (reply.Shown k s)) h = absurd (no_show opening n m k s h)
 move_short opening n m _ h = tt
 
 object_short : (old new : SeatState) (n : ℕ) (c : ObjectCommand) (told : ServiceReply) → ServesObject old n c told new
@@ -89,6 +94,7 @@ machine_short opening starts lent old new m c told (inr h) short =
 
 shipped_short : (start : Start) (code : List ℕ) (before after : CellState) (said : Reply) → ShipsCell start code before said after → IsShort said
 shipped_short start code before after (reply.Bytes b) h = absurd h
+shipped_short start code before after (reply.Shown k s) h = absurd h
 shipped_short start code before after _ h = tt
 
 ship_short : (opening : List (List ℕ)) (starts : List MachineState) (lent : Passage → Bool) (start : Start) (code : List ℕ) (told : ServiceReply)
