@@ -22,6 +22,6 @@ refused_shows_nothing n Outside old = refl
 refused_shows_nothing n Away old = refl
 refused_shows_nothing n Memory old = refl
 
-pub stack_shows_nothing : (m : ℕ) (why : StackError) (old : List ℕ) → old ≡ bytes_of (Some (refused_stack m why)) old
-stack_shows_nothing m stack_error.Missing old = refl
-stack_shows_nothing m stack_error.Outside old = refl
+pub stack_shows_nothing : (why : StackError) (old : List ℕ) → old ≡ bytes_of (Some (refused_stack why)) old
+stack_shows_nothing stack_error.Missing old = refl
+stack_shows_nothing stack_error.Outside old = refl

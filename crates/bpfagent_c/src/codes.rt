@@ -3,10 +3,11 @@ ghost use Rattle.std.specs.Prelude.{◌≡◌, ◌≢◌, ℕ, Some, IfSome, IfN
 ghost use Rattle.debugger.specs.declared.shown.State.{State};
 ghost use Rattle.machine.specs.declared.state.Stop.{Stop};
 ghost use Rattle.object_store.specs.declared.errors.GetError.{GetError};
-ghost use Rattle.world.specs.Answers.{refused_get};
+ghost use Rattle.world.specs.Answers.{refused_get, reply_to_move};
 ghost use Rattle.world.specs.Machines.{refused_stack};
-ghost use Rattle.bpfagent_c.specs.Codes.{code_of, code_of_back, code_of_end, code_of_fault, code_of_moved, code_of_place, code_of_reply};
-ghost use Rattle.bpfagent_c.specs.Codes.{code_of_state, code_of_step, code_of_stop, code_of_text, code_of_why, number_of_place, place_numbered, stop_of_state};
+ghost use Rattle.world.specs.declared.replies.Reply.{Reply};
+ghost use Rattle.bpfagent_c.specs.Codes.{code_of, code_of_back, code_of_end, code_of_fault, code_of_place, code_of_reply, code_of_state, code_of_step};
+ghost use Rattle.bpfagent_c.specs.Codes.{code_of_stop, code_of_text, code_of_why, number_of_place, place_numbered, stop_of_state};
 
 use crate::numbers::{
     AWAY, DAMAGED, DEPTH, EXIT, FAR, FAULT_FAR, FAULT_HERE, FULL, GOES_ON, HERE, HIT, IS_FAR,
@@ -15,7 +16,7 @@ use crate::numbers::{
     RETURNING, RUNNING, SCOPED, SPENT, STOP_OUTSIDE, STOPPED, WAITING, WORN,
 };
 use asm_grammar::Why as WrongText;
-use debugger::{Debugged, ShowReply, State, StepReply};
+use debugger::{State, StepReply};
 use far_store::StoreFault;
 use loader::Why;
 use machine::Stop;
@@ -37,30 +38,22 @@ fn code_of_reply(reply: &Reply) -> u32
     ensures { result ≡ code_of_reply reply.now }
 {
     match reply {
-        Reply::Freed { moved, .. } => code_of_moved(*moved, Place::Here),
-        Reply::Moved { kind, moved, .. } => code_of_moved(*moved, kind.back()),
-        Reply::Stepped { reply, .. } => code_of_step(*reply),
-        Reply::NoMemory
-        | Reply::Shown {
-            reply: ShowReply::NoMemory,
-            ..
-        } => NOMEM,
-        Reply::Full | Reply::Debugged(Debugged::Full) => FULL,
+        Reply::Ran { .. } => RAN,
+        Reply::Hit { .. } => HIT,
+        Reply::Waiting { .. } => WAITING,
+        Reply::Paused { .. } => PAUSED,
+        Reply::Stopped { .. } => STOPPED,
+        Reply::NoMemory => NOMEM,
+        Reply::Full => FULL,
         Reply::NoRoom => NOROOM,
-        Reply::Outside
-        | Reply::Shown {
-            reply: ShowReply::Outside,
-            ..
-        }
-        | Reply::Debugged(Debugged::Outside) => OUTSIDE,
+        Reply::Outside => OUTSIDE,
         Reply::Away { .. } => AWAY,
-        Reply::Shown {
-            reply: ShowReply::NoSlot,
-            ..
-        }
-        | Reply::Debugged(Debugged::NoSlot) => NOSLOT,
-        Reply::Debugged(Debugged::NoWatch) => NOWATCH,
-        Reply::Debugged(Debugged::NotPaused) => NOTPAUSED,
+        Reply::Misplaced { place, .. } => code_of_place(*place),
+        Reply::Scoped { .. } => SCOPED,
+        Reply::Faulted { place, .. } => code_of_fault(*place),
+        Reply::NoSlot => NOSLOT,
+        Reply::NoWatch => NOWATCH,
+        Reply::NotPaused => NOTPAUSED,
         Reply::Refused(_) => REFUSED,
         Reply::Missing => NONE,
         _ => OK,
@@ -81,7 +74,7 @@ pub(crate) fn code_of_get(error: GetError) -> u32
 
 /// The number of a reading of a stack that is refused.
 pub(crate) fn code_of_stack(error: StackError) -> u32
-    ensures number { (machine : ℕ) → result ≡ code_of_reply (refused_stack machine error) }
+    ensures number { result ≡ code_of_reply (refused_stack error) }
     ensures memory { result ≢ NOMEM }
 {
     match error {
@@ -204,9 +197,9 @@ pub(crate) fn state_numbered(state: u32, stop: u32) -> Option<State>
     }
 }
 
-/// The number of what came of a move, or of freeing, after which the object is back in a place where the far store fails.
+/// The number of what a move was answered, which brings the object back to a place where the far store fails.
 pub(crate) fn code_of_moved(moved: Moved, back: Place) -> u32
-    ensures { result ≡ code_of_moved back moved }
+    ensures { (told : Reply) → (n : ℕ) → code_of_reply told ≡ OK → result ≡ code_of_reply (reply_to_move told back n moved) }
 {
     match moved {
         Moved::Done => OK,
@@ -220,7 +213,7 @@ pub(crate) fn code_of_moved(moved: Moved, back: Place) -> u32
 
 /// The number of what was answered where bytes came back. Bytes that are others have a number of their own.
 pub(crate) fn code_of_back(moved: Moved) -> u32
-    ensures { result ≡ code_of_back moved }
+    ensures { (n : ℕ) → result ≡ code_of_back n moved }
 {
     if moved == Moved::Fault(StoreFault::Damaged) {
         return DAMAGED;

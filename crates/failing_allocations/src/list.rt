@@ -3,7 +3,7 @@
 use crate::first_world::{make, with_machine};
 use std::alloc::{AllocError, Global};
 use std::io;
-use world::{Bytes, Event, MachineCommand, ObjectCommand, Reply, ShowCommand, ShowReply, Way};
+use world::{Bytes, Event, MachineCommand, ObjectCommand, Reply, ShowCommand, Way};
 
 /// A command on the object.
 fn on_object(command: ObjectCommand) -> Event {
@@ -54,10 +54,7 @@ fn show(
     let ended = if ended.is_ok() { "done" } else { "refused" };
     let count = replies.len();
     match machine {
-        Reply::Shown {
-            reply: ShowReply::Registers(shown),
-            ..
-        } => {
+        Reply::Registers { shown, .. } => {
             let slot = shown.slot;
             let fuel = shown.fuel;
             println!(rt; "{ended}, {count} replies, slot {slot}, fuel {fuel}")

@@ -23,5 +23,5 @@ pub mod Executing
 pub mod Running
 pub mod GrantedWork
 pub mod Dispatching
-mod ObjectAccess
+mod Past
 pub mod Crossing

@@ -4,7 +4,6 @@
 mod accesses;
 mod alu;
 mod calls;
-mod frames;
 mod grants;
 mod jumps;
 mod laws;

@@ -85,13 +85,6 @@ pub struct Accessing {
     pub op: Op,
 }
 
-/// An access that was done, and the number that it was answered.
-#[derive(Clone, Copy, Drop, Debug, PartialEq, Eq)]
-pub(crate) struct Accessed {
-    pub accessing: Accessing,
-    pub value: u64,
-}
-
 /// Where a machine is, and what fuel it has. While it runs both are kept apart from it, in registers of the processor.
 #[derive(Clone, Copy, Drop, Debug, PartialEq, Eq)]
 pub struct Point {

@@ -11,7 +11,6 @@ use Rattle.shared_objects.specs.declared.touching.Fetched.TheVariants as fetched
 use Rattle.machine.specs.MachineState.{MachineState}
 use Rattle.debugger.specs.declared.commands.MachineCommand.{MachineCommand}
 use Rattle.debugger.specs.declared.commands.MachineCommand.TheVariants.{Step, Show, Debug}
-use Rattle.debugger.specs.declared.replies.ShowReply.{ShowReply}
 use Rattle.workers.specs.Cells.{SeatState, CellState}
 use Rattle.workers.specs.TableNames.{Passage}
 use Rattle.world.specs.declared.events.Event.{Event}
@@ -23,7 +22,7 @@ use Rattle.world.specs.declared.replies.Reply.{Reply}
 use Rattle.world.specs.declared.replies.Reply.TheVariants as reply
 use Rattle.console.specs.Replies.{IsShort}
 use Rattle.console.specs.Commands.{range_limit}
-use Rattle.console.proofs.CommandReading.{AsksShort, show_short}
+use Rattle.console.proofs.CommandReading.{AsksShort, step_short, show_short, debug_short}
 use Rattle.ship_service.specs.declared.replies.ServiceReply.{ServiceReply}
 use Rattle.ship_service.specs.declared.replies.ServiceReply.TheVariants.{Plain}
 use Rattle.ship_service.specs.Replies.{IsShortReply}
@@ -59,12 +58,8 @@ get_tells_short old new n offset size told (inr h) short = subst IsShortReply (s
 no_bytes : (opening : List (List ℕ)) (n : ℕ) (m : Move) (b : List ℕ) → ServesMove opening n m (Plain (reply.Bytes b)) → ⊥
 no_bytes opening n m b h = grind arith
 
-no_show : (opening : List (List ℕ)) (n : ℕ) (m : Move) (k : ℕ) (s : ShowReply) → ServesMove opening n m (Plain (reply.Shown k s)) → ⊥
-no_show opening n m k s h = grind arith
-
 move_short : (opening : List (List ℕ)) (n : ℕ) (m : Move) (told : ServiceReply) → ServesMove opening n m told → IsShortReply told
 move_short opening n m (Plain (reply.Bytes b)) h = absurd (no_bytes opening n m b h)
-move_short opening n m (Plain (reply.Shown k s)) h = absurd (no_show opening n m k s h)
 move_short opening n m _ h = tt
 
 object_short : (old new : SeatState) (n : ℕ) (c : ObjectCommand) (told : ServiceReply) → ServesObject old n c told new
@@ -76,9 +71,9 @@ object_short old new n (object.Move m) told h short = move_short old.view.openin
 
 cell_short : (before after : CellState) (m : ℕ) (c : MachineCommand) (told : Reply) → AnswersCell c before m told after
     → AsksShort (event.Machine m c) → IsShort told
-cell_short before after m (Step way) told h short = subst IsShort (sym h.1) tt
+cell_short before after m (Step way) told h short = subst IsShort (sym h.1) (step_short m h.0)
 cell_short before after m (Show command) told h short = subst IsShort (sym h.1) (show_short m command h.2.0.debuggee h.0 h.2.2 short)
-cell_short before after m (Debug command) told h short = subst IsShort (sym h.1) tt
+cell_short before after m (Debug command) told h short = subst IsShort (sym h.1) (debug_short h.0)
 
 lent_short : (old new : SeatState) (before after : CellState) (m : ℕ) (c : MachineCommand) (told : Reply) → AnswersLent c old before m told new after
     → AsksShort (event.Machine m c) → IsShort told
@@ -94,7 +89,6 @@ machine_short opening starts lent old new m c told (inr h) short =
 
 shipped_short : (start : Start) (code : List ℕ) (before after : CellState) (said : Reply) → ShipsCell start code before said after → IsShort said
 shipped_short start code before after (reply.Bytes b) h = absurd h
-shipped_short start code before after (reply.Shown k s) h = absurd h
 shipped_short start code before after _ h = tt
 
 ship_short : (opening : List (List ℕ)) (starts : List MachineState) (lent : Passage → Bool) (start : Start) (code : List ℕ) (told : ServiceReply)

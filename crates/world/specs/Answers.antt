@@ -5,7 +5,10 @@ use Rattle.loader.specs.Refusals.{HasCodeSize, Refuses}
 use Rattle.loader.specs.declared.loading.Why.TheVariants as why
 use Rattle.object_store.specs.Stores.{StoreState, store_memory}
 use Rattle.object_store.specs.Calls.{Makes, Gets, Puts, Frees}
+use Rattle.placement.specs.declared.places.Place.{Place}
+use Rattle.placement.specs.declared.places.Place.TheVariants as place
 use Rattle.placement.specs.declared.places.Moved.{Moved}
+use Rattle.placement.specs.declared.places.Moved.TheVariants as moved
 use Rattle.object_store.specs.declared.errors.MakeError.TheVariants as make_error
 use Rattle.object_store.specs.declared.errors.PutError.TheVariants as put_error
 use Rattle.object_store.specs.declared.errors.GetError.{GetError}
@@ -14,8 +17,8 @@ use Rattle.debugger.specs.declared.start.Start.{Start}
 use Rattle.debugger.specs.declared.debuggee.Debuggee.{Debuggee}
 use Rattle.debugger.specs.Debuggees.{debuggee_start}
 pub use Rattle.world.specs.declared.replies.Reply.{Reply}
-use Rattle.world.specs.declared.replies.Reply.TheVariants.{Made, Freed, Done, Bytes, Shipped, NoMemory, Full, NoRoom, Outside, Away, Refused}
-use Rattle.world.specs.declared.replies.Reply.TheVariants as answer
+use Rattle.world.specs.declared.replies.Reply.TheVariants.{Made, Freed, Done, Bytes, Shipped, NoMemory, Full, NoRoom, Outside, Away, Misplaced, Scoped, Faulted}
+use Rattle.world.specs.declared.replies.Reply.TheVariants.{Refused, Missing}
 pub use Rattle.world.specs.declared.events.Event.{Event}
 use Rattle.world.specs.declared.events.Event.TheVariants as event
 pub use Rattle.world.specs.declared.events.ObjectCommand.{ObjectCommand}
@@ -23,7 +26,7 @@ pub use Rattle.world.specs.declared.world.moving.Move.{Move}
 use Rattle.world.specs.declared.events.ObjectCommand.TheVariants as object
 use Rattle.world.specs.WorldState.{WorldState, AreAllShipped}
 use Rattle.world.specs.Machines.{AnswersMachine}
-use Rattle.world.specs.Moves.{Moves}
+use Rattle.world.specs.Moves.{Moves, moved_reply, place_before}
 
 -- ---- objects
 
@@ -62,12 +65,21 @@ AnswersGet s n offset size _ = ⊥
 
 -- ---- moves
 
--- a move of object n, or its end, or its freeing, whose reply holds what came of it
+-- the reply to a move of object n, which has its own reply where it is done; where the far store fails, the object is back in a place
+abbrev pub reply_to_move : Reply → Place → ℕ → Moved → Reply
+reply_to_move told back n moved.Done = told
+reply_to_move told back n moved.NoObject = Missing
+reply_to_move told back n (moved.Misplaced p) = Misplaced n p
+reply_to_move told back n moved.Scoped = Scoped n
+reply_to_move told back n moved.NoRoom = NoRoom
+reply_to_move told back n (moved.Fault f) = Faulted n back
+
+-- a move of object n, or its end, or its freeing
 pub record AnswersMove (moves : StoreState → ℕ → Moved → StoreState
-    → Type 0) (reply_with : Moved → Reply) (old : WorldState) (n : ℕ) (reply : Reply) (new : WorldState) : Type 0 where
+    → Type 0) (done : Reply) (back : Place) (old : WorldState) (n : ℕ) (reply : Reply) (new : WorldState) : Type 0 where
   pub moved : Moved
   pub move : moves old.store n moved new.store
-  pub told : reply ≡ reply_with moved
+  pub told : reply ≡ reply_to_move done back n moved
   pub changed : new ≡ record old { store = new.store }
 
 -- ---- machines
@@ -85,10 +97,10 @@ AnswersShip old start code _ new = ⊥
 
 -- a command on object n
 abbrev pub AnswersObject : WorldState → ℕ → ObjectCommand → Reply → WorldState → Type 0
-AnswersObject old n object.Free reply new = AnswersMove Frees (Freed n) old n reply new
+AnswersObject old n object.Free reply new = AnswersMove Frees (Freed n) place.Here old n reply new
 AnswersObject old n (object.Put offset bytes) reply new = AnswersPut old n offset bytes reply new
 AnswersObject old n (object.Get offset size) reply new = AnswersGet old.store n offset size reply × (new ≡ old)
-AnswersObject old n (object.Move m) reply new = AnswersMove (Moves m) (answer.Moved n m) old n reply new
+AnswersObject old n (object.Move m) reply new = AnswersMove (Moves m) (moved_reply m n) (place_before m) old n reply new
 
 -- From old, the command may have this reply and lead to new.
 abbrev pub Answers : WorldState → Event → Reply → WorldState → Type 0

@@ -12,13 +12,12 @@ ghost use Rattle.world.specs.Run.{Runs};
 ghost use Rattle.world.specs.WorldState.{opened_world, state_of};
 ghost use Rattle.world.specs.Asking.{AsksToMake, AsksToPut, AsksMove, AsksObject, Asks, AnswersWithin};
 ghost use Rattle.debugger.specs.declared.commands.ShowCommand.{ShowCommand};
-ghost use Rattle.debugger.specs.declared.replies.ShowReply.{ShowReply};
 ghost use Rattle.world.specs.Machines.{AnswersMachine, reply_of, refused_stack};
 ghost use Rattle.world.specs.Running.{RunsMachine, RunAsks};
 ghost use Rattle.world.specs.Unseen.{IsPlainRun};
 ghost use Rattle.object_store.specs.declared.errors.GetError.{GetError};
 ghost use Rattle.world.specs.Answers.{Event, Reply, Answers, AnswersMake, AnswersPut, AnswersGet, refused_get, AnswersMove, AnswersObject, AnswersShip};
-ghost use Rattle.world.specs.Moves.{MoveAsks, Moves};
+ghost use Rattle.world.specs.Moves.{MoveAsks, Moves, moved_reply, place_before};
 
 mod handing;
 mod moving;
@@ -32,7 +31,7 @@ use far_store::FarStore;
 use loader::{Why, load};
 use memory::Bytes;
 pub use moving::Move;
-use object_store::{GetError, MakeError, ObjectStore, PartsError, PutError};
+use object_store::{GetError, MakeError, ObjectStore, PartsError, Place, PutError};
 use scopes::MACHINE_LIMIT;
 use std::alloc::{AllocError, Global};
 use std::marker::Model;
@@ -170,11 +169,11 @@ impl<F: FarStore> World<F> {
 
     /// Frees an object.
     fn free(&mut self, object: u32) -> Reply
-        ensures answers { AnswersMove Frees (Reply.Freed object) (state_of self.old) object result (state_of self.new) }
-        ensures asks { AsksMove (AsksToFree F.called) (Reply.Freed object) self.old.store object result self.new.store }
+        ensures answers { AnswersMove Frees (Reply.Freed object) Place.Here (state_of self.old) object result (state_of self.new) }
+        ensures asks { AsksMove (AsksToFree F.called) (Reply.Freed object) Place.Here self.old.store object result self.new.store }
     {
         let moved = self.store.free(object);
-        Reply::Freed { object, moved }
+        Reply::to_move(Reply::Freed { object }, Place::Here, object, moved)
     }
 
     /// Writes bytes into an object.
@@ -214,15 +213,11 @@ impl<F: FarStore> World<F> {
 
     /// Does a move of an object, or ends it, and answers it.
     fn answer_move(&mut self, object: u32, kind: Move) -> Reply
-        ensures answers { AnswersMove (Moves kind) (Reply.Moved object kind) (state_of self.old) object result (state_of self.new) }
-        ensures asks { AsksMove (MoveAsks F.called kind) (Reply.Moved object kind) self.old.store object result self.new.store }
+        ensures answers { AnswersMove (Moves kind) (moved_reply kind object) (place_before kind) (state_of self.old) object result (state_of self.new) }
+        ensures asks { AsksMove (MoveAsks F.called kind) (moved_reply kind object) (place_before kind) self.old.store object result self.new.store }
     {
         let moved = self.move_object(object, kind);
-        Reply::Moved {
-            object,
-            kind,
-            moved,
-        }
+        Reply::to_move(kind.reply(object), kind.back(), object, moved)
     }
 
     // ---- machines
@@ -275,10 +270,10 @@ impl<F: FarStore> World<F> {
     /// refused, the bytes stay. It takes no memory.
     pub fn read_stack(&self, machine: usize, offset: u32, into: &mut [u8]) -> Result<(), StackError>
         ensures shown { OnOk result (Answers (state_of self.now) (Event.Machine machine (MachineCommand.Show (ShowCommand.Stack offset (length into.old))))
-            (Reply.Shown machine (ShowReply.Bytes into.new)) (state_of self.now)) }
+            (Reply.Bytes into.new) (state_of self.now)) }
         ensures refused { IfErr result
             (λ error. Answers (state_of self.now) (Event.Machine machine (MachineCommand.Show (ShowCommand.Stack offset (length into.old))))
-            (refused_stack machine error) (state_of self.now)) }
+            (refused_stack error) (state_of self.now)) }
         ensures kept { OnErr result (into.new ≡ into.old) }
     {
         read_stack(self.machines.as_slice(), machine, offset, into)
