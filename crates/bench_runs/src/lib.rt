@@ -6,7 +6,9 @@ use bench_start::{BUDGET, Work, first_objects, length_after};
 use far_store::OwnStore;
 use machine::{GRANT_LIMIT, Grants};
 use std::alloc::Global;
-use world::{Event, MachineCommand, ObjectLength, Reply, ShowCommand, Start, Way, World};
+use world::{
+    Event, MachineCommand, ObjectLength, Reply, ShowCommand, ShowReply, Start, Way, World,
+};
 
 /// A load of a byte from where R1 points, and the end.
 const LOAD: [u8; 16] = [
@@ -28,7 +30,10 @@ pub extern "C" fn bpf_run(alloc: Global, code: &[u8], work: &Work, steps: &mut u
     *steps = run.ran;
     let command = MachineCommand::Show(ShowCommand::Regs);
     match world.apply(Event::Machine { machine, command }) {
-        Reply::Registers { shown, .. } => shown.registers[0],
+        Reply::Shown {
+            reply: ShowReply::Registers(shown),
+            ..
+        } => shown.registers[0],
         _ => 0,
     }
 }

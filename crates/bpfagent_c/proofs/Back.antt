@@ -5,30 +5,28 @@ use Rattle.far_store.specs.declared.fault.StoreFault.TheVariants.{Damaged}
 use Rattle.placement.specs.declared.places.Moved.{Moved}
 use Rattle.placement.specs.declared.places.Moved.TheVariants as moved
 use Rattle.placement.specs.declared.places.Place.TheVariants as place
-use Rattle.world.specs.Answers.{reply_to_move}
-use Rattle.world.specs.declared.replies.Reply.TheVariants as reply
 use Rattle.bpfagent_c.specs.declared.numbers.TheConstants.{DAMAGED, FAULT_FAR, OK}
-use Rattle.bpfagent_c.specs.Codes.{code_of_back, code_of_reply}
+use Rattle.bpfagent_c.specs.Codes.{code_of_back, code_of_moved}
 
-back_told : (n : ℕ) (m : Moved) → (code_of_back n m ≡ code_of_reply (reply_to_move (reply.Home n) place.Far n m))
-    ⊎ ((code_of_back n m ≡ DAMAGED) × (code_of_reply (reply_to_move (reply.Home n) place.Far n m) ≡ FAULT_FAR))
-back_told n m = grind arith
+back_told : (m : Moved) → (code_of_back m ≡ code_of_moved place.Far m)
+    ⊎ ((code_of_back m ≡ DAMAGED) × (code_of_moved place.Far m ≡ FAULT_FAR))
+back_told m = grind arith
 
 -- it is the number of the reply, or that the bytes are others
-pub told_back : (n : ℕ) (m : Moved) (number : ℕ) → number ≡ code_of_back n m
-    → (number ≡ code_of_reply (reply_to_move (reply.Home n) place.Far n m))
-    ⊎ ((number ≡ DAMAGED) × (code_of_reply (reply_to_move (reply.Home n) place.Far n m) ≡ FAULT_FAR))
-told_back n m number e = rw e (back_told n m)
+pub told_back : (m : Moved) (number : ℕ) → number ≡ code_of_back m
+    → (number ≡ code_of_moved place.Far m)
+    ⊎ ((number ≡ DAMAGED) × (code_of_moved place.Far m ≡ FAULT_FAR))
+told_back m number e = rw e (back_told m)
 
-pub back_damaged : (n : ℕ) (m : Moved) → code_of_back n m ≡ DAMAGED → m ≡ moved.Fault Damaged
-back_damaged n m e = grind arith
+pub back_damaged : (m : Moved) → code_of_back m ≡ DAMAGED → m ≡ moved.Fault Damaged
+back_damaged m e = grind arith
 
-pub back_lost : (n : ℕ) (m : Moved) → code_of_back n m ≡ FAULT_FAR → (f : StoreFault) × (m ≡ moved.Fault f) × (f ≢ Damaged)
-back_lost n m e = grind arith
+pub back_lost : (m : Moved) → code_of_back m ≡ FAULT_FAR → (f : StoreFault) × (m ≡ moved.Fault f) × (f ≢ Damaged)
+back_lost m e = grind arith
 
-pub back_done : (n : ℕ) (m : Moved) → code_of_back n m ≡ OK → m ≡ moved.Done
-back_done n m e = grind arith
+pub back_done : (m : Moved) → code_of_back m ≡ OK → m ≡ moved.Done
+back_done m e = grind arith
 
 -- nothing but other bytes has a number of its own
-pub back_else : (n : ℕ) (m : Moved) → m ≢ moved.Fault Damaged → code_of_back n m ≡ code_of_reply (reply_to_move (reply.Home n) place.Far n m)
-back_else n m others = grind arith
+pub back_else : (m : Moved) → m ≢ moved.Fault Damaged → code_of_back m ≡ code_of_moved place.Far m
+back_else m others = grind arith

@@ -16,9 +16,11 @@ use Rattle.debugger.specs.declared.shown.State.{State}
 use Rattle.debugger.specs.declared.shown.State.TheVariants as state
 use Rattle.debugger.specs.declared.replies.StepReply.{StepReply}
 use Rattle.debugger.specs.declared.replies.StepReply.TheVariants as step_reply
+use Rattle.debugger.specs.declared.replies.ShowReply.TheVariants as show_reply
+use Rattle.debugger.specs.declared.replies.Debugged.TheVariants as debugged
 use Rattle.world.specs.declared.replies.Reply.{Reply}
 use Rattle.world.specs.declared.replies.Reply.TheVariants as reply
-use Rattle.world.specs.Answers.{reply_to_move}
+use Rattle.world.specs.Moves.{place_before}
 use Rattle.bpfagent_c.specs.declared.numbers.TheConstants.{OK, RAN, HIT, WAITING, PAUSED, STOPPED, NOMEM, FULL, NOROOM, OUTSIDE, AWAY}
 use Rattle.bpfagent_c.specs.declared.numbers.TheConstants.{IS_HERE, IS_LEAVING, IS_FAR, IS_RETURNING, SCOPED, FAULT_HERE, FAULT_FAR, NOSLOT, NOWATCH}
 use Rattle.bpfagent_c.specs.declared.numbers.TheConstants.{NOTPAUSED, REFUSED, NONE, DAMAGED, NOAGENT}
@@ -37,33 +39,6 @@ abbrev pub code_of_fault : Place → ℕ
 code_of_fault place.Here = FAULT_HERE
 code_of_fault _ = FAULT_FAR
 
--- the number of a reply
-abbrev pub code_of_reply : Reply → ℕ
-code_of_reply (reply.Ran m slot) = RAN
-code_of_reply (reply.Hit m slot) = HIT
-code_of_reply (reply.Waiting m n) = WAITING
-code_of_reply (reply.Paused m slot) = PAUSED
-code_of_reply (reply.Stopped m s) = STOPPED
-code_of_reply reply.NoMemory = NOMEM
-code_of_reply reply.Full = FULL
-code_of_reply reply.NoRoom = NOROOM
-code_of_reply reply.Outside = OUTSIDE
-code_of_reply (reply.Away n) = AWAY
-code_of_reply (reply.Misplaced n p) = code_of_place p
-code_of_reply (reply.Scoped n) = SCOPED
-code_of_reply (reply.Faulted n p) = code_of_fault p
-code_of_reply reply.NoSlot = NOSLOT
-code_of_reply reply.NoWatch = NOWATCH
-code_of_reply reply.NotPaused = NOTPAUSED
-code_of_reply (reply.Refused e) = REFUSED
-code_of_reply reply.Missing = NONE
-code_of_reply _ = OK
-
--- the number of what a call answers: that of the reply, or that there is no agent
-abbrev pub code_of : Option Reply → ℕ
-code_of None = NOAGENT
-code_of (Some r) = code_of_reply r
-
 -- the number of what a step was answered, where there may be no such machine
 abbrev pub code_of_step : Option StepReply → ℕ
 code_of_step (Some (step_reply.Ran slot)) = RAN
@@ -72,6 +47,42 @@ code_of_step (Some (step_reply.Waiting n)) = WAITING
 code_of_step (Some (step_reply.Paused slot)) = PAUSED
 code_of_step (Some (step_reply.Stopped s)) = STOPPED
 code_of_step None = NONE
+
+-- the number of what came of a move, or of freeing, after which the object is back in a place where the far store fails
+abbrev pub code_of_moved : Place → Moved → ℕ
+code_of_moved back moved.Done = OK
+code_of_moved back moved.NoObject = NONE
+code_of_moved back (moved.Misplaced p) = code_of_place p
+code_of_moved back moved.Scoped = SCOPED
+code_of_moved back moved.NoRoom = NOROOM
+code_of_moved back (moved.Fault f) = code_of_fault back
+
+-- the number of a reply
+abbrev pub code_of_reply : Reply → ℕ
+code_of_reply (reply.Freed n m) = code_of_moved place.Here m
+code_of_reply (reply.Moved n kind m) = code_of_moved (place_before kind) m
+code_of_reply (reply.Stepped m told) = code_of_step (Some told)
+code_of_reply (reply.Shown m show_reply.Outside) = OUTSIDE
+code_of_reply (reply.Shown m show_reply.NoSlot) = NOSLOT
+code_of_reply (reply.Shown m show_reply.NoMemory) = NOMEM
+code_of_reply (reply.Debugged debugged.NoSlot) = NOSLOT
+code_of_reply (reply.Debugged debugged.Outside) = OUTSIDE
+code_of_reply (reply.Debugged debugged.Full) = FULL
+code_of_reply (reply.Debugged debugged.NoWatch) = NOWATCH
+code_of_reply (reply.Debugged debugged.NotPaused) = NOTPAUSED
+code_of_reply reply.NoMemory = NOMEM
+code_of_reply reply.Full = FULL
+code_of_reply reply.NoRoom = NOROOM
+code_of_reply reply.Outside = OUTSIDE
+code_of_reply (reply.Away n) = AWAY
+code_of_reply (reply.Refused e) = REFUSED
+code_of_reply reply.Missing = NONE
+code_of_reply _ = OK
+
+-- the number of what a call answers: that of the reply, or that there is no agent
+abbrev pub code_of : Option Reply → ℕ
+code_of None = NOAGENT
+code_of (Some r) = code_of_reply r
 
 -- the number of what a run ended with, where all of its steps may have run
 abbrev pub code_of_end : Option StepReply → ℕ
@@ -104,10 +115,10 @@ abbrev pub code_of_lost : StoreFault → ℕ
 code_of_lost Damaged = DAMAGED
 code_of_lost _ = FAULT_FAR
 
--- the number of what was answered where the bytes of object n came back
-abbrev pub code_of_back : ℕ → Moved → ℕ
-code_of_back n (moved.Fault f) = code_of_lost f
-code_of_back n m = code_of_reply (reply_to_move (reply.Home n) place.Far n m)
+-- the number of what was answered where the bytes of an object came back
+abbrev pub code_of_back : Moved → ℕ
+code_of_back (moved.Fault f) = code_of_lost f
+code_of_back m = code_of_moved place.Far m
 
 -- a place as a number
 abbrev pub number_of_place : Place → ℕ

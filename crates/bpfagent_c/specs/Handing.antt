@@ -5,13 +5,14 @@ use Rattle.memory.specs.Objects.{IsLive, bytes_of}
 use Rattle.placement.specs.declared.places.Place.{Place}
 use Rattle.placement.specs.declared.places.Place.TheVariants as place
 use Rattle.placement.specs.declared.places.Moved.{Moved}
+use Rattle.placement.specs.declared.places.Moved.TheVariants as moved
 use Rattle.object_store.specs.Stores.{StoreState, StandsAt, place_of}
 use Rattle.object_store.specs.Handing.{FreesFar}
 use Rattle.world.specs.declared.replies.Reply.{Reply}
 use Rattle.world.specs.declared.replies.Reply.TheVariants as reply
-use Rattle.world.specs.Answers.{reply_to_move}
+use Rattle.world.specs.declared.world.moving.Move.TheVariants as move
 use Rattle.bpfagent_c.specs.declared.handle.Agent.{Agent}
-use Rattle.bpfagent_c.specs.Codes.{code_of_reply}
+use Rattle.bpfagent_c.specs.Codes.{code_of_moved}
 use Rattle.bpfagent_c.specs.Shown.{over}
 
 -- the bytes of the agent's object n, wherever they are
@@ -26,17 +27,17 @@ IsCalm old new = (old.live ≡ true) × (new.live ≡ true) × (new.held.state �
 
 -- the bytes of an object that left stand over the first of the buffer
 abbrev pub left_over : Reply → List ℕ → List ℕ → List ℕ
-left_over (reply.Left n) bytes old = over bytes old
+left_over (reply.Moved n move.Left moved.Done) bytes old = over bytes old
 left_over _ bytes old = old
 
 -- how many they are
 abbrev pub left_count : Reply → List ℕ → ℕ → ℕ
-left_count (reply.Left n) bytes old = length bytes
+left_count (reply.Moved n move.Left moved.Done) bytes old = length bytes
 left_count _ bytes old = old
 
 -- their SHA-256
 abbrev pub left_digest : Reply → List ℕ → List ℕ → List ℕ
-left_digest (reply.Left n) bytes old = sha256 bytes
+left_digest (reply.Moved n move.Left moved.Done) bytes old = sha256 bytes
 left_digest _ bytes old = old
 
 -- ---- objects that are freed where they are far
@@ -47,7 +48,7 @@ pub record Forgets (n : ℕ) (old : Agent) (number : ℕ) (new : Agent) : Type 0
   pub live : new.live ≡ true
   pub frees : FreesFar old.held.state.store.state n moved new.held.state.store.state
   pub machines : new.held.state.machines ≡ old.held.state.machines
-  pub number_is : number ≡ code_of_reply (reply_to_move (reply.Freed n) place.Far n moved)
+  pub number_is : number ≡ code_of_moved place.Far moved
 
 -- ---- places
 

@@ -11,6 +11,7 @@ use Rattle.debugger.specs.declared.commands.Way.{Way}
 use Rattle.debugger.specs.declared.commands.MachineCommand.TheVariants.{Step}
 use Rattle.debugger.specs.declared.replies.StepReply.{StepReply}
 use Rattle.debugger.specs.declared.replies.StepReply.TheVariants as step_reply
+use Rattle.debugger.specs.declared.replies.ShowReply.TheVariants as show_reply
 use Rattle.world.specs.declared.events.Event.TheVariants.{Machine}
 use Rattle.world.specs.declared.replies.Reply.{Reply}
 use Rattle.world.specs.declared.replies.Reply.TheVariants as reply
@@ -53,31 +54,32 @@ over shown old = take (min (length shown) (length old)) shown ++ drop (min (leng
 -- the bytes that are shown
 abbrev pub bytes_of : Option Reply → List ℕ → List ℕ
 bytes_of (Some (reply.Bytes shown)) old = over shown old
+bytes_of (Some (reply.Shown m (show_reply.Bytes shown))) old = over shown old
 bytes_of _ old = old
 
 -- the values that were emitted
 abbrev pub values_of : Option Reply → List ℕ → List ℕ
-values_of (Some (reply.Emitted m shown)) old = over shown old
+values_of (Some (reply.Shown m (show_reply.Emitted shown))) old = over shown old
 values_of _ old = old
 
 -- how many there are
 abbrev pub value_count_of : Option Reply → ℕ → ℕ
-value_count_of (Some (reply.Emitted m shown)) old = length shown
+value_count_of (Some (reply.Shown m (show_reply.Emitted shown))) old = length shown
 value_count_of _ old = old
 
 -- the text of an instruction
 abbrev pub text_of : Option Reply → List ℕ → List ℕ
-text_of (Some (reply.Disassembled m slot text)) old = over text old
+text_of (Some (reply.Shown m (show_reply.Disassembled slot text))) old = over text old
 text_of _ old = old
 
 -- how many bytes it has
 abbrev pub text_count_of : Option Reply → ℕ → ℕ
-text_count_of (Some (reply.Disassembled m slot text)) old = length text
+text_count_of (Some (reply.Shown m (show_reply.Disassembled slot text))) old = length text
 text_count_of _ old = old
 
 -- a machine's registers, with slot, fuel and state
 abbrev pub registers_of : Option Reply → Registers → Registers
-registers_of (Some (reply.Registers m shown)) old =
+registers_of (Some (reply.Shown m (show_reply.Registers shown))) old =
     record { registers = shown.registers; slot = shown.slot; fuel = shown.fuel; state = code_of_state shown.state; stop = stop_of_state shown.state }
 registers_of _ old = old
 

@@ -2,12 +2,10 @@
 ghost use Rattle.std.specs.Prelude.{◌≡◌, ◌≢◌, ℕ, Some, IfSome, IfNone};
 ghost use Rattle.debugger.specs.declared.shown.State.{State};
 ghost use Rattle.machine.specs.declared.state.Stop.{Stop};
-ghost use Rattle.object_store.specs.declared.errors.GetError.{GetError};
-ghost use Rattle.world.specs.Answers.{refused_get, reply_to_move};
+ghost use Rattle.world.specs.Answers.{denied};
 ghost use Rattle.world.specs.Machines.{refused_stack};
-ghost use Rattle.world.specs.declared.replies.Reply.{Reply};
-ghost use Rattle.bpfagent_c.specs.Codes.{code_of, code_of_back, code_of_end, code_of_fault, code_of_place, code_of_reply, code_of_state, code_of_step};
-ghost use Rattle.bpfagent_c.specs.Codes.{code_of_stop, code_of_text, code_of_why, number_of_place, place_numbered, stop_of_state};
+ghost use Rattle.bpfagent_c.specs.Codes.{code_of, code_of_back, code_of_end, code_of_fault, code_of_moved, code_of_place, code_of_reply};
+ghost use Rattle.bpfagent_c.specs.Codes.{code_of_state, code_of_step, code_of_stop, code_of_text, code_of_why, number_of_place, place_numbered, stop_of_state};
 
 use crate::numbers::{
     AWAY, DAMAGED, DEPTH, EXIT, FAR, FAULT_FAR, FAULT_HERE, FULL, GOES_ON, HERE, HIT, IS_FAR,
@@ -16,11 +14,11 @@ use crate::numbers::{
     RETURNING, RUNNING, SCOPED, SPENT, STOP_OUTSIDE, STOPPED, WAITING, WORN,
 };
 use asm_grammar::Why as WrongText;
-use debugger::{State, StepReply};
+use debugger::{Debugged, ShowReply, State, StepReply};
 use far_store::StoreFault;
 use loader::Why;
 use machine::Stop;
-use object_store::{GetError, Moved, Place};
+use object_store::{Denied, Moved, Place};
 use world::{Reply, StackError};
 
 /// The number of what a call answers.
@@ -38,43 +36,50 @@ fn code_of_reply(reply: &Reply) -> u32
     ensures { result ≡ code_of_reply reply.now }
 {
     match reply {
-        Reply::Ran { .. } => RAN,
-        Reply::Hit { .. } => HIT,
-        Reply::Waiting { .. } => WAITING,
-        Reply::Paused { .. } => PAUSED,
-        Reply::Stopped { .. } => STOPPED,
-        Reply::NoMemory => NOMEM,
-        Reply::Full => FULL,
+        Reply::Freed { moved, .. } => code_of_moved(*moved, Place::Here),
+        Reply::Moved { kind, moved, .. } => code_of_moved(*moved, kind.back()),
+        Reply::Stepped { reply, .. } => code_of_step(*reply),
+        Reply::NoMemory
+        | Reply::Shown {
+            reply: ShowReply::NoMemory,
+            ..
+        } => NOMEM,
+        Reply::Full | Reply::Debugged(Debugged::Full) => FULL,
         Reply::NoRoom => NOROOM,
-        Reply::Outside => OUTSIDE,
+        Reply::Outside
+        | Reply::Shown {
+            reply: ShowReply::Outside,
+            ..
+        }
+        | Reply::Debugged(Debugged::Outside) => OUTSIDE,
         Reply::Away { .. } => AWAY,
-        Reply::Misplaced { place, .. } => code_of_place(*place),
-        Reply::Scoped { .. } => SCOPED,
-        Reply::Faulted { place, .. } => code_of_fault(*place),
-        Reply::NoSlot => NOSLOT,
-        Reply::NoWatch => NOWATCH,
-        Reply::NotPaused => NOTPAUSED,
+        Reply::Shown {
+            reply: ShowReply::NoSlot,
+            ..
+        }
+        | Reply::Debugged(Debugged::NoSlot) => NOSLOT,
+        Reply::Debugged(Debugged::NoWatch) => NOWATCH,
+        Reply::Debugged(Debugged::NotPaused) => NOTPAUSED,
         Reply::Refused(_) => REFUSED,
         Reply::Missing => NONE,
         _ => OK,
     }
 }
 
-/// The number of a reading that is refused.
-pub(crate) fn code_of_get(error: GetError) -> u32
-    ensures number { (object : ℕ) → result ≡ code_of_reply (refused_get object error) }
-    ensures memory { result ≡ NOMEM → error ≡ GetError.Memory }
+/// The number of an access that is denied.
+pub(crate) fn code_of_denied(why: Denied) -> u32
+    ensures number { (object : ℕ) → result ≡ code_of_reply (denied object why) }
+    ensures memory { result ≢ NOMEM }
 {
-    match error {
-        GetError::Outside => OUTSIDE,
-        GetError::Away => AWAY,
-        GetError::Memory => NOMEM,
+    match why {
+        Denied::Outside => OUTSIDE,
+        Denied::Away => AWAY,
     }
 }
 
 /// The number of a reading of a stack that is refused.
 pub(crate) fn code_of_stack(error: StackError) -> u32
-    ensures number { result ≡ code_of_reply (refused_stack error) }
+    ensures number { (machine : ℕ) → result ≡ code_of_reply (refused_stack machine error) }
     ensures memory { result ≢ NOMEM }
 {
     match error {
@@ -197,9 +202,9 @@ pub(crate) fn state_numbered(state: u32, stop: u32) -> Option<State>
     }
 }
 
-/// The number of what a move was answered, which brings the object back to a place where the far store fails.
+/// The number of what came of a move, or of freeing, after which the object is back in a place where the far store fails.
 pub(crate) fn code_of_moved(moved: Moved, back: Place) -> u32
-    ensures { (told : Reply) → (n : ℕ) → code_of_reply told ≡ OK → result ≡ code_of_reply (reply_to_move told back n moved) }
+    ensures { result ≡ code_of_moved back moved }
 {
     match moved {
         Moved::Done => OK,
@@ -213,7 +218,7 @@ pub(crate) fn code_of_moved(moved: Moved, back: Place) -> u32
 
 /// The number of what was answered where bytes came back. Bytes that are others have a number of their own.
 pub(crate) fn code_of_back(moved: Moved) -> u32
-    ensures { (n : ℕ) → result ≡ code_of_back n moved }
+    ensures { result ≡ code_of_back moved }
 {
     if moved == Moved::Fault(StoreFault::Damaged) {
         return DAMAGED;

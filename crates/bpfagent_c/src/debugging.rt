@@ -15,7 +15,7 @@ use crate::numbers::{NOAGENT, NOMEM, OK};
 use crate::shown::{Registers, write_bytes, write_values};
 use crate::telling::{show, tell_debug};
 use std::alloc::Global;
-use world::{DebugCommand, Reply, ShowCommand};
+use world::{DebugCommand, Reply, ShowCommand, ShowReply};
 
 /// Shows R0 to R10, slot, fuel and state of a machine.
 #[unsafe(no_mangle)]
@@ -29,7 +29,13 @@ pub extern "C" fn bpfagent_regs(
         × (result ≡ code_of given) × (registers.new ≡ registers_of given registers.old) }
 {
     let given = show(agent, alloc, machine, ShowCommand::Regs);
-    if let Some(Reply::Registers { shown, .. }) = &given {
+    if let Some(
+        Reply::Shown {
+            reply: ShowReply::Registers(shown),
+            ..
+        },
+    ) = &given
+    {
         *registers = Registers::of(shown);
     }
     code_of(&given)
@@ -48,7 +54,13 @@ pub extern "C" fn bpfagent_out(
         × (result ≡ code_of given) × (values.new ≡ values_of given values.old) × (count.new ≡ value_count_of given count.old) }
 {
     let given = show(agent, alloc, machine, ShowCommand::Out);
-    if let Some(Reply::Emitted { values: shown, .. }) = &given {
+    if let Some(
+        Reply::Shown {
+            reply: ShowReply::Emitted(shown),
+            ..
+        },
+    ) = &given
+    {
         write_values(values, shown.as_slice());
         *count = shown.as_slice().len();
     }
@@ -93,7 +105,13 @@ pub extern "C" fn bpfagent_line(
         × (result ≡ code_of given) × (text.new ≡ text_of given text.old) × (count.new ≡ text_count_of given count.old) }
 {
     let given = show(agent, alloc, machine, ShowCommand::Line { slot });
-    if let Some(Reply::Disassembled { text: shown, .. }) = &given {
+    if let Some(
+        Reply::Shown {
+            reply: ShowReply::Disassembled { text: shown, .. },
+            ..
+        },
+    ) = &given
+    {
         write_bytes(text, shown.as_slice());
         *count = shown.as_slice().len();
     }

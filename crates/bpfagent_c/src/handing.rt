@@ -1,7 +1,7 @@
 //! Objects whose bytes the caller keeps while they are away, and objects that are freed where they are far.
 ghost use Rattle.std.specs.Prelude.{◌≡◌, ◌≢◌, ◌<◌, ◌≤◌, ◌⊎◌, true, false, length, Option, Some, IfSome, IfNone};
 ghost use Rattle.library_store.specs.Parcels.{Alike};
-ghost use Rattle.world.specs.Answers.{Answers, reply_to_move};
+ghost use Rattle.world.specs.Answers.{Answers};
 ghost use Rattle.world.specs.WorldState.{state_of};
 ghost use Rattle.memory.specs.Objects.{bytes_of};
 ghost use Rattle.object_store.specs.Stores.{StandsAt};
@@ -103,7 +103,7 @@ pub extern "C" fn bpfagent_left_into(
 fn take_back(agent: &mut Agent, alloc: Global, object: u32, bytes: &[u8]) -> Option<Moved>
     requires premise { agent.old.live ≡ true → Alike (bytes_at agent.old object) bytes.now → bytes.now ≡ bytes_at agent.old object }
     ensures some { IfSome result (λ m. Commanded agent.old (Event.Object object (ObjectCommand.Move Move.Returned))
-        (Some (reply_to_move (Reply.Home object) place.Far object m)) agent.new) }
+        (Some (Reply.Moved object Move.Returned m)) agent.new) }
     ensures none { IfNone result (HasNone agent.old agent.new) }
     ensures back { IfSome result (λ m. m ≡ moved.Done → bytes.now ≡ bytes_at agent.old object) }
     ensures damaged { IfSome result (λ m. m ≡ moved.Fault Damaged → bytes.now ≢ bytes_at agent.old object) }

@@ -9,7 +9,7 @@ ghost use Rattle.bpfagent_c.specs.Codes.{code_of};
 ghost use Rattle.bpfagent_c.specs.Told.{Commanded, Told};
 ghost use Rattle.bpfagent_c.specs.Shown.{made_of, bytes_of};
 
-use crate::codes::{code_of, code_of_get};
+use crate::codes::{code_of, code_of_denied};
 use crate::handle::{Agent, give, take};
 use crate::numbers::{BAD, NOAGENT, NOMEM, OK};
 use crate::telling::{command, tell_move, tell_object};
@@ -119,7 +119,7 @@ fn get(agent: &mut Agent, alloc: Global, object: u32, offset: u32, bytes: &mut [
     };
     let number = match world.read(object, offset, bytes) {
         Ok(()) => OK,
-        Err(error) => code_of_get(error),
+        Err(why) => code_of_denied(why),
     };
     give(agent, alloc, world);
     number

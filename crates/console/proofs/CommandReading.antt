@@ -7,18 +7,14 @@ use Rattle.machine.specs.Grants.{GrantState}
 use Rattle.debugger.specs.declared.commands.MachineCommand.TheVariants.{Show}
 use Rattle.debugger.specs.declared.commands.ShowCommand.{ShowCommand}
 use Rattle.debugger.specs.declared.commands.ShowCommand.TheVariants.{Stack}
-use Rattle.debugger.specs.declared.replies.StepReply.{StepReply}
-use Rattle.debugger.specs.declared.replies.StepReply.TheVariants as step_reply
 use Rattle.debugger.specs.declared.replies.ShowReply.{ShowReply}
 use Rattle.debugger.specs.declared.replies.ShowReply.TheVariants as show_reply
-use Rattle.debugger.specs.declared.replies.Debugged.{Debugged}
-use Rattle.debugger.specs.declared.replies.Debugged.TheVariants as debugged
 use Rattle.debugger.specs.declared.debuggee.Debuggee.{Debuggee}
 use Rattle.debugger.specs.Showing.{Shows}
 use Rattle.world.specs.declared.events.Event.{Event}
 use Rattle.world.specs.declared.events.Event.TheVariants.{Object, Machine}
 use Rattle.world.specs.declared.events.ObjectCommand.TheVariants.{Get}
-use Rattle.world.specs.Machines.{reply_to_step, reply_to_show, reply_to_debug}
+use Rattle.world.specs.declared.replies.Reply.TheVariants.{Shown}
 use Rattle.console.specs.Tokens.{tokens_of, within, IsWithin, AreNumbers, AreBytes}
 use Rattle.console.specs.Granting.{AreGrants}
 use Rattle.console.specs.Replies.{IsShort}
@@ -153,16 +149,8 @@ asks_short line command s = said_short (tokens_of line) command s.1
 
 -- ---- replies
 
-pub step_short : (m : ℕ) (told : StepReply) → IsShort (reply_to_step m told)
-step_short m (step_reply.Stopped stop) = tt
-step_short m _ = tt
-
-pub debug_short : (told : Debugged) → IsShort (reply_to_debug told)
-debug_short debugged.Done = tt
-debug_short _ = tt
-
 pub show_short : (m : ℕ) (command : ShowCommand) (d : Debuggee) (told : ShowReply) → Shows command d told → AsksShort (Machine m (Show command))
-    → IsShort (reply_to_show m told)
+    → IsShort (Shown m told)
 show_short m (Stack offset size) d (show_reply.Bytes shown) s short = let e = ap length s.1 in
     let l = length-take size (drop offset d.machine.stack) in omega (arith, e, l, short)
 show_short m _ d (show_reply.Bytes shown) s short = absurd s

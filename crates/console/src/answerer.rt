@@ -49,7 +49,7 @@ fn print_get_through<F: FarStore, const ROOM: usize>(
     let bytes = &mut room[..length as usize];
     match world.read(object, offset, bytes) {
         Ok(()) => print_bytes(bytes, reply),
-        Err(error) => print_reply(&Reply::refused_get(object, error), reply),
+        Err(why) => print_reply(&Reply::denied(object, why), reply),
     }
 }
 

@@ -4,9 +4,10 @@ ghost use Rattle.arrayvec.specs.ArrayVec.{array_vec_len};
 ghost use Rattle.console.specs.Lines.{ended, bad_text, nomem_text};
 ghost use Rattle.hex.specs.Hex.{encode_lower};
 ghost use Rattle.loader.specs.Refusals.{why_name};
-ghost use Rattle.world.specs.Machines.{reply_of, reply_to_step};
+ghost use Rattle.world.specs.Machines.{reply_of};
 ghost use Rattle.world.specs.declared.replies.Reply.{Reply};
 ghost use Rattle.console.specs.Replies.{reply_text, number_text, value_text, stop_name, stop_value_text, state_name, shown_text, place_name, IsShort};
+ghost use Rattle.console.specs.Replies.{step_text, show_text, debug_text, move_name, moved_text};
 
 use crate::digits::write_digits;
 use crate::fault::LineFault;
@@ -14,7 +15,7 @@ use crate::kind::RANGE_LIMIT;
 use loader::LoadError;
 use machine::Stop;
 use streams::Line;
-use world::{Place, Reply, Shown, State, StepReply};
+use world::{Debugged, Move, Moved, Place, Reply, ShowReply, Shown, State, StepReply};
 
 /// The most bytes of a reply, with its line end.
 pub const REPLY_LIMIT: usize = 8_200;
@@ -181,6 +182,19 @@ pub fn name_of_place(place: Place) -> &'static [u8]
     }
 }
 
+/// The name of a move that is done.
+fn name_of_move(kind: Move) -> &'static [u8]
+    ensures name { result.now ≡ move_name kind }
+    ensures short { length result.now ≤ 9 }
+{
+    match kind {
+        Move::Leave => b"leaving",
+        Move::Left => b"left",
+        Move::Return => b"returning",
+        Move::Returned => b"home",
+    }
+}
+
 /// Adds that an object stays, and why.
 fn put_kept(line: &mut ReplyLine, object: u32, why: &[u8])
     requires { array_vec_len line.old + length why.now + 25 ≤ REPLY_LIMIT }
@@ -189,6 +203,29 @@ fn put_kept(line: &mut ReplyLine, object: u32, why: &[u8])
 {
     put_named(line, b"kept", object as u64);
     line.put(why);
+}
+
+/// Adds what came of a move of an object, or of its freeing: a name where it is done, and a place where the far store fails.
+fn put_moved(line: &mut ReplyLine, name: &[u8], back: Place, object: u32, moved: Moved)
+    requires { array_vec_len line.old + length name.now + 100 ≤ REPLY_LIMIT }
+    ensures text { line.new.items ≡ line.old.items ++ moved_text name.now back object moved }
+    ensures short { array_vec_len line.new ≤ array_vec_len line.old + length name.now + 100 }
+{
+    match moved {
+        Moved::Done => put_named(line, name, object as u64),
+        Moved::NoObject => line.put(b"none"),
+        Moved::Misplaced(place) => {
+            put_named(line, b"place", object as u64);
+            line.put(b" ");
+            line.put(name_of_place(place));
+        }
+        Moved::Scoped => put_kept(line, object, b" scoped"),
+        Moved::NoRoom => line.put(b"noroom"),
+        Moved::Fault(_) => {
+            put_kept(line, object, b" fault ");
+            line.put(name_of_place(back));
+        }
+    }
 }
 
 /// Adds where and why code is refused.
@@ -205,7 +242,7 @@ fn put_refusal(line: &mut ReplyLine, error: &LoadError)
 /// Adds the reply to a step of a machine.
 fn put_step(line: &mut ReplyLine, machine: usize, reply: StepReply)
     requires { array_vec_len line.old + 100 ≤ REPLY_LIMIT }
-    ensures text { line.new.items ≡ line.old.items ++ reply_text (reply_to_step machine reply) }
+    ensures text { line.new.items ≡ line.old.items ++ step_text machine reply }
     ensures short { array_vec_len line.new ≤ array_vec_len line.old + 100 }
 {
     match reply {
@@ -220,6 +257,49 @@ fn put_step(line: &mut ReplyLine, machine: usize, reply: StepReply)
     }
 }
 
+/// Adds what is shown of a machine, or why it isn't.
+fn put_show(line: &mut ReplyLine, machine: usize, reply: &ShowReply)
+    requires room { array_vec_len line.old + 8_199 ≤ REPLY_LIMIT }
+    requires short { IsShort (Reply.Shown machine reply.now) }
+    ensures text { line.new.items ≡ line.old.items ++ show_text machine reply.now }
+    ensures short { array_vec_len line.new ≤ array_vec_len line.old + 8_198 }
+{
+    match reply {
+        ShowReply::Registers(shown) => {
+            put_named(line, b"regs", machine as u64);
+            put_shown(line, shown);
+        }
+        ShowReply::Emitted(values) => {
+            put_named(line, b"out", machine as u64);
+            put_values(line, values.as_slice());
+        }
+        ShowReply::Bytes(bytes) => put_shown_bytes(line, bytes.as_slice()),
+        ShowReply::Disassembled { slot, text } => {
+            put_pair(line, b"line", machine as u64, *slot as u64);
+            line.put(b" ");
+            line.put(text.as_slice());
+        }
+        ShowReply::Outside => line.put(b"outside"),
+        ShowReply::NoSlot => line.put(b"noslot"),
+        ShowReply::NoMemory => line.put(b"nomem"),
+    }
+}
+
+/// What a command of the debugger did, as its line says it.
+fn text_of_debugged(done: Debugged) -> &'static [u8]
+    ensures text { result.now ≡ debug_text done }
+    ensures short { length result.now ≤ 9 }
+{
+    match done {
+        Debugged::Done => b"ok",
+        Debugged::NoSlot => b"noslot",
+        Debugged::Outside => b"outside",
+        Debugged::Full => b"full",
+        Debugged::NoWatch => b"nowatch",
+        Debugged::NotPaused => b"notpaused",
+    }
+}
+
 /// Makes this the line of a reply.
 pub fn print_reply(reply: &Reply, line: &mut ReplyLine)
     requires { IsShort reply.now }
@@ -228,56 +308,23 @@ pub fn print_reply(reply: &Reply, line: &mut ReplyLine)
     line.clear();
     match reply {
         Reply::Made { object } => put_named(line, b"made", *object as u64),
-        Reply::Freed { object } => put_named(line, b"freed", *object as u64),
-        Reply::Leaving { object } => put_named(line, b"leaving", *object as u64),
-        Reply::Left { object } => put_named(line, b"left", *object as u64),
-        Reply::Returning { object } => put_named(line, b"returning", *object as u64),
-        Reply::Home { object } => put_named(line, b"home", *object as u64),
+        Reply::Freed { object, moved } => put_moved(line, b"freed", Place::Here, *object, *moved),
+        Reply::Moved {
+            object,
+            kind,
+            moved,
+        } => put_moved(line, name_of_move(*kind), kind.back(), *object, *moved),
         Reply::Done => line.put(b"ok"),
         Reply::Bytes(bytes) => put_shown_bytes(line, bytes.as_slice()),
         Reply::Shipped { machine } => put_named(line, b"shipped", *machine as u64),
-        Reply::Ran { machine, slot } => put_step(line, *machine, StepReply::Ran(*slot)),
-        Reply::Hit { machine, slot } => put_step(line, *machine, StepReply::Hit(*slot)),
-        Reply::Waiting { machine, object } => {
-            put_step(line, *machine, StepReply::Waiting(*object));
-        }
-        Reply::Paused { machine, slot } => put_step(line, *machine, StepReply::Paused(*slot)),
-        Reply::Stopped { machine, stop } => put_step(line, *machine, StepReply::Stopped(*stop)),
-        Reply::Registers { machine, shown } => {
-            put_named(line, b"regs", *machine as u64);
-            put_shown(line, shown);
-        }
-        Reply::Emitted { machine, values } => {
-            put_named(line, b"out", *machine as u64);
-            put_values(line, values.as_slice());
-        }
-        Reply::Disassembled {
-            machine,
-            slot,
-            text,
-        } => {
-            put_pair(line, b"line", *machine as u64, *slot as u64);
-            line.put(b" ");
-            line.put(text.as_slice());
-        }
+        Reply::Stepped { machine, reply } => put_step(line, *machine, *reply),
+        Reply::Shown { machine, reply } => put_show(line, *machine, reply),
+        Reply::Debugged(done) => line.put(text_of_debugged(*done)),
         Reply::NoMemory => line.put(b"nomem"),
         Reply::Full => line.put(b"full"),
         Reply::NoRoom => line.put(b"noroom"),
         Reply::Outside => line.put(b"outside"),
         Reply::Away { object } => put_named(line, b"away", *object as u64),
-        Reply::Misplaced { object, place } => {
-            put_named(line, b"place", *object as u64);
-            line.put(b" ");
-            line.put(name_of_place(*place));
-        }
-        Reply::Scoped { object } => put_kept(line, *object, b" scoped"),
-        Reply::Faulted { object, place } => {
-            put_kept(line, *object, b" fault ");
-            line.put(name_of_place(*place));
-        }
-        Reply::NoSlot => line.put(b"noslot"),
-        Reply::NoWatch => line.put(b"nowatch"),
-        Reply::NotPaused => line.put(b"notpaused"),
         Reply::Refused(error) => put_refusal(line, error),
         Reply::Missing => line.put(b"none"),
     }

@@ -1,13 +1,17 @@
 //! The text of each reply.
 ghost use Rattle.console.specs.Replies.{IsShort};
+ghost use Rattle.world.specs.declared.replies.Reply.TheVariants as answer;
 
 use crate::compared::same;
 use console::{LineFault, ReplyLine, print_fault, print_reply};
+use far_store::StoreFault;
 use loader::{LoadError, Why};
 use machine::Stop;
 use std::process::Abort;
 use std::test::Fail;
-use world::{Bytes, Place, Reply, Shown, State, Values};
+use world::{
+    Bytes, Debugged, Move, Moved, Place, Reply, ShowReply, Shown, State, StepReply, Values,
+};
 
 /// What is shown of a machine that stands thus.
 const SHOWN: Shown = Shown {
@@ -26,55 +30,49 @@ fn prints(rt: &impl Abort, reply: Reply, text: &str)
     same!(*rt; line.as_slice(), text.as_bytes());
 }
 
+/// Asserts that a machine's reply to a step has this text.
+fn prints_step(rt: &impl Abort, machine: usize, reply: StepReply, text: &str) {
+    prints(rt, Reply::Stepped { machine, reply }, text);
+}
+
+/// Asserts that what came of a move of object 7 has this text.
+fn prints_move(rt: &impl Abort, kind: Move, moved: Moved, text: &str) {
+    let reply = Reply::Moved {
+        object: 7,
+        kind,
+        moved,
+    };
+    prints(rt, reply, text);
+}
+
+/// Asserts that what came of freeing object 7 has this text.
+fn prints_freed(rt: &impl Abort, moved: Moved, text: &str) {
+    prints(rt, Reply::Freed { object: 7, moved }, text);
+}
+
+/// Asserts that what is shown of machine 48 has this text.
+fn prints_show(rt: &impl Abort, reply: ShowReply, text: &str)
+    requires { IsShort (answer.Shown 48 reply) }
+{
+    let reply = Reply::Shown { machine: 48, reply };
+    prints(rt, reply, text);
+}
+
 /// Machine 3 is stopped.
 fn prints_stop(rt: &impl Abort, stop: Stop, text: &str) {
-    prints(rt, Reply::Stopped { machine: 3, stop }, text);
+    prints_step(rt, 3, StepReply::Stopped(stop), text);
 }
 
 #[test]
 fn each_reply(rt: HostRuntime) {
     prints(&rt, Reply::Made { object: 1024 }, "made 1024\n");
-    prints(&rt, Reply::Freed { object: 7 }, "freed 7\n");
     prints(&rt, Reply::Done, "ok\n");
     prints(&rt, Reply::Shipped { machine: 1 }, "shipped 1\n");
-    prints(
-        &rt,
-        Reply::Ran {
-            machine: 2,
-            slot: 10,
-        },
-        "ran 2 10\n",
-    );
-    prints(
-        &rt,
-        Reply::Waiting {
-            machine: 2,
-            object: 1024,
-        },
-        "waiting 2 1024\n",
-    );
-    prints(
-        &rt,
-        Reply::Hit {
-            machine: 2,
-            slot: 0,
-        },
-        "hit 2 0\n",
-    );
-    prints(
-        &rt,
-        Reply::Paused {
-            machine: 48,
-            slot: 4095,
-        },
-        "paused 48 4095\n",
-    );
     prints(&rt, Reply::NoMemory, "nomem\n");
     prints(&rt, Reply::Full, "full\n");
+    prints(&rt, Reply::NoRoom, "noroom\n");
     prints(&rt, Reply::Outside, "outside\n");
-    prints(&rt, Reply::NoSlot, "noslot\n");
-    prints(&rt, Reply::NoWatch, "nowatch\n");
-    prints(&rt, Reply::NotPaused, "notpaused\n");
+    prints(&rt, Reply::Away { object: 5 }, "away 5\n");
     prints(&rt, Reply::Missing, "none\n");
     let refused = LoadError {
         slot: 7,
@@ -84,35 +82,74 @@ fn each_reply(rt: HostRuntime) {
 }
 
 #[test]
+fn each_step(rt: HostRuntime) {
+    prints_step(&rt, 2, StepReply::Ran(10), "ran 2 10\n");
+    prints_step(&rt, 2, StepReply::Waiting(1024), "waiting 2 1024\n");
+    prints_step(&rt, 2, StepReply::Hit(0), "hit 2 0\n");
+    prints_step(&rt, 48, StepReply::Paused(4095), "paused 48 4095\n");
+}
+
+#[test]
+fn each_debugged(rt: HostRuntime) {
+    prints(&rt, Reply::Debugged(Debugged::Done), "ok\n");
+    prints(&rt, Reply::Debugged(Debugged::NoSlot), "noslot\n");
+    prints(&rt, Reply::Debugged(Debugged::Outside), "outside\n");
+    prints(&rt, Reply::Debugged(Debugged::Full), "full\n");
+    prints(&rt, Reply::Debugged(Debugged::NoWatch), "nowatch\n");
+    prints(&rt, Reply::Debugged(Debugged::NotPaused), "notpaused\n");
+}
+
+#[test]
 fn each_move(rt: HostRuntime) {
-    prints(&rt, Reply::Leaving { object: 1 }, "leaving 1\n");
-    prints(&rt, Reply::Left { object: 2 }, "left 2\n");
-    prints(&rt, Reply::Returning { object: 3 }, "returning 3\n");
-    prints(&rt, Reply::Home { object: 1024 }, "home 1024\n");
-    prints(&rt, Reply::Away { object: 5 }, "away 5\n");
-    prints(&rt, Reply::NoRoom, "noroom\n");
-    prints(&rt, Reply::Scoped { object: 6 }, "kept 6 scoped\n");
+    prints_move(&rt, Move::Leave, Moved::Done, "leaving 7\n");
+    prints_move(&rt, Move::Left, Moved::Done, "left 7\n");
+    prints_move(&rt, Move::Return, Moved::Done, "returning 7\n");
+    prints_move(&rt, Move::Returned, Moved::Done, "home 7\n");
+    prints_move(&rt, Move::Return, Moved::NoRoom, "noroom\n");
+    prints_move(&rt, Move::Leave, Moved::Scoped, "kept 7 scoped\n");
+    prints_move(&rt, Move::Left, Moved::NoObject, "none\n");
+    let last = Reply::Moved {
+        object: 1024,
+        kind: Move::Returned,
+        moved: Moved::Done,
+    };
+    prints(&rt, last, "home 1024\n");
+}
+
+#[test]
+fn each_fault(rt: HostRuntime) {
+    let fault = Moved::Fault(StoreFault::Io);
+    prints_move(&rt, Move::Leave, fault, "kept 7 fault here\n");
+    prints_move(&rt, Move::Left, fault, "kept 7 fault here\n");
+    prints_move(&rt, Move::Return, fault, "kept 7 fault far\n");
+    prints_move(&rt, Move::Returned, fault, "kept 7 fault far\n");
 }
 
 #[test]
 fn each_place(rt: HostRuntime) {
-    for &(place, misplaced, faulted) in &[
-        (Place::Here, "place 7 here\n", "kept 7 fault here\n"),
-        (
-            Place::Leaving,
-            "place 7 leaving\n",
-            "kept 7 fault leaving\n",
-        ),
-        (Place::Far, "place 7 far\n", "kept 7 fault far\n"),
-        (
-            Place::Returning,
-            "place 7 returning\n",
-            "kept 7 fault returning\n",
-        ),
+    for &(place, text) in &[
+        (Place::Here, "place 7 here\n"),
+        (Place::Leaving, "place 7 leaving\n"),
+        (Place::Far, "place 7 far\n"),
+        (Place::Returning, "place 7 returning\n"),
     ] {
-        prints(&rt, Reply::Misplaced { object: 7, place }, misplaced);
-        prints(&rt, Reply::Faulted { object: 7, place }, faulted);
+        prints_move(&rt, Move::Leave, Moved::Misplaced(place), text);
+        prints_freed(&rt, Moved::Misplaced(place), text);
     }
+}
+
+#[test]
+fn each_freed(rt: HostRuntime) {
+    prints_freed(&rt, Moved::Done, "freed 7\n");
+    prints_freed(&rt, Moved::NoObject, "none\n");
+    prints_freed(&rt, Moved::Scoped, "kept 7 scoped\n");
+}
+
+#[test]
+fn not_shown(rt: HostRuntime) {
+    prints_show(&rt, ShowReply::Outside, "outside\n");
+    prints_show(&rt, ShowReply::NoSlot, "noslot\n");
+    prints_show(&rt, ShowReply::NoMemory, "nomem\n");
 }
 
 #[test]
@@ -130,16 +167,13 @@ fn each_stop(rt: HostRuntime) {
 fn bytes_and_values(rt: HostRuntime) -> Result<(), Fail> {
     let bytes = Vec::from_slice(rt.alloc(), &[0, 0x7f, 0xab, 255])?;
     prints(&rt, Reply::Bytes(Bytes::new(bytes)), "bytes 007fabff\n");
-    let none = Reply::Emitted {
-        machine: 48,
-        values: Values::new(&[]),
-    };
-    prints(&rt, none, "out 48\n");
-    let two = Reply::Emitted {
-        machine: 48,
-        values: Values::new(&[0, u64::MAX]),
-    };
-    prints(&rt, two, "out 48 0000000000000000 ffffffffffffffff\n");
+    let stack = Vec::from_slice(rt.alloc(), &[0, 0x7f, 0xab, 255])?;
+    let stack = ShowReply::Bytes(Bytes::new(stack));
+    prints_show(&rt, stack, "bytes 007fabff\n");
+    let none = ShowReply::Emitted(Values::new(&[]));
+    prints_show(&rt, none, "out 48\n");
+    let two = ShowReply::Emitted(Values::new(&[0, u64::MAX]));
+    prints_show(&rt, two, "out 48 0000000000000000 ffffffffffffffff\n");
     Ok(())
 }
 
@@ -169,7 +203,7 @@ fn registers(rt: HostRuntime) {
     ] {
         let mut shown = SHOWN;
         shown.state = state;
-        prints(&rt, Reply::Registers { machine: 48, shown }, text);
+        prints_show(&rt, ShowReply::Registers(shown), text);
     }
 }
 

@@ -6,7 +6,7 @@ use std::alloc::{AllocError, Global};
 use std::io::{Read, Write};
 use std::test::Fail;
 use test_devices::Pieces;
-use world::{Event, MachineCommand, ObjectCommand, Reply, ShowCommand, World};
+use world::{Event, MachineCommand, ObjectCommand, Reply, ShowCommand, ShowReply, World};
 
 /// An object, and a machine that puts 7 into R0 and ends, in seven commands.
 pub const INPUT: &[u8] =
@@ -104,7 +104,10 @@ fn get() -> Event {
 /// How many of the seven commands are done.
 pub fn count_done(world: &mut World<OwnStore>) -> usize {
     let fuel = match world.apply(regs()) {
-        Reply::Registers { shown, .. } => shown.fuel,
+        Reply::Shown {
+            reply: ShowReply::Registers(shown),
+            ..
+        } => shown.fuel,
         _ => 11,
     };
     match fuel {

@@ -3,7 +3,7 @@
 use crate::first_world::{make, with_machine};
 use std::alloc::{AllocError, Global};
 use std::io;
-use world::{Bytes, Event, MachineCommand, ObjectCommand, Reply, ShowCommand, Way};
+use world::{Bytes, Event, MachineCommand, ObjectCommand, Reply, ShowCommand, ShowReply, Way};
 
 /// A command on the object.
 fn on_object(command: ObjectCommand) -> Event {
@@ -54,7 +54,10 @@ fn show(
     let ended = if ended.is_ok() { "done" } else { "refused" };
     let count = replies.len();
     match machine {
-        Reply::Registers { shown, .. } => {
+        Reply::Shown {
+            reply: ShowReply::Registers(shown),
+            ..
+        } => {
             let slot = shown.slot;
             let fuel = shown.fuel;
             println!(rt; "{ended}, {count} replies, slot {slot}, fuel {fuel}")

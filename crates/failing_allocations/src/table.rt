@@ -6,7 +6,7 @@ use far_store::OwnStore;
 use isa_table::Size;
 use memory::{Action, Op, Reach};
 use pointer_word::STAMP_LIMIT;
-use shared_objects::{ActorSeat, Fetched, MoverSeat, ObjectEnd, OpenFault, Shared, SharedTable};
+use shared_objects::{ActorSeat, GetError, MoverSeat, ObjectEnd, OpenFault, Shared, SharedTable};
 use std::alloc::{AllocError, Global};
 
 /// Eight bytes, read.
@@ -95,18 +95,18 @@ fn read(table: &SharedTable, actor: &mut ActorSeat) -> Reading
 {
     let _ = table.put(actor, 1, 0, &[7]);
     match table.get(actor, 1, 0, 2) {
-        Ok(found) if is_seven(&found) => Reading::Done,
-        Ok(_) => Reading::Wrong,
-        Err(_) => match table.get(actor, 1, 0, 2) {
-            Ok(found) if is_seven(&found) => Reading::DoneAgain,
+        Ok(bytes) if is_seven(&bytes) => Reading::Done,
+        Ok(_) | Err(GetError::Denied(_)) => Reading::Wrong,
+        Err(GetError::Memory) => match table.get(actor, 1, 0, 2) {
+            Ok(bytes) if is_seven(&bytes) => Reading::DoneAgain,
             _ => Reading::Wrong,
         },
     }
 }
 
 /// Whether these are the bytes that were written.
-fn is_seven(found: &Fetched) -> bool {
-    matches!(found, Fetched::Done(bytes) if bytes.as_slice() == [7, 0].as_slice())
+fn is_seven(bytes: &Vec<u8>) -> bool {
+    bytes.as_slice() == [7, 0].as_slice()
 }
 
 /// How closing went.

@@ -4,7 +4,7 @@
 
 mod ended;
 mod fault;
-mod hall;
+mod clients;
 mod journal;
 mod limits;
 mod listening;
@@ -12,7 +12,7 @@ mod texts;
 mod threads;
 
 pub use fault::ServerFault;
-pub use hall::CLIENT_LIMIT;
+pub use clients::CLIENT_LIMIT;
 pub use journal::{Journal, Refusal, Unwritten};
 pub use limits::{Limits, UNLIMITED};
 pub use listening::run_server;

@@ -3,7 +3,7 @@ ghost use Rattle.std.specs.Prelude.{OnOk};
 ghost use Rattle.std.specs.Io.KnownBytes.{IsAtEnd};
 
 use crate::ended::ClientEnd;
-use crate::hall::{Admission, Hall};
+use crate::clients::{Admission, Clients};
 use crate::journal::{Journal, Refusal};
 use crate::limits::Limits;
 use crossbeam_channel::{Receiver, Sender, bounded};
@@ -40,11 +40,11 @@ fn drain<I: Read>(input: &mut I) -> Result<(), ReadFault>
     Err(ReadFault)
 }
 
-/// Waits for the end of the input, and closes the hall.
-fn watch<R: Wait, I: Read + Drop>(rt: &R, hall: &Hall, input: I) -> Result<(), ReadFault> {
+/// Waits for the end of the input, and lets no more clients in.
+fn watch<R: Wait, I: Read + Drop>(rt: &R, clients: &Clients, input: I) -> Result<(), ReadFault> {
     let mut input = input;
     let outcome = drain(&mut input);
-    hall.close(rt);
+    clients.close(rt);
     outcome
 }
 
@@ -53,7 +53,7 @@ fn watch<R: Wait, I: Read + Drop>(rt: &R, hall: &Hall, input: I) -> Result<(), R
 struct Tools<'a, R: Wait, J: Journal> {
     rt: &'a R,
     alloc: Global,
-    hall: &'a Hall,
+    clients: &'a Clients,
     ends: &'a Sender<ClientEnd, Global>,
     journal: &'a J,
 }
@@ -67,13 +67,13 @@ impl<'a, R: Wait, J: Journal> listener::Journal for Tools<'a, R, J> {
 /// Serves a client, and hands on how that ended, unless it was cut off by the end of the input.
 fn serve_client<R: Wait, J: Journal>(tools: &Tools<R, J>, client: u64, stream: TcpStream) {
     let mut stream = stream;
-    tools.hall.bound(&stream);
-    let ended = ClientEnd::of_client(tools.alloc, client, &mut stream, tools.hall.budget());
+    tools.clients.bound(&stream);
+    let ended = ClientEnd::of_client(tools.alloc, client, &mut stream, tools.clients.budget());
     tools.journal.went(client, ended.outcome());
-    if tools.hall.is_open(tools.rt) {
+    if tools.clients.is_open(tools.rt) {
         let _ = tools.ends.send(tools.rt, ended);
     }
-    tools.hall.dismiss(tools.rt, client);
+    tools.clients.dismiss(tools.rt, client);
 }
 
 /// The next client that is let in, and its number; none where the input has ended. One for which there is no room finds its
@@ -83,13 +83,13 @@ fn next_client<R: Wait, J: Journal>(
     listener: &TcpListener,
 ) -> Result<Option<(u64, TcpStream)>, NetFault> {
     for _ in tools.rt.forever() {
-        let Ok(accepted) = accept_or_rest(tools.rt, listener, tools.hall.bell(), tools) else {
+        let Ok(accepted) = accept_or_rest(tools.rt, listener, tools.clients.bell(), tools) else {
             return Err(NetFault);
         };
         let Some((stream, shown)) = accepted else {
             return Ok(None);
         };
-        match tools.hall.admit(tools.rt, shown) {
+        match tools.clients.admit(tools.rt, shown) {
             Admission::Admitted(client) => {
                 tools.journal.came(client);
                 return Ok(Some((client, stream)));
@@ -113,7 +113,7 @@ fn serve_clients<R: Threads + Wait + Sync, J: Journal + Sync>(
         |scope| -> Result<(), NetFault> {
             for _ in 0..u64::MAX {
                 let Ok(next) = next_client(tools, listener) else {
-                    tools.hall.close(tools.rt);
+                    tools.clients.close(tools.rt);
                     return Err(NetFault);
                 };
                 let Some((client, stream)) = next else {
@@ -123,7 +123,7 @@ fn serve_clients<R: Threads + Wait + Sync, J: Journal + Sync>(
                     .spawn(move || serve_client(tools, client, stream))
                     .is_err()
                 {
-                    tools.hall.dismiss(tools.rt, client);
+                    tools.clients.dismiss(tools.rt, client);
                     tools.journal.refused(Refusal::NoThread);
                 }
             }
@@ -136,7 +136,7 @@ fn serve_clients<R: Threads + Wait + Sync, J: Journal + Sync>(
 fn host<R: Threads + Wait + Sync + Copy, J: Journal + Sync + Copy>(
     rt: R,
     alloc: Global,
-    hall: Arc<Hall>,
+    clients: Arc<Clients>,
     listener: TcpListener,
     ends: Sender<ClientEnd, Global>,
     journal: J,
@@ -144,7 +144,7 @@ fn host<R: Threads + Wait + Sync + Copy, J: Journal + Sync + Copy>(
     let tools = Tools {
         rt: &rt,
         alloc,
-        hall: &hall,
+        clients: &clients,
         ends: &ends,
         journal: &journal,
     };
@@ -154,7 +154,7 @@ fn host<R: Threads + Wait + Sync + Copy, J: Journal + Sync + Copy>(
 /// A server whose threads were made.
 #[derive(Drop)]
 pub(crate) struct Server {
-    hall: Arc<Hall>,
+    clients: Arc<Clients>,
     host: JoinHandle<Result<(), NetFault>>,
     /// How clients ended, one after the other, until the last has gone.
     pub ends: Receiver<ClientEnd, Global>,
@@ -174,13 +174,13 @@ impl Server {
         R: Threads + Wait + Sync + Copy + Send + 'static,
         J: Journal + Copy + Sync + Send + 'static,
     {
-        let hall = Arc::new(alloc, Hall::new(alloc, bell, limits)?)?;
-        let theirs = Arc::try_clone(&hall)?;
+        let clients = Arc::new(alloc, Clients::new(alloc, bell, limits)?)?;
+        let theirs = Arc::try_clone(&clients)?;
         let (sender, ends) = bounded(alloc, UNTOLD_LIMIT)?;
         let host = thread::spawn(&rt, move || {
             host(rt, alloc, theirs, listener, sender, journal)
         })?;
-        Ok(Server { hall, host, ends })
+        Ok(Server { clients, host, ends })
     }
 
     /// Starts to wait for the end of the input, which ends the server.
@@ -193,13 +193,13 @@ impl Server {
         R: Threads + Wait + Copy + Send + 'static,
         I: Read + Send + Drop + 'static,
     {
-        let theirs = Arc::try_clone(&self.hall)?;
+        let theirs = Arc::try_clone(&self.clients)?;
         Ok(thread::spawn(&rt, move || { watch(&rt, &theirs, input) })?)
     }
 
     /// Cuts off all clients, and waits for the threads that served them.
     pub fn stop<R: Threads + Wait>(self, rt: &R) {
-        self.hall.close(rt);
+        self.clients.close(rt);
         let _ = self.join(rt);
     }
 

@@ -9,8 +9,8 @@ use Rattle.object_store.specs.declared.errors.MakeError.{MakeError}
 use Rattle.object_store.specs.declared.errors.MakeError.TheVariants as make_error
 use Rattle.object_store.specs.declared.errors.GetError.{GetError}
 use Rattle.object_store.specs.declared.errors.GetError.TheVariants as get_error
-use Rattle.object_store.specs.declared.errors.PutError.{PutError}
-use Rattle.object_store.specs.declared.errors.PutError.TheVariants as put_error
+use Rattle.object_store.specs.declared.errors.Denied.{Denied}
+use Rattle.object_store.specs.declared.errors.Denied.TheVariants as denied
 use Rattle.memory.specs.Objects.{IsLive, IsFull, HasRange, bytes_of, with_bytes, range_of, with_range}
 use Rattle.object_store.specs.Stores.{StoreState, StandsAt, HasRoom, HasRisen, IsScoped, place_of, with_place}
 
@@ -27,16 +27,16 @@ Makes old count (Err make_error.Memory) new = (IsFull old.objects → ⊥) × Ha
 -- Reading a range.
 abbrev pub Gets : StoreState → ℕ → ℕ → ℕ → Result (List ℕ) GetError → Type 0
 Gets s n offset count (Ok bytes) = HasRange s.objects n offset count × (place_of s.places n ≡ Here) × (bytes ≡ range_of s.objects n offset count)
-Gets s n offset count (Err get_error.Outside) = HasRange s.objects n offset count → ⊥
-Gets s n offset count (Err get_error.Away) = HasRange s.objects n offset count × (place_of s.places n ≡ Here → ⊥)
+Gets s n offset count (Err (get_error.Denied denied.Outside)) = HasRange s.objects n offset count → ⊥
+Gets s n offset count (Err (get_error.Denied denied.Away)) = HasRange s.objects n offset count × (place_of s.places n ≡ Here → ⊥)
 Gets s n offset count (Err get_error.Memory) = HasRange s.objects n offset count × (place_of s.places n ≡ Here)
 
 -- Writing over a range.
-abbrev pub Puts : StoreState → ℕ → ℕ → List ℕ → Result Unit PutError → StoreState → Type 0
+abbrev pub Puts : StoreState → ℕ → ℕ → List ℕ → Result Unit Denied → StoreState → Type 0
 Puts old n offset bytes (Ok u) new = HasRange old.objects n offset (length bytes) × (place_of old.places n ≡ Here)
     × (new ≡ record old { objects = with_range old.objects n offset bytes })
-Puts old n offset bytes (Err put_error.Outside) new = (HasRange old.objects n offset (length bytes) → ⊥) × (new ≡ old)
-Puts old n offset bytes (Err put_error.Away) new = HasRange old.objects n offset (length bytes) × (place_of old.places n ≡ Here → ⊥) × (new ≡ old)
+Puts old n offset bytes (Err denied.Outside) new = (HasRange old.objects n offset (length bytes) → ⊥) × (new ≡ old)
+Puts old n offset bytes (Err denied.Away) new = HasRange old.objects n offset (length bytes) × (place_of old.places n ≡ Here → ⊥) × (new ≡ old)
 
 -- ---- moves
 

@@ -1,5 +1,7 @@
 //! Why a call of a store is refused. A refusal changes nothing.
+ghost use Rattle.std.specs.Prelude.{◌≡◌};
 
+use std::alloc::AllocError;
 use thiserror::Error;
 
 /// Why no object is made.
@@ -16,29 +18,46 @@ pub enum MakeError {
     Memory,
 }
 
-/// Why a range isn't read.
+/// Why an access of an object is denied.
 #[derive(Clone, Copy, Drop, Debug, PartialEq, Eq, Error)]
-pub enum GetError {
+pub enum Denied {
     /// There is no such object, or the range does not end within its bytes.
     #[error("outside the object")]
     Outside,
     /// The object isn't here.
     #[error("the object isn't here")]
     Away,
+}
+
+/// Why a range isn't read.
+#[derive(Clone, Copy, Drop, Debug, PartialEq, Eq, Error)]
+pub enum GetError {
+    /// The access is denied.
+    #[error(transparent)]
+    Denied(Denied),
     /// An allocation failed.
     #[error("no memory")]
     Memory,
 }
 
-/// Why a range isn't written.
-#[derive(Clone, Copy, Drop, Debug, PartialEq, Eq, Error)]
-pub enum PutError {
-    /// There is no such object, or the range does not end within its bytes.
-    #[error("outside the object")]
-    Outside,
-    /// The object isn't here.
-    #[error("the object isn't here")]
-    Away,
+impl From<Denied> for GetError {
+    ghost use Rattle.object_store.specs.declared.errors.GetError.TheVariants as get_error;
+
+    ghost from_gives = { λ denied error. error ≡ get_error.Denied denied };
+
+    fn from(denied: Denied) -> GetError {
+        GetError::Denied(denied)
+    }
+}
+
+impl From<AllocError> for GetError {
+    ghost use Rattle.object_store.specs.declared.errors.GetError.TheVariants as get_error;
+
+    ghost from_gives = { λ _ error. error ≡ get_error.Memory };
+
+    fn from(_error: AllocError) -> GetError {
+        GetError::Memory
+    }
 }
 
 /// Why a store isn't taken apart.

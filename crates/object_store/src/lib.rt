@@ -12,7 +12,7 @@ mod scoping;
 mod standing;
 mod stores;
 
-pub use errors::{GetError, MakeError, PartsError, PutError};
+pub use errors::{Denied, GetError, MakeError, PartsError};
 pub use parts::Parts;
 pub use placement::{Moved, Place};
 pub use stores::leased::{Lease, LeasedMemory};

@@ -1,5 +1,5 @@
 //! One object of a list: how long it is, where it is, and whether an access can be done.
-ghost use Rattle.std.specs.Prelude.{◌≡◌, ◌<◌, length, map, None, IfSome, IsSome};
+ghost use Rattle.std.specs.Prelude.{◌≡◌, ◌<◌, length, map, None, IfSome, IsSome, IsOk};
 ghost use Rattle.memory.specs.Objects.{bytes_of};
 ghost use Rattle.object_store.specs.Stores.{place_of};
 ghost use Rattle.object_store.specs.Bodies.{bytes_in, place_in};
@@ -7,20 +7,10 @@ ghost use Rattle.object_store.specs.Standings.{Stands, StandsRange};
 ghost use Rattle.placement.specs.declared.places.Place.TheVariants as place;
 
 use crate::bodies::ObjectBody;
+use crate::errors::Denied;
 use far_store::FarStore;
 use memory::Op;
 use placement::Place;
-
-/// What stands in the way of an access.
-#[derive(Clone, Copy, Drop, Debug, PartialEq, Eq)]
-pub enum Standing {
-    /// It isn't inside an object.
-    Outside,
-    /// The object isn't here.
-    Away,
-    /// Nothing.
-    Here,
-}
 
 /// How many bytes a number has, wherever they are.
 #[tactic(auto, using(crate::proofs::Listed::at_steps))]
@@ -51,21 +41,21 @@ pub fn place_at<F: FarStore>(bodies: &[ObjectBody<F>], number: usize) -> Option<
 /// Whether an access can be done.
 #[tactic(auto, using(crate::proofs::Listed::at_steps))]
 #[inline(always)]
-pub fn stand<F: FarStore>(bodies: &[ObjectBody<F>], number: usize, op: &Op) -> Standing
+pub fn stand<F: FarStore>(bodies: &[ObjectBody<F>], number: usize, op: &Op) -> Result<(), Denied>
     ensures stands { Stands (map bytes_in bodies.now) (map place_in bodies.now) number op.now result }
-    ensures found { result ≡ Standing.Here → number < length bodies.now }
+    ensures found { IsOk result → number < length bodies.now }
 {
     if number >= bodies.len() {
-        return Standing::Outside;
+        return Err(Denied::Outside);
     }
     let body = &bodies[number];
     if !op.is_inside(body.len()) {
-        return Standing::Outside;
+        return Err(Denied::Outside);
     }
     if body.is_here() {
-        Standing::Here
+        Ok(())
     } else {
-        Standing::Away
+        Err(Denied::Away)
     }
 }
 
@@ -76,16 +66,16 @@ pub fn stand_range<F: FarStore>(
     number: usize,
     offset: usize,
     count: usize,
-) -> Standing
+) -> Result<(), Denied>
     ensures stands { StandsRange (map bytes_in bodies.now) (map place_in bodies.now) number offset count result }
-    ensures found { result ≡ Standing.Here → number < length bodies.now }
+    ensures found { IsOk result → number < length bodies.now }
 {
     let length = length_at(bodies, number);
     if length == 0 || offset > length || count > length - offset {
-        return Standing::Outside;
+        return Err(Denied::Outside);
     }
     match bodies[number].place() {
-        Place::Here => Standing::Here,
-        _ => Standing::Away,
+        Place::Here => Ok(()),
+        _ => Err(Denied::Away),
     }
 }

@@ -1,5 +1,5 @@
 //! The objects of an agent, and their moves to a far store and back.
-ghost use Rattle.std.specs.Prelude.{◌≡◌, ◌≢◌, ◌≤◌, [], ◌∷◌, ◌++◌, true, false, map, set, None, Ok, Err, IfOk, IfErr, IfSome, OnOk, OnErr, length};
+ghost use Rattle.std.specs.Prelude.{◌≡◌, ◌≤◌, [], ◌∷◌, ◌++◌, true, false, map, set, None, Ok, Err, IfOk, IfErr, IfSome, OnOk, OnErr, length};
 ghost use Rattle.memory.specs.Objects.{IsLive, bytes_of, object_bytes, object_limit};
 ghost use Rattle.object_store.specs.Stores.{HasWindow, IsStore, IsScoped, StandsAt, Touches, store_start, with_window, unsent, sent_of};
 ghost use Rattle.object_store.specs.Asking.{AsksNothing, AsksToFree, AsksToLeave, AsksToReturn, sent_after};
@@ -13,10 +13,10 @@ pub(crate) mod leased;
 mod lending;
 
 use crate::bodies::ObjectBody;
-use crate::errors::{GetError, MakeError, PartsError, PutError};
+use crate::errors::{Denied, GetError, MakeError, PartsError};
 use crate::parts::{Parts, first_away, from_one, take_all};
 use crate::scoping::{close, note};
-use crate::standing::{Standing, length_at, place_at, stand, stand_range};
+use crate::standing::{length_at, place_at, stand, stand_range};
 use far_store::FarStore;
 use memory::{Memory, OBJECT_LIMIT, Op, Reach};
 use placement::{Moved, Place};
@@ -191,51 +191,35 @@ impl<F: FarStore> ObjectStore<F> {
     {
         let bodies = self.bodies.as_slice();
         let (index, offset, count) = (number as usize, offset as usize, length as usize);
-        match stand_range(bodies, index, offset, count) {
-            Standing::Outside => Err(GetError::Outside),
-            Standing::Away => Err(GetError::Away),
-            Standing::Here => match bodies[index].copy(self.alloc, offset, count) {
-                Ok(bytes) => Ok(bytes),
-                Err(_) => Err(GetError::Memory),
-            },
-        }
+        stand_range(bodies, index, offset, count)?;
+        Ok(bodies[index].copy(self.alloc, offset, count)?)
     }
 
     /// Copies a range of an object over these bytes, as many as they are. It takes no memory, and on a refusal the bytes stay.
-    pub fn read(&self, number: u32, offset: u32, into: &mut [u8]) -> Result<(), GetError>
+    pub fn read(&self, number: u32, offset: u32, into: &mut [u8]) -> Result<(), Denied>
         ensures got { OnOk result (Gets self.now.state number offset (length into.old) (Ok into.new)) }
-        ensures refused { IfErr result (λ error. Gets self.now.state number offset (length into.old) (Err error) × (error ≢ GetError.Memory)) }
+        ensures refused { IfErr result (λ denied. Gets self.now.state number offset (length into.old) (Err (GetError.Denied denied))) }
         ensures kept { OnErr result (into.new ≡ into.old) }
     {
         let bodies = self.bodies.as_slice();
         let (index, offset) = (number as usize, offset as usize);
-        match stand_range(bodies, index, offset, into.len()) {
-            Standing::Outside => Err(GetError::Outside),
-            Standing::Away => Err(GetError::Away),
-            Standing::Here => {
-                bodies[index].read(offset, into);
-                Ok(())
-            }
-        }
+        stand_range(bodies, index, offset, into.len())?;
+        bodies[index].read(offset, into);
+        Ok(())
     }
 
     /// Writes bytes over a range of an object.
-    pub fn put(&mut self, number: u32, offset: u32, bytes: &[u8]) -> Result<(), PutError>
+    pub fn put(&mut self, number: u32, offset: u32, bytes: &[u8]) -> Result<(), Denied>
         ensures puts { Puts self.old.state number offset bytes.now result self.new.state }
         ensures far { self.new.far ≡ self.old.far }
         ensures sent { OnOk result (self.new.sent ≡ set self.old.sent number (record (sent_of self.old.sent number) { clean = false })) }
         ensures same { OnErr result (self.new.sent ≡ self.old.sent) }
     {
         let (index, offset) = (number as usize, offset as usize);
-        match stand_range(self.bodies.as_slice(), index, offset, bytes.len()) {
-            Standing::Outside => Err(PutError::Outside),
-            Standing::Away => Err(PutError::Away),
-            Standing::Here => {
-                let bodies = self.bodies.as_mut_slice();
-                bodies[index].write(offset, bytes);
-                Ok(())
-            }
-        }
+        stand_range(self.bodies.as_slice(), index, offset, bytes.len())?;
+        let bodies = self.bodies.as_mut_slice();
+        bodies[index].write(offset, bytes);
+        Ok(())
     }
 
     /// Does one access of an object by a machine, which then has it in scope. Takes no memory.
@@ -248,9 +232,9 @@ impl<F: FarStore> ObjectStore<F> {
     {
         let index = number as usize;
         match stand(self.bodies.as_slice(), index, op) {
-            Standing::Outside => Reach::Outside,
-            Standing::Away => Reach::Away,
-            Standing::Here => {
+            Err(Denied::Outside) => Reach::Outside,
+            Err(Denied::Away) => Reach::Away,
+            Ok(()) => {
                 let bodies = self.bodies.as_mut_slice();
                 let answer = bodies[index].act(op);
                 note(bodies, &mut self.windows, who, number);

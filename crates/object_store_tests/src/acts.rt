@@ -4,7 +4,7 @@ use crate::compared::compare_row;
 use far_store::FarStore;
 use isa_table::{AtomicOp, Size, Width};
 use memory::{Action, OBJECT_BYTES, Op, Reach};
-use object_store::{GetError, MakeError, Moved, ObjectStore, Place, PutError};
+use object_store::{Denied, GetError, MakeError, Moved, ObjectStore, Place};
 use scopes::MACHINE_LIMIT;
 use std::process::Abort;
 
@@ -48,7 +48,7 @@ pub enum Answer {
     /// So many bytes, and the first eight of them, with zeros behind.
     Got(usize, [u8; 8]),
     NotGot(GetError),
-    Put(Result<(), PutError>),
+    Put(Result<(), Denied>),
     Reached(Reach),
     Closed,
     /// There is no object of such a length, or no machine of such a number, so that nothing was asked.

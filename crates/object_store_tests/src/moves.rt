@@ -4,7 +4,7 @@ use crate::acts::{ADD_ONE, Act, Answer, DONE, LOAD, NO_OBJECT, tells};
 use crate::stores::{AMPLE, failing_objects, objects_within, own_objects};
 use far_store::StoreFault;
 use memory::Reach;
-use object_store::{GetError, MakeError, Moved, Place, PutError};
+use object_store::{Denied, GetError, MakeError, Moved, Place};
 use scopes::MACHINE_LIMIT;
 use std::test::Fail;
 
@@ -34,7 +34,10 @@ const HELD: &[(Act, Answer)] = &[
     (Act::Leave(1), SCOPED),
     (Act::Close(2), Answer::Closed),
     (Act::Leave(1), DONE),
-    (Act::Get(1, 0, 8), Answer::NotGot(GetError::Away)),
+    (
+        Act::Get(1, 0, 8),
+        Answer::NotGot(GetError::Denied(Denied::Away)),
+    ),
     (Act::Left(1), DONE),
     (Act::Return(1), DONE),
     (Act::Home(1), DONE),
@@ -55,9 +58,12 @@ const ABROAD: &[(Act, Answer)] = &[
     (Act::Touch(1, 1, LOAD), AWAY),
     (Act::Left(1), DONE),
     (Act::Touch(1, 1, LOAD), AWAY),
-    (Act::Put(1, 0, &[1]), Answer::Put(Err(PutError::Away))),
-    (Act::Put(1, 8, &[1]), Answer::Put(Err(PutError::Outside))),
-    (Act::Get(1, 8, 1), Answer::NotGot(GetError::Outside)),
+    (Act::Put(1, 0, &[1]), Answer::Put(Err(Denied::Away))),
+    (Act::Put(1, 8, &[1]), Answer::Put(Err(Denied::Outside))),
+    (
+        Act::Get(1, 8, 1),
+        Answer::NotGot(GetError::Denied(Denied::Outside)),
+    ),
     (Act::Length(1), Answer::Length(8)),
     (Act::Leave(1), FAR),
     (Act::Home(1), FAR),
@@ -92,7 +98,10 @@ const FIVE: &[(Act, Answer)] = &[
     (Act::Return(3), HERE),
     (Act::Free(1), LEAVING),
     (Act::Free(3), DONE),
-    (Act::Get(3, 0, 1), Answer::NotGot(GetError::Outside)),
+    (
+        Act::Get(3, 0, 1),
+        Answer::NotGot(GetError::Denied(Denied::Outside)),
+    ),
 ];
 
 #[test]

@@ -3,14 +3,14 @@
 use crate::acts::{Act, Answer, DONE, LOAD, NO_OBJECT, tells};
 use crate::stores::own_objects;
 use memory::{OBJECT_LIMIT, Reach};
-use object_store::{GetError, MakeError, PutError};
+use object_store::{Denied, GetError, MakeError};
 use std::test::Fail;
 
 /// Nothing is got there.
-const NOT_GOT: Answer = Answer::NotGot(GetError::Outside);
+const NOT_GOT: Answer = Answer::NotGot(GetError::Denied(Denied::Outside));
 
 /// Nothing is put there.
-const NOT_PUT: Answer = Answer::Put(Err(PutError::Outside));
+const NOT_PUT: Answer = Answer::Put(Err(Denied::Outside));
 
 /// After as many objects as can be made.
 const FULL: &[(Act, Answer)] = &[

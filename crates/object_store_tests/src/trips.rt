@@ -6,7 +6,7 @@ use crate::compared::same;
 use crate::stores::{AMPLE, Unwilling, counting_objects, failing_objects};
 use far_store::{FarStore, StoreFault};
 use memory::OBJECT_BYTES;
-use object_store::{Moved, ObjectStore, PartsError, Place, PutError};
+use object_store::{Denied, Moved, ObjectStore, PartsError, Place};
 use std::alloc::{AllocError, Global};
 use std::process::Abort;
 use std::rc::Rc;
@@ -165,7 +165,7 @@ fn the_longest_objects_go_and_come(rt: HostRuntime) -> Result<(), Fail> {
 #[derive(Clone, Copy, Drop, Debug, PartialEq, Eq)]
 struct Faulted {
     first: [Moved; 4],
-    put: Result<(), PutError>,
+    put: Result<(), Denied>,
     second: [Moved; 4],
     last: [Moved; 2],
     begins: [bool; 2],
@@ -247,7 +247,7 @@ fn the_first_put_fails(rt: HostRuntime) -> Result<(), Fail> {
 fn the_first_get_fails(rt: HostRuntime) -> Result<(), Fail> {
     let expected = Faulted {
         first: [DONE, DONE, DONE, REFUSED],
-        put: Err(PutError::Away),
+        put: Err(Denied::Away),
         second: [FAR, FAR, DONE, DONE],
         begins: [true, false],
         faults: 1,

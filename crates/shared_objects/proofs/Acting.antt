@@ -1,5 +1,5 @@
 -- A seat after a call of its actor.
-use Rattle.std.proofs.Common.{◌≡◌, ℕ, ◌+◌, ◌<◌, ◌≤◌, List, [], ◌∷◌, length, sym, refl, ap, ◌∙◌, ◌^◌, max, subst, arith, None, zero, map, suc, ◌++◌, take, drop}
+use Rattle.std.proofs.Common.{◌≡◌, Ok, Err, ℕ, ◌+◌, ◌<◌, ◌≤◌, List, [], ◌∷◌, length, sym, refl, ap, ◌∙◌, subst, arith, None, zero, map, suc, ◌++◌, take, drop}
 use Rattle.std.proofs.Common.{length-take, length-drop}
 use Rattle.std.proofs.lemmas.List.{length-map}
 use Rattle.atomic_table.specs.Table.{rest}
@@ -10,16 +10,16 @@ use Rattle.memory.specs.declared.access.Op.{Op}
 use Rattle.memory.specs.Access.{size_of, count_of, part}
 use Rattle.shared_objects.specs.declared.body.Body.{Body}
 use Rattle.memory.specs.Objects.{bytes_of}
-use Rattle.shared_objects.specs.Kinds.{Sat, shut, looking, marked, recorded, worn_out}
+use Rattle.shared_objects.specs.Kinds.{Sat, shut, recorded}
 use Rattle.scopes.specs.Windows.{noted}
 use Rattle.shared_objects.specs.History.{top, entry}
 use Rattle.memory.specs.declared.deeds.Deed.{Deed}
 use Rattle.memory.specs.declared.deeds.Given.{Given}
 use Rattle.memory.specs.Deeds.{EndsInside, given_by, left_by}
 use Rattle.shared_objects.specs.Beginnings.{Begins}
-use Rattle.shared_objects.specs.declared.touching.Begun.TheVariants.{Turn}
+use Rattle.shared_objects.specs.declared.errors.Denied.{Denied}
+use Rattle.shared_objects.specs.declared.errors.Denied.TheVariants as denied
 use Rattle.shared_objects.specs.declared.view.SharedEntry.{SharedEntry}
-use Rattle.shared_objects.specs.declared.view.Mark.TheVariants.{Busy}
 use Rattle.shared_objects.proofs.Logs.{top-snoc}
 use Rattle.shared_objects.specs.Resting.{Rests, AllBelow, HoldsBody}
 use Rattle.shared_objects.proofs.Noted.{below_noted}
@@ -81,21 +81,24 @@ module _ (shared : SharedTable) (a : ActorSeat) (of : IsActorOf shared a) (n : �
   lt : n < length a.seat.me.0.opening
   lt = opened_at shared.lengths.items (table_opening shared) a.seat.me.0.opening n shared.sizes of.1 near
 
-  -- another had the turn
-  pub busy_seat : {new : Sat} {after : List ℕ} → (new ≡ (marked (Busy n) (looking n a.seat.me.0), [])) × (after ≡ noted n a.window)
-      → ActorFits new after a.stamp
-  busy_seat {new} {after} b =
+  -- it was denied
+  pub denied_seat : (new : Sat) (after : List ℕ) (why : Denied) → Begins a.seat.me.0 a.window a.stamp n (Err why) new after → ActorFits new after a.stamp
+  denied_seat new after denied.Outside b = absurd b
+  denied_seat new after denied.Away b = record {
+    rests = rests_after a.seat.me new _ a.rests b.0 a.rests.1 refl refl refl refl refl;
+    opens = ap (λ (m : Sat). m.0.scopes) b.0 ∙ a.opens ∙ sym b.1;
+    near = subst (λ (m : Sat). AllBelow (length m.0.opening) after) (sym b.0) (subst (AllBelow (length a.seat.me.0.opening)) (sym b.1) a.near);
+    stamped = subst (λ (m : Sat). top 0 m.0.entries ≤ a.stamp) (sym b.0) a.stamped;
+  }
+  denied_seat new after denied.Busy b =
       noted_seat a.seat.me new _ a.window after n a.stamp a.rests a.opens a.near b.0 b.1 refl a.rests.1 refl refl refl refl refl refl lt a.stamped
-
-  -- the stamps have run out
-  pub worn_seat : {new : Sat} {after : List ℕ} → ((found : ℕ) × (2 ^ 48 ≤ max a.stamp found + 1) × (new ≡ (worn_out n found (looking n a.seat.me.0), [])))
-      × (after ≡ noted n a.window) → ActorFits new after a.stamp
-  worn_seat {new} {after} b =
+  denied_seat new after denied.Worn b =
       noted_seat a.seat.me new _ a.window after n a.stamp a.rests a.opens a.near b.0.2 b.1 refl refl refl refl refl refl refl refl lt a.stamped
 
 -- it had the turn, and there is one entry more
 pub done_seat : {new : Sat} {after : List ℕ} (deed : Deed) (given : Given) (shared : SharedTable) (a : ActorSeat) (of : IsActorOf shared a) (n : ℕ)
-    (near : n < length shared.lengths.items) (found stamp : ℕ) (m : Sat) (v : View) → Begins a.seat.me.0 a.window a.stamp n (Turn found stamp) m after
+    (near : n < length shared.lengths.items) (found stamp : ℕ) (m : Sat) (v : View)
+    → Begins a.seat.me.0 a.window a.stamp n (Ok (record { found = found; stamp = stamp })) m after
     → v ≡ m.0 → new ≡ (recorded (entry v.actor stamp found n deed given) v, []) → ActorFits new after stamp
 done_seat {new} {after} deed given shared a of n near found stamp m v b same is =
     let told = is ∙ ap (λ (u : View). (recorded (entry u.actor stamp found n deed given) u, [])) (same ∙ b.2.2.0) in

@@ -3,14 +3,14 @@ use Rattle.std.proofs.Common.{◌≡◌, Bool, ℕ, suc, ◌+◌, ◌≤◌, Lis
 use mathlib.Core.Option.{some}
 use lib.ListN.{get_elem?}
 use Rattle.atomic_table.specs.Table.{State}
-use Rattle.shared_objects.specs.Rule.{total, times, has_open, has_pass, Kept}
+use Rattle.shared_objects.specs.Rule.{total, times, has_open, has_pass, actor_limit, seat_limit, Kept}
 use Rattle.shared_objects.specs.declared.body.Body.{Body}
 use Rattle.shared_objects.specs.declared.view.View.{View}
 use Rattle.shared_objects.proofs.Sums.{total_few}
 use Rattle.shared_objects.proofs.Keeps.{total-sum}
 
-few_rest : (n : ℕ) (vs : List View) → length vs ≤ 57 → ((j : ℕ) (v : View) → get_elem? vs j ≡ some v → has_open n v + has_pass n v ≤ 1)
-    → ((v : View) → get_elem? vs 0 ≡ some v → (v.scopes ≡ []) × (v.passing ≡ [])) → total (has_open n) vs + total (has_pass n) vs ≤ 56
+few_rest : (n : ℕ) (vs : List View) → length vs ≤ seat_limit → ((j : ℕ) (v : View) → get_elem? vs j ≡ some v → has_open n v + has_pass n v ≤ 1)
+    → ((v : View) → get_elem? vs 0 ≡ some v → (v.scopes ≡ []) × (v.passing ≡ [])) → total (has_open n) vs + total (has_pass n) vs ≤ actor_limit
 few_rest n [] few once first = omega arith
 few_rest n (v ∷ vs) few once first = let f = first v refl in
     omega (
@@ -22,6 +22,6 @@ few_rest n (v ∷ vs) few once first = let f = first v refl in
     )
 
 pub counts_few : (returns : Bool) (opening : List (List ℕ)) (s : State Body View) → Kept returns opening s → (n : ℕ)
-    → total (has_open n) s.views + total (has_pass n) s.views ≤ 56
+    → total (has_open n) s.views + total (has_pass n) s.views ≤ actor_limit
 counts_few returns opening s o n = few_rest n s.views o.seats.few (λ j v e. (o.seats.knows j v e).opens_once n) (λ v e. let h =
     (o.seats.knows 0 v e).first refl in (h.1, h.2))

@@ -11,7 +11,7 @@ use Rattle.atomic_table.specs.Table.{State, Joins}
 use Rattle.atomic_table.proofs.Lists.{at_set, set_else}
 use Rattle.shared_objects.specs.History.{Has, Chained, AllInside, Answers}
 use Rattle.memory.specs.Objects.{bytes_of}
-use Rattle.shared_objects.specs.Rule.{total, times, has_turn, has_open, has_pass, has_moving, has_far, place_of, bytes_taken, is_moving, is_far, is_live, spent}
+use Rattle.shared_objects.specs.Rule.{seat_limit, total, times, has_turn, has_open, has_pass, has_moving, has_far, place_of, bytes_taken, is_moving, is_far, is_live, spent}
 use Rattle.shared_objects.specs.Rule.{part_touches, has_touched, has_cooled}
 use Rattle.shared_objects.specs.Rule.{HasPart, PartFits, MarkFits, Stands, turns_on, Knows, Kept}
 use Rattle.shared_objects.specs.Kinds.{gathers, gathers_all, part}
@@ -110,7 +110,7 @@ joins_ok returns key id v other u maker alive_ here young free shut clean past h
         nowhere = o.objects.nowhere;
       };
       seats = record {
-        few = subst (λ n. n ≤ 57) (sym long) o.seats.few;
+        few = subst (λ n. n ≤ seat_limit) (sym long) o.seats.few;
         knows = λ j x at. ⊎_elim
             (λ (t : (j ≡ other) × (spent ≡ x)). subst (λ y. Knows returns key o.logs j y) t.1
             (knows_nothing returns key o.logs j false spent.returns spent.actor spent.opening (λ z. not_zero (sym t.0 ∙ z))

@@ -15,7 +15,7 @@ use Rattle.atomic_table.proofs.Lists.{set_here, at_set, set_else, at_longer}
 use Rattle.memory.specs.Deeds.{EndsInside, given_by, left_by}
 use Rattle.shared_objects.specs.History.{Has, top}
 use Rattle.memory.specs.Objects.{bytes_of}
-use Rattle.shared_objects.specs.Rule.{total, times, same, has_turn, has_open, has_pass, has_moving, has_far, bytes_taken, is_moving, is_far, is_live, spent}
+use Rattle.shared_objects.specs.Rule.{seat_limit, total, times, same, has_turn, has_open, has_pass, has_moving, has_far, bytes_taken, is_moving, is_far, is_live, spent}
 use Rattle.shared_objects.specs.Rule.{entry_on, mark_on, has_touched, has_cooled}
 use Rattle.shared_objects.specs.Rule.{Written, PartFits, TurnFits, MarkFits, Stands, turns_on, word_of, tally, Knows, Kept}
 use Rattle.shared_objects.specs.Kinds.{Sat, object_at, turn, with_scope, without, without_scope, with_pass, without_pass, marked, holding, recorded, worn_out}
@@ -60,7 +60,7 @@ no_turn : (n : ℕ) (v : View) → v.turn ≡ None → has_turn n v ≡ 0
 no_turn n v e = ap (turns_on n) e
 
 module _ (returns : Bool) (key : List (List ℕ)) (s : St) (o : Kept returns key s) where
-  pub few_open : (n : ℕ) → total (has_open n) s.views + total (has_pass n) s.views ≤ 57
+  pub few_open : (n : ℕ) → total (has_open n) s.views + total (has_pass n) s.views ≤ seat_limit
   few_open n = let a = total_few (λ v. has_open n v + has_pass n v) s.views (λ j v e. (o.seats.knows j v e).opens_once n) in let b = o.seats.few in
       let c = total-sum (has_open n) (has_pass n) s.views in omega arith
 
@@ -399,7 +399,7 @@ module _ (returns : Bool) (key : List (List ℕ)) (logs : ℕ → List SharedEnt
       k.out (λ e has. (k.entries e has).1) k.marks
 
 -- The first seat makes one more
-pub deals_ok : (returns : Bool) (key : List (List ℕ)) (id : ℕ) (v : View) → 0 < v.made → v.made < 57 → v.live ≡ true
+pub deals_ok : (returns : Bool) (key : List (List ℕ)) (id : ℕ) (v : View) → 0 < v.made → v.made < seat_limit → v.live ≡ true
     → Splits (Kept returns key) id v (dealt v) (newcomer v)
 deals_ok returns key id v is_dealer room alive_ s o me =
     let d = o.seats.dealer id v me is_dealer in

@@ -1,5 +1,5 @@
 -- What a seat learnt of stands before what it does afterwards.
-use Rattle.std.proofs.Common.{◌≡◌, ℕ, zero, suc, ◌<◌, ◌≤◌, Bool, List, [], ◌∷◌, ◌++◌, refl, ap, ◌∙◌, subst, arith, max, inl, ⊎_elim}
+use Rattle.std.proofs.Common.{◌≡◌, Result, Ok, Err, ℕ, zero, suc, ◌<◌, ◌≤◌, Bool, List, [], ◌∷◌, ◌++◌, refl, ap, ◌∙◌, subst, arith, max, inl, ⊎_elim}
 use Rattle.std.specs.Prelude.{◌==◌}
 use mathlib.Core.Option.{some, some-injective}
 use lib.ListN.{get_elem?}
@@ -19,10 +19,12 @@ use Rattle.shared_objects.specs.Learnt.Call.{Learn, Touch, Put, Get, CloseScopes
 use Rattle.shared_objects.specs.Legal.{Legal}
 use Rattle.shared_objects.specs.One.{entries_on}
 use Rattle.shared_objects.specs.Rule.{Kept}
-use Rattle.shared_objects.specs.Touches.{Does, Touches, PutsRange, GetsRange}
+use Rattle.shared_objects.specs.Touches.{Does, Denies, Touches, PutsRange, GetsRange}
 use Rattle.shared_objects.specs.declared.body.Body.{Body}
-use Rattle.shared_objects.specs.declared.touching.Fetched.{Fetched}
-use Rattle.shared_objects.specs.declared.touching.Fetched.TheVariants as fetched
+use Rattle.shared_objects.specs.declared.errors.Denied.{Denied}
+use Rattle.shared_objects.specs.declared.errors.Denied.TheVariants as denied
+use Rattle.shared_objects.specs.declared.errors.GetError.{GetError}
+use Rattle.shared_objects.specs.declared.errors.GetError.TheVariants as get_error
 use Rattle.shared_objects.specs.declared.view.SharedEntry.{SharedEntry}
 use Rattle.shared_objects.specs.declared.view.View.{View}
 use Rattle.shared_objects.proofs.One.{empty, has_cons, first, rises_above, picks, by_same}
@@ -82,19 +84,20 @@ touch_adds v a n op reach.Busy w b h = adds_none v w a b (ap (λ (u : View). u.e
 touch_adds v a n op reach.Outside w b h = adds_none v w a b (ap (λ (u : View). u.entries) h.2) (let e = h.1 in omega (arith, e))
 touch_adds v a n op reach.Worn w b h = adds_none v w a b (ap (λ (u : View). u.entries) h.2.2) (let e = h.1 in omega (arith, e))
 
-put_adds : (v : View) (a n offset : ℕ) (bytes : List ℕ) (r : Reach) (w : View) (b : ℕ) → PutsRange v a n offset bytes r w b → Adds v a w b
-put_adds v a n offset bytes (reach.Done x) w b h = adds_one v a n (Writes offset bytes) Nothing w b h.1
-put_adds v a n offset bytes reach.Away w b h = adds_none v w a b (ap (λ (u : View). u.entries) h.2) (let e = h.1 in omega (arith, e))
-put_adds v a n offset bytes reach.Busy w b h = adds_none v w a b (ap (λ (u : View). u.entries) h.2) (let e = h.1 in omega (arith, e))
-put_adds v a n offset bytes reach.Outside w b h = adds_none v w a b (ap (λ (u : View). u.entries) h.2) (let e = h.1 in omega (arith, e))
-put_adds v a n offset bytes reach.Worn w b h = adds_none v w a b (ap (λ (u : View). u.entries) h.2.2) (let e = h.1 in omega (arith, e))
+denied_adds : (v : View) (a n : ℕ) (deed : Deed) (why : Denied) (w : View) (b : ℕ) → Denies v a n deed why w b → Adds v a w b
+denied_adds v a n deed denied.Outside w b h = adds_none v w a b (ap (λ (u : View). u.entries) h.2) (let e = h.1 in omega (arith, e))
+denied_adds v a n deed denied.Away w b h = adds_none v w a b (ap (λ (u : View). u.entries) h.2) (let e = h.1 in omega (arith, e))
+denied_adds v a n deed denied.Busy w b h = adds_none v w a b (ap (λ (u : View). u.entries) h.2) (let e = h.1 in omega (arith, e))
+denied_adds v a n deed denied.Worn w b h = adds_none v w a b (ap (λ (u : View). u.entries) h.2.2) (let e = h.1 in omega (arith, e))
 
-get_adds : (v : View) (a n offset count : ℕ) (r : Fetched) (w : View) (b : ℕ) → GetsRange v a n offset count r w b → Adds v a w b
-get_adds v a n offset count (fetched.Done bytes) w b h = adds_one v a n (Reads offset count) (Bytes bytes.items) w b h
-get_adds v a n offset count fetched.Away w b h = adds_none v w a b (ap (λ (u : View). u.entries) h.2) (let e = h.1 in omega (arith, e))
-get_adds v a n offset count fetched.Busy w b h = adds_none v w a b (ap (λ (u : View). u.entries) h.2) (let e = h.1 in omega (arith, e))
-get_adds v a n offset count fetched.Outside w b h = adds_none v w a b (ap (λ (u : View). u.entries) h.2) (let e = h.1 in omega (arith, e))
-get_adds v a n offset count fetched.Worn w b h = adds_none v w a b (ap (λ (u : View). u.entries) h.2.2) (let e = h.1 in omega (arith, e))
+put_adds : (v : View) (a n offset : ℕ) (bytes : List ℕ) (r : Result Unit Denied) (w : View) (b : ℕ) → PutsRange v a n offset bytes r w b → Adds v a w b
+put_adds v a n offset bytes (Ok u) w b h = adds_one v a n (Writes offset bytes) Nothing w b h
+put_adds v a n offset bytes (Err why) w b h = denied_adds v a n (Writes offset bytes) why w b h
+
+get_adds : (v : View) (a n offset count : ℕ) (r : Result (List ℕ) GetError) (w : View) (b : ℕ) → GetsRange v a n offset count r w b → Adds v a w b
+get_adds v a n offset count (Ok bytes) w b h = adds_one v a n (Reads offset count) (Bytes bytes) w b h
+get_adds v a n offset count (Err (get_error.Denied why)) w b h = denied_adds v a n (Reads offset count) why w b h
+get_adds v a n offset count (Err get_error.Memory) w b h = adds_none v w a b (ap (λ (u : View). u.entries) h.2) (let e = h.1 in omega (arith, e))
 
 call_adds : (c : Call) (v : View) (a : ℕ) (w : View) (b : ℕ) → Did c v a w b → Adds v a w b
 call_adds (Learn x) v a w b h = adds_none v w a b (ap (λ (u : View). u.entries) h.0) (let e = h.1 in omega (arith, e))

@@ -10,7 +10,7 @@ use Rattle.atomic_table.specs.Table.{State}
 use Rattle.atomic_table.proofs.Lists.{at_set, set_else}
 use Rattle.shared_objects.specs.History.{Has, top}
 use Rattle.memory.specs.Objects.{bytes_of}
-use Rattle.shared_objects.specs.Rule.{total, has_turn, has_open, has_pass, has_moving, has_far, place_of, is_moving, is_far, bytes_taken, is_live, spent, has_touched, has_cooled}
+use Rattle.shared_objects.specs.Rule.{seat_limit, total, has_turn, has_open, has_pass, has_moving, has_far, place_of, is_moving, is_far, bytes_taken, is_live, spent, has_touched, has_cooled}
 use Rattle.shared_objects.specs.Rule.{HasPart, Written, PartFits, TurnFits, MarkFits, Stands, turns_on, word_of, Tally, tally, SlotFits, Fits, Knows, Kept}
 use Rattle.shared_objects.specs.Rule.SlotFits.{AtHome, Lent, Idle}
 use Rattle.shared_objects.specs.declared.body.Body.{Body}
@@ -253,7 +253,7 @@ module _ (returns : Bool) (opening : List (List ℕ)) (s : St) (o : Kept returns
           nowhere = λ m far. grown_else o.logs n log m (λ same. omega (arith, same)) ∙ o.objects.nowhere m far;
         };
         seats = record {
-          few = subst (λ k. k ≤ 57) (sym long') o.seats.few;
+          few = subst (λ k. k ≤ seat_limit) (sym long') o.seats.few;
           knows = λ j u at. ⊎_elim
               (λ (t : (j ≡ id) × (w ≡ u)). subst (λ y. Knows returns opening logs' j y) t.1 (subst (λ k. Knows returns opening logs' k w) (sym t.0) knows))
               (λ (t : (j ≢ id) × (get_elem? s.views j ≡ some u)). others keeps higher only j u t.0 t.1) (at_set s.views id j w u at);

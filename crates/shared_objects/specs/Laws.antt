@@ -11,7 +11,7 @@ use Rattle.shared_objects.specs.Legal.{Legal, IsOneRun, fold_of}
 use Rattle.shared_objects.specs.Learnt.{Call, DidAll, StandsAfter}
 use Rattle.shared_objects.specs.Learnt.Call.{Learn}
 use Rattle.shared_objects.specs.One.{OneList, Runs, sorted, all_entries, entries_on}
-use Rattle.shared_objects.specs.Rule.{total, has_open, has_pass, place_of, bytes_taken, word_of, Tally, tally, Written, Kept}
+use Rattle.shared_objects.specs.Rule.{actor_limit, total, has_open, has_pass, place_of, bytes_taken, word_of, Tally, tally, Written, Kept}
 use Rattle.shared_objects.specs.declared.body.Body.{Body}
 use Rattle.shared_objects.specs.declared.view.SharedEntry.{SharedEntry}
 use Rattle.shared_objects.specs.declared.view.Part.{Part}
@@ -19,10 +19,10 @@ use Rattle.shared_objects.specs.declared.view.View.{View}
 
 -- ---- words
 
--- At most 56 seats count at an object, so that no count reaches into the stamp.
+-- At most as many seats as there may be actors count at an object, so that no count reaches into the stamp.
 abbrev pub CountsStayFew : Type 0
 CountsStayFew = (returns : Bool) (opening : List (List ℕ)) (s : State Body View) → Kept returns opening s → (n : ℕ)
-    → total (has_open n) s.views + total (has_pass n) s.views ≤ 56
+    → total (has_open n) s.views + total (has_pass n) s.views ≤ actor_limit
 
 -- What the word of an object says is what all seats have of it: its place is where the mover has it, its turn is taken exactly
 -- where one seat holds it, its count is that of the seats that have it open or pass by, and its stamp is the last of its

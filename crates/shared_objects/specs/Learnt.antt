@@ -1,5 +1,5 @@
 -- What a seat does by its calls, one after the other, and that what it learnt of stands before what it does afterwards.
-use Rattle.std.specs.Prelude.{◌≡◌, ℕ, ◌≤◌, max, List, [], ◌∷◌, ◌++◌}
+use Rattle.std.specs.Prelude.{◌≡◌, ℕ, ◌≤◌, max, List, [], ◌∷◌, ◌++◌, Result}
 use Rattle.memory.specs.declared.access.Op.{Op}
 use Rattle.memory.specs.declared.access.Reach.{Reach}
 use Rattle.memory.specs.Deeds.{given_by}
@@ -8,7 +8,8 @@ use Rattle.shared_objects.specs.History.{Has, fold}
 use Rattle.shared_objects.specs.Kinds.{shut}
 use Rattle.shared_objects.specs.One.{Before, entries_on}
 use Rattle.shared_objects.specs.Touches.{Touches, PutsRange, GetsRange}
-use Rattle.shared_objects.specs.declared.touching.Fetched.{Fetched}
+use Rattle.shared_objects.specs.declared.errors.Denied.{Denied}
+use Rattle.shared_objects.specs.declared.errors.GetError.{GetError}
 use Rattle.shared_objects.specs.declared.view.SharedEntry.{SharedEntry}
 use Rattle.shared_objects.specs.declared.view.View.{View}
 
@@ -16,8 +17,8 @@ use Rattle.shared_objects.specs.declared.view.View.{View}
 pub data Call : Type 0 where
   Learn : ℕ → Call
   Touch : ℕ → Op → Reach → Call
-  Put : ℕ → ℕ → List ℕ → Reach → Call
-  Get : ℕ → ℕ → ℕ → Fetched → Call
+  Put : ℕ → ℕ → List ℕ → Result Unit Denied → Call
+  Get : ℕ → ℕ → ℕ → Result (List ℕ) GetError → Call
   CloseScopes : Call
 
 -- what the call ensures of the seat's view and stamp, before and after

@@ -172,6 +172,14 @@ Written v e = Has v.entries e ⊎ HasPart v.gathered e
 abbrev pub Stands : Bool → List ℕ → List SharedEntry → List ℕ → Type 0
 Stands returns opening log bytes = (length bytes ≡ length opening) × (returns ≡ true → bytes ≡ fold opening log)
 
+-- how many actors a table may have
+abbrev pub actor_limit : ℕ
+actor_limit = 56
+
+-- how many seats: one of each actor, and the mover's
+abbrev pub seat_limit : ℕ
+seat_limit = actor_limit + 1
+
 -- the word of the object n, so that the words of two objects never share a cache line
 abbrev pub word_of : ℕ → ℕ
 word_of n = n * 16
@@ -249,7 +257,7 @@ pub record ObjectsFit (returns : Bool) (opening : List (List ℕ)) (s : State Bo
 
 -- The seats: each knows what it has done, and the first made the others and takes them in.
 pub record SeatsFit (returns : Bool) (opening : List (List ℕ)) (s : State Body View) (logs : ℕ → List SharedEntry) : Type 0 where
-  pub few : length s.views ≤ 57
+  pub few : length s.views ≤ seat_limit
   pub knows : (id : ℕ) (v : View) → get_elem? s.views id ≡ some v → Knows returns opening logs id v
   -- the first seat made the others
   pub dealer : (id : ℕ) (v : View) → get_elem? s.views id ≡ some v → 0 < v.made → (id ≡ 0) × (v.made ≡ length s.views) × (v.alive ≡ total is_live s.views)

@@ -1,6 +1,6 @@
 -- What an access of an actor does: its view and stamp before, the object, the deed, and the view and stamp after. All else of
 -- the view stays, the actor among it.
-use Rattle.std.specs.Prelude.{◌≡◌, ℕ, ◌+◌, ◌^◌, ◌<◌, ◌≤◌, max, List, length}
+use Rattle.std.specs.Prelude.{◌≡◌, ℕ, ◌+◌, ◌^◌, ◌<◌, ◌≤◌, max, List, length, Result, Ok, Err}
 use Rattle.memory.specs.declared.access.Op.{Op}
 use Rattle.memory.specs.declared.access.Reach.{Reach}
 use Rattle.memory.specs.declared.access.Reach.TheVariants as reach
@@ -14,8 +14,10 @@ use Rattle.shared_objects.specs.History.{entry}
 use Rattle.shared_objects.specs.Kinds.{looking, marked, recorded, worn_out}
 use Rattle.shared_objects.specs.declared.view.View.{View}
 use Rattle.shared_objects.specs.declared.view.Mark.TheVariants.{Away, Busy}
-use Rattle.shared_objects.specs.declared.touching.Fetched.{Fetched}
-use Rattle.shared_objects.specs.declared.touching.Fetched.TheVariants as fetched
+use Rattle.shared_objects.specs.declared.errors.Denied.{Denied}
+use Rattle.shared_objects.specs.declared.errors.Denied.TheVariants as denied
+use Rattle.shared_objects.specs.declared.errors.GetError.{GetError}
+use Rattle.shared_objects.specs.declared.errors.GetError.TheVariants as get_error
 
 -- The deed is inside the object's bytes.
 abbrev pub IsInside : View → ℕ → Deed → Type 0
@@ -61,18 +63,31 @@ Touches v before n op reach.Busy w stamp = FindsBusy v before n (Accesses op) w 
 Touches v before n op reach.Outside w stamp = FindsOutside v before n (Accesses op) w stamp
 Touches v before n op reach.Worn w stamp = FindsWorn v before n (Accesses op) w stamp
 
--- a range that is written; its answer is 0
-abbrev pub PutsRange : View → ℕ → ℕ → ℕ → List ℕ → Reach → View → ℕ → Type 0
-PutsRange v before n offset bytes (reach.Done x) w stamp = (x ≡ 0) × Does v before n (Writes offset bytes) Nothing w stamp
-PutsRange v before n offset bytes reach.Away w stamp = FindsAway v before n (Writes offset bytes) w stamp
-PutsRange v before n offset bytes reach.Busy w stamp = FindsBusy v before n (Writes offset bytes) w stamp
-PutsRange v before n offset bytes reach.Outside w stamp = FindsOutside v before n (Writes offset bytes) w stamp
-PutsRange v before n offset bytes reach.Worn w stamp = FindsWorn v before n (Writes offset bytes) w stamp
+-- what a machine is answered where its access is denied
+abbrev pub reach_of : Denied → Reach
+reach_of denied.Outside = reach.Outside
+reach_of denied.Away = reach.Away
+reach_of denied.Busy = reach.Busy
+reach_of denied.Worn = reach.Worn
+
+-- why a deed is denied
+abbrev pub Denies : View → ℕ → ℕ → Deed → Denied → View → ℕ → Type 0
+Denies v before n deed denied.Outside w stamp = FindsOutside v before n deed w stamp
+Denies v before n deed denied.Away w stamp = FindsAway v before n deed w stamp
+Denies v before n deed denied.Busy w stamp = FindsBusy v before n deed w stamp
+Denies v before n deed denied.Worn w stamp = FindsWorn v before n deed w stamp
+
+-- a range that is written
+abbrev pub PutsRange : View → ℕ → ℕ → ℕ → List ℕ → Result Unit Denied → View → ℕ → Type 0
+PutsRange v before n offset bytes (Ok u) w stamp = Does v before n (Writes offset bytes) Nothing w stamp
+PutsRange v before n offset bytes (Err why) w stamp = Denies v before n (Writes offset bytes) why w stamp
+
+-- There was no memory for the bytes of a range that is inside, and nothing changed.
+abbrev pub LacksMemory : View → ℕ → ℕ → Deed → View → ℕ → Type 0
+LacksMemory v before n deed w stamp = IsInside v n deed × (stamp ≡ before) × (w ≡ v)
 
 -- a range that is read
-abbrev pub GetsRange : View → ℕ → ℕ → ℕ → ℕ → Fetched → View → ℕ → Type 0
-GetsRange v before n offset count (fetched.Done bytes) w stamp = Does v before n (Reads offset count) (Bytes bytes.items) w stamp
-GetsRange v before n offset count fetched.Away w stamp = FindsAway v before n (Reads offset count) w stamp
-GetsRange v before n offset count fetched.Busy w stamp = FindsBusy v before n (Reads offset count) w stamp
-GetsRange v before n offset count fetched.Outside w stamp = FindsOutside v before n (Reads offset count) w stamp
-GetsRange v before n offset count fetched.Worn w stamp = FindsWorn v before n (Reads offset count) w stamp
+abbrev pub GetsRange : View → ℕ → ℕ → ℕ → ℕ → Result (List ℕ) GetError → View → ℕ → Type 0
+GetsRange v before n offset count (Ok bytes) w stamp = Does v before n (Reads offset count) (Bytes bytes) w stamp
+GetsRange v before n offset count (Err (get_error.Denied why)) w stamp = Denies v before n (Reads offset count) why w stamp
+GetsRange v before n offset count (Err get_error.Memory) w stamp = LacksMemory v before n (Reads offset count) w stamp

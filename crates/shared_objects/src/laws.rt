@@ -2,7 +2,7 @@
 ghost use Rattle.shared_objects.specs.Laws.{CountsStayFew, WordsShowSeats, LegalHistoriesRun, TablesHaveHistories, OneListsAreLegal, SortedEntriesRun};
 ghost use Rattle.shared_objects.specs.Laws.{StampsCover, LearntStandsBefore};
 
-/// At most 56 seats count at an object, so that no count reaches into the stamp.
+/// At most 56 seats, those of actors, count at an object, so that no count reaches into the stamp.
 pub fn counts_stay_few()
     ensures { CountsStayFew }
 {}

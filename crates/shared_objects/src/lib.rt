@@ -3,6 +3,7 @@
 
 mod body;
 mod closing;
+mod errors;
 mod kinds;
 mod laws;
 mod moving;
@@ -15,6 +16,7 @@ mod touching;
 mod view;
 
 pub use closing::ObjectEnd;
+pub use errors::{Denied, GetError};
 pub use kinds::Key;
 pub use laws::{
     counts_stay_few, learnt_stands_before, legal_histories_run, one_lists_are_legal,
@@ -25,5 +27,4 @@ pub use seat_memory::SeatMemory;
 pub use seats::{ActorSeat, MoverSeat, Phase};
 pub use shared::{OpenFault, Shared};
 pub use table::SharedTable;
-pub use touching::Fetched;
 pub use view::{Mark, Part, SharedEntry, Turn, View, Whereabouts};

@@ -4,6 +4,7 @@ ghost use Rattle.memory.specs.Objects.{object_limit};
 ghost use Rattle.shared_objects.specs.Kinds.{dealer, dealt, newcomer};
 ghost use Rattle.shared_objects.specs.Opened.{AreFresh, seated};
 ghost use Rattle.shared_objects.specs.Opening.{opening_bytes};
+ghost use Rattle.shared_objects.specs.Rule.{actor_limit, seat_limit};
 ghost use Rattle.shared_objects.specs.Tables.{IsActorOf, IsMoverOf, table_opening, table_returns};
 
 use crate::body::Body;
@@ -90,7 +91,7 @@ impl SharedTable {
     /// One more actor.
     fn seat(&self, mover: &mut MoverSeat) -> ActorSeat
         requires mover { IsMoverOf self.now mover.old }
-        requires room { mover.old.seat.me.0.made < 57 }
+        requires room { mover.old.seat.me.0.made < seat_limit }
         ensures mover { IsMoverOf self.now mover.new }
         ensures view { mover.new.seat.me.0 ≡ dealt mover.old.seat.me.0 }
         ensures actor { IsActorOf self.now result × (result.stamp ≡ 0) × (result.seat.me.0 ≡ newcomer mover.old.seat.me.0) }
@@ -106,7 +107,7 @@ impl SharedTable {
     /// So many actors.
     fn seats(&self, mover: &mut MoverSeat, count: usize) -> Result<Vec<ActorSeat>, AllocError>
         requires mover { IsMoverOf self.now mover.old }
-        requires room { mover.old.seat.me.0.made + count ≤ 57 }
+        requires room { mover.old.seat.me.0.made + count ≤ seat_limit }
         ensures mover { IsMoverOf self.now mover.new }
         ensures seats { IfOk result (λ v. (length v.items ≡ count) × (mover.new.seat.me.0 ≡ seated count mover.old.seat.me.0)
             × AreFresh mover.old.seat.me.0 v.items × All (IsActorOf self.now) v.items) }
@@ -127,7 +128,7 @@ impl SharedTable {
         returns: bool,
     ) -> Result<(SharedTable, Vec<ActorSeat>, MoverSeat), AllocError>
         requires bodies { length bodies.items ≤ object_limit }
-        requires actors { actors ≤ 56 }
+        requires actors { actors ≤ actor_limit }
         ensures { IfOk result (λ r. IsMoverOf r.0 r.2 × All (IsActorOf r.0) r.1.items × (table_opening r.0 ≡ opening_bytes bodies)
             × (table_returns r.0 ≡ returns) × (length r.1.items ≡ actors)
             × AreFresh (dealer returns (opening_bytes bodies)) r.1.items × (r.2.seat.me.0 ≡ seated actors (dealer returns (opening_bytes bodies)))) }

@@ -6,6 +6,7 @@ ghost use Rattle.shared_objects.specs.Kinds.{dealer};
 ghost use Rattle.shared_objects.specs.Opened.{AreFresh, seated};
 ghost use Rattle.shared_objects.specs.Opening.{opening_bytes};
 ghost use Rattle.shared_objects.specs.Parts.{part_of};
+ghost use Rattle.shared_objects.specs.Rule.{actor_limit};
 ghost use Rattle.shared_objects.specs.Tables.{IsActorOf, IsMoverOf, table_opening};
 
 use crate::closing::ObjectEnd;
@@ -41,7 +42,7 @@ impl<F: FarStore> Shared<F> {
         actors: usize,
     ) -> Result<(Shared<F>, Vec<ActorSeat>, MoverSeat), OpenFault>
         requires bodies { length bodies.items ≤ object_limit }
-        requires actors { actors ≤ 56 }
+        requires actors { actors ≤ actor_limit }
         ensures { IfOk result (λ r. IsMoverOf r.0.table r.2 × All (IsActorOf r.0.table) r.1.items
             × (table_opening r.0.table ≡ opening_bytes bodies) × (length r.1.items ≡ actors)
             × AreFresh (dealer F.RETURNS (opening_bytes bodies)) r.1.items × (r.2.seat.me.0 ≡ seated actors (dealer F.RETURNS (opening_bytes bodies)))) }

@@ -1,8 +1,7 @@
 //! Accesses of actors.
-ghost use Rattle.std.specs.Prelude.{◌≡◌, ℕ, ◌^◌, ◌<◌, ◌≤◌, ◌+◌, max, true, List, [], length, None, Some, MatchBool, IfSome, IfOk, OnErr, IsTrue, ◌↔◌, false};
+ghost use Rattle.std.specs.Prelude.{◌≡◌, ℕ, ◌^◌, ◌<◌, ◌≤◌, ◌+◌, max, true, List, [], length, None, Some, MatchBool, IfSome, IfOk, IfErr, Ok, Err, IsTrue, ◌↔◌, false};
 ghost use Rattle.memory.specs.Access.{answer, after, part, replaced};
 ghost use Rattle.memory.specs.Access.{IsInside};
-ghost use Rattle.memory.specs.Deeds.{EndsInside, given_by, left_by};
 ghost use Rattle.memory.specs.declared.deeds.Deed.TheVariants.{Accesses, Reads, Writes};
 ghost use Rattle.memory.specs.declared.deeds.Given.TheVariants.{Number, Bytes, Nothing};
 ghost use Rattle.memory.specs.Objects.{bytes_of};
@@ -15,47 +14,25 @@ ghost use Rattle.shared_objects.specs.Opening.{opening_bytes};
 ghost use Rattle.shared_objects.specs.Resting.{Rests, AllBelow, HoldsBody};
 ghost use Rattle.shared_objects.specs.Tables.{IsActorOf, table_opening, table_returns};
 ghost use Rattle.shared_objects.specs.Touches.{Touches, PutsRange, GetsRange};
+ghost use Rattle.shared_objects.specs.declared.errors.GetError.{GetError};
 ghost use Rattle.shared_objects.specs.declared.view.Mark.TheVariants.{Away};
 
+use crate::errors::{Denied, GetError};
 use crate::kinds::{Looks, Opened, Told};
 use crate::seats::{ActorSeat, Seat};
 use crate::table::{SharedTable, WORDS_APART};
 use memory::{Op, Reach};
 use pointer_word::STAMP_LIMIT;
 use scopes::Window;
-use std::alloc::{AllocError, Global};
 use std::marker::Brand;
 
-/// What became of a range that was to be read.
-#[derive(Drop, Debug)]
-pub enum Fetched {
-    /// The bytes that were read.
-    Done(Vec<u8>),
-    /// The object is not here now.
-    Away,
-    /// Another has its turn on the object.
-    Busy,
-    /// The range does not end within the object's bytes, or there is no object.
-    Outside,
-    /// The object's stamps have run out.
-    Worn,
-}
-
-/// How far an access came.
-pub(crate) enum Begun {
-    /// The object is not here now.
-    Away,
-    /// Another has its turn on the object.
-    Busy,
-    /// The object's stamps have run out.
-    Worn,
-    /// The seat has the turn.
-    Turn {
-        /// The stamp that it found.
-        found: u64,
-        /// The stamp of the entry.
-        stamp: u64,
-    },
+/// The stamps of an access that has the turn.
+#[derive(Clone, Copy, Drop)]
+pub(crate) struct Stamps {
+    /// The one that the turn found.
+    found: u64,
+    /// That of the entry.
+    stamp: u64,
 }
 
 impl SharedTable {
@@ -105,7 +82,13 @@ impl SharedTable {
 
     /// Notes the object and takes its turn. Where that was had and the stamps have run out, the turn is given up.
     #[inline(always)]
-    fn begin(&self, seat: &mut Seat, window: &mut Window, last: u64, number: u32) -> Begun
+    fn begin(
+        &self,
+        seat: &mut Seat,
+        window: &mut Window,
+        last: u64,
+        number: u32,
+    ) -> Result<Stamps, Denied>
         requires seat { seat.old.table_id ≡ self.now.table.shared.table_id }
         requires rests { Rests seat.old.me }
         requires object { number < length self.now.lengths.items }
@@ -114,21 +97,21 @@ impl SharedTable {
         ensures begins { Begins seat.old.me.0 window.old last number result seat.new.me window.new }
     {
         if !self.note(seat, window, number) {
-            return Begun::Away;
+            return Err(Denied::Away);
         }
         let n = number as usize;
         let Some(found) = self.take_turn(seat, n) else {
-            return Begun::Busy;
+            return Err(Denied::Busy);
         };
         let greatest = found.max(last);
         if greatest >= STAMP_LIMIT {
             self.give_up_turn(seat, n, found);
-            return Begun::Worn;
+            return Err(Denied::Worn);
         }
-        Begun::Turn {
+        Ok(Stamps {
             found,
             stamp: greatest + 1,
-        }
+        })
     }
 
     /// The access, on the body that the seat has.
@@ -251,10 +234,8 @@ impl SharedTable {
         }
         let n = number as usize;
         match self.begin(&mut actor.seat, &mut actor.window, actor.stamp, number) {
-            Begun::Away => Reach::Away,
-            Begun::Busy => Reach::Busy,
-            Begun::Worn => Reach::Worn,
-            Begun::Turn { found, stamp } => {
+            Err(denied) => denied.reach(),
+            Ok(Stamps { found, stamp }) => {
                 let reply = self.act(&mut actor.seat, n, op);
                 self.record_access::<Brand>(&mut actor.seat, n, found, stamp, op, reply);
                 actor.stamp = stamp;
@@ -274,26 +255,31 @@ impl SharedTable {
     }
 
     /// Writes over a range of an object, as one entry.
-    pub fn put(&self, actor: &mut ActorSeat, number: u32, offset: u32, bytes: &[u8]) -> Reach
+    pub fn put(
+        &self,
+        actor: &mut ActorSeat,
+        number: u32,
+        offset: u32,
+        bytes: &[u8],
+    ) -> Result<(), Denied>
         requires { IsActorOf self.now actor.old }
         ensures actor { IsActorOf self.now actor.new }
         ensures put { PutsRange actor.old.seat.me.0 actor.old.stamp number offset bytes.now result actor.new.seat.me.0 actor.new.stamp }
     {
         if !self.has_range(number, offset, bytes.len()) {
-            return Reach::Outside;
+            return Err(Denied::Outside);
         }
         let n = number as usize;
-        match self.begin(&mut actor.seat, &mut actor.window, actor.stamp, number) {
-            Begun::Away => Reach::Away,
-            Begun::Busy => Reach::Busy,
-            Begun::Worn => Reach::Worn,
-            Begun::Turn { found, stamp } => {
-                self.write(&mut actor.seat, n, offset as usize, bytes);
-                self.record_write::<Brand>(&mut actor.seat, n, found, stamp, offset, bytes);
-                actor.stamp = stamp;
-                Reach::Done(0)
-            }
-        }
+        let Stamps { found, stamp } = self.begin(
+            &mut actor.seat,
+            &mut actor.window,
+            actor.stamp,
+            number,
+        )?;
+        self.write(&mut actor.seat, n, offset as usize, bytes);
+        self.record_write::<Brand>(&mut actor.seat, n, found, stamp, offset, bytes);
+        actor.stamp = stamp;
+        Ok(())
     }
 
     /// Reads a range of an object, as one entry. The memory for it is taken before any step.
@@ -303,28 +289,29 @@ impl SharedTable {
         number: u32,
         offset: u32,
         count: u32,
-    ) -> Result<Fetched, AllocError>
+    ) -> Result<Vec<u8>, GetError>
         requires { IsActorOf self.now actor.old }
         ensures actor { IsActorOf self.now actor.new }
-        ensures get { IfOk result (λ f. GetsRange actor.old.seat.me.0 actor.old.stamp number offset count f actor.new.seat.me.0 actor.new.stamp) }
-        ensures refused { OnErr result ((actor.new ≡ actor.old) × EndsInside (Reads offset count) (length (bytes_of actor.old.seat.me.0.opening number))) }
+        ensures got { IfOk result (λ v. GetsRange actor.old.seat.me.0 actor.old.stamp number offset count (Ok v.items) actor.new.seat.me.0 actor.new.stamp) }
+        ensures refused { IfErr result (λ error. GetsRange actor.old.seat.me.0 actor.old.stamp number offset count (Err error)
+            actor.new.seat.me.0 actor.new.stamp) }
+        ensures memory { IfErr result (λ error. error ≡ GetError.Memory → actor.new ≡ actor.old) }
     {
         if !self.has_range(number, offset, count as usize) {
-            return Ok(Fetched::Outside);
+            return Err(GetError::Denied(Denied::Outside));
         }
         let n = number as usize;
         let mut bytes = vec![in self.alloc; 0u8; count as usize]?;
-        match self.begin(&mut actor.seat, &mut actor.window, actor.stamp, number) {
-            Begun::Away => Ok(Fetched::Away),
-            Begun::Busy => Ok(Fetched::Busy),
-            Begun::Worn => Ok(Fetched::Worn),
-            Begun::Turn { found, stamp } => {
-                self.read(&mut actor.seat, n, offset as usize, &mut bytes);
-                self.record_read::<Brand>(&mut actor.seat, n, found, stamp, offset, count, &bytes);
-                actor.stamp = stamp;
-                Ok(Fetched::Done(bytes))
-            }
-        }
+        let Stamps { found, stamp } = self.begin(
+            &mut actor.seat,
+            &mut actor.window,
+            actor.stamp,
+            number,
+        )?;
+        self.read(&mut actor.seat, n, offset as usize, &mut bytes);
+        self.record_read::<Brand>(&mut actor.seat, n, found, stamp, offset, count, &bytes);
+        actor.stamp = stamp;
+        Ok(bytes)
     }
 
     /// The object's word, as a load finds it: at that moment the whole table kept the rule, this seat had this view, and the

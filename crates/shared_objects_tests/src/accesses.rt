@@ -4,7 +4,7 @@ use crate::compared::same;
 use crate::stage::{LOAD, Stage};
 use far_store::OwnStore;
 use memory::{Op, Reach};
-use shared_objects::Fetched;
+use shared_objects::{Denied, GetError};
 use std::test::Fail;
 
 /// The greatest stamp.
@@ -46,27 +46,19 @@ fn a_fifth_object_closes_the_oldest_scope(rt: HostRuntime) -> Result<(), Fail> {
     Ok(())
 }
 
-/// What was fetched, where it was.
-fn fetched(found: Fetched) -> Option<Vec<u8>> {
-    match found {
-        Fetched::Done(bytes) => Some(bytes),
-        _ => None,
-    }
-}
-
 #[test]
 fn ranges(rt: HostRuntime) -> Result<(), Fail> {
     let mut stage: Stage<OwnStore> = Stage::open(rt.alloc(), 2, 1)?;
-    same!(rt; stage.put(0, 2, 6, &[1, 2]), Reach::Done(0));
-    let bytes = fetched(stage.get(0, 2, 5, 3)?);
-    same!(rt; bytes.is_some_and(|bytes| bytes.as_slice() == [0, 1, 2].as_slice()), true);
-    let whole = fetched(stage.get(0, 1, 0, 8)?);
-    same!(rt; whole.is_some_and(|bytes| bytes.as_slice() == [0; 8].as_slice()), true);
-    same!(rt; stage.put(0, 2, 7, &[1, 2]), Reach::Outside);
-    same!(rt; stage.put(0, 3, 0, &[1]), Reach::Outside);
-    same!(rt; stage.put(0, 2, u32::MAX, &[1]), Reach::Outside);
-    same!(rt; matches!(stage.get(0, 2, 1, 8)?, Fetched::Outside), true);
-    same!(rt; matches!(stage.get(0, 0, 0, 0)?, Fetched::Outside), true);
+    same!(rt; stage.put(0, 2, 6, &[1, 2]), Ok(()));
+    let bytes = stage.get(0, 2, 5, 3)?;
+    same!(rt; bytes.as_slice(), [0, 1, 2].as_slice());
+    let whole = stage.get(0, 1, 0, 8)?;
+    same!(rt; whole.as_slice(), [0; 8].as_slice());
+    same!(rt; stage.put(0, 2, 7, &[1, 2]), Err(Denied::Outside));
+    same!(rt; stage.put(0, 3, 0, &[1]), Err(Denied::Outside));
+    same!(rt; stage.put(0, 2, u32::MAX, &[1]), Err(Denied::Outside));
+    same!(rt; matches!(stage.get(0, 2, 1, 8), Err(GetError::Denied(Denied::Outside))), true);
+    same!(rt; matches!(stage.get(0, 0, 0, 0), Err(GetError::Denied(Denied::Outside))), true);
     Ok(())
 }
 

@@ -5,7 +5,7 @@ use crate::compared::same;
 use crate::stage::{LOAD, Stage, add, may_leave, stays_far};
 use far_store::OwnStore;
 use memory::Reach;
-use shared_objects::{ActorSeat, MoverSeat, SharedTable};
+use shared_objects::{ActorSeat, Denied, MoverSeat, SharedTable};
 use std::sync::atomic::{AtomicU64, Ordering};
 use std::test::Fail;
 use std::thread::{Threads, join, yield_now};
@@ -86,13 +86,17 @@ fn one_actor(rt: HostRuntime) -> Result<(), Fail> {
 }
 
 /// Reads object 2, writes 7 into object 1, and tells its stamp.
-fn write_seven(table: &SharedTable, mut actor: ActorSeat, told: &AtomicU64) -> [Reach; 2]
+fn write_seven(
+    table: &SharedTable,
+    mut actor: ActorSeat,
+    told: &AtomicU64,
+) -> (Reach, Result<(), Denied>)
     requires { IsActorOf table.now actor }
 {
     let read = table.touch(&mut actor, 2, &LOAD);
     let written = table.put(&mut actor, 1, 0, &[7]);
     told.store(actor.stamp(), Ordering::SeqCst);
-    [read, written]
+    (read, written)
 }
 
 /// What object 1 has once a stamp was told and learnt, that stamp, and the one of the read.
@@ -110,13 +114,13 @@ fn read_beside<R: Threads + Sync>(
     table: &SharedTable,
     one: ActorSeat,
     two: ActorSeat,
-) -> ([Reach; 2], (Reach, u64, u64))
+) -> ((Reach, Result<(), Denied>), (Reach, u64, u64))
     requires { IsActorOf table.now one × IsActorOf table.now two }
 {
     let told = AtomicU64::new(0);
     join(
         rt,
-        || -> [Reach; 2]
+        || -> (Reach, Result<(), Denied>)
             requires { IsActorOf table.now one }
         { write_seven(table, one, &told) },
         || -> (Reach, u64, u64)
@@ -134,8 +138,9 @@ fn read_back(rt: HostRuntime) -> Result<(), Fail> {
     }: Stage<OwnStore> = Stage::open(rt.alloc(), 2, 2)?;
     let two = actors.remove(1);
     let one = actors.remove(0);
-    let (written, (read, stamp, later)) = read_beside(&rt, shared.table(), one, two);
-    same!(rt; written, [Reach::Done(0), Reach::Done(0)]);
+    let ((seen, written), (read, stamp, later)) = read_beside(&rt, shared.table(), one, two);
+    same!(rt; seen, Reach::Done(0));
+    same!(rt; written, Ok(()));
     same!(rt; read, Reach::Done(7));
     same!(rt; stamp, 2);
     same!(rt; later, 3);

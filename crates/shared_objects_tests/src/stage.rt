@@ -1,6 +1,7 @@
 //! A table of objects of eight bytes, with all its seats.
 ghost use Rattle.std.specs.Prelude.{◌≡◌, ◌<◌, ◌≤◌, false, length, IfOk};
 ghost use Rattle.std.proofs.Props.{props};
+ghost use Rattle.shared_objects.specs.Rule.{actor_limit};
 ghost use Rattle.shared_objects.specs.Tables.{IsMoverOf};
 ghost use Rattle.shared_objects_tests.specs.Stages.{AreSeatsOf};
 
@@ -8,7 +9,7 @@ use far_store::FarStore;
 use isa_table::{AtomicOp, Size, Width};
 use memory::{Action, Op, Reach};
 use shared_objects::{
-    ActorSeat, Fetched, Leave, MoverSeat, ObjectEnd, OpenFault, Phase, Shared, SharedTable,
+    ActorSeat, Denied, GetError, Leave, MoverSeat, ObjectEnd, OpenFault, Phase, Shared, SharedTable,
 };
 use std::alloc::{AllocError, Global};
 
@@ -42,7 +43,7 @@ pub struct Stage<F: FarStore> {
 
 impl<F: FarStore> Stage<F> {
     pub fn open(alloc: Global, objects: usize, actors: usize) -> Result<Stage<F>, OpenFault>
-        requires { (objects ≤ 1024) × (actors ≤ 56) }
+        requires { (objects ≤ 1024) × (actors ≤ actor_limit) }
         ensures { IfOk result (λ s. length s.actors.items ≡ actors) }
     {
         let Ok(bodies) = test_devices::objects(alloc, objects, 8) else {
@@ -63,7 +64,7 @@ impl<F: FarStore> Stage<F> {
         self.shared.table().touch(&mut self.actors[who], number, op)
     }
 
-    pub fn put(&mut self, who: usize, number: u32, offset: u32, bytes: &[u8]) -> Reach
+    pub fn put(&mut self, who: usize, number: u32, offset: u32, bytes: &[u8]) -> Result<(), Denied>
         requires { who < length self.old.actors.items }
         ensures { length self.new.actors.items ≡ length self.old.actors.items }
     {
@@ -78,7 +79,7 @@ impl<F: FarStore> Stage<F> {
         number: u32,
         offset: u32,
         count: u32,
-    ) -> Result<Fetched, AllocError>
+    ) -> Result<Vec<u8>, GetError>
         requires { who < length self.old.actors.items }
         ensures { length self.new.actors.items ≡ length self.old.actors.items }
     {

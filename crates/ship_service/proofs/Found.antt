@@ -4,15 +4,8 @@ use Rattle.std.specs.Prelude.{Option}
 use Rattle.machine.specs.MachineState.{MachineState}
 use Rattle.debugger.specs.declared.commands.MachineCommand.{MachineCommand}
 use Rattle.debugger.specs.declared.commands.MachineCommand.TheVariants.{Step, Show, Debug}
-use Rattle.debugger.specs.declared.replies.StepReply.{StepReply}
-use Rattle.debugger.specs.declared.replies.StepReply.TheVariants as step_reply
-use Rattle.debugger.specs.declared.replies.ShowReply.{ShowReply}
-use Rattle.debugger.specs.declared.replies.ShowReply.TheVariants as show_reply
-use Rattle.debugger.specs.declared.replies.Debugged.{Debugged}
-use Rattle.debugger.specs.declared.replies.Debugged.TheVariants as debugged
 use Rattle.workers.specs.Cells.{SeatState, CellState, RunningState, FitsCell, opened_as}
 use Rattle.workers.specs.TableNames.{Passage}
-use Rattle.world.specs.Machines.{reply_to_step, reply_to_show, reply_to_debug}
 use Rattle.world.specs.declared.replies.Reply.{Reply}
 use Rattle.world.specs.declared.replies.Reply.TheVariants as reply
 use Rattle.ship_service.specs.declared.replies.ServiceReply.TheVariants.{Plain}
@@ -20,34 +13,10 @@ use Rattle.ship_service.specs.Lent.{AnswersCell, AnswersLent, informed}
 use Rattle.ship_service.specs.Served.{OpenedMachinesStay}
 
 -- a machine that answers is not none
-step_tells : (m : ℕ) (r : StepReply) → reply.Missing ≡ reply_to_step m r → ⊥
-step_tells m (step_reply.Ran slot) e = absurd (cc)
-step_tells m (step_reply.Hit slot) e = absurd (cc)
-step_tells m (step_reply.Waiting n) e = absurd (cc)
-step_tells m (step_reply.Paused slot) e = absurd (cc)
-step_tells m (step_reply.Stopped s) e = absurd (cc)
-
-show_tells : (m : ℕ) (r : ShowReply) → reply.Missing ≡ reply_to_show m r → ⊥
-show_tells m (show_reply.Registers x) e = absurd (cc)
-show_tells m (show_reply.Emitted x) e = absurd (cc)
-show_tells m (show_reply.Bytes x) e = absurd (cc)
-show_tells m (show_reply.Disassembled x y) e = absurd (cc)
-show_tells m show_reply.Outside e = absurd (cc)
-show_tells m show_reply.NoSlot e = absurd (cc)
-show_tells m show_reply.NoMemory e = absurd (cc)
-
-debug_tells : (r : Debugged) → reply.Missing ≡ reply_to_debug r → ⊥
-debug_tells debugged.Done e = absurd (cc)
-debug_tells debugged.NoSlot e = absurd (cc)
-debug_tells debugged.Outside e = absurd (cc)
-debug_tells debugged.Full e = absurd (cc)
-debug_tells debugged.NoWatch e = absurd (cc)
-debug_tells debugged.NotPaused e = absurd (cc)
-
 cell_tells : (c : MachineCommand) (before after : CellState) (m : ℕ) → AnswersCell c before m reply.Missing after → ⊥
-cell_tells (Step way) before after m h = step_tells m h.0 h.1
-cell_tells (Show command) before after m h = show_tells m h.0 h.1
-cell_tells (Debug command) before after m h = debug_tells h.0 h.1
+cell_tells (Step way) before after m h = let e = h.1 in absurd (cc)
+cell_tells (Show command) before after m h = let e = h.1 in absurd (cc)
+cell_tells (Debug command) before after m h = let e = h.1 in absurd (cc)
 
 -- no cell of such a machine is empty
 cell_filled : (opening : List (List ℕ)) (starts : List MachineState) (m : ℕ) (seat : SeatState) (r : Option RunningState) (start : MachineState) → r ≡ None

@@ -8,10 +8,11 @@ use Rattle.streams.specs.Streams.{AppendsPart}
 use Rattle.atomic_table.specs.Seated.{TableId}
 use Rattle.machine.specs.MachineState.{MachineState}
 use Rattle.workers.specs.Pools.{machines_of}
+use Rattle.workers.specs.TableNames.{Passage}
 use Rattle.world.specs.WorldState.{WorldState}
 use Rattle.ship_service.specs.Opening.{opened_bytes}
 use Rattle.listener.specs.Announcing.{listening_at}
-use Rattle.ship_service.specs.Listening.{TellsClosing, TellsClosingOf, SaysAs, SaysClosing}
+use Rattle.ship_service.specs.Listening.{TellsEnd, TellsClosing, TellsClosingOf, SaysAs, SaysClosing}
 use Rattle.ship_service.specs.declared.listening.ListenFault.{ListenFault}
 use Rattle.ship_service.specs.declared.listening.ListenFault.TheVariants.{NotHere, Memory, Net, Write}
 
@@ -59,11 +60,11 @@ pub said_at : (tells : List ℕ → Type 0) (name named : List ℕ) (before afte
 said_at tells name named before after r is said = subst (λ n. SaysAs tells n before after r) is said
 
 -- what began with the bytes and machines of a world began with that world
-pub tells_of_world : (X : Type 0) (returns : Bool) (table : TableId) (opening : List (List ℕ)) (starts : List MachineState) (world : WorldState)
-    → opening ≡ opened_bytes world → starts ≡ machines_of world.machines → (text : List ℕ) → TellsClosing X returns table opening starts text
-    → TellsClosingOf X returns world text
-tells_of_world X returns table opening starts world o m text told = (
+pub tells_of_world : (X : Type 0) (returns : Bool) (table : TableId) (opening : List (List ℕ)) (starts : List MachineState) (lent : Passage → Bool)
+    (world : WorldState) → opening ≡ opened_bytes world → starts ≡ machines_of world.machines → (text : List ℕ)
+    → TellsClosing X returns table opening starts lent text → TellsClosingOf X returns world text
+tells_of_world X returns table opening starts lent world o m text told = (
   table,
-  subst (λ (b : List (List ℕ)). TellsClosing X returns table b (machines_of world.machines) text) o
-      (subst (λ (s : List MachineState). TellsClosing X returns table opening s text) m told),
+  subst (λ (b : List (List ℕ)). TellsEnd X returns table b (machines_of world.machines) text) o
+      (subst (λ (s : List MachineState). TellsEnd X returns table opening s text) m told.0),
 )

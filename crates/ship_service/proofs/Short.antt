@@ -1,16 +1,17 @@
 -- A reply has no more bytes to show than were asked for.
-use Rattle.std.proofs.Common.{◌≡◌, ℕ, ◌≤◌, Bool, List, length, drop, sym, ap, subst, arith, inl, inr}
+use Rattle.std.proofs.Common.{◌≡◌, Result, Ok, Err, ℕ, ◌≤◌, Bool, List, length, drop, sym, ap, subst, arith, inl, inr}
 use Rattle.std.proofs.lemmas.List.{length-take}
-use Rattle.memory.specs.declared.access.Reach.{Reach}
-use Rattle.memory.specs.declared.access.Reach.TheVariants as reach
 use Rattle.memory.specs.declared.deeds.Given.TheVariants.{Bytes}
 use Rattle.memory.specs.Access.{part}
 use Rattle.shared_objects.specs.Touches.{GetsRange}
-use Rattle.shared_objects.specs.declared.touching.Fetched.{Fetched}
-use Rattle.shared_objects.specs.declared.touching.Fetched.TheVariants as fetched
+use Rattle.shared_objects.specs.declared.errors.Denied.{Denied}
+use Rattle.shared_objects.specs.declared.errors.Denied.TheVariants as denied
+use Rattle.shared_objects.specs.declared.errors.GetError.{GetError}
+use Rattle.shared_objects.specs.declared.errors.GetError.TheVariants as get_error
 use Rattle.machine.specs.MachineState.{MachineState}
 use Rattle.debugger.specs.declared.commands.MachineCommand.{MachineCommand}
 use Rattle.debugger.specs.declared.commands.MachineCommand.TheVariants.{Step, Show, Debug}
+use Rattle.debugger.specs.declared.replies.ShowReply.{ShowReply}
 use Rattle.workers.specs.Cells.{SeatState, CellState}
 use Rattle.workers.specs.TableNames.{Passage}
 use Rattle.world.specs.declared.events.Event.{Event}
@@ -22,44 +23,48 @@ use Rattle.world.specs.declared.replies.Reply.{Reply}
 use Rattle.world.specs.declared.replies.Reply.TheVariants as reply
 use Rattle.console.specs.Replies.{IsShort}
 use Rattle.console.specs.Commands.{range_limit}
-use Rattle.console.proofs.CommandReading.{AsksShort, step_short, show_short, debug_short}
+use Rattle.console.proofs.CommandReading.{AsksShort, show_short}
 use Rattle.ship_service.specs.declared.replies.ServiceReply.{ServiceReply}
 use Rattle.ship_service.specs.declared.replies.ServiceReply.TheVariants.{Plain}
 use Rattle.ship_service.specs.Replies.{IsShortReply}
-use Rattle.ship_service.specs.Ranges.{reply_to_put, reply_to_get, GetsOnce}
+use Rattle.ship_service.specs.Ranges.{reply_to_denied, reply_to_put, reply_to_get, GetsOnce}
 use Rattle.ship_service.specs.Lent.{AnswersCell, AnswersLent, ShipsCell, informed}
 use Rattle.ship_service.specs.Served.{Serves, ServesMove, ServesObject, ServesMachine, ServesShip}
 use Rattle.debugger.specs.declared.start.Start.{Start}
 
-put_short : (n : ℕ) (r : Reach) → IsShortReply (reply_to_put n r)
-put_short n (reach.Done x) = tt
-put_short n reach.Away = tt
-put_short n reach.Busy = tt
-put_short n reach.Outside = tt
-put_short n reach.Worn = tt
+denied_short : (n : ℕ) (why : Denied) → IsShortReply (reply_to_denied n why)
+denied_short n denied.Outside = tt
+denied_short n denied.Away = tt
+denied_short n denied.Busy = tt
+denied_short n denied.Worn = tt
+
+put_short : (n : ℕ) (r : Result Unit Denied) → IsShortReply (reply_to_put n r)
+put_short n (Ok u) = tt
+put_short n (Err why) = denied_short n why
 
 bytes_are : (xs ys : List ℕ) → Bytes xs ≡ Bytes ys → xs ≡ ys
 bytes_are xs ys e = cc
 
-get_short : (old new : SeatState) (n offset size : ℕ) (f : Fetched) → GetsRange old.view old.stamp n offset size f new.view new.stamp → size ≤ range_limit
-    → IsShortReply (reply_to_get n f)
-get_short old new n offset size (fetched.Done bytes) h short =
-    let e = ap length (bytes_are bytes.items (part offset size h.bytes) h.given_is) in
+get_short : (old new : SeatState) (n offset size : ℕ) (r : Result (List ℕ) GetError) → GetsRange old.view old.stamp n offset size r new.view new.stamp
+    → size ≤ range_limit → IsShortReply (reply_to_get n r)
+get_short old new n offset size (Ok bytes) h short =
+    let e = ap length (bytes_are bytes (part offset size h.bytes) h.given_is) in
     let l = length-take size (drop offset h.bytes) in omega (arith, e, l, short)
-get_short old new n offset size fetched.Away h short = tt
-get_short old new n offset size fetched.Busy h short = tt
-get_short old new n offset size fetched.Outside h short = tt
-get_short old new n offset size fetched.Worn h short = tt
+get_short old new n offset size (Err (get_error.Denied why)) h short = denied_short n why
+get_short old new n offset size (Err get_error.Memory) h short = tt
 
 get_tells_short : (old new : SeatState) (n offset size : ℕ) (told : ServiceReply) → GetsOnce old n offset size told new → size ≤ range_limit → IsShortReply told
-get_tells_short old new n offset size told (inl h) short = subst IsShortReply (sym h.told_is) tt
-get_tells_short old new n offset size told (inr h) short = subst IsShortReply (sym h.told_is) (get_short old new n offset size h.outcome h.gets short)
+get_tells_short old new n offset size told h short = subst IsShortReply (sym h.told_is) (get_short old new n offset size h.outcome h.gets short)
 
 no_bytes : (opening : List (List ℕ)) (n : ℕ) (m : Move) (b : List ℕ) → ServesMove opening n m (Plain (reply.Bytes b)) → ⊥
 no_bytes opening n m b h = grind arith
 
+no_show : (opening : List (List ℕ)) (n : ℕ) (m : Move) (k : ℕ) (s : ShowReply) → ServesMove opening n m (Plain (reply.Shown k s)) → ⊥
+no_show opening n m k s h = grind arith
+
 move_short : (opening : List (List ℕ)) (n : ℕ) (m : Move) (told : ServiceReply) → ServesMove opening n m told → IsShortReply told
 move_short opening n m (Plain (reply.Bytes b)) h = absurd (no_bytes opening n m b h)
+move_short opening n m (Plain (reply.Shown k s)) h = absurd (no_show opening n m k s h)
 move_short opening n m _ h = tt
 
 object_short : (old new : SeatState) (n : ℕ) (c : ObjectCommand) (told : ServiceReply) → ServesObject old n c told new
@@ -71,9 +76,9 @@ object_short old new n (object.Move m) told h short = move_short old.view.openin
 
 cell_short : (before after : CellState) (m : ℕ) (c : MachineCommand) (told : Reply) → AnswersCell c before m told after
     → AsksShort (event.Machine m c) → IsShort told
-cell_short before after m (Step way) told h short = subst IsShort (sym h.1) (step_short m h.0)
+cell_short before after m (Step way) told h short = subst IsShort (sym h.1) tt
 cell_short before after m (Show command) told h short = subst IsShort (sym h.1) (show_short m command h.2.0.debuggee h.0 h.2.2 short)
-cell_short before after m (Debug command) told h short = subst IsShort (sym h.1) (debug_short h.0)
+cell_short before after m (Debug command) told h short = subst IsShort (sym h.1) tt
 
 lent_short : (old new : SeatState) (before after : CellState) (m : ℕ) (c : MachineCommand) (told : Reply) → AnswersLent c old before m told new after
     → AsksShort (event.Machine m c) → IsShort told
@@ -89,6 +94,7 @@ machine_short opening starts lent old new m c told (inr h) short =
 
 shipped_short : (start : Start) (code : List ℕ) (before after : CellState) (said : Reply) → ShipsCell start code before said after → IsShort said
 shipped_short start code before after (reply.Bytes b) h = absurd h
+shipped_short start code before after (reply.Shown k s) h = absurd h
 shipped_short start code before after _ h = tt
 
 ship_short : (opening : List (List ℕ)) (starts : List MachineState) (lent : Passage → Bool) (start : Start) (code : List ℕ) (told : ServiceReply)

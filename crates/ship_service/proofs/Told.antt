@@ -1,9 +1,7 @@
 -- The replies are the answers of the entries that are added.
-use Rattle.std.proofs.Common.{◌≡◌, ◌⊎◌, ℕ, zero, suc, ◌≤◌, max, Bool, true, false, List, [], ◌∷◌, ◌++◌, map, refl, sym, ap, ◌∙◌, append_assoc, append-nil, subst, arith, inl, inr}
+use Rattle.std.proofs.Common.{◌≡◌, ◌⊎◌, Result, Ok, Err, ℕ, zero, suc, ◌≤◌, max, Bool, true, false, List, [], ◌∷◌, ◌++◌, map, refl, sym, ap, ◌∙◌, append_assoc, append-nil, subst, arith, inl, inr}
 use Rattle.std.proofs.lemmas.List.{map-append}
 use Rattle.std.proofs.Math.Nat.{le-max_left}
-use Rattle.memory.specs.declared.access.Reach.{Reach}
-use Rattle.memory.specs.declared.access.Reach.TheVariants as reach
 use Rattle.memory.specs.declared.deeds.Entry.{Entry as OwnEntry}
 use Rattle.memory.specs.declared.deeds.Deed.{Deed}
 use Rattle.memory.specs.declared.deeds.Deed.TheVariants.{Reads, Writes}
@@ -12,8 +10,10 @@ use Rattle.memory.specs.declared.deeds.Given.TheVariants.{Bytes, Nothing}
 use Rattle.shared_objects.specs.History.{entry}
 use Rattle.shared_objects.specs.SeatMemories.{own_entry}
 use Rattle.shared_objects.specs.Touches.{PutsRange, GetsRange, Does}
-use Rattle.shared_objects.specs.declared.touching.Fetched.{Fetched}
-use Rattle.shared_objects.specs.declared.touching.Fetched.TheVariants as fetched
+use Rattle.shared_objects.specs.declared.errors.Denied.{Denied}
+use Rattle.shared_objects.specs.declared.errors.Denied.TheVariants as denied
+use Rattle.shared_objects.specs.declared.errors.GetError.{GetError}
+use Rattle.shared_objects.specs.declared.errors.GetError.TheVariants as get_error
 use Rattle.shared_objects.specs.declared.view.SharedEntry.{SharedEntry}
 use Rattle.shared_objects.specs.declared.view.View.{View}
 use Rattle.machine.specs.MachineState.{MachineState}
@@ -69,21 +69,22 @@ one old new n deed given h = let l = le-max_left old.stamp h.found in record {
   actor = ap (λ (u : View). u.actor) h.view_is;
 }
 
-put_adds : (old new : SeatState) (n offset : ℕ) (bytes : List ℕ) (r : Reach) → PutsRange old.view old.stamp n offset bytes r new.view new.stamp
+put_adds : (old new : SeatState) (n offset : ℕ) (bytes : List ℕ) (r : Result Unit Denied) → PutsRange old.view old.stamp n offset bytes r new.view new.stamp
     → Tells old (added (event.Object n (object.Put offset bytes)) (reply_to_put n r)) new
-put_adds old new n offset bytes (reach.Done x) h = one old new n (Writes offset bytes) Nothing h.1
-put_adds old new n offset bytes reach.Away h = unmoved old new _ h.1 h.2 refl refl
-put_adds old new n offset bytes reach.Busy h = unmoved old new _ h.1 h.2 refl refl
-put_adds old new n offset bytes reach.Outside h = unmoved old new _ h.1 h.2 refl refl
-put_adds old new n offset bytes reach.Worn h = unmoved old new _ h.1 h.2.2 refl refl
+put_adds old new n offset bytes (Ok u) h = one old new n (Writes offset bytes) Nothing h
+put_adds old new n offset bytes (Err denied.Outside) h = unmoved old new _ h.1 h.2 refl refl
+put_adds old new n offset bytes (Err denied.Away) h = unmoved old new _ h.1 h.2 refl refl
+put_adds old new n offset bytes (Err denied.Busy) h = unmoved old new _ h.1 h.2 refl refl
+put_adds old new n offset bytes (Err denied.Worn) h = unmoved old new _ h.1 h.2.2 refl refl
 
-get_adds : (old new : SeatState) (n offset size : ℕ) (f : Fetched) → GetsRange old.view old.stamp n offset size f new.view new.stamp
-    → Tells old (added (event.Object n (object.Get offset size)) (reply_to_get n f)) new
-get_adds old new n offset size (fetched.Done bytes) h = one old new n (Reads offset size) (Bytes bytes.items) h
-get_adds old new n offset size fetched.Away h = unmoved old new _ h.1 h.2 refl refl
-get_adds old new n offset size fetched.Busy h = unmoved old new _ h.1 h.2 refl refl
-get_adds old new n offset size fetched.Outside h = unmoved old new _ h.1 h.2 refl refl
-get_adds old new n offset size fetched.Worn h = unmoved old new _ h.1 h.2.2 refl refl
+get_adds : (old new : SeatState) (n offset size : ℕ) (r : Result (List ℕ) GetError) → GetsRange old.view old.stamp n offset size r new.view new.stamp
+    → Tells old (added (event.Object n (object.Get offset size)) (reply_to_get n r)) new
+get_adds old new n offset size (Ok bytes) h = one old new n (Reads offset size) (Bytes bytes) h
+get_adds old new n offset size (Err (get_error.Denied denied.Outside)) h = unmoved old new _ h.1 h.2 refl refl
+get_adds old new n offset size (Err (get_error.Denied denied.Away)) h = unmoved old new _ h.1 h.2 refl refl
+get_adds old new n offset size (Err (get_error.Denied denied.Busy)) h = unmoved old new _ h.1 h.2 refl refl
+get_adds old new n offset size (Err (get_error.Denied denied.Worn)) h = unmoved old new _ h.1 h.2.2 refl refl
+get_adds old new n offset size (Err get_error.Memory) h = unmoved old new _ h.1 h.2 refl refl
 
 put_once_tells : (old new : SeatState) (n offset : ℕ) (bytes : List ℕ) (told : ServiceReply) → PutsOnce old n offset bytes told new
     → Tells old (added (event.Object n (object.Put offset bytes)) told) new
@@ -92,9 +93,7 @@ put_once_tells old new n offset bytes told h =
 
 get_once_tells : (old new : SeatState) (n offset size : ℕ) (told : ServiceReply) → GetsOnce old n offset size told new
     → Tells old (added (event.Object n (object.Get offset size)) told) new
-get_once_tells old new n offset size told (inl h) =
-    subst (λ r. Tells old (added (event.Object n (object.Get offset size)) r) new) (sym h.told_is) (same old new h.same)
-get_once_tells old new n offset size told (inr h) =
+get_once_tells old new n offset size told h =
     subst (λ r. Tells old (added (event.Object n (object.Get offset size)) r) new) (sym h.told_is) (get_adds old new n offset size h.outcome h.gets)
 
 -- ---- tries

@@ -1,32 +1,42 @@
 -- Ranges that are tried again.
-use Rattle.std.proofs.Common.{◌≡◌, ℕ, suc, ◌+◌, ◌≤◌, List, true, false, refl, sym, ap, ◌∙◌, subst, inl, inr, arith}
-use Rattle.memory.specs.declared.access.Reach.{Reach}
-use Rattle.memory.specs.declared.access.Reach.TheVariants as reach
-use Rattle.shared_objects.specs.declared.touching.Fetched.{Fetched}
-use Rattle.shared_objects.specs.declared.touching.Fetched.TheVariants as fetched
+use Rattle.std.proofs.Common.{◌≡◌, ℕ, suc, ◌+◌, ◌≤◌, List, Vec, Result, Ok, Err, true, false, refl, sym, ap, ◌∙◌, subst, arith}
+use Rattle.std.specs.Prelude.{IfOk, IfErr}
+use Rattle.shared_objects.specs.Touches.{GetsRange}
+use Rattle.shared_objects.specs.declared.errors.Denied.{Denied}
+use Rattle.shared_objects.specs.declared.errors.Denied.TheVariants as denied
+use Rattle.shared_objects.specs.declared.errors.GetError.{GetError}
+use Rattle.shared_objects.specs.declared.errors.GetError.TheVariants as get_error
 use Rattle.workers.specs.Cells.{SeatState}
 use Rattle.ship_service.specs.declared.replies.ServiceReply.{ServiceReply}
 use Rattle.ship_service.specs.declared.replies.ServiceReply.TheVariants.{Busy}
 use Rattle.ship_service.specs.Replies.{is_busy}
-use Rattle.ship_service.specs.Ranges.{reply_to_put, reply_to_get, PutsOnce, GetsOnce, FoundBusy, InTries, retry_limit}
+use Rattle.ship_service.specs.Ranges.{reply_to_denied, reply_to_put, reply_to_get, told_of_get, PutsOnce, GetsOnce, FoundBusy, InTries, retry_limit}
 
 -- a reply that is `busy` and one that isn't are never equal
 unlike : (told other : ServiceReply) → told ≡ other → is_busy told ≡ true → is_busy other ≡ false → ⊥
 unlike told other e b f = let g : true ≡ false = sym b ∙ ap is_busy e ∙ f in absurd (cc)
 
-put_busy : (n : ℕ) (told : ServiceReply) (r : Reach) → told ≡ reply_to_put n r → is_busy told ≡ true → told ≡ Busy n
-put_busy n told (reach.Done x) e b = absurd (unlike told _ e b refl)
-put_busy n told reach.Away e b = absurd (unlike told _ e b refl)
-put_busy n told reach.Busy e b = e
-put_busy n told reach.Outside e b = absurd (unlike told _ e b refl)
-put_busy n told reach.Worn e b = absurd (unlike told _ e b refl)
+denied_busy : (n : ℕ) (told : ServiceReply) (why : Denied) → told ≡ reply_to_denied n why → is_busy told ≡ true → told ≡ Busy n
+denied_busy n told denied.Outside e b = absurd (unlike told _ e b refl)
+denied_busy n told denied.Away e b = absurd (unlike told _ e b refl)
+denied_busy n told denied.Busy e b = e
+denied_busy n told denied.Worn e b = absurd (unlike told _ e b refl)
 
-get_busy : (n : ℕ) (told : ServiceReply) (f : Fetched) → told ≡ reply_to_get n f → is_busy told ≡ true → told ≡ Busy n
-get_busy n told (fetched.Done bytes) e b = absurd (unlike told _ e b refl)
-get_busy n told fetched.Away e b = absurd (unlike told _ e b refl)
-get_busy n told fetched.Busy e b = e
-get_busy n told fetched.Outside e b = absurd (unlike told _ e b refl)
-get_busy n told fetched.Worn e b = absurd (unlike told _ e b refl)
+put_busy : (n : ℕ) (told : ServiceReply) (r : Result Unit Denied) → told ≡ reply_to_put n r → is_busy told ≡ true → told ≡ Busy n
+put_busy n told (Ok u) e b = absurd (unlike told _ e b refl)
+put_busy n told (Err why) e b = denied_busy n told why e b
+
+get_busy : (n : ℕ) (told : ServiceReply) (r : Result (List ℕ) GetError) → told ≡ reply_to_get n r → is_busy told ≡ true → told ≡ Busy n
+get_busy n told (Ok bytes) e b = absurd (unlike told _ e b refl)
+get_busy n told (Err (get_error.Denied why)) e b = denied_busy n told why e b
+get_busy n told (Err get_error.Memory) e b = absurd (unlike told _ e b refl)
+
+-- what came of one try to get
+pub got_once : {Z : Type 0} {n offset size : ℕ} {old new : SeatState} (r : Result (Vec ℕ Z) GetError)
+    → IfOk r (λ v. GetsRange old.view old.stamp n offset size (Ok v.items) new.view new.stamp)
+    → IfErr r (λ why. GetsRange old.view old.stamp n offset size (Err why) new.view new.stamp) → GetsOnce old n offset size (told_of_get n r) new
+got_once (Ok v) h k = record { outcome = Ok v.items; told_is = refl; gets = h }
+got_once (Err why) h k = record { outcome = Err why; told_is = refl; gets = k }
 
 -- one try more that was answered `busy`
 one_more : (once : SeatState → ServiceReply → SeatState → Type 0) (n k : ℕ) (old mid new : SeatState) → FoundBusy once n k old mid → once mid (Busy n) new
@@ -39,15 +49,11 @@ pub put_again : (n offset : ℕ) (bytes : List ℕ) (k : ℕ) (old mid new : Sea
 put_again n offset bytes k old mid new told b h t = one_more (λ s r t. PutsOnce s n offset bytes r t) n k old mid new h
     (subst (λ r. PutsOnce mid n offset bytes r new) (put_busy n told t.outcome t.told_is b) t)
 
-get_named : (n offset size : ℕ) (old new : SeatState) (told : ServiceReply) → is_busy told ≡ true → GetsOnce old n offset size told new → told ≡ Busy n
-get_named n offset size old new told b (inl t) = absurd (unlike told _ t.told_is b refl)
-get_named n offset size old new told b (inr t) = get_busy n told t.outcome t.told_is b
-
 pub get_again : (n offset size k : ℕ) (old mid new : SeatState) (told : ServiceReply) → is_busy told ≡ true
     → FoundBusy (λ s r t. GetsOnce s n offset size r t) n k old mid → GetsOnce mid n offset size told new
     → FoundBusy (λ s r t. GetsOnce s n offset size r t) n (k + 1) old new
 get_again n offset size k old mid new told b h t = one_more (λ s r t. GetsOnce s n offset size r t) n k old mid new h
-    (subst (λ r. GetsOnce mid n offset size r new) (get_named n offset size mid new told b t) t)
+    (subst (λ r. GetsOnce mid n offset size r new) (get_busy n told t.outcome t.told_is b) t)
 
 -- the last try is answered otherwise
 pub tried : (once : SeatState → ServiceReply → SeatState → Type 0) (n k : ℕ) (old mid new : SeatState) (told : ServiceReply)

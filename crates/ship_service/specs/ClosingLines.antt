@@ -7,7 +7,8 @@ use Rattle.shared_objects.specs.declared.closing.ObjectEnd.TheVariants.{Here, Ou
 use Rattle.debugger.specs.Showing.{shown_of}
 use Rattle.workers.specs.Cells.{RunningState}
 use Rattle.workers.specs.declared.closing.ClosedCell.{ClosedCell}
-use Rattle.world.specs.declared.replies.Reply.TheVariants.{Registers}
+use Rattle.debugger.specs.declared.replies.ShowReply.TheVariants.{Registers}
+use Rattle.world.specs.declared.replies.Reply.TheVariants.{Shown}
 use Rattle.console.specs.Lines.{ended}
 use Rattle.console.specs.Replies.{reply_text, number_text}
 use Rattle.ship_service.specs.Closing.{ClosedState, live_object}
@@ -30,7 +31,7 @@ object_lines state (suc n) = object_lines state n ++ object_line n (live_object 
 -- the line of a machine, if there is one: that with which `regs` is answered
 abbrev pub machine_line : ℕ → Option RunningState → List ℕ
 machine_line number None = []
-machine_line number (Some r) = ended (reply_text (Registers number (shown_of r.debuggee.machine r.debuggee.debugger)))
+machine_line number (Some r) = ended (reply_text (Shown number (Registers (shown_of r.debuggee.machine r.debuggee.debugger))))
 
 -- the line of the machine of a cell, if it has one
 abbrev pub cell_line : ClosedCell → List ℕ

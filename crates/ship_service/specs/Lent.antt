@@ -11,10 +11,10 @@ use Rattle.debugger.specs.declared.commands.DebugCommand.TheVariants.{Resume}
 use Rattle.debugger.specs.declared.replies.StepReply.{StepReply}
 use Rattle.debugger.specs.declared.replies.ShowReply.{ShowReply}
 use Rattle.debugger.specs.declared.replies.Debugged.{Debugged}
+use Rattle.debugger.specs.declared.replies.Debugged.TheVariants.{Done}
 use Rattle.debugger.specs.Debuggees.{debuggee_start}
 use Rattle.workers.specs.Cells.{SeatState, CellState, RunningState, StepsCell, ShowsCell, DebugsCell}
 use Rattle.workers.specs.Pools.{QueuesCell}
-use Rattle.world.specs.Machines.{reply_to_step, reply_to_show, reply_to_debug}
 use Rattle.world.specs.declared.replies.Reply.{Reply}
 use Rattle.world.specs.declared.replies.Reply.TheVariants as reply
 
@@ -33,13 +33,13 @@ informed _ s c = c
 
 -- the reply of machine m, which the cell has, to a command
 abbrev pub AnswersCell : MachineCommand → CellState → ℕ → Reply → CellState → Type 0
-AnswersCell (Step way) before m told after = (outcome : StepReply) × (told ≡ reply_to_step m outcome) × StepsCell way before outcome after
-AnswersCell (Show command) before m told after = (outcome : ShowReply) × (told ≡ reply_to_show m outcome) × ShowsCell command before outcome × (after ≡ before)
-AnswersCell (Debug command) before m told after = (outcome : Debugged) × (told ≡ reply_to_debug outcome) × DebugsCell command before outcome after
+AnswersCell (Step way) before m told after = (outcome : StepReply) × (told ≡ reply.Stepped m outcome) × StepsCell way before outcome after
+AnswersCell (Show command) before m told after = (outcome : ShowReply) × (told ≡ reply.Shown m outcome) × ShowsCell command before outcome × (after ≡ before)
+AnswersCell (Debug command) before m told after = (outcome : Debugged) × (told ≡ reply.Debugged outcome) × DebugsCell command before outcome after
 
 -- a machine that was paused goes on again
 abbrev pub resumes : MachineCommand → Reply → Bool
-resumes (Debug Resume) reply.Done = true
+resumes (Debug Resume) (reply.Debugged Done) = true
 resumes _ _ = false
 
 -- The cell has a machine, which answers; then the connection's seat learns the stamp of the machine's.

@@ -1,5 +1,5 @@
 -- What a service that listens says, and why it ends.
-use Rattle.std.specs.Prelude.{◌≡◌, ◌⊎◌, ⊤, ℕ, Bool, List, [], ◌∷◌, ◌++◌, Option, Result, Ok, Err, codes, decimal}
+use Rattle.std.specs.Prelude.{◌≡◌, ◌⊎◌, ⊤, ℕ, Bool, true, List, [], ◌∷◌, ◌++◌, Option, Result, Ok, Err, codes, decimal}
 use Rattle.std.specs.Io.KnownBytes.{Appends, Keeps}
 use Rattle.streams.specs.Streams.{AppendsPart}
 use Rattle.listener.specs.Announcing.{listening_at}
@@ -9,10 +9,12 @@ use Rattle.shared_objects.specs.declared.seats.ActorSeat.{ActorSeat}
 use Rattle.machine.specs.MachineState.{MachineState}
 use Rattle.workers.specs.Moves.{MoverState}
 use Rattle.workers.specs.Pools.{machines_of}
+use Rattle.workers.specs.TableNames.{Passage}
+use Rattle.workers.specs.TableNames.Passage.{Ran}
 use Rattle.world.specs.WorldState.{WorldState}
 use Rattle.ship_service.specs.Closing.{ClosedState, Settles}
 use Rattle.ship_service.specs.ClosingLines.{closing_lines}
-use Rattle.ship_service.specs.Opening.{opened_bytes}
+use Rattle.ship_service.specs.Opening.{first_mover_view, opened_bytes}
 use Rattle.placement.specs.declared.places.Place.{Place}
 use Rattle.ship_service.specs.declared.listening.ListenFault.{ListenFault}
 use Rattle.ship_service.specs.declared.listening.ListenFault.TheVariants.{NotHere, Memory, Net, Write}
@@ -25,13 +27,19 @@ closed_line = codes "closed" ++ 10 ∷ []
 
 -- The text tells how a service closed that began with these bytes and machines: that it did, and then what it left. All entries
 -- of its machines and connections are one list, by which each object closes, and of which each machine is the replay of its share.
-abbrev pub TellsClosing : Type 0 → Bool → TableId → List (List ℕ) → List MachineState → List ℕ → Type 0
-TellsClosing X returns table opening starts text = (mover : MoverState X) × (connections : List ActorSeat) × (state : ClosedState X)
+abbrev pub TellsEnd : Type 0 → Bool → TableId → List (List ℕ) → List MachineState → List ℕ → Type 0
+TellsEnd X returns table opening starts text = (mover : MoverState X) × (connections : List ActorSeat) × (state : ClosedState X)
     × Settles returns table opening starts mover connections state × (text ≡ closed_line ++ closing_lines state)
+
+-- The same, where the mover is the one that served: it is as its loop left it, which began with all objects here. Whoever served learnt
+-- that from the loop, so nothing else moved an object.
+abbrev pub TellsClosing : Type 0 → Bool → TableId → List (List ℕ) → List MachineState → (Passage → Bool) → List ℕ → Type 0
+TellsClosing X returns table opening starts lent text = (tells : TellsEnd X returns table opening starts text)
+    × (lent (Ran (first_mover_view returns opening) tells.0.view) ≡ true)
 
 -- The text tells how a service closed that began with this world.
 abbrev pub TellsClosingOf : Type 0 → Bool → WorldState → List ℕ → Type 0
-TellsClosingOf X returns world text = (table : TableId) × TellsClosing X returns table (opened_bytes world) (machines_of world.machines) text
+TellsClosingOf X returns world text = (table : TableId) × TellsEnd X returns table (opened_bytes world) (machines_of world.machines) text
 
 -- What is left in the output when the service has closed so: all of such a text, or nothing where there was no memory, or the first
 -- part of one where the output failed. It doesn't end otherwise.

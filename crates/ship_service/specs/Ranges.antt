@@ -1,13 +1,11 @@
 -- Commands on objects: what they are answered, and what they do to the connection's seat.
-use Rattle.std.specs.Prelude.{◌≡◌, ◌⊎◌, ◌≤◌, ℕ, zero, suc, true, List, Result, Ok, Err}
-use Rattle.std.specs.declared.alloc.AllocError.{AllocError}
-use Rattle.memory.specs.declared.access.Reach.{Reach}
-use Rattle.memory.specs.declared.access.Reach.TheVariants as reach
-use Rattle.memory.specs.declared.deeds.Deed.TheVariants.{Reads}
+use Rattle.std.specs.Prelude.{◌≡◌, ◌≤◌, ℕ, zero, suc, true, List, Vec, Result, Ok, Err}
 use Rattle.shared_objects.specs.Phases.{IsObject}
-use Rattle.shared_objects.specs.Touches.{IsInside, PutsRange, GetsRange}
-use Rattle.shared_objects.specs.declared.touching.Fetched.{Fetched}
-use Rattle.shared_objects.specs.declared.touching.Fetched.TheVariants as fetched
+use Rattle.shared_objects.specs.Touches.{PutsRange, GetsRange}
+use Rattle.shared_objects.specs.declared.errors.Denied.{Denied}
+use Rattle.shared_objects.specs.declared.errors.Denied.TheVariants as denied
+use Rattle.shared_objects.specs.declared.errors.GetError.{GetError}
+use Rattle.shared_objects.specs.declared.errors.GetError.TheVariants as get_error
 use Rattle.workers.specs.Cells.{SeatState}
 use Rattle.world.specs.declared.replies.Reply.TheVariants as reply
 use Rattle.ship_service.specs.declared.replies.ServiceReply.{ServiceReply}
@@ -16,48 +14,40 @@ use Rattle.ship_service.specs.Replies.{is_busy}
 
 -- ---- ranges
 
+-- what is answered where an access of object n is denied
+abbrev pub reply_to_denied : ℕ → Denied → ServiceReply
+reply_to_denied n denied.Outside = Plain reply.Outside
+reply_to_denied n denied.Away = Plain (reply.Away n)
+reply_to_denied n denied.Busy = Busy n
+reply_to_denied n denied.Worn = Worn
+
 -- what is answered where bytes were to be written into object n
-abbrev pub reply_to_put : ℕ → Reach → ServiceReply
-reply_to_put n (reach.Done x) = Plain reply.Done
-reply_to_put n reach.Away = Plain (reply.Away n)
-reply_to_put n reach.Busy = Busy n
-reply_to_put n reach.Outside = Plain reply.Outside
-reply_to_put n reach.Worn = Worn
+abbrev pub reply_to_put : ℕ → Result Unit Denied → ServiceReply
+reply_to_put n (Ok u) = Plain reply.Done
+reply_to_put n (Err why) = reply_to_denied n why
 
 -- what is answered where bytes of object n were to be read
-abbrev pub reply_to_get : ℕ → Fetched → ServiceReply
-reply_to_get n (fetched.Done bytes) = Plain (reply.Bytes bytes.items)
-reply_to_get n fetched.Away = Plain (reply.Away n)
-reply_to_get n fetched.Busy = Busy n
-reply_to_get n fetched.Outside = Plain reply.Outside
-reply_to_get n fetched.Worn = Worn
+abbrev pub reply_to_get : ℕ → Result (List ℕ) GetError → ServiceReply
+reply_to_get n (Ok bytes) = Plain (reply.Bytes bytes)
+reply_to_get n (Err (get_error.Denied why)) = reply_to_denied n why
+reply_to_get n (Err get_error.Memory) = Plain reply.NoMemory
 
--- the same, where there may be no memory for the bytes
-abbrev pub told_of_get : ℕ → Result Fetched AllocError → ServiceReply
-told_of_get n (Ok found) = reply_to_get n found
-told_of_get n (Err e) = Plain reply.NoMemory
+-- the same of bytes in memory
+abbrev pub told_of_get : {Z : Type 0} → ℕ → Result (Vec ℕ Z) GetError → ServiceReply
+told_of_get n (Ok bytes) = reply_to_get n (Ok bytes.items)
+told_of_get n (Err why) = reply_to_get n (Err why)
 
 -- One try to put: the reply is what the table did with these bytes at the seat.
 pub record PutsOnce (old : SeatState) (n offset : ℕ) (bytes : List ℕ) (told : ServiceReply) (new : SeatState) : Type 0 where
-  pub outcome : Reach
+  pub outcome : Result Unit Denied
   pub told_is : told ≡ reply_to_put n outcome
   pub puts : PutsRange old.view old.stamp n offset bytes outcome new.view new.stamp
 
 -- One try to get: the reply is what the table did with this range at the seat.
-pub record Fetches (old : SeatState) (n offset size : ℕ) (told : ServiceReply) (new : SeatState) : Type 0 where
-  pub outcome : Fetched
+pub record GetsOnce (old : SeatState) (n offset size : ℕ) (told : ServiceReply) (new : SeatState) : Type 0 where
+  pub outcome : Result (List ℕ) GetError
   pub told_is : told ≡ reply_to_get n outcome
   pub gets : GetsRange old.view old.stamp n offset size outcome new.view new.stamp
-
--- There was no memory for the bytes of a range that is inside, and nothing was done.
-pub record LacksMemory (old : SeatState) (n offset size : ℕ) (told : ServiceReply) (new : SeatState) : Type 0 where
-  pub told_is : told ≡ Plain reply.NoMemory
-  pub inside : IsInside old.view n (Reads offset size)
-  pub same : new ≡ old
-
--- one try to get
-abbrev pub GetsOnce : SeatState → ℕ → ℕ → ℕ → ServiceReply → SeatState → Type 0
-GetsOnce old n offset size told new = LacksMemory old n offset size told new ⊎ Fetches old n offset size told new
 
 -- ---- tries
 

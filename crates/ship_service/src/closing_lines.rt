@@ -19,7 +19,7 @@ use shared_objects::ObjectEnd;
 use std::io::Write;
 use streams::{WriteFault, put_all};
 use workers::{ClosedCell, Running};
-use world::Reply;
+use world::{Reply, ShowReply};
 
 /// The SHA-256 of these bytes, in lower hex.
 fn digest_text(bytes: &[u8]) -> [u8; 64]
@@ -60,9 +60,9 @@ pub fn print_machine(number: usize, running: &Running, line: &mut ReplyLine)
 {
     let shown = running.debuggee().shown();
     print_reply(
-        &Reply::Registers {
+        &Reply::Shown {
             machine: number,
-            shown,
+            reply: ShowReply::Registers(shown),
         },
         line,
     );

@@ -4,7 +4,7 @@ ghost use Rattle.debugger.specs.declared.commands.MachineCommand.{MachineCommand
 ghost use Rattle.workers.specs.Cells.{seat_state};
 ghost use Rattle.ship_service.specs.Lent.{AnswersLent, ShipsCell};
 
-use debugger::{DebugCommand, Debugged, MachineCommand, ShowCommand, Start, StepReply, Way};
+use debugger::{DebugCommand, MachineCommand, ShowCommand, Start, StepReply, Way};
 use far_store::FarStore;
 use loader::{Why, load};
 use shared_objects::ActorSeat;
@@ -40,7 +40,7 @@ fn step<F: FarStore, K: TableName, R: Wait>(
         Some(reply) => {
             seat.learn(locked.stamp());
             call_awaited(rt, pool, reply);
-            Reply::to_step(machine, reply)
+            Reply::Stepped { machine, reply }
         }
         None => unreachable!(),
     }
@@ -61,7 +61,7 @@ fn show<K: TableName>(
         return Reply::Missing;
     };
     seat.learn(locked.stamp());
-    Reply::to_show(machine, reply)
+    Reply::Shown { machine, reply }
 }
 
 /// Does a command of the debugger on the cell's machine, whose stamp the seat learns.
@@ -78,7 +78,7 @@ fn debug<K: TableName>(
         return Reply::Missing;
     };
     seat.learn(locked.stamp());
-    Reply::to_debug(done)
+    Reply::Debugged(done)
 }
 
 /// Does a command on the machine of the cell, if it has one.

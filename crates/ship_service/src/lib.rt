@@ -32,4 +32,4 @@ pub use opened::{CONNECTION_LIMIT, OpenAgent, Opened};
 pub use replies::ServiceReply;
 pub use serving::{Service, serve};
 pub use shared_agent::Agent;
-pub use threads::{Plan, Served, ThreadFault, serve_all};
+pub use threads::Plan;

@@ -3,7 +3,7 @@ ghost use Rattle.std.specs.Prelude.{◌≡◌, ◌+◌, length};
 ghost use Rattle.scopes.specs.Windows.{machine_limit};
 ghost use Rattle.world.specs.WorldState.{state_of};
 ghost use Rattle.ship_service.specs.Listening.{FindsHere, OpensAll, SaysAs, SaysAtPort, SaysClosing, TellsClosing, TellsClosingOf};
-ghost use Rattle.ship_service.specs.Opening.{IsNamed};
+ghost use Rattle.ship_service.specs.Opening.{IsNamed, first_mover_view};
 
 use crate::closing_lines::write_closing_lines;
 use crate::connection::Connection;
@@ -11,7 +11,7 @@ use crate::journal::{Journal, Unwritten};
 use crate::opened::{OpenAgent, Opened};
 use crate::shared_agent::Agent;
 use crate::texts::closed_line;
-use crate::threads::{Plan, ThreadFault, serve_all};
+use crate::threads::{EndedMover, Plan, Served, ThreadFault, serve_all};
 use far_store::FarStore;
 use listener::{Door, NET_FAULT, Name, announce_at, port_name};
 use std::alloc::Global;
@@ -49,12 +49,12 @@ fn close<F: FarStore + Drop, K: TableName, W: Write, J: Journal>(
     writer: &mut W,
     agent: Agent<F, K>,
     connections: Vec<Connection<K>>,
-    mover: Mover<F, K>,
+    ended: EndedMover<F, K>,
 ) -> Result<(), ListenFault>
     requires all { K.seats ≡ machine_limit + length connections.items }
-    ensures { SaysClosing (TellsClosing F F.RETURNS K.table K.opening K.starts) (W.contents writer.old) (W.contents writer.new) result }
+    ensures { SaysClosing (TellsClosing F F.RETURNS K.table K.opening K.starts K.lent) (W.contents writer.old) (W.contents writer.new) result }
 {
-    let Ok(closed) = agent.close(alloc, connections, mover) else {
+    let Ok(closed) = ended.close(alloc, agent, connections) else {
         return Err(ListenFault::Memory);
     };
     closed.tell(journal);
@@ -65,6 +65,61 @@ fn close<F: FarStore + Drop, K: TableName, W: Write, J: Journal>(
         return Err(ListenFault::Write);
     };
     Ok(())
+}
+
+/// Serves all connections, and closes with the mover that its own loop left.
+fn serve_opened<
+    F: FarStore + Drop + Send + Sync,
+    K: TableName + Send + Sync,
+    W: Write,
+    R: Threads + Wait + Sync,
+    J: Journal + Sync,
+>(
+    rt: &R,
+    alloc: Global,
+    door: Door,
+    name: &Name,
+    writer: &mut W,
+    agent: Agent<F, K>,
+    connections: Vec<Connection<K>>,
+    mover: Mover<F, K>,
+    far: Option<TcpStream>,
+    plan: Plan,
+    journal: &J,
+) -> Result<(), ListenFault>
+where
+    F::Parcel: Send,
+    requires all { K.seats ≡ machine_limit + length connections.items }
+    requires first { mover.view ≡ first_mover_view F.RETURNS K.opening }
+    ensures says { SaysAs (TellsClosing F F.RETURNS K.table K.opening K.starts K.lent) name.now.items (W.contents writer.old) (W.contents writer.new) result }
+    ensures here { OpensAll result }
+{
+    let Ok(()) = announce_at(name, writer) else {
+        return Err(ListenFault::Write);
+    };
+    let Ok(served) = serve_all(
+        rt,
+        alloc,
+        &agent,
+        connections,
+        mover,
+        door,
+        far,
+        plan,
+        journal,
+    ) else {
+        return Err(ListenFault::Memory);
+    };
+    let Served {
+        connections,
+        outcome,
+    } = served;
+    let ended = match outcome {
+        Ok(ended) => ended,
+        Err(ThreadFault::Net) => return Err(ListenFault::Net),
+        Err(ThreadFault::Memory) => return Err(ListenFault::Memory),
+    };
+    close(alloc, journal, writer, agent, connections, ended)
 }
 
 /// Serves what was opened.
@@ -88,34 +143,25 @@ fn listen_opened<
 where
     F::Parcel: Send,
     requires { IsNamed K.table K.opening K.starts K.seats K.lent opened.shared.table opened.machines.items }
-    ensures says { SaysAs (TellsClosing F F.RETURNS K.table K.opening K.starts) name.now.items (W.contents writer.old) (W.contents writer.new) result }
+    ensures says { SaysAs (TellsClosing F F.RETURNS K.table K.opening K.starts K.lent) name.now.items (W.contents writer.old) (W.contents writer.new) result }
     ensures here { OpensAll result }
 {
-    let Ok((agent, connections, mut mover)) = Agent::<F, K>::open(rt, alloc, opened) else {
+    let Ok((agent, connections, mover)) = Agent::<F, K>::open(rt, alloc, opened) else {
         return Err(ListenFault::Memory);
     };
-    let Ok(()) = announce_at(name, writer) else {
-        return Err(ListenFault::Write);
-    };
-    let Ok(served) = serve_all(
+    serve_opened(
         rt,
         alloc,
-        &agent,
-        connections,
-        &mut mover,
         door,
+        name,
+        writer,
+        agent,
+        connections,
+        mover,
         far,
         plan,
         journal,
-    ) else {
-        return Err(ListenFault::Memory);
-    };
-    match served.outcome {
-        Ok(()) => {}
-        Err(ThreadFault::Net) => return Err(ListenFault::Net),
-        Err(ThreadFault::Memory) => return Err(ListenFault::Memory),
-    }
-    close(alloc, journal, writer, agent, served.connections, mover)
+    )
 }
 
 /// Shares the objects and machines of a world, which all have to be here, with so many connections, at most eight, on a

@@ -1,18 +1,15 @@
 //! Commands on objects, at a connection's seat.
 ghost use Rattle.std.specs.Prelude.{◌≡◌};
 ghost use Rattle.workers.specs.Cells.{IsSeatOf, seat_state};
-ghost use Rattle.world.specs.declared.replies.Reply.TheVariants.{Away};
-ghost use Rattle.ship_service.specs.declared.replies.ServiceReply.TheVariants.{Plain};
-ghost use Rattle.ship_service.specs.Ranges.{PutsOnce, GetsOnce, ServesPut, ServesGet, AsksMover, told_of_get};
+ghost use Rattle.ship_service.specs.Ranges.{PutsOnce, GetsOnce, ServesPut, ServesGet, AsksMover, reply_to_denied, told_of_get};
 ghost use Rattle.ship_service.specs.Replies.{IsShortReply, is_busy, service_text};
 ghost use Rattle.console.specs.Lines.{ended};
 
 use crate::replies::{ServiceReply, print_service_reply};
 use console::{ReplyLine, print_bytes};
 use far_store::FarStore;
-use memory::{Bytes, Reach};
-use shared_objects::{ActorSeat, Fetched};
-use std::alloc::AllocError;
+use memory::Bytes;
+use shared_objects::{ActorSeat, Denied, GetError};
 use std::sync::Wait;
 use workers::{Direction, Pool, TableName, give_time};
 use world::Reply;
@@ -20,12 +17,24 @@ use world::Reply;
 /// How often a range is tried again that was found busy.
 const RETRY_LIMIT: u32 = 64;
 
-/// The object was found away: the mover is asked to bring it back.
-fn call<F: FarStore, K: TableName, R: Wait>(rt: &R, pool: &Pool<F, K>, object: u32) -> ServiceReply
-    ensures { result ≡ Plain (Away object) }
+/// The reply where an access is denied. The mover is asked to bring back an object that is away.
+fn reply_to_denied<F: FarStore, K: TableName, R: Wait>(
+    rt: &R,
+    pool: &Pool<F, K>,
+    object: u32,
+    why: Denied,
+) -> ServiceReply
+    ensures { result ≡ reply_to_denied object why }
 {
-    pool.call(rt, object);
-    ServiceReply::Plain(Reply::Away { object })
+    match why {
+        Denied::Outside => ServiceReply::Plain(Reply::Outside),
+        Denied::Away => {
+            pool.call(rt, object);
+            ServiceReply::Plain(Reply::Away { object })
+        }
+        Denied::Busy => ServiceReply::Busy { object },
+        Denied::Worn => ServiceReply::Worn,
+    }
 }
 
 /// Tries to write bytes into an object, once.
@@ -42,11 +51,8 @@ fn put_once<F: FarStore, K: TableName, R: Wait>(
     ensures put { PutsOnce (seat_state seat.old) object offset bytes.now result (seat_state seat.new) }
 {
     match pool.table().put(seat, object, offset, bytes) {
-        Reach::Done(_) => ServiceReply::Plain(Reply::Done),
-        Reach::Away => call(rt, pool, object),
-        Reach::Busy => ServiceReply::Busy { object },
-        Reach::Outside => ServiceReply::Plain(Reply::Outside),
-        Reach::Worn => ServiceReply::Worn,
+        Ok(()) => ServiceReply::Plain(Reply::Done),
+        Err(why) => reply_to_denied(rt, pool, object, why),
     }
 }
 
@@ -74,10 +80,10 @@ pub(crate) fn put<F: FarStore, K: TableName, R: Wait>(
 }
 
 /// Whether another had its turn on the object whose bytes were to be read.
-fn found_busy(found: &Result<Fetched, AllocError>, _object: u32) -> bool
+fn found_busy(found: &Result<Vec<u8>, GetError>, _object: u32) -> bool
     ensures { result ≡ is_busy (told_of_get _object found.now) }
 {
-    matches!(found, Ok(Fetched::Busy))
+    matches!(found, Err(GetError::Denied(Denied::Busy)))
 }
 
 /// The reply to what became of a range that was to be read.
@@ -85,17 +91,14 @@ fn told_of_get<F: FarStore, K: TableName, R: Wait>(
     rt: &R,
     pool: &Pool<F, K>,
     object: u32,
-    found: Result<Fetched, AllocError>,
+    found: Result<Vec<u8>, GetError>,
 ) -> ServiceReply
     ensures { result ≡ told_of_get object found }
 {
     match found {
-        Ok(Fetched::Done(bytes)) => ServiceReply::Plain(Reply::Bytes(Bytes::new(bytes))),
-        Ok(Fetched::Away) => call(rt, pool, object),
-        Ok(Fetched::Busy) => ServiceReply::Busy { object },
-        Ok(Fetched::Outside) => ServiceReply::Plain(Reply::Outside),
-        Ok(Fetched::Worn) => ServiceReply::Worn,
-        Err(_) => ServiceReply::Plain(Reply::NoMemory),
+        Ok(bytes) => ServiceReply::Plain(Reply::Bytes(Bytes::new(bytes))),
+        Err(GetError::Denied(why)) => reply_to_denied(rt, pool, object, why),
+        Err(GetError::Memory) => ServiceReply::Plain(Reply::NoMemory),
     }
 }
 
@@ -106,7 +109,7 @@ fn fetch_once<F: FarStore, K: TableName>(
     object: u32,
     offset: u32,
     length: u32,
-) -> Result<Fetched, AllocError>
+) -> Result<Vec<u8>, GetError>
     requires { IsSeatOf K.table K.opening seat.old }
     ensures of { IsSeatOf K.table K.opening seat.new }
     ensures get { GetsOnce (seat_state seat.old) object offset length (told_of_get object result) (seat_state seat.new) }
@@ -122,7 +125,7 @@ pub(crate) fn fetch<F: FarStore, K: TableName, R: Wait>(
     object: u32,
     offset: u32,
     length: u32,
-) -> Result<Fetched, AllocError>
+) -> Result<Vec<u8>, GetError>
     requires { IsSeatOf K.table K.opening seat.old }
     ensures of { IsSeatOf K.table K.opening seat.new }
     ensures get { ServesGet (seat_state seat.old) object offset length (told_of_get object result) (seat_state seat.new) }
@@ -160,14 +163,14 @@ pub(crate) fn print_found<F: FarStore, K: TableName, R: Wait>(
     rt: &R,
     pool: &Pool<F, K>,
     object: u32,
-    found: Result<Fetched, AllocError>,
+    found: Result<Vec<u8>, GetError>,
     line: &mut ReplyLine,
 )
     requires { IsShortReply (told_of_get object found) }
     ensures { line.new.items ≡ ended (service_text (told_of_get object found)) }
 {
     match found {
-        Ok(Fetched::Done(bytes)) => print_bytes(&bytes, line),
+        Ok(bytes) => print_bytes(&bytes, line),
         found => print_service_reply(&told_of_get(rt, pool, object, found), line),
     }
 }

@@ -1,7 +1,12 @@
 //! The threads of a service: one for each connection, its workers and its mover.
-ghost use Rattle.std.specs.Prelude.{◌≡◌, length, IfOk};
+ghost use Rattle.std.specs.Prelude.{◌≡◌, ◌+◌, true, length, map, IfOk};
+ghost use Rattle.scopes.specs.Windows.{machine_limit};
+ghost use Rattle.workers.specs.TableNames.Passage.{Ran};
+ghost use Rattle.ship_service.specs.Closing.{Settles};
+ghost use Rattle.ship_service.specs.Opening.{first_mover_view};
 ghost use denote.Param.Send.{IsSend, IsSync};
 
+use crate::closing::Closed;
 use crate::connection::Connection;
 use crate::journal::Journal;
 use crate::serving::serve;
@@ -10,11 +15,12 @@ use crossbeam_utils::CachePadded;
 use far_store::FarStore;
 use listener::{Door, accept};
 use std::alloc::{AllocError, Global};
+use std::marker::PhantomData;
 use std::net::{Shutdown, TcpStream};
 use std::sync::atomic::{AtomicBool, Ordering};
 use std::sync::{Mutex, Wait};
 use std::thread;
-use std::thread::Threads;
+use std::thread::{Promise, Threads};
 use workers::{Gate, Moved, Mover, MoverEvent, Request, TableName, Upkeep, mover, work};
 
 /// Why a service ended before all its connections had.
@@ -36,12 +42,51 @@ pub struct Plan {
     pub upkeep: Upkeep,
 }
 
+/// The mover of a service whose loop has ended: it began with all objects here, and ended with what the mover is. Nothing else moves
+/// an object, since nobody has the mover but its loop, and then who closes.
+#[derive(Drop)]
+pub struct EndedMover<F: FarStore, K: TableName> {
+    mover: Mover<F, K>,
+    pub ghost ran: { K.lent (Ran (first_mover_view F.RETURNS K.opening) mover.view) ≡ true },
+}
+
+impl<F: FarStore + Drop, K: TableName> EndedMover<F, K> {
+    /// Closes the agent with it, and with these connections.
+    pub fn close(
+        self,
+        alloc: Global,
+        agent: Agent<F, K>,
+        connections: Vec<Connection<K>>,
+    ) -> Result<Closed<F>, AllocError>
+        requires all { K.seats ≡ machine_limit + length connections.items }
+        ensures { IfOk result (λ closed. Settles F.RETURNS K.table K.opening K.starts self.mover (map (λ c. c.post.seat) connections.items) closed) }
+    {
+        let EndedMover { mover } = self;
+        agent.close(alloc, connections, mover)
+    }
+}
+
 /// What a service leaves when all its threads have ended.
 #[derive(Drop)]
-pub struct Served<K: TableName> {
+pub struct Served<F: FarStore, K: TableName> {
     /// All connections, those too that nobody came to.
     pub connections: Vec<Connection<K>>,
-    pub outcome: Result<(), ThreadFault>,
+    /// The mover, once all connections have ended.
+    pub outcome: Result<EndedMover<F, K>, ThreadFault>,
+}
+
+/// Of a mover that comes back from its thread: its loop began with all objects here, and ended with what the mover is.
+#[derive(Drop)]
+struct RanOnce<F: FarStore, K: TableName> {
+    of: PhantomData<(F, K)>,
+}
+
+impl<F: FarStore, K: TableName> Promise<Mover<F, K>> for RanOnce<F, K> {
+    ghost use Rattle.std.specs.Prelude.{◌≡◌, true};
+    ghost use Rattle.workers.specs.TableNames.Passage.{Ran};
+    ghost use Rattle.ship_service.specs.Opening.{first_mover_view};
+
+    ghost kept_by = { λ promise served. K.lent (Ran (first_mover_view F.RETURNS K.opening) served.view) ≡ true };
 }
 
 /// Lets workers and mover go on until it is told that the service ends. It passes moves on to a journal.
@@ -198,15 +243,20 @@ fn step_machines<R: Wait, F: FarStore, K: TableName, J: Journal>(
 
 fn move_objects<R: Wait, F: FarStore, K: TableName, J: Journal>(
     tools: &Tools<R, F, K, J>,
-    served: &mut Mover<F, K>,
-) {
+    first: Mover<F, K>,
+) -> Mover<F, K>
+    requires { first.view ≡ first_mover_view F.RETURNS K.opening }
+    ensures { K.lent (Ran (first_mover_view F.RETURNS K.opening) result.view) ≡ true }
+{
+    let mut served = first;
     mover(
         tools.rt,
         tools.gate,
         tools.agent.pool(),
-        served,
+        &mut served,
         tools.upkeep,
     );
+    served
 }
 
 /// Serves clients beside so many workers, which end with the last connection, as the mover does.
@@ -244,32 +294,41 @@ where
     )
 }
 
-/// Serves clients beside the mover and so many workers.
+/// Serves clients beside the mover and so many workers, and gives the mover back.
 fn serve_beside_mover<
-    F: FarStore + Send + Sync,
+    F: FarStore + Drop + Send + Sync,
     K: TableName + Send + Sync,
     R: Threads + Wait + Sync,
     J: Journal + Sync,
 >(
     tools: &Tools<R, F, K, J>,
     front: Front<K>,
-    served: &mut Mover<F, K>,
+    first: Mover<F, K>,
     workers: usize,
-) -> Result<(), ThreadFault>
+) -> Result<Mover<F, K>, ThreadFault>
 where
     F::Parcel: Send,
+    requires { first.view ≡ first_mover_view F.RETURNS K.opening }
+    ensures { IfOk result (λ served. K.lent (Ran (first_mover_view F.RETURNS K.opening) served.view) ≡ true) }
 {
-    let served = &mut *served;
     thread::scope(
         thread::scope_env(),
         tools.rt,
-        |scope| -> Result<(), ThreadFault>
-            requires { IsSend F.row × IsSend K.row × IsSend F.Parcel.row × IsSync R.row × IsSync J.row }
+        |scope| -> Result<Mover<F, K>, ThreadFault>
+            requires send { IsSend F.row × IsSend K.row × IsSend F.Parcel.row × IsSync R.row × IsSync J.row }
+            requires first { first.view ≡ first_mover_view F.RETURNS K.opening }
+            ensures { IfOk result (λ served. K.lent (Ran (first_mover_view F.RETURNS K.opening) served.view) ≡ true) }
         {
-            if scope.spawn(move || move_objects(tools, served)).is_err() {
+            let promise: RanOnce<F, K> = RanOnce { of: PhantomData };
+            let Ok(moving) = scope.spawn_with(promise, move || move_objects(tools, first)) else {
                 return Err(ThreadFault::Memory);
+            };
+            let outcome = serve_beside_workers(tools, front, workers);
+            let served = moving.join(tools.rt);
+            match outcome {
+                Ok(()) => Ok(served),
+                Err(fault) => Err(fault),
             }
-            serve_beside_workers(tools, front, workers)
         },
     )
 }
@@ -306,10 +365,10 @@ fn unlocked<K: TableName>(
 /// mover, until all have ended. Where a client can't be accepted or a thread can't be made, those that are there are cut off. A move
 /// that still waits for the far store then is cut off by `far`, which is its stream, if it has one.
 /// The journal is told of clients and moves. All threads have ended then, so agent and mover can be closed, with all
-/// connections, which come back. Out of memory
-/// is an error before the first thread or after the last, and drops them.
+/// connections, which come back. The mover comes back if all clients were served: its loop began with all objects here, and nobody
+/// else used it. Out of memory is an error before the first thread or after the last, and drops them.
 pub fn serve_all<
-    F: FarStore + Send + Sync,
+    F: FarStore + Drop + Send + Sync,
     K: TableName + Send + Sync,
     R: Threads + Wait + Sync,
     J: Journal + Sync,
@@ -318,14 +377,15 @@ pub fn serve_all<
     alloc: Global,
     agent: &Agent<F, K>,
     connections: Vec<Connection<K>>,
-    mover: &mut Mover<F, K>,
+    first: Mover<F, K>,
     door: Door,
     far: Option<TcpStream>,
     plan: Plan,
     journal: &J,
-) -> Result<Served<K>, AllocError>
+) -> Result<Served<F, K>, AllocError>
 where
     F::Parcel: Send,
+    requires { first.view ≡ first_mover_view F.RETURNS K.opening }
     ensures { IfOk result (λ served. length served.connections.items ≡ length connections.items) }
 {
     let locks = locked(alloc, connections)?;
@@ -342,7 +402,10 @@ where
         locks: &locks[..plan.connections.min(locks.len())],
         far,
     };
-    let outcome = serve_beside_mover(&tools, front, mover, plan.workers);
+    let outcome = match serve_beside_mover(&tools, front, first, plan.workers) {
+        Ok(mover) => Ok(EndedMover { mover }),
+        Err(fault) => Err(fault),
+    };
     let connections = unlocked(alloc, locks)?;
     Ok(Served {
         connections,

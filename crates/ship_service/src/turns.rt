@@ -8,7 +8,7 @@ ghost use Rattle.ship_service.specs.Served.{GoesOn, TakesTurn, TakesTurns, own_t
 
 use crate::cells::lend;
 use crate::shared_agent::Agent;
-use debugger::{DebugCommand, MachineCommand};
+use debugger::{DebugCommand, Debugged, MachineCommand};
 use far_store::FarStore;
 use shared_objects::ActorSeat;
 use std::sync::Wait;
@@ -25,7 +25,10 @@ pub(crate) fn resumes(command: MachineCommand, said: &Reply) -> bool
 {
     matches!(
         (command, said),
-        (MachineCommand::Debug(DebugCommand::Resume), Reply::Done)
+        (
+            MachineCommand::Debug(DebugCommand::Resume),
+            Reply::Debugged(Debugged::Done)
+        )
     )
 }
 

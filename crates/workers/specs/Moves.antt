@@ -145,11 +145,10 @@ AsksToReturn returns called faults v old n Done new = Brings called faults v old
 AsksToReturn returns called faults v old n (Fault f) new = BringsNone returns called faults v old n f new
 AsksToReturn returns called faults v old n _ new = AsksNothing old new
 
--- What one request asks of the far store, call by call and in order, and what becomes of its count of faults: whether it returns
--- what was put, its calls, its faults, the mover's view and the store before, the object, what became of it, and both after.
-abbrev pub AsksOne : {X : Type 0} → Bool → (X → Call → X → Type 0) → (X → ℕ) → Direction → View → X → ℕ → Moved → View → X → Type 0
-AsksOne returns called faults Leave v old n moved w new = AsksToLeave called faults v old n moved w new
-AsksOne returns called faults Return v old n moved w new = AsksToReturn returns called faults v old n moved new
+-- What one request asks of the far store, call by call and in order, and what becomes of its count of faults.
+abbrev pub AsksOne : {X : Type 0} → Bool → (X → Call → X → Type 0) → (X → ℕ) → Direction → MoverState X → ℕ → Moved → MoverState X → Type 0
+AsksOne returns called faults Leave old n moved new = AsksToLeave called faults old.view old.store n moved new.view new.store
+AsksOne returns called faults Return old n moved new = AsksToReturn returns called faults old.view old.store n moved new.store
 
 -- ---- looking
 
@@ -157,10 +156,12 @@ AsksOne returns called faults Return v old n moved w new = AsksToReturn returns 
 abbrev pub number_after : ℕ → ℕ → ℕ
 number_after count last = if nat_lt (last + 1) count && nat_lt last object_limit then (last + 1) else 1
 
--- A mover looks at an object: one that was hot is cooled and stays; one that was cold is asked to leave, unless it is awaited and stays.
-abbrev pub LooksAt : {X : Type 0} → (X → Call → X → Type 0) → (X → ℕ) → View → X → ℕ → Looked → View → X → Type 0
-LooksAt called faults v old n looked.NoObject w new = (IsObject v.opening n → ⊥) × (w ≡ v) × (new ≡ old)
-LooksAt called faults v old n looked.Hot w new = IsObject v.opening n × (w ≡ with_cooling n true v) × (new ≡ old)
-LooksAt called faults v old n looked.Awaited w new = IsObject v.opening n × (w ≡ with_cooling n false v) × (new ≡ old)
-LooksAt called faults v old n (looked.Cold moved) w new = IsObject v.opening n × LeavesFor (with_cooling n false v) n moved w
-    × AsksToLeave called faults (with_cooling n false v) old n moved w new
+-- A mover looks at the object whose number it keeps then: one that was hot is cooled and stays; one that was cold is asked to leave, unless it is
+-- awaited and stays.
+abbrev pub LooksAt : {X : Type 0} → (X → Call → X → Type 0) → (X → ℕ) → MoverState X → Looked → MoverState X → Type 0
+LooksAt called faults old looked.NoObject new = (IsObject old.view.opening new.last → ⊥) × (new.view ≡ old.view) × (new.store ≡ old.store)
+LooksAt called faults old looked.Hot new = IsObject old.view.opening new.last × (new.view ≡ with_cooling new.last true old.view) × (new.store ≡ old.store)
+LooksAt called faults old looked.Awaited new = IsObject old.view.opening new.last × (new.view ≡ with_cooling new.last false old.view) × (new.store ≡ old.store)
+LooksAt called faults old (looked.Cold moved) new = IsObject old.view.opening new.last
+    × LeavesFor (with_cooling new.last false old.view) new.last moved new.view
+    × AsksToLeave called faults (with_cooling new.last false old.view) old.store new.last moved new.view new.store

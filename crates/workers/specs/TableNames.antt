@@ -1,13 +1,14 @@
 -- What a name says of its table.
 use Rattle.std.specs.Prelude.{◌≡◌, ◌≤◌, ℕ, Bool, true, []}
 use Rattle.atomic_table.specs.Seated.{TableId}
+use Rattle.shared_objects.specs.declared.view.View.{View}
 use Rattle.workers.specs.Cells.{CellState}
 
 -- what a name stands for until a call picks its table
 abbrev pub no_table : TableId
 no_table = record { words = 0; slots = 0; views_name = 0; atom = 0; block = 0; offset = 0; slot_names = [] }
 
--- What passes at the locks of cells.
+-- What passes at the locks of cells, and in the mover's thread.
 pub data Passage : Type 0 where
   -- the cell of this number was lent with a machine in it
   Machine : ℕ → Passage
@@ -15,9 +16,11 @@ pub data Passage : Type 0 where
   Lends : CellState → Passage
   -- a lock was left with this
   Leaves : CellState → Passage
+  -- the mover's loop began when its seat knew this, and ended when it knew that
+  Ran : View → View → Passage
 
 -- Each passage came to pass. A call that opens a table picks this for the table's name, and tells nobody who serves: so who
--- says that one did has it from the lock.
+-- says that one did has it from the lock, or from the loop.
 abbrev pub each_lent : Passage → Bool
 each_lent p = true
 

@@ -197,7 +197,7 @@ impl<F: FarStore, K: TableName> Mover<F, K> {
     /// store failed, or gave more bytes or fewer, and the object is where it was. `NoRoom` doesn't come.
     pub fn one(&mut self, pool: &Pool<F, K>, number: u32, direction: Direction) -> Moved
         ensures moves { MovesOne direction self.old.view number result self.new.view }
-        ensures asks { AsksOne F.RETURNS F.called F.faults_of direction self.old.view self.old.store number result self.new.view self.new.store }
+        ensures asks { AsksOne F.RETURNS F.called F.faults_of direction self.old number result self.new }
         ensures last { self.new.last ≡ self.old.last }
     {
         let _seat = &self.seat;
@@ -213,7 +213,7 @@ impl<F: FarStore, K: TableName> Mover<F, K> {
         landing: &L,
     ) -> Moved
         ensures moves { MovesOne direction self.old.view number result self.new.view }
-        ensures asks { AsksOne F.RETURNS F.called F.faults_of direction self.old.view self.old.store number result self.new.view self.new.store }
+        ensures asks { AsksOne F.RETURNS F.called F.faults_of direction self.old number result self.new }
         ensures last { self.new.last ≡ self.old.last }
     {
         let _seat = &self.seat;
@@ -276,7 +276,7 @@ impl<F: FarStore, K: TableName> Mover<F, K> {
     /// Looks at the next object, that of number 1 after the last one: one that was used since the last look is passed over,
     /// and any other is asked to leave.
     pub fn look(&mut self, pool: &Pool<F, K>) -> Looked
-        ensures looks { LooksAt F.called F.faults_of self.old.view self.old.store self.new.last result self.new.view self.new.store }
+        ensures looks { LooksAt F.called F.faults_of self.old result self.new }
         ensures last { self.new.last ≡ number_after (length K.opening) self.old.last }
     {
         self.last = next_number(self.parcels.len(), self.last);
@@ -291,7 +291,7 @@ impl<F: FarStore, K: TableName> Mover<F, K> {
 
     /// Looks at the next object for room: as above, but an object stays that came back for a machine which hasn't used it yet.
     pub fn look_past(&mut self, pool: &Pool<F, K>) -> Looked
-        ensures looks { LooksAt F.called F.faults_of self.old.view self.old.store self.new.last result self.new.view self.new.store }
+        ensures looks { LooksAt F.called F.faults_of self.old result self.new }
         ensures last { self.new.last ≡ number_after (length K.opening) self.old.last }
     {
         self.last = next_number(self.parcels.len(), self.last);

@@ -365,6 +365,11 @@ impl<F: FarStore, K: TableName> Pool<F, K> {
         self.requests.scopes_ended();
     }
 
+    /// What says that something passed.
+    pub(crate) fn passages(&self) -> &Passages<K> {
+        &self.passages
+    }
+
     /// What the mover is asked for.
     pub(crate) fn requests(&self) -> &Requests {
         &self.requests

@@ -19,8 +19,9 @@ pub trait TableName {
     /// How many actors' seats were made.
     ghost seats: { ℕ };
 
-    /// Which cells were lent with a machine in them, what each lock lent, and with what it was left. Whoever serves learns it of a cell only
-    /// by `Occupied::fact`, and of a lock only by taking it and by giving it back.
+    /// Which cells were lent with a machine in them, what each lock lent, with what it was left, and what the mover's loop made of its
+    /// mover. Whoever serves learns it of a cell only by `Occupied::fact`, of a lock only by taking it and by giving it back, and of
+    /// the loop only by calling `mover`.
     ghost lent: { Passage → Bool };
 }
 

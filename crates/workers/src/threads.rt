@@ -1,6 +1,7 @@
 //! Workers and the mover, on threads of their own.
 ghost use denote.Param.Send.{IsSend, IsSync};
-ghost use Rattle.std.specs.Prelude.{length};
+ghost use Rattle.std.specs.Prelude.{◌≡◌, true, length};
+ghost use Rattle.workers.specs.TableNames.Passage.{Ran};
 ghost use Rattle.workers.specs.Turning.{MovesOn};
 
 use crate::gate::Gate;
@@ -11,6 +12,7 @@ use crate::table_name::TableName;
 use crate::upkeep::{MoverEvent, Upkeep};
 use far_store::FarStore;
 use placement::Moved;
+use std::snapshot::Snapshot;
 use std::sync::Wait;
 use std::thread;
 use std::thread::Threads;
@@ -27,6 +29,22 @@ const PAUSE_MILLIS: u64 = 10;
 /// object that is in a scope stays, and one that came back for a machine which hasn't used it yet. If it finds no room an object comes
 /// back all the same. Then the mover looks again when a machine or a command has ended, or after 1, 2, 4 and up to 4096 turns.
 pub fn mover<F: FarStore, K: TableName, R: Wait, G: Gate>(
+    rt: &R,
+    gate: &G,
+    pool: &Pool<F, K>,
+    served: &mut Mover<F, K>,
+    upkeep: Upkeep,
+)
+    ensures chain { MovesOn F.RETURNS F.called F.faults_of (length K.opening) served.old served.new }
+    ensures ran { K.lent (Ran served.old.view served.new.view) ≡ true }
+{
+    let began = Snapshot::of(served);
+    serve_moving(rt, gate, pool, served, upkeep);
+    pool.passages().ran(&began, served);
+}
+
+/// The loop of the mover.
+fn serve_moving<F: FarStore, K: TableName, R: Wait, G: Gate>(
     rt: &R,
     gate: &G,
     pool: &Pool<F, K>,

@@ -1,5 +1,5 @@
--- What is so of each move.
-use Rattle.std.proofs.Common.{◌≡◌, ℕ, false, ap, arith}
+-- No move changes bytes.
+use Rattle.std.proofs.Common.{◌≡◌, ℕ, ap, arith}
 use Rattle.placement.specs.declared.places.Place.{Place}
 use Rattle.placement.specs.declared.places.Place.TheVariants as place
 use Rattle.placement.specs.declared.places.Moved.{Moved}
@@ -7,10 +7,7 @@ use Rattle.placement.specs.declared.places.Moved.TheVariants as moved
 use Rattle.object_store.specs.Stores.{StoreState}
 use Rattle.object_store.specs.Calls.{RefusesMove, EndsLeave}
 use Rattle.world.specs.declared.world.moving.Move.{Move as MoveKind}
-use Rattle.world.specs.Moves.{Moves, moved_reply}
-use Rattle.world.specs.Undebugged.{undebugged_reply, is_pause}
-
--- ---- bytes
+use Rattle.world.specs.Moves.{Moves}
 
 refuses_stay : (from : Place) (old new : StoreState) (n : ℕ) (m : Moved) → RefusesMove from old n m new → new.objects ≡ old.objects
 refuses_stay from old new n moved.NoObject h = ap (λ (s : StoreState). s.objects) h.1
@@ -25,11 +22,3 @@ ends_leave old new n m h = refuses_stay place.Leaving old new n m h
 -- a move changes no object's bytes
 pub moves_stay : (m : MoveKind) (old new : StoreState) (n : ℕ) (d : Moved) → Moves m old n d new → new.objects ≡ old.objects
 moves_stay m old new n d h = grind arith
-
--- ---- replies
-
-pub moved_undebugged : (m : MoveKind) (n : ℕ) → undebugged_reply (moved_reply m n) ≡ moved_reply m n
-moved_undebugged m n = grind arith
-
-pub moved_unpaused : (m : MoveKind) (n : ℕ) → is_pause (moved_reply m n) ≡ false
-moved_unpaused m n = grind arith

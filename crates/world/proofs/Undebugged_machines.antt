@@ -28,10 +28,11 @@ use Rattle.debugger.specs.declared.shown.State.{State}
 use Rattle.debugger.specs.declared.shown.Shown.{Shown}
 use Rattle.debugger.specs.declared.debuggee.Debuggee.{Debuggee}
 use Rattle.world.specs.declared.replies.Reply.{Reply}
+use Rattle.world.specs.declared.replies.Reply.TheVariants as reply
 use Rattle.world.specs.declared.events.Event.TheVariants.{Machine}
 use Rattle.world.specs.WorldState.{machine_at, with_machine}
-use Rattle.world.specs.Machines.{AnswersCommand, AnswersMachine, reply_to_step, reply_to_show}
-use Rattle.world.specs.Undebugged.{undebugged_machine, undebugged_reply, unpaused, is_pause, is_undebugged}
+use Rattle.world.specs.Machines.{AnswersCommand, AnswersMachine}
+use Rattle.world.specs.Undebugged.{undebugged_machine, undebugged_reply, unhit, unshown, unpaused, is_pause, is_undebugged}
 use Rattle.world.proofs.Numbered.{with_same}
 
 abbrev debuggee : MachineState → DebugState → Debuggee
@@ -91,14 +92,6 @@ starts_stay (stepped.Ran w) = ap (λ b. record { breakpoints = []; watches = [];
 starts_stay (stepped.Waiting n) = refl
 starts_stay (stepped.Stopped s) = refl
 
--- a hit is a step that ran
-abbrev unhit : StepReply → StepReply
-unhit (step_reply.Hit slot) = step_reply.Ran slot
-unhit told = told
-
-unhit_reply : (m : ℕ) (told : StepReply) → undebugged_reply (reply_to_step m told) ≡ reply_to_step m (unhit told)
-unhit_reply m told = grind arith
-
 hit_ran : (b : Bool) (slot : ℕ) → unhit (cond b (step_reply.Hit slot) (step_reply.Ran slot)) ≡ step_reply.Ran slot
 hit_ran true slot = refl
 hit_ran false slot = refl
@@ -122,7 +115,7 @@ walk_undebugged memory w old new before after told h = record {
 }
 
 step_undebugged : {S : Type 0} (memory : Memories S) (w : Way) (m : ℕ) (old new : Debuggee) (before after : S) (told : StepReply)
-    → is_pause (reply_to_step m told) ≡ false
+    → is_pause (reply.Stepped m told) ≡ false
     → AnswersStep memory w old before told new after → AnswersStep memory way.Step (undebugged_machine old) before (unhit told) (undebugged_machine new) after
 step_undebugged memory w m old new before after (step_reply.Paused slot) e h = absurd (cc)
 step_undebugged memory w m old new before after (step_reply.Ran slot) e h = walk_undebugged memory w old new before after (step_reply.Ran slot) h
@@ -132,7 +125,7 @@ step_undebugged memory w m old new before after (step_reply.Stopped s) e h = wal
 
 -- a pause is not seen
 step_unseen : {S : Type 0} (memory : Memories S) (w : Way) (m : ℕ) (old new : Debuggee) (before after : S) (told : StepReply)
-    → is_pause (reply_to_step m told) ≡ true
+    → is_pause (reply.Stepped m told) ≡ true
     → AnswersStep memory w old before told new after → (undebugged_machine new ≡ undebugged_machine old) × (after ≡ before)
 step_unseen memory w m old new before after (step_reply.Paused slot) e h = (ap undebugged_machine h.changed, h.same)
 step_unseen memory w m old new before after _ e h = absurd (cc)
@@ -149,14 +142,6 @@ shown_undebugged : (d : Debuggee) (shown : Shown) → shown ≡ shown_of d.machi
 shown_undebugged d shown e =
     ap (λ (s : Shown). record s { state = unpaused s.state }) e
     ∙ ap (λ (s : State). record (shown_of d.machine debug_start) { state = s }) (unpaused_state d.machine.stop d.debugger.paused)
-
--- no machine shows that it is paused
-abbrev unshown : ShowReply → ShowReply
-unshown (show_reply.Registers shown) = show_reply.Registers (record shown { state = unpaused shown.state })
-unshown told = told
-
-unshown_reply : (m : ℕ) (told : ShowReply) → undebugged_reply (reply_to_show m told) ≡ reply_to_show m (unshown told)
-unshown_reply m told = grind arith
 
 bytes_undebugged : (bytes : List ℕ) (offset size : ℕ) (told : ShowReply) → ShowsBytes bytes offset size told → ShowsBytes bytes offset size (unshown told)
 bytes_undebugged bytes offset size told h = grind arith
@@ -184,11 +169,11 @@ command_undebugged : {S : Type 0} (memory : Memories S) (m : ℕ) (c : MachineCo
     → AnswersCommand memory (undebugged_machine old) before m (undebugged_work c) (undebugged_reply r) (undebugged_machine new) after
 command_undebugged memory m (Step w) old new before after r e h = (
   unhit h.0,
-  ap undebugged_reply h.1 ∙ unhit_reply m h.0,
+  ap undebugged_reply h.1,
   step_undebugged memory w m old new before after h.0 (subst (λ (x : Reply). is_pause x ≡ false) h.1 (not_second (is_pause r) e)) h.2,
 )
 command_undebugged memory m (Show c) old new before after r e h =
-    (unshown h.0, ap undebugged_reply h.1 ∙ unshown_reply m h.0, show_undebugged c old h.0 h.2, ap undebugged_machine h.3, h.4)
+    (unshown h.0, ap undebugged_reply h.1, show_undebugged c old h.0 h.2, ap undebugged_machine h.3, h.4)
 command_undebugged memory m (Debug c) old new before after r e h = absurd (cc)
 
 pub machine_undebugged : {S : Type 0} (memory : Memories S) (m : ℕ) (c : MachineCommand) (old new : List Debuggee) (before after : S) (r : Reply)
@@ -205,9 +190,6 @@ machine_undebugged memory m c old new before after r e (inr h) = inr (record {
   changed = ap undebugged_machines h.changed ∙ with_undebugged old m h.became;
 })
 
-not_pause : (m : ℕ) (told : ShowReply) → is_pause (reply_to_show m told) ≡ false
-not_pause m told = grind arith
-
 -- the debugging commands and pauses are not seen
 command_unseen : {S : Type 0} (memory : Memories S) (m : ℕ) (c : MachineCommand) (old new : Debuggee) (before after : S) (r : Reply)
     → is_undebugged (Machine m c) r ≡ false
@@ -215,7 +197,7 @@ command_unseen : {S : Type 0} (memory : Memories S) (m : ℕ) (c : MachineComman
 command_unseen memory m (Step w) old new before after r e h =
     step_unseen memory w m old new before after h.0 (subst (λ (x : Reply). is_pause x ≡ true) h.1 (second (is_pause r) e)) h.2
 command_unseen memory m (Show c) old new before after r e h =
-    let f = sym (second (is_pause r) e) ∙ (rw (← h.1) at (not_pause m h.0)) in absurd (cc)
+    let f = subst (λ (x : Reply). is_pause x ≡ true) h.1 (second (is_pause r) e) in absurd (cc)
 command_unseen memory m (Debug c) old new before after r e h = (ap undebugged_machine h.2.1, h.3)
 
 pub machine_unseen : {S : Type 0} (memory : Memories S) (m : ℕ) (c : MachineCommand) (old new : List Debuggee) (before after : S) (r : Reply)

@@ -1,8 +1,6 @@
 -- Debugging changes nothing.
 use Rattle.std.proofs.Common.{◌≡◌, ◌≤◌, ◌+◌, ℕ, true, false, List, [], ◌∷◌, length, map, refl, sym, ap, ◌∙◌, subst, arith}
 use Rattle.std.proofs.lemmas.List.{length-map, map-append}
-use Rattle.placement.specs.declared.places.Place.{Place}
-use Rattle.placement.specs.declared.places.Place.TheVariants as place
 use Rattle.placement.specs.declared.places.Moved.{Moved}
 use Rattle.object_store.specs.Stores.{StoreState, store_memory}
 use Rattle.scopes.specs.Windows.{machine_limit}
@@ -19,15 +17,14 @@ use Rattle.world.specs.declared.events.ObjectCommand.{ObjectCommand}
 use Rattle.world.specs.declared.events.ObjectCommand.TheVariants.{Free, Put, Get, Move}
 use Rattle.world.specs.Run.{Runs}
 use Rattle.world.specs.WorldState.{WorldState, AreAllShipped}
-use Rattle.world.specs.Answers.{AnswersMake, AnswersPut, AnswersGet, AnswersMove, AnswersObject, AnswersShip, reply_to_move, Answers}
-use Rattle.world.specs.Moves.{Moves, moved_reply, place_before}
+use Rattle.world.specs.Answers.{AnswersMake, AnswersPut, AnswersGet, AnswersMove, AnswersObject, AnswersShip, Answers}
+use Rattle.world.specs.Moves.{Moves}
 use Rattle.world.specs.Kept.{commands_kept, replies_kept}
 use Rattle.world.specs.Undebugged.{undebugged, undebugged_machine, undebugged_command, undebugged_reply, undebugged_commands, undebugged_replies, is_pause}
 use Rattle.world.specs.Undebugged.{is_undebugged}
 use Rattle.world.specs.Unseen.{DebuggingChangesNothing, NeitherChangesAnything}
 use Rattle.world.proofs.Joined.{kept_first}
 use Rattle.world.proofs.Undebugged_machines.{undebugged_machines, machine_undebugged, machine_unseen, second}
-use Rattle.world.proofs.Moves.{moved_undebugged, moved_unpaused}
 use Rattle.world.proofs.Unmoved.{moving_changes_nothing}
 
 -- ---- what is done to the store
@@ -49,26 +46,22 @@ put_kept old new n offset bytes _ h = absurd h
 get_kept : (s : StoreState) (n offset size : ℕ) (r : Reply) → AnswersGet s n offset size r → AnswersGet s n offset size (undebugged_reply r)
 get_kept s n offset size r h = grind arith
 
-same_to_move : (told : Reply) (back : Place) (n : ℕ) (m : Moved) → undebugged_reply told ≡ told
-    → undebugged_reply (reply_to_move told back n m) ≡ reply_to_move told back n m
-same_to_move told back n m e = grind arith
-
-move_kept : (moves : StoreState → ℕ → Moved → StoreState → Type 0) (told : Reply) (back : Place) (old new : WorldState) (n : ℕ) (r : Reply)
-    → undebugged_reply told ≡ told
-    → AnswersMove moves told back old n r new → AnswersMove moves told back (undebugged old) n (undebugged_reply r) (undebugged new)
-move_kept moves told back old new n r e h = record {
+move_kept : (moves : StoreState → ℕ → Moved → StoreState → Type 0) (reply_with : Moved → Reply) (old new : WorldState) (n : ℕ) (r : Reply)
+    → ((m : Moved) → undebugged_reply (reply_with m) ≡ reply_with m)
+    → AnswersMove moves reply_with old n r new → AnswersMove moves reply_with (undebugged old) n (undebugged_reply r) (undebugged new)
+move_kept moves reply_with old new n r e h = record {
   moved = h.moved;
   move = h.move;
-  told = ap undebugged_reply h.told ∙ same_to_move told back n h.moved e;
+  told = ap undebugged_reply h.told ∙ e h.moved;
   changed = ap undebugged h.changed;
 }
 
 object_kept : (old new : WorldState) (n : ℕ) (c : ObjectCommand) (r : Reply) → AnswersObject old n c r new
     → AnswersObject (undebugged old) n c (undebugged_reply r) (undebugged new)
-object_kept old new n Free r h = move_kept Frees (reply.Freed n) place.Here old new n r refl h
+object_kept old new n Free r h = move_kept Frees (reply.Freed n) old new n r (λ m. refl) h
 object_kept old new n (Put offset bytes) r h = put_kept old new n offset bytes r h
 object_kept old new n (Get offset size) r h = (get_kept old.store n offset size r h.0, ap undebugged h.1)
-object_kept old new n (Move m) r h = move_kept (Moves m) (moved_reply m n) (place_before m) old new n r (moved_undebugged m n) h
+object_kept old new n (Move m) r h = move_kept (Moves m) (reply.Moved n m) old new n r (λ d. refl) h
 
 -- ---- what is done to machines
 
@@ -102,15 +95,12 @@ one_kept old new (Machine m (Step w)) r e h = machine_undebugged (store_memory m
 one_kept old new (Machine m (Show c)) r e h = machine_undebugged (store_memory m) m (Show c) old.machines new.machines old.store new.store r e h
 one_kept old new (Machine m (Debug c)) r e h = absurd (cc)
 
--- no move is answered that a machine is paused
-move_told : {P : Type 0} (r told : Reply) (back : Place) (n : ℕ) (m : Moved) → r ≡ reply_to_move told back n m → is_pause told ≡ false → is_pause r ≡ true → P
-move_told r told back n m e f h = absurd (grind arith)
-
+-- no command on an object is answered that a machine is paused
 object_unpaused : {P : Type 0} (old new : WorldState) (n : ℕ) (c : ObjectCommand) (r : Reply) → AnswersObject old n c r new → is_pause r ≡ true → P
-object_unpaused old new n Free r h e = move_told r (reply.Freed n) place.Here n h.moved h.told refl e
-object_unpaused old new n (Move m) r h e = move_told r (moved_reply m n) (place_before m) n h.moved h.told (moved_unpaused m n) e
-object_unpaused old new n (Put offset bytes) (reply.Paused k slot) h e = absurd h
-object_unpaused old new n (Get offset size) (reply.Paused k slot) h e = absurd h.0
+object_unpaused old new n Free r h e = let f = subst (λ (x : Reply). is_pause x ≡ true) h.told e in absurd (cc)
+object_unpaused old new n (Move m) r h e = let f = subst (λ (x : Reply). is_pause x ≡ true) h.told e in absurd (cc)
+object_unpaused old new n (Put offset bytes) (reply.Stepped k told) h e = absurd h
+object_unpaused old new n (Get offset size) (reply.Stepped k told) h e = absurd h.0
 object_unpaused old new n _ _ h e = absurd (cc)
 
 -- what is erased: the debugging commands, and pauses
@@ -120,8 +110,8 @@ one_erased old new (Machine m c) r e h =
     let k = machine_unseen (store_memory m) m c old.machines new.machines old.store new.store r e h in
     ap (λ (x : List Debuggee). record { machines = x; store = new.store }) k.0
     ∙ ap (λ (s : StoreState). record { machines = undebugged_machines old.machines; store = s }) k.1
-one_erased old new (Make size) (reply.Paused k slot) e h = absurd h
-one_erased old new (Ship start code) (reply.Paused k slot) e h = absurd h.0
+one_erased old new (Make size) (reply.Stepped k told) e h = absurd h
+one_erased old new (Ship start code) (reply.Stepped k told) e h = absurd h.0
 one_erased old new _ _ e h = absurd (cc)
 
 -- ---- a run

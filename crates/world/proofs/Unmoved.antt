@@ -1,11 +1,9 @@
 -- Moving objects changes nothing.
-use Rattle.std.proofs.Common.{◌≡◌, ℕ, Bool, true, false, ◌||◌, cond, List, [], ◌∷◌, inl, inr, refl, sym, ap, ◌∙◌, subst, arith}
+use Rattle.std.proofs.Common.{◌≡◌, ℕ, Bool, true, false, ◌||◌, cond, List, [], ◌∷◌, inl, inr, refl, sym, ap, ◌∙◌, subst}
 use Rattle.memory.specs.declared.access.Op.{Op}
 use Rattle.memory.specs.declared.access.Reach.{Reach}
 use Rattle.memory.specs.declared.access.Reach.TheVariants as reach
 use Rattle.memory.specs.MapMemory.{map_memory, map_reaches}
-use Rattle.placement.specs.declared.places.Place.{Place}
-use Rattle.placement.specs.declared.places.Place.TheVariants as place
 use Rattle.placement.specs.declared.places.Moved.{Moved}
 use Rattle.placement.specs.declared.places.Moved.TheVariants as moved
 use Rattle.object_store.specs.Stores.{StoreState, store_memory, Touches}
@@ -23,7 +21,6 @@ use Rattle.debugger.specs.declared.commands.MachineCommand.{MachineCommand}
 use Rattle.debugger.specs.declared.commands.MachineCommand.TheVariants.{Step, Show, Debug}
 use Rattle.debugger.specs.declared.replies.StepReply.{StepReply}
 use Rattle.debugger.specs.declared.replies.StepReply.TheVariants as step_reply
-use Rattle.debugger.specs.declared.replies.Debugged.{Debugged}
 use Rattle.debugger.specs.declared.debuggee.Debuggee.{Debuggee}
 use Rattle.debugger.specs.DebugState.{DebugState, hits}
 use Rattle.debugger.specs.Pausing as pausing
@@ -36,9 +33,9 @@ use Rattle.world.specs.declared.events.ObjectCommand.{ObjectCommand}
 use Rattle.world.specs.declared.events.ObjectCommand.TheVariants.{Free, Put, Get, Move}
 use Rattle.world.specs.Run.{Runs}
 use Rattle.world.specs.WorldState.{WorldState, with_machine}
-use Rattle.world.specs.Machines.{AnswersCommand, AnswersMachine, reply_to_step, reply_to_debug}
-use Rattle.world.specs.Answers.{AnswersMove, AnswersObject, reply_to_move, Answers}
-use Rattle.world.specs.Moves.{Moves, moved_reply, place_before}
+use Rattle.world.specs.Machines.{AnswersCommand, AnswersMachine}
+use Rattle.world.specs.Answers.{AnswersMove, AnswersObject, Answers}
+use Rattle.world.specs.Moves.{Moves}
 use Rattle.world.specs.Plain.{PlainState, plain_of, FreesPlain, ObjectPlain, PlainAnswers, is_absence, is_unmoved, unmoved_commands, unmoved_replies}
 use Rattle.world.specs.Unseen.{MovingChangesNothing}
 use Rattle.world.proofs.Joined.{kept_first}
@@ -73,25 +70,25 @@ abbrev debuggee : MachineState → DebugState → Debuggee
 debuggee m d = record { machine = m; debugger = d }
 
 -- what is not answered that it waits goes on
-told_goes : (m : ℕ) (a : Stepped) (slot : ℕ) (d : DebugState) → is_absence (reply_to_step m (reply_after a slot d)) ≡ false → goes a ≡ true
+told_goes : (m : ℕ) (a : Stepped) (slot : ℕ) (d : DebugState) → is_absence (reply.Stepped m (reply_after a slot d)) ≡ false → goes a ≡ true
 told_goes m (stepped.Ran w) slot d e = refl
 told_goes m (stepped.Waiting n) slot d e = absurd (cc)
 told_goes m (stepped.Stopped s) slot d e = refl
 
-walk_plain : (m : ℕ) (way : Way) (old new : Debuggee) (before after : StoreState) (told : StepReply) → is_absence (reply_to_step m told) ≡ false
+walk_plain : (m : ℕ) (way : Way) (old new : Debuggee) (before after : StoreState) (told : StepReply) → is_absence (reply.Stepped m told) ≡ false
     → Walks (store_memory m) way old before told new after → Walks map_memory way old before.objects told new after.objects
 walk_plain m way old new before after told e h = record {
   goes = h.goes;
   answer = h.answer;
   machine = h.machine;
   step = plain_step m old.machine h.machine before after h.answer
-      (told_goes m h.answer h.machine.slot old.debugger (subst (λ (x : StepReply). is_absence (reply_to_step m x) ≡ false) h.told e)) h.step;
+      (told_goes m h.answer h.machine.slot old.debugger (subst (λ (x : StepReply). is_absence (reply.Stepped m x) ≡ false) h.told e)) h.step;
   told = h.told;
   changed = h.changed;
 }
 
 -- by any way, where it isn't answered that it waits
-step_plain : (m : ℕ) (way : Way) (old new : Debuggee) (before after : StoreState) (told : StepReply) → is_absence (reply_to_step m told) ≡ false
+step_plain : (m : ℕ) (way : Way) (old new : Debuggee) (before after : StoreState) (told : StepReply) → is_absence (reply.Stepped m told) ≡ false
     → AnswersStep (store_memory m) way old before told new after → AnswersStep map_memory way old before.objects told new after.objects
 step_plain m way old new before after (step_reply.Paused slot) e h =
     record { held = h.held; slot_is = h.slot_is; changed = h.changed; same = ap (λ (s : StoreState). s.objects) h.same }
@@ -145,19 +142,16 @@ waited m n way old new before after h =
       waited_away m before after n w.1.1 w.1.2 w.1.6 w.1.5,
     )
 
-step_erased : (m : ℕ) (way : Way) (old new : Debuggee) (before after : StoreState) (told : StepReply) → is_absence (reply_to_step m told) ≡ true
+step_erased : (m : ℕ) (way : Way) (old new : Debuggee) (before after : StoreState) (told : StepReply) → is_absence (reply.Stepped m told) ≡ true
     → AnswersStep (store_memory m) way old before told new after → (new ≡ old) × (after ≡ before)
 step_erased m way old new before after (step_reply.Waiting n) e h = waited m n way old new before after h
 step_erased m way old new before after _ e h = absurd (cc)
-
-debug_is_here : (told : Debugged) → is_absence (reply_to_debug told) ≡ false
-debug_is_here told = grind arith
 
 command_erased : (m : ℕ) (c : MachineCommand) (old new : Debuggee) (before after : StoreState) (r : Reply) → is_absence r ≡ true
     → AnswersCommand (store_memory m) old before m c r new after → (new ≡ old) × (after ≡ before)
 command_erased m (Step way) old new before after r e h = step_erased m way old new before after h.0 (subst (λ (x : Reply). is_absence x ≡ true) h.1 e) h.2
 command_erased m (Show c) old new before after r e h = (h.3, h.4)
-command_erased m (Debug c) old new before after r e h = let f = sym (debug_is_here h.0) ∙ (rw h.1 at e) in absurd (cc)
+command_erased m (Debug c) old new before after r e h = let f = subst (λ (x : Reply). is_absence x ≡ true) h.1 e in absurd (cc)
 
 machine_erased : (m : ℕ) (c : MachineCommand) (old new : List Debuggee) (before after : StoreState) (r : Reply) → is_absence r ≡ true
     → AnswersMachine (store_memory m) old before m c r new after → (new ≡ old) × (after ≡ before)
@@ -170,15 +164,15 @@ machine_erased m c old new before after r e (inr h) =
 
 move_erased : (moves : StoreState → ℕ → Moved → StoreState → Type 0)
     → ((old new : StoreState) (n : ℕ) (m : Moved) → moves old n m new → new.objects ≡ old.objects)
-    → (told : Reply) (back : Place) (old new : WorldState) (n : ℕ) (r : Reply) → AnswersMove moves told back old n r new → plain_of new ≡ plain_of old
-move_erased moves stay told back old new n r h =
+    → (reply_with : Moved → Reply) (old new : WorldState) (n : ℕ) (r : Reply) → AnswersMove moves reply_with old n r new → plain_of new ≡ plain_of old
+move_erased moves stay reply_with old new n r h =
     ap plain_of h.changed ∙ ap (λ (o : List (List ℕ)). record { machines = old.machines; objects = o }) (stay old.store new.store n h.moved h.move)
 
 frees_plain : (old new : StoreState) (n : ℕ) (m : Moved) → Frees old n m new
-    → FreesPlain old.objects n (reply_to_move (reply.Freed n) place.Here n m) new.objects
+    → FreesPlain old.objects n (reply.Freed n m) new.objects
 frees_plain old new n moved.Scoped h = (refl, h.0.0, ap (λ (s : StoreState). s.objects) h.2)
 frees_plain old new n moved.Done h = (refl, h.0.0, ap (λ (s : StoreState). s.objects) h.3)
-frees_plain old new n moved.NoObject h = (h.0, ap (λ (s : StoreState). s.objects) h.1)
+frees_plain old new n moved.NoObject h = (refl, h.0, ap (λ (s : StoreState). s.objects) h.1)
 frees_plain old new n (moved.Misplaced p) h = (refl, h.0.0, ap (λ (s : StoreState). s.objects) h.2)
 frees_plain old new n moved.NoRoom h = absurd h
 frees_plain old new n (moved.Fault f) h = absurd h
@@ -221,19 +215,16 @@ one_kept old new (Ship start code) r e h = (h.0, ap (λ (s : StoreState). s.obje
 one_kept old new (Object n c) r e h = object_plain old new n c r e h
 one_kept old new (Machine m c) r e h = machine_plain m c old.machines new.machines old.store new.store r (not_second (is_absence r) e) h
 
-free_told : {P : Type 0} (r : Reply) (n : ℕ) (m : Moved) → r ≡ reply_to_move (reply.Freed n) place.Here n m → is_absence r ≡ true → P
-free_told r n m e h = absurd (grind arith)
-
 object_erased : (old new : WorldState) (n : ℕ) (c : ObjectCommand) (r : Reply) → is_unmoved (Object n c) r ≡ false
     → AnswersObject old n c r new → plain_of new ≡ plain_of old
-object_erased old new n (Move m) r e h = move_erased (Moves m) (moves_stay m) (moved_reply m n) (place_before m) old new n r h
+object_erased old new n (Move m) r e h = move_erased (Moves m) (moves_stay m) (reply.Moved n m) old new n r h
 object_erased old new n Free r e h =
-    free_told (reply_to_move (reply.Freed n) place.Here n h.moved) n h.moved refl (subst (λ (x : Reply). is_absence x ≡ true) h.told (second (is_absence r) e))
+    let f = subst (λ (x : Reply). is_absence x ≡ true) h.told (second (is_absence r) e) in absurd (cc)
 object_erased old new n (Put offset bytes) (reply.Away k) e h =
     ap plain_of h.1.1 ∙ ap (λ (s : StoreState). record { machines = old.machines; objects = s.objects }) h.1.0.2
 object_erased old new n (Get offset size) (reply.Away k) e h = ap plain_of h.1
-object_erased old new n (Put offset bytes) (reply.Waiting k m) e h = absurd h
-object_erased old new n (Get offset size) (reply.Waiting k m) e h = absurd h.0
+object_erased old new n (Put offset bytes) (reply.Stepped k told) e h = absurd h
+object_erased old new n (Get offset size) (reply.Stepped k told) e h = absurd h.0
 object_erased old new n _ _ e h = absurd (cc)
 
 -- what is erased: the moves, what waits, and what is answered that the object is away
@@ -243,9 +234,9 @@ one_erased old new (Machine m c) r e h =
     let k = machine_erased m c old.machines new.machines old.store new.store r (second (is_absence r) e) h in
     ap (λ (x : List Debuggee). record { machines = x; objects = new.store.objects }) k.0
     ∙ ap (λ (s : StoreState). record { machines = old.machines; objects = s.objects }) k.1
-one_erased old new (Make size) (reply.Waiting k n) e h = absurd h
+one_erased old new (Make size) (reply.Stepped k told) e h = absurd h
 one_erased old new (Make size) (reply.Away k) e h = absurd h
-one_erased old new (Ship start code) (reply.Waiting k n) e h = absurd h.0
+one_erased old new (Ship start code) (reply.Stepped k told) e h = absurd h.0
 one_erased old new (Ship start code) (reply.Away k) e h = absurd h.0
 one_erased old new _ _ e h = absurd (cc)
 

@@ -5,20 +5,17 @@ use Rattle.loader.specs.Refusals.{HasCodeSize, Refuses}
 use Rattle.loader.specs.declared.loading.Why.TheVariants as why
 use Rattle.object_store.specs.Stores.{StoreState, store_memory}
 use Rattle.object_store.specs.Calls.{Makes, Gets, Puts, Frees}
-use Rattle.placement.specs.declared.places.Place.{Place}
-use Rattle.placement.specs.declared.places.Place.TheVariants as place
 use Rattle.placement.specs.declared.places.Moved.{Moved}
-use Rattle.placement.specs.declared.places.Moved.TheVariants as moved
 use Rattle.object_store.specs.declared.errors.MakeError.TheVariants as make_error
-use Rattle.object_store.specs.declared.errors.PutError.TheVariants as put_error
-use Rattle.object_store.specs.declared.errors.GetError.{GetError}
+use Rattle.object_store.specs.declared.errors.Denied.{Denied}
+use Rattle.object_store.specs.declared.errors.Denied.TheVariants as why_denied
 use Rattle.object_store.specs.declared.errors.GetError.TheVariants as get_error
 use Rattle.debugger.specs.declared.start.Start.{Start}
 use Rattle.debugger.specs.declared.debuggee.Debuggee.{Debuggee}
 use Rattle.debugger.specs.Debuggees.{debuggee_start}
 pub use Rattle.world.specs.declared.replies.Reply.{Reply}
-use Rattle.world.specs.declared.replies.Reply.TheVariants.{Made, Freed, Done, Bytes, Shipped, NoMemory, Full, NoRoom, Outside, Away, Misplaced, Scoped, Faulted}
-use Rattle.world.specs.declared.replies.Reply.TheVariants.{Refused, Missing}
+use Rattle.world.specs.declared.replies.Reply.TheVariants.{Made, Freed, Done, Bytes, Shipped, NoMemory, Full, NoRoom, Outside, Away, Refused}
+use Rattle.world.specs.declared.replies.Reply.TheVariants as answer
 pub use Rattle.world.specs.declared.events.Event.{Event}
 use Rattle.world.specs.declared.events.Event.TheVariants as event
 pub use Rattle.world.specs.declared.events.ObjectCommand.{ObjectCommand}
@@ -26,7 +23,7 @@ pub use Rattle.world.specs.declared.world.moving.Move.{Move}
 use Rattle.world.specs.declared.events.ObjectCommand.TheVariants as object
 use Rattle.world.specs.WorldState.{WorldState, AreAllShipped}
 use Rattle.world.specs.Machines.{AnswersMachine}
-use Rattle.world.specs.Moves.{Moves, moved_reply, place_before}
+use Rattle.world.specs.Moves.{Moves}
 
 -- ---- objects
 
@@ -44,42 +41,32 @@ AnswersMake old size _ new = ⊥
 
 -- the bytes stand over those of the object from the offset on
 abbrev pub AnswersPut : WorldState → ℕ → ℕ → List ℕ → Reply → WorldState → Type 0
-AnswersPut old n offset bytes Outside new = InStore (λ s t. Puts s n offset bytes (Err put_error.Outside) t) old new
-AnswersPut old n offset bytes (Away k) new = (k ≡ n) × InStore (λ s t. Puts s n offset bytes (Err put_error.Away) t) old new
+AnswersPut old n offset bytes Outside new = InStore (λ s t. Puts s n offset bytes (Err why_denied.Outside) t) old new
+AnswersPut old n offset bytes (Away k) new = (k ≡ n) × InStore (λ s t. Puts s n offset bytes (Err why_denied.Away) t) old new
 AnswersPut old n offset bytes Done new = InStore (λ s t. Puts s n offset bytes (Ok tt) t) old new
 AnswersPut old n offset bytes _ new = ⊥
 
--- the reply to a reading that was refused
-abbrev pub refused_get : ℕ → GetError → Reply
-refused_get n get_error.Outside = Outside
-refused_get n get_error.Away = Away n
-refused_get n get_error.Memory = NoMemory
+-- the reply where an access of object n is denied
+abbrev pub denied : ℕ → Denied → Reply
+denied n why_denied.Outside = Outside
+denied n why_denied.Away = Away n
 
 -- the object's bytes from the offset on
 abbrev pub AnswersGet : StoreState → ℕ → ℕ → ℕ → Reply → Type 0
-AnswersGet s n offset size Outside = Gets s n offset size (Err get_error.Outside)
-AnswersGet s n offset size (Away k) = (k ≡ n) × Gets s n offset size (Err get_error.Away)
+AnswersGet s n offset size Outside = Gets s n offset size (Err (get_error.Denied why_denied.Outside))
+AnswersGet s n offset size (Away k) = (k ≡ n) × Gets s n offset size (Err (get_error.Denied why_denied.Away))
 AnswersGet s n offset size NoMemory = Gets s n offset size (Err get_error.Memory)
 AnswersGet s n offset size (Bytes shown) = Gets s n offset size (Ok shown)
 AnswersGet s n offset size _ = ⊥
 
 -- ---- moves
 
--- the reply to a move of object n, which has its own reply where it is done; where the far store fails, the object is back in a place
-abbrev pub reply_to_move : Reply → Place → ℕ → Moved → Reply
-reply_to_move told back n moved.Done = told
-reply_to_move told back n moved.NoObject = Missing
-reply_to_move told back n (moved.Misplaced p) = Misplaced n p
-reply_to_move told back n moved.Scoped = Scoped n
-reply_to_move told back n moved.NoRoom = NoRoom
-reply_to_move told back n (moved.Fault f) = Faulted n back
-
--- a move of object n, or its end, or its freeing
+-- a move of object n, or its end, or its freeing, whose reply holds what came of it
 pub record AnswersMove (moves : StoreState → ℕ → Moved → StoreState
-    → Type 0) (done : Reply) (back : Place) (old : WorldState) (n : ℕ) (reply : Reply) (new : WorldState) : Type 0 where
+    → Type 0) (reply_with : Moved → Reply) (old : WorldState) (n : ℕ) (reply : Reply) (new : WorldState) : Type 0 where
   pub moved : Moved
   pub move : moves old.store n moved new.store
-  pub told : reply ≡ reply_to_move done back n moved
+  pub told : reply ≡ reply_with moved
   pub changed : new ≡ record old { store = new.store }
 
 -- ---- machines
@@ -97,10 +84,10 @@ AnswersShip old start code _ new = ⊥
 
 -- a command on object n
 abbrev pub AnswersObject : WorldState → ℕ → ObjectCommand → Reply → WorldState → Type 0
-AnswersObject old n object.Free reply new = AnswersMove Frees (Freed n) place.Here old n reply new
+AnswersObject old n object.Free reply new = AnswersMove Frees (Freed n) old n reply new
 AnswersObject old n (object.Put offset bytes) reply new = AnswersPut old n offset bytes reply new
 AnswersObject old n (object.Get offset size) reply new = AnswersGet old.store n offset size reply × (new ≡ old)
-AnswersObject old n (object.Move m) reply new = AnswersMove (Moves m) (moved_reply m n) (place_before m) old n reply new
+AnswersObject old n (object.Move m) reply new = AnswersMove (Moves m) (answer.Moved n m) old n reply new
 
 -- From old, the command may have this reply and lead to new.
 abbrev pub Answers : WorldState → Event → Reply → WorldState → Type 0

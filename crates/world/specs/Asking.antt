@@ -1,8 +1,6 @@
 -- What the commands ask of the far store, call by call and in order, and what it has of each object then.
 use Rattle.std.specs.Prelude.{◌≡◌, ℕ, false, [], ◌∷◌, ◌++◌, set}
 use Rattle.far_store.specs.Calls.{Call}
-use Rattle.placement.specs.declared.places.Place.{Place}
-use Rattle.placement.specs.declared.places.Place.TheVariants as place
 use Rattle.placement.specs.declared.places.Moved.{Moved}
 use Rattle.object_store.specs.Asking.{AsksNothing, AsksToFree}
 use Rattle.object_store.specs.Lending.{within_memory}
@@ -13,9 +11,10 @@ use Rattle.world.specs.declared.events.ObjectCommand.{ObjectCommand}
 use Rattle.world.specs.declared.events.ObjectCommand.TheVariants as object
 use Rattle.world.specs.declared.replies.Reply.{Reply}
 use Rattle.world.specs.declared.replies.Reply.TheVariants.{Made, Freed, Done}
-use Rattle.world.specs.Answers.{Answers, reply_to_move}
+use Rattle.world.specs.declared.replies.Reply.TheVariants as answer
+use Rattle.world.specs.Answers.{Answers}
 use Rattle.world.specs.Machines.{AnswersMachine}
-use Rattle.world.specs.Moves.{MoveAsks, moved_reply, place_before}
+use Rattle.world.specs.Moves.{MoveAsks}
 use Rattle.world.specs.WorldState.{WorldWithin, state_of}
 
 -- Nothing is asked. Of an object that is made the far store has nothing.
@@ -28,19 +27,19 @@ abbrev pub AsksToPut : {X : Type 0} → StoreWithin X → ℕ → Reply → Stor
 AsksToPut old n Done new = (new.far ≡ old.far) × (new.sent ≡ set old.sent n (record (sent_of old.sent n) { clean = false }))
 AsksToPut old n _ new = AsksNothing old new
 
--- a move of object n, or its end, or its freeing, which is answered so
+-- a move of object n, or its end, or its freeing, whose reply holds what came of it
 pub record AsksMove {X : Type 0} (asks : StoreWithin X → ℕ → Moved → StoreWithin X
-    → Type 0) (done : Reply) (back : Place) (old : StoreWithin X) (n : ℕ) (reply : Reply) (new : StoreWithin X) : Type 0 where
+    → Type 0) (reply_with : Moved → Reply) (old : StoreWithin X) (n : ℕ) (reply : Reply) (new : StoreWithin X) : Type 0 where
   pub moved : Moved
-  pub told : reply ≡ reply_to_move done back n moved
+  pub told : reply ≡ reply_with moved
   pub asked : asks old n moved new
 
 -- a command on object n
 abbrev pub AsksObject : {X : Type 0} → (X → Call → X → Type 0) → StoreWithin X → ℕ → ObjectCommand → Reply → StoreWithin X → Type 0
-AsksObject called old n object.Free reply new = AsksMove (AsksToFree called) (Freed n) place.Here old n reply new
+AsksObject called old n object.Free reply new = AsksMove (AsksToFree called) (Freed n) old n reply new
 AsksObject called old n (object.Put offset bytes) reply new = AsksToPut old n reply new
 AsksObject called old n (object.Get offset size) reply new = new ≡ old
-AsksObject called old n (object.Move m) reply new = AsksMove (MoveAsks called m) (moved_reply m n) (place_before m) old n reply new
+AsksObject called old n (object.Move m) reply new = AsksMove (MoveAsks called m) (answer.Moved n m) old n reply new
 
 -- What a command asks that is answered so. One on a machine asks nothing, and an access that writes leaves its object unclean.
 abbrev pub Asks : {X : Type 0} → (X → Call → X → Type 0) → WorldWithin X → Event → Reply → WorldWithin X → Type 0

@@ -1,4 +1,4 @@
--- What each move is: in the store, in its replies, and of the far store.
+-- What each move is: in the store, of the places, and of the far store.
 use Rattle.std.specs.Prelude.{ℕ, true}
 use Rattle.far_store.specs.Calls.{Call}
 use Rattle.placement.specs.declared.places.Place.{Place}
@@ -9,8 +9,6 @@ use Rattle.object_store.specs.Calls.{BeginsLeave, EndsLeave, BeginsReturn, EndsR
 use Rattle.object_store.specs.Stores.{StoreState, StoreWithin}
 use Rattle.world.specs.declared.world.moving.Move.{Move}
 use Rattle.world.specs.declared.world.moving.Move.TheVariants as move
-use Rattle.world.specs.declared.replies.Reply.{Reply}
-use Rattle.world.specs.declared.replies.Reply.TheVariants as reply
 
 -- what each move is in the store
 abbrev pub Moves : Move → StoreState → ℕ → Moved → StoreState → Type 0
@@ -19,12 +17,12 @@ Moves move.Left old n done new = EndsLeave old n done new
 Moves move.Return old n done new = BeginsReturn old n done new
 Moves move.Returned old n done new = EndsReturn true old n done new
 
--- its reply where it is done
-abbrev pub moved_reply : Move → ℕ → Reply
-moved_reply move.Leave n = reply.Leaving n
-moved_reply move.Left n = reply.Left n
-moved_reply move.Return n = reply.Returning n
-moved_reply move.Returned n = reply.Home n
+-- where the object is when it is done
+abbrev pub place_past : Move → Place
+place_past move.Leave = place.Leaving
+place_past move.Left = place.Far
+place_past move.Return = place.Returning
+place_past move.Returned = place.Here
 
 -- where the object was before it began to move, and is again where the far store fails
 abbrev pub place_before : Move → Place

@@ -3,16 +3,15 @@ use Rattle.std.specs.Prelude.{ℕ, nat_eq, cond, List, [], ◌∷◌}
 use Rattle.placement.specs.declared.places.Place.{Place}
 use Rattle.placement.specs.declared.places.Place.TheVariants as place
 use Rattle.world.specs.declared.replies.Reply.{Reply}
-use Rattle.world.specs.declared.replies.Reply.TheVariants.{Made, Leaving, Left, Returning, Home, Faulted}
+use Rattle.placement.specs.declared.places.Moved.TheVariants as moved
+use Rattle.world.specs.declared.replies.Reply.TheVariants.{Made, Moved}
+use Rattle.world.specs.Moves.{place_before, place_past}
 
 -- where object n is after a reply, if its place was p
 abbrev pub placed : ℕ → Place → Reply → Place
 placed n p (Made k) = cond (nat_eq k n) place.Here p
-placed n p (Leaving k) = cond (nat_eq k n) place.Leaving p
-placed n p (Left k) = cond (nat_eq k n) place.Far p
-placed n p (Returning k) = cond (nat_eq k n) place.Returning p
-placed n p (Home k) = cond (nat_eq k n) place.Here p
-placed n p (Faulted k q) = cond (nat_eq k n) q p
+placed n p (Moved k m moved.Done) = cond (nat_eq k n) (place_past m) p
+placed n p (Moved k m (moved.Fault f)) = cond (nat_eq k n) (place_before m) p
 placed n p _ = p
 
 -- the same after these replies, one after the other

@@ -2,9 +2,11 @@
 use Rattle.std.specs.Prelude.{◌≡◌, ℕ, Bool, true, false, not, ◌||◌, List, [], ◌∷◌, ◌++◌, length, replicate}
 use Rattle.memory.specs.Objects.{IsLive, IsFull, HasRange, with_bytes, range_of, with_range}
 use Rattle.memory.specs.MapMemory.{map_memory}
+use Rattle.placement.specs.declared.places.Moved.TheVariants as moved
 use Rattle.debugger.specs.declared.debuggee.Debuggee.{Debuggee}
+use Rattle.debugger.specs.declared.replies.StepReply.TheVariants.{Waiting}
 use Rattle.world.specs.declared.replies.Reply.{Reply}
-use Rattle.world.specs.declared.replies.Reply.TheVariants.{Made, Freed, Done, Bytes, Waiting, NoMemory, Full, NoRoom, Outside, Away, Misplaced, Scoped, Missing}
+use Rattle.world.specs.declared.replies.Reply.TheVariants.{Made, Freed, Done, Bytes, Stepped, NoMemory, Full, NoRoom, Outside, Away}
 use Rattle.world.specs.declared.events.Event.{Event}
 use Rattle.world.specs.declared.events.Event.TheVariants.{Make, Ship, Object, Machine}
 use Rattle.world.specs.declared.events.ObjectCommand.{ObjectCommand}
@@ -36,10 +38,10 @@ MakesPlain old size _ new = ⊥
 
 -- whether an object is in its place, and in no scope, is left open
 abbrev pub FreesPlain : List (List ℕ) → ℕ → Reply → List (List ℕ) → Type 0
-FreesPlain old n Missing new = (IsLive old n → ⊥) × (new ≡ old)
-FreesPlain old n (Misplaced k p) new = (k ≡ n) × IsLive old n × (new ≡ old)
-FreesPlain old n (Scoped k) new = (k ≡ n) × IsLive old n × (new ≡ old)
-FreesPlain old n (Freed k) new = (k ≡ n) × IsLive old n × (new ≡ with_bytes old n [])
+FreesPlain old n (Freed k moved.NoObject) new = (k ≡ n) × (IsLive old n → ⊥) × (new ≡ old)
+FreesPlain old n (Freed k (moved.Misplaced p)) new = (k ≡ n) × IsLive old n × (new ≡ old)
+FreesPlain old n (Freed k moved.Scoped) new = (k ≡ n) × IsLive old n × (new ≡ old)
+FreesPlain old n (Freed k moved.Done) new = (k ≡ n) × IsLive old n × (new ≡ with_bytes old n [])
 FreesPlain old n _ new = ⊥
 
 -- the bytes stand over those of the object from the offset on
@@ -80,7 +82,7 @@ is_move _ = false
 
 -- the object isn't here, so nothing was done
 abbrev pub is_absence : Reply → Bool
-is_absence (Waiting m n) = true
+is_absence (Stepped m (Waiting n)) = true
 is_absence (Away n) = true
 is_absence _ = false
 

@@ -6,8 +6,12 @@ use Rattle.debugger.specs.declared.commands.MachineCommand.TheVariants.{Step, De
 use Rattle.debugger.specs.declared.shown.State.{State}
 use Rattle.debugger.specs.declared.shown.State.TheVariants as state
 use Rattle.debugger.specs.declared.debuggee.Debuggee.{Debuggee}
+use Rattle.debugger.specs.declared.replies.StepReply.{StepReply}
+use Rattle.debugger.specs.declared.replies.StepReply.TheVariants.{Ran, Hit, Paused}
+use Rattle.debugger.specs.declared.replies.ShowReply.{ShowReply}
+use Rattle.debugger.specs.declared.replies.ShowReply.TheVariants.{Registers}
 use Rattle.world.specs.declared.replies.Reply.{Reply}
-use Rattle.world.specs.declared.replies.Reply.TheVariants.{Ran, Hit, Paused, Registers}
+use Rattle.world.specs.declared.replies.Reply.TheVariants.{Stepped, Shown}
 use Rattle.world.specs.declared.events.Event.{Event}
 use Rattle.world.specs.declared.events.Event.TheVariants.{Machine}
 use Rattle.world.specs.WorldState.{WorldState}
@@ -30,7 +34,7 @@ is_debugging _ = false
 
 -- the machine is paused, so nothing was done
 abbrev pub is_pause : Reply → Bool
-is_pause (Paused m slot) = true
+is_pause (Stepped m (Paused slot)) = true
 is_pause _ = false
 
 -- a command of an agent that nobody debugs, with its reply
@@ -49,10 +53,20 @@ abbrev pub unpaused : State → State
 unpaused state.Paused = state.Running
 unpaused s = s
 
--- a hit is a step that ran, and no machine shows that it is paused
+-- a hit is a step that ran
+abbrev pub unhit : StepReply → StepReply
+unhit (Hit slot) = Ran slot
+unhit told = told
+
+-- no machine shows that it is paused
+abbrev pub unshown : ShowReply → ShowReply
+unshown (Registers shown) = Registers (record shown { state = unpaused shown.state })
+unshown told = told
+
+-- the reply where nobody debugs
 abbrev pub undebugged_reply : Reply → Reply
-undebugged_reply (Hit m slot) = Ran m slot
-undebugged_reply (Registers m shown) = Registers m (record shown { state = unpaused shown.state })
+undebugged_reply (Stepped m told) = Stepped m (unhit told)
+undebugged_reply (Shown m told) = Shown m (unshown told)
 undebugged_reply r = r
 
 -- a run without the debugging commands, and without what was not done since a machine was paused

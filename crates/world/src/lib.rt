@@ -10,8 +10,8 @@ mod stack;
 mod world;
 
 pub use debugger::{
-    DebugCommand, Debuggee, LineText, MachineCommand, MachineRun, ShowCommand, Shown, Start, State,
-    StepReply, Values, Way,
+    DebugCommand, Debugged, Debuggee, LineText, MachineCommand, MachineRun, ShowCommand, ShowReply,
+    Shown, Start, State, StepReply, Values, Way,
 };
 pub use events::{Event, ObjectCommand, ObjectLength};
 pub use laws::{debugging_changes_nothing, moving_changes_nothing, neither_changes_anything};

@@ -90,11 +90,15 @@ fn answer_debuggee<F: FarStore>(
     ensures asks { AnswersCommand (within_memory machine) debuggee.old store.old machine command result debuggee.new store.new }
 {
     match command {
-        MachineCommand::Step(way) => {
-            Reply::to_step(machine, step_over(debuggee, store, machine, way))
-        }
-        MachineCommand::Show(command) => Reply::to_show(machine, debuggee.show(alloc, command)),
-        MachineCommand::Debug(command) => Reply::to_debug(debuggee.debug(command)),
+        MachineCommand::Step(way) => Reply::Stepped {
+            machine,
+            reply: step_over(debuggee, store, machine, way),
+        },
+        MachineCommand::Show(command) => Reply::Shown {
+            machine,
+            reply: debuggee.show(alloc, command),
+        },
+        MachineCommand::Debug(command) => Reply::Debugged(debuggee.debug(command)),
     }
 }
 

@@ -46,10 +46,10 @@ pub(crate) fn read_stack(
 ) -> Result<(), StackError>
     ensures shown { OnOk result ((store : StoreState)
         → AnswersMachine (store_memory machine) machines.now store machine (MachineCommand.Show (ShowCommand.Stack offset (length into.old)))
-        (Reply.Bytes into.new) machines.now store) }
+        (Reply.Shown machine (ShowReply.Bytes into.new)) machines.now store) }
     ensures refused { IfErr result (λ error. (store : StoreState)
         → AnswersMachine (store_memory machine) machines.now store machine (MachineCommand.Show (ShowCommand.Stack offset (length into.old)))
-        (refused_stack error) machines.now store) }
+        (refused_stack machine error) machines.now store) }
     ensures kept { OnErr result (into.new ≡ into.old) }
 {
     let Some(index) = index_of(machines, machine) else {

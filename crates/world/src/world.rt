@@ -1,5 +1,5 @@
 //! What the commands do.
-ghost use Rattle.std.specs.Prelude.{◌≡◌, ◌≢◌, ◌≤◌, ◌++◌, List, map, true, length, IfOk, IfErr, OnOk, OnErr};
+ghost use Rattle.std.specs.Prelude.{◌≡◌, ◌≤◌, ◌++◌, List, map, true, length, IfOk, IfErr, OnOk, OnErr};
 ghost use Rattle.far_store.specs.Calls.{Calls};
 ghost use Rattle.memory.specs.Objects.{object_limit};
 ghost use Rattle.object_store.specs.Lending.{within_memory, store_memory};
@@ -12,12 +12,12 @@ ghost use Rattle.world.specs.Run.{Runs};
 ghost use Rattle.world.specs.WorldState.{opened_world, state_of};
 ghost use Rattle.world.specs.Asking.{AsksToMake, AsksToPut, AsksMove, AsksObject, Asks, AnswersWithin};
 ghost use Rattle.debugger.specs.declared.commands.ShowCommand.{ShowCommand};
+ghost use Rattle.debugger.specs.declared.replies.ShowReply.{ShowReply};
 ghost use Rattle.world.specs.Machines.{AnswersMachine, reply_of, refused_stack};
 ghost use Rattle.world.specs.Running.{RunsMachine, RunAsks};
 ghost use Rattle.world.specs.Unseen.{IsPlainRun};
-ghost use Rattle.object_store.specs.declared.errors.GetError.{GetError};
-ghost use Rattle.world.specs.Answers.{Event, Reply, Answers, AnswersMake, AnswersPut, AnswersGet, refused_get, AnswersMove, AnswersObject, AnswersShip};
-ghost use Rattle.world.specs.Moves.{MoveAsks, Moves, moved_reply, place_before};
+ghost use Rattle.world.specs.Answers.{Event, Reply, Answers, AnswersMake, AnswersPut, AnswersGet, denied, AnswersMove, AnswersObject, AnswersShip};
+ghost use Rattle.world.specs.Moves.{MoveAsks, Moves};
 
 mod handing;
 mod moving;
@@ -31,7 +31,7 @@ use far_store::FarStore;
 use loader::{Why, load};
 use memory::Bytes;
 pub use moving::Move;
-use object_store::{GetError, MakeError, ObjectStore, PartsError, Place, PutError};
+use object_store::{Denied, GetError, MakeError, ObjectStore, PartsError};
 use scopes::MACHINE_LIMIT;
 use std::alloc::{AllocError, Global};
 use std::marker::Model;
@@ -169,11 +169,11 @@ impl<F: FarStore> World<F> {
 
     /// Frees an object.
     fn free(&mut self, object: u32) -> Reply
-        ensures answers { AnswersMove Frees (Reply.Freed object) Place.Here (state_of self.old) object result (state_of self.new) }
-        ensures asks { AsksMove (AsksToFree F.called) (Reply.Freed object) Place.Here self.old.store object result self.new.store }
+        ensures answers { AnswersMove Frees (Reply.Freed object) (state_of self.old) object result (state_of self.new) }
+        ensures asks { AsksMove (AsksToFree F.called) (Reply.Freed object) self.old.store object result self.new.store }
     {
         let moved = self.store.free(object);
-        Reply::to_move(Reply::Freed { object }, Place::Here, object, moved)
+        Reply::Freed { object, moved }
     }
 
     /// Writes bytes into an object.
@@ -183,17 +183,15 @@ impl<F: FarStore> World<F> {
     {
         match self.store.put(object, offset, bytes) {
             Ok(()) => Reply::Done,
-            Err(PutError::Outside) => Reply::Outside,
-            Err(PutError::Away) => Reply::Away { object },
+            Err(why) => Reply::denied(object, why),
         }
     }
 
     /// Copies bytes of an object over these, as many as they are, which the command `get` would show. Where it is refused, the
     /// bytes stay. It takes no memory.
-    pub fn read(&self, object: u32, offset: u32, into: &mut [u8]) -> Result<(), GetError>
+    pub fn read(&self, object: u32, offset: u32, into: &mut [u8]) -> Result<(), Denied>
         ensures shown { OnOk result (AnswersGet self.now.store.state object offset (length into.old) (Reply.Bytes into.new)) }
-        ensures refused { IfErr result (λ error. AnswersGet self.now.store.state object offset (length into.old) (refused_get object error)
-            × (error ≢ GetError.Memory)) }
+        ensures refused { IfErr result (λ why. AnswersGet self.now.store.state object offset (length into.old) (denied object why)) }
         ensures kept { OnErr result (into.new ≡ into.old) }
     {
         self.store.read(object, offset, into)
@@ -205,7 +203,8 @@ impl<F: FarStore> World<F> {
     {
         match self.store.get(object, offset, length) {
             Ok(bytes) => Reply::Bytes(Bytes::new(bytes)),
-            Err(error) => Reply::refused_get(object, error),
+            Err(GetError::Denied(why)) => Reply::denied(object, why),
+            Err(GetError::Memory) => Reply::NoMemory,
         }
     }
 
@@ -213,11 +212,15 @@ impl<F: FarStore> World<F> {
 
     /// Does a move of an object, or ends it, and answers it.
     fn answer_move(&mut self, object: u32, kind: Move) -> Reply
-        ensures answers { AnswersMove (Moves kind) (moved_reply kind object) (place_before kind) (state_of self.old) object result (state_of self.new) }
-        ensures asks { AsksMove (MoveAsks F.called kind) (moved_reply kind object) (place_before kind) self.old.store object result self.new.store }
+        ensures answers { AnswersMove (Moves kind) (Reply.Moved object kind) (state_of self.old) object result (state_of self.new) }
+        ensures asks { AsksMove (MoveAsks F.called kind) (Reply.Moved object kind) self.old.store object result self.new.store }
     {
         let moved = self.move_object(object, kind);
-        Reply::to_move(kind.reply(object), kind.back(), object, moved)
+        Reply::Moved {
+            object,
+            kind,
+            moved,
+        }
     }
 
     // ---- machines
@@ -270,10 +273,10 @@ impl<F: FarStore> World<F> {
     /// refused, the bytes stay. It takes no memory.
     pub fn read_stack(&self, machine: usize, offset: u32, into: &mut [u8]) -> Result<(), StackError>
         ensures shown { OnOk result (Answers (state_of self.now) (Event.Machine machine (MachineCommand.Show (ShowCommand.Stack offset (length into.old))))
-            (Reply.Bytes into.new) (state_of self.now)) }
+            (Reply.Shown machine (ShowReply.Bytes into.new)) (state_of self.now)) }
         ensures refused { IfErr result
             (λ error. Answers (state_of self.now) (Event.Machine machine (MachineCommand.Show (ShowCommand.Stack offset (length into.old))))
-            (refused_stack error) (state_of self.now)) }
+            (refused_stack machine error) (state_of self.now)) }
         ensures kept { OnErr result (into.new ≡ into.old) }
     {
         read_stack(self.machines.as_slice(), machine, offset, into)

@@ -13,9 +13,9 @@ use Rattle.debugger.specs.declared.replies.StepReply.{StepReply}
 use Rattle.debugger.specs.declared.replies.StepReply.TheVariants as step_reply
 use Rattle.debugger.specs.declared.debuggee.Debuggee.{Debuggee}
 use Rattle.world.specs.declared.replies.Reply.{Reply}
-use Rattle.world.specs.declared.replies.Reply.TheVariants.{Paused}
+use Rattle.world.specs.declared.replies.Reply.TheVariants as replies
 use Rattle.world.specs.WorldState.{machine_at, with_machine}
-use Rattle.world.specs.Machines.{AnswersMachine, Misses, reply_to_step}
+use Rattle.world.specs.Machines.{AnswersMachine, Misses}
 use Rattle.world_laws.proofs.Replying.{step_replies}
 
 -- the machine makes a step of the table
@@ -27,7 +27,7 @@ pub record Steps {S : Type 0} (memory : Memories S) (way : Way) (old : List Debu
   pub answer : Stepped
   pub machine : MachineState
   pub step : TableStep memory debuggee.machine before answer machine after
-  pub told : reply ≡ reply_to_step m (reply_after answer machine.slot debuggee.debugger)
+  pub told : reply ≡ replies.Stepped m (reply_after answer machine.slot debuggee.debugger)
   pub changed : new ≡ with_machine old m (record { machine = machine; debugger = debugged way answer debuggee.debugger })
 
 -- the machine is paused
@@ -35,7 +35,7 @@ pub record Halts {S : Type 0} (way : Way) (old : List Debuggee) (before : S) (m 
   pub debuggee : Debuggee
   pub found : machine_at old m ≡ Some debuggee
   pub slot : ℕ
-  pub told : reply ≡ Paused m slot
+  pub told : reply ≡ replies.Stepped m (step_reply.Paused slot)
   pub held : holds_back way debuggee ≡ true
   pub slot_is : slot ≡ debuggee.machine.slot
   pub changed : new ≡ with_machine old m (record debuggee { debugger = with_pause slot debuggee.debugger })
@@ -53,7 +53,7 @@ pub data StepAnswer {S : Type 0} (memory : Memories S) (way : Way) (old : List D
 
 found_step : {S : Type 0} (memory : Memories S) (way : Way) (old : List Debuggee) (before : S) (m : ℕ) (r : Reply) (new : List Debuggee) (after : S)
     (d e : Debuggee) (told : StepReply)
-    → machine_at old m ≡ Some d → new ≡ with_machine old m e → r ≡ reply_to_step m told → AnswersStep memory way d before told e after
+    → machine_at old m ≡ Some d → new ≡ with_machine old m e → r ≡ replies.Stepped m told → AnswersStep memory way d before told e after
     → StepAnswer memory way old before m r new after
 found_step memory way old before m r new after d e (step_reply.Paused slot) f c t h = Pause (record {
   debuggee = d;
@@ -72,7 +72,7 @@ found_step memory way old before m r new after d e told f c t h = TableRow (reco
   answer = h.answer;
   machine = h.machine;
   step = h.step;
-  told = t ∙ ap (reply_to_step m) h.told;
+  told = t ∙ ap (replies.Stepped m) h.told;
   changed = c ∙ ap (λ (x : Debuggee). with_machine old m x) h.changed;
 })
 

@@ -28,9 +28,8 @@ use Rattle.debugger.specs.declared.commands.Way.{Way}
 use Rattle.debugger.specs.declared.replies.StepReply.TheVariants as step_reply
 use Rattle.debugger.specs.declared.debuggee.Debuggee.{Debuggee}
 use Rattle.world.specs.declared.replies.Reply.{Reply}
-use Rattle.world.specs.declared.replies.Reply.TheVariants.{Waiting}
+use Rattle.world.specs.declared.replies.Reply.TheVariants as reply
 use Rattle.world.specs.WorldState.{WorldState, machine_at, with_machine}
-use Rattle.world.specs.Machines.{reply_to_step}
 use Rattle.world_laws.specs.Stepping.{Awaits, WaitsExactly}
 use Rattle.world.proofs.Numbered.{with_same}
 use Rattle.world_laws.proofs.Machines.{found_once, found_none}
@@ -84,7 +83,11 @@ waiting_step who n old before i op t e g p =
 
 -- ---- the two directions
 
-waiting_tells : (m slot n : ℕ) (d : DebugState) (a : Stepped) (r : Reply) → a ≡ stepped.Waiting n → r ≡ reply_to_step m (reply_after a slot d) → r ≡ Waiting m n
+-- machine m waits for object n
+abbrev waiting : ℕ → ℕ → Reply
+waiting m n = reply.Stepped m (step_reply.Waiting n)
+
+waiting_tells : (m slot n : ℕ) (d : DebugState) (a : Stepped) (r : Reply) → a ≡ stepped.Waiting n → r ≡ reply.Stepped m (reply_after a slot d) → r ≡ waiting m n
 waiting_tells m slot n d a r e f = rw e at f
 
 abbrev StepsStore : Way → WorldState → ℕ → Reply → WorldState → Type 0
@@ -94,7 +97,7 @@ held_goes : {P : Type 0} (way : Way) (d e : Debuggee) → d ≡ e → holds_back
 held_goes way d e s p q = let g = rw s at p in absurd (cc)
 
 back : (way : Way) (old new : WorldState) (m n : ℕ) (r : Reply) → Awaits way old m n
-    → StepAnswer (store_memory m) way old.machines old.store m r new.machines new.store → r ≡ Waiting m n
+    → StepAnswer (store_memory m) way old.machines old.store m r new.machines new.store → r ≡ waiting m n
 back way old new m n r w (NoMachine h) = found_none (machine_at old.machines m) w.debuggee h.none w.found
 back way old new m n r w (Pause h) =
     held_goes way h.debuggee w.debuggee (found_once (machine_at old.machines m) h.debuggee w.debuggee h.found w.found) h.held w.goes
@@ -111,14 +114,14 @@ record IsWait (m k n : ℕ) (a : Stepped) : Type 0 where
   number : k ≡ m
   answer : a ≡ stepped.Waiting n
 
-ran_waits : (b : Bool) (k n m slot : ℕ) → Waiting k n ≡ reply_to_step m (cond b (step_reply.Hit slot) (step_reply.Ran slot)) → ⊥
+ran_waits : (b : Bool) (k n m slot : ℕ) → waiting k n ≡ reply.Stepped m (cond b (step_reply.Hit slot) (step_reply.Ran slot)) → ⊥
 ran_waits true k n m slot e = cc
 ran_waits false k n m slot e = cc
 
-waiting_is : (k n m i : ℕ) → Waiting k n ≡ Waiting m i → (k ≡ m) × (i ≡ n)
+waiting_is : (k n m i : ℕ) → waiting k n ≡ waiting m i → (k ≡ m) × (i ≡ n)
 waiting_is k n m i e = (cc, cc)
 
-told_waiting : (m k n slot : ℕ) (a : Stepped) (d : DebugState) → Waiting k n ≡ reply_to_step m (reply_after a slot d) → IsWait m k n a
+told_waiting : (m k n slot : ℕ) (a : Stepped) (d : DebugState) → waiting k n ≡ reply.Stepped m (reply_after a slot d) → IsWait m k n a
 told_waiting m k n slot (stepped.Ran w) d e = absurd (ran_waits (hits w d) k n m slot e)
 told_waiting m k n slot (stepped.Stopped s) d e = absurd (cc)
 told_waiting m k n slot (stepped.Waiting i) d e = let g = waiting_is k n m i e in record { number = g.0; answer = ap stepped.Waiting g.1 }
@@ -133,7 +136,7 @@ barred who before after n op reach.Away w h = record { inside = h.0; away = h.1;
 barred who before after n op reach.Busy w h = absurd h
 barred who before after n op _ w h = absurd w
 
-there : (way : Way) (old new : WorldState) (m k n : ℕ) → Steps (store_memory m) way old.machines old.store m (Waiting k n) new.machines new.store
+there : (way : Way) (old new : WorldState) (m k n : ℕ) → Steps (store_memory m) way old.machines old.store m (waiting k n) new.machines new.store
     → (k ≡ m) × Awaits way old m n × (new ≡ old)
 there way old new m k n h =
     let t = told_waiting m k n h.machine.slot h.answer h.debuggee.debugger h.told in
@@ -161,14 +164,14 @@ there way old new m k n h =
           ∙ ap (λ (x : StoreState). record { machines = old.machines; store = x }) b.same,
     )
 
-table_row : (way : Way) (old new : WorldState) (m k n : ℕ) → StepAnswer (store_memory m) way old.machines old.store m (Waiting k n) new.machines new.store
-    → Steps (store_memory m) way old.machines old.store m (Waiting k n) new.machines new.store
+table_row : (way : Way) (old new : WorldState) (m k n : ℕ) → StepAnswer (store_memory m) way old.machines old.store m (waiting k n) new.machines new.store
+    → Steps (store_memory m) way old.machines old.store m (waiting k n) new.machines new.store
 table_row way old new m k n (NoMachine h) = let e = h.told in absurd (cc)
 table_row way old new m k n (Pause h) = let e = h.told in absurd (cc)
 table_row way old new m k n (TableRow h) = h
 
 exactly : (way : Way) (old new : WorldState) (m n : ℕ) (r : Reply) → StepsStore way old m r new
-    → ((k : ℕ) → r ≡ Waiting k n → (k ≡ m) × Awaits way old m n × (new ≡ old)) × (Awaits way old m n → r ≡ Waiting m n)
+    → ((k : ℕ) → r ≡ waiting k n → (k ≡ m) × Awaits way old m n × (new ≡ old)) × (Awaits way old m n → r ≡ waiting m n)
 exactly way old new m n r h = (
   λ k e. there way old new m k n (table_row way old new m k n
       (subst (λ (x : Reply). StepAnswer (store_memory m) way old.machines old.store m x new.machines new.store) e

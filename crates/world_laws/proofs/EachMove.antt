@@ -14,21 +14,19 @@ use Rattle.world.specs.declared.replies.Reply.{Reply}
 use Rattle.world.specs.declared.replies.Reply.TheVariants as reply
 use Rattle.world.specs.declared.world.moving.Move.{Move as MoveKind}
 use Rattle.world.specs.declared.world.moving.Move.TheVariants as move
-use Rattle.world.specs.Answers.{reply_to_move}
-use Rattle.world.specs.Moves.{Moves as MovesSo, moved_reply, place_before}
+use Rattle.world.specs.Moves.{Moves as MovesSo}
 use Rattle.world_laws.specs.Replies.{is_settled}
 use Rattle.world_laws.proofs.Blinded.{Leaves, Suits, blind, leaves_objects, leaves_same, leaves_set, near_same, other}
 use Rattle.world_laws.proofs.StoreCalls.{Move, Refused, Moves}
 
 -- ---- what it does to the store
 
-refused : (at : Place) (old new : StoreState) (n : ℕ) (m : Moved) (told : Reply) (back : Place) → RefusesMove at old n m new
-    → Move old n (reply_to_move told back n m) new
-refused at old new n moved.NoObject told back h = Refused refl h.1
-refused at old new n (moved.Misplaced q) told back h = Refused refl h.2
-refused at old new n _ told back h = absurd h
+refused : (at : Place) (old new : StoreState) (n : ℕ) (m : Moved) (kind : MoveKind) → RefusesMove at old n m new → Move old n (reply.Moved n kind m) new
+refused at old new n moved.NoObject kind h = Refused refl h.1
+refused at old new n (moved.Misplaced q) kind h = Refused refl h.2
+refused at old new n _ kind h = absurd h
 
-begun_leave : (old new : StoreState) (n : ℕ) (m : Moved) → BeginsLeave old n m new → Move old n (reply_to_move (reply.Leaving n) place.Here n m) new
+begun_leave : (old new : StoreState) (n : ℕ) (m : Moved) → BeginsLeave old n m new → Move old n (reply.Moved n move.Leave m) new
 begun_leave old new n moved.Done h = Moves place.Here place.Leaving old.faults
     (record {
       stands = h.0;
@@ -37,12 +35,12 @@ begun_leave old new n moved.Done h = Moves place.Here place.Leaving old.faults
       done = refl;
       told = λ k p. refl;
       is_unmade = refl;
-      fault = λ k p e. absurd (cc);
+      fault = λ k p e. absurd e;
     }) h.2
 begun_leave old new n moved.Scoped h = Refused refl h.2
-begun_leave old new n m h = refused place.Here old new n m (reply.Leaving n) place.Here h
+begun_leave old new n m h = refused place.Here old new n m move.Leave h
 
-ended_leave : (old new : StoreState) (n : ℕ) (m : Moved) → EndsLeave old n m new → Move old n (reply_to_move (reply.Left n) place.Here n m) new
+ended_leave : (old new : StoreState) (n : ℕ) (m : Moved) → EndsLeave old n m new → Move old n (reply.Moved n move.Left m) new
 ended_leave old new n moved.Done h = Moves place.Leaving place.Far new.faults
     (record {
       stands = h.0;
@@ -51,7 +49,7 @@ ended_leave old new n moved.Done h = Moves place.Leaving place.Far new.faults
       done = refl;
       told = λ k p. refl;
       is_unmade = refl;
-      fault = λ k p e. absurd (cc);
+      fault = λ k p e. absurd e;
     }) h.2
 ended_leave old new n (moved.Fault f) h = Moves place.Leaving place.Here new.faults
     (record {
@@ -61,11 +59,11 @@ ended_leave old new n (moved.Fault f) h = Moves place.Leaving place.Here new.fau
       done = refl;
       told = λ k p. refl;
       is_unmade = refl;
-      fault = λ k p e. (h.1, cc, cc);
+      fault = λ k p e. (h.1, sym e.0, e.1);
     }) h.2
-ended_leave old new n m h = refused place.Leaving old new n m (reply.Left n) place.Here h
+ended_leave old new n m h = refused place.Leaving old new n m move.Left h
 
-begun_return : (old new : StoreState) (n : ℕ) (m : Moved) → BeginsReturn old n m new → Move old n (reply_to_move (reply.Returning n) place.Far n m) new
+begun_return : (old new : StoreState) (n : ℕ) (m : Moved) → BeginsReturn old n m new → Move old n (reply.Moved n move.Return m) new
 begun_return old new n moved.Done h = Moves place.Far place.Returning old.faults
     (record {
       stands = h.0;
@@ -74,12 +72,12 @@ begun_return old new n moved.Done h = Moves place.Far place.Returning old.faults
       done = refl;
       told = λ k p. refl;
       is_unmade = refl;
-      fault = λ k p e. absurd (cc);
+      fault = λ k p e. absurd e;
     }) h.2
 begun_return old new n moved.NoRoom h = Refused refl h.2
-begun_return old new n m h = refused place.Far old new n m (reply.Returning n) place.Far h
+begun_return old new n m h = refused place.Far old new n m move.Return h
 
-ended_return : (old new : StoreState) (n : ℕ) (m : Moved) → EndsReturn true old n m new → Move old n (reply_to_move (reply.Home n) place.Far n m) new
+ended_return : (old new : StoreState) (n : ℕ) (m : Moved) → EndsReturn true old n m new → Move old n (reply.Moved n move.Returned m) new
 ended_return old new n moved.Done h = Moves place.Returning place.Here old.faults
     (record {
       stands = h.0;
@@ -88,7 +86,7 @@ ended_return old new n moved.Done h = Moves place.Returning place.Here old.fault
       done = refl;
       told = λ k p. refl;
       is_unmade = refl;
-      fault = λ k p e. absurd (cc);
+      fault = λ k p e. absurd e;
     }) h.1
 ended_return old new n (moved.Fault f) h = Moves place.Returning place.Far new.faults
     (record {
@@ -98,12 +96,12 @@ ended_return old new n (moved.Fault f) h = Moves place.Returning place.Far new.f
       done = refl;
       told = λ k p. refl;
       is_unmade = refl;
-      fault = λ k p e. (h.1, cc, cc);
+      fault = λ k p e. (h.1, sym e.0, e.1);
     }) h.2
-ended_return old new n m h = refused place.Returning old new n m (reply.Home n) place.Far h
+ended_return old new n m h = refused place.Returning old new n m move.Returned h
 
 pub store_move : (k : MoveKind) (old new : StoreState) (n : ℕ) (m : Moved) → MovesSo k old n m new
-    → Move old n (reply_to_move (moved_reply k n) (place_before k) n m) new
+    → Move old n (reply.Moved n k m) new
 store_move move.Leave old new n m h = begun_leave old new n m h
 store_move move.Left old new n m h = ended_leave old new n m h
 store_move move.Return old new n m h = begun_return old new n m h
@@ -115,9 +113,17 @@ abbrev pub is_faulty : Moved → Bool
 is_faulty (moved.Fault f) = true
 is_faulty _ = false
 
-pub settles : (told : Reply) (back : Place) (n : ℕ) (m : Moved) → is_settled (reply_to_move told back n m) ≡ true → is_faulty m ≡ false
-settles told back n (moved.Fault f) e = absurd (cc)
-settles told back n _ e = refl
+-- a settled reply comes of no fault
+abbrev pub Settles : (Moved → Reply) → Type 0
+Settles reply_with = (m : Moved) → is_settled (reply_with m) ≡ true → is_faulty m ≡ false
+
+pub freed_settles : (n : ℕ) → Settles (reply.Freed n)
+freed_settles n (moved.Fault f) e = absurd (cc)
+freed_settles n _ e = refl
+
+pub moved_settles : (n : ℕ) (k : MoveKind) → Settles (reply.Moved n k)
+moved_settles n k (moved.Fault f) e = absurd (cc)
+moved_settles n k _ e = refl
 
 -- a move of an object from a place
 abbrev pub MoveNeeds : Place → StoreState → ℕ → Moved → Type 0
@@ -223,14 +229,13 @@ abbrev pub cleared : StoreState → StoreState
 cleared s = record s { faults = 0 }
 
 abbrev pub Clears : (StoreState → ℕ → Moved → StoreState → Type 0) → Type 0
-Clears moves = (old new : StoreState) (n : ℕ) (told : Reply) (back : Place) (m : Moved) → moves old n m new
-    → is_settled (reply_to_move told back n m) ≡ true → moves (cleared old) n m (cleared new)
+Clears moves = (old new : StoreState) (n : ℕ) (m : Moved) → moves old n m new → is_faulty m ≡ false → moves (cleared old) n m (cleared new)
 
 pub frees_clears : Clears Frees
-frees_clears old new n told back m h t = grind arith
+frees_clears old new n m h t = grind arith
 
 pub clears : (k : MoveKind) → Clears (MovesSo k)
-clears k old new n told back m h t = grind arith
+clears k old new n m h t = grind arith
 
 -- ---- the bytes of another object
 

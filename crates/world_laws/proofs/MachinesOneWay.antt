@@ -34,8 +34,9 @@ use Rattle.debugger.specs.declared.replies.Debugged.TheVariants as debug_reply
 use Rattle.debugger.specs.declared.debuggee.Debuggee.{Debuggee}
 use Rattle.world.specs.declared.replies.Reply.{Reply}
 use Rattle.world.specs.declared.replies.Reply.TheVariants.{Shipped, NoMemory, Full, Refused}
+use Rattle.world.specs.declared.replies.Reply.TheVariants as reply
 use Rattle.world.specs.WorldState.{AreAllShipped, machine_at, with_machine}
-use Rattle.world.specs.Machines.{AnswersCommand, AnswersMachine, Finds, reply_to_step, reply_to_show, reply_to_debug}
+use Rattle.world.specs.Machines.{AnswersCommand, AnswersMachine, Finds}
 use Rattle.world.specs.Answers.{AnswersShip}
 use Rattle.world_laws.specs.Replies.{is_settled}
 use Rattle.world_laws.proofs.Machines.{found_once, found_none}
@@ -94,7 +95,7 @@ ship f c old new other a b g h p q =
 
 -- ---- showing
 
-bytes_first : (m : ℕ) (bytes : List ℕ) (o z : ℕ) (told : ShowReply) → ShowsBytes bytes o z told → is_settled (reply_to_show m told) ≡ true
+bytes_first : (m : ℕ) (bytes : List ℕ) (o z : ℕ) (told : ShowReply) → ShowsBytes bytes o z told → is_settled (reply.Shown m told) ≡ true
     → Decides (λ r. o + z ≤ length bytes) (show_reply.Outside ∷ []) (show_reply.Bytes (take z (drop o bytes))) told
 bytes_first m bytes o z show_reply.Outside g p = inl (g, refl)
 bytes_first m bytes o z (show_reply.Bytes shown) g p = inr (g.0, ap show_reply.Bytes g.1)
@@ -117,15 +118,15 @@ TellsLine code n r = (text : List ℕ) × (r ≡ show_reply.Disassembled n text)
 one_line : (code : List ℕ) (n : ℕ) → HasOne (TellsLine code n)
 one_line code n a b g h = g.1 ∙ ap (λ (t : List ℕ). show_reply.Disassembled n t) (same_line code n g.0 h.0 g.2 h.2) ∙ sym h.1
 
-line_first : (m : ℕ) (code : List ℕ) (n : ℕ) (r : ShowReply) → ShowsLine code n r → is_settled (reply_to_show m r) ≡ true
+line_first : (m : ℕ) (code : List ℕ) (n : ℕ) (r : ShowReply) → ShowsLine code n r → is_settled (reply.Shown m r) ≡ true
     → Unless (IsAt code n) (λ (x : ShowReply). x ≡ show_reply.NoSlot) (TellsLine code n) r
 line_first m code n show_reply.NoSlot g p = inl (g, refl)
 line_first m code n (show_reply.Disassembled i t) g p = inr (at_row code n g.1.instr g.1.row, (t, ap (λ k. show_reply.Disassembled k t) g.0, g.1))
 line_first m code n show_reply.NoMemory g p = absurd (cc)
 line_first m code n _ g p = absurd g
 
-show_once : (m : ℕ) (c : ShowCommand) (d : Debuggee) (a b : ShowReply) → Shows c d a → Shows c d b → is_settled (reply_to_show m a) ≡ true
-    → is_settled (reply_to_show m b) ≡ true → a ≡ b
+show_once : (m : ℕ) (c : ShowCommand) (d : Debuggee) (a b : ShowReply) → Shows c d a → Shows c d b → is_settled (reply.Shown m a) ≡ true
+    → is_settled (reply.Shown m b) ≡ true → a ≡ b
 show_once m Regs d (show_reply.Registers s) (show_reply.Registers t) g h p q = ap show_reply.Registers (g ∙ sym h)
 show_once m Regs d (show_reply.Registers s) _ g h p q = absurd h
 show_once m Out d (show_reply.Emitted v) (show_reply.Emitted u) g h p q = ap show_reply.Emitted (g ∙ sym h)
@@ -185,12 +186,12 @@ debug_once c d x y a b g h =
 command_once : (who : ℕ) (c : MachineCommand) (d x y : Debuggee) (s t u : StoreState) (a b : Reply) → AnswersCommand (store_memory who) d s who c a x t
     → AnswersCommand (store_memory who) d s who c b y u → is_settled a ≡ true → is_settled b ≡ true → (a ≡ b) × (x ≡ y) × (t ≡ u)
 command_once who (Step w) d x y s t u a b g h p q =
-    let e = step_once who w d x y s t u g.0 h.0 g.2 h.2 in (g.1 ∙ ap (reply_to_step who) e.0 ∙ sym h.1, e.1, e.2)
+    let e = step_once who w d x y s t u g.0 h.0 g.2 h.2 in (g.1 ∙ ap (reply.Stepped who) e.0 ∙ sym h.1, e.1, e.2)
 command_once who (Show c) d x y s t u a b g h p q =
     let e = show_once who c d g.0 h.0 g.2 h.2 (sym (ap is_settled g.1) ∙ p) (sym (ap is_settled h.1) ∙ q) in
-    (g.1 ∙ ap (reply_to_show who) e ∙ sym h.1, g.3 ∙ sym h.3, g.4 ∙ sym h.4)
+    (g.1 ∙ ap (reply.Shown who) e ∙ sym h.1, g.3 ∙ sym h.3, g.4 ∙ sym h.4)
 command_once who (Debug c) d x y s t u a b g h p q =
-    let e = debug_once c d x y g.0 h.0 g.2 h.2 in (g.1 ∙ ap reply_to_debug e.0 ∙ sym h.1, e.1, g.3 ∙ sym h.3)
+    let e = debug_once c d x y g.0 h.0 g.2 h.2 in (g.1 ∙ ap reply.Debugged e.0 ∙ sym h.1, e.1, g.3 ∙ sym h.3)
 
 abbrev Same : List Debuggee → List Debuggee → StoreState → StoreState → Reply → Reply → Type 0
 Same new other t u a b = (a ≡ b) × (new ≡ other) × (t ≡ u)

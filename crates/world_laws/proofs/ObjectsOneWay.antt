@@ -9,16 +9,17 @@ use Rattle.placement.specs.declared.places.Moved.{Moved}
 use Rattle.placement.specs.declared.places.Moved.TheVariants as moved
 use Rattle.debugger.specs.Refusals.{Decides}
 use Rattle.world.specs.declared.replies.Reply.{Reply}
-use Rattle.world.specs.declared.replies.Reply.TheVariants.{Made, Freed, Done, Bytes, NoMemory, Full, NoRoom, Outside, Away}
+use Rattle.world.specs.declared.replies.Reply.TheVariants.{Made, Done, Bytes, NoMemory, Full, NoRoom, Outside, Away}
+use Rattle.world.specs.declared.replies.Reply.TheVariants as reply
 use Rattle.world.specs.declared.events.ObjectCommand.{ObjectCommand}
 use Rattle.world.specs.declared.events.ObjectCommand.TheVariants.{Free, Put, Get, Move}
 use Rattle.world.specs.declared.world.moving.Move.{Move as MoveKind}
 use Rattle.world.specs.WorldState.{WorldState}
-use Rattle.world.specs.Answers.{AnswersMake, AnswersPut, AnswersGet, AnswersMove, AnswersObject, reply_to_move}
-use Rattle.world.specs.Moves.{Moves, moved_reply, place_before}
+use Rattle.world.specs.Answers.{AnswersMake, AnswersPut, AnswersGet, AnswersMove, AnswersObject}
+use Rattle.world.specs.Moves.{Moves}
 use Rattle.world_laws.specs.Replies.{is_settled}
 use Rattle.world_laws.proofs.Deciding.{decides_once}
-use Rattle.world_laws.proofs.EachMove.{StoreMoves, MoveNeeds, MoveFirsts, MoveLeads, move_refusals, settles, frees_first, frees_leads, decided_so}
+use Rattle.world_laws.proofs.EachMove.{StoreMoves, MoveNeeds, MoveFirsts, MoveLeads, move_refusals, Settles, freed_settles, moved_settles, frees_first, frees_leads, decided_so}
 
 -- two answers to one command are the same, where they leave as many faults
 abbrev pub OneWay : (WorldState → Reply → WorldState → Type 0) → Type 0
@@ -110,23 +111,23 @@ get n o z = decided (GetsAndKeeps n o z) (RangeNeeds n o z) (λ old. Outside ∷
 
 -- ---- moves
 
-moved_once : (moves : StoreMoves) (from : Place) (more : List Moved) → MoveFirsts moves from more → MoveLeads moves → (told : Reply) (back : Place) (n : ℕ)
-    → OneWay (λ old a new. AnswersMove moves told back old n a new)
-moved_once moves from more first leads told back n old new other a b g h f p q =
-    let x = settles told back n g.moved (sym (ap is_settled g.told) ∙ p) in
-    let y = settles told back n h.moved (sym (ap is_settled h.told) ∙ q) in
+moved_once : (moves : StoreMoves) (from : Place) (more : List Moved) → MoveFirsts moves from more → MoveLeads moves → (reply_with : Moved → Reply)
+    → Settles reply_with → (n : ℕ) → OneWay (λ old a new. AnswersMove moves reply_with old n a new)
+moved_once moves from more first leads reply_with settles n old new other a b g h f p q =
+    let x = settles g.moved (sym (ap is_settled g.told) ∙ p) in
+    let y = settles h.moved (sym (ap is_settled h.told) ∙ q) in
     let e = decides_once (MoveNeeds from old.store n) (move_refusals old.store n more) moved.Done g.moved h.moved
     (first old.store new.store n g.moved g.move x) (first old.store other.store n h.moved h.move y) in
     let s = leads old.store new.store other.store n h.moved (subst (λ (m : Moved). moves old.store n m new.store) e g.move) h.move f y in
-    (g.told ∙ ap (reply_to_move told back n) e ∙ sym h.told, same_stores old new other s g.changed h.changed)
+    (g.told ∙ ap reply_with e ∙ sym h.told, same_stores old new other s g.changed h.changed)
 
-moving : (m : MoveKind) (n : ℕ) → OneWay (λ old a new. AnswersMove (Moves m) (moved_reply m n) (place_before m) old n a new)
-moving m n = let o = decided_so m in moved_once (Moves m) o.start o.more o.first o.leads (moved_reply m n) (place_before m) n
+moving : (m : MoveKind) (n : ℕ) → OneWay (λ old a new. AnswersMove (Moves m) (reply.Moved n m) old n a new)
+moving m n = let o = decided_so m in moved_once (Moves m) o.start o.more o.first o.leads (reply.Moved n m) (moved_settles n m) n
 
 -- ---- all commands on objects
 
 pub object : (n : ℕ) (c : ObjectCommand) → OneWay (λ old a new. AnswersObject old n c a new)
-object n Free = moved_once Frees place.Here (moved.Scoped ∷ []) frees_first frees_leads (Freed n) place.Here n
+object n Free = moved_once Frees place.Here (moved.Scoped ∷ []) frees_first frees_leads (reply.Freed n) (freed_settles n) n
 object n (Put offset bytes) = put n offset bytes
 object n (Get offset size) = get n offset size
 object n (Move m) = moving m n

@@ -4,7 +4,6 @@ use Rattle.std.proofs.Common.{◌≡◌, ℕ, Bool, true, false, cond, List, [],
 use Rattle.memory.specs.Objects.{bytes_of}
 use Rattle.memory.specs.Access.{replaced}
 use Rattle.memory.proofs.Lengths.{length-replaced}
-use Rattle.placement.specs.declared.places.Place.{Place}
 use Rattle.placement.specs.declared.places.Place.TheVariants as place
 use Rattle.placement.specs.declared.places.Moved.{Moved}
 use Rattle.placement.specs.declared.places.Moved.TheVariants as moved
@@ -22,7 +21,6 @@ use Rattle.debugger.specs.declared.commands.MachineCommand.{MachineCommand}
 use Rattle.debugger.specs.declared.commands.MachineCommand.TheVariants.{Step, Show, Debug}
 use Rattle.debugger.specs.declared.commands.DebugCommand.{DebugCommand}
 use Rattle.debugger.specs.declared.commands.DebugCommand.TheVariants as debug
-use Rattle.debugger.specs.declared.replies.ShowReply.{ShowReply}
 use Rattle.debugger.specs.declared.replies.Debugged.{Debugged}
 use Rattle.debugger.specs.declared.replies.Debugged.TheVariants as debugged
 use Rattle.debugger.specs.declared.debuggee.Debuggee.{Debuggee}
@@ -34,12 +32,11 @@ use Rattle.world.specs.declared.events.ObjectCommand.{ObjectCommand}
 use Rattle.world.specs.declared.events.ObjectCommand.TheVariants.{Free, Put, Get, Move as Moving}
 use Rattle.world.specs.declared.world.moving.Move.{Move as MoveKind}
 use Rattle.world.specs.WorldState.{WorldState, machine_at, with_machine}
-use Rattle.world.specs.Machines.{AnswersMachine, Misses, Finds, reply_to_step, reply_to_show, reply_to_debug}
-use Rattle.world.specs.Answers.{Answers, AnswersMove, reply_to_move}
-use Rattle.world.specs.Moves.{Moves as MovesSo, moved_reply, place_before}
+use Rattle.world.specs.Machines.{AnswersMachine, Misses, Finds}
+use Rattle.world.specs.Answers.{Answers, AnswersMove}
+use Rattle.world.specs.Moves.{Moves as MovesSo}
 use Rattle.world_laws.specs.Replies.{is_refusal, shipped_codes, code_of}
 use Rattle.world.proofs.Numbered.{with_same}
-use Rattle.world_laws.proofs.Replying.{step_replies}
 use Rattle.world_laws.proofs.Answered.{Steps, Halts, StepAnswer, NoMachine, Pause, TableRow, parted}
 use Rattle.world_laws.proofs.StoreCalls.{StoreCall, Grown, Filled, Placed, Move, Refused, Moves, is_placing}
 use Rattle.world_laws.proofs.EachMove.{store_move}
@@ -128,7 +125,7 @@ get old new n offset size reply.NoMemory h = Stays refl refl h.1
 get old new n offset size _ h = absurd h.0
 
 freed : (old new : WorldState) (n : ℕ) (m : Moved) → Frees old.store n m new.store → new ≡ record old { store = new.store }
-    → Sort old (Object n Free) (reply_to_move (reply.Freed n) place.Here n m) new
+    → Sort old (Object n Free) (reply.Freed n m) new
 freed old new n moved.Done h e = Stores refl (Filled n [] new.store.faults refl h.0.0 (omega arith) h.3) e
 freed old new n moved.Scoped h e = Stays refl refl (in_store old new h.2 e)
 freed old new n moved.NoObject h e = Stays refl refl (in_store old new h.1 e)
@@ -140,16 +137,16 @@ pub record MoveAnswer (old : WorldState) (n : ℕ) (r : Reply) (new : WorldState
   pub move : Move old.store n r new.store
   pub changed : new ≡ record old { store = new.store }
 
-by_move : (moves : StoreState → ℕ → Moved → StoreState → Type 0) (told : Reply) (back : Place) (old new : WorldState) (n : ℕ) (r : Reply)
-    → ((m : Moved) → moves old.store n m new.store → Move old.store n (reply_to_move told back n m) new.store)
-    → AnswersMove moves told back old n r new → MoveAnswer old n r new
-by_move moves told back old new n r f h = record {
+by_move : (moves : StoreState → ℕ → Moved → StoreState → Type 0) (reply_with : Moved → Reply) (old new : WorldState) (n : ℕ) (r : Reply)
+    → ((m : Moved) → moves old.store n m new.store → Move old.store n (reply_with m) new.store)
+    → AnswersMove moves reply_with old n r new → MoveAnswer old n r new
+by_move moves reply_with old new n r f h = record {
   move = subst (λ (x : Reply). Move old.store n x new.store) (sym h.told) (f h.moved h.move);
   changed = h.changed;
 }
 
 pub as_move : (old new : WorldState) (n : ℕ) (k : MoveKind) (r : Reply) → Answers old (Object n (Moving k)) r new → MoveAnswer old n r new
-as_move old new n k r h = by_move (MovesSo k) (moved_reply k n) (place_before k) old new n r (λ m g. store_move k old.store new.store n m g) h
+as_move old new n k r h = by_move (MovesSo k) (reply.Moved n k) old new n r (λ m g. store_move k old.store new.store n m g) h
 
 moved_sort : (old new : WorldState) (c : Event) (n : ℕ) (r : Reply) → marks_of c r ≡ plain_marks (is_refusal r) → new ≡ record old { store = new.store }
     → Move old.store n r new.store → Sort old c r new
@@ -201,11 +198,7 @@ halts w old new m c r h =
 walks : (w : Way) (old new : WorldState) (m : ℕ) (c : MachineCommand) (r : Reply)
     → Steps (store_memory m) w old.machines old.store m r new.machines new.store → Sort old (Machine m c) r new
 walks w old new m c r h =
-    let done = step_replies (λ x. is_refusal (reply_to_step m x) ≡ false) h.answer h.machine.slot h.debuggee.debugger (λ i. refl)
-    (λ i. refl) (λ i. refl) (λ i. refl) in
-    let quiet = step_replies (λ x. is_placing (reply_to_step m x) ≡ false) h.answer h.machine.slot h.debuggee.debugger (λ i. refl)
-    (λ i. refl) (λ i. refl) (λ i. refl) in
-    Walks m w (ap plain_marks (ap is_refusal h.told ∙ done)) (ap is_placing h.told ∙ quiet) h
+    Walks m w (ap (λ (x : Reply). plain_marks (is_refusal x)) h.told) (ap is_placing h.told) h
 
 steps : (w : Way) (old new : WorldState) (m : ℕ) (c : MachineCommand) (r : Reply)
     → StepAnswer (store_memory m) w old.machines old.store m r new.machines new.store → Sort old (Machine m c) r new
@@ -215,18 +208,12 @@ steps w old new m c r (TableRow h) = walks w old new m c r h
 
 -- ---- showing
 
-quiet_show : (m : ℕ) (told : ShowReply) → is_placing (reply_to_show m told) ≡ false
-quiet_show m told = grind arith
-
 -- a machine that is as it was
 pub as_it_was : (old : List Debuggee) (m : ℕ) (d e : Debuggee) (new : List Debuggee) → machine_at old m ≡ Some d
     → new ≡ with_machine old m e → e ≡ d → new ≡ old
 as_it_was old m d e new f c s = c ∙ ap (λ (x : Debuggee). with_machine old m x) s ∙ with_same old m d f
 
 -- ---- debugging
-
-quiet_debug : (told : Debugged) → is_placing (reply_to_debug told) ≡ false
-quiet_debug told = grind arith
 
 either : (b : Bool) (d e : DebugState) → d.paused ≡ false → e.paused ≡ false → (cond b d e).paused ≡ false
 either true d e g h = g
@@ -242,7 +229,7 @@ unpaused _ d u = refl
 
 debugs : (old new : WorldState) (m : ℕ) (c : DebugCommand) (r : Reply) (d e : Debuggee) (told : Debugged) → machine_at old.machines m ≡ Some d
     → new.machines ≡ with_machine old.machines m e
-    → r ≡ reply_to_debug told → DebugsMachine c d told e → new.store ≡ old.store → Sort old (Machine m (Debug c)) r new
+    → r ≡ reply.Debugged told → DebugsMachine c d told e → new.store ≡ old.store → Sort old (Machine m (Debug c)) r new
 debugs old new m c r d e debugged.Done f s t h k =
     Tunes m (ap (λ (x : Reply). plain_marks (is_refusal x)) t) (ap is_placing t) (record {
       debuggee = d;
@@ -253,14 +240,14 @@ debugs old new m c r d e debugged.Done f s t h k =
     }) (with_machines old new k)
 debugs old new m c r d e told f s t h k =
     let same : e ≡ d = h.1 ∙ ap (λ (x : DebugState). record d { debugger = x }) h.0.1 in
-    Stays (ap is_placing t ∙ quiet_debug told) refl (both old new (as_it_was old.machines m d e new.machines f s same) k)
+    Stays (ap is_placing t) refl (both old new (as_it_was old.machines m d e new.machines f s same) k)
 
 -- ---- all commands
 
 machines : (old new : WorldState) (m : ℕ) (c : MachineCommand) (r : Reply) → Finds (store_memory m) old.machines old.store m c r new.machines new.store
     → Sort old (Machine m c) r new
 machines old new m (Step w) r h = steps w old new m (Step w) r (parted (store_memory m) w old.machines old.store m r new.machines new.store (inr h))
-machines old new m (Show c) r h = Stays (ap is_placing h.answers.1 ∙ quiet_show m h.answers.0) refl
+machines old new m (Show c) r h = Stays (ap is_placing h.answers.1) refl
     (both old new (as_it_was old.machines m h.debuggee h.became new.machines h.found h.changed h.answers.3) h.answers.4)
 machines old new m (Debug c) r h = debugs old new m c r h.debuggee h.became h.answers.0 h.found h.changed h.answers.1 h.answers.2 h.answers.3
 

@@ -3,31 +3,26 @@ use Rattle.std.proofs.Common.{◌≡◌, ◌+◌, ◌≤◌, ℕ, nat_eq, Bool, 
 use Rattle.memory.specs.Objects.{IsLive, bytes_of, with_bytes}
 use Rattle.placement.specs.declared.places.Place.{Place}
 use Rattle.placement.specs.declared.places.Place.TheVariants as place
+use Rattle.placement.specs.declared.places.Moved.TheVariants as moved
 use Rattle.object_store.specs.Stores.{StoreState, StandsAt, HasRoom, HasRisen, IsScoped, near_bytes, near_length, with_place}
 use Rattle.world.specs.declared.replies.Reply.{Reply}
 use Rattle.world.specs.declared.replies.Reply.TheVariants as reply
 use Rattle.world.specs.Places.{placed}
-use Rattle.world_laws.specs.Replies.{is_refusal}
+use Rattle.world_laws.specs.Replies.{is_refusal, TellsFault}
 
 -- ---- what replies tell
 
 -- the reply tells where an object is
 abbrev pub is_placing : Reply → Bool
 is_placing (reply.Made n) = true
-is_placing (reply.Leaving n) = true
-is_placing (reply.Left n) = true
-is_placing (reply.Returning n) = true
-is_placing (reply.Home n) = true
-is_placing (reply.Faulted n p) = true
+is_placing (reply.Freed n (moved.Fault f)) = true
+is_placing (reply.Moved n kind moved.Done) = true
+is_placing (reply.Moved n kind (moved.Fault f)) = true
 is_placing _ = false
 
 abbrev pub is_made : Reply → Bool
 is_made (reply.Made n) = true
 is_made _ = false
-
-abbrev pub is_fault : Reply → Bool
-is_fault (reply.Faulted n p) = true
-is_fault _ = false
 
 pub quiet : (r : Reply) (n : ℕ) (p : Place) → is_placing r ≡ false → placed n p r ≡ p
 quiet r n p e = grind arith
@@ -54,7 +49,7 @@ pub record IsMove (old : StoreState) (n : ℕ) («from» to : Place) (faults : �
   pub told : Tells n to r
   pub is_unmade : is_made r ≡ false
   -- a fault tells the object and its place
-  pub fault : (k : ℕ) (p : Place) → r ≡ reply.Faulted k p → HasRisen old.faults faults × (k ≡ n) × (p ≡ to)
+  pub fault : (k : ℕ) (p : Place) → TellsFault k p r → HasRisen old.faults faults × (k ≡ n) × (p ≡ to)
 
 pub data StoreCall (old : StoreState) (r : Reply) (new : StoreState) : Type 0 where
   Grown : (count : ℕ) → HasRoom old count → r ≡ reply.Made (length old.objects)

@@ -5,8 +5,6 @@ use Rattle.memory.specs.declared.access.Reach.{Reach}
 use Rattle.memory.specs.declared.access.Reach.TheVariants as reach
 use Rattle.object_store.specs.Stores.{StoreState, store_memory, Touches}
 use Rattle.object_store.specs.Calls.{Frees}
-use Rattle.placement.specs.declared.places.Place.{Place}
-use Rattle.placement.specs.declared.places.Place.TheVariants as place
 use Rattle.placement.specs.declared.places.Moved.{Moved}
 use Rattle.machine.specs.Carrying.{Carries}
 use Rattle.machine.proofs.Carried.{steps_carry}
@@ -18,7 +16,8 @@ use Rattle.debugger.specs.declared.replies.StepReply.{StepReply}
 use Rattle.debugger.specs.declared.replies.StepReply.TheVariants as step_reply
 use Rattle.debugger.specs.declared.debuggee.Debuggee.{Debuggee}
 use Rattle.world.specs.declared.replies.Reply.{Reply}
-use Rattle.world.specs.declared.replies.Reply.TheVariants.{Made, Freed, Done, NoMemory, Full, NoRoom, Outside, Away}
+use Rattle.world.specs.declared.replies.Reply.TheVariants.{Made, Done, NoMemory, Full, NoRoom, Outside, Away}
+use Rattle.world.specs.declared.replies.Reply.TheVariants as reply
 use Rattle.world.specs.declared.events.Event.{Event}
 use Rattle.world.specs.declared.events.Event.TheVariants.{Make, Ship, Object, Machine}
 use Rattle.world.specs.declared.events.ObjectCommand.{ObjectCommand}
@@ -26,9 +25,9 @@ use Rattle.world.specs.declared.events.ObjectCommand.TheVariants.{Free, Put, Get
 use Rattle.world.specs.WorldState.{WorldState}
 use Rattle.world.specs.Machines.{AnswersCommand, AnswersMachine}
 use Rattle.world.specs.Answers.{Answers, AnswersMake, AnswersObject, AnswersMove, AnswersGet}
-use Rattle.world.specs.Moves.{Moves, moved_reply, place_before}
+use Rattle.world.specs.Moves.{Moves}
 use Rattle.world_laws.specs.Replies.{is_settled, without_faults}
-use Rattle.world_laws.proofs.EachMove.{Clears, cleared, frees_clears, clears}
+use Rattle.world_laws.proofs.EachMove.{Clears, Settles, cleared, clears, freed_settles, frees_clears, moved_settles}
 
 -- ---- steps
 
@@ -75,12 +74,12 @@ machine who c old new s t r (inr h) =
 
 -- ---- moves
 
-moves : (does : StoreState → ℕ → Moved → StoreState → Type 0) (told : Reply) (back : Place) (old new : WorldState) (n : ℕ) (r : Reply) → Clears does
-    → AnswersMove does told back old n r new
-    → is_settled r ≡ true → AnswersMove does told back (without_faults old) n r (without_faults new)
-moves does told back old new n r c h t = record {
+moves : (does : StoreState → ℕ → Moved → StoreState → Type 0) (reply_with : Moved → Reply) (old new : WorldState) (n : ℕ) (r : Reply) → Settles reply_with
+    → Clears does → AnswersMove does reply_with old n r new
+    → is_settled r ≡ true → AnswersMove does reply_with (without_faults old) n r (without_faults new)
+moves does reply_with old new n r s c h t = record {
   moved = h.moved;
-  move = c old.store new.store n told back h.moved h.move (sym (ap is_settled h.told) ∙ t);
+  move = c old.store new.store n h.moved h.move (s h.moved (sym (ap is_settled h.told) ∙ t));
   told = h.told;
   changed = ap without_faults h.changed;
 }
@@ -99,13 +98,13 @@ make old new z _ h = absurd h
 
 object : (old new : WorldState) (n : ℕ) (c : ObjectCommand) (r : Reply) → AnswersObject old n c r new → is_settled r ≡ true
     → AnswersObject (without_faults old) n c r (without_faults new)
-object old new n Free r h t = moves Frees (Freed n) place.Here old new n r frees_clears h t
+object old new n Free r h t = moves Frees (reply.Freed n) old new n r (freed_settles n) frees_clears h t
 object old new n (Put o b) Outside h t = ((h.0.0, ap cleared h.0.1), ap without_faults h.1)
 object old new n (Put o b) (Away k) h t = (h.0, ((h.1.0.0, h.1.0.1, ap cleared h.1.0.2), ap without_faults h.1.1))
 object old new n (Put o b) Done h t = ((h.0.0, h.0.1, ap cleared h.0.2), ap without_faults h.1)
 object old new n (Put o b) _ h t = absurd h
 object old new n (Get o z) r h t = (shows old.store n o z r h.0, ap without_faults h.1)
-object old new n (Move k) r h t = moves (Moves k) (moved_reply k n) (place_before k) old new n r (clears k) h t
+object old new n (Move k) r h t = moves (Moves k) (reply.Moved n k) old new n r (moved_settles n k) (clears k) h t
 
 -- What is answered would be answered whatever the count, but for a fault.
 pub unfaulted : (old new : WorldState) (c : Event) (r : Reply) → Answers old c r new → is_settled r ≡ true

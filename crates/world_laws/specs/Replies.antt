@@ -2,12 +2,17 @@
 use Rattle.std.specs.Prelude.{◌≡◌, ◌≢◌, ℕ, zero, suc, Bool, true, false, List, [], ◌∷◌, length, map, ◌⊎◌}
 use Rattle.memory.specs.Objects.{bytes_of}
 use Rattle.placement.specs.declared.places.Place.{Place}
+use Rattle.placement.specs.declared.places.Place.TheVariants.{Here}
+use Rattle.placement.specs.declared.places.Moved.{Moved}
+use Rattle.placement.specs.declared.places.Moved.TheVariants as moved
 use Rattle.object_store.specs.Stores.{with_place, window_of, HasRisen}
 use Rattle.machine.specs.MachineState.{MachineState}
 use Rattle.debugger.specs.declared.debuggee.Debuggee.{Debuggee}
 use Rattle.world.specs.declared.replies.Reply.{Reply}
-use Rattle.world.specs.declared.replies.Reply.TheVariants.{Made, Done, Bytes, Shipped, NoMemory, Full, NoRoom, Outside, Away, Misplaced, Scoped, Faulted}
-use Rattle.world.specs.declared.replies.Reply.TheVariants.{NoSlot, NoWatch, NotPaused, Refused, Missing}
+use Rattle.world.specs.declared.replies.Reply.TheVariants.{Made, Done, Bytes, Shipped, NoMemory, Full, NoRoom, Outside, Away, Refused, Missing}
+use Rattle.world.specs.declared.replies.Reply.TheVariants as answer
+use Rattle.debugger.specs.declared.replies.ShowReply.TheVariants as show_reply
+use Rattle.debugger.specs.declared.replies.Debugged.TheVariants as debugged
 use Rattle.debugger.specs.declared.commands.MachineCommand.{MachineCommand}
 use Rattle.debugger.specs.declared.commands.MachineCommand.TheVariants.{Step, Show, Debug}
 use Rattle.debugger.specs.declared.commands.DebugCommand.{DebugCommand}
@@ -16,22 +21,31 @@ use Rattle.world.specs.declared.events.Event.TheVariants.{Make, Ship, Object, Ma
 use Rattle.world.specs.declared.events.ObjectCommand.TheVariants.{Put, Get}
 use Rattle.world.specs.WorldState.{WorldState, world_start, machine_at}
 use Rattle.world.specs.Run.{Runs}
+use Rattle.world.specs.Moves.{place_before}
 use Rattle.world.specs.Answers.{Answers}
 
 -- ---- what changes nothing
 
+-- a move, or freeing, that was refused
+abbrev pub is_refused : Moved → Bool
+is_refused moved.Done = false
+is_refused (moved.Fault f) = false
+is_refused _ = true
+
 -- a reply that says why a command was not done
 abbrev pub is_refusal : Reply → Bool
+is_refusal (answer.Freed n m) = is_refused m
+is_refusal (answer.Moved n kind m) = is_refused m
+is_refusal (answer.Shown m show_reply.Outside) = true
+is_refusal (answer.Shown m show_reply.NoSlot) = true
+is_refusal (answer.Shown m show_reply.NoMemory) = true
+is_refusal (answer.Debugged debugged.Done) = false
+is_refusal (answer.Debugged _) = true
 is_refusal NoMemory = true
 is_refusal Full = true
 is_refusal NoRoom = true
 is_refusal Outside = true
 is_refusal (Away n) = true
-is_refusal (Misplaced n p) = true
-is_refusal (Scoped n) = true
-is_refusal NoSlot = true
-is_refusal NoWatch = true
-is_refusal NotPaused = true
 is_refusal (Refused e) = true
 is_refusal Missing = true
 is_refusal _ = false
@@ -40,9 +54,15 @@ is_refusal _ = false
 abbrev pub RefusalsChangeNothing : Type 0
 RefusalsChangeNothing = (old new : WorldState) (command : Event) (reply : Reply) → Answers old command reply new → is_refusal reply ≡ true → new ≡ old
 
+-- the far store failed, and object n is at place p
+abbrev pub TellsFault : ℕ → Place → Reply → Type 0
+TellsFault n p (answer.Freed k (moved.Fault f)) = (k ≡ n) × (p ≡ Here)
+TellsFault n p (answer.Moved k kind (moved.Fault f)) = (k ≡ n) × (p ≡ place_before kind)
+TellsFault n p _ = ⊥
+
 -- A fault of the far store changes the place of the object, to the one that is told, and the count of faults, which rises.
 abbrev pub FaultsChangeOnePlace : Type 0
-FaultsChangeOnePlace = (old new : WorldState) (command : Event) (n : ℕ) (p : Place) → Answers old command (Faulted n p) new
+FaultsChangeOnePlace = (old new : WorldState) (command : Event) (n : ℕ) (p : Place) (reply : Reply) → TellsFault n p reply → Answers old command reply new
     → HasRisen old.store.faults new.store.faults × (new ≡ record old { store = record (with_place old.store n p) { faults = new.store.faults } })
 
 -- a command that shows something
@@ -144,7 +164,9 @@ NumbersCountUp = (budget faults : ℕ) (commands : List Event) (replies : List R
 -- a reply that comes neither of memory that ran out nor of a far store that failed
 abbrev pub is_settled : Reply → Bool
 is_settled NoMemory = false
-is_settled (Faulted n p) = false
+is_settled (answer.Shown m show_reply.NoMemory) = false
+is_settled (answer.Freed n (moved.Fault f)) = false
+is_settled (answer.Moved n kind (moved.Fault f)) = false
 is_settled _ = true
 
 -- the state but for the count of faults of the far store

@@ -17,9 +17,10 @@ use Rattle.debugger.specs.declared.debuggee.Debuggee.{Debuggee}
 use Rattle.debugger.specs.declared.commands.Way.{Way}
 use Rattle.debugger.specs.declared.commands.MachineCommand.TheVariants.{Step}
 use Rattle.debugger.specs.declared.replies.StepReply.{StepReply}
+use Rattle.debugger.specs.declared.replies.StepReply.TheVariants.{Waiting}
 use Rattle.debugger.specs.Debuggees.{Walks, holds_back}
 use Rattle.world.specs.declared.replies.Reply.{Reply}
-use Rattle.world.specs.declared.replies.Reply.TheVariants.{Waiting}
+use Rattle.world.specs.declared.replies.Reply.TheVariants as answer
 use Rattle.world.specs.Run.{Runs}
 use Rattle.world.specs.declared.events.Event.{Event}
 use Rattle.world.specs.declared.events.Event.TheVariants.{Machine}
@@ -44,7 +45,7 @@ pub record Awaits (way : Way) (w : WorldState) (m n : ℕ) : Type 0 where
 -- A step waits exactly there, and then nothing changes.
 abbrev pub WaitsExactly : Type 0
 WaitsExactly = (old new : WorldState) (way : Way) (m n : ℕ) (reply : Reply) → Answers old (Machine m (Step way)) reply new
-    → ((k : ℕ) → reply ≡ Waiting k n → (k ≡ m) × Awaits way old m n × (new ≡ old)) × (Awaits way old m n → reply ≡ Waiting m n)
+    → ((k : ℕ) → reply ≡ answer.Stepped k (Waiting n) → (k ≡ m) × Awaits way old m n × (new ≡ old)) × (Awaits way old m n → reply ≡ answer.Stepped m (Waiting n))
 
 -- ---- machines that are stopped
 

@@ -1,14 +1,14 @@
 //! Commands and replies as plain values, and code by hand.
 
 use crate::compared::{compare, compare_row};
-use far_store::{FarStore, OwnStore};
+use far_store::{FarStore, OwnStore, StoreFault};
 use loader::LoadError;
 use machine::Stop;
 use std::alloc::{AllocError, Global};
 use std::process::Abort;
 use world::{
-    Bytes, DebugCommand, Event, MachineCommand, Move, ObjectCommand, ObjectLength, Place, Reply,
-    ShowCommand, Shown, Start, Values, Way, World,
+    Bytes, DebugCommand, Debugged, Event, MachineCommand, Move, Moved, ObjectCommand, ObjectLength,
+    Place, Reply, ShowCommand, ShowReply, Shown, Start, StepReply, Values, Way, World,
 };
 
 /// EXIT, as the other slots: its bytes from the first to the last.
@@ -64,7 +64,7 @@ pub enum Told {
     Away(u32),
     Scoped(u32),
     Misplaced(u32, Place),
-    Faulted(u32, Place),
+    Faulted(u32, StoreFault),
     Bytes(&'static [u8]),
     Shipped(usize),
     /// The slot comes last, here and in the next two.
@@ -150,41 +150,113 @@ fn values_of(values: &[u64]) -> Values {
     Values::new(values)
 }
 
-/// The reply.
-fn reply(alloc: Global, told: Told) -> Result<Reply, AllocError> {
-    Ok(match told {
-        Told::Made(object) => Reply::Made { object },
-        Told::Freed(object) => Reply::Freed { object },
-        Told::Leaving(object) => Reply::Leaving { object },
-        Told::Left(object) => Reply::Left { object },
-        Told::Returning(object) => Reply::Returning { object },
-        Told::Home(object) => Reply::Home { object },
-        Told::Away(object) => Reply::Away { object },
-        Told::Scoped(object) => Reply::Scoped { object },
-        Told::Misplaced(object, place) => Reply::Misplaced { object, place },
-        Told::Faulted(object, place) => Reply::Faulted { object, place },
-        Told::Bytes(bytes) => Reply::Bytes(Bytes::new(bytes.to_vec(alloc)?)),
-        Told::Shipped(machine) => Reply::Shipped { machine },
-        Told::Ran(machine, slot) => Reply::Ran { machine, slot },
-        Told::Hit(machine, slot) => Reply::Hit { machine, slot },
-        Told::Paused(machine, slot) => Reply::Paused { machine, slot },
-        Told::Waiting(machine, object) => Reply::Waiting { machine, object },
-        Told::Stopped(machine, stop) => Reply::Stopped { machine, stop },
-        Told::Registers(machine, shown) => Reply::Registers { machine, shown },
-        Told::Emitted(machine, values) => Reply::Emitted {
+/// What came of a move, or of freeing, that isn't done. A table that tells something else fails by this error, here and below.
+fn unmoved(told: Told) -> Result<Moved, AllocError> {
+    match told {
+        Told::Missing => Ok(Moved::NoObject),
+        Told::Misplaced(_, place) => Ok(Moved::Misplaced(place)),
+        Told::Scoped(_) => Ok(Moved::Scoped),
+        Told::NoRoom => Ok(Moved::NoRoom),
+        Told::Faulted(_, fault) => Ok(Moved::Fault(fault)),
+        _ => Err(AllocError),
+    }
+}
+
+/// What came of freeing.
+fn freed(told: Told) -> Result<Moved, AllocError> {
+    match told {
+        Told::Freed(_) => Ok(Moved::Done),
+        _ => unmoved(told),
+    }
+}
+
+/// What came of a move.
+fn moved(kind: Move, told: Told) -> Result<Moved, AllocError> {
+    match (kind, told) {
+        (Move::Leave, Told::Leaving(_))
+        | (Move::Left, Told::Left(_))
+        | (Move::Return, Told::Returning(_))
+        | (Move::Returned, Told::Home(_)) => Ok(Moved::Done),
+        _ => unmoved(told),
+    }
+}
+
+/// What a machine, which is there, answers to a step.
+fn stepped(told: Told) -> Result<Reply, AllocError> {
+    let (machine, reply) = match told {
+        Told::Ran(machine, slot) => (machine, StepReply::Ran(slot)),
+        Told::Hit(machine, slot) => (machine, StepReply::Hit(slot)),
+        Told::Paused(machine, slot) => (machine, StepReply::Paused(slot)),
+        Told::Waiting(machine, object) => (machine, StepReply::Waiting(object)),
+        Told::Stopped(machine, stop) => (machine, StepReply::Stopped(stop)),
+        _ => return Err(AllocError),
+    };
+    Ok(Reply::Stepped { machine, reply })
+}
+
+/// What is shown of a machine that is there.
+fn shown(alloc: Global, told: Told) -> Result<ShowReply, AllocError> {
+    match told {
+        Told::Registers(_, shown) => Ok(ShowReply::Registers(shown)),
+        Told::Emitted(_, values) => Ok(ShowReply::Emitted(values_of(values))),
+        Told::Bytes(bytes) => Ok(ShowReply::Bytes(Bytes::new(bytes.to_vec(alloc)?))),
+        Told::Outside => Ok(ShowReply::Outside),
+        Told::NoSlot => Ok(ShowReply::NoSlot),
+        _ => Err(AllocError),
+    }
+}
+
+/// What a command of the debugger did on a machine that is there.
+fn debugged(told: Told) -> Result<Debugged, AllocError> {
+    match told {
+        Told::Done => Ok(Debugged::Done),
+        Told::NoSlot => Ok(Debugged::NoSlot),
+        Told::Outside => Ok(Debugged::Outside),
+        Told::Full => Ok(Debugged::Full),
+        Told::NoWatch => Ok(Debugged::NoWatch),
+        Told::NotPaused => Ok(Debugged::NotPaused),
+        _ => Err(AllocError),
+    }
+}
+
+/// The reply to another command.
+fn plain(alloc: Global, told: Told) -> Result<Reply, AllocError> {
+    match told {
+        Told::Made(object) => Ok(Reply::Made { object }),
+        Told::Away(object) => Ok(Reply::Away { object }),
+        Told::Bytes(bytes) => Ok(Reply::Bytes(Bytes::new(bytes.to_vec(alloc)?))),
+        Told::Shipped(machine) => Ok(Reply::Shipped { machine }),
+        Told::Refused(error) => Ok(Reply::Refused(error)),
+        Told::Done => Ok(Reply::Done),
+        Told::Full => Ok(Reply::Full),
+        Told::NoRoom => Ok(Reply::NoRoom),
+        Told::Outside => Ok(Reply::Outside),
+        Told::Missing => Ok(Reply::Missing),
+        _ => Err(AllocError),
+    }
+}
+
+/// The reply to the command.
+fn reply(alloc: Global, say: Say, told: Told) -> Result<Reply, AllocError> {
+    match (say, told) {
+        (Say::Free(object), _) => Ok(Reply::Freed {
+            object,
+            moved: freed(told)?,
+        }),
+        (Say::Move(object, kind), _) => Ok(Reply::Moved {
+            object,
+            kind,
+            moved: moved(kind, told)?,
+        }),
+        (_, Told::Missing) => Ok(Reply::Missing),
+        (Say::Step(_) | Say::One(_), _) => stepped(told),
+        (Say::Show(machine, _), _) => Ok(Reply::Shown {
             machine,
-            values: values_of(values),
-        },
-        Told::Refused(error) => Reply::Refused(error),
-        Told::Done => Reply::Done,
-        Told::Full => Reply::Full,
-        Told::NoRoom => Reply::NoRoom,
-        Told::Outside => Reply::Outside,
-        Told::NoSlot => Reply::NoSlot,
-        Told::NoWatch => Reply::NoWatch,
-        Told::NotPaused => Reply::NotPaused,
-        Told::Missing => Reply::Missing,
-    })
+            reply: shown(alloc, told)?,
+        }),
+        (Say::Debug(_, _), _) => Ok(Reply::Debugged(debugged(told)?)),
+        _ => plain(alloc, told),
+    }
 }
 
 /// A world over a store of its own, with this budget.
@@ -207,7 +279,7 @@ pub fn tells<F: FarStore>(
     for row in 0..table.len() {
         let (say, told) = table[row];
         let found = world.apply(event(alloc, say)?);
-        let wanted = reply(alloc, told)?;
+        let wanted = reply(alloc, say, told)?;
         compare_row(rt, "reply", &(row, event(alloc, say)?), &found, &wanted);
     }
     Ok(())
@@ -241,8 +313,8 @@ pub fn are_told(
 ) -> Result<(), AllocError> {
     compare(rt, "replies", &replies.len(), &table.len());
     for row in 0..table.len() {
-        let (_, told) = table[row];
-        let wanted = reply(alloc, told)?;
+        let (say, told) = table[row];
+        let wanted = reply(alloc, say, told)?;
         compare_row(rt, "reply", &row, &replies.get(row), &Some(&wanted));
     }
     Ok(())

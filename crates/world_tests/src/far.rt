@@ -2,7 +2,7 @@
 
 use crate::common::{AMPLE, EXIT, FIRST, Say, Told, tells};
 use crate::compared::same;
-use far_store::{Failing, OwnStore};
+use far_store::{Failing, OwnStore, StoreFault};
 use machine::Stop;
 use std::alloc::{AllocError, Global};
 use std::process::Abort;
@@ -24,7 +24,10 @@ fn failing(alloc: Global, call: u64) -> Result<World<Failing<OwnStore>>, AllocEr
 const NOT_SENT: &[(Say, Told)] = &[
     (Say::Make(1), Told::Made(1)),
     (Say::Move(1, Move::Leave), Told::Leaving(1)),
-    (Say::Move(1, Move::Left), Told::Faulted(1, Place::Here)),
+    (
+        Say::Move(1, Move::Left),
+        Told::Faulted(1, StoreFault::Refused),
+    ),
     (Say::Move(1, Move::Leave), Told::Leaving(1)),
     (Say::Move(1, Move::Left), Told::Left(1)),
 ];
@@ -35,13 +38,24 @@ fn an_object_that_cannot_leave_is_here(rt: HostRuntime) -> Result<(), Fail> {
     Ok(())
 }
 
+#[test]
+fn an_object_is_back_where_its_move_began(rt: HostRuntime) {
+    same!(rt; Move::Leave.back(), Place::Here);
+    same!(rt; Move::Left.back(), Place::Here);
+    same!(rt; Move::Return.back(), Place::Far);
+    same!(rt; Move::Returned.back(), Place::Far);
+}
+
 const NOT_FETCHED: &[(Say, Told)] = &[
     (Say::Make(2), Told::Made(1)),
     (Say::Put(1, 0, &[8, 9]), Told::Done),
     (Say::Move(1, Move::Leave), Told::Leaving(1)),
     (Say::Move(1, Move::Left), Told::Left(1)),
     (Say::Move(1, Move::Return), Told::Returning(1)),
-    (Say::Move(1, Move::Returned), Told::Faulted(1, Place::Far)),
+    (
+        Say::Move(1, Move::Returned),
+        Told::Faulted(1, StoreFault::Refused),
+    ),
     (Say::Move(1, Move::Return), Told::Returning(1)),
     (Say::Move(1, Move::Returned), Told::Home(1)),
     (Say::Get(1, 0, 2), Told::Bytes(&[8, 9])),

@@ -3,7 +3,7 @@
 use crate::errors::told::are_told;
 use far_store::StoreFault;
 use far_stream::StreamFault;
-use object_store::{GetError, MakeError, PartsError, PutError};
+use object_store::{Denied, GetError, MakeError, PartsError};
 use shared_objects::OpenFault;
 use std::test::Fail;
 
@@ -34,14 +34,14 @@ fn refusals(rt: HostRuntime) -> Result<(), Fail> {
     ];
     are_told(&rt, rt.alloc(), makes)?;
     let gets = &[
-        (GetError::Outside, "outside the object"),
-        (GetError::Away, "the object isn't here"),
+        (GetError::Denied(Denied::Outside), "outside the object"),
+        (GetError::Denied(Denied::Away), "the object isn't here"),
         (GetError::Memory, "no memory"),
     ];
     are_told(&rt, rt.alloc(), gets)?;
     let puts = &[
-        (PutError::Outside, "outside the object"),
-        (PutError::Away, "the object isn't here"),
+        (Denied::Outside, "outside the object"),
+        (Denied::Away, "the object isn't here"),
     ];
     are_told(&rt, rt.alloc(), puts)?;
     let parts = &[

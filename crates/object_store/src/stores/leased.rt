@@ -62,16 +62,6 @@ fn end<F: FarStore>(store: &mut ObjectStore<F>, who: usize, at: &mut u32, body: 
     *at = NONE;
 }
 
-/// Puts the object back that is out, if one is, for the last time.
-fn finish<F: FarStore>(store: &mut ObjectStore<F>, who: usize, at: u32, body: ObjectBody<F>)
-    requires { IsLeasing who store.old at body }
-    ensures { store.new ≡ filled store.old at body }
-{
-    if body.len() > 0 {
-        store.fill(at, body);
-    }
-}
-
 /// Takes out an object that is here, and that the machine has in scope.
 fn begin<F: FarStore>(
     store: &mut ObjectStore<F>,
@@ -166,7 +156,9 @@ impl<F: FarStore> ObjectStore<F> {
         ensures { self.new ≡ filled self.old lease.at lease.body }
     {
         let Lease { at, body, .. } = lease;
-        finish(self, who, at, body);
+        if body.len() > 0 {
+            self.fill(at, body);
+        }
     }
 }
 

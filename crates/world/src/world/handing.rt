@@ -8,7 +8,7 @@ ghost use Rattle.placement.specs.declared.places.Place.TheVariants as place;
 ghost use Rattle.object_store.specs.Asking.{AsksToFree, AsksToLeave, AsksToReturn};
 ghost use Rattle.object_store.specs.Stores.{StandsAt};
 ghost use Rattle.object_store.specs.Handing.{FreesFar};
-ghost use Rattle.world.specs.Answers.{Event, ObjectCommand, Move, Reply, Answers, reply_to_move};
+ghost use Rattle.world.specs.Answers.{Event, ObjectCommand, Move, Reply, Answers};
 ghost use Rattle.world.specs.Plain.{PlainAnswers, plain_of};
 ghost use Rattle.world.specs.WorldState.{state_of};
 
@@ -47,7 +47,7 @@ impl<F: FarStore> World<F> {
         ensures asks { AsksToFree F.called self.old.store object result self.new.store }
         ensures machines { self.new.machines ≡ self.old.machines }
         ensures plain { result ≡ Moved.Done
-            → PlainAnswers (plain_of (state_of self.old)) (Event.Object object ObjectCommand.Free) (Reply.Freed object) (plain_of (state_of self.new)) }
+            → PlainAnswers (plain_of (state_of self.old)) (Event.Object object ObjectCommand.Free) (Reply.Freed object Moved.Done) (plain_of (state_of self.new)) }
         ensures refused { result ≢ Moved.Done → state_of self.new ≡ state_of self.old }
     {
         self.store.forget(object)
@@ -60,7 +60,7 @@ impl<F: HandsOut> World<F> {
     pub fn left_into(&mut self, object: u32, into: &mut [u8]) -> Moved
         requires count { length into.old ≡ length (bytes_of self.old.store.state.objects object) }
         ensures answers { Answers (state_of self.old) (Event.Object object (ObjectCommand.Move Move.Left))
-            (reply_to_move (Reply.Left object) place.Here object result) (state_of self.new) }
+            (Reply.Moved object Move.Left result) (state_of self.new) }
         ensures asks { AsksToLeave F.called self.old.store object result self.new.store }
         ensures bytes { result ≡ Moved.Done → into.new ≡ bytes_of self.old.store.state.objects object }
         ensures kept { result ≢ Moved.Done → into.new ≡ into.old }
@@ -76,7 +76,7 @@ impl<F: HandsOut> World<F> {
     pub fn returned_from(&mut self, object: u32, bytes: &[u8]) -> Moved
         requires premise { F.alike (bytes_of self.old.store.state.objects object) bytes.now → bytes.now ≡ bytes_of self.old.store.state.objects object }
         ensures answers { Answers (state_of self.old) (Event.Object object (ObjectCommand.Move Move.Returned))
-            (reply_to_move (Reply.Home object) place.Far object result) (state_of self.new) }
+            (Reply.Moved object Move.Returned result) (state_of self.new) }
         ensures asks { AsksToReturn true F.called self.old.store object result self.new.store }
         ensures given { result ≡ Moved.Done → bytes.now ≡ bytes_of self.old.store.state.objects object }
         ensures damaged { result ≡ Moved.Fault Damaged → bytes.now ≢ bytes_of self.old.store.state.objects object }

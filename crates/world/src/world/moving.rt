@@ -1,14 +1,13 @@
-//! Moves of an object: which there are, what each does in the store, and its replies.
+//! Moves of an object: which there are, and what each does in the store.
 ghost use Rattle.std.specs.Prelude.{◌≡◌};
-ghost use Rattle.world.specs.Moves.{MoveAsks, Moves, moved_reply, place_before};
+ghost use Rattle.world.specs.Moves.{MoveAsks, Moves, place_before};
 
 use super::World;
-use crate::replies::Reply;
 use far_store::FarStore;
 use object_store::{Moved, Place};
 
 /// A move of an object, or its end.
-#[derive(Clone, Copy, Drop, Debug)]
+#[derive(Clone, Copy, Drop, Debug, PartialEq, Eq)]
 pub enum Move {
     /// An object that is here begins to leave.
     Leave,
@@ -37,20 +36,8 @@ impl<F: FarStore> World<F> {
 }
 
 impl Move {
-    /// The reply where the move is done.
-    pub(crate) fn reply(self, object: u32) -> Reply
-        ensures { result ≡ moved_reply self object }
-    {
-        match self {
-            Move::Leave => Reply::Leaving { object },
-            Move::Left => Reply::Left { object },
-            Move::Return => Reply::Returning { object },
-            Move::Returned => Reply::Home { object },
-        }
-    }
-
     /// Where the object is again where the far store fails.
-    pub(crate) fn back(self) -> Place
+    pub fn back(self) -> Place
         ensures { result ≡ place_before self }
     {
         match self {

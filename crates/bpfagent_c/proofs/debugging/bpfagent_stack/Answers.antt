@@ -7,7 +7,8 @@ use Rattle.world.specs.Machines.{refused_stack}
 use Rattle.world.specs.WorldState.{WorldWithin, state_of}
 use Rattle.world.specs.declared.events.Event.TheVariants.{Machine}
 use Rattle.world.specs.declared.replies.Reply.{Reply}
-use Rattle.world.specs.declared.replies.Reply.TheVariants.{Bytes}
+use Rattle.world.specs.declared.replies.Reply.TheVariants.{Shown}
+use Rattle.debugger.specs.declared.replies.ShowReply.TheVariants.{Bytes}
 use Rattle.bpfagent_c.proofs.Reading.{over_as_many, stack_shows_nothing}
 use Rattle.bpfagent_c.proofs.debugging.bpfagent_stack.Goals as goal
 use Rattle.bpfagent_c.proofs.debugging.bpfagent_stack.Goals.{in-Ok, in-Err}
@@ -28,18 +29,18 @@ returns-clause-told c =
     elim c.match-read_stack.branch [
       | in-Ok w ↦
           let shown : Answers (state_of c.deref.result.now) (Machine c.args.machine (Show (Stack c.args.offset (length c.args.bytes.now))))
-          (Bytes c.read_stack.new.into) (state_of c.deref.result.now) = search rules in (
-            Some (Bytes c.read_stack.new.into),
-            (live, c.give.ensures.live, carry (Bytes c.read_stack.new.into) shown),
+          (Shown c.args.machine (Bytes c.read_stack.new.into)) (state_of c.deref.result.now) = search rules in (
+            Some (Shown c.args.machine (Bytes c.read_stack.new.into)),
+            (live, c.give.ensures.live, carry (Shown c.args.machine (Bytes c.read_stack.new.into)) shown),
             w.number-is,
             over_as_many c.read_stack.new.into c.args.bytes.now (search rules),
           )
       | in-Err w ↦
           let refused : Answers (state_of c.deref.result.now) (Machine c.args.machine (Show (Stack c.args.offset (length c.args.bytes.now))))
-          (refused_stack w.in-Err.error) (state_of c.deref.result.now) = search rules in (
-            Some (refused_stack w.in-Err.error),
-            (live, c.give.ensures.live, carry (refused_stack w.in-Err.error) refused),
-            w.number-is ∙ w.code_of_stack-number.ensures.number,
-            search rules ∙ stack_shows_nothing w.in-Err.error c.args.bytes.now,
+          (refused_stack c.args.machine w.in-Err.error) (state_of c.deref.result.now) = search rules in (
+            Some (refused_stack c.args.machine w.in-Err.error),
+            (live, c.give.ensures.live, carry (refused_stack c.args.machine w.in-Err.error) refused),
+            w.number-is ∙ w.code_of_stack-number.ensures.number c.args.machine,
+            search rules ∙ stack_shows_nothing c.args.machine w.in-Err.error c.args.bytes.now,
           )
     ]

@@ -1,11 +1,10 @@
-use Rattle.std.proofs.Common.{rules, ◌≡◌, ◌≢◌, length, true, Some, sym, subst, ◌∙◌, ap, arith}
-use Rattle.object_store.specs.declared.errors.GetError.TheVariants.{Memory}
+use Rattle.std.proofs.Common.{rules, ◌≡◌, length, true, Some, sym, subst, ◌∙◌, ap, arith}
 use Rattle.library_store.specs.Calls.{LibraryState}
 use Rattle.world.specs.WorldState.{WorldWithin, state_of}
-use Rattle.world.specs.Answers.{AnswersGet, refused_get}
+use Rattle.world.specs.Answers.{AnswersGet, denied}
 use Rattle.world.specs.declared.replies.Reply.TheVariants.{Bytes}
 use Rattle.bpfagent_c.specs.declared.numbers.TheConstants.{NOMEM, OK}
-use Rattle.bpfagent_c.proofs.Reading.{over_as_many, refused_shows_nothing}
+use Rattle.bpfagent_c.proofs.Reading.{over_as_many, denied_shows_nothing}
 use Rattle.bpfagent_c.proofs.objects.get.Goals as goal
 use Rattle.bpfagent_c.proofs.objects.get.Goals.{in-Ok, in-Err}
 
@@ -37,23 +36,22 @@ returns c =
           }
       | in-Err w ↦
           let refused : AnswersGet c.deref.result.now.store.state c.args.object c.args.offset (length c.args.bytes.now)
-          (refused_get c.args.object w.in-Err.error) = search rules in
-          let other : w.in-Err.error ≢ Memory = search rules in
+          (denied c.args.object w.in-Err.why) = search rules in
           record {
             told = (
-              Some (refused_get c.args.object w.in-Err.error),
+              Some (denied c.args.object w.in-Err.why),
               (
                 live,
                 c.give.ensures.live,
                 (
                   subst (λ (x : WorldWithin LibraryState).
-                      AnswersGet x.store.state c.args.object c.args.offset (length c.args.bytes.now) (refused_get c.args.object w.in-Err.error)) same refused,
+                      AnswersGet x.store.state c.args.object c.args.offset (length c.args.bytes.now) (denied c.args.object w.in-Err.why)) same refused,
                   ap state_of after,
                 ),
               ),
-              w.number-is ∙ w.code_of_get-number.ensures.number c.args.object,
-              search rules ∙ refused_shows_nothing c.args.object w.in-Err.error c.args.bytes.now,
+              w.number-is ∙ w.code_of_denied-number.ensures.number c.args.object,
+              search rules ∙ denied_shows_nothing c.args.object w.in-Err.why c.args.bytes.now,
             );
-            memory = λ e. other (w.code_of_get-number.ensures.memory (sym w.number-is ∙ e));
+            memory = λ e. w.code_of_denied-number.ensures.memory (sym w.number-is ∙ e);
           }
     ]

@@ -12,7 +12,7 @@ returns-in_default-put_all g c =
     let lines = closing_lines c.in-Ok.closed in
     let part = subst (AppendsPart (g.W.Write.contents c.args.writer.now) (g.W.Write.contents c.put_all.new.writer)) c.closed_line.ensures
     c.in_default-put_all.ensures.err in
-    (closed_line ++ lines, (_, _, c.in-Ok.closed, c.in-Ok.ensures, refl), part_of_first _ _ closed_line lines part)
+    (closed_line ++ lines, ((_, _, c.in-Ok.closed, c.in-Ok.ensures, refl), c.args.ended.ran), part_of_first _ _ closed_line lines part)
 
 pub returns-in_default-write_closing_lines : goal.returns-in_default-write_closing_lines
 returns-in_default-write_closing_lines g c =
@@ -20,7 +20,7 @@ returns-in_default-write_closing_lines g c =
     let first = subst (Appends (g.W.Write.contents c.args.writer.now) (g.W.Write.contents c.put_all.new.writer))
     c.closed_line.ensures c.in-Ok-put_all.ensures.ok in (
       closed_line ++ lines,
-      (_, _, c.in-Ok.closed, c.in-Ok.ensures, refl),
+      ((_, _, c.in-Ok.closed, c.in-Ok.ensures, refl), c.args.ended.ran),
       part_of_second _ _ _ closed_line lines first c.in_default-write_closing_lines.ensures.err,
     )
 
@@ -29,4 +29,4 @@ returns g c =
     let lines = closing_lines c.in-Ok.closed in
     let first = subst (Appends (g.W.Write.contents c.args.writer.now) (g.W.Write.contents c.put_all.new.writer))
     c.closed_line.ensures c.in-Ok-put_all.ensures.ok in
-    (closed_line ++ lines, (_, _, c.in-Ok.closed, c.in-Ok.ensures, refl), Appends-trans _ _ _ closed_line lines first c.in-Ok-write_closing_lines.ensures.ok)
+    (closed_line ++ lines, ((_, _, c.in-Ok.closed, c.in-Ok.ensures, refl), c.args.ended.ran), Appends-trans _ _ _ closed_line lines first c.in-Ok-write_closing_lines.ensures.ok)

@@ -6,7 +6,7 @@ use Rattle.object_store.proofs.stores.ObjectStore.touch.Goals as goal
 pub note-requires-clause-counts : goal.note-requires-clause-counts
 note-requires-clause-counts g c =
     let there = found_for c.self.inside.bodies c.index-bodies-index.result c.args.op.now c.self.invariant c.self.view_is
-    (rw c.as_slice.ensures.value at c.in-Here.ensures.stands) c.as_mut_slice-bodies.ensures.value c.as_mut_slice-bodies.ensures.len in
+    (rw c.as_slice.ensures.value at c.in-Ok.ensures.stands) c.as_mut_slice-bodies.ensures.value c.as_mut_slice-bodies.ensures.len in
     let long = length-after c.args.op.now _ there.0 in
     let old = put_there {left = c.self.inside.spare} c.self.invariant there.1 c.act-answer.ensures.new refl (rw long there.1.short)
     (rw there.1.place (omega (arith, long))) in
@@ -15,7 +15,7 @@ note-requires-clause-counts g c =
 pub invariant_of-self : goal.invariant_of-self
 invariant_of-self g c =
     let there = found_for c.self.inside.bodies c.index-bodies-index.result c.args.op.now c.self.invariant c.self.view_is
-    (rw c.as_slice.ensures.value at c.in-Here.ensures.stands) c.as_mut_slice-bodies.ensures.value c.as_mut_slice-bodies.ensures.len in
+    (rw c.as_slice.ensures.value at c.in-Ok.ensures.stands) c.as_mut_slice-bodies.ensures.value c.as_mut_slice-bodies.ensures.len in
     let long = length-after c.args.op.now _ there.0 in
     let old = put_there {left = c.self.inside.spare} c.self.invariant there.1 c.act-answer.ensures.new refl (rw long there.1.short)
     (rw there.1.place (omega (arith, long))) in
@@ -26,10 +26,10 @@ invariant_of-self g c =
       sent = c.note.ensures.sent;
     }) old c.note.ensures.counts (omega (arith, c.note.auto.windows, c.self.invariant.0.windows_are))
 
-pub returns-in-Here : goal.returns-in-Here
-returns-in-Here g c =
+pub returns-in-Ok : goal.returns-in-Ok
+returns-in-Ok g c =
     let there = found_for c.self.inside.bodies c.index-bodies-index.result c.args.op.now c.self.invariant c.self.view_is
-    (rw c.as_slice.ensures.value at c.in-Here.ensures.stands) c.as_mut_slice-bodies.ensures.value c.as_mut_slice-bodies.ensures.len in
+    (rw c.as_slice.ensures.value at c.in-Ok.ensures.stands) c.as_mut_slice-bodies.ensures.value c.as_mut_slice-bodies.ensures.len in
     let now = seen_held there.1 c.act-answer.ensures.new (record {
       long = c.note.auto.bodies;
       bytes = c.note.ensures.bytes;

@@ -5,26 +5,24 @@ use Rattle.memory.specs.declared.deeds.Deed.TheVariants.{Reads}
 use Rattle.memory.specs.declared.deeds.Given.TheVariants.{Bytes}
 use Rattle.shared_objects.specs.declared.body.Body.{Body}
 use Rattle.shared_objects.specs.declared.view.View.{View}
-use Rattle.shared_objects.proofs.Acting.{busy_seat, worn_seat, done_seat, same_body}
+use Rattle.shared_objects.proofs.Acting.{denied_seat, done_seat, same_body}
 use Rattle.shared_objects.proofs.table.SharedTable.get.Goals as goal
 
-pub invariant_of-actor-in-Busy : goal.invariant_of-actor-in-Busy
-invariant_of-actor-in-Busy c = busy_seat c.args.self.now c.args.actor.now c.requires _ (c.if-not-has_range.ensures.object refl) c.in-Busy.ensures.begins
+pub invariant_of-actor : goal.invariant_of-actor
+invariant_of-actor c = denied_seat c.args.self.now c.args.actor.now c.requires _ (c.if-not-has_range.ensures.object refl) c.begin.new.seat.me c.begin.new.window
+    c.in_err-found.field-0.0 c.in_err-found.ensures.begins
 
-pub invariant_of-actor-in-Worn : goal.invariant_of-actor-in-Worn
-invariant_of-actor-in-Worn c = worn_seat c.args.self.now c.args.actor.now c.requires _ (c.if-not-has_range.ensures.object refl) c.in-Worn.ensures.begins
-
-pub invariant_of-actor-in-Turn : goal.invariant_of-actor-in-Turn
-invariant_of-actor-in-Turn c = done_seat (Reads c.args.offset c.args.count) (Bytes c.read.new.into.items) c.args.self.now c.args.actor.now c.requires _
-    (c.if-not-has_range.ensures.object refl) _ _ _ _ c.in-Turn.ensures.begins c.read.ensures.view c.record_read.ensures.me
+pub invariant_of-actor-2 : goal.invariant_of-actor-2
+invariant_of-actor-2 c = done_seat (Reads c.args.offset c.args.count) (Bytes c.read.new.into.items) c.args.self.now c.args.actor.now c.requires _
+    (c.if-not-has_range.ensures.object refl) _ _ _ _ c.in_ok-found.ensures.begins c.read.ensures.view c.record_read.ensures.me
 
 pub read-requires-clause-held : goal.read-requires-clause-held
-read-requires-clause-held c = let t = c.in-Turn.ensures.begins.2 in let h = c.if-not-has_range.ensures.value.0 refl in
+read-requires-clause-held c = let t = c.in_ok-found.ensures.begins.2 in let h = c.if-not-has_range.ensures.value.0 refl in
     let long = t.2.1 ∙ ap (λ (o : List (List ℕ)). length (bytes_of o c.args.number)) c.requires.1 in
     (t.0, t.1, omega (arith, h.1, long, c.in_ok-bytes.ensures.len))
 
 pub record_read-requires-clause-held : goal.record_read-requires-clause-held
-record_read-requires-clause-held c = let t = c.in-Turn.ensures.begins.2 in let h = c.if-not-has_range.ensures.value.0 refl in
+record_read-requires-clause-held c = let t = c.in_ok-found.ensures.begins.2 in let h = c.if-not-has_range.ensures.value.0 refl in
     let long = t.2.1 ∙ ap (λ (o : List (List ℕ)). length (bytes_of o c.args.number)) c.requires.1 in
     let w = c.read.ensures.held in
     let count_is : length c.in_ok-bytes.bytes.items ≡ c.args.count = omega (arith, c.in_ok-bytes.bytes.ok.0, c.in_ok-bytes.ensures.len) in

@@ -13,17 +13,17 @@ pub const CLIENT_LIMIT: usize = 64;
 
 /// A client that is served.
 #[derive(Drop)]
-struct Guest {
-    client: u64,
+struct Client {
+    number: u64,
     stream: TcpStream,
 }
 
 /// What all threads know: whether the input has ended, how many clients came, and who is there.
 #[derive(Drop)]
-struct Room {
+struct State {
     is_closed: bool,
     came: u64,
-    guests: Vec<Guest>,
+    served: Vec<Client>,
 }
 
 /// Whether a client is let in.
@@ -37,24 +37,24 @@ pub(crate) enum Admission {
     Closed,
 }
 
-/// What lets clients in, so many at the same time, until it is closed.
+/// The clients that are served, and who may come: so many at the same time, until these are closed.
 #[derive(Drop)]
-pub(crate) struct Hall {
-    room: Mutex<Room>,
+pub(crate) struct Clients {
+    state: Mutex<State>,
     bell: Bell,
     idle: Option<Duration>,
     budget: Budget,
 }
 
-impl Hall {
-    /// A hall that is open and empty, and the bell of its listener. All the memory that it needs is taken here.
-    pub fn new(alloc: Global, bell: Bell, limits: Limits) -> Result<Hall, AllocError> {
-        let guests = Vec::with_capacity(alloc, CLIENT_LIMIT)?;
-        Ok(Hall {
-            room: Mutex::new(Room {
+impl Clients {
+    /// Open, and none yet, with the bell of their listener. All the memory that it needs is taken here.
+    pub fn new(alloc: Global, bell: Bell, limits: Limits) -> Result<Clients, AllocError> {
+        let served = Vec::with_capacity(alloc, CLIENT_LIMIT)?;
+        Ok(Clients {
+            state: Mutex::new(State {
                 is_closed: false,
                 came: 0,
-                guests,
+                served,
             }),
             bell,
             idle: limits.idle,
@@ -85,36 +85,36 @@ impl Hall {
 
     /// Lets a client in, if there is room. By its stream it can be cut off.
     pub fn admit<R: Wait>(&self, rt: &R, stream: TcpStream) -> Admission {
-        let mut room = self.room.lock(rt);
-        if room.is_closed {
+        let mut state = self.state.lock(rt);
+        if state.is_closed {
             return Admission::Closed;
         }
-        let client = room.came.saturating_add(1);
-        let is_full = room.guests.len() >= CLIENT_LIMIT;
-        if is_full || room.guests.push(Guest { client, stream }).is_err() {
+        let number = state.came.saturating_add(1);
+        let is_full = state.served.len() >= CLIENT_LIMIT;
+        if is_full || state.served.push(Client { number, stream }).is_err() {
             return Admission::Full;
         }
-        room.came = client;
-        Admission::Admitted(client)
+        state.came = number;
+        Admission::Admitted(number)
     }
 
     /// Whether the input goes on.
     pub fn is_open<R: Wait>(&self, rt: &R) -> bool {
-        !self.room.lock(rt).is_closed
+        !self.state.lock(rt).is_closed
     }
 
     /// Lets the client of this number out.
     pub fn dismiss<R: Wait>(&self, rt: &R, client: u64) {
-        let mut room = self.room.lock(rt);
-        room.guests.retain(|guest| guest.client != client);
+        let mut state = self.state.lock(rt);
+        state.served.retain(|it| it.number != client);
     }
 
-    /// Closes the hall for good: no client is accepted any more, and who is there is cut off.
+    /// From now on no client is accepted any more, and those that are served are cut off.
     pub fn close<R: Wait>(&self, rt: &R) {
-        let mut room = self.room.lock(rt);
-        room.is_closed = true;
-        for guest in &room.guests {
-            let _ = guest.stream.shutdown(Shutdown::Both);
+        let mut state = self.state.lock(rt);
+        state.is_closed = true;
+        for client in &state.served {
+            let _ = client.stream.shutdown(Shutdown::Both);
         }
         self.bell.ring();
     }

@@ -1,6 +1,6 @@
 use Rattle.std.specs.Prelude.{length}
 use Rattle.workers.proofs.Turned.{goes_on}
-use Rattle.workers.proofs.threads.mover.Goals as goal
+use Rattle.workers.proofs.threads.serve_moving.Goals as goal
 
 pub loop-preserved-in-Some-next_request : goal.loop-preserved-in-Some-next_request
 loop-preserved-in-Some-next_request g c =

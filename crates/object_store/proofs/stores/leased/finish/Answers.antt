@@ -1,6 +1,0 @@
-use Rattle.std.proofs.Common.{arith}
-use Rattle.object_store.proofs.Leasing.{out_of}
-use Rattle.object_store.proofs.stores.leased.finish.Goals as goal
-
-pub fill-requires : goal.fill-requires
-fill-requires g c = (out_of _ _ _ _ c.requires (omega (arith, c.if-len-gt0.true, c.len.ensures))).out
