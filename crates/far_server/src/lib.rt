@@ -2,17 +2,17 @@
 //! ends.
 #![tactic(auto)]
 
+mod clients;
 mod ended;
 mod fault;
-mod clients;
 mod journal;
 mod limits;
 mod listening;
 mod texts;
 mod threads;
 
-pub use fault::ServerFault;
 pub use clients::CLIENT_LIMIT;
+pub use fault::ServerFault;
 pub use journal::{Journal, Refusal, Unwritten};
 pub use limits::{Limits, UNLIMITED};
 pub use listening::run_server;

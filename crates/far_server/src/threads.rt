@@ -2,8 +2,8 @@
 ghost use Rattle.std.specs.Prelude.{OnOk};
 ghost use Rattle.std.specs.Io.KnownBytes.{IsAtEnd};
 
-use crate::ended::ClientEnd;
 use crate::clients::{Admission, Clients};
+use crate::ended::ClientEnd;
 use crate::journal::{Journal, Refusal};
 use crate::limits::Limits;
 use crossbeam_channel::{Receiver, Sender, bounded};
@@ -180,7 +180,11 @@ impl Server {
         let host = thread::spawn(&rt, move || {
             host(rt, alloc, theirs, listener, sender, journal)
         })?;
-        Ok(Server { clients, host, ends })
+        Ok(Server {
+            clients,
+            host,
+            ends,
+        })
     }
 
     /// Starts to wait for the end of the input, which ends the server.
