@@ -1,5 +1,5 @@
 #!/usr/bin/env python3
-"""The gate: gate.py RT, or gate.py --quick for what takes seconds.
+"""The gate: gate.py RT, or gate.py --quick [RT] for what takes seconds.
 
 First the scripts of form/, and whether a crate has changed since its edits in edits/ were tried. Then `rt ci`, with a line on how far
 it is, and beside it the scripts over the program, from when `rt ci` has built that. Then what calls the toolchain or looks at times, and the library for
@@ -101,15 +101,16 @@ def prove(rt: str, start: float) -> tuple[int, int]:
 def main() -> None:
     if not sys.argv[1:]:
         sys.exit(__doc__)
-    if "--quick" not in sys.argv:
-        need_toolchain(sys.argv[1])
+    is_quick, given = "--quick" in sys.argv, [word for word in sys.argv[1:] if word != "--quick"]
+    rt = given[0] if given else "rt"
+    need_toolchain(rt)
     start = time.monotonic()
-    failed = failures_of(FORM)
+    failed = failures_of(FORM, rt)
     failed += edits.say_changed() > 0
-    if failed or "--quick" in sys.argv:
+    if failed or is_quick:
         print(f"{len(FORM) + 1 - failed} passed, {failed} failed")
         sys.exit(1 if failed else 0)
-    passed, failed = prove(sys.argv[1], start)
+    passed, failed = prove(rt, start)
     print(f"gate: {spent(start)}", flush=True)
     print(f"{passed} passed, {failed} failed", flush=True)
     sys.exit(1 if failed else 0)

@@ -15,7 +15,10 @@ from dataclasses import dataclass
 
 from lib.sources import ROOT
 
-FORM = [f"tests/form/{name}.py" for name in ("definitions", "generated", "failures", "documents", "kinds", "listed", "planted")]
+FORM = [
+    *(f"tests/form/{name}.py" for name in ("definitions", "generated", "failures", "documents", "kinds", "listed", "planted")),
+    "tests/form/formatted.py RT",
+]
 
 # What both targets run, one by one; `make prove` from when `rt ci` has built the program, beside what it still does. So none of them calls the
 # toolchain.
