@@ -27,9 +27,13 @@ abbrev pub bit : Bool → ℕ
 bit true = 1
 bit false = 0
 
+-- a word as a number, by the numbers of its place, its turn and its heat, by its count and its stamp
+abbrev pub packed : ℕ → ℕ → ℕ → ℕ → ℕ → ℕ
+packed place turn hot count stamp = place + 4 * turn + 8 * hot + 256 * count + 65536 * stamp
+
 -- the word as a number
 abbrev pub word_number : WordRecord → ℕ
-word_number w = place_number w.place + 4 * bit w.turn + 8 * bit w.hot + 256 * w.count + 65536 * w.stamp
+word_number w = packed (place_number w.place) (bit w.turn) (bit w.hot) w.count w.stamp
 
 -- the greatest stamp
 abbrev pub stamp_limit : ℕ

@@ -10,6 +10,7 @@ use lib.ListN.{get_elem?}
 use Rattle.atomic_table.specs.Table.{Act, gives, Valid, stepped, carried_after}
 use Rattle.atomic_table.proofs.Lists.{set_here, set_else}
 use Rattle.memory.specs.Objects.{bytes_of}
+use Rattle.pointer_word.specs.Words.{packed}
 use Rattle.shared_objects.specs.History.{Has, Rises, top}
 use Rattle.shared_objects.specs.Kinds.{Sat, placed}
 use Rattle.shared_objects.specs.Rule.{total, times, has_turn, has_open, has_pass, has_moving, has_far, place_of, is_moving, is_far, bytes_taken, turns_on}
@@ -82,7 +83,7 @@ module _ (returns : Bool) (key : List (List ℕ)) (s : St) (o : Kept returns key
 
   -- the word has the heat and the last stamp, and these counts
   abbrev WordIs : Tally → Type 0
-  WordIs t = x ≡ t.moving + 2 * t.far + 4 * t.turns + 8 * hot + 256 * (t.opens + t.passes) + 65536 * top 0 (o.logs n)
+  WordIs t = x ≡ packed (t.moving + 2 * t.far) t.turns hot (t.opens + t.passes) (top 0 (o.logs n))
 
   -- an object that is not here is at rest
   abbrev RestsOut : Tally → Type 0

@@ -6,6 +6,7 @@ use mathlib.Core.Option as maybe
 use lib.ListN.{get_elem?}
 use Rattle.atomic_table.specs.Table.{State}
 use Rattle.memory.specs.Objects.{bytes_of}
+use Rattle.pointer_word.specs.Words.{packed}
 use Rattle.scopes.specs.Windows.{window_limit}
 use Rattle.shared_objects.specs.History.{Has, Rises, Chained, AllInside, top, fold, Answers}
 use Rattle.shared_objects.specs.declared.body.Body.{Body}
@@ -198,7 +199,8 @@ pub data SlotFits (returns : Bool) (opening : List ℕ) (t : Tally) (home : mayb
 pub record Fits (returns : Bool) (opening : List ℕ) (t : Tally) (word : ℕ) (home : maybe.Option (maybe.Option Body)) (log : List SharedEntry) : Type 0 where
   -- 1 where it was used since it was cooled last
   pub hot : ℕ
-  pub word_is : word ≡ t.moving + 2 * t.far + 4 * t.turns + 8 * hot + 256 * (t.opens + t.passes) + 65536 * top 0 log
+  -- the place's number is 1 where a seat has the object on its way, and 2 where one has it far
+  pub word_is : word ≡ packed (t.moving + 2 * t.far) t.turns hot (t.opens + t.passes) (top 0 log)
   pub one_hot : hot ≤ 1
   -- it is hot, and was found hot, at most once for each time that its turn was asked for
   pub heat : hot + t.cooled ≤ t.touched
