@@ -24,4 +24,5 @@ pub mod Running
 pub mod GrantedWork
 pub mod Dispatching
 mod Past
+mod Reaching
 pub mod Crossing

@@ -4,6 +4,7 @@
 mod accesses;
 mod alu;
 mod calls;
+mod frames;
 mod grants;
 mod jumps;
 mod laws;

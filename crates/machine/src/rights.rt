@@ -92,7 +92,16 @@ impl Rights {
         if number > OBJECT_LIMIT as u64 {
             return true;
         }
-        self.table[number as usize].suffices(writes)
+        self.allow_object(number as usize, writes)
+    }
+
+    /// The same of a number that an object may have.
+    #[inline(always)]
+    pub(crate) fn allow_object(&self, number: usize, writes: bool) -> bool
+        requires { number ≤ object_limit }
+        ensures { result ≡ is_granted self.now writes number }
+    {
+        self.table[number].suffices(writes)
     }
 }
 
