@@ -1,13 +1,10 @@
 -- Machines do to objects only what they were granted, and an object that nobody wrote keeps its bytes.
-use Rattle.std.proofs.Common.{◌≡◌, ◌≢◌, ℕ, zero, suc, ◌<◌, nat_eq, Bool, true, false, List, [], ◌∷◌, ◌++◌, length, map, set, Option, Some, None, refl, sym, ap, ◌∙◌, subst, arith}
+use Rattle.std.proofs.Common.{◌≡◌, ℕ, zero, suc, nat_eq, Bool, true, false, List, [], ◌∷◌, ◌++◌, map, set, Option, Some, None, refl, sym, ap, ◌∙◌, subst, arith}
 use Rattle.std.proofs.Common.{⊎_elim}
 use Rattle.std.proofs.lemmas.Bool.Decides.{nat_tests}
-use mathlib.Core.Option.{some, some-injective, some-ne-none}
-use lib.ListN.{get_elem?}
 use Rattle.atomic_table.specs.Seated.{TableId}
 use Rattle.memory.specs.declared.access.Action.{Action}
 use Rattle.memory.specs.declared.access.Action.TheVariants as action
-use Rattle.memory.specs.declared.access.Op.{Op}
 use Rattle.memory.specs.declared.deeds.Deed.{Deed}
 use Rattle.memory.specs.declared.deeds.Deed.TheVariants.{Accesses, Reads, Writes}
 use Rattle.memory.specs.Access.{after}
@@ -16,7 +13,6 @@ use Rattle.memory.specs.Objects.{bytes_of}
 use Rattle.shared_objects.specs.History.{Has}
 use Rattle.shared_objects.specs.One.{Runs, objects_after}
 use Rattle.shared_objects.specs.Parts.{part_of}
-use Rattle.shared_objects.specs.Rule.{HasPart}
 use Rattle.shared_objects.specs.SeatMemories.{own_entry}
 use Rattle.shared_objects.specs.declared.seats.ActorSeat.{ActorSeat}
 use Rattle.shared_objects.specs.declared.view.Part.{Part}
@@ -26,13 +22,11 @@ use Rattle.shared_objects.proofs.Sorting.{has_either}
 use Rattle.machine.specs.Granted.{WasGranted, may_write}
 use Rattle.machine.specs.Grants.{GrantState, is_granted, is_writing}
 use Rattle.machine.specs.MachineState.{MachineState}
-use Rattle.workers.specs.Cells.{RunningState, lengths_of, IsReplayed, FitsCell, seat_state}
-use Rattle.workers.specs.Closing.{WasCell, WereCells}
-use Rattle.workers.specs.Moves.{MoverState}
+use Rattle.workers.specs.Cells.{RunningState, lengths_of, FitsCell, seat_state}
+use Rattle.workers.specs.Closing.{WereCells}
 use Rattle.workers.specs.declared.closing.ClosedCell.{ClosedCell}
 use Rattle.workers.proofs.Granted.{share_granted, replayed_granted}
-use Rattle.ship_service.specs.Closing.{ClosedState, Settles}
-use Rattle.ship_service.specs.Granted.{SeenMachinesAreGranted, SharesAreGranted, IsUnwritten, UnwrittenObjectsStay}
+use Rattle.ship_service.specs.Granted.{SeenMachinesAreGranted, SharesAreGranted, UnwrittenObjectsStay}
 
 pub seen_granted : (opening : List (List ℕ)) (starts : List MachineState) → SeenMachinesAreGranted opening starts
 seen_granted opening starts number stamp seat r h e at = replayed_granted opening starts number seat r h.replayed e at

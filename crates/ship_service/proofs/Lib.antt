@@ -9,5 +9,6 @@ mod Rising
 pub mod Settled
 pub mod Granted
 mod Dealt
+mod Conversed
 mod Written
 pub mod Saying

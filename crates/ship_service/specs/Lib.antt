@@ -4,6 +4,7 @@ pub mod Lent
 pub mod Served
 pub mod Telling
 pub mod Opening
+pub mod Conversed
 pub mod Closing
 pub mod Granted
 pub mod ClosingLines

@@ -1,5 +1,5 @@
 -- What a service that listens says, and why it ends.
-use Rattle.std.specs.Prelude.{◌≡◌, ◌⊎◌, ⊤, ℕ, Bool, true, List, [], ◌∷◌, ◌++◌, Option, Result, Ok, Err, codes, decimal}
+use Rattle.std.specs.Prelude.{◌≡◌, ◌⊎◌, ⊤, ℕ, Bool, true, All, List, [], ◌∷◌, ◌++◌, Option, Result, Ok, Err, codes, decimal}
 use Rattle.std.specs.Io.KnownBytes.{Appends, Keeps}
 use Rattle.streams.specs.Streams.{AppendsPart}
 use Rattle.listener.specs.Announcing.{listening_at}
@@ -13,6 +13,7 @@ use Rattle.workers.specs.TableNames.{Passage}
 use Rattle.workers.specs.TableNames.Passage.{Ran}
 use Rattle.world.specs.WorldState.{WorldState}
 use Rattle.ship_service.specs.Closing.{ClosedState, Settles}
+use Rattle.ship_service.specs.Conversed.{HadOneClient}
 use Rattle.ship_service.specs.ClosingLines.{closing_lines}
 use Rattle.ship_service.specs.Opening.{first_mover_view, opened_bytes}
 use Rattle.placement.specs.declared.places.Place.{Place}
@@ -31,11 +32,12 @@ abbrev pub TellsEnd : Type 0 → Bool → TableId → List (List ℕ) → List M
 TellsEnd X returns table opening starts text = (mover : MoverState X) × (connections : List ActorSeat) × (state : ClosedState X)
     × Settles returns table opening starts mover connections state × (text ≡ closed_line ++ closing_lines state)
 
--- The same, where the mover is the one that served: it is as its loop left it, which began with all objects here. Whoever served learnt
--- that from the loop, so nothing else moved an object.
+-- The same, where mover and connections are those that served. The mover is as its loop left it, which began with all objects here, and
+-- each connection as its one client left it, if one came. Whoever served learnt that from the loop and from the conversations, so nothing
+-- else moved an object, and the service wrote into none by itself.
 abbrev pub TellsClosing : Type 0 → Bool → TableId → List (List ℕ) → List MachineState → (Passage → Bool) → List ℕ → Type 0
 TellsClosing X returns table opening starts lent text = (tells : TellsEnd X returns table opening starts text)
-    × (lent (Ran (first_mover_view returns opening) tells.0.view) ≡ true)
+    × (lent (Ran (first_mover_view returns opening) tells.0.view) ≡ true) × All (HadOneClient table returns opening lent) tells.1
 
 -- The text tells how a service closed that began with this world.
 abbrev pub TellsClosingOf : Type 0 → Bool → WorldState → List ℕ → Type 0

@@ -153,7 +153,7 @@ fn hand_back<K: TableName>(
 ) -> Result<Vec<ActorSeat>, AllocError>
     requires { All (IsSeatOf K.table K.opening) seats.items }
     ensures of { IfOk result (λ v. All (IsSeatOf K.table K.opening) v.items) }
-    ensures seats { IfOk result (λ v. v.items ≡ seats.items ++ map (λ c. c.post.seat) connections.items) }
+    ensures seats { IfOk result (λ v. v.items ≡ seats.items ++ map (λ c. c.session.seat) connections.items) }
 {
     for connection in connections {
         seats.push(connection.into_seat())?;
@@ -172,7 +172,7 @@ impl<F: FarStore + Drop, K: TableName> Agent<F, K> {
         mover: Mover<F, K>,
     ) -> Result<Closed<F>, AllocError>
         requires all { K.seats ≡ machine_limit + length connections.items }
-        ensures { IfOk result (λ closed. Settles F.RETURNS K.table K.opening K.starts mover (map (λ c. c.post.seat) connections.items) closed) }
+        ensures { IfOk result (λ closed. Settles F.RETURNS K.table K.opening K.starts mover (map (λ c. c.session.seat) connections.items) closed) }
     {
         let PoolParts {
             shared,

@@ -12,13 +12,13 @@ use workers::TableName;
 /// A connection: its seat, and the line that is coming.
 #[derive(Drop)]
 pub struct Connection<K: TableName> {
-    pub(crate) post: Post<K>,
+    pub(crate) session: Session<K>,
     pub(crate) console: Console,
 }
 
 /// The seat of a connection, which answers its commands.
 #[derive(Drop)]
-pub struct Post<K: TableName> {
+pub struct Session<K: TableName> {
     pub(crate) alloc: Global,
     pub(crate) seat: ActorSeat,
     of: PhantomData<K>,
@@ -29,28 +29,31 @@ impl<K: TableName> Connection<K> {
     /// One with this seat. All the memory that it needs for lines is taken here.
     pub fn new(alloc: Global, seat: ActorSeat) -> Result<Self, AllocError>
         requires { IsSeatOf K.table K.opening seat }
-        ensures { IfOk result (λ c. (c.post.seat ≡ seat) × (c.console ≡ nothing_held)) }
+        ensures { IfOk result (λ c. (c.session.seat ≡ seat) × (c.console ≡ nothing_held)) }
     {
         let console = Console::new(alloc)?;
-        let post = Post {
+        let session = Session {
             alloc,
             seat,
             of: PhantomData,
         };
-        Ok(Connection { post, console })
+        Ok(Connection { session, console })
     }
 
     /// Gives the seat back.
     pub fn into_seat(self) -> ActorSeat
-        ensures same { result ≡ self.post.seat }
+        ensures same { result ≡ self.session.seat }
         ensures of { IsSeatOf K.table K.opening result }
     {
-        let Connection { post, console: _ } = self;
-        let Post {
+        let Connection {
+            session,
+            console: _,
+        } = self;
+        let Session {
             alloc: _,
             seat,
             of: _,
-        } = post;
+        } = session;
         seat
     }
 }

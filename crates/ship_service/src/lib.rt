@@ -20,7 +20,7 @@ mod turns;
 
 pub use closing::{Closed, ClosedParts};
 pub use closing_lines::{print_machine, print_object, write_closing_lines};
-pub use connection::{Connection, Post};
+pub use connection::{Connection, Session};
 pub use journal::{Journal, Tally, Unwritten};
 pub use laws::{
     answered_machines_are_seen, machines_replay_the_list, opened_machines_stay,

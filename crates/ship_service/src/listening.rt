@@ -1,7 +1,8 @@
 //! A service that listens.
-ghost use Rattle.std.specs.Prelude.{◌≡◌, ◌+◌, length};
+ghost use Rattle.std.specs.Prelude.{◌≡◌, ◌+◌, length, All};
 ghost use Rattle.scopes.specs.Windows.{machine_limit};
 ghost use Rattle.world.specs.WorldState.{state_of};
+ghost use Rattle.ship_service.specs.Conversed.{IsUnused};
 ghost use Rattle.ship_service.specs.Listening.{FindsHere, OpensAll, SaysAs, SaysAtPort, SaysClosing, TellsClosing, TellsClosingOf};
 ghost use Rattle.ship_service.specs.Opening.{IsNamed, first_mover_view};
 
@@ -11,7 +12,7 @@ use crate::journal::{Journal, Unwritten};
 use crate::opened::{OpenAgent, Opened};
 use crate::shared_agent::Agent;
 use crate::texts::closed_line;
-use crate::threads::{EndedMover, Plan, Served, ThreadFault, serve_all};
+use crate::threads::{Ended, Plan, ThreadFault, serve_all};
 use far_store::FarStore;
 use listener::{Door, NET_FAULT, Name, announce_at, port_name};
 use std::alloc::Global;
@@ -48,13 +49,12 @@ fn close<F: FarStore + Drop, K: TableName, W: Write, J: Journal>(
     journal: &J,
     writer: &mut W,
     agent: Agent<F, K>,
-    connections: Vec<Connection<K>>,
-    ended: EndedMover<F, K>,
+    ended: Ended<F, K>,
 ) -> Result<(), ListenFault>
-    requires all { K.seats ≡ machine_limit + length connections.items }
+    requires all { K.seats ≡ machine_limit + length ended.connections.items }
     ensures { SaysClosing (TellsClosing F F.RETURNS K.table K.opening K.starts K.lent) (W.contents writer.old) (W.contents writer.new) result }
 {
-    let Ok(closed) = ended.close(alloc, agent, connections) else {
+    let Ok(closed) = ended.close(alloc, agent) else {
         return Err(ListenFault::Memory);
     };
     closed.tell(journal);
@@ -67,7 +67,7 @@ fn close<F: FarStore + Drop, K: TableName, W: Write, J: Journal>(
     Ok(())
 }
 
-/// Serves all connections, and closes with the mover that its own loop left.
+/// Serves all connections, and closes with what their threads and the mover's left.
 fn serve_opened<
     F: FarStore + Drop + Send + Sync,
     K: TableName + Send + Sync,
@@ -91,13 +91,14 @@ where
     F::Parcel: Send,
     requires all { K.seats ≡ machine_limit + length connections.items }
     requires first { mover.view ≡ first_mover_view F.RETURNS K.opening }
+    requires unused { All (λ c. IsUnused K.table F.RETURNS K.opening c.session.seat) connections.items }
     ensures says { SaysAs (TellsClosing F F.RETURNS K.table K.opening K.starts K.lent) name.now.items (W.contents writer.old) (W.contents writer.new) result }
     ensures here { OpensAll result }
 {
     let Ok(()) = announce_at(name, writer) else {
         return Err(ListenFault::Write);
     };
-    let Ok(served) = serve_all(
+    let outcome = serve_all(
         rt,
         alloc,
         &agent,
@@ -107,19 +108,13 @@ where
         far,
         plan,
         journal,
-    ) else {
-        return Err(ListenFault::Memory);
-    };
-    let Served {
-        connections,
-        outcome,
-    } = served;
+    );
     let ended = match outcome {
         Ok(ended) => ended,
         Err(ThreadFault::Net) => return Err(ListenFault::Net),
         Err(ThreadFault::Memory) => return Err(ListenFault::Memory),
     };
-    close(alloc, journal, writer, agent, connections, ended)
+    close(alloc, journal, writer, agent, ended)
 }
 
 /// Serves what was opened.

@@ -151,7 +151,7 @@ fn connections_of<K: TableName>(
     seats: Vec<ActorSeat>,
 ) -> Result<Vec<Connection<K>>, AllocError>
     requires { All (IsSeatOf K.table K.opening) seats.items }
-    ensures seats { IfOk result (λ connections. map (λ c. c.post.seat) connections.items ≡ seats.items) }
+    ensures seats { IfOk result (λ connections. map (λ c. c.session.seat) connections.items ≡ seats.items) }
     ensures empty { IfOk result (λ connections. All (λ c. c.console ≡ nothing_held) connections.items) }
 {
     let mut connections = Vec::new(alloc);
@@ -172,7 +172,7 @@ impl<F: FarStore + Drop, K: TableName> Agent<F, K> {
     ) -> Result<(Agent<F, K>, Vec<Connection<K>>, Mover<F, K>), OpenAgent>
         requires { IsNamed K.table K.opening K.starts K.seats K.lent opened.shared.table opened.machines.items }
         ensures agent { IfOk result (λ r. r.0.pool.shared ≡ opened.shared) }
-        ensures seats { IfOk result (λ r. AreFreshSeats K.table F.RETURNS K.opening (machine_limit + 1) (map (λ c. c.post.seat) r.1.items)) }
+        ensures seats { IfOk result (λ r. AreFreshSeats K.table F.RETURNS K.opening (machine_limit + 1) (map (λ c. c.session.seat) r.1.items)) }
         ensures connections { IfOk result (λ r. (length r.1.items ≡ connection_limit) × All (λ c. c.console ≡ nothing_held) r.1.items) }
         ensures mover { IfOk result (λ r. r.2 ≡ first_mover F.RETURNS K.opening opened.store) }
         ensures refused { IfErr result (λ why. why ≡ OpenAgent.Memory) }

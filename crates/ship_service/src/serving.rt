@@ -1,10 +1,12 @@
 //! Conversations with the service.
-ghost use Rattle.std.specs.Prelude.{◌≡◌, ◌≤◌, OnOk, IfSome};
+ghost use Rattle.std.specs.Prelude.{◌≡◌, ◌≤◌, OnOk, IfSome, true};
 ghost use Rattle.std.specs.Result.{IsErrOf};
 ghost use Rattle.console.specs.Held.{nothing_held};
 ghost use Rattle.console.specs.Conversations.{AnswersAll, StopsReading};
 ghost use Rattle.console.specs.Gathered.{StopsShort};
 ghost use Rattle.workers.specs.Cells.{IsSeatOf, seat_state};
+ghost use Rattle.workers.specs.TableNames.{each_lent};
+ghost use Rattle.workers.specs.TableNames.Passage.{Conversed};
 ghost use Rattle.console.specs.Lines.{ended};
 ghost use Rattle.console.specs.Commands.{range_limit};
 ghost use Rattle.world.specs.declared.events.Event.TheVariants.{Object};
@@ -14,7 +16,7 @@ ghost use Rattle.ship_service.specs.Replies.{service_text};
 ghost use Rattle.ship_service.specs.Served.{Serves, ServesObject, ServesTurn, service};
 
 use crate::cells::{answer_machine, ship};
-use crate::connection::{Connection, Post};
+use crate::connection::{Connection, Session};
 use crate::ranges::{ask, fetch, get, print_found, put};
 use crate::replies::{ServiceReply, print_service_reply};
 use crate::shared_agent::Agent;
@@ -23,6 +25,8 @@ use far_store::FarStore;
 use shared_objects::ActorSeat;
 use std::alloc::Global;
 use std::io::{Read, Write};
+use std::marker::{Model, PhantomData};
+use std::snapshot::Snapshot;
 use std::sync::Wait;
 use workers::{Direction, TableName};
 use world::{Event, Move, ObjectCommand};
@@ -32,6 +36,39 @@ use world::{Event, Move, ObjectCommand};
 pub struct Service<'a, R, F: FarStore, K: TableName> {
     rt: &'a R,
     agent: &'a Agent<F, K>,
+}
+
+/// Says what a conversation made of its seat. An agent has this, and only [`serve`] can have it say so.
+#[derive(Drop)]
+pub(crate) struct Conversations<K: TableName> {
+    of: PhantomData<K>,
+}
+
+impl<K: TableName> Model for Conversations<K> {
+    ghost use Rattle.std.specs.Prelude.{◌≡◌, ⊤};
+    ghost use Rattle.workers.specs.TableNames.{each_lent};
+
+    ghost Value = { ⊤ };
+
+    ghost view = { λ c. tt };
+
+    ghost invariant = { λ c. K.lent ≡ each_lent };
+}
+
+impl<K: TableName> Conversations<K> {
+    /// Those over the table that K names.
+    pub(crate) fn new() -> Self
+        requires { K.lent ≡ each_lent }
+    {
+        Conversations { of: PhantomData }
+    }
+
+    /// Says that a conversation over this stream began with the one seat and ended with the other.
+    fn held<I: Read>(&self, _reader: &Snapshot<I>, _began: &Snapshot<ActorSeat>, _ended: &ActorSeat)
+        ensures { K.lent (Conversed (I.remaining _reader.now.value) _began.now.value _ended.now) ≡ true }
+    {
+        let _of = &self.of;
+    }
 }
 
 fn answer_object<F: FarStore, K: TableName, R: Wait>(
@@ -99,13 +136,13 @@ fn answer_get<'a, F: FarStore, K: TableName, R: Wait>(
     print_found(shared.rt, pool, object, found, reply);
 }
 
-impl<'a, R: Wait, F: FarStore, K: TableName> Answerer<Service<'a, R, F, K>> for Post<K> {
+impl<'a, R: Wait, F: FarStore, K: TableName> Answerer<Service<'a, R, F, K>> for Session<K> {
     ghost use Rattle.workers.specs.Cells.{seat_state};
     ghost use Rattle.ship_service.specs.Served.{service};
 
     ghost protocol = { service K.opening K.starts K.lent };
 
-    ghost state = { λ post. seat_state post.seat };
+    ghost state = { λ session. seat_state session.seat };
 
     fn perform(&mut self, shared: &Service<'a, R, F, K>, event: Event, reply: &mut ReplyLine) {
         if let Event::Object {
@@ -135,22 +172,29 @@ pub fn serve<F: FarStore, K: TableName, R: Wait, I: Read, O: Write>(
     connection: &mut Connection<K>,
 ) -> Result<(), DriveFault>
     ensures ok { OnOk result (IfSome (I.remaining reader.old) (λ input.
-        AnswersAll (service K.opening K.starts K.lent) (seat_state connection.old.post.seat) input (O.contents writer.old) (O.contents writer.new)
-        (seat_state connection.new.post.seat))) }
+        AnswersAll (service K.opening K.starts K.lent) (seat_state connection.old.session.seat) input (O.contents writer.old) (O.contents writer.new)
+        (seat_state connection.new.session.seat))) }
     ensures read { IsErrOf result DriveFault.Read → IfSome (I.remaining reader.old) (λ input.
-        StopsReading (service K.opening K.starts K.lent) (seat_state connection.old.post.seat) input (O.contents writer.old) (O.contents writer.new)
-        (seat_state connection.new.post.seat) connection.new.console (I.remaining reader.new)) }
+        StopsReading (service K.opening K.starts K.lent) (seat_state connection.old.session.seat) input (O.contents writer.old) (O.contents writer.new)
+        (seat_state connection.new.session.seat) connection.new.console (I.remaining reader.new)) }
     ensures write { IsErrOf result DriveFault.Write → IfSome (I.remaining reader.old) (λ input. IfSome (O.contents writer.old) (λ before.
-        StopsShort (service K.opening K.starts K.lent) (seat_state connection.old.post.seat) input before (O.contents writer.new)
-        (seat_state connection.new.post.seat) (I.remaining reader.new))) }
+        StopsShort (service K.opening K.starts K.lent) (seat_state connection.old.session.seat) input before (O.contents writer.new)
+        (seat_state connection.new.session.seat) (I.remaining reader.new))) }
+    ensures conversed { K.lent (Conversed (I.remaining reader.old) connection.old.session.seat connection.new.session.seat) ≡ true }
 {
     connection.console.clear();
+    let before = Snapshot::of(reader);
+    let began = Snapshot::of(&connection.session.seat);
     let service = Service { rt, agent };
-    converse_gathering(
+    let outcome = converse_gathering(
         reader,
         writer,
         &mut connection.console,
         &service,
-        &mut connection.post,
-    )
+        &mut connection.session,
+    );
+    agent
+        .conversations()
+        .held(&before, &began, &connection.session.seat);
+    outcome
 }

@@ -2,6 +2,7 @@
 ghost use Rattle.std.specs.Prelude.{◌≡◌, length};
 ghost use Rattle.scopes.specs.Windows.{machine_limit};
 
+use crate::serving::Conversations;
 use far_store::FarStore;
 use workers::{Pool, TableName};
 
@@ -9,6 +10,7 @@ use workers::{Pool, TableName};
 #[derive(Drop)]
 pub struct Agent<F: FarStore, K: TableName> {
     pool: Pool<F, K>,
+    conversations: Conversations<K>,
     pub ghost whole: { length pool.cells.items ≡ machine_limit },
 }
 
@@ -18,7 +20,10 @@ impl<F: FarStore, K: TableName> Agent<F, K> {
         requires { length pool.cells.items ≡ machine_limit }
         ensures { result.pool ≡ pool }
     {
-        Agent { pool }
+        Agent {
+            pool,
+            conversations: Conversations::new(),
+        }
     }
 
     /// The pool.
@@ -28,11 +33,19 @@ impl<F: FarStore, K: TableName> Agent<F, K> {
         &self.pool
     }
 
+    /// What says that conversations were held.
+    pub(crate) fn conversations(&self) -> &Conversations<K> {
+        &self.conversations
+    }
+
     /// Gives the pool back.
     pub fn into_pool(self) -> Pool<F, K>
         ensures { result ≡ self.pool }
     {
-        let Agent { pool } = self;
+        let Agent {
+            pool,
+            conversations: _,
+        } = self;
         pool
     }
 }

@@ -1,8 +1,10 @@
 //! The threads of a service: one for each connection, its workers and its mover.
-ghost use Rattle.std.specs.Prelude.{◌≡◌, ◌+◌, true, length, map, IfOk};
+ghost use Rattle.std.specs.Prelude.{◌≡◌, ◌+◌, true, length, map, All, IfOk, IfSome, IfNone, OnOk, Err};
+ghost use Rattle.std.specs.Vec.Iter.{into_iter_items};
 ghost use Rattle.scopes.specs.Windows.{machine_limit};
 ghost use Rattle.workers.specs.TableNames.Passage.{Ran};
 ghost use Rattle.ship_service.specs.Closing.{Settles};
+ghost use Rattle.ship_service.specs.Conversed.{IsUnused, HadOneClient};
 ghost use Rattle.ship_service.specs.Opening.{first_mover_view};
 ghost use denote.Param.Send.{IsSend, IsSync};
 
@@ -11,16 +13,16 @@ use crate::connection::Connection;
 use crate::journal::Journal;
 use crate::serving::serve;
 use crate::shared_agent::Agent;
-use crossbeam_utils::CachePadded;
 use far_store::FarStore;
 use listener::{Door, accept};
 use std::alloc::{AllocError, Global};
 use std::marker::PhantomData;
 use std::net::{Shutdown, TcpStream};
+use std::sync::Wait;
 use std::sync::atomic::{AtomicBool, Ordering};
-use std::sync::{Mutex, Wait};
 use std::thread;
-use std::thread::{Promise, Threads};
+use std::thread::{Promise, PromisedHandle, SpawnError, Threads};
+use std::vec::IntoIter;
 use workers::{Gate, Moved, Mover, MoverEvent, Request, TableName, Upkeep, mover, work};
 
 /// Why a service ended before all its connections had.
@@ -42,37 +44,46 @@ pub struct Plan {
     pub upkeep: Upkeep,
 }
 
-/// The mover of a service whose loop has ended: it began with all objects here, and ended with what the mover is. Nothing else moves
-/// an object, since nobody has the mover but its loop, and then who closes.
-#[derive(Drop)]
-pub struct EndedMover<F: FarStore, K: TableName> {
-    mover: Mover<F, K>,
-    pub ghost ran: { K.lent (Ran (first_mover_view F.RETURNS K.opening) mover.view) ≡ true },
-}
-
-impl<F: FarStore + Drop, K: TableName> EndedMover<F, K> {
-    /// Closes the agent with it, and with these connections.
-    pub fn close(
-        self,
-        alloc: Global,
-        agent: Agent<F, K>,
-        connections: Vec<Connection<K>>,
-    ) -> Result<Closed<F>, AllocError>
-        requires all { K.seats ≡ machine_limit + length connections.items }
-        ensures { IfOk result (λ closed. Settles F.RETURNS K.table K.opening K.starts self.mover (map (λ c. c.post.seat) connections.items) closed) }
-    {
-        let EndedMover { mover } = self;
-        agent.close(alloc, connections, mover)
+impl From<AllocError> for ThreadFault {
+    fn from(_refused: AllocError) -> ThreadFault {
+        ThreadFault::Memory
     }
 }
 
-/// What a service leaves when all its threads have ended.
+/// What a service leaves when all its threads have ended: the mover, whose loop began with all objects here and ended with what the
+/// mover is, and all connections, each of which had one client, or none. Nothing else moved an object or used a connection, since nobody
+/// had them but their threads, and then who closes.
 #[derive(Drop)]
-pub struct Served<F: FarStore, K: TableName> {
-    /// All connections, those too that nobody came to.
-    pub connections: Vec<Connection<K>>,
-    /// The mover, once all connections have ended.
-    pub outcome: Result<EndedMover<F, K>, ThreadFault>,
+pub struct Ended<F: FarStore, K: TableName> {
+    mover: Mover<F, K>,
+    connections: Vec<Connection<K>>,
+    pub ghost ran: { K.lent (Ran (first_mover_view F.RETURNS K.opening) mover.view) ≡ true },
+    pub ghost clients: { All (λ c. HadOneClient K.table F.RETURNS K.opening K.lent c.session.seat) connections.items },
+}
+
+impl<F: FarStore + Drop, K: TableName> Ended<F, K> {
+    /// Closes the agent with them.
+    pub fn close(self, alloc: Global, agent: Agent<F, K>) -> Result<Closed<F>, AllocError>
+        requires all { K.seats ≡ machine_limit + length self.connections.items }
+        ensures { IfOk result (λ closed. Settles F.RETURNS K.table K.opening K.starts self.mover (map (λ c. c.session.seat) self.connections.items) closed) }
+    {
+        let Ended { mover, connections } = self;
+        agent.close(alloc, connections, mover)
+    }
+
+    /// The same with these connections too, which nobody came to.
+    fn and_unused(self, unused: Vec<Connection<K>>) -> Result<Self, AllocError>
+        requires { All (λ c. IsUnused K.table F.RETURNS K.opening c.session.seat) unused.items }
+        ensures { IfOk result (λ all. length all.connections.items ≡ length self.connections.items + length unused.items) }
+    {
+        let Ended {
+            mover,
+            mut connections,
+        } = self;
+        let mut others = unused;
+        connections.append(&mut others)?;
+        Ok(Ended { mover, connections })
+    }
 }
 
 /// Of a mover that comes back from its thread: its loop began with all objects here, and ended with what the mover is.
@@ -88,6 +99,21 @@ impl<F: FarStore, K: TableName> Promise<Mover<F, K>> for RanOnce<F, K> {
 
     ghost kept_by = { λ promise served. K.lent (Ran (first_mover_view F.RETURNS K.opening) served.view) ≡ true };
 }
+
+/// Of a connection that comes back from its thread: it had one client.
+#[derive(Drop)]
+struct ServedOne<F: FarStore, K: TableName> {
+    of: PhantomData<(F, K)>,
+}
+
+impl<F: FarStore, K: TableName> Promise<Connection<K>> for ServedOne<F, K> {
+    ghost use Rattle.ship_service.specs.Conversed.{HadOneClient};
+
+    ghost kept_by = { λ promise connection. HadOneClient K.table F.RETURNS K.opening K.lent connection.session.seat };
+}
+
+/// The thread of a connection.
+type Conversation<F, K> = PromisedHandle<Connection<K>, ServedOne<F, K>>;
 
 /// Lets workers and mover go on until it is told that the service ends. It passes moves on to a journal.
 #[derive(Drop)]
@@ -145,15 +171,12 @@ impl<'a, R: Wait, F: FarStore, K: TableName, J: Journal> Tools<'a, R, F, K, J> {
     }
 }
 
-/// A connection behind a lock. Neighbouring ones share no cache line, since each writes its seat and its line at every command.
-type Lock<K> = CachePadded<Mutex<Connection<K>>>;
-
-/// Where connections come from, and what serves them.
+/// Where clients come from, and the connections that serve them, one each.
 #[derive(Drop)]
-struct Front<'a, K: TableName> {
+struct Front<K: TableName> {
     alloc: Global,
     door: Door,
-    locks: &'a [Lock<K>],
+    connections: Vec<Connection<K>>,
     // the stream of the far store, if it has one
     far: Option<TcpStream>,
 }
@@ -162,11 +185,14 @@ struct Front<'a, K: TableName> {
 fn serve_client<R: Wait, F: FarStore, K: TableName, J: Journal>(
     tools: &Tools<R, F, K, J>,
     client: u64,
-    lock: &Lock<K>,
+    unused: Connection<K>,
     stream: TcpStream,
-) {
+) -> Connection<K>
+    requires { IsUnused K.table F.RETURNS K.opening unused.session.seat }
+    ensures { HadOneClient K.table F.RETURNS K.opening K.lent result.session.seat }
+{
     tools.gate.journal.came(client);
-    let mut connection = lock.lock(tools.rt);
+    let mut connection = unused;
     let mut reader = &stream;
     let mut writer = &stream;
     let outcome = serve(
@@ -178,18 +204,80 @@ fn serve_client<R: Wait, F: FarStore, K: TableName, J: Journal>(
     );
     let _ = stream.shutdown(Shutdown::Both);
     tools.gate.journal.went(client, outcome);
+    connection
 }
 
-/// Ends the connections of these streams.
-fn cut_off(streams: &[TcpStream]) {
+/// Ends the connections of these streams, for this fault.
+fn given_up<K: TableName>(
+    streams: &[TcpStream],
+    fault: ThreadFault,
+) -> Result<Vec<Connection<K>>, ThreadFault>
+    ensures { result ≡ Err fault }
+{
     for stream in streams {
         let _ = stream.shutdown(Shutdown::Both);
     }
+    Err(fault)
 }
 
-/// Accepts one client for each connection of the front, each served on a thread of its own, and waits for the ends of all.
-/// The listener is closed with the last of them, so that a client too many is refused at once. Where one can't be accepted, those
-/// that are there are cut off.
+/// The next connection of those that are left.
+fn next_unused<F: FarStore, K: TableName>(
+    left: &mut IntoIter<Connection<K>>,
+) -> Option<Connection<K>>
+    requires { All (λ c. IsUnused K.table F.RETURNS K.opening c.session.seat) (into_iter_items left.old) }
+    ensures some { IfSome result (λ next. IsUnused K.table F.RETURNS K.opening next.session.seat
+        × All (λ c. IsUnused K.table F.RETURNS K.opening c.session.seat) (into_iter_items left.new)
+        × (length (into_iter_items left.old) ≡ length (into_iter_items left.new) + 1)) }
+    ensures none { IfNone result (length (into_iter_items left.old) ≡ 0) }
+{
+    left.next()
+}
+
+/// The stream of the next client, of which another handle is added to these.
+fn next_client<R: Wait>(
+    rt: &R,
+    door: &Door,
+    streams: &mut Vec<TcpStream>,
+) -> Result<TcpStream, ThreadFault> {
+    let Ok((stream, shown)) = accept(rt, door) else {
+        return Err(ThreadFault::Net);
+    };
+    match streams.push(shown) {
+        Ok(()) => Ok(stream),
+        Err(_) => Err(ThreadFault::Memory),
+    }
+}
+
+/// Adds a conversation to these, if its thread could be made.
+fn note<F: FarStore, K: TableName, C: Drop>(
+    conversations: &mut Vec<Conversation<F, K>>,
+    begun: Result<Conversation<F, K>, SpawnError<C>>,
+) -> Result<(), AllocError>
+    ensures { OnOk result (length conversations.new.items ≡ length conversations.old.items + 1) }
+{
+    conversations.push(begun?)?;
+    Ok(())
+}
+
+/// The connections of these threads, once these have ended.
+fn joined<F: FarStore, K: TableName, R: Threads>(
+    rt: &R,
+    alloc: Global,
+    conversations: Vec<Conversation<F, K>>,
+) -> Result<Vec<Connection<K>>, AllocError>
+    ensures all { IfOk result (λ ended. length ended.items ≡ length conversations.items) }
+    ensures clients { IfOk result (λ ended. All (λ c. HadOneClient K.table F.RETURNS K.opening K.lent c.session.seat) ended.items) }
+{
+    let mut ended = Vec::new(alloc);
+    for conversation in conversations {
+        ended.push(conversation.join(rt))?;
+    }
+    Ok(ended)
+}
+
+/// Accepts one client for each of these connections, each served on a thread of its own, and waits for the ends of all, which give the
+/// connections back. The listener is closed with the last of them, so that a client too many is refused at once. Where one can't be
+/// accepted, those that are there are cut off.
 fn serve_clients<
     F: FarStore + Send + Sync,
     K: TableName + Send + Sync,
@@ -199,37 +287,53 @@ fn serve_clients<
     tools: &Tools<R, F, K, J>,
     alloc: Global,
     door: Door,
-    locks: &[Lock<K>],
-) -> Result<(), ThreadFault>
+    connections: Vec<Connection<K>>,
+) -> Result<Vec<Connection<K>>, ThreadFault>
 where
     F::Parcel: Send,
+    requires { All (λ c. IsUnused K.table F.RETURNS K.opening c.session.seat) connections.items }
+    ensures all { IfOk result (λ ended. length ended.items ≡ length connections.items) }
+    ensures clients { IfOk result (λ ended. All (λ c. HadOneClient K.table F.RETURNS K.opening K.lent c.session.seat) ended.items) }
 {
     thread::scope(
         thread::scope_env(),
         tools.rt,
-        |scope| -> Result<(), ThreadFault>
-            requires { IsSend K.row × IsSync R.row × IsSync J.row }
+        |scope| -> Result<Vec<Connection<K>>, ThreadFault>
+            requires send { IsSend K.row × IsSync R.row × IsSync J.row }
+            requires unused { All (λ c. IsUnused K.table F.RETURNS K.opening c.session.seat) connections.items }
+            ensures all { IfOk result (λ ended. length ended.items ≡ length connections.items) }
+            ensures clients { IfOk result (λ ended. All (λ c. HadOneClient K.table F.RETURNS K.opening K.lent c.session.seat) ended.items) }
         {
+            let count = connections.len();
+            let Ok(mut conversations) = Vec::with_capacity(alloc, count) else {
+                return Err(ThreadFault::Memory);
+            };
             let mut streams = Vec::new(alloc);
             let mut client: u64 = 0;
-            for lock in locks {
-                let Ok((stream, shown)) = accept(tools.rt, &door) else {
-                    cut_off(&streams);
-                    return Err(ThreadFault::Net);
+            let mut left = connections.into_iter();
+            'clients: while let Some(connection) = next_unused::<F, K>(&mut left) {
+                let stream = match next_client(tools.rt, &door, &mut streams) {
+                    Ok(stream) => stream,
+                    Err(fault) => return given_up(&streams, fault),
                 };
                 client = client.wrapping_add(1);
-                let room = streams.push(shown).is_ok();
-                if !room
-                    || scope
-                        .spawn(move || serve_client(tools, client, lock, stream))
-                        .is_err()
-                {
-                    cut_off(&streams);
-                    return Err(ThreadFault::Memory);
+                let promise: ServedOne<F, K> = ServedOne { of: PhantomData };
+                let begun = scope.spawn_with(
+                    promise,
+                    move || -> Connection<K>
+                        requires { IsUnused K.table F.RETURNS K.opening connection.session.seat }
+                        ensures { HadOneClient K.table F.RETURNS K.opening K.lent result.session.seat }
+                    { serve_client(tools, client, connection, stream) },
+                );
+                if note(&mut conversations, begun).is_err() {
+                    return given_up(&streams, ThreadFault::Memory);
                 }
             }
             drop(door);
-            Ok(())
+            match joined(tools.rt, alloc, conversations) {
+                Ok(ended) => Ok(ended),
+                Err(_) => given_up(&streams, ThreadFault::Memory),
+            }
         },
     )
 }
@@ -259,27 +363,37 @@ fn move_objects<R: Wait, F: FarStore, K: TableName, J: Journal>(
     served
 }
 
-/// Serves clients beside so many workers, which end with the last connection, as the mover does.
+/// Serves clients beside so many workers, which end with the last connection, as the mover does, and gives the connections back.
 fn serve_beside_workers<
     F: FarStore + Send + Sync,
     K: TableName + Send + Sync,
     R: Threads + Wait + Sync,
     J: Journal + Sync,
->(tools: &Tools<R, F, K, J>, front: Front<K>, workers: usize) -> Result<(), ThreadFault>
+>(
+    tools: &Tools<R, F, K, J>,
+    front: Front<K>,
+    workers: usize,
+) -> Result<Vec<Connection<K>>, ThreadFault>
 where
     F::Parcel: Send,
+    requires { All (λ c. IsUnused K.table F.RETURNS K.opening c.session.seat) front.connections.items }
+    ensures all { IfOk result (λ ended. length ended.items ≡ length front.connections.items) }
+    ensures clients { IfOk result (λ ended. All (λ c. HadOneClient K.table F.RETURNS K.opening K.lent c.session.seat) ended.items) }
 {
     let Front {
         alloc,
         door,
-        locks,
+        connections,
         far,
     } = front;
     thread::scope(
         thread::scope_env(),
         tools.rt,
-        |scope| -> Result<(), ThreadFault>
-            requires { IsSend F.row × IsSend K.row × IsSend F.Parcel.row × IsSync R.row × IsSync J.row }
+        |scope| -> Result<Vec<Connection<K>>, ThreadFault>
+            requires send { IsSend F.row × IsSend K.row × IsSend F.Parcel.row × IsSync R.row × IsSync J.row }
+            requires unused { All (λ c. IsUnused K.table F.RETURNS K.opening c.session.seat) connections.items }
+            ensures all { IfOk result (λ ended. length ended.items ≡ length connections.items) }
+            ensures clients { IfOk result (λ ended. All (λ c. HadOneClient K.table F.RETURNS K.opening K.lent c.session.seat) ended.items) }
         {
             for worker in 0..workers {
                 if scope.spawn(move || step_machines(tools, worker)).is_err() {
@@ -287,14 +401,14 @@ where
                     return Err(ThreadFault::Memory);
                 }
             }
-            let outcome = serve_clients(tools, alloc, door, locks);
+            let outcome = serve_clients(tools, alloc, door, connections);
             tools.end(&far);
             outcome
         },
     )
 }
 
-/// Serves clients beside the mover and so many workers, and gives the mover back.
+/// Serves clients beside the mover and so many workers, and gives the mover and the connections back.
 fn serve_beside_mover<
     F: FarStore + Drop + Send + Sync,
     K: TableName + Send + Sync,
@@ -305,68 +419,57 @@ fn serve_beside_mover<
     front: Front<K>,
     first: Mover<F, K>,
     workers: usize,
-) -> Result<Mover<F, K>, ThreadFault>
+) -> Result<Ended<F, K>, ThreadFault>
 where
     F::Parcel: Send,
-    requires { first.view ≡ first_mover_view F.RETURNS K.opening }
-    ensures { IfOk result (λ served. K.lent (Ran (first_mover_view F.RETURNS K.opening) served.view) ≡ true) }
+    requires first { first.view ≡ first_mover_view F.RETURNS K.opening }
+    requires unused { All (λ c. IsUnused K.table F.RETURNS K.opening c.session.seat) front.connections.items }
+    ensures { IfOk result (λ ended. length ended.connections.items ≡ length front.connections.items) }
 {
     thread::scope(
         thread::scope_env(),
         tools.rt,
-        |scope| -> Result<Mover<F, K>, ThreadFault>
+        |scope| -> Result<Ended<F, K>, ThreadFault>
             requires send { IsSend F.row × IsSend K.row × IsSend F.Parcel.row × IsSync R.row × IsSync J.row }
             requires first { first.view ≡ first_mover_view F.RETURNS K.opening }
-            ensures { IfOk result (λ served. K.lent (Ran (first_mover_view F.RETURNS K.opening) served.view) ≡ true) }
+            requires unused { All (λ c. IsUnused K.table F.RETURNS K.opening c.session.seat) front.connections.items }
+            ensures { IfOk result (λ ended. length ended.connections.items ≡ length front.connections.items) }
         {
             let promise: RanOnce<F, K> = RanOnce { of: PhantomData };
             let Ok(moving) = scope.spawn_with(promise, move || move_objects(tools, first)) else {
                 return Err(ThreadFault::Memory);
             };
             let outcome = serve_beside_workers(tools, front, workers);
-            let served = moving.join(tools.rt);
+            let mover = moving.join(tools.rt);
             match outcome {
-                Ok(()) => Ok(served),
+                Ok(connections) => Ok(Ended { mover, connections }),
                 Err(fault) => Err(fault),
             }
         },
     )
 }
 
-/// Each connection behind a lock of its own.
-fn locked<K: TableName>(
-    alloc: Global,
+/// The first so many of these connections, and the others.
+fn parted<F: FarStore, K: TableName>(
     connections: Vec<Connection<K>>,
-) -> Result<Vec<Lock<K>>, AllocError>
-    ensures { IfOk result (λ locks. length locks.items ≡ length connections.items) }
+    count: usize,
+) -> Result<(Vec<Connection<K>>, Vec<Connection<K>>), AllocError>
+    requires { All (λ c. IsUnused K.table F.RETURNS K.opening c.session.seat) connections.items }
+    ensures first { IfOk result (λ parts. All (λ c. IsUnused K.table F.RETURNS K.opening c.session.seat) parts.0.items) }
+    ensures others { IfOk result (λ parts. All (λ c. IsUnused K.table F.RETURNS K.opening c.session.seat) parts.1.items) }
+    ensures all { IfOk result (λ parts. length parts.0.items + length parts.1.items ≡ length connections.items) }
 {
-    let mut locks = Vec::new(alloc);
-    for connection in connections {
-        locks.push(CachePadded::new(Mutex::new(connection)))?;
-    }
-    Ok(locks)
-}
-
-/// The connections without their locks, which nobody holds.
-fn unlocked<K: TableName>(
-    alloc: Global,
-    locks: Vec<Lock<K>>,
-) -> Result<Vec<Connection<K>>, AllocError>
-    ensures { IfOk result (λ connections. length connections.items ≡ length locks.items) }
-{
-    let mut connections = Vec::new(alloc);
-    for lock in locks {
-        connections.push(lock.into_inner().into_inner())?;
-    }
-    Ok(connections)
+    let mut first = connections;
+    let most = count.min(first.len());
+    let others = first.split_off(most)?;
+    Ok((first, others))
 }
 
 /// Serves as many clients as are planned, one after another as they come and each on a thread of its own, beside workers and
 /// mover, until all have ended. Where a client can't be accepted or a thread can't be made, those that are there are cut off. A move
 /// that still waits for the far store then is cut off by `far`, which is its stream, if it has one.
-/// The journal is told of clients and moves. All threads have ended then, so agent and mover can be closed, with all
-/// connections, which come back. The mover comes back if all clients were served: its loop began with all objects here, and nobody
-/// else used it. Out of memory is an error before the first thread or after the last, and drops them.
+/// The journal is told of clients and moves. All threads have ended then, so the agent can be closed with what they leave.
+/// Out of memory is an error, after which those that are there are cut off.
 pub fn serve_all<
     F: FarStore + Drop + Send + Sync,
     K: TableName + Send + Sync,
@@ -382,13 +485,13 @@ pub fn serve_all<
     far: Option<TcpStream>,
     plan: Plan,
     journal: &J,
-) -> Result<Served<F, K>, AllocError>
+) -> Result<Ended<F, K>, ThreadFault>
 where
     F::Parcel: Send,
-    requires { first.view ≡ first_mover_view F.RETURNS K.opening }
-    ensures { IfOk result (λ served. length served.connections.items ≡ length connections.items) }
+    requires first { first.view ≡ first_mover_view F.RETURNS K.opening }
+    requires unused { All (λ c. IsUnused K.table F.RETURNS K.opening c.session.seat) connections.items }
+    ensures { IfOk result (λ ended. length ended.connections.items ≡ length connections.items) }
 {
-    let locks = locked(alloc, connections)?;
     let gate = UntilEnd::new(journal);
     let tools = Tools {
         rt,
@@ -396,19 +499,13 @@ where
         agent,
         upkeep: plan.upkeep,
     };
+    let (connections, unused) = parted::<F, K>(connections, plan.connections)?;
     let front = Front {
         alloc,
         door,
-        locks: &locks[..plan.connections.min(locks.len())],
+        connections,
         far,
     };
-    let outcome = match serve_beside_mover(&tools, front, first, plan.workers) {
-        Ok(mover) => Ok(EndedMover { mover }),
-        Err(fault) => Err(fault),
-    };
-    let connections = unlocked(alloc, locks)?;
-    Ok(Served {
-        connections,
-        outcome,
-    })
+    let ended = serve_beside_mover(&tools, front, first, plan.workers)?;
+    Ok(ended.and_unused(unused)?)
 }

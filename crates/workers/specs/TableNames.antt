@@ -1,6 +1,7 @@
 -- What a name says of its table.
-use Rattle.std.specs.Prelude.{◌≡◌, ◌≤◌, ℕ, Bool, true, []}
+use Rattle.std.specs.Prelude.{◌≡◌, ◌≤◌, ℕ, Bool, true, List, [], Option}
 use Rattle.atomic_table.specs.Seated.{TableId}
+use Rattle.shared_objects.specs.declared.seats.ActorSeat.{ActorSeat}
 use Rattle.shared_objects.specs.declared.view.View.{View}
 use Rattle.workers.specs.Cells.{CellState}
 
@@ -8,7 +9,7 @@ use Rattle.workers.specs.Cells.{CellState}
 abbrev pub no_table : TableId
 no_table = record { words = 0; slots = 0; views_name = 0; atom = 0; block = 0; offset = 0; slot_names = [] }
 
--- What passes at the locks of cells, and in the mover's thread.
+-- What passes at the locks of cells, in the mover's thread, and in conversations.
 pub data Passage : Type 0 where
   -- the cell of this number was lent with a machine in it
   Machine : ℕ → Passage
@@ -18,9 +19,12 @@ pub data Passage : Type 0 where
   Leaves : CellState → Passage
   -- the mover's loop began when its seat knew this, and ended when it knew that
   Ran : View → View → Passage
+  -- A conversation that read these bytes, where they were known beforehand, began when its seat was the one, and ended when it was the
+  -- other. Of a network's stream no bytes are known.
+  Conversed : Option (List ℕ) → ActorSeat → ActorSeat → Passage
 
 -- Each passage came to pass. A call that opens a table picks this for the table's name, and tells nobody who serves: so who
--- says that one did has it from the lock, or from the loop.
+-- says that one did has it from the lock, from the loop, or from the end of the conversation.
 abbrev pub each_lent : Passage → Bool
 each_lent p = true
 

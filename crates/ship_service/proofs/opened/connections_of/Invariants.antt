@@ -5,6 +5,6 @@ use Rattle.workers.specs.Cells.{IsSeatOf}
 use Rattle.ship_service.proofs.opened.connections_of.Given as goal
 
 abbrev pub invariant-loop-seat : goal.invariant-loop-seat
-invariant-loop-seat g l = (map (λ c. c.post.seat) l.connections.items ++ into_iter_items l.seat-iterator ≡ l.fn.seats.items)
+invariant-loop-seat g l = (map (λ c. c.session.seat) l.connections.items ++ into_iter_items l.seat-iterator ≡ l.fn.seats.items)
     × All (IsSeatOf g.K.TableName.table g.K.TableName.opening) (into_iter_items l.seat-iterator)
     × All (λ c. c.console ≡ nothing_held) l.connections.items

@@ -1,5 +1,5 @@
 use Rattle.std.proofs.Common.{◌≡◌, ℕ, suc, ◌+◌, ◌∙◌, subst, arith}
-use Rattle.workers.specs.Cells.{seat_state, SeatState}
+use Rattle.workers.specs.Cells.{seat_state}
 use Rattle.ship_service.specs.Served.{TakesTurns}
 use Rattle.ship_service.proofs.turns.take_turns.Goals as goal
 

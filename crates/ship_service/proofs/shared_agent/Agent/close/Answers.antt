@@ -24,7 +24,7 @@ close-requires-clause-actors g c =
 pub returns : goal.returns
 returns g c =
     let e = c.in_ok-shared.ensures in let m = c.into_parts-seat.ensures in let was : View = c.into_parts-seat.result.0.seat.me.0 in
-    let first : List ActorSeat = c.in_ok-shared.field-0.seats.items in let others : List ActorSeat = map (λ x. x.post.seat) c.args.connections.items in
+    let first : List ActorSeat = c.in_ok-shared.field-0.seats.items in let others : List ActorSeat = map (λ x. x.session.seat) c.args.connections.items in
     let before : List (List ℕ) = table_opening c.in_ok-shared.field-0.shared.table in let objects = c.in_ok-objects.objects.items in
     let R = g.F.FarStore.RETURNS in
     let parcels = map (parcel_bytes g.F.FarStore.bytes_in) c.into_parts-seat.result.2.items in

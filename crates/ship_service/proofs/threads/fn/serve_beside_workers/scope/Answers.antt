@@ -5,4 +5,4 @@ use Rattle.ship_service.proofs.threads.fn.serve_beside_workers.scope.Goals as go
 
 pub spawn-requires-send-F : goal.spawn-requires-send-F
 spawn-requires-send-F g c κs within =
-    let r = c.requires.3 in let j = c.requires.4 in search (agent_sync, sendable, crosses) depth 60 fits 20000
+    let r = c.requires.send.3 in let j = c.requires.send.4 in search (agent_sync, sendable, crosses) depth 60 fits 20000

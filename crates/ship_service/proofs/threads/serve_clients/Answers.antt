@@ -1,0 +1,5 @@
+use Rattle.std.proofs.Common.{rules}
+use Rattle.ship_service.proofs.threads.serve_clients.Goals as goal
+
+pub scoped-requires : goal.scoped-requires
+scoped-requires g c = record { at = λ a. (search rules, (c.requires, search rules)) }
