@@ -2,7 +2,6 @@ pub mod Apart
 pub mod Asked
 pub mod Listed
 pub mod Objects_kept
-pub mod Wording
 pub mod Counting
 pub mod Keeping
 pub mod Returning

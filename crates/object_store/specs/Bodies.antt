@@ -1,8 +1,5 @@
 -- Objects as a store keeps them: more than its callers see of them, and what is always true of it.
 use Rattle.std.specs.Prelude.{◌≡◌, ℕ, ◌+◌, ◌-◌, Bool, true, false, cond, List, [], length, map, get_or, set, Option, Some, None, is_some}
-use Rattle.pointer_word.specs.declared.word.WordPlace.{WordPlace}
-use Rattle.pointer_word.specs.declared.word.WordPlace.TheVariants.{Local, Moving, Far as WordFar}
-use Rattle.pointer_word.specs.Words.{WordRecord}
 use Rattle.placement.specs.declared.places.Place.{Place}
 use Rattle.placement.specs.declared.places.Place.TheVariants.{Here, Leaving, Far, Returning}
 use Rattle.memory.specs.Objects.{AreObjects}
@@ -28,47 +25,35 @@ abbrev pub sent : {P : Type 0} → (P → List ℕ) → Option P → List ℕ
 sent stands_for None = []
 sent stands_for (Some p) = stands_for p
 
--- the bytes of an object that is out, or isn't
-abbrev pub contents : {P : Type 0} → (P → List ℕ) → Bool → List ℕ → Option P → List ℕ
-contents stands_for out bytes parcel = cond out (sent stands_for parcel) bytes
+-- the far store alone has the bytes of an object in this place
+abbrev pub is_out : Place → Bool
+is_out Here = false
+is_out Leaving = false
+is_out Far = true
+is_out Returning = true
 
--- its place, by its word and whether its bytes are out
-abbrev pub place_of_word : Bool → WordPlace → Place
-place_of_word out Local = Here
-place_of_word false Moving = Leaving
-place_of_word true Moving = Returning
-place_of_word out WordFar = Far
+-- the bytes of an object in this place
+abbrev pub contents : {P : Type 0} → (P → List ℕ) → Place → List ℕ → Option P → List ℕ
+contents stands_for place bytes parcel = cond (is_out place) (sent stands_for parcel) bytes
 
--- The mark that the bytes are out fits the word. A word doesn't tell the two ways of a move apart; this mark does.
-abbrev pub FitsWord : Bool → WordPlace → Type 0
-FitsWord out Local = out ≡ false
-FitsWord out Moving = Unit {0}
-FitsWord out WordFar = out ≡ true
-
--- An object as it is always kept, by its fields: its word, how many bytes it has, the bytes that are here, for how many of them
--- memory is taken, its parcel, and its two marks: the far store alone has its bytes (out), its parcel stands for them (clean).
+-- An object as it is always kept, by its fields: how many bytes it has, the bytes that are here, for how many of them memory is
+-- taken, its parcel, its place, and the mark that its parcel stands for its bytes (clean).
 pub record IsKept {P : Type 0} (stands_for : P
-    → List ℕ) (word : WordRecord) (count : ℕ) (bytes : List ℕ) (memory : ℕ) (parcel : Option P) (out clean : Bool) : Type 0 where
-  -- An object that is here isn't out, and one that is far is. One on its way may be either, which tells the way.
-  pub fits : FitsWord out word.place
-  -- Turns, heat and stamps are for objects that threads share, so the word of this one never has any.
-  pub no_turn : word.turn ≡ false
-  pub no_hot : word.hot ≡ false
-  pub no_stamp : word.stamp ≡ 0
+    → List ℕ) (count : ℕ) (bytes : List ℕ) (memory : ℕ) (parcel : Option P) (place : Place) (clean : Bool) : Type 0 where
   -- the length that is kept is that of its bytes, wherever they are
-  pub length_is : length (contents stands_for out bytes parcel) ≡ count
+  pub length_is : length (contents stands_for place bytes parcel) ≡ count
   -- a number without bytes keeps no parcel
   pub freed : count ≡ 0 → is_some parcel ≡ false
   -- nor does it take memory
   pub gone : count ≡ 0 → memory ≡ 0
   -- an object that is out takes no memory here
-  pub away : out ≡ true → memory ≡ 0
+  pub away : is_out place ≡ true → memory ≡ 0
   -- it has a parcel, which alone leads to its bytes
-  pub sent_out : out ≡ true → is_some parcel ≡ true
+  pub sent_out : is_out place ≡ true → is_some parcel ≡ true
   -- only an object with a parcel is clean
   pub kept_clean : clean ≡ true → is_some parcel ≡ true
   -- and its parcel stands for its bytes as they are
-  pub same_clean : clean ≡ true → sent stands_for parcel ≡ contents stands_for out bytes parcel
+  pub same_clean : clean ≡ true → sent stands_for parcel ≡ contents stands_for place bytes parcel
 
 -- What it is once its bytes came back: the same, and clean, or, where the store doesn't promise that, as many.
 abbrev pub ReturnsTo : Bool → Kept → Kept → Type 0
@@ -119,7 +104,7 @@ grown n counts = set counts n (get_or counts n 0 + 1)
 pub record IsKeptStore (bodies : List Kept) (windows : List (List ℕ)) (budget spare : ℕ) : Type 0 where
   -- number 0 is no object, and neither the count nor a length is above its limit
   pub objects : AreObjects (map bytes_in bodies)
-  -- the count in each word is that of the windows that hold the object
+  -- the count of each object is that of the windows that hold it
   pub counts : CountsHold (map scopes_in bodies) windows
   -- a window for each machine, and one at number 0
   pub windows_are : length windows ≡ window_count

@@ -1,4 +1,4 @@
-//! What is kept of one object: its word, its bytes, and the parcel that stands for them in the far store.
+//! What is kept of one object: its place, its bytes, and the parcel that stands for them in the far store.
 ghost use Rattle.std.specs.Prelude.{◌≡◌, ◌<◌, ◌≤◌, ◌+◌, ◌-◌, [], true, false, ◌∷◌, ◌++◌, Some, None, Ok, is_some, length, IfOk, IfErr, OnOk, OnErr, IsOk, take};
 ghost use Rattle.std.specs.Prelude.{drop, vec_capacity};
 ghost use Rattle.memory.specs.Access.{IsInside, answer, after, replaced};
@@ -10,7 +10,6 @@ ghost use Rattle.object_store.specs.Asking.{forgets, leave_calls, clean_after};
 ghost use Rattle.far_store.specs.Calls.Call.{Put, Get};
 ghost use Rattle.far_store.specs.Calls.{Calls, parcel_of, AsksInVain};
 ghost use Rattle.placement.specs.declared.places.Place.TheVariants as place;
-ghost use Rattle.pointer_word.specs.declared.word.WordPlace.TheVariants.{Local, Moving, Far};
 
 mod handing;
 mod lending;
@@ -18,7 +17,6 @@ mod lending;
 use far_store::{FarStore, StoreFault};
 use memory::{Action, Op, act, overwrite};
 use placement::Place;
-use pointer_word::{Word, WordPlace};
 use std::alloc::{AllocError, Global};
 use std::marker::Model;
 use std::mem;
@@ -31,82 +29,33 @@ use std::mem;
 /// bytes here.
 #[derive(Drop)]
 pub struct ObjectBody<F: FarStore> {
-    word: Word,
     // wherever its bytes are
     length: usize,
     // none where it is out
     bytes: Vec<u8>,
     parcel: Option<F::Parcel>,
-    // the far store alone has its bytes
-    out: bool,
+    place: Place,
+    // how many windows hold it
+    scopes: u8,
     clean: bool,
 }
 
 impl<F: FarStore> Model for ObjectBody<F> {
     ghost use Rattle.std.specs.Prelude.{vec_capacity};
     ghost use Rattle.far_store.specs.Stores.{parcel_bytes};
-    ghost use Rattle.object_store.specs.Bodies.{Kept, IsKept, contents, place_of_word};
+    ghost use Rattle.object_store.specs.Bodies.{Kept, IsKept, contents};
 
     ghost Value = { Kept };
 
     ghost view = { λ b. record {
-      bytes = contents F.bytes_in b.out b.bytes.items b.parcel;
-      place = place_of_word b.out b.word.place;
-      scopes = b.word.count;
+      bytes = contents F.bytes_in b.place b.bytes.items b.parcel;
+      place = b.place;
+      scopes = b.scopes;
       parcel = parcel_bytes F.bytes_in b.parcel;
       clean = b.clean;
     } };
 
-    ghost invariant = { λ b. IsKept F.bytes_in b.word b.length b.bytes.items (vec_capacity b.bytes) b.parcel b.out b.clean };
-}
-
-/// Its object was here, and is on its way.
-#[tactic(auto, using(crate::proofs::Wording::word_steps))]
-fn leave_here(word: &mut Word)
-    requires here { word.old.place ≡ Local }
-    requires alone { (word.old.count ≡ 0) × (word.old.turn ≡ false) }
-    ensures { word.new ≡ record word.old { place = Moving; hot = false } }
-{
-    match word.leaving() {
-        Some(next) => *word = next,
-        None => unreachable!(),
-    }
-}
-
-/// Its object was on its way, and is far.
-#[tactic(auto, using(crate::proofs::Wording::word_steps))]
-fn reach_far(word: &mut Word)
-    requires moving { word.old.place ≡ Moving }
-    ensures { word.new ≡ record word.old { place = Far } }
-{
-    match word.left() {
-        Some(next) => *word = next,
-        None => unreachable!(),
-    }
-}
-
-/// Its object was far, and is on its way.
-#[tactic(auto, using(crate::proofs::Wording::word_steps))]
-fn leave_far(word: &mut Word)
-    requires far { word.old.place ≡ Far }
-    ensures { word.new ≡ record word.old { place = Moving } }
-{
-    match word.returning() {
-        Some(next) => *word = next,
-        None => unreachable!(),
-    }
-}
-
-/// Its object was on its way, and is here.
-#[tactic(auto, using(crate::proofs::Wording::word_steps))]
-fn reach_here(word: &mut Word)
-    requires moving { word.old.place ≡ Moving }
-    ensures { word.new ≡ record word.old { place = Local } }
-{
-    match word.home() {
-        Some(next) => *word = next,
-        None => unreachable!(),
-    }
+    ghost invariant = { λ b. IsKept F.bytes_in b.length b.bytes.items (vec_capacity b.bytes) b.parcel b.place b.clean };
 }
 
 /// Lets go of a parcel, if there is one.
@@ -184,11 +133,11 @@ impl<F: FarStore> ObjectBody<F> {
         ensures { result ≡ record { bytes = []; place = place.Here; scopes = 0; parcel = None; clean = false } }
     {
         ObjectBody {
-            word: Word::new(),
             length: 0,
             bytes: Vec::new(alloc),
             parcel: None,
-            out: false,
+            place: Place::Here,
+            scopes: 0,
             clean: false,
         }
     }
@@ -199,11 +148,11 @@ impl<F: FarStore> ObjectBody<F> {
         ensures { result ≡ record { bytes = bytes.items; place = place.Here; scopes = 0; parcel = None; clean = false } }
     {
         ObjectBody {
-            word: Word::new(),
             length: bytes.len(),
             bytes,
             parcel: None,
-            out: false,
+            place: Place::Here,
+            scopes: 0,
             clean: false,
         }
     }
@@ -221,17 +170,7 @@ impl<F: FarStore> ObjectBody<F> {
     pub fn place(&self) -> Place
         ensures { result ≡ self.now.place }
     {
-        match self.word.place() {
-            WordPlace::Local => Place::Here,
-            WordPlace::Far => Place::Far,
-            WordPlace::Moving => {
-                if self.out {
-                    Place::Returning
-                } else {
-                    Place::Leaving
-                }
-            }
-        }
+        self.place
     }
 
     /// Whether it may be reached.
@@ -240,14 +179,14 @@ impl<F: FarStore> ObjectBody<F> {
         ensures here { result ≡ true → self.now.place ≡ place.Here }
         ensures away { result ≡ false → self.now.place ≡ place.Here → ⊥ }
     {
-        self.word.is_local()
+        matches!(self.place, Place::Here)
     }
 
     /// How many windows hold it.
     pub fn scopes(&self) -> u8
         ensures { result ≡ self.now.scopes }
     {
-        self.word.scopes()
+        self.scopes
     }
 
     /// Does an access.
@@ -299,7 +238,7 @@ impl<F: FarStore> ObjectBody<F> {
         requires { self.old.scopes < 255 }
         ensures { self.new ≡ record self.old { scopes = self.old.scopes + 1 } }
     {
-        self.word.open_scope();
+        self.scopes += 1;
     }
 
     /// One window fewer holds it.
@@ -308,7 +247,7 @@ impl<F: FarStore> ObjectBody<F> {
         requires { 0 < self.old.scopes }
         ensures { self.new ≡ record self.old { scopes = self.old.scopes - 1 } }
     {
-        self.word.close_scope();
+        self.scopes -= 1;
     }
 
     /// It is no object any more.
@@ -345,7 +284,7 @@ impl<F: FarStore> ObjectBody<F> {
         requires alone { self.old.scopes ≡ 0 }
         ensures { self.new ≡ record self.old { place = place.Leaving } }
     {
-        leave_here(&mut self.word);
+        self.place = Place::Leaving;
     }
 
     /// Its bytes go to the far store, unless its parcel stands for them.
@@ -363,11 +302,10 @@ impl<F: FarStore> ObjectBody<F> {
         if self.clean {
             self.bytes = Vec::new(alloc);
         } else if let Err(fault) = send(alloc, store, &mut self.parcel, &mut self.bytes) {
-            reach_here(&mut self.word);
+            self.place = Place::Here;
             return Err(fault);
         }
-        self.out = true;
-        reach_far(&mut self.word);
+        self.place = Place::Far;
         Ok(())
     }
 
@@ -376,7 +314,7 @@ impl<F: FarStore> ObjectBody<F> {
         requires far { self.old.place ≡ place.Far }
         ensures { self.new ≡ record self.old { place = place.Returning } }
     {
-        leave_far(&mut self.word);
+        self.place = Place::Returning;
     }
 
     /// Its bytes come from the far store, and its parcel is kept.
@@ -397,13 +335,12 @@ impl<F: FarStore> ObjectBody<F> {
         match fetched {
             Ok(bytes) => {
                 self.bytes = bytes;
-                self.out = false;
                 self.clean = F::RETURNS;
-                reach_here(&mut self.word);
+                self.place = Place::Here;
                 Ok(())
             }
             Err(fault) => {
-                reach_far(&mut self.word);
+                self.place = Place::Far;
                 Err(fault)
             }
         }

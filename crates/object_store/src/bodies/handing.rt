@@ -9,8 +9,9 @@ ghost use Rattle.far_store.specs.Calls.{Calls, parcel_of, AsksInVain};
 ghost use Rattle.placement.specs.declared.places.Place.TheVariants as place;
 ghost use Rattle.far_store.specs.declared.fault.StoreFault.TheVariants.{Damaged};
 
-use super::{ObjectBody, forget_kept, leave_far, reach_far, reach_here};
+use super::{ObjectBody, forget_kept};
 use far_store::{FarStore, HandsOut, StoreFault};
+use placement::Place;
 use std::alloc::Global;
 
 /// Makes a parcel for bytes that the caller keeps, and lets go of an older one first.
@@ -50,7 +51,10 @@ impl<F: FarStore> ObjectBody<F> {
         ensures far { result ≡ None → self.now.place ≢ place.Far }
         ensures returning { result ≡ None → self.now.place ≢ place.Returning }
     {
-        if self.out { self.parcel.as_ref() } else { None }
+        match self.place {
+            Place::Far | Place::Returning => self.parcel.as_ref(),
+            Place::Here | Place::Leaving => None,
+        }
     }
 
     /// It is no object any more, and was far.
@@ -62,10 +66,8 @@ impl<F: FarStore> ObjectBody<F> {
     {
         forget_kept(store, &mut self.parcel);
         self.clean = false;
-        self.out = false;
         self.length = 0;
-        leave_far(&mut self.word);
-        reach_here(&mut self.word);
+        self.place = Place::Here;
     }
 }
 
@@ -85,8 +87,7 @@ impl<F: HandsOut> ObjectBody<F> {
             send_out(store, &mut self.parcel, &self.bytes);
         }
         self.bytes = Vec::new(alloc);
-        self.out = true;
-        reach_far(&mut self.word);
+        self.place = Place::Far;
     }
 
     /// Its bytes come from the caller, and its parcel is kept.
@@ -111,13 +112,12 @@ impl<F: HandsOut> ObjectBody<F> {
         match taken {
             Ok(bytes) => {
                 self.bytes = bytes;
-                self.out = false;
                 self.clean = true;
-                reach_here(&mut self.word);
+                self.place = Place::Here;
                 Ok(())
             }
             Err(fault) => {
-                reach_far(&mut self.word);
+                self.place = Place::Far;
                 Err(fault)
             }
         }

@@ -4,7 +4,7 @@ ghost use Rattle.placement.specs.declared.places.Place.TheVariants as place;
 
 use super::ObjectBody;
 use far_store::FarStore;
-use pointer_word::Word;
+use placement::Place;
 use std::alloc::Global;
 use std::mem;
 
@@ -16,11 +16,11 @@ impl<F: FarStore> ObjectBody<F> {
         ensures left { self.new ≡ record { bytes = []; place = place.Here; scopes = self.old.scopes; parcel = None; clean = false } }
     {
         ObjectBody {
-            word: Word::new(),
             length: mem::replace(&mut self.length, 0),
             bytes: mem::replace(&mut self.bytes, Vec::new(alloc)),
             parcel: self.parcel.take(),
-            out: false,
+            place: Place::Here,
+            scopes: 0,
             clean: mem::replace(&mut self.clean, false),
         }
     }
