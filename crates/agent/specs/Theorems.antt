@@ -181,17 +181,17 @@ pub record OneLegalHistory : Type 0 where
 -- ---- 5. The closing theorem
 
 -- Of each connection to a service that was opened with these bytes and machines, whatever passed at the locks of its machines:
-pub record RepliesAreExplained (opening : List (List ℕ)) (starts : List MachineState) (lent : Passage → Bool) : Type 0 where
+pub record RepliesAreExplained (opening : List (List ℕ)) (starts : List MachineState) (passed : Passage → Bool) : Type 0 where
   -- The `ok` of `put` and the `bytes` of `get` are, in order, the answers of the entries that the connection adds; so it is for
   -- a reply that is written in part.
-  pub entries : RepliesAreEntries opening starts lent
-  pub last : ReplyIsEntry opening starts lent
+  pub entries : RepliesAreEntries opening starts passed
+  pub last : ReplyIsEntry opening starts passed
   -- When a command on a machine is answered, the machine is the replay of its entries up to what the connection has seen. A step
   -- that the connection asks for stands above all that it had seen.
-  pub seen : AnsweredMachinesAreSeen opening starts lent
-  pub above : StepsStandAbove opening starts lent
+  pub seen : AnsweredMachinesAreSeen opening starts passed
+  pub above : StepsStandAbove opening starts passed
   -- A machine that was there at the opening is never answered to be none.
-  pub stay : OpenedMachinesStay opening starts lent
+  pub stay : OpenedMachinesStay opening starts passed
   -- What a connection has seen of a machine are accesses to objects that the machine was granted, writing ones only with `w`.
   pub granted : SeenMachinesAreGranted opening starts
 

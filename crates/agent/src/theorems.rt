@@ -43,7 +43,7 @@ pub fn closing_theorem()
 
 /// 5. Each reply of a connection tells of the entries that it adds.
 pub fn replies_are_explained<K: TableName>()
-    ensures { RepliesAreExplained K.opening K.starts K.lent }
+    ensures { RepliesAreExplained K.opening K.starts K.passed }
 {
     ship_service::replies_are_entries::<K>();
     ship_service::reply_is_entry::<K>();

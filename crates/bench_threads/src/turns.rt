@@ -1,7 +1,7 @@
 //! One machine, run by one worker until it stops.
 ghost use Rattle.std.specs.Prelude.{◌≡◌, ◌≤◌, length, All, IfOk, IfSome};
 ghost use Rattle.shared_objects.specs.Opened.{AreFresh, IsActorOf, dealer};
-ghost use Rattle.workers.specs.Pools.{IsTableOf, each_lent, machines_of};
+ghost use Rattle.workers.specs.Pools.{IsTableOf, each_passed, machines_of};
 
 use debugger::{Debuggee, Start};
 use far_store::{FarStore, OwnStore};
@@ -48,7 +48,7 @@ fn run<F: FarStore, K: TableName, R: Wait>(
     requires table { IsTableOf K.table K.opening shared.table }
     requires seats { AreFresh (dealer F.RETURNS K.opening) seats.items × All (IsActorOf shared.table) seats.items }
     requires machines { K.starts ≡ machines_of machines.items }
-    requires lent { K.lent ≡ each_lent }
+    requires lent { K.passed ≡ each_passed }
     requires room { length machines.items ≤ length seats.items }
 {
     let pool: Pool<F, K> = Pool::new(rt, alloc, shared, seats, machines)?;

@@ -1,7 +1,7 @@
 //! A pool with one machine, and a mover that takes the machine's object away and brings it back.
 ghost use Rattle.std.specs.Prelude.{◌≡◌, ◌≤◌, length, All, IfSome};
 ghost use Rattle.shared_objects.specs.Opened.{AreFresh, seated, IsActorOf, dealer};
-ghost use Rattle.workers.specs.Pools.{IsTableOf, each_lent, machines_of};
+ghost use Rattle.workers.specs.Pools.{IsTableOf, each_passed, machines_of};
 
 use crate::bodies::bodies;
 use debugger::{Debuggee, Start, StepReply, Way};
@@ -95,7 +95,7 @@ fn moved<F: FarStore + Drop, K: TableName, R: Wait>(
     requires seats { AreFresh (dealer F.RETURNS K.opening) seats.items × All (IsActorOf shared.table) seats.items }
     requires mover { (mover.seat.table_id ≡ K.table) × (mover.seat.me.0 ≡ seated K.seats (dealer F.RETURNS K.opening)) }
     requires machines { K.starts ≡ machines_of machines.items }
-    requires lent { K.lent ≡ each_lent }
+    requires lent { K.passed ≡ each_passed }
     requires room { length machines.items ≤ length seats.items }
 {
     let made: Result<Pool<F, K>, AllocError> = Pool::new(rt, alloc, shared, seats, machines);

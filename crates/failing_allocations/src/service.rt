@@ -85,7 +85,7 @@ fn served<F: FarStore + Drop, K: TableName, R: Wait>(
     alloc: Global,
     opened: Opened<F>,
 ) -> Outcome
-    requires { IsNamed K.table K.opening K.starts K.seats K.lent opened.shared.table opened.machines.items }
+    requires { IsNamed K.table K.opening K.starts K.seats K.passed opened.shared.table opened.machines.items }
 {
     let (agent, mut connections, mover) = match Agent::<F, K>::open(rt, alloc, opened) {
         Ok(parts) => parts,

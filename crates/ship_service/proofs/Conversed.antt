@@ -22,13 +22,13 @@ module _ (table : TableId) (returns : Bool) (opening : List (List ℕ)) where
   unused_step {X} seat x xs all e h = let P : X → Type 0 = λ y. IsUnused table returns opening (seat y) in
       (All-head P x xs (subst (All P) e h), All-rest P x xs all e h, ap length e ∙ omega arith)
 
-  module _ (lent : Passage → Bool) where
+  module _ (passed : Passage → Bool) where
     -- to a connection that is unused nobody came
     pub unused_had_none : {X : Type 0} (seat : X → ActorSeat) (xs : List X) → All (λ x. IsUnused table returns opening (seat x)) xs
-        → All (λ x. HadOneClient table returns opening lent (seat x)) xs
-    unused_had_none seat xs h = All-weaker (λ x. IsUnused table returns opening (seat x)) (λ x. HadOneClient table returns opening lent (seat x)) (λ x u. ∣ inl u ∣₁) xs h
+        → All (λ x. HadOneClient table returns opening passed (seat x)) xs
+    unused_had_none seat xs h = All-weaker (λ x. IsUnused table returns opening (seat x)) (λ x. HadOneClient table returns opening passed (seat x)) (λ x u. ∣ inl u ∣₁) xs h
 
     -- what holds of connections holds of their seats
-    pub seats_had_clients : {X : Type 0} (seat : X → ActorSeat) (xs : List X) → All (λ x. HadOneClient table returns opening lent (seat x)) xs
-        → All (HadOneClient table returns opening lent) (map seat xs)
-    seats_had_clients seat xs h = All-map (HadOneClient table returns opening lent) seat xs h
+    pub seats_had_clients : {X : Type 0} (seat : X → ActorSeat) (xs : List X) → All (λ x. HadOneClient table returns opening passed (seat x)) xs
+        → All (HadOneClient table returns opening passed) (map seat xs)
+    seats_had_clients seat xs h = All-map (HadOneClient table returns opening passed) seat xs h

@@ -79,18 +79,18 @@ carries_rose actor low first = record {
   measured = λ before n. refl;
 }
 
-walked : (actor low : ℕ) (first : List SharedEntry) (way : Way) (old new : Debuggee) (before after : SeatState) (told : StepReply)
-    → Rose actor low first before.view before.stamp → Walks seat_acts way old before told new after
+walked : (actor low : ℕ) (first : List SharedEntry) (way : Way) (old new : Debuggee) (before after : SeatState) (reply : StepReply)
+    → Rose actor low first before.view before.stamp → Walks seat_acts way old before reply new after
     → Rose actor low first after.view after.stamp
-walked actor low first way old new before after told i h =
+walked actor low first way old new before after reply i h =
     (step_carries true seat_acts seat_acts (λ (s : SeatState). s) (λ (s : SeatState). Rose actor low first s.view s.stamp) (carries_rose actor low first)
     old.machine h.machine before after h.answer i refl h.step).1
 
-stepped : (actor low : ℕ) (first : List SharedEntry) (way : Way) (old new : Debuggee) (before after : SeatState) (told : StepReply)
-    → Rose actor low first before.view before.stamp → AnswersStep seat_acts way old before told new after
+stepped : (actor low : ℕ) (first : List SharedEntry) (way : Way) (old new : Debuggee) (before after : SeatState) (reply : StepReply)
+    → Rose actor low first before.view before.stamp → AnswersStep seat_acts way old before reply new after
     → Rose actor low first after.view after.stamp
 stepped actor low first way old new before after (step_reply.Paused slot) i h = subst (λ (s : SeatState). Rose actor low first s.view s.stamp) (sym h.same) i
-stepped actor low first way old new before after told i h = walked actor low first way old new before after told i h
+stepped actor low first way old new before after reply i h = walked actor low first way old new before after reply i h
 
 answered : (old new : SeatState) (m : ℕ) (way : Way) (before after : CellState) (said : Reply) → before.seat.view.actor ≡ m
     → AnswersLent (Step way) old before m said new after → StepsAbove m old before.seat after.seat new
@@ -114,9 +114,9 @@ answered old new m way before after said actor (inr h) =
 no_step_resumes : (way : Way) (said : Reply) → resumes (Step way) said ≡ true → ⊥
 no_step_resumes way said e = absurd (cc)
 
-pub steps_above : (opening : List (List ℕ)) (starts : List MachineState) (lent : Passage → Bool) → StepsStandAbove opening starts lent
-steps_above opening starts lent old new m way told c = go c.goes_on where
-  go : ((resumes (Step way) c.said ≡ true) × GoesOn opening starts lent m c.answered c.after new)
+pub steps_above : (opening : List (List ℕ)) (starts : List MachineState) (passed : Passage → Bool) → StepsStandAbove opening starts passed
+steps_above opening starts passed old new m way reply c = go c.goes_on where
+  go : ((resumes (Step way) c.said ≡ true) × GoesOn opening starts passed m c.answered c.after new)
       ⊎ ((resumes (Step way) c.said ≡ false) × (new ≡ c.answered) × (c.after ≡ c.left))
       → StepsAbove m old c.before.seat c.after.seat new
   go (inl g) = absurd (no_step_resumes way c.said g.0)

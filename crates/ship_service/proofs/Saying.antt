@@ -52,7 +52,7 @@ says_more tells more name before after (Err (NotHere n)) f said = said
 says_more tells more name before after (Err Memory) f said = said
 says_more tells more name before after (Err Net) f said = said
 says_more tells more name before after (Err Write) f (inl part) = inl part
-says_more tells more name before after (Err Write) f (inr (text, told, part)) = inr (text, f text told, part)
+says_more tells more name before after (Err Write) f (inr (text, h, part)) = inr (text, f text h, part)
 
 -- what is said of a door is said of its name
 pub said_at : (tells : List ℕ → Type 0) (name named : List ℕ) (before after : Option (List ℕ)) (r : Result ⊤ ListenFault) → named ≡ name
@@ -60,11 +60,11 @@ pub said_at : (tells : List ℕ → Type 0) (name named : List ℕ) (before afte
 said_at tells name named before after r is said = subst (λ n. SaysAs tells n before after r) is said
 
 -- what began with the bytes and machines of a world began with that world
-pub tells_of_world : (X : Type 0) (returns : Bool) (table : TableId) (opening : List (List ℕ)) (starts : List MachineState) (lent : Passage → Bool)
+pub tells_of_world : (X : Type 0) (returns : Bool) (table : TableId) (opening : List (List ℕ)) (starts : List MachineState) (passed : Passage → Bool)
     (world : WorldState) → opening ≡ opened_bytes world → starts ≡ machines_of world.machines → (text : List ℕ)
-    → TellsClosing X returns table opening starts lent text → TellsClosingOf X returns world text
-tells_of_world X returns table opening starts lent world o m text told = (
+    → TellsClosing X returns table opening starts passed text → TellsClosingOf X returns world text
+tells_of_world X returns table opening starts passed world o m text h = (
   table,
   subst (λ (b : List (List ℕ)). TellsEnd X returns table b (machines_of world.machines) text) o
-      (subst (λ (s : List MachineState). TellsEnd X returns table opening s text) m told.0),
+      (subst (λ (s : List MachineState). TellsEnd X returns table opening s text) m h.0),
 )

@@ -24,9 +24,9 @@ answered opening starts old new m command before after said r is (inl h) e =
 answered opening starts old new m command before after said r is (inr h) e =
     record { replayed = subst (FitsCell opening starts m after.seat) e is.fits; up_to = learnt old new after.seat h.learns is.stamped }
 
-pub answered_seen : (opening : List (List ℕ)) (starts : List MachineState) (lent : Passage → Bool) → AnsweredMachinesAreSeen opening starts lent
-answered_seen opening starts lent old new m command told c r e = go c.goes_on where
-  go : ((resumes command c.said ≡ true) × GoesOn opening starts lent m c.answered c.after new)
+pub answered_seen : (opening : List (List ℕ)) (starts : List MachineState) (passed : Passage → Bool) → AnsweredMachinesAreSeen opening starts passed
+answered_seen opening starts passed old new m command reply c r e = go c.goes_on where
+  go : ((resumes command c.said ≡ true) × GoesOn opening starts passed m c.answered c.after new)
       ⊎ ((resumes command c.said ≡ false) × (new ≡ c.answered) × (c.after ≡ c.left))
       → IsSeen opening starts m new.stamp c.after.seat r
   go (inl g) = let t = g.1.last in

@@ -20,7 +20,7 @@ use Rattle.world.specs.declared.events.ObjectCommand.{ObjectCommand}
 use Rattle.world.specs.declared.events.ObjectCommand.TheVariants as object
 use Rattle.world.specs.declared.world.moving.Move.{Move}
 use Rattle.world.specs.declared.replies.Reply.{Reply}
-use Rattle.world.specs.declared.replies.Reply.TheVariants as reply
+use Rattle.world.specs.declared.replies.Reply.TheVariants as answer
 use Rattle.console.specs.Replies.{IsShort}
 use Rattle.console.specs.Commands.{range_limit}
 use Rattle.console.proofs.CommandReading.{AsksShort, show_short}
@@ -53,59 +53,59 @@ get_short old new n offset size (Ok bytes) h short =
 get_short old new n offset size (Err (get_error.Denied why)) h short = denied_short n why
 get_short old new n offset size (Err get_error.Memory) h short = tt
 
-get_tells_short : (old new : SeatState) (n offset size : ℕ) (told : ServiceReply) → GetsOnce old n offset size told new → size ≤ range_limit → IsShortReply told
-get_tells_short old new n offset size told h short = subst IsShortReply (sym h.told_is) (get_short old new n offset size h.outcome h.gets short)
+get_tells_short : (old new : SeatState) (n offset size : ℕ) (reply : ServiceReply) → GetsOnce old n offset size reply new → size ≤ range_limit → IsShortReply reply
+get_tells_short old new n offset size reply h short = subst IsShortReply (sym h.reply_is) (get_short old new n offset size h.outcome h.gets short)
 
-no_bytes : (opening : List (List ℕ)) (n : ℕ) (m : Move) (b : List ℕ) → ServesMove opening n m (Plain (reply.Bytes b)) → ⊥
+no_bytes : (opening : List (List ℕ)) (n : ℕ) (m : Move) (b : List ℕ) → ServesMove opening n m (Plain (answer.Bytes b)) → ⊥
 no_bytes opening n m b h = grind arith
 
-no_show : (opening : List (List ℕ)) (n : ℕ) (m : Move) (k : ℕ) (s : ShowReply) → ServesMove opening n m (Plain (reply.Shown k s)) → ⊥
+no_show : (opening : List (List ℕ)) (n : ℕ) (m : Move) (k : ℕ) (s : ShowReply) → ServesMove opening n m (Plain (answer.Shown k s)) → ⊥
 no_show opening n m k s h = grind arith
 
-move_short : (opening : List (List ℕ)) (n : ℕ) (m : Move) (told : ServiceReply) → ServesMove opening n m told → IsShortReply told
-move_short opening n m (Plain (reply.Bytes b)) h = absurd (no_bytes opening n m b h)
-move_short opening n m (Plain (reply.Shown k s)) h = absurd (no_show opening n m k s h)
+move_short : (opening : List (List ℕ)) (n : ℕ) (m : Move) (reply : ServiceReply) → ServesMove opening n m reply → IsShortReply reply
+move_short opening n m (Plain (answer.Bytes b)) h = absurd (no_bytes opening n m b h)
+move_short opening n m (Plain (answer.Shown k s)) h = absurd (no_show opening n m k s h)
 move_short opening n m _ h = tt
 
-object_short : (old new : SeatState) (n : ℕ) (c : ObjectCommand) (told : ServiceReply) → ServesObject old n c told new
-    → AsksShort (event.Object n c) → IsShortReply told
-object_short old new n (object.Put offset bytes) told h short = subst IsShortReply (sym h.last.told_is) (put_short n h.last.outcome)
-object_short old new n (object.Get offset size) told h short = get_tells_short h.mid new n offset size told h.last short
-object_short old new n object.Free told h short = subst IsShortReply (sym h.0) tt
-object_short old new n (object.Move m) told h short = move_short old.view.opening n m told h.0
+object_short : (old new : SeatState) (n : ℕ) (c : ObjectCommand) (reply : ServiceReply) → ServesObject old n c reply new
+    → AsksShort (event.Object n c) → IsShortReply reply
+object_short old new n (object.Put offset bytes) reply h short = subst IsShortReply (sym h.last.reply_is) (put_short n h.last.outcome)
+object_short old new n (object.Get offset size) reply h short = get_tells_short h.mid new n offset size reply h.last short
+object_short old new n object.Free reply h short = subst IsShortReply (sym h.0) tt
+object_short old new n (object.Move m) reply h short = move_short old.view.opening n m reply h.0
 
-cell_short : (before after : CellState) (m : ℕ) (c : MachineCommand) (told : Reply) → AnswersCell c before m told after
-    → AsksShort (event.Machine m c) → IsShort told
-cell_short before after m (Step way) told h short = subst IsShort (sym h.1) tt
-cell_short before after m (Show command) told h short = subst IsShort (sym h.1) (show_short m command h.2.0.debuggee h.0 h.2.2 short)
-cell_short before after m (Debug command) told h short = subst IsShort (sym h.1) tt
+cell_short : (before after : CellState) (m : ℕ) (c : MachineCommand) (reply : Reply) → AnswersCell c before m reply after
+    → AsksShort (event.Machine m c) → IsShort reply
+cell_short before after m (Step way) reply h short = subst IsShort (sym h.1) tt
+cell_short before after m (Show command) reply h short = subst IsShort (sym h.1) (show_short m command h.2.0.debuggee h.0 h.2.2 short)
+cell_short before after m (Debug command) reply h short = subst IsShort (sym h.1) tt
 
-lent_short : (old new : SeatState) (before after : CellState) (m : ℕ) (c : MachineCommand) (told : Reply) → AnswersLent c old before m told new after
-    → AsksShort (event.Machine m c) → IsShort told
-lent_short old new before after m c told (inl h) short = subst IsShort (sym h.told_is) tt
-lent_short old new before after m c told (inr h) short = cell_short (informed c old before) after m c told h.answers short
+lent_short : (old new : SeatState) (before after : CellState) (m : ℕ) (c : MachineCommand) (reply : Reply) → AnswersLent c old before m reply new after
+    → AsksShort (event.Machine m c) → IsShort reply
+lent_short old new before after m c reply (inl h) short = subst IsShort (sym h.reply_is) tt
+lent_short old new before after m c reply (inr h) short = cell_short (informed c old before) after m c reply h.answers short
 
-machine_short : (opening : List (List ℕ)) (starts : List MachineState) (lent : Passage → Bool) (old new : SeatState) (m : ℕ) (c : MachineCommand)
-    (told : ServiceReply)
-    → ServesMachine opening starts lent old m c told new → AsksShort (event.Machine m c) → IsShortReply told
-machine_short opening starts lent old new m c told (inl h) short = subst IsShortReply (sym h.told_is) tt
-machine_short opening starts lent old new m c told (inr h) short =
-    subst IsShortReply (sym h.told_is) (lent_short old h.answered h.before h.left m c h.said h.answers short)
+machine_short : (opening : List (List ℕ)) (starts : List MachineState) (passed : Passage → Bool) (old new : SeatState) (m : ℕ) (c : MachineCommand)
+    (reply : ServiceReply)
+    → ServesMachine opening starts passed old m c reply new → AsksShort (event.Machine m c) → IsShortReply reply
+machine_short opening starts passed old new m c reply (inl h) short = subst IsShortReply (sym h.reply_is) tt
+machine_short opening starts passed old new m c reply (inr h) short =
+    subst IsShortReply (sym h.reply_is) (lent_short old h.answered h.before h.left m c h.said h.answers short)
 
 shipped_short : (start : Start) (code : List ℕ) (before after : CellState) (said : Reply) → ShipsCell start code before said after → IsShort said
-shipped_short start code before after (reply.Bytes b) h = absurd h
-shipped_short start code before after (reply.Shown k s) h = absurd h
+shipped_short start code before after (answer.Bytes b) h = absurd h
+shipped_short start code before after (answer.Shown k s) h = absurd h
 shipped_short start code before after _ h = tt
 
-ship_short : (opening : List (List ℕ)) (starts : List MachineState) (lent : Passage → Bool) (start : Start) (code : List ℕ) (told : ServiceReply)
-    → ServesShip opening starts lent start code told → IsShortReply told
-ship_short opening starts lent start code told (inl h) = subst IsShortReply (sym h.told_is) tt
-ship_short opening starts lent start code told (inr h) = subst IsShortReply (sym h.told_is) (shipped_short start code h.before h.after h.said h.ships)
+ship_short : (opening : List (List ℕ)) (starts : List MachineState) (passed : Passage → Bool) (start : Start) (code : List ℕ) (reply : ServiceReply)
+    → ServesShip opening starts passed start code reply → IsShortReply reply
+ship_short opening starts passed start code reply (inl h) = subst IsShortReply (sym h.reply_is) tt
+ship_short opening starts passed start code reply (inr h) = subst IsShortReply (sym h.reply_is) (shipped_short start code h.before h.after h.said h.ships)
 
 -- a reply fits its line
-pub serves_short : (opening : List (List ℕ)) (starts : List MachineState) (lent : Passage → Bool) (old new : SeatState) (c : Event) (told : ServiceReply)
-    → Serves opening starts lent old c told new → AsksShort c → IsShortReply told
-serves_short opening starts lent old new (event.Make size) told h short = subst IsShortReply (sym h.0) tt
-serves_short opening starts lent old new (event.Ship start code) told h short = ship_short opening starts lent start code told h.0
-serves_short opening starts lent old new (event.Object n c) told h short = object_short old new n c told h short
-serves_short opening starts lent old new (event.Machine m c) told h short = machine_short opening starts lent old new m c told h short
+pub serves_short : (opening : List (List ℕ)) (starts : List MachineState) (passed : Passage → Bool) (old new : SeatState) (c : Event) (reply : ServiceReply)
+    → Serves opening starts passed old c reply new → AsksShort c → IsShortReply reply
+serves_short opening starts passed old new (event.Make size) reply h short = subst IsShortReply (sym h.0) tt
+serves_short opening starts passed old new (event.Ship start code) reply h short = ship_short opening starts passed start code reply h.0
+serves_short opening starts passed old new (event.Object n c) reply h short = object_short old new n c reply h short
+serves_short opening starts passed old new (event.Machine m c) reply h short = machine_short opening starts passed old new m c reply h short

@@ -86,15 +86,15 @@ get_adds old new n offset size (Err (get_error.Denied denied.Busy)) h = unmoved 
 get_adds old new n offset size (Err (get_error.Denied denied.Worn)) h = unmoved old new _ h.1 h.2.2 refl refl
 get_adds old new n offset size (Err get_error.Memory) h = unmoved old new _ h.1 h.2 refl refl
 
-put_once_tells : (old new : SeatState) (n offset : ℕ) (bytes : List ℕ) (told : ServiceReply) → PutsOnce old n offset bytes told new
-    → Tells old (added (event.Object n (object.Put offset bytes)) told) new
-put_once_tells old new n offset bytes told h =
-    subst (λ r. Tells old (added (event.Object n (object.Put offset bytes)) r) new) (sym h.told_is) (put_adds old new n offset bytes h.outcome h.puts)
+put_once_tells : (old new : SeatState) (n offset : ℕ) (bytes : List ℕ) (reply : ServiceReply) → PutsOnce old n offset bytes reply new
+    → Tells old (added (event.Object n (object.Put offset bytes)) reply) new
+put_once_tells old new n offset bytes reply h =
+    subst (λ r. Tells old (added (event.Object n (object.Put offset bytes)) r) new) (sym h.reply_is) (put_adds old new n offset bytes h.outcome h.puts)
 
-get_once_tells : (old new : SeatState) (n offset size : ℕ) (told : ServiceReply) → GetsOnce old n offset size told new
-    → Tells old (added (event.Object n (object.Get offset size)) told) new
-get_once_tells old new n offset size told h =
-    subst (λ r. Tells old (added (event.Object n (object.Get offset size)) r) new) (sym h.told_is) (get_adds old new n offset size h.outcome h.gets)
+get_once_tells : (old new : SeatState) (n offset size : ℕ) (reply : ServiceReply) → GetsOnce old n offset size reply new
+    → Tells old (added (event.Object n (object.Get offset size)) reply) new
+get_once_tells old new n offset size reply h =
+    subst (λ r. Tells old (added (event.Object n (object.Get offset size)) r) new) (sym h.reply_is) (get_adds old new n offset size h.outcome h.gets)
 
 -- ---- tries
 
@@ -122,74 +122,74 @@ busy_tells : (once : SeatState → ServiceReply → SeatState → Type 0) (n : �
 busy_tells once n adds zero old new h = same old new h
 busy_tells once n adds (suc k) old new h = after old h.0 new [] (busy_tells once n adds k old h.0 h.1) (adds h.0 new h.2)
 
-put_tells : (old new : SeatState) (n offset : ℕ) (bytes : List ℕ) (told : ServiceReply) → ServesPut old n offset bytes told new
-    → Tells old (added (event.Object n (object.Put offset bytes)) told) new
-put_tells old new n offset bytes told h = after old h.mid new (added (event.Object n (object.Put offset bytes)) told)
+put_tells : (old new : SeatState) (n offset : ℕ) (bytes : List ℕ) (reply : ServiceReply) → ServesPut old n offset bytes reply new
+    → Tells old (added (event.Object n (object.Put offset bytes)) reply) new
+put_tells old new n offset bytes reply h = after old h.mid new (added (event.Object n (object.Put offset bytes)) reply)
     (busy_tells (λ s r t. PutsOnce s n offset bytes r t) n (λ s t b. put_once_tells s t n offset bytes (Busy n) b) h.tries old h.mid h.busy)
-    (put_once_tells h.mid new n offset bytes told h.last)
+    (put_once_tells h.mid new n offset bytes reply h.last)
 
-get_tells : (old new : SeatState) (n offset size : ℕ) (told : ServiceReply) → ServesGet old n offset size told new
-    → Tells old (added (event.Object n (object.Get offset size)) told) new
-get_tells old new n offset size told h = after old h.mid new (added (event.Object n (object.Get offset size)) told)
+get_tells : (old new : SeatState) (n offset size : ℕ) (reply : ServiceReply) → ServesGet old n offset size reply new
+    → Tells old (added (event.Object n (object.Get offset size)) reply) new
+get_tells old new n offset size reply h = after old h.mid new (added (event.Object n (object.Get offset size)) reply)
     (busy_tells (λ s r t. GetsOnce s n offset size r t) n (λ s t b. get_once_tells s t n offset size (Busy n) b) h.tries old h.mid h.busy)
-    (get_once_tells h.mid new n offset size told h.last)
+    (get_once_tells h.mid new n offset size reply h.last)
 
 -- ---- commands
 
-object_tells : (old new : SeatState) (n : ℕ) (c : ObjectCommand) (told : ServiceReply) → ServesObject old n c told new
-    → Tells old (added (event.Object n c) told) new
-object_tells old new n (object.Put offset bytes) told h = put_tells old new n offset bytes told h
-object_tells old new n (object.Get offset size) told h = get_tells old new n offset size told h
-object_tells old new n object.Free told h = same old new h.1
-object_tells old new n (object.Move m) told h = same old new h.1
+object_tells : (old new : SeatState) (n : ℕ) (c : ObjectCommand) (reply : ServiceReply) → ServesObject old n c reply new
+    → Tells old (added (event.Object n c) reply) new
+object_tells old new n (object.Put offset bytes) reply h = put_tells old new n offset bytes reply h
+object_tells old new n (object.Get offset size) reply h = get_tells old new n offset size reply h
+object_tells old new n object.Free reply h = same old new h.1
+object_tells old new n (object.Move m) reply h = same old new h.1
 
 -- a machine's turns add nothing to the connection's seat
-turns_tell : (opening : List (List ℕ)) (starts : List MachineState) (lent : Passage → Bool) (m n : ℕ) (old new : SeatState)
-    → TakesTurns opening starts lent m n old new → Tells old [] new
-turns_tell opening starts lent m zero old new h = same old new h
-turns_tell opening starts lent m (suc n) old new h =
-    after old h.0 new [] (turns_tell opening starts lent m n old h.0 h.1) (learnt h.0 new _ h.2.1.learns)
+turns_tell : (opening : List (List ℕ)) (starts : List MachineState) (passed : Passage → Bool) (m n : ℕ) (old new : SeatState)
+    → TakesTurns opening starts passed m n old new → Tells old [] new
+turns_tell opening starts passed m zero old new h = same old new h
+turns_tell opening starts passed m (suc n) old new h =
+    after old h.0 new [] (turns_tell opening starts passed m n old h.0 h.1) (learnt h.0 new _ h.2.1.learns)
 
-machine_tells : (opening : List (List ℕ)) (starts : List MachineState) (lent : Passage → Bool) (old new : SeatState) (m : ℕ) (c : MachineCommand)
-    (told : ServiceReply)
-    → ServesMachine opening starts lent old m c told new → Tells old [] new
-machine_tells opening starts lent old new m c told (inl h) = same old new h.same
-machine_tells opening starts lent old new m c told (inr h) = goes h.goes_on where
+machine_tells : (opening : List (List ℕ)) (starts : List MachineState) (passed : Passage → Bool) (old new : SeatState) (m : ℕ) (c : MachineCommand)
+    (reply : ServiceReply)
+    → ServesMachine opening starts passed old m c reply new → Tells old [] new
+machine_tells opening starts passed old new m c reply (inl h) = same old new h.same
+machine_tells opening starts passed old new m c reply (inr h) = goes h.goes_on where
   lent_tells : AnswersLent c old h.before m h.said h.answered h.left → Tells old [] h.answered
   lent_tells (inl t) = same old h.answered t.same
   lent_tells (inr t) = learnt old h.answered _ t.learns
 
-  goes : ((resumes c h.said ≡ true) × GoesOn opening starts lent m h.answered h.after new)
+  goes : ((resumes c h.said ≡ true) × GoesOn opening starts passed m h.answered h.after new)
       ⊎ ((resumes c h.said ≡ false) × (new ≡ h.answered) × (h.after ≡ h.left))
       → Tells old [] new
   goes (inl g) = after old h.answered new [] (lent_tells h.answers)
-      (after h.answered g.1.mid new [] (turns_tell opening starts lent m g.1.turns h.answered g.1.mid g.1.taken) (learnt g.1.mid new _ g.1.last.learns))
+      (after h.answered g.1.mid new [] (turns_tell opening starts passed m g.1.turns h.answered g.1.mid g.1.taken) (learnt g.1.mid new _ g.1.last.learns))
   goes (inr g) = subst (λ (s : SeatState). Tells old [] s) (sym g.1) (lent_tells h.answers)
 
-serves_tells : (opening : List (List ℕ)) (starts : List MachineState) (lent : Passage → Bool) (old new : SeatState) (c : Event) (told : ServiceReply)
-    → Serves opening starts lent old c told new → Tells old (added c told) new
-serves_tells opening starts lent old new (event.Make size) told h = same old new h.1
-serves_tells opening starts lent old new (event.Ship start code) told h = same old new h.1
-serves_tells opening starts lent old new (event.Object n c) told h = object_tells old new n c told h
-serves_tells opening starts lent old new (event.Machine m c) told h = machine_tells opening starts lent old new m c told h
+serves_tells : (opening : List (List ℕ)) (starts : List MachineState) (passed : Passage → Bool) (old new : SeatState) (c : Event) (reply : ServiceReply)
+    → Serves opening starts passed old c reply new → Tells old (added c reply) new
+serves_tells opening starts passed old new (event.Make size) reply h = same old new h.1
+serves_tells opening starts passed old new (event.Ship start code) reply h = same old new h.1
+serves_tells opening starts passed old new (event.Object n c) reply h = object_tells old new n c reply h
+serves_tells opening starts passed old new (event.Machine m c) reply h = machine_tells opening starts passed old new m c reply h
 
 -- ---- one after the other
 
-turn_tells : (opening : List (List ℕ)) (starts : List MachineState) (lent : Passage → Bool) (old new : SeatState) (c : Event) (told : ServiceReply)
-    → ServesTurn opening starts lent old c told new → Tells old (added c told) new
-turn_tells opening starts lent old new c told h = subst (λ (s : SeatState). Tells old (added c told) s) (sym h.2) (
-    let t = serves_tells opening starts lent old h.0 c told h.1 in
+turn_tells : (opening : List (List ℕ)) (starts : List MachineState) (passed : Passage → Bool) (old new : SeatState) (c : Event) (reply : ServiceReply)
+    → ServesTurn opening starts passed old c reply new → Tells old (added c reply) new
+turn_tells opening starts passed old new c reply h = subst (λ (s : SeatState). Tells old (added c reply) s) (sym h.2) (
+    let t = serves_tells opening starts passed old h.0 c reply h.1 in
     record { more = t.more; entries = t.entries; tells = t.tells; stamps = t.stamps; actor = t.actor })
 
-runs_tell : (opening : List (List ℕ)) (starts : List MachineState) (lent : Passage → Bool) (old new : SeatState) (cs : List Event) (rs : List ServiceReply)
-    → Runs (ServesTurn opening starts lent) old cs rs new → TellsEntries old cs rs new
-runs_tell opening starts lent old new [] [] h =
+runs_tell : (opening : List (List ℕ)) (starts : List MachineState) (passed : Passage → Bool) (old new : SeatState) (cs : List Event) (rs : List ServiceReply)
+    → Runs (ServesTurn opening starts passed) old cs rs new → TellsEntries old cs rs new
+runs_tell opening starts passed old new [] [] h =
     let t = same old new h in
     record { more = t.more; entries = t.entries; tells = t.tells; stamps = t.stamps; actor = t.actor }
-runs_tell opening starts lent old new (c ∷ cs) (r ∷ rs) h =
+runs_tell opening starts passed old new (c ∷ cs) (r ∷ rs) h =
     let mid = h.0 in
-    let t = turn_tells opening starts lent old mid c r h.1 in
-    let u = runs_tell opening starts lent mid new cs rs h.2 in
+    let t = turn_tells opening starts passed old mid c r h.1 in
+    let u = runs_tell opening starts passed mid new cs rs h.2 in
     record {
       more = t.more ++ u.more;
       entries = u.entries ∙ ap (λ l. l ++ u.more) t.entries ∙ append_assoc old.view.entries t.more u.more;
@@ -198,16 +198,16 @@ runs_tell opening starts lent old new (c ∷ cs) (r ∷ rs) h =
           (subst (λ a. RiseTo a mid.stamp u.more new.stamp) t.actor u.stamps);
       actor = u.actor ∙ t.actor;
     }
-runs_tell opening starts lent old new [] (r ∷ rs) h = absurd h
-runs_tell opening starts lent old new (c ∷ cs) [] h = absurd h
+runs_tell opening starts passed old new [] (r ∷ rs) h = absurd h
+runs_tell opening starts passed old new (c ∷ cs) [] h = absurd h
 
-pub replies_are_entries : (opening : List (List ℕ)) (starts : List MachineState) (lent : Passage → Bool) → RepliesAreEntries opening starts lent
-replies_are_entries opening starts lent old new input output rest e = runs_tell opening starts lent old new _ _ e.run
+pub replies_are_entries : (opening : List (List ℕ)) (starts : List MachineState) (passed : Passage → Bool) → RepliesAreEntries opening starts passed
+replies_are_entries opening starts passed old new input output rest e = runs_tell opening starts passed old new _ _ e.run
 
-pub reply_is_entry : (opening : List (List ℕ)) (starts : List MachineState) (lent : Passage → Bool) → ReplyIsEntry opening starts lent
-reply_is_entry opening starts lent old new line bytes a =
-    let cs = turn_commands (service opening starts lent) a.0 in
-    let rs = turn_replies (service opening starts lent) a.0 in
-    runs_tell opening starts lent old new cs rs
-    (subst (λ l. Runs (ServesTurn opening starts lent) old cs l new) (append-nil rs)
-    (subst (λ l. Runs (ServesTurn opening starts lent) old l (rs ++ []) new) (append-nil cs) a.3))
+pub reply_is_entry : (opening : List (List ℕ)) (starts : List MachineState) (passed : Passage → Bool) → ReplyIsEntry opening starts passed
+reply_is_entry opening starts passed old new line bytes a =
+    let cs = turn_commands (service opening starts passed) a.0 in
+    let rs = turn_replies (service opening starts passed) a.0 in
+    runs_tell opening starts passed old new cs rs
+    (subst (λ l. Runs (ServesTurn opening starts passed) old cs l new) (append-nil rs)
+    (subst (λ l. Runs (ServesTurn opening starts passed) old l (rs ++ []) new) (append-nil cs) a.3))

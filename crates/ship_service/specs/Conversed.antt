@@ -13,8 +13,8 @@ IsUnused table returns opening seat = (actor : ℕ) × IsFreshSeat table returns
 -- One conversation left the seat so, which began with one that was unused. No bytes of its stream were known beforehand, so these were a
 -- client's, and none of the service's own.
 abbrev pub IsConversed : TableId → Bool → List (List ℕ) → (Passage → Bool) → ActorSeat → Type 0
-IsConversed table returns opening lent seat = (first : ActorSeat) × IsUnused table returns opening first × (lent (Conversed None first seat) ≡ true)
+IsConversed table returns opening passed seat = (first : ActorSeat) × IsUnused table returns opening first × (passed (Conversed None first seat) ≡ true)
 
 -- How a connection's seat is when the service has ended: nobody came to it, or one client did.
 abbrev pub HadOneClient : TableId → Bool → List (List ℕ) → (Passage → Bool) → ActorSeat → Type 0
-HadOneClient table returns opening lent seat = ∥ IsUnused table returns opening seat ⊎ IsConversed table returns opening lent seat ∥₁
+HadOneClient table returns opening passed seat = ∥ IsUnused table returns opening seat ⊎ IsConversed table returns opening passed seat ∥₁

@@ -16,7 +16,7 @@ use Rattle.debugger.specs.Debuggees.{debuggee_start}
 use Rattle.workers.specs.Cells.{SeatState, CellState, RunningState, StepsCell, ShowsCell, DebugsCell}
 use Rattle.workers.specs.Pools.{QueuesCell}
 use Rattle.world.specs.declared.replies.Reply.{Reply}
-use Rattle.world.specs.declared.replies.Reply.TheVariants as reply
+use Rattle.world.specs.declared.replies.Reply.TheVariants as answer
 
 -- ---- stamps
 
@@ -33,31 +33,31 @@ informed _ s c = c
 
 -- the reply of machine m, which the cell has, to a command
 abbrev pub AnswersCell : MachineCommand → CellState → ℕ → Reply → CellState → Type 0
-AnswersCell (Step way) before m told after = (outcome : StepReply) × (told ≡ reply.Stepped m outcome) × StepsCell way before outcome after
-AnswersCell (Show command) before m told after = (outcome : ShowReply) × (told ≡ reply.Shown m outcome) × ShowsCell command before outcome × (after ≡ before)
-AnswersCell (Debug command) before m told after = (outcome : Debugged) × (told ≡ reply.Debugged outcome) × DebugsCell command before outcome after
+AnswersCell (Step way) before m reply after = (outcome : StepReply) × (reply ≡ answer.Stepped m outcome) × StepsCell way before outcome after
+AnswersCell (Show command) before m reply after = (outcome : ShowReply) × (reply ≡ answer.Shown m outcome) × ShowsCell command before outcome × (after ≡ before)
+AnswersCell (Debug command) before m reply after = (outcome : Debugged) × (reply ≡ answer.Debugged outcome) × DebugsCell command before outcome after
 
 -- a machine that was paused goes on again
 abbrev pub resumes : MachineCommand → Reply → Bool
-resumes (Debug Resume) (reply.Debugged Done) = true
+resumes (Debug Resume) (answer.Debugged Done) = true
 resumes _ _ = false
 
 -- The cell has a machine, which answers; then the connection's seat learns the stamp of the machine's.
-pub record FindsMachine (command : MachineCommand) (old : SeatState) (before : CellState) (m : ℕ) (told : Reply) (new : SeatState)
+pub record FindsMachine (command : MachineCommand) (old : SeatState) (before : CellState) (m : ℕ) (reply : Reply) (new : SeatState)
     (after : CellState) : Type 0 where
-  pub answers : AnswersCell command (informed command old before) m told after
+  pub answers : AnswersCell command (informed command old before) m reply after
   pub learns : new ≡ learning after.seat.stamp old
 
 -- The cell has no machine: nothing changes.
-pub record MissesMachine (old : SeatState) (before : CellState) (told : Reply) (new : SeatState) (after : CellState) : Type 0 where
+pub record MissesMachine (old : SeatState) (before : CellState) (reply : Reply) (new : SeatState) (after : CellState) : Type 0 where
   pub none : before.running ≡ None
-  pub told_is : told ≡ reply.Missing
+  pub reply_is : reply ≡ answer.Missing
   pub same : new ≡ old
   pub unchanged : after ≡ before
 
 -- a command on what the lock of machine m's cell lends
 abbrev pub AnswersLent : MachineCommand → SeatState → CellState → ℕ → Reply → SeatState → CellState → Type 0
-AnswersLent command old before m told new after = MissesMachine old before told new after ⊎ FindsMachine command old before m told new after
+AnswersLent command old before m reply new after = MissesMachine old before reply new after ⊎ FindsMachine command old before m reply new after
 
 -- ---- ship
 
@@ -68,8 +68,8 @@ shipped_at m code s = record { debuggee = debuggee_start m code s; shipped = Som
 -- `ship` on what the lock of a cell without a machine lends: the machine that comes is of the cell's number, and is put into
 -- the queue. That memory ran out may also be answered of code that isn't valid, in place of the refusal.
 abbrev pub ShipsCell : Start → List ℕ → CellState → Reply → CellState → Type 0
-ShipsCell start code before (reply.Shipped m) after = (m ≡ before.number) × ValidCode code
+ShipsCell start code before (answer.Shipped m) after = (m ≡ before.number) × ValidCode code
     × QueuesCell (record before { running = Some (shipped_at before.number code start) }) after
-ShipsCell start code before (reply.Refused e) after = Refuses code e.slot e.why × (e.why ≢ why.Memory) × (after ≡ before)
-ShipsCell start code before reply.NoMemory after = HasCodeSize code × (after ≡ before)
+ShipsCell start code before (answer.Refused e) after = Refuses code e.slot e.why × (e.why ≢ why.Memory) × (after ≡ before)
+ShipsCell start code before answer.NoMemory after = HasCodeSize code × (after ≡ before)
 ShipsCell start code before _ after = ⊥

@@ -36,8 +36,8 @@ TellsEnd X returns table opening starts text = (mover : MoverState X) × (connec
 -- each connection as its one client left it, if one came. Whoever served learnt that from the loop and from the conversations, so nothing
 -- else moved an object, and the service wrote into none by itself.
 abbrev pub TellsClosing : Type 0 → Bool → TableId → List (List ℕ) → List MachineState → (Passage → Bool) → List ℕ → Type 0
-TellsClosing X returns table opening starts lent text = (tells : TellsEnd X returns table opening starts text)
-    × (lent (Ran (first_mover_view returns opening) tells.0.view) ≡ true) × All (HadOneClient table returns opening lent) tells.1
+TellsClosing X returns table opening starts passed text = (tells : TellsEnd X returns table opening starts text)
+    × (passed (Ran (first_mover_view returns opening) tells.0.view) ≡ true) × All (HadOneClient table returns opening passed) tells.1
 
 -- The text tells how a service closed that began with this world.
 abbrev pub TellsClosingOf : Type 0 → Bool → WorldState → List ℕ → Type 0

@@ -10,7 +10,7 @@ use Rattle.shared_objects.specs.declared.view.View.{View}
 use Rattle.machine.specs.MachineState.{MachineState}
 use Rattle.debugger.specs.declared.debuggee.Debuggee.{Debuggee}
 use Rattle.workers.specs.Cells.{IsTableOf}
-use Rattle.workers.specs.TableNames.{Passage, each_lent}
+use Rattle.workers.specs.TableNames.{Passage, each_passed}
 use Rattle.workers.specs.Moves.{MoverState}
 use Rattle.workers.specs.Pools.{machines_of}
 use Rattle.world.specs.WorldState.{WorldState}
@@ -78,8 +78,8 @@ AreFreshSeats table returns opening actor (seat ∷ seats) = IsFreshSeat table r
 -- The name is that of what was opened: its table with the bytes with which it was opened, its machines as they are, and as many
 -- seats as it has. Which cells are lent with machines is left open to all who serve.
 abbrev pub IsNamed : TableId → List (List ℕ) → List MachineState → ℕ → (Passage → Bool) → SharedTable → List Debuggee → Type 0
-IsNamed table opening starts seats lent shared machines = IsTableOf table opening shared × (starts ≡ machines_of machines)
-    × (seats ≡ seat_count) × (lent ≡ each_lent)
+IsNamed table opening starts seats passed shared machines = IsTableOf table opening shared × (starts ≡ machines_of machines)
+    × (seats ≡ seat_count) × (passed ≡ each_passed)
 
 -- What the mover's seat knows as it begins, which is the first one: it made all others and took none of them in, and all objects are
 -- here.

@@ -14,7 +14,7 @@ use Rattle.workers.specs.TableNames.{Passage}
 use Rattle.world.specs.declared.events.Event.{Event}
 use Rattle.world.specs.declared.events.Event.TheVariants.{Object}
 use Rattle.world.specs.declared.events.ObjectCommand.TheVariants.{Put, Get}
-use Rattle.world.specs.declared.replies.Reply.TheVariants as reply
+use Rattle.world.specs.declared.replies.Reply.TheVariants as answer
 use Rattle.console.specs.Conversations.{Exchange, Answered, turn_commands, turn_replies}
 use Rattle.ship_service.specs.declared.replies.ServiceReply.{ServiceReply}
 use Rattle.ship_service.specs.declared.replies.ServiceReply.TheVariants.{Plain}
@@ -22,8 +22,8 @@ use Rattle.ship_service.specs.Served.{OnCell, service}
 
 -- what a command with this reply adds: object, what was done, and what was given
 abbrev pub added : Event → ServiceReply → List OwnEntry
-added (Object n (Put offset bytes)) (Plain reply.Done) = record { number = n; deed = Writes offset bytes; given = Nothing } ∷ []
-added (Object n (Get offset size)) (Plain (reply.Bytes bytes)) = record { number = n; deed = Reads offset size; given = Bytes bytes } ∷ []
+added (Object n (Put offset bytes)) (Plain answer.Done) = record { number = n; deed = Writes offset bytes; given = Nothing } ∷ []
+added (Object n (Get offset size)) (Plain (answer.Bytes bytes)) = record { number = n; deed = Reads offset size; given = Bytes bytes } ∷ []
 added _ _ = []
 
 -- what the commands with these replies add, in order
@@ -46,14 +46,14 @@ pub record TellsEntries (old : SeatState) (commands : List Event) (replies : Lis
 
 -- In a conversation the replies are the entries' answers.
 abbrev pub RepliesAreEntries : List (List ℕ) → List MachineState → (Passage → Bool) → Type 0
-RepliesAreEntries opening starts lent =
-    (old new : SeatState) (input output rest : List ℕ) (e : Exchange (service opening starts lent) old input output new rest)
-    → TellsEntries old (flat_map (turn_commands (service opening starts lent)) e.turns) (flat_map (turn_replies (service opening starts lent)) e.turns) new
+RepliesAreEntries opening starts passed =
+    (old new : SeatState) (input output rest : List ℕ) (e : Exchange (service opening starts passed) old input output new rest)
+    → TellsEntries old (flat_map (turn_commands (service opening starts passed)) e.turns) (flat_map (turn_replies (service opening starts passed)) e.turns) new
 
 -- So it is for a line whose reply is written in part.
 abbrev pub ReplyIsEntry : List (List ℕ) → List MachineState → (Passage → Bool) → Type 0
-ReplyIsEntry opening starts lent = (old new : SeatState) (line bytes : List ℕ) (a : Answered (service opening starts lent) old line bytes new)
-    → TellsEntries old (turn_commands (service opening starts lent) a.0) (turn_replies (service opening starts lent) a.0) new
+ReplyIsEntry opening starts passed = (old new : SeatState) (line bytes : List ℕ) (a : Answered (service opening starts passed) old line bytes new)
+    → TellsEntries old (turn_commands (service opening starts passed) a.0) (turn_replies (service opening starts passed) a.0) new
 
 -- What a step adds at the machine's seat: entries of its actor, stamped above all that the connection had seen before it, and at
 -- most at what it has seen after.
@@ -64,5 +64,5 @@ pub record StepsAbove (m : ℕ) (old : SeatState) (before after : SeatState) (ne
 
 -- So it is for each step that a connection asks for.
 abbrev pub StepsStandAbove : List (List ℕ) → List MachineState → (Passage → Bool) → Type 0
-StepsStandAbove opening starts lent = (old new : SeatState) (m : ℕ) (way : Way) (told : ServiceReply) (c : OnCell opening starts lent old m (Step way) told new)
+StepsStandAbove opening starts passed = (old new : SeatState) (m : ℕ) (way : Way) (reply : ServiceReply) (c : OnCell opening starts passed old m (Step way) reply new)
     → StepsAbove m old c.before.seat c.after.seat new

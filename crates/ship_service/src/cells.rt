@@ -26,7 +26,7 @@ pub(crate) fn lend<'a, F: FarStore, K: TableName, R: Wait>(
     machine: usize,
 ) -> Option<MutexGuard<'a, Locked<K>>>
     ensures some { IfSome result (λ guard. IsCell K.opening K.starts machine (mutex_guard_value guard)) }
-    ensures lent { IfSome result (λ guard. K.lent (Lends (mutex_guard_value guard)) ≡ true) }
+    ensures lent { IfSome result (λ guard. K.passed (Lends (mutex_guard_value guard)) ≡ true) }
     ensures exists { IfSome result (λ guard. (1 ≤ machine) × (machine ≤ machine_limit)) }
     ensures none { IfNone result ((1 ≤ machine) × (machine ≤ machine_limit) → ⊥) }
 {
@@ -51,7 +51,7 @@ pub(crate) fn answer_machine<F: FarStore, K: TableName, R: Wait>(
     command: MachineCommand,
 ) -> ServiceReply
     ensures seat { seat.new.seat ≡ seat.old.seat }
-    ensures serves { ServesMachine K.opening K.starts K.lent (seat_state seat.old) machine command result (seat_state seat.new) }
+    ensures serves { ServesMachine K.opening K.starts K.passed (seat_state seat.old) machine command result (seat_state seat.new) }
 {
     let Some(mut locked) = lend(rt, agent, machine) else {
         return ServiceReply::Plain(Reply::Missing);
@@ -74,7 +74,7 @@ fn lend_empty<'a, F: FarStore, K: TableName, R: Wait>(
 ) -> Result<(MutexGuard<'a, Locked<K>>, Occupied<K>), Occupied<K>>
     ensures found { IfOk result (λ r. (r.1 < machine_limit) × IsCell K.opening K.starts (r.1 + 1) (mutex_guard_value r.0)
         × ((mutex_guard_value r.0).running ≡ None)) }
-    ensures lent { IfOk result (λ r. K.lent (Lends (mutex_guard_value r.0)) ≡ true) }
+    ensures lent { IfOk result (λ r. K.passed (Lends (mutex_guard_value r.0)) ≡ true) }
     ensures none { IfErr result (λ occupied. occupied ≡ machine_limit) }
 {
     let mut occupied = agent.pool().occupied(rt, MACHINE_LIMIT);
@@ -105,7 +105,7 @@ pub(crate) fn ship<F: FarStore, K: TableName, R: Wait>(
     start: Start,
     code: &[u8],
 ) -> ServiceReply
-    ensures { ServesShip K.opening K.starts K.lent start code.now result }
+    ensures { ServesShip K.opening K.starts K.passed start code.now result }
 {
     let (mut locked, occupied) = match lend_empty(rt, agent) {
         Ok(found) => found,

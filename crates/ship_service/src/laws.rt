@@ -10,29 +10,29 @@ use workers::TableName;
 /// In a conversation the `ok` of `put` and the `bytes` of `get` are, in order, the answers of the entries that are added at
 /// the connection's seat.
 pub fn replies_are_entries<K: TableName>()
-    ensures { RepliesAreEntries K.opening K.starts K.lent }
+    ensures { RepliesAreEntries K.opening K.starts K.passed }
 {}
 
 /// So it is for a line whose reply is written in part.
 pub fn reply_is_entry<K: TableName>()
-    ensures { ReplyIsEntry K.opening K.starts K.lent }
+    ensures { ReplyIsEntry K.opening K.starts K.passed }
 {}
 
 /// A machine that was there when the table was opened is never answered to be none.
 pub fn opened_machines_stay<K: TableName>()
-    ensures { OpenedMachinesStay K.opening K.starts K.lent }
+    ensures { OpenedMachinesStay K.opening K.starts K.passed }
 {}
 
 /// Whatever a command on a machine is answered, the machine is then the replay of entries up to the stamp that the connection
 /// has seen, from the state that the table was opened with or from the start of valid code.
 pub fn answered_machines_are_seen<K: TableName>()
-    ensures { AnsweredMachinesAreSeen K.opening K.starts K.lent }
+    ensures { AnsweredMachinesAreSeen K.opening K.starts K.passed }
 {}
 
 /// What a machine does in a step that a connection asks for stands above all that the connection had seen before, and the
 /// connection has seen it then.
 pub fn steps_stand_above<K: TableName>()
-    ensures { StepsStandAbove K.opening K.starts K.lent }
+    ensures { StepsStandAbove K.opening K.starts K.passed }
 {}
 
 /// Each machine that a closed service leaves is the replay of its own share of the one list.

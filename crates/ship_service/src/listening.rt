@@ -52,7 +52,7 @@ fn close<F: FarStore + Drop, K: TableName, W: Write, J: Journal>(
     ended: Ended<F, K>,
 ) -> Result<(), ListenFault>
     requires all { K.seats ≡ machine_limit + length ended.connections.items }
-    ensures { SaysClosing (TellsClosing F F.RETURNS K.table K.opening K.starts K.lent) (W.contents writer.old) (W.contents writer.new) result }
+    ensures { SaysClosing (TellsClosing F F.RETURNS K.table K.opening K.starts K.passed) (W.contents writer.old) (W.contents writer.new) result }
 {
     let Ok(closed) = ended.close(alloc, agent) else {
         return Err(ListenFault::Memory);
@@ -92,7 +92,7 @@ where
     requires all { K.seats ≡ machine_limit + length connections.items }
     requires first { mover.view ≡ first_mover_view F.RETURNS K.opening }
     requires unused { All (λ c. IsUnused K.table F.RETURNS K.opening c.session.seat) connections.items }
-    ensures says { SaysAs (TellsClosing F F.RETURNS K.table K.opening K.starts K.lent) name.now.items (W.contents writer.old) (W.contents writer.new) result }
+    ensures says { SaysAs (TellsClosing F F.RETURNS K.table K.opening K.starts K.passed) name.now.items (W.contents writer.old) (W.contents writer.new) result }
     ensures here { OpensAll result }
 {
     let Ok(()) = announce_at(name, writer) else {
@@ -137,8 +137,8 @@ fn listen_opened<
 ) -> Result<(), ListenFault>
 where
     F::Parcel: Send,
-    requires { IsNamed K.table K.opening K.starts K.seats K.lent opened.shared.table opened.machines.items }
-    ensures says { SaysAs (TellsClosing F F.RETURNS K.table K.opening K.starts K.lent) name.now.items (W.contents writer.old) (W.contents writer.new) result }
+    requires { IsNamed K.table K.opening K.starts K.seats K.passed opened.shared.table opened.machines.items }
+    ensures says { SaysAs (TellsClosing F F.RETURNS K.table K.opening K.starts K.passed) name.now.items (W.contents writer.old) (W.contents writer.new) result }
     ensures here { OpensAll result }
 {
     let Ok((agent, connections, mover)) = Agent::<F, K>::open(rt, alloc, opened) else {

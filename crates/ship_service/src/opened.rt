@@ -170,7 +170,7 @@ impl<F: FarStore + Drop, K: TableName> Agent<F, K> {
         alloc: Global,
         opened: Opened<F>,
     ) -> Result<(Agent<F, K>, Vec<Connection<K>>, Mover<F, K>), OpenAgent>
-        requires { IsNamed K.table K.opening K.starts K.seats K.lent opened.shared.table opened.machines.items }
+        requires { IsNamed K.table K.opening K.starts K.seats K.passed opened.shared.table opened.machines.items }
         ensures agent { IfOk result (λ r. r.0.pool.shared ≡ opened.shared) }
         ensures seats { IfOk result (λ r. AreFreshSeats K.table F.RETURNS K.opening (machine_limit + 1) (map (λ c. c.session.seat) r.1.items)) }
         ensures connections { IfOk result (λ r. (length r.1.items ≡ connection_limit) × All (λ c. c.console ≡ nothing_held) r.1.items) }

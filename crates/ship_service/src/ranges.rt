@@ -1,7 +1,7 @@
 //! Commands on objects, at a connection's seat.
 ghost use Rattle.std.specs.Prelude.{◌≡◌};
 ghost use Rattle.workers.specs.Cells.{IsSeatOf, seat_state};
-ghost use Rattle.ship_service.specs.Ranges.{PutsOnce, GetsOnce, ServesPut, ServesGet, AsksMover, reply_to_denied, told_of_get};
+ghost use Rattle.ship_service.specs.Ranges.{PutsOnce, GetsOnce, ServesPut, ServesGet, AsksMover, reply_to_denied, reply_of_get};
 ghost use Rattle.ship_service.specs.Replies.{IsShortReply, is_busy, service_text};
 ghost use Rattle.console.specs.Lines.{ended};
 
@@ -70,9 +70,9 @@ pub(crate) fn put<F: FarStore, K: TableName, R: Wait>(
     ensures put { ServesPut (seat_state seat.old) object offset bytes.now result (seat_state seat.new) }
 {
     for retry in 0..RETRY_LIMIT {
-        let told = put_once(rt, pool, seat, object, offset, bytes);
-        if !told.is_busy() {
-            return told;
+        let reply = put_once(rt, pool, seat, object, offset, bytes);
+        if !reply.is_busy() {
+            return reply;
         }
         give_time(rt, retry);
     }
@@ -81,19 +81,19 @@ pub(crate) fn put<F: FarStore, K: TableName, R: Wait>(
 
 /// Whether another had its turn on the object whose bytes were to be read.
 fn found_busy(found: &Result<Vec<u8>, GetError>, _object: u32) -> bool
-    ensures { result ≡ is_busy (told_of_get _object found.now) }
+    ensures { result ≡ is_busy (reply_of_get _object found.now) }
 {
     matches!(found, Err(GetError::Denied(Denied::Busy)))
 }
 
 /// The reply to what became of a range that was to be read.
-fn told_of_get<F: FarStore, K: TableName, R: Wait>(
+fn reply_of_get<F: FarStore, K: TableName, R: Wait>(
     rt: &R,
     pool: &Pool<F, K>,
     object: u32,
     found: Result<Vec<u8>, GetError>,
 ) -> ServiceReply
-    ensures { result ≡ told_of_get object found }
+    ensures { result ≡ reply_of_get object found }
 {
     match found {
         Ok(bytes) => ServiceReply::Plain(Reply::Bytes(Bytes::new(bytes))),
@@ -112,7 +112,7 @@ fn fetch_once<F: FarStore, K: TableName>(
 ) -> Result<Vec<u8>, GetError>
     requires { IsSeatOf K.table K.opening seat.old }
     ensures of { IsSeatOf K.table K.opening seat.new }
-    ensures get { GetsOnce (seat_state seat.old) object offset length (told_of_get object result) (seat_state seat.new) }
+    ensures get { GetsOnce (seat_state seat.old) object offset length (reply_of_get object result) (seat_state seat.new) }
 {
     pool.table().get(seat, object, offset, length)
 }
@@ -128,7 +128,7 @@ pub(crate) fn fetch<F: FarStore, K: TableName, R: Wait>(
 ) -> Result<Vec<u8>, GetError>
     requires { IsSeatOf K.table K.opening seat.old }
     ensures of { IsSeatOf K.table K.opening seat.new }
-    ensures get { ServesGet (seat_state seat.old) object offset length (told_of_get object result) (seat_state seat.new) }
+    ensures get { ServesGet (seat_state seat.old) object offset length (reply_of_get object result) (seat_state seat.new) }
 {
     for retry in 0..RETRY_LIMIT {
         let found = fetch_once(pool, seat, object, offset, length);
@@ -154,7 +154,7 @@ pub(crate) fn get<F: FarStore, K: TableName, R: Wait>(
     ensures get { ServesGet (seat_state seat.old) object offset length result (seat_state seat.new) }
 {
     let found = fetch(rt, pool, seat, object, offset, length);
-    told_of_get(rt, pool, object, found)
+    reply_of_get(rt, pool, object, found)
 }
 
 /// Makes this the line of what became of a range. The bytes go into the line without a reply, which has room for much more and
@@ -166,12 +166,12 @@ pub(crate) fn print_found<F: FarStore, K: TableName, R: Wait>(
     found: Result<Vec<u8>, GetError>,
     line: &mut ReplyLine,
 )
-    requires { IsShortReply (told_of_get object found) }
-    ensures { line.new.items ≡ ended (service_text (told_of_get object found)) }
+    requires { IsShortReply (reply_of_get object found) }
+    ensures { line.new.items ≡ ended (service_text (reply_of_get object found)) }
 {
     match found {
         Ok(bytes) => print_bytes(&bytes, line),
-        found => print_service_reply(&told_of_get(rt, pool, object, found), line),
+        found => print_service_reply(&reply_of_get(rt, pool, object, found), line),
     }
 }
 

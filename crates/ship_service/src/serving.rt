@@ -5,7 +5,7 @@ ghost use Rattle.console.specs.Held.{nothing_held};
 ghost use Rattle.console.specs.Conversations.{AnswersAll, StopsReading};
 ghost use Rattle.console.specs.Gathered.{StopsShort};
 ghost use Rattle.workers.specs.Cells.{IsSeatOf, seat_state};
-ghost use Rattle.workers.specs.TableNames.{each_lent};
+ghost use Rattle.workers.specs.TableNames.{each_passed};
 ghost use Rattle.workers.specs.TableNames.Passage.{Conversed};
 ghost use Rattle.console.specs.Lines.{ended};
 ghost use Rattle.console.specs.Commands.{range_limit};
@@ -46,26 +46,26 @@ pub(crate) struct Conversations<K: TableName> {
 
 impl<K: TableName> Model for Conversations<K> {
     ghost use Rattle.std.specs.Prelude.{◌≡◌, ⊤};
-    ghost use Rattle.workers.specs.TableNames.{each_lent};
+    ghost use Rattle.workers.specs.TableNames.{each_passed};
 
     ghost Value = { ⊤ };
 
     ghost view = { λ c. tt };
 
-    ghost invariant = { λ c. K.lent ≡ each_lent };
+    ghost invariant = { λ c. K.passed ≡ each_passed };
 }
 
 impl<K: TableName> Conversations<K> {
     /// Those over the table that K names.
     pub(crate) fn new() -> Self
-        requires { K.lent ≡ each_lent }
+        requires { K.passed ≡ each_passed }
     {
         Conversations { of: PhantomData }
     }
 
     /// Says that a conversation over this stream began with the one seat and ended with the other.
     fn held<I: Read>(&self, _reader: &Snapshot<I>, _began: &Snapshot<ActorSeat>, _ended: &ActorSeat)
-        ensures { K.lent (Conversed (I.remaining _reader.now.value) _began.now.value _ended.now) ≡ true }
+        ensures { K.passed (Conversed (I.remaining _reader.now.value) _began.now.value _ended.now) ≡ true }
     {
         let _of = &self.of;
     }
@@ -103,7 +103,7 @@ fn answer<F: FarStore, K: TableName, R: Wait>(
 ) -> ServiceReply
     requires { IsSeatOf K.table K.opening seat.old }
     ensures of { IsSeatOf K.table K.opening seat.new }
-    ensures serves { Serves K.opening K.starts K.lent (seat_state seat.old) event result (seat_state seat.new) }
+    ensures serves { Serves K.opening K.starts K.passed (seat_state seat.old) event result (seat_state seat.new) }
 {
     match event {
         Event::Make { .. } => ServiceReply::Unserved,
@@ -127,8 +127,8 @@ fn answer_get<'a, F: FarStore, K: TableName, R: Wait>(
     requires seat { IsSeatOf K.table K.opening seat.old }
     requires short { length ≤ range_limit }
     ensures of { IsSeatOf K.table K.opening seat.new }
-    ensures serves { (told : ServiceReply) × ServesTurn K.opening K.starts K.lent (seat_state seat.old) (Object object (Get offset length)) told
-        (seat_state seat.new) × (reply.new.items ≡ ended (service_text told)) }
+    ensures serves { (answered : ServiceReply) × ServesTurn K.opening K.starts K.passed (seat_state seat.old) (Object object (Get offset length)) answered
+        (seat_state seat.new) × (reply.new.items ≡ ended (service_text answered)) }
 {
     let pool = shared.agent.pool();
     let found = fetch(shared.rt, pool, seat, object, offset, length);
@@ -140,7 +140,7 @@ impl<'a, R: Wait, F: FarStore, K: TableName> Answerer<Service<'a, R, F, K>> for 
     ghost use Rattle.workers.specs.Cells.{seat_state};
     ghost use Rattle.ship_service.specs.Served.{service};
 
-    ghost protocol = { service K.opening K.starts K.lent };
+    ghost protocol = { service K.opening K.starts K.passed };
 
     ghost state = { λ session. seat_state session.seat };
 
@@ -155,10 +155,10 @@ impl<'a, R: Wait, F: FarStore, K: TableName> Answerer<Service<'a, R, F, K>> for 
             return;
         }
         let pool = shared.agent.pool();
-        let told = answer(shared.rt, self.alloc, shared.agent, &mut self.seat, event);
+        let answered = answer(shared.rt, self.alloc, shared.agent, &mut self.seat, event);
         pool.table().close_scopes(&mut self.seat);
         pool.command_ended();
-        print_service_reply(&told, reply);
+        print_service_reply(&answered, reply);
     }
 }
 
@@ -172,15 +172,15 @@ pub fn serve<F: FarStore, K: TableName, R: Wait, I: Read, O: Write>(
     connection: &mut Connection<K>,
 ) -> Result<(), DriveFault>
     ensures ok { OnOk result (IfSome (I.remaining reader.old) (λ input.
-        AnswersAll (service K.opening K.starts K.lent) (seat_state connection.old.session.seat) input (O.contents writer.old) (O.contents writer.new)
+        AnswersAll (service K.opening K.starts K.passed) (seat_state connection.old.session.seat) input (O.contents writer.old) (O.contents writer.new)
         (seat_state connection.new.session.seat))) }
     ensures read { IsErrOf result DriveFault.Read → IfSome (I.remaining reader.old) (λ input.
-        StopsReading (service K.opening K.starts K.lent) (seat_state connection.old.session.seat) input (O.contents writer.old) (O.contents writer.new)
+        StopsReading (service K.opening K.starts K.passed) (seat_state connection.old.session.seat) input (O.contents writer.old) (O.contents writer.new)
         (seat_state connection.new.session.seat) connection.new.console (I.remaining reader.new)) }
     ensures write { IsErrOf result DriveFault.Write → IfSome (I.remaining reader.old) (λ input. IfSome (O.contents writer.old) (λ before.
-        StopsShort (service K.opening K.starts K.lent) (seat_state connection.old.session.seat) input before (O.contents writer.new)
+        StopsShort (service K.opening K.starts K.passed) (seat_state connection.old.session.seat) input before (O.contents writer.new)
         (seat_state connection.new.session.seat) (I.remaining reader.new))) }
-    ensures conversed { K.lent (Conversed (I.remaining reader.old) connection.old.session.seat connection.new.session.seat) ≡ true }
+    ensures conversed { K.passed (Conversed (I.remaining reader.old) connection.old.session.seat connection.new.session.seat) ≡ true }
 {
     connection.console.clear();
     let before = Snapshot::of(reader);

@@ -57,8 +57,8 @@ impl From<AllocError> for ThreadFault {
 pub struct Ended<F: FarStore, K: TableName> {
     mover: Mover<F, K>,
     connections: Vec<Connection<K>>,
-    pub ghost ran: { K.lent (Ran (first_mover_view F.RETURNS K.opening) mover.view) ≡ true },
-    pub ghost clients: { All (λ c. HadOneClient K.table F.RETURNS K.opening K.lent c.session.seat) connections.items },
+    pub ghost ran: { K.passed (Ran (first_mover_view F.RETURNS K.opening) mover.view) ≡ true },
+    pub ghost clients: { All (λ c. HadOneClient K.table F.RETURNS K.opening K.passed c.session.seat) connections.items },
 }
 
 impl<F: FarStore + Drop, K: TableName> Ended<F, K> {
@@ -97,7 +97,7 @@ impl<F: FarStore, K: TableName> Promise<Mover<F, K>> for RanOnce<F, K> {
     ghost use Rattle.workers.specs.TableNames.Passage.{Ran};
     ghost use Rattle.ship_service.specs.Opening.{first_mover_view};
 
-    ghost kept_by = { λ promise served. K.lent (Ran (first_mover_view F.RETURNS K.opening) served.view) ≡ true };
+    ghost kept_by = { λ promise served. K.passed (Ran (first_mover_view F.RETURNS K.opening) served.view) ≡ true };
 }
 
 /// Of a connection that comes back from its thread: it had one client.
@@ -109,7 +109,7 @@ struct ServedOne<F: FarStore, K: TableName> {
 impl<F: FarStore, K: TableName> Promise<Connection<K>> for ServedOne<F, K> {
     ghost use Rattle.ship_service.specs.Conversed.{HadOneClient};
 
-    ghost kept_by = { λ promise connection. HadOneClient K.table F.RETURNS K.opening K.lent connection.session.seat };
+    ghost kept_by = { λ promise connection. HadOneClient K.table F.RETURNS K.opening K.passed connection.session.seat };
 }
 
 /// The thread of a connection.
@@ -189,7 +189,7 @@ fn serve_client<R: Wait, F: FarStore, K: TableName, J: Journal>(
     stream: TcpStream,
 ) -> Connection<K>
     requires { IsUnused K.table F.RETURNS K.opening unused.session.seat }
-    ensures { HadOneClient K.table F.RETURNS K.opening K.lent result.session.seat }
+    ensures { HadOneClient K.table F.RETURNS K.opening K.passed result.session.seat }
 {
     tools.gate.journal.came(client);
     let mut connection = unused;
@@ -266,7 +266,7 @@ fn joined<F: FarStore, K: TableName, R: Threads>(
     conversations: Vec<Conversation<F, K>>,
 ) -> Result<Vec<Connection<K>>, AllocError>
     ensures all { IfOk result (λ ended. length ended.items ≡ length conversations.items) }
-    ensures clients { IfOk result (λ ended. All (λ c. HadOneClient K.table F.RETURNS K.opening K.lent c.session.seat) ended.items) }
+    ensures clients { IfOk result (λ ended. All (λ c. HadOneClient K.table F.RETURNS K.opening K.passed c.session.seat) ended.items) }
 {
     let mut ended = Vec::new(alloc);
     for conversation in conversations {
@@ -293,7 +293,7 @@ where
     F::Parcel: Send,
     requires { All (λ c. IsUnused K.table F.RETURNS K.opening c.session.seat) connections.items }
     ensures all { IfOk result (λ ended. length ended.items ≡ length connections.items) }
-    ensures clients { IfOk result (λ ended. All (λ c. HadOneClient K.table F.RETURNS K.opening K.lent c.session.seat) ended.items) }
+    ensures clients { IfOk result (λ ended. All (λ c. HadOneClient K.table F.RETURNS K.opening K.passed c.session.seat) ended.items) }
 {
     thread::scope(
         thread::scope_env(),
@@ -302,7 +302,7 @@ where
             requires send { IsSend K.row × IsSync R.row × IsSync J.row }
             requires unused { All (λ c. IsUnused K.table F.RETURNS K.opening c.session.seat) connections.items }
             ensures all { IfOk result (λ ended. length ended.items ≡ length connections.items) }
-            ensures clients { IfOk result (λ ended. All (λ c. HadOneClient K.table F.RETURNS K.opening K.lent c.session.seat) ended.items) }
+            ensures clients { IfOk result (λ ended. All (λ c. HadOneClient K.table F.RETURNS K.opening K.passed c.session.seat) ended.items) }
         {
             let count = connections.len();
             let Ok(mut conversations) = Vec::with_capacity(alloc, count) else {
@@ -322,7 +322,7 @@ where
                     promise,
                     move || -> Connection<K>
                         requires { IsUnused K.table F.RETURNS K.opening connection.session.seat }
-                        ensures { HadOneClient K.table F.RETURNS K.opening K.lent result.session.seat }
+                        ensures { HadOneClient K.table F.RETURNS K.opening K.passed result.session.seat }
                     { serve_client(tools, client, connection, stream) },
                 );
                 if note(&mut conversations, begun).is_err() {
@@ -350,7 +350,7 @@ fn move_objects<R: Wait, F: FarStore, K: TableName, J: Journal>(
     first: Mover<F, K>,
 ) -> Mover<F, K>
     requires { first.view ≡ first_mover_view F.RETURNS K.opening }
-    ensures { K.lent (Ran (first_mover_view F.RETURNS K.opening) result.view) ≡ true }
+    ensures { K.passed (Ran (first_mover_view F.RETURNS K.opening) result.view) ≡ true }
 {
     let mut served = first;
     mover(
@@ -378,7 +378,7 @@ where
     F::Parcel: Send,
     requires { All (λ c. IsUnused K.table F.RETURNS K.opening c.session.seat) front.connections.items }
     ensures all { IfOk result (λ ended. length ended.items ≡ length front.connections.items) }
-    ensures clients { IfOk result (λ ended. All (λ c. HadOneClient K.table F.RETURNS K.opening K.lent c.session.seat) ended.items) }
+    ensures clients { IfOk result (λ ended. All (λ c. HadOneClient K.table F.RETURNS K.opening K.passed c.session.seat) ended.items) }
 {
     let Front {
         alloc,
@@ -393,7 +393,7 @@ where
             requires send { IsSend F.row × IsSend K.row × IsSend F.Parcel.row × IsSync R.row × IsSync J.row }
             requires unused { All (λ c. IsUnused K.table F.RETURNS K.opening c.session.seat) connections.items }
             ensures all { IfOk result (λ ended. length ended.items ≡ length connections.items) }
-            ensures clients { IfOk result (λ ended. All (λ c. HadOneClient K.table F.RETURNS K.opening K.lent c.session.seat) ended.items) }
+            ensures clients { IfOk result (λ ended. All (λ c. HadOneClient K.table F.RETURNS K.opening K.passed c.session.seat) ended.items) }
         {
             for worker in 0..workers {
                 if scope.spawn(move || step_machines(tools, worker)).is_err() {

@@ -95,7 +95,7 @@ fn hold<F: FarStore, K: TableName, R: Wait>(
 ) -> bool
     requires { (1 ≤ machine) × (machine ≤ machine_limit) }
     ensures seat { seat.new.seat ≡ seat.old.seat }
-    ensures takes { (after : CellState) × TakesTurn K.opening K.starts K.lent machine (seat_state seat.old) after (seat_state seat.new) }
+    ensures takes { (after : CellState) × TakesTurn K.opening K.starts K.passed machine (seat_state seat.old) after (seat_state seat.new) }
 {
     let Some(mut locked) = lend(rt, agent, machine) else {
         unreachable!()
@@ -125,8 +125,8 @@ fn take_turns<F: FarStore, K: TableName, R: Wait>(
     requires few { turns ≤ own_turns }
     ensures seat { seat.new.seat ≡ seat.old.seat }
     ensures on { IsTrue result → (taken : ℕ) × (taken ≤ own_turns)
-        × TakesTurns K.opening K.starts K.lent machine taken (seat_state seat.old) (seat_state seat.new) }
-    ensures off { IsFalse result → (after : CellState) × GoesOn K.opening K.starts K.lent machine (seat_state seat.old) after (seat_state seat.new) }
+        × TakesTurns K.opening K.starts K.passed machine taken (seat_state seat.old) (seat_state seat.new) }
+    ensures off { IsFalse result → (after : CellState) × GoesOn K.opening K.starts K.passed machine (seat_state seat.old) after (seat_state seat.new) }
 {
     for taken in 0..turns {
         let on = hold(rt, agent, seat, machine, Part::Turn);
@@ -147,7 +147,7 @@ pub(crate) fn go_on<F: FarStore, K: TableName, R: Wait>(
 )
     requires { (1 ≤ machine) × (machine ≤ machine_limit) }
     ensures seat { seat.new.seat ≡ seat.old.seat }
-    ensures goes { (after : CellState) × GoesOn K.opening K.starts K.lent machine (seat_state seat.old) after (seat_state seat.new) }
+    ensures goes { (after : CellState) × GoesOn K.opening K.starts K.passed machine (seat_state seat.old) after (seat_state seat.new) }
 {
     let on = take_turns(rt, agent, seat, machine, turns_of(agent.pool()));
     if !on {

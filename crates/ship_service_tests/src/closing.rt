@@ -4,7 +4,7 @@ ghost use Rattle.shared_objects.specs.Kinds.{dealer};
 ghost use Rattle.shared_objects.specs.Opened.{AreFresh, seated};
 ghost use Rattle.shared_objects.specs.Tables.{IsActorOf};
 ghost use Rattle.workers.specs.Cells.{IsSeatOf, IsTableOf};
-ghost use Rattle.workers.specs.TableNames.{each_lent};
+ghost use Rattle.workers.specs.TableNames.{each_passed};
 ghost use Rattle.workers.specs.Pools.{machines_of};
 
 use crate::compared::same;
@@ -69,7 +69,7 @@ pub fn service_of<F: FarStore + Drop, K: TableName, R: Wait>(
     requires seats { AreFresh (dealer F.RETURNS K.opening) parts.seats.items × All (IsActorOf parts.shared.table) parts.seats.items
         × (length parts.seats.items ≡ 48) }
     requires machines { (K.starts ≡ machines_of parts.machines.items) × (length parts.machines.items ≤ 48) }
-    requires lent { K.lent ≡ each_lent }
+    requires lent { K.passed ≡ each_passed }
     requires connection { IsSeatOf K.table K.opening parts.connection }
     requires mover { (parts.mover.seat.table_id ≡ K.table) × (parts.mover.seat.me.0 ≡ seated K.seats (dealer F.RETURNS K.opening)) }
 {
@@ -154,7 +154,7 @@ fn close_after<F: FarStore + Drop, K: TableName, R: Wait + Abort>(
     requires seats { AreFresh (dealer F.RETURNS K.opening) parts.seats.items × All (IsActorOf parts.shared.table) parts.seats.items
         × (length parts.seats.items ≡ 48) }
     requires machines { (K.starts ≡ machines_of parts.machines.items) × (length parts.machines.items ≤ 48) }
-    requires lent { K.lent ≡ each_lent }
+    requires lent { K.passed ≡ each_passed }
     requires connection { IsSeatOf K.table K.opening parts.connection }
     requires mover { (parts.mover.seat.table_id ≡ K.table) × (parts.mover.seat.me.0 ≡ seated K.seats (dealer F.RETURNS K.opening)) }
     requires all { K.seats ≡ 49 }

@@ -88,7 +88,7 @@ fn closed_unused<F: FarStore + Drop, K: TableName, R: Wait>(
     alloc: Global,
     opened: Opened<F>,
 ) -> Result<Closed<F>, Fail>
-    requires { IsNamed K.table K.opening K.starts K.seats K.lent opened.shared.table opened.machines.items }
+    requires { IsNamed K.table K.opening K.starts K.seats K.passed opened.shared.table opened.machines.items }
 {
     let Ok((agent, connections, served)) = Agent::<F, K>::open(rt, alloc, opened) else {
         return Err(Fail::from(AllocError));
@@ -102,7 +102,7 @@ fn left_unused<F: FarStore + Drop, K: TableName, R: Wait>(
     alloc: Global,
     opened: Opened<F>,
 ) -> Result<[Option<Kept>; 2], Fail>
-    requires { IsNamed K.table K.opening K.starts K.seats K.lent opened.shared.table opened.machines.items }
+    requires { IsNamed K.table K.opening K.starts K.seats K.passed opened.shared.table opened.machines.items }
 {
     let closed = closed_unused::<F, K, R>(rt, alloc, opened)?;
     Ok([kept_in(&closed, 0), kept_in(&closed, 1)])

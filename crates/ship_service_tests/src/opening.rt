@@ -80,7 +80,7 @@ fn begin<F: FarStore + Drop, K: TableName, R: Wait>(
     alloc: Global,
     opened: Opened<F>,
 ) -> Result<Begun<F, K>, OpenAgent>
-    requires { IsNamed K.table K.opening K.starts K.seats K.lent opened.shared.table opened.machines.items }
+    requires { IsNamed K.table K.opening K.starts K.seats K.passed opened.shared.table opened.machines.items }
 {
     let (agent, connections, served) = Agent::<F, K>::open(rt, alloc, opened)?;
     Ok(Begun {
@@ -122,7 +122,7 @@ fn serves<F: FarStore + Drop, K: TableName, R: Wait + Abort>(
     turns: u64,
     table: &[Lines],
 ) -> Result<Left, OpenAgent>
-    requires { IsNamed K.table K.opening K.starts K.seats K.lent opened.shared.table opened.machines.items }
+    requires { IsNamed K.table K.opening K.starts K.seats K.passed opened.shared.table opened.machines.items }
 {
     let Begun::<F, K> {
         agent,

@@ -4,7 +4,7 @@ ghost use Rattle.shared_objects.specs.Kinds.{dealer};
 ghost use Rattle.shared_objects.specs.Opened.{AreFresh};
 ghost use Rattle.shared_objects.specs.Tables.{IsActorOf, IsMoverOf};
 ghost use Rattle.workers.specs.Cells.{IsSeatOf, IsTableOf};
-ghost use Rattle.workers.specs.TableNames.{each_lent};
+ghost use Rattle.workers.specs.TableNames.{each_passed};
 ghost use Rattle.workers.specs.Pools.{machines_of};
 ghost use Rattle.ship_service_tests.specs.Stages.{AreNewSeats};
 
@@ -229,7 +229,7 @@ fn talks<F: FarStore, K: TableName, R: Wait + Abort>(
     requires seats { AreFresh (dealer F.RETURNS K.opening) parts.seats.items × All (IsActorOf parts.shared.table) parts.seats.items
         × (length parts.seats.items ≡ 48) }
     requires machines { (K.starts ≡ machines_of parts.machines.items) × (length parts.machines.items ≤ 48) }
-    requires lent { K.lent ≡ each_lent }
+    requires lent { K.passed ≡ each_passed }
     requires connections { IsSeatOf K.table K.opening parts.first × IsSeatOf K.table K.opening parts.second }
     requires mover { IsMoverOf parts.shared.table parts.mover }
 {

@@ -40,26 +40,26 @@ opening_carries opening = record {
   measured = λ before n. refl;
 }
 
-walk_opening : (way : Way) (old new : Debuggee) (before after : SeatState) (told : StepReply) → Walks seat_acts way old before told new after
+walk_opening : (way : Way) (old new : Debuggee) (before after : SeatState) (reply : StepReply) → Walks seat_acts way old before reply new after
     → after.view.opening ≡ before.view.opening
-walk_opening way old new before after told h =
+walk_opening way old new before after reply h =
     (step_carries true seat_acts seat_acts (λ (s : SeatState). s) (λ (s : SeatState). s.view.opening ≡ before.view.opening)
     (opening_carries before.view.opening) old.machine h.machine before after h.answer refl refl h.step).1
 
-answer_opening : (way : Way) (old new : Debuggee) (before after : SeatState) (told : StepReply) → AnswersStep seat_acts way old before told new after
+answer_opening : (way : Way) (old new : Debuggee) (before after : SeatState) (reply : StepReply) → AnswersStep seat_acts way old before reply new after
     → after.view.opening ≡ before.view.opening
 answer_opening way old new before after (step_reply.Paused slot) h = ap (λ (s : SeatState). s.view.opening) h.same
-answer_opening way old new before after told h = walk_opening way old new before after told h
+answer_opening way old new before after reply h = walk_opening way old new before after reply h
 
-walk_whole : (way : Way) (old new : Debuggee) (before after : SeatState) (told : StepReply) → IsWholeMachine old.machine
-    → Walks seat_acts way old before told new after → IsWholeMachine new.machine
-walk_whole way old new before after told whole h =
+walk_whole : (way : Way) (old new : Debuggee) (before after : SeatState) (reply : StepReply) → IsWholeMachine old.machine
+    → Walks seat_acts way old before reply new after → IsWholeMachine new.machine
+walk_whole way old new before after reply whole h =
     subst (λ (d : Debuggee). IsWholeMachine d.machine) (sym h.changed) (stays_whole seat_acts old.machine h.machine before after h.answer whole h.step).2
 
-answer_whole : (way : Way) (old new : Debuggee) (before after : SeatState) (told : StepReply) → IsWholeMachine old.machine
-    → AnswersStep seat_acts way old before told new after → IsWholeMachine new.machine
+answer_whole : (way : Way) (old new : Debuggee) (before after : SeatState) (reply : StepReply) → IsWholeMachine old.machine
+    → AnswersStep seat_acts way old before reply new after → IsWholeMachine new.machine
 answer_whole way old new before after (step_reply.Paused slot) whole h = subst (λ (d : Debuggee). IsWholeMachine d.machine) (sym h.changed) whole
-answer_whole way old new before after told whole h = walk_whole way old new before after told whole h
+answer_whole way old new before after reply whole h = walk_whole way old new before after reply whole h
 
 -- ---- what a run keeps
 
@@ -72,7 +72,7 @@ run_replays : (opening : List (List ℕ)) (start : MachineState) (n ran : ℕ) (
 run_replays opening start n ran end old new before after same r h =
     (run_keeps seat_acts (λ (d : Debuggee) (s : SeatState). (s.view.opening ≡ opening)
     × IsReplay (lengths_of opening) (is_marked_worn s.view.marks) start (map own_entry s.view.entries) d.machine)
-    (λ a b x y told p q. (answer_opening way.Step a b x y told q ∙ p.0, answer_replays opening start way.Step a b x y told p.0 p.1 q))
+    (λ a b x y reply p q. (answer_opening way.Step a b x y reply q ∙ p.0, answer_replays opening start way.Step a b x y reply p.0 p.1 q))
     n ran end old new before after (same, r) h).1
 
 -- a cell's machine stays the replay, from the same start
@@ -91,7 +91,7 @@ pub run_actor : (n ran : ℕ) (end : Option StepReply) (old new : Debuggee) (bef
     → after.view.actor ≡ before.view.actor
 run_actor n ran end old new before after h =
     run_keeps seat_acts (λ (d : Debuggee) (s : SeatState). s.view.actor ≡ before.view.actor)
-    (λ a b x y told p q. answer_actor way.Step a b x y told q ∙ p)
+    (λ a b x y reply p q. answer_actor way.Step a b x y reply q ∙ p)
     n ran end old new before after refl h
 
 -- and so does what the machine started as
@@ -100,7 +100,7 @@ pub run_ships : (n ran : ℕ) (end : Option StepReply) (old new : Debuggee) (bef
     → shipped_as new.machine b ≡ shipped_as old.machine b
 run_ships n ran end old new before after b whole h =
     (run_keeps seat_acts (λ (d : Debuggee) (s : SeatState). IsWholeMachine d.machine × (shipped_as d.machine b ≡ shipped_as old.machine b))
-    (λ x y u v told p q. (answer_whole way.Step x y u v told p.0 q, answer_keeps way.Step x y u v told b p.0 q ∙ p.1))
+    (λ x y u v reply p q. (answer_whole way.Step x y u v reply p.0 q, answer_keeps way.Step x y u v reply b p.0 q ∙ p.1))
     n ran end old new before after (whole, refl) h).1
 
 -- ---- as steps of the cell
@@ -109,10 +109,10 @@ run_ships n ran end old new before after b whole h =
 abbrev with : CellState → Option MachineState → Debuggee → SeatState → CellState
 with c b d s = record c { seat = s; running = Some (record { debuggee = d; shipped = b }) }
 
-one_cell : (c : CellState) (b : Option MachineState) (old new : Debuggee) (before after : SeatState) (told : StepReply)
-    → AnswersStep seat_acts way.Step old before told new after
-    → StepsCell way.Step (with c b old before) told (with c b new after)
-one_cell c b old new before after told h = record {
+one_cell : (c : CellState) (b : Option MachineState) (old new : Debuggee) (before after : SeatState) (reply : StepReply)
+    → AnswersStep seat_acts way.Step old before reply new after
+    → StepsCell way.Step (with c b old before) reply (with c b new after)
+one_cell c b old new before after reply h = record {
   before = record { debuggee = old; shipped = b };
   after = record { debuggee = new; shipped = b };
   seat = after;
@@ -132,12 +132,12 @@ cell_ran : (c : CellState) (b : Option MachineState) (n ran : ℕ) (end : Option
     → RunsUpTo seat_acts n old before ran end new after
     → RunsCell n (with c b old before) ran end (with c b new after)
 cell_ran c b n ran None old new before after h = (h.0, ran_cell c b n old new before after h.1)
-cell_ran c b n ran (Some told) old new before after h = record {
+cell_ran c b n ran (Some reply) old new before after h = record {
   fewer = h.fewer;
   other = h.other;
   mid = with c b h.last h.mid;
   steps = ran_cell c b ran old h.last before h.mid h.steps;
-  answer = one_cell c b h.last new h.mid after told h.answer;
+  answer = one_cell c b h.last new h.mid after reply h.answer;
 }
 
 -- a run of a machine is one of its cell

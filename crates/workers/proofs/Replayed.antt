@@ -140,35 +140,35 @@ step_replays opening start old new before after a same r t =
     (replay_more (lengths_of opening) (is_marked_worn before.view.marks) (is_marked_worn after.view.marks) more start es old r) t in
     subst (λ (l : List Entry). IsReplay (lengths_of opening) (is_marked_worn after.view.marks) start l new) (sym last.did.adds) last.replay
 
-walk_replays : (opening : List (List ℕ)) (start : MachineState) (way : Way) (old new : Debuggee) (before after : SeatState) (told : StepReply)
+walk_replays : (opening : List (List ℕ)) (start : MachineState) (way : Way) (old new : Debuggee) (before after : SeatState) (reply : StepReply)
     → before.view.opening ≡ opening
     → IsReplay (lengths_of opening) (is_marked_worn before.view.marks) start (map own_entry before.view.entries) old.machine
-    → Walks seat_acts way old before told new after
+    → Walks seat_acts way old before reply new after
     → IsReplay (lengths_of opening) (is_marked_worn after.view.marks) start (map own_entry after.view.entries) new.machine
-walk_replays opening start way old new before after told same r h =
+walk_replays opening start way old new before after reply same r h =
     subst (λ (d : Debuggee). IsReplay (lengths_of opening) (is_marked_worn after.view.marks) start (map own_entry after.view.entries) d.machine) (sym h.changed)
     (step_replays opening start old.machine h.machine before after h.answer same r h.step)
 
-pub answer_replays : (opening : List (List ℕ)) (start : MachineState) (way : Way) (old new : Debuggee) (before after : SeatState) (told : StepReply)
+pub answer_replays : (opening : List (List ℕ)) (start : MachineState) (way : Way) (old new : Debuggee) (before after : SeatState) (reply : StepReply)
     → before.view.opening ≡ opening
     → IsReplay (lengths_of opening) (is_marked_worn before.view.marks) start (map own_entry before.view.entries) old.machine
-    → AnswersStep seat_acts way old before told new after
+    → AnswersStep seat_acts way old before reply new after
     → IsReplay (lengths_of opening) (is_marked_worn after.view.marks) start (map own_entry after.view.entries) new.machine
 answer_replays opening start way old new before after (step_reply.Paused slot) same r h =
     subst (λ (s : SeatState). IsReplay (lengths_of opening) (is_marked_worn s.view.marks) start (map own_entry s.view.entries) new.machine) (sym h.same)
     (subst (λ (d : Debuggee). IsReplay (lengths_of opening) (is_marked_worn before.view.marks) start (map own_entry before.view.entries) d.machine)
     (sym h.changed) r)
-answer_replays opening start way old new before after told same r h = walk_replays opening start way old new before after told same r h
+answer_replays opening start way old new before after reply same r h = walk_replays opening start way old new before after reply same r h
 
 -- a cell's machine stays the replay, from the same start
 pub stays_replayed : (opening : List (List ℕ)) (starts : List MachineState) (number : ℕ) (way : Way) (old new : RunningState) (before after : SeatState)
-    (told : StepReply) → before.view.opening ≡ opening
-    → AnswersStep seat_acts way old.debuggee before told new.debuggee after → new.shipped ≡ old.shipped → IsReplayed opening starts number before old
+    (reply : StepReply) → before.view.opening ≡ opening
+    → AnswersStep seat_acts way old.debuggee before reply new.debuggee after → new.shipped ≡ old.shipped → IsReplayed opening starts number before old
     → IsReplayed opening starts number after new
-stays_replayed opening starts number way old new before after told same h kept r = record {
+stays_replayed opening starts number way old new before after reply same h kept r = record {
   start = r.start;
   started = subst (λ (s : Option MachineState). StartedAs starts number s r.start) (sym kept) r.started;
-  replay = answer_replays opening r.start way old.debuggee new.debuggee before after told same r.replay h;
+  replay = answer_replays opening r.start way old.debuggee new.debuggee before after reply same r.replay h;
 }
 
 -- ---- what it started as stays
@@ -180,19 +180,19 @@ shipped_stays m n (Some b) e f g =
     ∙ (ap (λ (x : List ℕ). Some (granted_start m.number x b.fuel b.arguments n.grants)) f
     ∙ ap (λ (x : GrantState). Some (granted_start m.number m.code b.fuel b.arguments x)) g)
 
-walk_keeps : (way : Way) (old new : Debuggee) (before after : SeatState) (told : StepReply) (b : Option Shipment) → IsWholeMachine old.machine
-    → Walks seat_acts way old before told new after
+walk_keeps : (way : Way) (old new : Debuggee) (before after : SeatState) (reply : StepReply) (b : Option Shipment) → IsWholeMachine old.machine
+    → Walks seat_acts way old before reply new after
     → shipped_as new.machine b ≡ shipped_as old.machine b
-walk_keeps way old new before after told b whole h =
+walk_keeps way old new before after reply b whole h =
     let w = stays_whole seat_acts old.machine h.machine before after h.answer whole h.step in
     ap (λ (d : Debuggee). shipped_as d.machine b) h.changed
     ∙ shipped_stays old.machine h.machine b w.1 w.0 (keeps seat_acts old.machine h.machine before after h.answer h.step)
 
-pub answer_keeps : (way : Way) (old new : Debuggee) (before after : SeatState) (told : StepReply) (b : Option Shipment) → IsWholeMachine old.machine
-    → AnswersStep seat_acts way old before told new after
+pub answer_keeps : (way : Way) (old new : Debuggee) (before after : SeatState) (reply : StepReply) (b : Option Shipment) → IsWholeMachine old.machine
+    → AnswersStep seat_acts way old before reply new after
     → shipped_as new.machine b ≡ shipped_as old.machine b
 answer_keeps way old new before after (step_reply.Paused slot) b whole h = ap (λ (d : Debuggee). shipped_as d.machine b) h.changed
-answer_keeps way old new before after told b whole h = walk_keeps way old new before after told b whole h
+answer_keeps way old new before after reply b whole h = walk_keeps way old new before after reply b whole h
 
 -- a machine without entries is the replay at its start
 pub fresh_replayed : (opening : List (List ℕ)) (starts : List MachineState) (number : ℕ) (seat : SeatState) (r : RunningState) → seat.view.entries ≡ []
@@ -236,16 +236,16 @@ actor_carries actor = record {
   measured = λ before n. refl;
 }
 
-walk_actor : (way : Way) (old new : Debuggee) (before after : SeatState) (told : StepReply) → Walks seat_acts way old before told new after
+walk_actor : (way : Way) (old new : Debuggee) (before after : SeatState) (reply : StepReply) → Walks seat_acts way old before reply new after
     → after.view.actor ≡ before.view.actor
-walk_actor way old new before after told h =
+walk_actor way old new before after reply h =
     (step_carries true seat_acts seat_acts (λ (s : SeatState). s) (λ (s : SeatState). s.view.actor ≡ before.view.actor) (actor_carries before.view.actor)
     old.machine h.machine before after h.answer refl refl h.step).1
 
-pub answer_actor : (way : Way) (old new : Debuggee) (before after : SeatState) (told : StepReply) → AnswersStep seat_acts way old before told new after
+pub answer_actor : (way : Way) (old new : Debuggee) (before after : SeatState) (reply : StepReply) → AnswersStep seat_acts way old before reply new after
     → after.view.actor ≡ before.view.actor
 answer_actor way old new before after (step_reply.Paused slot) h = ap (λ (s : SeatState). s.view.actor) h.same
-answer_actor way old new before after told h = walk_actor way old new before after told h
+answer_actor way old new before after reply h = walk_actor way old new before after reply h
 
 -- a machine that was there when the table was opened is one too
 pub opened_replayed : (opening : List (List ℕ)) (starts : List MachineState) (number : ℕ) (seat : SeatState) (r : RunningState) (d : Debuggee)

@@ -29,10 +29,10 @@ seat_carries {M} {S} view stamp loan table first = record {
   measured = λ before n. refl;
 }
 
-seat_walk : {M S : Type 0} (view : M → View) (stamp loan : M → ℕ) (table : M → S) (way : Way) (old new : Debuggee) (before after : M) (told : StepReply)
-    → Walks (seat_memory view stamp loan table) way old before told new after
-    → Walks seat_acts way old (seen view stamp before) told new (seen view stamp after) × IsLent loan table before after
-seat_walk {M} {S} view stamp loan table way old new before after told h =
+seat_walk : {M S : Type 0} (view : M → View) (stamp loan : M → ℕ) (table : M → S) (way : Way) (old new : Debuggee) (before after : M) (reply : StepReply)
+    → Walks (seat_memory view stamp loan table) way old before reply new after
+    → Walks seat_acts way old (seen view stamp before) reply new (seen view stamp after) × IsLent loan table before after
+seat_walk {M} {S} view stamp loan table way old new before after reply h =
     let t = step_carries true (seat_memory view stamp loan table) seat_acts (seen view stamp) (IsLent loan table before)
     (seat_carries view stamp loan table before)
     old.machine h.machine before after h.answer (record { loan_is = refl; table_is = refl }) refl h.step in (
@@ -41,14 +41,14 @@ seat_walk {M} {S} view stamp loan table way old new before after told h =
     )
 
 -- a step over a seat that is lent is one over what the seat knows
-pub seat_answer : {M S : Type 0} (view : M → View) (stamp loan : M → ℕ) (table : M → S) (way : Way) (old new : Debuggee) (before after : M) (told : StepReply)
-    → AnswersStep (seat_memory view stamp loan table) way old before told new after
-    → AnswersStep seat_acts way old (seen view stamp before) told new (seen view stamp after) × IsLent loan table before after
+pub seat_answer : {M S : Type 0} (view : M → View) (stamp loan : M → ℕ) (table : M → S) (way : Way) (old new : Debuggee) (before after : M) (reply : StepReply)
+    → AnswersStep (seat_memory view stamp loan table) way old before reply new after
+    → AnswersStep seat_acts way old (seen view stamp before) reply new (seen view stamp after) × IsLent loan table before after
 seat_answer view stamp loan table way old new before after (step_reply.Paused slot) h = (
   record { held = h.held; slot_is = h.slot_is; changed = h.changed; same = ap (seen view stamp) h.same },
   record { loan_is = ap loan h.same; table_is = ap table h.same },
 )
-seat_answer view stamp loan table way old new before after told h = seat_walk view stamp loan table way old new before after told h
+seat_answer view stamp loan table way old new before after reply h = seat_walk view stamp loan table way old new before after reply h
 
 seat_steps : {M S : Type 0} (view : M → View) (stamp loan : M → ℕ) (table : M → S) (n : ℕ) (old new : Debuggee) (before after : M)
     → StepsRan (seat_memory view stamp loan table) n old before new after
@@ -67,9 +67,9 @@ pub seat_run : {M S : Type 0} (view : M → View) (stamp loan : M → ℕ) (tabl
     → RunsUpTo (seat_memory view stamp loan table) n old before ran end new after
     → RunsUpTo seat_acts n old (seen view stamp before) ran end new (seen view stamp after) × IsLent loan table before after
 seat_run view stamp loan table n old before ran None new after h = let k = seat_steps view stamp loan table n old new before after h.1 in ((h.0, k.0), k.1)
-seat_run view stamp loan table n old before ran (Some told) new after h =
+seat_run view stamp loan table n old before ran (Some reply) new after h =
     let steps = seat_steps view stamp loan table ran old h.last before h.mid h.steps in
-    let last = seat_answer view stamp loan table way.Step h.last new h.mid after told h.answer in (
+    let last = seat_answer view stamp loan table way.Step h.last new h.mid after reply h.answer in (
       record { fewer = h.fewer; other = h.other; last = h.last; mid = seen view stamp h.mid; steps = steps.0; answer = last.0 },
       record { loan_is = last.1.loan_is ∙ steps.1.loan_is; table_is = last.1.table_is ∙ steps.1.table_is },
     )

@@ -142,17 +142,17 @@ RanCell zero old new = new ≡ old
 RanCell (suc n) old new = (slot : ℕ) × (mid : CellState) × StepsCell way.Step old (Ran slot) mid × RanCell n mid new
 
 -- Fewer steps than n ran, and the next one was answered otherwise.
-pub record EndsCell (n : ℕ) (old : CellState) (ran : ℕ) (told : StepReply) (new : CellState) : Type 0 where
+pub record EndsCell (n : ℕ) (old : CellState) (ran : ℕ) (reply : StepReply) (new : CellState) : Type 0 where
   pub fewer : ran < n
-  pub other : is_ran told ≡ false
+  pub other : is_ran reply ≡ false
   pub mid : CellState
   pub steps : RanCell ran old mid
-  pub answer : StepsCell way.Step mid told new
+  pub answer : StepsCell way.Step mid reply new
 
 -- At most n steps: n of them ran, or fewer, and the next one was answered otherwise.
 abbrev pub RunsCell : ℕ → CellState → ℕ → Option StepReply → CellState → Type 0
 RunsCell n old ran None new = (ran ≡ n) × RanCell n old new
-RunsCell n old ran (Some told) new = EndsCell n old ran told new
+RunsCell n old ran (Some reply) new = EndsCell n old ran reply new
 
 -- The machine's state is shown as it is.
 abbrev pub ShowsCell : ShowCommand → CellState → ShowReply → Type 0
@@ -169,7 +169,7 @@ pub record DebugsCell (command : DebugCommand) (old : CellState) (reply : Debugg
 
 -- ---- looks
 
--- What is told of a look at object n: whether it is away.
+-- What a look at object n shows: whether it is away.
 pub data SeesAway (returns : Bool) (opening : List (List ℕ)) (v : View) (n : ℕ) (away : Bool) : Type 0 where
   -- there is no such object
   NoObject : (IsObject opening n → ⊥) → away ≡ false → SeesAway returns opening v n away

@@ -9,7 +9,7 @@ use Rattle.far_store.specs.Calls.Call.{Put, Get, Forget}
 use Rattle.far_store.specs.declared.fault.StoreFault.{StoreFault}
 use Rattle.far_store.specs.declared.fault.StoreFault.TheVariants.{Damaged}
 use Rattle.placement.specs.declared.places.Place.{Place}
-use Rattle.placement.specs.declared.places.Place.TheVariants as told
+use Rattle.placement.specs.declared.places.Place.TheVariants as place
 use Rattle.placement.specs.declared.places.Moved.{Moved}
 use Rattle.placement.specs.declared.places.Moved.TheVariants.{Done, NoObject, Misplaced, Scoped, Fault}
 use Rattle.shared_objects.specs.Kinds.{placed, with_cooling}
@@ -60,16 +60,16 @@ KeepsParcels v parcels = (length parcels ≡ length v.opening) × ((n : ℕ) →
 
 -- ---- what a request does to places
 
--- The place that is told of an object: none is on its way.
-abbrev pub IsTold : Whereabouts → Place → Type 0
-IsTold Here p = p ≡ told.Here
-IsTold (Moving bytes) p = ⊥
-IsTold (Far bytes) p = p ≡ told.Far
+-- The place that a refusal names: none is on its way.
+abbrev pub IsNamedPlace : Whereabouts → Place → Type 0
+IsNamedPlace Here p = p ≡ place.Here
+IsNamedPlace (Moving bytes) p = ⊥
+IsNamedPlace (Far bytes) p = p ≡ place.Far
 
 -- There is no such object, or it isn't in the phase from which it would be moved. Nothing changes.
 abbrev pub RefusesRequest : Phase → View → ℕ → Moved → View → Type 0
 RefusesRequest from v n NoObject w = (IsObject v.opening n → ⊥) × (w ≡ v)
-RefusesRequest from v n (Misplaced p) w = IsObject v.opening n × (phase_of (place_of v n) ≢ from) × IsTold (place_of v n) p × (w ≡ v)
+RefusesRequest from v n (Misplaced p) w = IsObject v.opening n × (phase_of (place_of v n) ≢ from) × IsNamedPlace (place_of v n) p × (w ≡ v)
 RefusesRequest from v n _ w = ⊥
 
 -- An object that is here goes to the far store, with bytes as long as the opening ones. Where it is held, as by a scope, or

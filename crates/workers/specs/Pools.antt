@@ -10,7 +10,7 @@ use Rattle.debugger.specs.declared.replies.StepReply.{StepReply}
 use Rattle.workers.specs.declared.table_name.TableName.{Ghosts}
 use Rattle.workers.specs.Cells.{IsSeatOf, CellState, RunsCell}
 pub use Rattle.workers.specs.Cells.{IsTableOf}
-pub use Rattle.workers.specs.TableNames.{each_lent}
+pub use Rattle.workers.specs.TableNames.{each_passed}
 
 -- The seat of the actor of this number, which has done nothing.
 abbrev pub IsNewSeat : TableId → List (List ℕ) → ℕ → ActorSeat → Type 0
@@ -37,7 +37,7 @@ named shared ds seats = record {
   opening = table_opening shared;
   starts = machines_of ds;
   seats = seats;
-  lent = each_lent;
+  passed = each_passed;
 }
 
 -- The machine's number is put into the queue, or not: nothing else changes, and where it is there already nothing at all.
@@ -53,7 +53,7 @@ pub record TurnsCell (limit : ℕ) (old new : CellState) : Type 0 where
   pub most : ℕ
   pub few : most ≤ limit
   pub ran : ℕ
-  pub told : Option StepReply
+  pub end : Option StepReply
   pub mid : CellState
-  pub runs : RunsCell most old ran told mid
+  pub runs : RunsCell most old ran end mid
   pub queues : QueuesCell mid new

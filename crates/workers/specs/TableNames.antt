@@ -25,9 +25,9 @@ pub data Passage : Type 0 where
 
 -- Each passage came to pass. A call that opens a table picks this for the table's name, and tells nobody who serves: so who
 -- says that one did has it from the lock, from the loop, or from the end of the conversation.
-abbrev pub each_lent : Passage → Bool
-each_lent p = true
+abbrev pub each_passed : Passage → Bool
+each_passed p = true
 
 -- The cells of the numbers from 1 to n were each lent with a machine in it.
 abbrev pub AreLent : (Passage → Bool) → ℕ → Type 0
-AreLent lent n = (m : ℕ) → 1 ≤ m → m ≤ n → lent (Machine m) ≡ true
+AreLent passed n = (m : ℕ) → 1 ≤ m → m ≤ n → passed (Machine m) ≡ true

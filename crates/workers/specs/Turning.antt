@@ -10,15 +10,15 @@ use Rattle.workers.specs.Moves.{MoverState, MovesOne, AsksOne, LooksAt, number_a
 pub record Serves {X : Type 0} (returns : Bool) (called : X → Call → X → Type 0) (faults : X → ℕ) (old new : MoverState X) : Type 0 where
   pub number : ℕ
   pub direction : Direction
-  pub told : Moved
-  pub moves : MovesOne direction old.view number told new.view
-  pub asks : AsksOne returns called faults direction old number told new
+  pub moved : Moved
+  pub moves : MovesOne direction old.view number moved new.view
+  pub asks : AsksOne returns called faults direction old number moved new
   pub last : new.last ≡ old.last
 
 -- It looks at the next of so many objects.
 pub record LooksOn {X : Type 0} (called : X → Call → X → Type 0) (faults : X → ℕ) (count : ℕ) (old new : MoverState X) : Type 0 where
-  pub told : Looked
-  pub looks : LooksAt called faults old told new
+  pub looked : Looked
+  pub looks : LooksAt called faults old looked new
   pub last : new.last ≡ number_after count old.last
 
 -- It does so many of these, one after the other, and nothing else.

@@ -4,7 +4,7 @@ ghost use Rattle.debugger.specs.Debuggees.{DebugsMachine, debuggee_start};
 ghost use Rattle.debugger.specs.Showing.{Shows};
 ghost use Rattle.machine.specs.MachineState.{granted_start};
 ghost use Rattle.shared_objects.specs.Tables.{table_returns};
-ghost use Rattle.workers.specs.TableNames.{each_lent, AreLent};
+ghost use Rattle.workers.specs.TableNames.{each_passed, AreLent};
 ghost use Rattle.workers.specs.Cells.{IsSeatOf, IsTableOf, seat_state, opened_as, IsStamped, FitsCell, StepsCell, RunsCell, DebugsCell, ShowsCell, SeesAway};
 ghost use Rattle.workers.specs.Cells.{may_queue, is_going};
 
@@ -127,19 +127,19 @@ pub struct Occupied<K: TableName> {
 
 impl<K: TableName> Model for Occupied<K> {
     ghost use Rattle.std.specs.Prelude.{◌≡◌, ℕ};
-    ghost use Rattle.workers.specs.TableNames.{each_lent};
+    ghost use Rattle.workers.specs.TableNames.{each_passed};
 
     ghost Value = { ℕ };
 
     ghost view = { λ t. t.count };
 
-    ghost invariant = { λ t. K.lent ≡ each_lent };
+    ghost invariant = { λ t. K.passed ≡ each_passed };
 }
 
 impl<K: TableName> Occupied<K> {
     /// None yet.
     pub fn none() -> Self
-        requires { K.lent ≡ each_lent }
+        requires { K.passed ≡ each_passed }
         ensures { result ≡ 0 }
     {
         Occupied {
@@ -157,7 +157,7 @@ impl<K: TableName> Occupied<K> {
 
     /// Each of them was lent with a machine in it.
     pub fn fact(&self)
-        ensures { AreLent K.lent self.now }
+        ensures { AreLent K.passed self.now }
     {
         let _count = self.count;
     }

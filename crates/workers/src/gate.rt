@@ -1,13 +1,13 @@
-//! Who is told of each instruction that a worker does, and of each move.
+//! Who is notified of each instruction that a worker does, and of each move.
 
 use crate::job::Request;
 use crate::upkeep::MoverEvent;
 use placement::Moved;
 
-/// Told of each instruction, before and after it, while no cell's lock is held, unless it says that it isn't. It is told of moves too,
+/// Notified of each instruction, before and after it, while no cell's lock is held, unless it says that it isn't. It is notified of moves too,
 /// and asked whether to go on.
 pub trait Gate {
-    /// Whether it is told of instructions. One that isn't is only asked whether to go on, and a worker keeps a cell's lock in its
+    /// Whether it is notified of instructions. One that isn't is only asked whether to go on, and a worker keeps a cell's lock in its
     /// turn.
     const IS_TOLD: bool = true;
 
@@ -24,6 +24,6 @@ pub trait Gate {
     /// The mover tells of its work.
     fn event(&self, _event: MoverEvent) {}
 
-    /// Whether workers and mover go on. One that isn't told of instructions may be asked while a cell's lock is held.
+    /// Whether workers and mover go on. One that isn't notified of instructions may be asked while a cell's lock is held.
     fn go_on(&self) -> bool;
 }

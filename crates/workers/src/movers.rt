@@ -37,16 +37,16 @@ pub enum Looked {
     Cold(Moved),
 }
 
-/// Who is told that an object has come back, before its parcel is forgotten.
+/// Who is notified that an object has come back, before its parcel is forgotten.
 pub(crate) trait Landing {
     /// The object of this number is here.
     fn landed(&self, number: u32);
 }
 
-/// Nobody is told.
-struct Untold;
+/// Nobody is notified.
+struct Nobody;
 
-impl Landing for Untold {
+impl Landing for Nobody {
     fn landed(&self, _number: u32) {}
 }
 
@@ -201,11 +201,11 @@ impl<F: FarStore, K: TableName> Mover<F, K> {
         ensures last { self.new.last ≡ self.old.last }
     {
         let _seat = &self.seat;
-        self.one_told(pool, number, direction, &Untold)
+        self.one_landing(pool, number, direction, &Nobody)
     }
 
-    /// The same. Of an object that comes back this one is told as soon as it is here, before its parcel is forgotten.
-    pub(crate) fn one_told<L: Landing>(
+    /// The same. This one is notified of an object that comes back, as soon as it is here and before its parcel is forgotten.
+    pub(crate) fn one_landing<L: Landing>(
         &mut self,
         pool: &Pool<F, K>,
         number: u32,
@@ -248,7 +248,7 @@ impl<F: FarStore, K: TableName> Mover<F, K> {
         }
     }
 
-    /// An object comes back from the far store. It is told of before its parcel is forgotten.
+    /// An object comes back from the far store. That is notified before its parcel is forgotten.
     fn bring_back<L: Landing>(&mut self, shared: &SharedTable, number: u32, landing: &L) -> Moved
         requires table { IsTableOf K.table K.opening shared.now × (table_returns shared.now ≡ F.RETURNS) }
         requires object { IsObject K.opening number }

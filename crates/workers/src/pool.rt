@@ -7,7 +7,7 @@ ghost use Rattle.shared_objects.specs.Opened.{AreFresh};
 ghost use Rattle.shared_objects.specs.Tables.{IsActorOf, table_returns};
 ghost use Rattle.workers.specs.Cells.{IsTableOf, opened_as};
 ghost use Rattle.workers.specs.Closing.{WereCells};
-ghost use Rattle.workers.specs.TableNames.{each_lent};
+ghost use Rattle.workers.specs.TableNames.{each_passed};
 ghost use Rattle.workers.specs.TableNames.Passage.{Leaves, Lends};
 ghost use Rattle.workers.specs.Pools.{IsNewSeat, AreSeats, machines_of, machine_of, QueuesCell, TurnsCell, turn_limit};
 
@@ -57,7 +57,7 @@ pub struct Pool<F: FarStore, K: TableName> {
     queued: AtomicU64,
     // how often all threads were to be woken
     called: AtomicU64,
-    // how many workers run whose gate is told of no instruction
+    // how many workers run whose gate is notified of no instruction
     working: AtomicU64,
     passages: Passages<K>,
     pub ghost of: { IsTableOf K.table K.opening shared.table },
@@ -182,7 +182,7 @@ fn cells_of<K: TableName, R: Wait>(
 
 /// The first cells, as long as they have machines.
 fn occupied_of<K: TableName, R: Wait>(rt: &R, cells: &[MachineCell<K>]) -> Occupied<K>
-    requires { K.lent ≡ each_lent }
+    requires { K.passed ≡ each_passed }
 {
     let mut occupied = Occupied::none();
     for cell in cells {
@@ -209,7 +209,7 @@ impl<F: FarStore, K: TableName> Pool<F, K> {
         requires seats { AreFresh (dealer F.RETURNS K.opening) seats.items × All (IsActorOf shared.table) seats.items }
         requires machines { K.starts ≡ machines_of machines.items }
         requires room { length machines.items ≤ length seats.items }
-        requires lent { K.lent ≡ each_lent }
+        requires lent { K.passed ≡ each_passed }
         ensures { IfOk result (λ pool. (pool.shared ≡ shared) × (length pool.cells.items ≡ length seats.items)) }
     {
         let runs = ArrayQueue::new(alloc, QUEUE_LIMIT)?;
@@ -255,7 +255,7 @@ impl<F: FarStore, K: TableName> Pool<F, K> {
     pub fn lend<'a, R: Wait>(&'a self, rt: &R, number: usize) -> Option<MutexGuard<'a, Locked<K>>>
         ensures none { IfNone result ((1 ≤ number) × (number ≤ length self.now.cells.items) → ⊥) }
         ensures exists { IfSome result (λ guard. (1 ≤ number) × (number ≤ length self.now.cells.items)) }
-        ensures lends { IfSome result (λ guard. K.lent (Lends (mutex_guard_value guard)) ≡ true) }
+        ensures lends { IfSome result (λ guard. K.passed (Lends (mutex_guard_value guard)) ≡ true) }
     {
         if number == 0 || number > self.cells.len() {
             return None;
@@ -267,7 +267,7 @@ impl<F: FarStore, K: TableName> Pool<F, K> {
 
     /// Gives the lock of a cell back, which is left with what it lends now.
     pub fn give_back(&self, locked: MutexGuard<'_, Locked<K>>)
-        ensures { K.lent (Leaves (mutex_guard_value locked.entry)) ≡ true }
+        ensures { K.passed (Leaves (mutex_guard_value locked.entry)) ≡ true }
     {
         self.passages.left(&locked);
     }
@@ -310,7 +310,7 @@ impl<F: FarStore, K: TableName> Pool<F, K> {
         self.wake_worker();
     }
 
-    /// Whether workers run whose gate is told of no instruction. Others may then do turns as they do.
+    /// Whether workers run whose gate is notified of no instruction. Others may then do turns as they do.
     pub fn is_worked(&self) -> bool {
         self.working.load(Ordering::SeqCst) != 0
     }
@@ -423,14 +423,14 @@ impl<F: FarStore, K: TableName> Pool<F, K> {
     }
 
     /// One step of a turn: nothing where the turn goes on, else how it ends.
-    fn step_told<R: Wait>(&self, rt: &R, cell: &MachineCell<K>) -> Option<Ending> {
+    fn step_once<R: Wait>(&self, rt: &R, cell: &MachineCell<K>) -> Option<Ending> {
         let mut locked = cell.lock(rt);
         let reply = locked.step(self.table(), Way::Step);
         self.end_after(rt, &mut locked, reply)
     }
 
-    /// At most so many instructions of the cell's machine, of each of which the gate is told: how the turn ended.
-    fn run_told<R: Wait, G: Gate>(
+    /// At most so many instructions of the cell's machine, of each of which the gate is notified: how the turn ended.
+    fn run_gated<R: Wait, G: Gate>(
         &self,
         rt: &R,
         gate: &G,
@@ -440,7 +440,7 @@ impl<F: FarStore, K: TableName> Pool<F, K> {
     ) -> Ending {
         for _ in 0..TURN_LIMIT {
             gate.before(worker, number);
-            let end = self.step_told(rt, cell);
+            let end = self.step_once(rt, cell);
             gate.after(worker, number);
             if let Some(ending) = end {
                 return ending;
@@ -449,9 +449,9 @@ impl<F: FarStore, K: TableName> Pool<F, K> {
         Ending::Full
     }
 
-    /// The same with no gate to be told, with the lock of the cell, which comes back. From where nothing is set for the machine a
+    /// The same with no gate to notify, with the lock of the cell, which comes back. From where nothing is set for the machine a
     /// turn is done in one go. Before a step that found another's turn is tried again, whoever wants the lock has it, or some time passes.
-    fn run_untold<'a, R: Wait>(
+    fn run_ungated<'a, R: Wait>(
         &self,
         rt: &R,
         cell: &'a MachineCell<K>,
@@ -522,7 +522,7 @@ impl<F: FarStore, K: TableName> Pool<F, K> {
         false
     }
 
-    /// One turn of a machine whose ticket was taken from the queue, with a gate to be told of each instruction. Says whether the gate
+    /// One turn of a machine whose ticket was taken from the queue, with a gate to notify of each instruction. Says whether the gate
     /// lets the worker go on.
     fn turn<R: Wait, G: Gate>(
         &self,
@@ -534,14 +534,14 @@ impl<F: FarStore, K: TableName> Pool<F, K> {
     ) -> bool {
         let number = ticket.number();
         if take_back(&mut cell.lock(rt), ticket) {
-            let ending = self.run_told(rt, gate, worker, number, cell);
+            let ending = self.run_gated(rt, gate, worker, number, cell);
             self.requests.turn_ended();
             self.requeue(rt, &mut cell.lock(rt), ending);
         }
         gate.go_on()
     }
 
-    /// Turns of a machine whose ticket was taken from the queue, with no gate to be told: one, and others as long as the queue is
+    /// Turns of a machine whose ticket was taken from the queue, with no gate to notify: one, and others as long as the queue is
     /// empty, from which this worker would take the machine next. Between two of them the lock of the cell is another's, who wants
     /// it. Says whether the gate lets the worker go on.
     fn turns<R: Wait, G: Gate>(
@@ -556,7 +556,7 @@ impl<F: FarStore, K: TableName> Pool<F, K> {
             return gate.go_on();
         }
         for _ in rt.forever() {
-            let (held, ending) = self.run_untold(rt, cell, locked);
+            let (held, ending) = self.run_ungated(rt, cell, locked);
             locked = held;
             self.requests.turn_ended();
             let on = gate.go_on();

@@ -22,12 +22,12 @@ pub trait TableName {
     /// Which cells were lent with a machine in them, what each lock lent, with what it was left, what the mover's loop made of its
     /// mover, and what each conversation made of its seat. Whoever serves learns it of a cell only by `Occupied::fact`, of a lock only
     /// by taking it and by giving it back, of the loop only by calling `mover`, and of a conversation only by having it.
-    ghost lent: { Passage → Bool };
+    ghost passed: { Passage → Bool };
 }
 
 impl TableName for Brand {
     ghost use Rattle.std.specs.Prelude.{[]};
-    ghost use Rattle.workers.specs.TableNames.{no_table, each_lent};
+    ghost use Rattle.workers.specs.TableNames.{no_table, each_passed};
 
     ghost table = { no_table };
 
@@ -37,5 +37,5 @@ impl TableName for Brand {
 
     ghost seats = { 0 };
 
-    ghost lent = { each_lent };
+    ghost passed = { each_passed };
 }

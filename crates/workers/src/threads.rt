@@ -36,7 +36,7 @@ pub fn mover<F: FarStore, K: TableName, R: Wait, G: Gate>(
     upkeep: Upkeep,
 )
     ensures chain { MovesOn F.RETURNS F.called F.faults_of (length K.opening) served.old served.new }
-    ensures ran { K.lent (Ran served.old.view served.new.view) ≡ true }
+    ensures ran { K.passed (Ran served.old.view served.new.view) ≡ true }
 {
     let began = Snapshot::of(served);
     serve_moving(rt, gate, pool, served, upkeep);
@@ -128,7 +128,7 @@ fn serve_request<F: FarStore, K: TableName, R: Wait, G: Gate>(
     ensures chain { MovesOn F.RETURNS F.called F.faults_of (length K.opening) mover.old mover.new }
 {
     let wakes = Wakes { rt, pool };
-    let moved = mover.one_told(pool, request.number, request.direction, &wakes);
+    let moved = mover.one_landing(pool, request.number, request.direction, &wakes);
     if !has_landed(request.direction, moved) {
         pool.end_request(rt, request, moved);
     }
@@ -312,7 +312,7 @@ fn idle<F: FarStore, K: TableName, R: Wait, G: Gate>(
     rest(rt, gate, pool, mover, seen, upkeep.sweep);
 }
 
-/// Whether this is a return of which the machines that waited were told.
+/// Whether this is a return of which the machines that waited were notified.
 fn has_landed(direction: Direction, moved: Moved) -> bool {
     direction == Direction::Return && moved == Moved::Done
 }

@@ -4,7 +4,7 @@ ghost use Rattle.shared_objects.specs.Kinds.{dealer};
 ghost use Rattle.shared_objects.specs.Opened.{AreFresh, seated};
 ghost use Rattle.shared_objects.specs.Tables.{IsActorOf, IsMoverOf};
 ghost use Rattle.workers.specs.Cells.{IsTableOf};
-ghost use Rattle.workers.specs.TableNames.{each_lent};
+ghost use Rattle.workers.specs.TableNames.{each_passed};
 ghost use Rattle.workers.specs.Pools.{machines_of};
 
 use crate::apart::waits;
@@ -116,7 +116,7 @@ fn left_over<K: TableName + Send + Sync, R: Threads + Wait + Sync>(
     requires of { IsMoverOf shared.table mover }
     requires fresh { (mover.seat.table_id ≡ K.table) × (mover.seat.me.0 ≡ seated K.seats (dealer true K.opening)) }
     requires machines { K.starts ≡ machines_of machines.items }
-    requires lent { K.lent ≡ each_lent }
+    requires lent { K.passed ≡ each_passed }
     requires room { length machines.items ≤ length seats.items }
 {
     let pool: Pool<OwnStore, K> = Pool::new(rt, alloc, shared, seats, machines)?;

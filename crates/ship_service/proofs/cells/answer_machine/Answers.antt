@@ -20,10 +20,10 @@ returns-then-resumes-clause-serves g c =
         after_is = subst (IsCell g.K.TableName.opening g.K.TableName.starts c.args.machine) c.deref.ensures
             (cell_now _ _ _ c.deref.result.now (ap (λ (x : CellState). x.number) c.deref.ensures
             ∙ (answered_number _ _ _ _ _ _ _ t ∙ was.number_is)) c.fact.ensures.number c.fact.ensures.opening c.fact.ensures.stamped c.fact.ensures.fits);
-        lends = subst (λ (s : CellState). g.K.TableName.lent (Lends s) ≡ true) (sym c.deref_mut.ensures.value) c.in-Some.ensures.lent;
+        lends = subst (λ (s : CellState). g.K.TableName.passed (Lends s) ≡ true) (sym c.deref_mut.ensures.value) c.in-Some.ensures.lent;
         leaves = c.give_back.ensures;
       };
-      told_is = refl;
+      reply_is = refl;
       answers = t;
       goes_on = inl (c.resumes.ensures.yes c.if-resumes.true, c.go_on.ensures.goes.1);
     }
@@ -43,10 +43,10 @@ returns-clause-serves g c =
         after_is = subst (IsCell g.K.TableName.opening g.K.TableName.starts c.args.machine) c.deref.ensures
             (cell_now _ _ _ c.deref.result.now (ap (λ (x : CellState). x.number) c.deref.ensures
             ∙ (answered_number _ _ _ _ _ _ _ t ∙ was.number_is)) c.fact.ensures.number c.fact.ensures.opening c.fact.ensures.stamped c.fact.ensures.fits);
-        lends = subst (λ (s : CellState). g.K.TableName.lent (Lends s) ≡ true) (sym c.deref_mut.ensures.value) c.in-Some.ensures.lent;
+        lends = subst (λ (s : CellState). g.K.TableName.passed (Lends s) ≡ true) (sym c.deref_mut.ensures.value) c.in-Some.ensures.lent;
         leaves = c.give_back.ensures;
       };
-      told_is = refl;
+      reply_is = refl;
       answers = t;
       goes_on = inr (c.resumes.ensures.no c.if-resumes.false, refl, refl);
     }

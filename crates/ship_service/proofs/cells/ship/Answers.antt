@@ -21,10 +21,10 @@ returns g c =
         after_is = subst (IsCell g.K.TableName.opening g.K.TableName.starts (c.in-Ok.found.1 + 1)) c.deref.ensures
             (cell_now _ _ _ c.deref.result.now (ap (λ (x : CellState). x.number) c.deref.ensures
             ∙ (shipped_number _ _ _ _ _ t ∙ was.number_is)) c.fact-3.ensures.number c.fact-3.ensures.opening c.fact-3.ensures.stamped c.fact-3.ensures.fits);
-        lends = subst (λ (s : CellState). g.K.TableName.lent (Lends s) ≡ true) same c.in-Ok.ensures.lent;
+        lends = subst (λ (s : CellState). g.K.TableName.passed (Lends s) ≡ true) same c.in-Ok.ensures.lent;
         leaves = c.give_back.ensures;
       };
       empty = subst (λ (x : CellState). x.running ≡ None) same found.2;
-      told_is = refl;
+      reply_is = refl;
       ships = t;
     }

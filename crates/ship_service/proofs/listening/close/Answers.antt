@@ -11,7 +11,7 @@ use Rattle.ship_service.proofs.listening.close.Goals as goal
 pub returns-in_default-put_all : goal.returns-in_default-put_all
 returns-in_default-put_all g c =
     let lines = closing_lines c.in-Ok.closed in
-    let clients = seats_had_clients g.K.TableName.table g.F.FarStore.RETURNS g.K.TableName.opening g.K.TableName.lent (λ x. x.session.seat) c.args.ended.connections.items c.args.ended.clients in
+    let clients = seats_had_clients g.K.TableName.table g.F.FarStore.RETURNS g.K.TableName.opening g.K.TableName.passed (λ x. x.session.seat) c.args.ended.connections.items c.args.ended.clients in
     let part = subst (AppendsPart (g.W.Write.contents c.args.writer.now) (g.W.Write.contents c.put_all.new.writer)) c.closed_line.ensures
     c.in_default-put_all.ensures.err in
     (closed_line ++ lines, ((_, _, c.in-Ok.closed, c.in-Ok.ensures, refl), c.args.ended.ran, clients), part_of_first _ _ closed_line lines part)
@@ -19,7 +19,7 @@ returns-in_default-put_all g c =
 pub returns-in_default-write_closing_lines : goal.returns-in_default-write_closing_lines
 returns-in_default-write_closing_lines g c =
     let lines = closing_lines c.in-Ok.closed in
-    let clients = seats_had_clients g.K.TableName.table g.F.FarStore.RETURNS g.K.TableName.opening g.K.TableName.lent (λ x. x.session.seat) c.args.ended.connections.items c.args.ended.clients in
+    let clients = seats_had_clients g.K.TableName.table g.F.FarStore.RETURNS g.K.TableName.opening g.K.TableName.passed (λ x. x.session.seat) c.args.ended.connections.items c.args.ended.clients in
     let first = subst (Appends (g.W.Write.contents c.args.writer.now) (g.W.Write.contents c.put_all.new.writer))
     c.closed_line.ensures c.in-Ok-put_all.ensures.ok in (
       closed_line ++ lines,
@@ -30,7 +30,7 @@ returns-in_default-write_closing_lines g c =
 pub returns : goal.returns
 returns g c =
     let lines = closing_lines c.in-Ok.closed in
-    let clients = seats_had_clients g.K.TableName.table g.F.FarStore.RETURNS g.K.TableName.opening g.K.TableName.lent (λ x. x.session.seat) c.args.ended.connections.items c.args.ended.clients in
+    let clients = seats_had_clients g.K.TableName.table g.F.FarStore.RETURNS g.K.TableName.opening g.K.TableName.passed (λ x. x.session.seat) c.args.ended.connections.items c.args.ended.clients in
     let first = subst (Appends (g.W.Write.contents c.args.writer.now) (g.W.Write.contents c.put_all.new.writer))
     c.closed_line.ensures c.in-Ok-put_all.ensures.ok in
     (closed_line ++ lines, ((_, _, c.in-Ok.closed, c.in-Ok.ensures, refl), c.args.ended.ran, clients), Appends-trans _ _ _ closed_line lines first c.in-Ok-write_closing_lines.ensures.ok)

@@ -1,12 +1,12 @@
 use Rattle.std.proofs.Common.{ap}
 use Rattle.workers.specs.Pools.{machines_of}
-use Rattle.workers.specs.TableNames.{each_lent}
+use Rattle.workers.specs.TableNames.{each_passed}
 use Rattle.world.specs.WorldState.{state_of}
 use Rattle.ship_service.proofs.Saying.{said_at, says_more, tells_of_world}
 use Rattle.ship_service.proofs.listening.listen.Goals as goal
 
 pub returns-clause-says : goal.returns-clause-says
 returns-clause-says g c =
-    let more = tells_of_world _ _ _ _ _ each_lent (state_of c.args.world) c.in-Ok.ensures.opening (ap machines_of c.in-Ok.ensures.machines) in
+    let more = tells_of_world _ _ _ _ _ each_passed (state_of c.args.world) c.in-Ok.ensures.opening (ap machines_of c.in-Ok.ensures.machines) in
     let said = says_more _ _ _ _ _ c.listen_opened.result more c.listen_opened.ensures.says in
     (c.port.result, said_at _ _ _ _ _ _ c.port_name-name.ensures said)

@@ -17,7 +17,7 @@ returns-clause-takes g c =
           after_is = subst (IsCell g.K.TableName.opening g.K.TableName.starts c.args.machine) c.deref.ensures
               (cell_now _ _ _ c.deref.result.now (ap (λ (x : CellState). x.number) c.deref.ensures
               ∙ (turned_number _ _ _ t.turn ∙ was.number_is)) c.fact.ensures.number c.fact.ensures.opening c.fact.ensures.stamped c.fact.ensures.fits);
-          lends = subst (λ (s : CellState). g.K.TableName.lent (Lends s) ≡ true) (sym c.deref_mut.ensures.value) c.in-Some.ensures.lent;
+          lends = subst (λ (s : CellState). g.K.TableName.passed (Lends s) ≡ true) (sym c.deref_mut.ensures.value) c.in-Some.ensures.lent;
           leaves = c.give_back.ensures;
         };
         turn = t.turn;

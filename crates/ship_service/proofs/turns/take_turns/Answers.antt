@@ -10,7 +10,7 @@ one_more P n h = let e : suc n ≡ n + 1 = omega arith in subst P e h
 pub loop-taken-preserved : goal.loop-taken-preserved
 loop-taken-preserved g c = (
   omega (arith, c.loop-taken-test.true, c.requires.few),
-  one_more (λ (n : ℕ). TakesTurns g.K.TableName.opening g.K.TableName.starts g.K.TableName.lent c.args.machine n (seat_state c.args.seat.now)
+  one_more (λ (n : ℕ). TakesTurns g.K.TableName.opening g.K.TableName.starts g.K.TableName.passed c.args.machine n (seat_state c.args.seat.now)
       (seat_state c.hold-on.new.seat)) c.loop-taken.taken (seat_state c.loop-taken.seat, c.loop-taken.invariant.1, c.hold-on.ensures.takes),
   c.hold-on.ensures.seat ∙ c.loop-taken.invariant.2,
 )

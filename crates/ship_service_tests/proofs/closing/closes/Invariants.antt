@@ -1,5 +1,5 @@
 use Rattle.shared_objects.specs.Tables.{table_opening}
-use Rattle.workers.specs.TableNames.{each_lent}
+use Rattle.workers.specs.TableNames.{each_passed}
 use Rattle.workers.specs.Pools.{machines_of}
 use Rattle.ship_service_tests.proofs.closing.closes.Given as goal
 
@@ -9,5 +9,5 @@ ghosts-close_after g a = record {
   opening = table_opening a.parts.shared.table;
   starts = machines_of a.parts.machines.items;
   seats = 49;
-  lent = each_lent;
+  passed = each_passed;
 }

@@ -1,5 +1,5 @@
 use Rattle.shared_objects.specs.Tables.{table_opening}
-use Rattle.workers.specs.TableNames.{each_lent}
+use Rattle.workers.specs.TableNames.{each_passed}
 use Rattle.workers.specs.Pools.{machines_of}
 use Rattle.ship_service.specs.Opening.{seat_count}
 use Rattle.ship_service_tests.proofs.opening.carry_on.Given as goal
@@ -10,5 +10,5 @@ ghosts-serves g a = record {
   opening = table_opening a.opened.shared.table;
   starts = machines_of a.opened.machines.items;
   seats = seat_count;
-  lent = each_lent;
+  passed = each_passed;
 }

@@ -6,7 +6,7 @@ pub returns : goal.returns
 returns g c = record {
   chain = looks_on g.F.FarStore.RETURNS g.F.FarStore.called g.F.FarStore.faults_of (length g.K.TableName.opening) c.args.mover.now
       c.look_past-looked.new.self (record {
-        told = c.look_past-looked.result;
+        looked = c.look_past-looked.result;
         looks = c.look_past-looked.ensures.looks;
         last = c.look_past-looked.ensures.last;
       });

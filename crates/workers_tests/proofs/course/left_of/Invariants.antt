@@ -1,6 +1,6 @@
 use Rattle.std.proofs.Common.{length}
 use Rattle.shared_objects.specs.Tables.{table_opening}
-use Rattle.workers.specs.TableNames.{each_lent}
+use Rattle.workers.specs.TableNames.{each_passed}
 use Rattle.workers.specs.Pools.{machines_of}
 use Rattle.workers_tests.proofs.course.left_of.Given as goal
 
@@ -10,5 +10,5 @@ ghosts-left_over g a = record {
   opening = table_opening a.shared.table;
   starts = machines_of a.machines.items;
   seats = length a.seats.items;
-  lent = each_lent;
+  passed = each_passed;
 }

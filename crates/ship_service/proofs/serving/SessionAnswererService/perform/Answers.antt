@@ -3,4 +3,4 @@ use Rattle.ship_service.proofs.Short.{serves_short}
 use Rattle.ship_service.proofs.serving.SessionAnswererService.perform.Goals as goal
 
 pub print_service_reply-requires : goal.print_service_reply-requires
-print_service_reply-requires g c = serves_short _ _ _ _ _ _ _ c.answer-told.ensures.serves (asks_short c.requires.0 c.args.event c.requires.1)
+print_service_reply-requires g c = serves_short _ _ _ _ _ _ _ c.answer-answered.ensures.serves (asks_short c.requires.0 c.args.event c.requires.1)

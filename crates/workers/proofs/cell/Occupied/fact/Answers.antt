@@ -5,4 +5,4 @@ use Rattle.workers.specs.TableNames.Passage.{Machine}
 use Rattle.workers.proofs.cell.Occupied.fact.Goals as goal
 
 pub returns : goal.returns
-returns g c = λ m low high. ap (λ (lent : Passage → Bool). lent (Machine m)) c.self.invariant
+returns g c = λ m low high. ap (λ (passed : Passage → Bool). passed (Machine m)) c.self.invariant

@@ -4,7 +4,7 @@ use Rattle.shared_objects.specs.Phases.{IsObject}
 use Rattle.shared_objects.specs.declared.view.View.{View}
 use Rattle.workers.specs.Moves.{MoverState, MovesOne}
 use Rattle.workers.proofs.Placing.{none_moved}
-use Rattle.workers.proofs.movers.Mover.one_told.Goals as goal
+use Rattle.workers.proofs.movers.Mover.one_landing.Goals as goal
 
 pub returns-then-length-eq0-clause-moves : goal.returns-then-length-eq0-clause-moves
 returns-then-length-eq0-clause-moves g c =
