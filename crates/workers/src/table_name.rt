@@ -19,9 +19,10 @@ pub trait TableName {
     /// How many actors' seats were made.
     ghost seats: { ℕ };
 
-    /// Which cells were lent with a machine in them, what each lock lent, with what it was left, what the mover's loop made of its
-    /// mover, and what each conversation made of its seat. Whoever serves learns it of a cell only by `Occupied::fact`, of a lock only
-    /// by taking it and by giving it back, of the loop only by calling `mover`, and of a conversation only by having it.
+    /// Which passages came to pass: which cells were lent with a machine in them, what each lock lent, with what it was left, what the
+    /// mover's loop made of its mover, and what each conversation made of its seat. Whoever serves learns it of a cell only by
+    /// `Occupied::fact`, of a lock only by taking it and by giving it back, of the loop only by calling `mover`, and of a conversation
+    /// only by having it.
     ghost passed: { Passage → Bool };
 }
 
