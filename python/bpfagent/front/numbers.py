@@ -9,13 +9,12 @@ from collections import Counter
 from typing import AsyncIterator, Callable, Iterator
 
 from ..limits import MACHINES, OBJECTS
+from ..protocol import commands
 from .doors import untaken
 
 # The upper ends of the histogram's buckets, in seconds.
 BUCKETS = [0.00005, 0.0001, 0.00025, 0.0005, 0.001, 0.0025, 0.005, 0.01, 0.025, 0.05, 0.1, 0.25, 0.5, 1.0, 2.5]
-COMMANDS = frozenset(
-    b"make put get free leave left return returned ship ship2 step one resume break unbreak watch unwatch regs stack out line".split()
-)
+COMMANDS = frozenset(name.encode("ascii") for name in commands())
 REFUSALS = frozenset(b"bad full noroom nomem outside none noslot notpaused nowatch worn unserved away busy place kept refused".split())
 OTHER = b"other"
 # How the replies begin that tell of nothing to be counted.
