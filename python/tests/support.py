@@ -5,6 +5,7 @@ import contextlib
 import fcntl
 import importlib.util
 import io
+import keyword
 import os
 import pathlib
 import pty
@@ -23,6 +24,7 @@ from typing import Callable, Iterator, Optional, Sequence
 
 from bpfagent import Agent, Service, patiently
 from bpfagent.far import Store
+from bpfagent.protocol import commands
 
 ROOT = pathlib.Path(__file__).resolve().parents[2]
 # What these tests share with those of the product.
@@ -63,6 +65,11 @@ uint64_t program(volatile uint64_t *count)
     return last;
 }
 """
+
+
+def methods_taking(*words: str) -> list[str]:
+    """The methods of an agent for the commands that take these words of the synopsis."""
+    return [f"{name}_" if keyword.iskeyword(name) else name for name, command in commands().items() if command.words == words]
 
 
 def with_signals(case: unittest.TestCase) -> None:

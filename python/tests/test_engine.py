@@ -30,8 +30,9 @@ from unittest import mock
 import bpfagent
 from bpfagent import Agent, Closed, Engine, NoLibrary, Refused, Run, Stopped, Waiting, address, engine, library
 from bpfagent.line_engine import LineEngine
+from bpfagent.protocol import commands
 from bpfagent.stops import STOPS
-from support import PROGRAM, ROOT, SECONDS
+from support import PROGRAM, ROOT, SECONDS, methods_taking
 from test_agent import EXIT, SCRIPTS, called, refusal_of
 
 from lib.programs import in_time
@@ -43,7 +44,7 @@ PAGE = (ROOT / "docs/PROTOCOL.md").read_text()
 SPIN = "b700000000000000" "0700000001000000" "5500feff{:08x}" "9500000000000000"
 ENDLESS = bytes.fromhex("0500ffff00000000")
 # A word of the protocol, or none; and numbers at the ends of ranges.
-WORDS = ("make", "put", "get", "free", "leave", "left", "return", "returned", "step", "one", "resume", "break", "unbreak", "watch", "unwatch", "out", "stack", "line", "regs", "x")
+WORDS = (*commands(), "x")
 NUMBERS = (0, 1, 2, 3, 7, 8, 9, 48, 49, 1023, 1024, 1025, 4095, 4096, 4097, 65_535, 65_536, 65_537, 2**32 - 1, 2**32, 2**32 + 1, 2**64 - 1, 2**64)
 
 needs_library = unittest.skipUnless(library.library_if_there(), "needs the library of `make lib`: BPFAGENT_LIBRARY names it")
@@ -185,7 +186,7 @@ class Ranges(unittest.TestCase):
             of_object, of_machine, of_slot = [0, 1025, number + 2**32, number + 2**64, -1], [0, 49, machine + 2**32, machine + 2**64, -1], [4096, 2**32, -1]
             calls: list[tuple[Callable[[int], object], Sequence[int]]] = [
                 (own.make, [0, 65_537, 2**32 + 8, 2**64 + 8, -1]),
-                *[(getattr(own, name), of_object) for name in ("free", "leave", "left", "return_", "returned", "forget", "place_of")],
+                *[(getattr(own, name), of_object) for name in (*methods_taking("n"), "forget", "place_of")],
                 (lambda it: own.put(it, 0, b"1"), of_object),
                 (lambda it: own.put(number, it, b"1"), [65_536, 2**32, -1]),
                 (lambda it: own.get(it, 0, 1), of_object),
@@ -195,8 +196,8 @@ class Ranges(unittest.TestCase):
                 (lambda it: own.get_into(number, it, bytearray(1)), [65_536, 2**32, -1]),
                 (lambda it: own.write(it, b"1"), of_object),
                 (lambda it: own.read(number, it), [65_537, 2**32 + 1, 2**64 + 1, -1]),
-                *[(getattr(own, name), of_machine) for name in ("step", "one", "run", "regs", "out", "resume")],
-                *[(lambda it, name=name: getattr(own, name)(machine, it), of_slot) for name in ("break_", "unbreak", "line")],
+                *[(getattr(own, name), of_machine) for name in (*methods_taking("m"), "run")],
+                *[(lambda it, name=name: getattr(own, name)(machine, it), of_slot) for name in methods_taking("m", "SLOT")],
                 (lambda it: own.watch(machine, it, 8), [2**64, -1]),
                 (lambda it: own.watch(machine, 0, it), [0, 4097, 2**32 + 1, -1]),
                 (lambda it: own.stack(machine, it, 1), [4096, 2**32, -1]),

@@ -10,7 +10,7 @@ from unittest import mock
 from bpfagent import Agent, Engine
 from bpfagent.library import library_if_there
 from bpfagent.protocol import commands, help_of, why_bad
-from support import PROGRAM, SECONDS
+from support import PROGRAM, SECONDS, methods_taking
 
 EXIT = bytes.fromhex("9500000000000000")
 LENGTH, NUMBER, MACHINE = "a length is from 1 to 65536, and not", "an object's number is from 1 to 1024, and not", "a machine's number is from 1 to 48, and not"
@@ -33,8 +33,8 @@ MISUSES: list[tuple[Callable[[Any], object], type[Exception], str]] = [
     (lambda agent: agent.make_of("text"), TypeError, "the content is bytes, and not a value of type str: encode it first"),
     (lambda agent: agent.make_of(b""), ValueError, f"{LENGTH} 0"),
     (lambda agent: agent.free("1"), TypeError, "an object's number is a whole number, and not a value of type str"),
-    *[(lambda agent, name=name: getattr(agent, name)(0), ValueError, f"{NUMBER} 0") for name in ("free", "leave", "left", "return_", "returned")],
-    *[(lambda agent, name=name: getattr(agent, name)(49), ValueError, f"{MACHINE} 49") for name in ("step", "one", "regs", "out", "resume", "run_until")],
+    *[(lambda agent, name=name: getattr(agent, name)(0), ValueError, f"{NUMBER} 0") for name in methods_taking("n")],
+    *[(lambda agent, name=name: getattr(agent, name)(49), ValueError, f"{MACHINE} 49") for name in (*methods_taking("m"), "run_until")],
     (lambda agent: agent.step(-1), ValueError, f"{MACHINE} -1"),
     (lambda agent: agent.line(1, 4096), ValueError, "a slot is from 0 to 4095, and not 4096"),
     (lambda agent: agent.break_(1, -1), ValueError, "a slot is from 0 to 4095, and not -1"),
@@ -64,7 +64,7 @@ OF_LINES: list[tuple[Callable[[Any], object], str]] = [
     (lambda agent: agent.put(1, 0, bytes(4097)), "one put takes 1 to 4096 bytes, and not 4097"),
     (lambda agent: agent.get(1, 0, 4097), "a length is from 1 to 4096, and not 4097"),
 ]
-# A line of each command, and words that don't fit somewhere.
+# A line of each command, and words that don't fit somewhere. The commands are written out, since `why_bad` reads them from the page itself.
 LINES = {
     **dict.fromkeys(("make", "free", "leave", "left", "return", "returned", "step", "one", "regs", "out", "resume"), ["1"]),
     **dict.fromkeys(("break", "unbreak", "line"), ["1", "0"]), **dict.fromkeys(("watch", "unwatch"), ["1", "0x100000000", "8"]),
@@ -153,6 +153,10 @@ class Calls(unittest.TestCase):
 
 class Lines(unittest.TestCase):
     """A line that is `bad`."""
+
+    def test_lines(self) -> None:
+        """There is a line of each command."""
+        self.assertEqual({*LINES}, {*commands()})
 
     def test_why(self) -> None:
         """Which word is wrong, and what would fit."""

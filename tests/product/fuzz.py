@@ -37,7 +37,7 @@ from lib import package
 from lib.checks import Failed, want
 from lib.programs import Client, Service, ended, patience
 from lib.sources import ROOT
-from reference_agent import Agent
+from reference_agent import COMMANDS, LENGTH, MACHINE, OBJECT, SLOT, WORD, Agent
 
 KEPT = ROOT / "tests/fuzzed"
 # The parts of tests/hostile, with the package of Python that each needs; the library, and what it is called by.
@@ -53,8 +53,11 @@ EDGES = (0, 1, 2, 7, 8, 63, 64, 255, 256, 4095, 4096, 65535, 65536, (1 << 31) - 
 LENGTHS = (1, 2, 3, 8, 9, 64, 4096, 65536)
 BUDGETS = (0, 8, 64, 5000, 67108864)
 EXIT = bytes.fromhex("9500000000000000")
-OBJECT_WORDS = ("free", "leave", "left", "return", "returned")
-MACHINE_WORDS = ("step", "step", "step", "step", "one", "resume", "regs", "out")
+# The commands that take an object, a machine, a slot or a range, by the reference. Half of those on a machine are steps.
+OBJECT_WORDS, MACHINE_WORDS, SLOT_WORDS, RANGE_WORDS = (
+    [name for name, taken in COMMANDS.items() if taken == words] for words in ([OBJECT], [MACHINE], [MACHINE, SLOT], [MACHINE, WORD, LENGTH])
+)
+MACHINE_WORDS += ["step"] * 3
 # What `serve` doesn't do as `run` does, or when somebody else has had time.
 NOT_SERVED = ("make", "free", "leave", "left", "return", "returned")
 T = TypeVar("T")
@@ -163,10 +166,10 @@ def line(chance: random.Random, agent: Agent, has_moves: bool) -> str:
     if roll < 0.88:
         return f"{chance.choice(MACHINE_WORDS)} {number(chance, some_machine)}"
     if roll < 0.93:
-        return f"{chance.choice(['break', 'unbreak', 'line'])} {number(chance, some_machine)} {number(chance, chance.randrange(SLOTS))}"
+        return f"{chance.choice(SLOT_WORDS)} {number(chance, some_machine)} {number(chance, chance.randrange(SLOTS))}"
     if roll < 0.97:
         place = number(chance, (some_object << 32) + chance.choice([0, 8, 56]))
-        return f"{chance.choice(['watch', 'unwatch'])} {number(chance, some_machine)} {place} {number(chance, chance.choice([1, 8, 64]))}"
+        return f"{chance.choice(RANGE_WORDS)} {number(chance, some_machine)} {place} {number(chance, chance.choice([1, 8, 64]))}"
     if roll < 0.98:
         return f"stack {number(chance, some_machine)} {number(chance, chance.choice([0, 4088, 4032]))} {number(chance, 8)}"
     return chance.choice(["", " ", "make", "step", "steps 1", "step  1", "step 1 ", "ship 1 2", "get 1 0", "put 1 0 0", "\x7f", "step 1\r", "MAKE 1"])
