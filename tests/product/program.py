@@ -133,6 +133,8 @@ def show_statuses(program: str) -> None:
         for word in HELP.get(arguments[0], []):
             want(word in output, f"{arguments} doesn't say {word}: {output}")
         want(not PAGES.search(output), f"{arguments} names a page that isn't installed: {output}")
+        long = [line for line in output.decode().split("\n") if len(line) > 80 and not re.match(" +-", line)]
+        want(not long, f"{arguments} has lines of more than 80 columns beside its options: {long}")
     for arguments in INVALID:
         status, output, errors = call(program, arguments, b"step 1\n")
         want((status, output) == (2, b"") and errors.startswith(b"error: ") and errors.endswith(b"\n"), f"{arguments} ended with {status}, {output}, {errors}")

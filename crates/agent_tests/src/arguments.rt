@@ -14,7 +14,7 @@ use test_devices::Narrow;
 // What help says first, and of the options.
 
 const TOP_HEAD: &str =
-    "Runs small BPF programs (RFC 9669) beside objects in memory, while the objects move to a far store and back
+    "Runs BPF programs (RFC 9669) beside objects that move to a far store and back
 
 Usage: bpfagent <COMMAND>
 

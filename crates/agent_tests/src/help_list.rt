@@ -7,9 +7,9 @@ same time. 'check', 'asm' and 'dis' are for those who write programs. 'store'
 keeps what leaves a service. 'commands' is for those who write clients.
 'bpfagent COMMAND --help' says more of each.
 
-Each command but 'commands' reads standard input. Status 0: done. Status 1: the input is
-refused. Status 2: invalid arguments. Status 3: a stream failed, or out of
-memory. Unless the status is 0, standard error says what is wrong.";
+Each command but 'commands' reads standard input. Status 0: done. Status 1: the
+input is refused. Status 2: invalid arguments. Status 3: a stream failed, or out
+of memory. Unless the status is 0, standard error says what is wrong.";
 
 /// What help says of `run`.
 pub const RUN_HELP: &str = "\

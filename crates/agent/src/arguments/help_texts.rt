@@ -2,8 +2,7 @@
 
 /// In a sentence, what the program is.
 pub(crate) const ABOUT: &str =
-    "Runs small BPF programs (RFC 9669) beside objects in memory, while the objects move to a far \
-store and back";
+    "Runs BPF programs (RFC 9669) beside objects that move to a far store and back";
 
 /// What help says of the program.
 pub(crate) const TOP_HELP: &str = "\
@@ -12,9 +11,9 @@ same time. 'check', 'asm' and 'dis' are for those who write programs. 'store'
 keeps what leaves a service. 'commands' is for those who write clients.
 'bpfagent COMMAND --help' says more of each.
 
-Each command but 'commands' reads standard input. Status 0: done. Status 1: the input is
-refused. Status 2: invalid arguments. Status 3: a stream failed, or out of
-memory. Unless the status is 0, standard error says what is wrong.";
+Each command but 'commands' reads standard input. Status 0: done. Status 1: the
+input is refused. Status 2: invalid arguments. Status 3: a stream failed, or out
+of memory. Unless the status is 0, standard error says what is wrong.";
 
 /// What help says of `run`.
 pub(crate) const RUN_HELP: &str = "\
