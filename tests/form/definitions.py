@@ -1,7 +1,7 @@
 #!/usr/bin/env python3
 """Checks that every definition that a public clause depends on has a comment, and that docs/DEFINITIONS.md names each crate that has one.
-The other files of the product's specs/ say in their first line that they are private. docs/CLAIMS.md tells how many definitions of the product there are to
-believe, in how many lines, and its `unsafe` blocks by crate.
+The other files of the product's specs/ say in their first line that they are private. docs/CLAIMS.md tells about how many definitions of the product there
+are to believe, in about how many lines, and its `unsafe` blocks by crate.
 
 A public clause is one of a `pub fn`, of an export to C, of a method of a trait's impl, or of a `pub trait`, and what a public type says of itself (its
 Model, its ghost items). From the names in these clauses the script follows the `ghost use` lines of src/, then the `use` lines of specs/. With --write
@@ -201,11 +201,11 @@ def unneeded(own: Sequence[str], needed: Collection[tuple[str, str]]) -> Iterato
 
 
 def believed(found: Sequence[Place], specs: dict[tuple[str, str], Specs]) -> Iterator[str]:
-    """The rows that docs/CLAIMS.md has of how much is to be believed."""
+    """The rows that docs/CLAIMS.md has of how much is to be believed, in hundreds, so that few changes make another row."""
     of_product = [place for place in found if not FOR_TESTS.search(place[0])]
     lines = sum(specs[crate, module].definitions[name].count("\n") for crate, module, name in of_product)
     owners = len({crate for crate, _, _ in of_product})
-    yield f"| definitions that clauses of public calls reach | {len(of_product):,}, in {lines:,} lines of the `specs/` of {owners} crates |"
+    yield f"| definitions that clauses of public calls reach | about {round(len(of_product), -2):,}, in about {round(lines, -2):,} lines of the `specs/` of {owners} crates |"
     blocks = {crate: sum(len(UNSAFE.findall(blanked(path.read_text()))) for path in (ROOT / f"crates/{crate}/src").rglob("*.rt")) for crate in crates()}
     told = ", ".join(f"{count} in `{crate}`" for crate, count in blocks.items() if count and not FOR_TESTS.search(crate))
     yield f"| `unsafe` blocks, whose premises are proved | {told or 'none'} |"
